@@ -4,6 +4,10 @@
 ghost use Rattle.std.specs.Prelude.{◌≡◌, ◌+◌, ◌<◌, ◌≤◌};
 ghost use Rattle.gba_terms.specs.Bits.{field, bit};
 
+mod kinds;
+
+pub use kinds::Shift;
+
 /// The number in the `width` bits of `value` from bit `low` up.
 pub fn bits(value: u32, low: u32, width: u32) -> u32
     requires { low + width ≤ 32 }
