@@ -1,0 +1,17 @@
+use Rattle.std.proofs.Common.{◌≡◌, ℕ, List, arith, rules}
+use Rattle.std.proofs.lemmas.Map.Text.{text_keys}
+use Rattle.gba_store.specs.Memory.{told}
+use Rattle.gba_store.proofs.memory.extend.Goals as goal
+
+pub returns-in_ok-extend_from_slice-in-Some-clause-ok : goal.returns-in_ok-extend_from_slice-in-Some-clause-ok
+returns-in_ok-extend_from_slice-in-Some-clause-ok c = record {
+  file = grind (arith, text_keys);
+  others = λ other apart. grind (arith, text_keys);
+}
+
+pub returns-in_err-extend_from_slice-in-Some-clause-err : goal.returns-in_err-extend_from_slice-in-Some-clause-err
+returns-in_err-extend_from_slice-in-Some-clause-err c =
+    let at : (other : List ℕ) → told (c.get_mut.follows.lender c.extend_from_slice.new.self) other ≡ told c.args.files.now other =
+        λ other. grind (arith, text_keys) in
+    let same : told (c.get_mut.follows.lender c.extend_from_slice.new.self) ≡ told c.args.files.now = λ t other. at other t in
+    search rules

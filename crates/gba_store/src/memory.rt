@@ -1,0 +1,233 @@
+//! A store and a sink in memory, which tell their files. Calls that are to fail are chosen when they are made.
+
+ghost use Rattle.std.specs.Prelude.{◌≡◌, ◌++◌, [], ◌∷◌, Some, option_map, take, IfOk, MatchResult, IsOk, IsErr, ◌≤◌, OnErr, OnOk, List, ℕ};
+ghost use Rattle.std.specs.BTreeMap.{get_by_text};
+ghost use Rattle.gba_store.specs.Files.{Written, Appended, Rose};
+ghost use Rattle.gba_store.specs.Memory.{held, told};
+
+use crate::outside::{ReadError, Sink, Store, WriteError};
+use std::alloc::{AllocError, AllocFailed, Global};
+use std::collections::BTreeMap;
+use std::marker::Model;
+
+/// A file: its name and its content.
+#[derive(Drop)]
+pub struct StoredFile {
+    pub name: String,
+    pub bytes: Vec<u8>,
+}
+
+impl Model for StoredFile {
+    ghost use Rattle.std.specs.Prelude.{string_bytes};
+    ghost use Rattle.gba_store.specs.Memory.{Stored};
+
+    ghost Value = { Stored };
+
+    ghost view = { λ file. record { name = string_bytes file.name; bytes = file.bytes.items } };
+}
+
+/// Files in memory. The reads whose numbers are chosen fail; the first read has the number 1. Of two files of one
+/// name the first is given.
+#[derive(Drop)]
+pub struct MemoryStore {
+    files: Vec<StoredFile>,
+    failing: Vec<u64>,
+    reads: u64,
+    faults: u64,
+    absences: u64,
+}
+
+impl Model for MemoryStore {
+    ghost use Rattle.gba_store.specs.Memory.{Memory};
+
+    ghost Value = { Memory };
+
+    ghost view = { λ store. record {
+      files = store.files.items;
+      failing = store.failing.items;
+      reads = store.reads;
+      faults = store.faults;
+      absences = store.absences;
+    } };
+}
+
+impl MemoryStore {
+    /// A store of these files, with no read made yet.
+    pub fn new(files: Vec<StoredFile>, failing: Vec<u64>) -> MemoryStore
+        ensures { result ≡ record { files = files.items; failing = failing.items; reads = 0; faults = 0; absences = 0 } }
+    {
+        MemoryStore {
+            files,
+            failing,
+            reads: 0,
+            faults: 0,
+            absences: 0,
+        }
+    }
+}
+
+fn content_of<'a>(files: &'a [StoredFile], name: &str) -> Option<&'a [u8]>
+    ensures { option_map (λ bytes. bytes.now) result ≡ held files.now name.now }
+{
+    for file in files {
+        if file.name.as_str() == name {
+            return Some(file.bytes.as_slice());
+        }
+    }
+    None
+}
+
+fn copy_of_front(alloc: Global, bytes: &[u8], most: u64) -> Result<Vec<u8>, AllocError>
+    ensures { IfOk result (λ front. front.items ≡ take most bytes.now) }
+{
+    let count = bytes.len().min(most as usize);
+    Vec::from_slice(alloc, &bytes[..count])
+}
+
+impl Store for MemoryStore {
+    ghost Tells = { Unit {0} };
+
+    ghost files = { λ store. held store.files };
+
+    ghost faults = { λ store. store.faults };
+
+    ghost absences = { λ store. store.absences };
+
+    fn read(&mut self, alloc: Global, name: &str, most: u64) -> Result<Vec<u8>, ReadError> {
+        self.reads = self.reads.saturating_add(1);
+        if self.failing.contains(&self.reads) {
+            self.faults = self.faults.saturating_add(1);
+            return Err(ReadError::Failed);
+        }
+        let Some(bytes) = content_of(self.files.as_slice(), name) else {
+            self.absences = self.absences.saturating_add(1);
+            return Err(ReadError::Absent);
+        };
+        match copy_of_front(alloc, bytes, most) {
+            Ok(front) => Ok(front),
+            Err(_) => Err(ReadError::NoMemory),
+        }
+    }
+}
+
+/// Files that are written in memory. The creates and the appends whose numbers are chosen fail; the first of each
+/// kind has the number 1, and appends to `-` are counted too. A failing append adds the first half of its piece,
+/// rounded down.
+#[derive(Drop)]
+pub struct MemorySink {
+    alloc: Global,
+    files: BTreeMap<String, Vec<u8>>,
+    failing_creates: Vec<u64>,
+    failing_appends: Vec<u64>,
+    creates: u64,
+    appends: u64,
+    faults: u64,
+    wants: u64,
+}
+
+impl MemorySink {
+    /// A sink with no file. It keeps the allocator for its growths.
+    pub fn new(alloc: Global, failing_creates: Vec<u64>, failing_appends: Vec<u64>) -> MemorySink {
+        MemorySink {
+            alloc,
+            files: BTreeMap::new(alloc),
+            failing_creates,
+            failing_appends,
+            creates: 0,
+            appends: 0,
+            faults: 0,
+            wants: 0,
+        }
+    }
+
+    /// Counts a want of memory.
+    fn answer(&mut self, written: Result<(), AllocError>) -> Result<(), WriteError>
+        ensures kind { MatchResult result (λ _. IsOk written) (λ error. IsErr written × (error ≡ WriteError.NoMemory)) }
+        ensures counted { OnErr written (Rose self.old.wants self.new.wants) }
+        ensures rest { self.new ≡ record self.old { wants = self.new.wants } }
+        ensures later_wants { self.old.wants ≤ self.new.wants }
+    {
+        match written {
+            Ok(()) => Ok(()),
+            Err(_) => {
+                self.wants = self.wants.saturating_add(1);
+                Err(WriteError::NoMemory)
+            }
+        }
+    }
+
+    /// The content of the file, or None where there is no such file.
+    pub fn bytes(&self, name: &str) -> Option<&[u8]>
+        ensures { option_map (λ bytes. bytes.now) result ≡ told self.now.files name.now }
+    {
+        match self.files.get(name) {
+            Some(bytes) => Some(bytes.as_slice()),
+            None => None,
+        }
+    }
+}
+
+/// Adds the bytes at the end of the file, which begins with them where it isn't there.
+fn extend(
+    alloc: Global,
+    files: &mut BTreeMap<String, Vec<u8>>,
+    name: &str,
+    bytes: &[u8],
+) -> Result<(), AllocError>
+    ensures ok { OnOk result (Appended name.now bytes.now (told files.old) (told files.new)) }
+    ensures err { OnErr result (told files.new ≡ told files.old) }
+{
+    match files.get_mut(name) {
+        Some(content) => {
+            content.extend_from_slice(bytes)?;
+            Ok(())
+        }
+        None => put(alloc, files, name, Vec::from_slice(alloc, bytes)?),
+    }
+}
+
+fn put(
+    alloc: Global,
+    files: &mut BTreeMap<String, Vec<u8>>,
+    name: &str,
+    bytes: Vec<u8>,
+) -> Result<(), AllocError>
+    ensures ok { OnOk result (Written name.now bytes.items (told files.old) (told files.new)) }
+    ensures err { OnErr result (told files.new ≡ told files.old) }
+{
+    let key = String::from_str(alloc, name)?;
+    files.insert(key, bytes)?;
+    Ok(())
+}
+
+impl Sink for MemorySink {
+    ghost Tells = { Unit {0} };
+
+    ghost files = { λ sink. told sink.files };
+
+    ghost faults = { λ sink. sink.faults };
+
+    ghost wants = { λ sink. sink.wants };
+
+    fn create(&mut self, name: &str) -> Result<(), WriteError> {
+        self.creates = self.creates.saturating_add(1);
+        if self.failing_creates.contains(&self.creates) {
+            self.faults = self.faults.saturating_add(1);
+            return Err(WriteError::Failed);
+        }
+        let written = put(self.alloc, &mut self.files, name, Vec::new(self.alloc));
+        self.answer(written)
+    }
+
+    fn append(&mut self, name: &str, bytes: &[u8]) -> Result<(), WriteError> {
+        self.appends = self.appends.saturating_add(1);
+        let fails = self.failing_appends.contains(&self.appends);
+        let count = if fails { bytes.len() / 2 } else { bytes.len() };
+        let written = extend(self.alloc, &mut self.files, name, &bytes[..count]);
+        if fails && written.is_ok() {
+            self.faults = self.faults.saturating_add(1);
+            return Err(WriteError::Failed);
+        }
+        self.answer(written)
+    }
+}

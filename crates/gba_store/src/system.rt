@@ -1,0 +1,157 @@
+//! The real store and sink: the files of the current folder, and standard output. They tell nothing of content.
+
+ghost use Rattle.std.specs.Prelude.{◌≡◌, ◌≤◌, None};
+ghost use Rattle.gba_store.specs.Files.{Rose};
+
+use crate::outside::{ReadError, Sink, Store, WriteError};
+use std::alloc::Global;
+use std::fs::{File, OpenOptions};
+use std::io::{self, ErrorKind, Read, Write};
+use std::rt::Files;
+
+/// Reads the files of the current folder. It counts each fault and each absence from 0, up to the last value of a u64.
+#[derive(Drop)]
+pub struct FileStore<R: Files + Drop> {
+    runtime: R,
+    faults: u64,
+    absences: u64,
+}
+
+impl<R: Files + Drop> FileStore<R> {
+    /// A store with no fault and no absence yet.
+    pub fn new(runtime: R) -> FileStore<R> {
+        FileStore {
+            runtime,
+            faults: 0,
+            absences: 0,
+        }
+    }
+}
+
+fn read_front<R: Files>(runtime: &R, alloc: Global, name: &str, most: u64) -> io::Result<Vec<u8>> {
+    let mut bytes = Vec::new(alloc);
+    File::open(runtime, name)?
+        .take(most)
+        .read_to_end(&mut bytes)?;
+    Ok(bytes)
+}
+
+impl<R: Files + Drop> Store for FileStore<R> {
+    ghost Tells = { ⊥ };
+
+    ghost files = { λ _ _. None };
+
+    ghost faults = { λ store. store.faults };
+
+    ghost absences = { λ store. store.absences };
+
+    /// A file that the system doesn't find is absent. Every other refusal but want of memory is a fault.
+    fn read(&mut self, alloc: Global, name: &str, most: u64) -> Result<Vec<u8>, ReadError> {
+        let error = match read_front(&self.runtime, alloc, name, most) {
+            Ok(bytes) => return Ok(bytes),
+            Err(error) => error,
+        };
+        match error.kind() {
+            ErrorKind::NotFound => {
+                self.absences = self.absences.saturating_add(1);
+                Err(ReadError::Absent)
+            }
+            ErrorKind::OutOfMemory => Err(ReadError::NoMemory),
+            _ => {
+                self.faults = self.faults.saturating_add(1);
+                Err(ReadError::Failed)
+            }
+        }
+    }
+}
+
+/// Writes the files of the current folder, and standard output under the name `-`. It counts each fault and each want
+/// of memory from 0, up to the last value of a u64.
+#[derive(Drop)]
+pub struct StdSink<R: Files + Print + Drop> {
+    runtime: R,
+    faults: u64,
+    wants: u64,
+}
+
+impl<R: Files + Print + Drop> StdSink<R> {
+    /// A sink with no fault and no want yet.
+    pub fn new(runtime: R) -> StdSink<R> {
+        StdSink {
+            runtime,
+            faults: 0,
+            wants: 0,
+        }
+    }
+
+    /// Counts a refusal of the system.
+    fn refusal(&mut self, error: &io::Error) -> WriteError
+        ensures failed { result ≡ WriteError.Failed → Rose self.old.faults self.new.faults }
+        ensures wanting { result ≡ WriteError.NoMemory → Rose self.old.wants self.new.wants }
+        ensures later_faults { self.old.faults ≤ self.new.faults }
+        ensures later_wants { self.old.wants ≤ self.new.wants }
+    {
+        if error.kind() == ErrorKind::OutOfMemory {
+            self.wants = self.wants.saturating_add(1);
+            WriteError::NoMemory
+        } else {
+            self.faults = self.faults.saturating_add(1);
+            WriteError::Failed
+        }
+    }
+}
+
+fn make_empty<R: Files>(runtime: &R, name: &str) -> io::Result<()> {
+    let _file = File::create(runtime, name)?;
+    Ok(())
+}
+
+fn append_to_file<R: Files>(runtime: &R, name: &str, bytes: &[u8]) -> io::Result<()> {
+    let mut file = OpenOptions::new()
+        .append(true)
+        .create(true)
+        .open(runtime, name)?;
+    file.write_all(bytes)?;
+    file.flush()
+}
+
+fn print_bytes<R: Print>(runtime: &R, bytes: &[u8]) -> io::Result<()> {
+    let mut output = io::writer(runtime);
+    output.write_all(bytes)?;
+    output.flush()
+}
+
+impl<R: Files + Print + Drop> Sink for StdSink<R> {
+    ghost Tells = { ⊥ };
+
+    ghost files = { λ _ _. None };
+
+    ghost faults = { λ sink. sink.faults };
+
+    ghost wants = { λ sink. sink.wants };
+
+    /// Standard output can't be made empty: `create` of `-` is a fault.
+    fn create(&mut self, name: &str) -> Result<(), WriteError> {
+        if name == "-" {
+            self.faults = self.faults.saturating_add(1);
+            return Err(WriteError::Failed);
+        }
+        match make_empty(&self.runtime, name) {
+            Ok(()) => Ok(()),
+            Err(error) => Err(self.refusal(&error)),
+        }
+    }
+
+    /// A file is opened for each append. Each append is flushed before it answers.
+    fn append(&mut self, name: &str, bytes: &[u8]) -> Result<(), WriteError> {
+        let written = if name == "-" {
+            print_bytes(&self.runtime, bytes)
+        } else {
+            append_to_file(&self.runtime, name, bytes)
+        };
+        match written {
+            Ok(()) => Ok(()),
+            Err(error) => Err(self.refusal(&error)),
+        }
+    }
+}
