@@ -1,0 +1,4 @@
+pub mod Machine
+pub mod Conditions
+pub mod Step
+pub mod Run
