@@ -1,0 +1,6 @@
+#![tactic(auto)]
+//! The top call: the program's words, its files and its outputs.
+
+mod job;
+mod text;
+mod words;
