@@ -3,11 +3,15 @@ use Rattle.gba_terms.specs.Hexadecimal.{hex}
 use Rattle.gba_terms.specs.RegisterNames.{register_names}
 use Rattle.gba_console.specs.Machine.{Machine}
 
--- one line for each register: its name and its value as eight digits
+-- the line of a register: its name, and its value as eight digits
+abbrev pub register_line : List ℕ → ℕ → List ℕ
+register_line name value = name ++ codes " " ++ hex 8 value ++ codes "\n"
+
+-- a line for each register that has a name and a value
 unfoldable pub register_lines : List (List ℕ) → List ℕ → List ℕ
 register_lines [] values = []
 register_lines (name ∷ names) [] = []
-register_lines (name ∷ names) (value ∷ values) = name ++ codes " " ++ hex 8 value ++ codes "\n" ++ register_lines names values
+register_lines (name ∷ names) (value ∷ values) = register_line name value ++ register_lines names values
 
 -- the lines before the registers
 abbrev pub heading : ℕ → List ℕ

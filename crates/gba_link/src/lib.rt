@@ -2,5 +2,7 @@
 //! The top call: the program's words, its files and its outputs.
 
 mod job;
+mod line;
+mod state;
 mod text;
 mod words;

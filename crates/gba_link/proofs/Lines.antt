@@ -1,0 +1,23 @@
+-- The register lines, one after another.
+use Rattle.std.proofs.Common.{◌≡◌, ℕ, ◌+◌, ◌<◌, List, [], ◌∷◌, ◌++◌, length, drop, get_or, refl, sym, ap, ◌∙◌, append_assoc, add-one, drop-cons}
+use Rattle.gba_terms.specs.RegisterNames.{register_names}
+use Rattle.gba_link.specs.StateFile.{register_line, register_lines}
+
+-- what is left of the lines is the next one and what is left after it
+pub register_lines-more : (names : List (List ℕ)) (values : List ℕ) (i : ℕ) → i < length names → i < length values
+    → register_lines (drop i names) (drop i values) ≡ register_line (get_or names i []) (get_or values i 0) ++ register_lines (drop (i + 1) names) (drop (i + 1) values)
+unfolding register_lines
+register_lines-more names values i p q = rw (add-one, drop-cons names i [], drop-cons values i 0) refl
+
+pub register_lines-all : (values : List ℕ) → register_lines (drop 37 register_names) values ≡ []
+unfolding register_lines register_names
+register_lines-all values = refl
+
+pub length-register_names : length register_names ≡ 37
+unfolding register_names
+length-register_names = refl
+
+-- a text that grew by the next piece of what is left
+pub joined : (old new piece left rest all : List ℕ) → new ≡ old ++ piece → left ≡ piece ++ rest → old ++ left ≡ all → new ++ rest ≡ all
+joined old new piece left rest all grew split whole =
+    ap (λ t. t ++ rest) grew ∙ append_assoc old piece rest ∙ ap (λ t. old ++ t) (sym split) ∙ whole

@@ -1,0 +1,10 @@
+use Rattle.std.proofs.Common.{◌≡◌, ◌+◌, ◌-◌, ◌*◌, ◌≤◌, ◌++◌, drop, vec_len}
+use Rattle.std.specs.Prelude.{vec_capacity}
+use Rattle.gba_terms.specs.RegisterNames.{register_names}
+use Rattle.gba_link.specs.StateFile.{register_lines}
+use Rattle.gba_link.proofs.state.add_register_lines.Given as goal
+
+abbrev pub invariant-loop-place : goal.invariant-loop-place
+invariant-loop-place l =
+    (l.into.items ++ register_lines (drop l.place register_names) (drop l.place l.registers) ≡ l.fn.into.items ++ register_lines register_names l.registers)
+    × (vec_len l.into + 18 * (37 - l.place) ≤ vec_capacity l.into)

@@ -1,0 +1,130 @@
+//! The state file and the summary.
+
+ghost use Rattle.std.specs.Prelude.{◌≡◌, ◌+◌, ◌≤◌, ◌<◌, ◌++◌, [], length, drop, vec_len, vec_capacity, slice_index_or};
+ghost use Rattle.gba_terms.specs.RegisterNames.{register_names};
+ghost use Rattle.gba_link.specs.StateFile.{register_line, register_lines, heading, state_file, summary as summary_of};
+
+use crate::line::{Line, hex_word, put};
+use gba_console::Console;
+use itoa::Buffer;
+
+/// The room of a state file in bytes: its heading has at most 96, and each of the 37 registers at most 18.
+pub(crate) const STATE_ROOM: usize = 1_024;
+
+/// Adds bytes where there is room for them.
+fn add(into: &mut Vec<u8>, bytes: &[u8])
+    requires { vec_len into.old + length bytes.now ≤ vec_capacity into.old }
+    ensures items { into.new.items ≡ into.old.items ++ bytes.now }
+    ensures len { vec_len into.new ≡ vec_len into.old + length bytes.now }
+    ensures room { vec_capacity into.old ≤ vec_capacity into.new }
+{
+    if into.extend_from_slice(bytes).is_err() {
+        unreachable!()
+    }
+}
+
+/// The name of a register, by its place among the 37.
+#[tactic(auto, unfolding(gba_terms::specs::RegisterNames::register_names))]
+fn register_name(place: usize) -> &'static [u8]
+    requires { place < 37 }
+    ensures name { result.now ≡ slice_index_or register_names place [] }
+    ensures short { length result.now ≤ 8 }
+{
+    match place {
+        0 => b"r0",
+        1 => b"r1",
+        2 => b"r2",
+        3 => b"r3",
+        4 => b"r4",
+        5 => b"r5",
+        6 => b"r6",
+        7 => b"r7",
+        8 => b"r8",
+        9 => b"r9",
+        10 => b"r10",
+        11 => b"r11",
+        12 => b"r12",
+        13 => b"r13",
+        14 => b"r14",
+        15 => b"r15",
+        16 => b"r8_fiq",
+        17 => b"r9_fiq",
+        18 => b"r10_fiq",
+        19 => b"r11_fiq",
+        20 => b"r12_fiq",
+        21 => b"r13_fiq",
+        22 => b"r14_fiq",
+        23 => b"r13_irq",
+        24 => b"r14_irq",
+        25 => b"r13_svc",
+        26 => b"r14_svc",
+        27 => b"r13_abt",
+        28 => b"r14_abt",
+        29 => b"r13_und",
+        30 => b"r14_und",
+        31 => b"cpsr",
+        32 => b"spsr_fiq",
+        33 => b"spsr_irq",
+        34 => b"spsr_svc",
+        35 => b"spsr_abt",
+        _ => b"spsr_und",
+    }
+}
+
+/// Adds the line of one register.
+fn add_register_line(into: &mut Vec<u8>, name: &[u8], value: u32)
+    requires { vec_len into.old + length name.now + 10 ≤ vec_capacity into.old }
+    ensures items { into.new.items ≡ into.old.items ++ register_line name.now value }
+    ensures len { vec_len into.new ≡ vec_len into.old + length name.now + 10 }
+    ensures room { vec_capacity into.old ≤ vec_capacity into.new }
+{
+    add(into, name);
+    add(into, b" ");
+    add(into, &hex_word(value));
+    add(into, b"\n");
+}
+
+/// Adds the lines of the 37 registers.
+fn add_register_lines(into: &mut Vec<u8>, registers: &[u32; 37])
+    requires { vec_len into.old + 666 ≤ vec_capacity into.old }
+    ensures items { into.new.items ≡ into.old.items ++ register_lines register_names registers.now }
+{
+    for place in 0..37 {
+        add_register_line(into, register_name(place), registers[place]);
+    }
+}
+
+/// Adds the lines before the registers.
+fn add_heading(into: &mut Vec<u8>, clock: u64)
+    requires { vec_len into.old + 96 ≤ vec_capacity into.old }
+    ensures items { into.new.items ≡ into.old.items ++ heading clock }
+    ensures len { vec_len into.new ≤ vec_len into.old + 96 }
+    ensures room { vec_capacity into.old ≤ vec_capacity into.new }
+{
+    let mut buffer = Buffer::new();
+    add(into, b"gbalink-state 1\nconsole 0\nclock ");
+    add(into, buffer.format(clock).as_bytes());
+    add(into, b"\nhalted 0\n");
+}
+
+/// Writes the state file of a console into an empty buffer with room for it.
+pub(crate) fn write_state(into: &mut Vec<u8>, console: &Console)
+    requires empty { into.old.items ≡ [] }
+    requires room { 1024 ≤ vec_capacity into.old }
+    ensures { into.new.items ≡ state_file console.now }
+{
+    add_heading(into, console.clock());
+    add_register_lines(into, &console.all());
+}
+
+/// The summary of a run.
+pub(crate) fn summary(console: &Console) -> Line
+    ensures { result.items ≡ summary_of console.now }
+{
+    let mut buffer = Buffer::new();
+    let mut line = Line::new();
+    put(&mut line, b"console 0 clock ");
+    put(&mut line, buffer.format(console.clock()).as_bytes());
+    put(&mut line, b" frames 0 samples 0 words 0\n");
+    line
+}
