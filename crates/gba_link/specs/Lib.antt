@@ -5,3 +5,4 @@ pub mod Outcome
 pub mod Writing
 pub mod Answer
 pub mod Views
+pub mod Refusals

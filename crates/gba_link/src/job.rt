@@ -1,6 +1,6 @@
 //! The job of six lines.
 
-ghost use Rattle.std.specs.Prelude.{◌≡◌, Some, None, true, option_map, take_while, length, if◌then◌else◌};
+ghost use Rattle.std.specs.Prelude.{◌≡◌, ◌≤◌, ◌^◌, IfSome, Some, None, true, option_map, take_while, length, if◌then◌else◌};
 ghost use Rattle.std.specs.Char.{is_ascii_digit};
 ghost use Rattle.std.specs.Str.{all_ascii_digits};
 ghost use Rattle.std.specs.Str.Parse.{digits_value};
@@ -48,7 +48,8 @@ fn name_length(bytes: &[u8]) -> usize
 /// The number of cycles that decimal digits say.
 fn cycles_in(digits: &[u8]) -> Option<u64>
     requires { all_ascii_digits digits.now ≡ true }
-    ensures { result ≡ (if is_cycles digits.now then Some (digits_value 10 digits.now) else None) }
+    ensures cycles { result ≡ (if is_cycles digits.now then Some (digits_value 10 digits.now) else None) }
+    ensures bounded { IfSome result (λ cycles. cycles ≤ 2 ^ 31) }
 {
     if digits.is_empty() || digits.len() > MOST_DIGITS {
         return None;
@@ -61,7 +62,8 @@ fn cycles_in(digits: &[u8]) -> Option<u64>
 
 /// The number of cycles that the bytes begin with, and what follows it.
 fn cycles_at(bytes: &[u8]) -> Option<(u64, &[u8])>
-    ensures { option_map number_value result ≡ cycles_at_front bytes.now }
+    ensures cycles { option_map number_value result ≡ cycles_at_front bytes.now }
+    ensures bounded { IfSome result (λ found. found.0 ≤ 2 ^ 31) }
 {
     let (digits, rest) = bytes.split_at(digit_count(bytes));
     let cycles = cycles_in(digits)?;
@@ -70,7 +72,9 @@ fn cycles_at(bytes: &[u8]) -> Option<(u64, &[u8])>
 
 /// The job whose name and last two lines these are.
 fn job_at_name(cycles: u64, bytes: &[u8]) -> Option<JobText<'_>>
-    ensures { option_map job_value result ≡ job_at_name_of cycles bytes.now }
+    requires { cycles ≤ 2 ^ 31 }
+    ensures job { option_map job_value result ≡ job_at_name_of cycles bytes.now }
+    ensures bounded { IfSome result (λ job. (length job.bios.now ≤ 200) × (job.cycles ≤ 2 ^ 31)) }
 {
     let (name, rest) = bytes.split_at(name_length(bytes));
     if !is_name(name) || rest != b"\nout state\nend\n".as_slice() {
@@ -83,7 +87,8 @@ fn job_at_name(cycles: u64, bytes: &[u8]) -> Option<JobText<'_>>
 }
 
 fn job_at_cycles(bytes: &[u8]) -> Option<JobText<'_>>
-    ensures { option_map job_value result ≡ job_at_cycles_of bytes.now }
+    ensures job { option_map job_value result ≡ job_at_cycles_of bytes.now }
+    ensures bounded { IfSome result (λ job. (length job.bios.now ≤ 200) × (job.cycles ≤ 2 ^ 31)) }
 {
     let (cycles, rest) = cycles_at(bytes)?;
     let rest = bytes_after(rest, b"\nconsole 0\nbios ")?;
@@ -93,7 +98,8 @@ fn job_at_cycles(bytes: &[u8]) -> Option<JobText<'_>>
 /// The job that the bytes say, if they say one: six lines, each ended by a line feed, with one space between words.
 #[tactic(auto, unfolding(crate::specs::JobForm::job_of))]
 pub(crate) fn job_of(bytes: &[u8]) -> Option<JobText<'_>>
-    ensures { option_map job_value result ≡ job_said bytes.now }
+    ensures job { option_map job_value result ≡ job_said bytes.now }
+    ensures bounded { IfSome result (λ job. (length job.bios.now ≤ 200) × (job.cycles ≤ 2 ^ 31)) }
 {
     if bytes.len() > LONGEST_JOB {
         return None;

@@ -3,6 +3,8 @@
 
 mod job;
 mod line;
+mod refusal;
+mod run;
 mod state;
 mod text;
 mod words;

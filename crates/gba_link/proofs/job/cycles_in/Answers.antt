@@ -11,4 +11,4 @@ pub returns-in_default-3 : goal.returns-in_default-3
 returns-in_default-3 c =
     let none = rw (c.in_default.is, c.ascii_text.ensures) at (parsed_digits c.ascii_text.result.now c.parse.result c.parse.ensures.value.0 (rw c.ascii_text.ensures c.requires)) in
     let e : is_cycles c.args.digits.now ≡ false = not_cycles c.args.digits.now none in
-    rw e refl
+    rw e (record { cycles = refl; bounded = tt })

@@ -12,7 +12,7 @@ loop-place-preserved c =
     let named : i < length register_names = omega (arith, length-register_names) in
     let valued : i < length c.args.registers.now = omega (arith, c.told-registers) in
     let grew : c.add_register_line.new.into.items ≡ c.loop-place.into.items ++ register_line (get_or register_names i []) (get_or c.args.registers.now i 0) =
-        c.add_register_line.ensures.items ∙ ap (λ name. c.loop-place.into.items ++ register_line name (get_or c.args.registers.now i 0)) c.register_name.ensures.name in
+    c.add_register_line.ensures.items ∙ ap (λ name. c.loop-place.into.items ++ register_line name (get_or c.args.registers.now i 0)) c.register_name.ensures.name in
     (joined _ _ _ _ _ _ grew (register_lines-more register_names c.args.registers.now i named valued) c.loop-place.invariant.0, omega arith)
 
 pub returns : goal.returns

@@ -1,0 +1,60 @@
+use Rattle.std.specs.Prelude.{◌≡◌, ℕ, List, [], None, Result, Ok, Err}
+use Rattle.gba_store.specs.Files.{Files}
+use Rattle.gba_link.specs.declared.refusal.Refusal.{Refusal}
+use Rattle.gba_link.specs.declared.refusal.Refusal.TheVariants as refusal
+use Rattle.gba_link.specs.Outcome.{Cause, Words, Absent, Form, Image, Unbuilt, report_of, store_report, memory_report}
+use Rattle.gba_link.specs.Answer.{IsAmong}
+
+-- the status and the report of a refusal before anything is written
+abbrev pub refusal_status : Refusal → ℕ
+refusal_status refusal.Words = 2
+refusal_status (refusal.Absent name) = 3
+refusal_status (refusal.StoreFault name) = 4
+refusal_status (refusal.Image name) = 6
+refusal_status refusal.Memory = 10
+refusal_status refusal.Form = 11
+refusal_status (refusal.Unbuilt instruction) = 11
+
+abbrev pub refusal_report : Refusal → List ℕ
+refusal_report refusal.Words = report_of Words
+refusal_report (refusal.Absent name) = report_of (Absent name.items)
+refusal_report (refusal.StoreFault name) = store_report name.items
+refusal_report (refusal.Image name) = report_of (Image name.items)
+refusal_report refusal.Memory = memory_report
+refusal_report refusal.Form = report_of Form
+refusal_report (refusal.Unbuilt instruction) = report_of (Unbuilt instruction)
+
+-- A refusal that the outcome gives; or a fault of the store, on a file that is read; or want of memory.
+abbrev pub IsRefusedBy : {X : Type 0} → Result X Cause → List (List ℕ) → Refusal → Type 0
+IsRefusedBy o reads refusal.Words = o ≡ Err Words
+IsRefusedBy o reads (refusal.Absent name) = o ≡ Err (Absent name.items)
+IsRefusedBy o reads (refusal.StoreFault name) = IsAmong name.items reads
+IsRefusedBy o reads (refusal.Image name) = o ≡ Err (Image name.items)
+IsRefusedBy o reads refusal.Memory = Unit {0}
+IsRefusedBy o reads refusal.Form = o ≡ Err Form
+IsRefusedBy o reads (refusal.Unbuilt instruction) = o ≡ Err (Unbuilt instruction)
+
+-- what a function returned, seen by `view`, is the outcome, or is refused by it
+abbrev pub Agrees : {X Y : Type 0} → (X → Y) → Result Y Cause → List (List ℕ) → Result X Refusal → Type 0
+Agrees view o reads (Ok x) = o ≡ Ok (view x)
+Agrees view o reads (Err refusal) = IsRefusedBy o reads refusal
+
+-- the counts of the store rose where the refusal says so
+abbrev pub IsCounted : Type 0 → Type 0 → Refusal → Type 0
+IsCounted absence_rose fault_rose refusal.Words = Unit {0}
+IsCounted absence_rose fault_rose (refusal.Absent name) = absence_rose
+IsCounted absence_rose fault_rose (refusal.StoreFault name) = fault_rose
+IsCounted absence_rose fault_rose (refusal.Image name) = Unit {0}
+IsCounted absence_rose fault_rose refusal.Memory = Unit {0}
+IsCounted absence_rose fault_rose refusal.Form = Unit {0}
+IsCounted absence_rose fault_rose (refusal.Unbuilt instruction) = Unit {0}
+
+-- why the read of a file was refused
+abbrev pub IsReadRefusal : Files → List ℕ → Refusal → Type 0
+IsReadRefusal files name refusal.Words = ⊥
+IsReadRefusal files name (refusal.Absent other) = (other.items ≡ name) × (files name ≡ None)
+IsReadRefusal files name (refusal.StoreFault other) = other.items ≡ name
+IsReadRefusal files name (refusal.Image other) = ⊥
+IsReadRefusal files name refusal.Memory = Unit {0}
+IsReadRefusal files name refusal.Form = ⊥
+IsReadRefusal files name (refusal.Unbuilt instruction) = ⊥

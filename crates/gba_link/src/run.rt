@@ -1,0 +1,115 @@
+//! From the words and the files to what a run writes.
+
+ghost use Rattle.std.specs.Prelude.{◌≡◌, ◌≤◌, ◌^◌, ◌++◌, [], ◌∷◌, Ok, Err, Some, MatchResult, IfOk, IfErr, IfSome, length, codes, string_bytes};
+ghost use Rattle.gba_store.specs.Files.{IsFront, Rose};
+ghost use Rattle.gba_console.specs.Run.{run_to};
+ghost use Rattle.gba_link.specs.JobForm.{job_of as job_said};
+ghost use Rattle.gba_link.specs.Outcome.{from_image, from_job, from_command, job_in, job_or_form, state_name as state_name_of, reads_of_command, reads_of_job};
+ghost use Rattle.gba_link.specs.Refusals.{Agrees, IsCounted, IsReadRefusal};
+ghost use Rattle.gba_link.specs.Words.{Command};
+ghost use Rattle.gba_link.specs.Views.{command_value, job_value, finished_value};
+
+use crate::job::{JobText, LONGEST_JOB, job_of};
+use crate::line::Line;
+use crate::refusal::{Refusal, name_in_report};
+use crate::state::{STATE_ROOM, summary, write_state};
+use crate::words::RunWords;
+use gba_console::{BIOS_LENGTH, Console, NotBuilt};
+use gba_store::{ReadError, Store};
+use std::alloc::{AllocError, Global};
+
+/// What a run writes: its state file, and the line of its summary.
+#[derive(Drop)]
+pub(crate) struct FinishedRun {
+    pub(crate) state_name: String,
+    pub(crate) state: Vec<u8>,
+    pub(crate) summary: Line,
+}
+
+/// Reads a file of at most so many bytes of interest.
+fn read_file<S: Store>(
+    alloc: Global,
+    store: &mut S,
+    name: &str,
+    most: u64,
+) -> Result<Vec<u8>, Refusal>
+    requires { length name.now ≤ 200 }
+    ensures files { S.Tells → S.files store.new ≡ S.files store.old }
+    ensures read { S.Tells → IfOk result (λ bytes. IsFront (S.files store.old) name.now most bytes.items) }
+    ensures refused { S.Tells → IfErr result (IsReadRefusal (S.files store.old) name.now) }
+    ensures counted { IfErr result (IsCounted (Rose (S.absences store.old) (S.absences store.new)) (Rose (S.faults store.old) (S.faults store.new))) }
+    ensures later_absences { S.absences store.old ≤ S.absences store.new }
+    ensures later_faults { S.faults store.old ≤ S.faults store.new }
+{
+    match store.read(alloc, name, most) {
+        Ok(bytes) => Ok(bytes),
+        Err(ReadError::Absent) => Err(Refusal::Absent(name_in_report(name))),
+        Err(ReadError::Failed) => Err(Refusal::StoreFault(name_in_report(name))),
+        Err(ReadError::NoMemory) => Err(Refusal::Memory),
+    }
+}
+
+/// The job that the bytes say, where its state file is neither the job nor its image.
+fn accepted_job<'a>(
+    command: &RunWords<'_>,
+    state_name: &str,
+    bytes: &'a [u8],
+) -> Result<JobText<'a>, Refusal>
+    requires { state_name.now ≡ state_name_of command.now.out.now }
+    ensures agrees { Agrees job_value (job_or_form (command_value command.now) (job_said bytes.now)) [] result }
+    ensures bounded { IfOk result (λ job. (length job.bios.now ≤ 200) × (job.cycles ≤ 2 ^ 31)) }
+{
+    let Some(job) = job_of(bytes) else {
+        return Err(Refusal::Form);
+    };
+    if state_name == command.job {
+        return Err(Refusal::Form);
+    }
+    if state_name == job.bios {
+        return Err(Refusal::Form);
+    }
+    Ok(job)
+}
+
+/// Steps a console until its clock is at least `until`.
+fn run_console(mut console: Console, until: u64) -> Result<Console, NotBuilt>
+    requires { until ≤ 2 ^ 31 }
+    ensures { MatchResult result (λ end. run_to until console ≡ Ok end) (λ refusal. run_to until console ≡ Err refusal) }
+{
+    for _ in 0..until {
+        if console.clock() >= until {
+            break;
+        }
+        console.step()?;
+    }
+    Ok(console)
+}
+
+/// Runs a console from this image, and makes what is written. All memory is taken before the first step.
+fn run_image(
+    alloc: Global,
+    state_name: String,
+    job: &JobText<'_>,
+    image: Vec<u8>,
+) -> Result<FinishedRun, Refusal>
+    requires { (length job.now.bios.now ≤ 200) × (job.now.cycles ≤ 2 ^ 31) }
+    ensures { (command : Command) → string_bytes state_name ≡ state_name_of command.out
+        → Agrees finished_value (from_image command (job_value job.now) (Some image.items)) [] result }
+{
+    if image.len() != BIOS_LENGTH {
+        return Err(Refusal::Image(name_in_report(job.bios)));
+    }
+    let Ok(mut state) = Vec::with_capacity(alloc, STATE_ROOM) else {
+        return Err(Refusal::Memory);
+    };
+    let console = match run_console(Console::new(image), job.cycles) {
+        Ok(console) => console,
+        Err(instruction) => return Err(Refusal::Unbuilt(instruction)),
+    };
+    write_state(&mut state, &console);
+    Ok(FinishedRun {
+        state_name,
+        state,
+        summary: summary(&console),
+    })
+}
