@@ -93,8 +93,9 @@ fn run_image(
     image: Vec<u8>,
 ) -> Result<FinishedRun, Refusal>
     requires { (length job.now.bios.now ≤ 200) × (job.now.cycles ≤ 2 ^ 31) }
-    ensures { (command : Command) → string_bytes state_name ≡ state_name_of command.out
+    ensures agrees { (command : Command) → string_bytes state_name ≡ state_name_of command.out
         → Agrees finished_value (from_image command (job_value job.now) (Some image.items)) [] result }
+    ensures own { IfErr result (IsCounted ⊥ ⊥) }
 {
     if image.len() != BIOS_LENGTH {
         return Err(Refusal::Image(name_in_report(job.bios)));
@@ -112,4 +113,44 @@ fn run_image(
         state,
         summary: summary(&console),
     })
+}
+
+/// Reads the image of a job and runs it.
+fn run_job<S: Store>(
+    alloc: Global,
+    store: &mut S,
+    state_name: String,
+    job: &JobText<'_>,
+) -> Result<FinishedRun, Refusal>
+    requires { (length job.now.bios.now ≤ 200) × (job.now.cycles ≤ 2 ^ 31) }
+    ensures agrees { S.Tells → (command : Command) → string_bytes state_name ≡ state_name_of command.out
+        → Agrees finished_value (from_image command (job_value job.now) (S.files store.old job.now.bios.now)) (job.now.bios.now ∷ []) result }
+    ensures counted { IfErr result (IsCounted (Rose (S.absences store.old) (S.absences store.new)) (Rose (S.faults store.old) (S.faults store.new))) }
+    ensures later_absences { S.absences store.old ≤ S.absences store.new }
+    ensures later_faults { S.faults store.old ≤ S.faults store.new }
+{
+    let image = read_file(alloc, store, job.bios, BIOS_LENGTH as u64 + 1)?;
+    run_image(alloc, state_name, job, image)
+}
+
+/// Reads the job of a command and runs it.
+pub(crate) fn run_command<S: Store>(
+    alloc: Global,
+    store: &mut S,
+    command: &RunWords<'_>,
+) -> Result<FinishedRun, Refusal>
+    requires { (length command.now.job.now ≤ 200) × (length command.now.out.now ≤ 180) }
+    ensures agrees { S.Tells → Agrees finished_value (from_command (S.files store.old) (Some (command_value command.now)))
+        (reads_of_command (S.files store.old) (Some (command_value command.now))) result }
+    ensures counted { IfErr result (IsCounted (Rose (S.absences store.old) (S.absences store.new)) (Rose (S.faults store.old) (S.faults store.new))) }
+    ensures later_absences { S.absences store.old ≤ S.absences store.new }
+    ensures later_faults { S.faults store.old ≤ S.faults store.new }
+{
+    let out = command.out;
+    let Ok(state_name) = format!(in alloc; "{out}.0.state") else {
+        return Err(Refusal::Memory);
+    };
+    let bytes = read_file(alloc, store, command.job, LONGEST_JOB as u64 + 1)?;
+    let job = accepted_job(command, state_name.as_str(), bytes.as_slice())?;
+    run_job(alloc, store, state_name, &job)
 }

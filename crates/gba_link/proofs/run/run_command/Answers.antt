@@ -1,0 +1,35 @@
+use Rattle.std.proofs.Common.{◌≡◌, [], ◌∷◌, Ok, Some, sym, ap, ◌∙◌, subst, inr, rules}
+use Rattle.std.proofs.lemmas.Result.{err_from_is_err_and}
+use Rattle.gba_link.specs.JobForm.{job_of}
+use Rattle.gba_link.specs.Outcome.{from_image, from_job, job_in, job_or_form, reads_of_job}
+use Rattle.gba_link.specs.Answer.{IsAmong}
+use Rattle.gba_link.specs.Views.{command_value, job_value, finished_value}
+use Rattle.gba_link.proofs.Reading.{agrees-weaker, refused-weaker, job-read, from_job-refused}
+use Rattle.gba_link.proofs.run.run_command.Goals as goal
+
+pub returns-in_err-job-clause-agrees : goal.returns-in_err-job-clause-agrees
+returns-in_err-job-clause-agrees g c = λ tells.
+    let files = g.S.Store.files c.args.store.now in
+    let command = command_value c.args.command.now in
+    let bytes = c.in_ok-bytes.bytes.items in
+    let read = job-read files command bytes (c.in_ok-bytes.ensures.read tells) in
+    let p = err_from_is_err_and c.from_residual-in_err-job.result c.from_residual-in_err-job.ensures.1 in
+    rw (p.1, p.2)
+    (refused-weaker (job_or_form command (job_of bytes)) (from_job files command (job_in command (files command.job))) []
+    (command.job ∷ reads_of_job (job_in command (files command.job))) _
+    (λ cause e. from_job-refused files command (job_in command (files command.job)) cause (sym read ∙ e))
+    (λ name none. absurd none) (rw c.as_slice.ensures.value at c.in_err-job.ensures.agrees))
+
+pub returns-clause-agrees : goal.returns-clause-agrees
+returns-clause-agrees g c = λ tells.
+    let files = g.S.Store.files c.args.store.now in
+    let command = command_value c.args.command.now in
+    let bytes = c.in_ok-bytes.bytes.items in
+    let job = job_value c.in_ok-job.job in
+    let read = job-read files command bytes (c.in_ok-bytes.ensures.read tells) in
+    let accepted : job_in command (files command.job) ≡ Ok job = sym read ∙ (rw c.as_slice.ensures.value at c.in_ok-job.ensures.agrees) in
+    agrees-weaker finished_value (from_image command job (files job.bios)) (from_job files command (job_in command (files command.job))) (job.bios ∷ [])
+    (command.job ∷ reads_of_job (job_in command (files command.job))) c.run_job.result
+    (sym (ap (from_job files command) accepted))
+    (λ name h. inr (subst (λ r. IsAmong name (reads_of_job r)) (sym accepted) h))
+    (rw (c.in_ok-bytes.ensures.files tells) at (c.run_job.ensures.agrees tells command (search rules)))
