@@ -47,3 +47,14 @@ module _ (Tells : Type 0) (status : ℕ) (AbsenceRose FaultRose : Type 0) (old n
   abbrev pub Answer : Result Finished Cause → List (List ℕ) → Type 0
   Answer (Ok run) reads = Finishes (writes run) ⊎ SinkFails (writes run) ⊎ SinkLacks (writes run) ⊎ StoreFails reads ⊎ LacksMemory
   Answer (Err cause) reads = RefusesFor cause ⊎ StoreFails reads ⊎ LacksMemory
+
+  -- What is left to answer where the store tells its files, the sink does too, and no count of faults or absences
+  -- rose: the run is finished, or refused as the files say; or memory was wanting, before anything was written or in a
+  -- call of the sink.
+  abbrev pub Completes : Result Finished Cause → Type 0
+  Completes (Ok run) = Finishes (writes run) ⊎ SinkLacks (writes run) ⊎ LacksMemory
+  Completes (Err (Absent name)) = LacksMemory
+  Completes (Err Words) = RefusesFor Words ⊎ LacksMemory
+  Completes (Err Form) = RefusesFor Form ⊎ LacksMemory
+  Completes (Err (Image name)) = RefusesFor (Image name) ⊎ LacksMemory
+  Completes (Err (Unbuilt refusal)) = RefusesFor (Unbuilt refusal) ⊎ LacksMemory

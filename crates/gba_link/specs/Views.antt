@@ -2,7 +2,7 @@ use Rattle.std.specs.Prelude.{ℕ, List, string_bytes}
 use Rattle.std.specs.Borrow.{Bor}
 use Rattle.gba_link.specs.declared.words.RunWords.{RunWords}
 use Rattle.gba_link.specs.declared.job.JobText.{JobText}
-use Rattle.gba_link.specs.declared.run.FinishedRun.{FinishedRun}
+use Rattle.gba_link.specs.declared.finished.FinishedRun.{FinishedRun}
 use Rattle.gba_link.specs.Outcome.{Finished}
 use Rattle.gba_link.specs.Words.{Command}
 use Rattle.gba_link.specs.JobForm.{Job, Number}

@@ -1,6 +1,6 @@
 //! From the words and the files to what a run writes.
 
-ghost use Rattle.std.specs.Prelude.{◌≡◌, ◌≤◌, ◌^◌, ◌++◌, [], ◌∷◌, Ok, Err, Some, MatchResult, IfOk, IfErr, IfSome, length, codes, string_bytes};
+ghost use Rattle.std.specs.Prelude.{◌≡◌, ◌≤◌, ◌^◌, ◌++◌, [], ◌∷◌, Ok, Err, Some, MatchResult, IfOk, IfErr, IfSome, length, codes, string_bytes, string_len};
 ghost use Rattle.gba_store.specs.Files.{IsFront, Rose};
 ghost use Rattle.gba_console.specs.Run.{run_to};
 ghost use Rattle.gba_link.specs.JobForm.{job_of as job_said};
@@ -9,22 +9,14 @@ ghost use Rattle.gba_link.specs.Refusals.{Agrees, IsCounted, IsReadRefusal};
 ghost use Rattle.gba_link.specs.Words.{Command};
 ghost use Rattle.gba_link.specs.Views.{command_value, job_value, finished_value};
 
+use crate::finished::FinishedRun;
 use crate::job::{JobText, LONGEST_JOB, job_of};
-use crate::line::Line;
 use crate::refusal::{Refusal, name_in_report};
 use crate::state::{STATE_ROOM, summary, write_state};
 use crate::words::RunWords;
 use gba_console::{BIOS_LENGTH, Console, NotBuilt};
 use gba_store::{ReadError, Store};
 use std::alloc::{AllocError, Global};
-
-/// What a run writes: its state file, and the line of its summary.
-#[derive(Drop)]
-pub(crate) struct FinishedRun {
-    pub(crate) state_name: String,
-    pub(crate) state: Vec<u8>,
-    pub(crate) summary: Line,
-}
 
 /// Reads a file of at most so many bytes of interest.
 fn read_file<S: Store>(
@@ -92,7 +84,8 @@ fn run_image(
     job: &JobText<'_>,
     image: Vec<u8>,
 ) -> Result<FinishedRun, Refusal>
-    requires { (length job.now.bios.now ≤ 200) × (job.now.cycles ≤ 2 ^ 31) }
+    requires named { string_len state_name ≤ 200 }
+    requires bounded { (length job.now.bios.now ≤ 200) × (job.now.cycles ≤ 2 ^ 31) }
     ensures agrees { (command : Command) → string_bytes state_name ≡ state_name_of command.out
         → Agrees finished_value (from_image command (job_value job.now) (Some image.items)) [] result }
     ensures own { IfErr result (IsCounted ⊥ ⊥) }
@@ -122,7 +115,8 @@ fn run_job<S: Store>(
     state_name: String,
     job: &JobText<'_>,
 ) -> Result<FinishedRun, Refusal>
-    requires { (length job.now.bios.now ≤ 200) × (job.now.cycles ≤ 2 ^ 31) }
+    requires named { string_len state_name ≤ 200 }
+    requires bounded { (length job.now.bios.now ≤ 200) × (job.now.cycles ≤ 2 ^ 31) }
     ensures agrees { S.Tells → (command : Command) → string_bytes state_name ≡ state_name_of command.out
         → Agrees finished_value (from_image command (job_value job.now) (S.files store.old job.now.bios.now)) (job.now.bios.now ∷ []) result }
     ensures counted { IfErr result (IsCounted (Rose (S.absences store.old) (S.absences store.new)) (Rose (S.faults store.old) (S.faults store.new))) }
