@@ -58,3 +58,13 @@ IsReadRefusal files name (refusal.Image other) = ⊥
 IsReadRefusal files name refusal.Memory = Unit {0}
 IsReadRefusal files name refusal.Form = ⊥
 IsReadRefusal files name (refusal.Unbuilt instruction) = ⊥
+
+-- it isn't the words
+abbrev pub IsNotWords : Refusal → Type 0
+IsNotWords refusal.Words = ⊥
+IsNotWords (refusal.Absent name) = Unit {0}
+IsNotWords (refusal.StoreFault name) = Unit {0}
+IsNotWords (refusal.Image name) = Unit {0}
+IsNotWords refusal.Memory = Unit {0}
+IsNotWords refusal.Form = Unit {0}
+IsNotWords (refusal.Unbuilt instruction) = Unit {0}

@@ -1,6 +1,7 @@
 //! What is written: a run's file and its summary, and the reports.
 
 ghost use Rattle.std.specs.Prelude.{◌≡◌, ◌⊎◌, ◌≤◌, codes, length, string_len};
+ghost use Rattle.gba_link.specs.Answer.{Finishes, SinkFails, SinkLacks};
 ghost use Rattle.gba_link.specs.Stops.{IsStopAt, Performs, PerformsAll};
 ghost use Rattle.gba_link.specs.Views.{finished_value};
 ghost use Rattle.gba_link.specs.Writing.{Create, Append, Reported, writes, sink_state};
@@ -103,4 +104,20 @@ pub(crate) fn report<O: Sink>(out: &mut O, line: &Line)
     ensures later_wants { O.wants out.old ≤ O.wants out.new }
 {
     let _ = out.append("-", line.as_slice());
+}
+
+/// Writes a run, and answers the exit status.
+pub(crate) fn finish<O: Sink>(out: &mut O, run: &FinishedRun) -> u8
+    ensures { let old = sink_state (O.files out.old) (O.faults out.old) (O.wants out.old) in
+        let new = sink_state (O.files out.new) (O.faults out.new) (O.wants out.new) in
+        let calls = writes (finished_value run.now) in
+        Finishes O.Tells result old new calls ⊎ SinkFails O.Tells result old new calls ⊎ SinkLacks O.Tells result old new calls }
+{
+    match write_run(out, run) {
+        Ok(()) => 0,
+        Err(stop) => {
+            report(out, &stop.report());
+            stop.status()
+        }
+    }
 }

@@ -1,19 +1,19 @@
 //! From the words and the files to what a run writes.
 
-ghost use Rattle.std.specs.Prelude.{◌≡◌, ◌≤◌, ◌^◌, ◌++◌, [], ◌∷◌, Ok, Err, Some, MatchResult, IfOk, IfErr, IfSome, length, codes, string_bytes, string_len};
+ghost use Rattle.std.specs.Prelude.{◌≡◌, ◌≤◌, ◌^◌, ◌++◌, [], ◌∷◌, Ok, Err, Some, map, MatchOption, MatchResult, IsErrOf, IfOk, IfErr, IfSome, length, codes, string_bytes, string_len};
 ghost use Rattle.gba_store.specs.Files.{IsFront, Rose};
 ghost use Rattle.gba_console.specs.Run.{run_to};
 ghost use Rattle.gba_link.specs.JobForm.{job_of as job_said};
-ghost use Rattle.gba_link.specs.Outcome.{from_image, from_job, from_command, job_in, job_or_form, state_name as state_name_of, reads_of_command, reads_of_job};
-ghost use Rattle.gba_link.specs.Refusals.{Agrees, IsCounted, IsReadRefusal};
-ghost use Rattle.gba_link.specs.Words.{Command};
+ghost use Rattle.gba_link.specs.Outcome.{from_image, from_command, job_or_form, state_name as state_name_of, outcome, reads, reads_of_command};
+ghost use Rattle.gba_link.specs.Refusals.{Agrees, IsCounted, IsReadRefusal, IsNotWords};
+ghost use Rattle.gba_link.specs.Words.{Command, command_of as command_said};
 ghost use Rattle.gba_link.specs.Views.{command_value, job_value, finished_value};
 
 use crate::finished::FinishedRun;
 use crate::job::{JobText, LONGEST_JOB, job_of};
 use crate::refusal::{Refusal, name_in_report};
 use crate::state::{STATE_ROOM, summary, write_state};
-use crate::words::RunWords;
+use crate::words::{RunWords, command_of};
 use gba_console::{BIOS_LENGTH, Console, NotBuilt};
 use gba_store::{ReadError, Store};
 use std::alloc::{AllocError, Global};
@@ -30,6 +30,7 @@ fn read_file<S: Store>(
     ensures read { S.Tells → IfOk result (λ bytes. IsFront (S.files store.old) name.now most bytes.items) }
     ensures refused { S.Tells → IfErr result (IsReadRefusal (S.files store.old) name.now) }
     ensures counted { IfErr result (IsCounted (Rose (S.absences store.old) (S.absences store.new)) (Rose (S.faults store.old) (S.faults store.new))) }
+    ensures not_words { IfErr result IsNotWords }
     ensures later_absences { S.absences store.old ≤ S.absences store.new }
     ensures later_faults { S.faults store.old ≤ S.faults store.new }
 {
@@ -49,6 +50,7 @@ fn accepted_job<'a>(
 ) -> Result<JobText<'a>, Refusal>
     requires { state_name.now ≡ state_name_of command.now.out.now }
     ensures agrees { Agrees job_value (job_or_form (command_value command.now) (job_said bytes.now)) [] result }
+    ensures not_words { IfErr result IsNotWords }
     ensures bounded { IfOk result (λ job. (length job.bios.now ≤ 200) × (job.cycles ≤ 2 ^ 31)) }
 {
     let Some(job) = job_of(bytes) else {
@@ -89,6 +91,7 @@ fn run_image(
     ensures agrees { (command : Command) → string_bytes state_name ≡ state_name_of command.out
         → Agrees finished_value (from_image command (job_value job.now) (Some image.items)) [] result }
     ensures own { IfErr result (IsCounted ⊥ ⊥) }
+    ensures not_words { IfErr result IsNotWords }
 {
     if image.len() != BIOS_LENGTH {
         return Err(Refusal::Image(name_in_report(job.bios)));
@@ -120,6 +123,7 @@ fn run_job<S: Store>(
     ensures agrees { S.Tells → (command : Command) → string_bytes state_name ≡ state_name_of command.out
         → Agrees finished_value (from_image command (job_value job.now) (S.files store.old job.now.bios.now)) (job.now.bios.now ∷ []) result }
     ensures counted { IfErr result (IsCounted (Rose (S.absences store.old) (S.absences store.new)) (Rose (S.faults store.old) (S.faults store.new))) }
+    ensures not_words { IfErr result IsNotWords }
     ensures later_absences { S.absences store.old ≤ S.absences store.new }
     ensures later_faults { S.faults store.old ≤ S.faults store.new }
 {
@@ -137,6 +141,7 @@ pub(crate) fn run_command<S: Store>(
     ensures agrees { S.Tells → Agrees finished_value (from_command (S.files store.old) (Some (command_value command.now)))
         (reads_of_command (S.files store.old) (Some (command_value command.now))) result }
     ensures counted { IfErr result (IsCounted (Rose (S.absences store.old) (S.absences store.new)) (Rose (S.faults store.old) (S.faults store.new))) }
+    ensures not_words { IfErr result IsNotWords }
     ensures later_absences { S.absences store.old ≤ S.absences store.new }
     ensures later_faults { S.faults store.old ≤ S.faults store.new }
 {
@@ -147,4 +152,20 @@ pub(crate) fn run_command<S: Store>(
     let bytes = read_file(alloc, store, command.job, LONGEST_JOB as u64 + 1)?;
     let job = accepted_job(command, state_name.as_str(), bytes.as_slice())?;
     run_job(alloc, store, state_name, &job)
+}
+
+/// What the words say to do, done up to what is to be written.
+pub(crate) fn run_words<S: Store>(
+    alloc: Global,
+    store: &mut S,
+    words: &[String],
+) -> Result<FinishedRun, Refusal>
+    ensures agrees { S.Tells → Agrees finished_value (outcome (S.files store.old) (map string_bytes words.now)) (reads (S.files store.old) (map string_bytes words.now)) result }
+    ensures words { MatchOption (command_said (map string_bytes words.now)) (IsErrOf result Refusal.Words) (λ _. IfErr result IsNotWords) }
+    ensures counted { IfErr result (IsCounted (Rose (S.absences store.old) (S.absences store.new)) (Rose (S.faults store.old) (S.faults store.new))) }
+{
+    match command_of(words) {
+        Some(command) => run_command(alloc, store, &command),
+        None => Err(Refusal::Words),
+    }
 }

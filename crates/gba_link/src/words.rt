@@ -1,6 +1,7 @@
 //! The program's words.
 
-ghost use Rattle.std.specs.Prelude.{◌≡◌, map, option_map, string_bytes};
+ghost use Rattle.std.specs.Prelude.{◌≡◌, ◌≤◌, IfSome, length, map, option_map, string_bytes};
+ghost use Rattle.std.specs.Bool.{OnTrue};
 ghost use Rattle.std.specs.List.{list_all};
 ghost use Rattle.gba_link.specs.Views.{command_value};
 ghost use Rattle.gba_link.specs.Words.{is_command, is_name_byte, is_name as is_name_of, command_of as command_said};
@@ -39,14 +40,16 @@ pub(crate) fn is_name(name: &[u8]) -> bool
 }
 
 fn are_run_words(run: &str, job: &str, out: &str) -> bool
-    ensures { result ≡ is_command run.now job.now out.now }
+    ensures value { result ≡ is_command run.now job.now out.now }
+    ensures bounded { OnTrue result ((length job.now ≤ 200) × (length out.now ≤ 180)) }
 {
     run == "run" && is_name(job.as_bytes()) && is_name(out.as_bytes()) && out.len() <= LONGEST_OUT
 }
 
 /// The command that the words say, if they say one.
 pub(crate) fn command_of(words: &[String]) -> Option<RunWords<'_>>
-    ensures { option_map command_value result ≡ command_said (map string_bytes words.now) }
+    ensures command { option_map command_value result ≡ command_said (map string_bytes words.now) }
+    ensures bounded { IfSome result (λ command. (length command.job.now ≤ 200) × (length command.out.now ≤ 180)) }
 {
     let [run, job, out] = words else {
         return None;
