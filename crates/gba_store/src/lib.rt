@@ -11,6 +11,6 @@ mod outside;
 mod system;
 
 pub use gate::{Gate, NoGate};
-pub use memory::StoredFile;
+pub use memory::{MemorySink, MemoryStore, StoredFile};
 pub use outside::{ReadError, Sink, Store, WriteError};
 pub use system::{FileStore, StdSink};

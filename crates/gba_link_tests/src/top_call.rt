@@ -1,0 +1,360 @@
+//! The top call over files in memory.
+
+use gba_link::gba_link;
+use gba_store::{MemorySink, MemoryStore, NoGate, StoredFile};
+use std::alloc::{AllocError, Global};
+use std::process::Abort;
+use std::test::Fail;
+use std::thread::Threads;
+
+const BRANCH: &str = "gbalink 1\ncycles 1\nconsole 0\nbios b\nout state\nend\n";
+
+/// A branch to itself.
+const LOOP: u32 = 0xEAFF_FFFE;
+
+const STATE_OF_BRANCH: &str = "gbalink-state 1\nconsole 0\nclock 3\nhalted 0\n\
+r0 00000000\nr1 00000000\nr2 00000000\nr3 00000000\nr4 00000000\nr5 00000000\nr6 00000000\nr7 00000000\n\
+r8 00000000\nr9 00000000\nr10 00000000\nr11 00000000\nr12 00000000\nr13 00000000\nr14 00000000\nr15 00000000\n\
+r8_fiq 00000000\nr9_fiq 00000000\nr10_fiq 00000000\nr11_fiq 00000000\nr12_fiq 00000000\nr13_fiq 00000000\nr14_fiq 00000000\n\
+r13_irq 00000000\nr14_irq 00000000\nr13_svc 00000000\nr14_svc 00000000\nr13_abt 00000000\nr14_abt 00000000\n\
+r13_und 00000000\nr14_und 00000000\ncpsr 000000d3\n\
+spsr_fiq 00000000\nspsr_irq 00000000\nspsr_svc 00000000\nspsr_abt 00000000\nspsr_und 00000000\n";
+
+const SUMMARY_OF_BRANCH: &str = "console 0 clock 3 frames 0 samples 0 words 0\n";
+
+const HALF_OF_STATE: &str =
+    "gbalink-state 1\nconsole 0\nclock 3\nhalted 0\nr0 00000000\nr1 00000000\nr2 00000000\nr3 00000000\nr4 00000000\nr5 00000000\nr6 00000000\nr7 00000000\nr8 00000000\nr9 00000000\nr10 00000000\nr11 00000000\nr12 00000000\nr13 00000000\nr14 00000000\nr15 00000000\nr8_fiq 00000000\nr9_fiq 00000000\nr10_fiq 00000000\nr11_fiq 0";
+
+const HALF_OF_SUMMARY_AND_REPORT: &str = "console 0 clock 3 framsink -\n";
+
+const NO_LAST_LINE_FEED: &str = "gbalink 1\ncycles 1\nconsole 0\nbios b\nout state\nend";
+
+/// 180 bytes, and one more.
+const LONGEST_OUT: &str =
+    "oooooooooooooooooooooooooooooooooooooooooooooooooooooooooooooooooooooooooooooooooooooooooooooooooooooooooooooooooooooooooooooooooooooooooooooooooooooooooooooooooooooooooooooooooooo";
+
+const LONG_OUT: &str =
+    "ooooooooooooooooooooooooooooooooooooooooooooooooooooooooooooooooooooooooooooooooooooooooooooooooooooooooooooooooooooooooooooooooooooooooooooooooooooooooooooooooooooooooooooooooooooo";
+
+const LONGEST_STATE_NAME: &str =
+    "oooooooooooooooooooooooooooooooooooooooooooooooooooooooooooooooooooooooooooooooooooooooooooooooooooooooooooooooooooooooooooooooooooooooooooooooooooooooooooooooooooooooooooooooooooo.0.state";
+
+/// One call: its files, which calls of the outside fail, and what must come of it.
+#[derive(Clone, Copy)]
+struct Case<'a> {
+    words: &'a [&'a str],
+    job: Option<&'a str>,
+    image: Option<(u32, usize)>,
+    failing_reads: &'a [u64],
+    failing_creates: &'a [u64],
+    failing_appends: &'a [u64],
+    status: u8,
+    report: &'a str,
+    state: Option<&'a str>,
+}
+
+/// The call `run j g` on the branch's job and image.
+const PLAIN: Case<'static> = Case {
+    words: &["run", "j", "g"],
+    job: Some(BRANCH),
+    image: Some((LOOP, 16_384)),
+    failing_reads: &[],
+    failing_creates: &[],
+    failing_appends: &[],
+    status: 0,
+    report: SUMMARY_OF_BRANCH,
+    state: Some(STATE_OF_BRANCH),
+};
+
+fn image(alloc: Global, first: u32, length: usize) -> Result<Vec<u8>, AllocError> {
+    let mut bytes = Vec::new(alloc);
+    bytes.extend_from_slice(&first.to_le_bytes())?;
+    for _ in 4..length {
+        bytes.push(0)?;
+    }
+    bytes.truncate(length);
+    Ok(bytes)
+}
+
+fn stored(alloc: Global, name: &str, bytes: Vec<u8>) -> Result<StoredFile, AllocError> {
+    Ok(StoredFile {
+        name: String::from_str(alloc, name)?,
+        bytes,
+    })
+}
+
+fn files(alloc: Global, job_name: &str, case: &Case<'_>) -> Result<Vec<StoredFile>, AllocError> {
+    let mut files = Vec::new(alloc);
+    if let Some(job) = case.job {
+        files.push(stored(alloc, job_name, Vec::from_slice(alloc, job.as_bytes())?)?)?;
+    }
+    if let Some((first, length)) = case.image {
+        files.push(stored(alloc, "b", image(alloc, first, length)?)?)?;
+    }
+    Ok(files)
+}
+
+fn words(alloc: Global, words: &[&str]) -> Result<Vec<String>, AllocError> {
+    let mut copies = Vec::new(alloc);
+    for word in words {
+        copies.push(String::from_str(alloc, word)?)?;
+    }
+    Ok(copies)
+}
+
+/// Plays a case, and compares the status, standard output and the state file.
+fn play<R: Abort + Threads + Sync>(
+    rt: &R,
+    alloc: Global,
+    job_name: &str,
+    state_name: &str,
+    case: &Case<'_>,
+) -> Result<(), Fail> {
+    let mut store = MemoryStore::new(
+        files(alloc, job_name, case)?,
+        Vec::from_slice(alloc, case.failing_reads)?,
+    );
+    let creates = Vec::from_slice(alloc, case.failing_creates)?;
+    let appends = Vec::from_slice(alloc, case.failing_appends)?;
+    let mut out = MemorySink::new(alloc, creates, appends);
+    let said = words(alloc, case.words)?;
+    let status = gba_link(rt, alloc, said.as_slice(), &mut store, &mut out, &NoGate);
+    assert_eq!(rt; status, case.status);
+    assert_eq!(rt;
+        out.bytes("-").unwrap_or(b"".as_slice()),
+        case.report.as_bytes()
+    );
+    let state = out.bytes(state_name);
+    assert_eq!(rt; state.is_some(), case.state.is_some());
+    assert_eq!(rt;
+        state.unwrap_or(b"".as_slice()),
+        case.state.unwrap_or("").as_bytes()
+    );
+    Ok(())
+}
+
+#[test]
+fn branch_runs_one_step(rt: HostRuntime) -> Result<(), Fail> {
+    play(&rt, rt.alloc(), "j", "g.0.state", &PLAIN)
+}
+
+/// Words that are no command.
+const WRONG_WORDS: [&[&str]; 12] = [
+    &[],
+    &["run", "j"],
+    &["run", "j", "g", "g"],
+    &["walk", "j", "g"],
+    &["run", "-", "g"],
+    &["run", "j", "-"],
+    &["run", "", "g"],
+    &["run", "j k", "g"],
+    &["run", "j", "g:"],
+    &["run", "j@", "g"],
+    &["run", "j\u{e9}", "g"],
+    &["run", "j", LONG_OUT],
+];
+
+#[test]
+fn words_are_refused(rt: HostRuntime) -> Result<(), Fail> {
+    for words in WRONG_WORDS {
+        let case = Case {
+            words,
+            status: 2,
+            report: "words\n",
+            state: None,
+            ..PLAIN
+        };
+        play(&rt, rt.alloc(), "j", "g.0.state", &case)?;
+    }
+    Ok(())
+}
+
+/// Images, as the first word and the length, and what is answered for them.
+#[test]
+fn images_are_judged(rt: HostRuntime) -> Result<(), Fail> {
+    for (image, status, report) in [
+        (None, 3, "absent b\n"),
+        (Some((LOOP, 16_383)), 6, "image b BiosLength\n"),
+        (Some((LOOP, 16_385)), 6, "image b BiosLength\n"),
+        (Some((LOOP, 0)), 6, "image b BiosLength\n"),
+        // MOV r0, r0 isn't built; nor is ADD r1, r2, r3 at a condition that holds.
+        (
+            Some((0xE1A0_0000, 16_384)),
+            11,
+            "notbuilt 00000000 e1a00000\n",
+        ),
+        (
+            Some((0x1082_1003, 16_384)),
+            11,
+            "notbuilt 00000000 10821003\n",
+        ),
+    ] {
+        let case = Case {
+            image,
+            status,
+            report,
+            state: None,
+            ..PLAIN
+        };
+        play(&rt, rt.alloc(), "j", "g.0.state", &case)?;
+    }
+    Ok(())
+}
+
+/// The reads, creates and appends that fail. A failed create leaves no file, and a failed append half of its piece.
+#[test]
+fn failing_calls_are_told(rt: HostRuntime) -> Result<(), Fail> {
+    let alloc = rt.alloc();
+    for (failing_reads, report) in [(&[1], "store j\n"), (&[2], "store b\n")] {
+        let case = Case {
+            failing_reads,
+            status: 4,
+            report,
+            state: None,
+            ..PLAIN
+        };
+        play(&rt, alloc, "j", "g.0.state", &case)?;
+    }
+    let created = Case {
+        failing_creates: &[1],
+        status: 9,
+        report: "sink g.0.state\n",
+        state: None,
+        ..PLAIN
+    };
+    play(&rt, alloc, "j", "g.0.state", &created)?;
+    let appended = Case {
+        failing_appends: &[1],
+        status: 9,
+        report: "sink g.0.state\n",
+        state: Some(HALF_OF_STATE),
+        ..PLAIN
+    };
+    play(&rt, alloc, "j", "g.0.state", &appended)?;
+    let summed = Case {
+        failing_appends: &[2],
+        status: 9,
+        report: HALF_OF_SUMMARY_AND_REPORT,
+        ..PLAIN
+    };
+    play(&rt, alloc, "j", "g.0.state", &summed)
+}
+
+/// A file that isn't there, a job without its last line feed, and reports that are refused: the status stays.
+#[test]
+fn refusals_keep_their_status(rt: HostRuntime) -> Result<(), Fail> {
+    let alloc = rt.alloc();
+    let none: &[&str] = &["run", "none", "g"];
+    let absent = Case {
+        words: none,
+        status: 3,
+        report: "absent none\n",
+        state: None,
+        ..PLAIN
+    };
+    play(&rt, alloc, "j", "g.0.state", &absent)?;
+    let form = Case {
+        job: Some(NO_LAST_LINE_FEED),
+        status: 11,
+        report: "notbuilt job\n",
+        state: None,
+        ..PLAIN
+    };
+    play(&rt, alloc, "j", "g.0.state", &form)?;
+    let unheard = Case {
+        words: none,
+        failing_appends: &[1],
+        status: 3,
+        report: "absent",
+        state: None,
+        ..PLAIN
+    };
+    play(&rt, alloc, "j", "g.0.state", &unheard)?;
+    let unheard = Case {
+        words: &["run"],
+        failing_appends: &[1],
+        status: 2,
+        report: "wor",
+        state: None,
+        ..PLAIN
+    };
+    play(&rt, alloc, "j", "g.0.state", &unheard)
+}
+
+/// An output file that would be the job or the image, and the longest names.
+#[test]
+fn names_at_their_edges(rt: HostRuntime) -> Result<(), Fail> {
+    let alloc = rt.alloc();
+    let clash = Case {
+        words: &["run", "g.0.state", "g"],
+        status: 11,
+        report: "notbuilt job\n",
+        state: None,
+        ..PLAIN
+    };
+    play(&rt, alloc, "g.0.state", "g.0.state", &clash)?;
+    let image_clash = Case {
+        job: Some("gbalink 1\ncycles 1\nconsole 0\nbios g.0.state\nout state\nend\n"),
+        status: 11,
+        report: "notbuilt job\n",
+        state: None,
+        ..PLAIN
+    };
+    play(&rt, alloc, "j", "g.0.state", &image_clash)?;
+    let longest = Case {
+        words: &["run", "j", LONGEST_OUT],
+        ..PLAIN
+    };
+    play(&rt, alloc, "j", LONGEST_STATE_NAME, &longest)
+}
+
+/// Spellings of the job, and what is answered for them: 0 where it is a job of one branch.
+#[test]
+fn jobs_have_one_form(rt: HostRuntime) -> Result<(), Fail> {
+    let alloc = rt.alloc();
+    let refused = [
+        "",
+        "gbalink 1\n",
+        "gbalink 2\ncycles 1\nconsole 0\nbios b\nout state\nend\n",
+        "gbalink 1\ncycles 0\nconsole 0\nbios b\nout state\nend\n",
+        "gbalink 1\ncycles 2147483649\nconsole 0\nbios b\nout state\nend\n",
+        "gbalink 1\ncycles 18446744073709551617\nconsole 0\nbios b\nout state\nend\n",
+        "gbalink 1\ncycles 000000000000000000001\nconsole 0\nbios b\nout state\nend\n",
+        "gbalink 1\ncycles \nconsole 0\nbios b\nout state\nend\n",
+        "gbalink 1\ncycles +1\nconsole 0\nbios b\nout state\nend\n",
+        "gbalink 1\ncycles  1\nconsole 0\nbios b\nout state\nend\n",
+        "gbalink 1\ncycles 1 \nconsole 0\nbios b\nout state\nend\n",
+        "gbalink 1\ncycles 1\nconsole 1\nbios b\nout state\nend\n",
+        "gbalink 1\ncycles 1\nconsole 0\nbios -\nout state\nend\n",
+        "gbalink 1\ncycles 1\nconsole 0\nbios \nout state\nend\n",
+        "gbalink 1\ncycles 1\nconsole 0\nbios b\nout state\n",
+        "gbalink 1\ncycles 1\nconsole 0\nbios b\nout state\nend\n\n",
+        "gbalink 1\r\ncycles 1\r\nconsole 0\r\nbios b\r\nout state\r\nend\r\n",
+    ];
+    for job in refused {
+        let case = Case {
+            job: Some(job),
+            status: 11,
+            report: "notbuilt job\n",
+            state: None,
+            ..PLAIN
+        };
+        play(&rt, alloc, "j", "g.0.state", &case)?;
+    }
+    for job in [
+        "gbalink 1\ncycles 00000000000000000001\nconsole 0\nbios b\nout state\nend\n",
+        "gbalink 1\ncycles 3\nconsole 0\nbios b\nout state\nend\n",
+    ] {
+        play(
+            &rt,
+            alloc,
+            "j",
+            "g.0.state",
+            &Case {
+                job: Some(job),
+                ..PLAIN
+            },
+        )?;
+    }
+    Ok(())
+}
