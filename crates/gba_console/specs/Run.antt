@@ -1,4 +1,4 @@
-use Rattle.std.specs.Prelude.{ℕ, zero, suc, Result, Ok, Err, nat_lt, if◌then◌else◌}
+use Rattle.std.specs.Prelude.{◌≡◌, ◌≤◌, ℕ, zero, suc, Result, Ok, Err, nat_lt, if◌then◌else◌}
 use Rattle.gba_console.specs.declared.NotBuilt.{NotBuilt}
 use Rattle.gba_console.specs.Machine.{Machine}
 use Rattle.gba_console.specs.Step.{next}
@@ -17,3 +17,7 @@ run (suc most) until m = if nat_lt m.clock until then after (next m) (run most u
 -- `reaches` says so.
 abbrev pub run_to : ℕ → Machine → Result Machine NotBuilt
 run_to until m = run until until m
+
+-- A run that isn't refused ends with a clock of at least `until`.
+abbrev pub Reaches : Type 0
+Reaches = (until : ℕ) (start end : Machine) → run_to until start ≡ Ok end → until ≤ end.clock

@@ -134,7 +134,7 @@ impl Model for Console {
 }
 
 impl Console {
-    ghost use Rattle.std.specs.Prelude.{◌≡◌, ◌+◌, ◌≤◌, ◌<◌, ◌^◌, Ok, Err, MatchResult, OnErr, vec_len};
+    ghost use Rattle.std.specs.Prelude.{◌≡◌, ◌+◌, ◌≤◌, ◌<◌, ◌^◌, Ok, Err, MatchResult, OnOk, OnErr, vec_len};
     ghost use Rattle.gba_console.specs.Machine.{reset};
     ghost use Rattle.gba_console.specs.Step.{next};
 
@@ -174,7 +174,7 @@ impl Console {
         requires { self.old.clock < 2 ^ 40 }
         ensures step { MatchResult result (λ _. next self.old ≡ Ok self.new) (λ refusal. next self.old ≡ Err refusal) }
         ensures refused { OnErr result (self.new ≡ self.old) }
-        ensures later { self.old.clock ≤ self.new.clock }
+        ensures raised { OnOk result (self.old.clock < self.new.clock) }
         ensures short { self.new.clock ≤ self.old.clock + 512 }
     {
         let address = self.registers[15];
