@@ -1,10 +1,11 @@
-use Rattle.std.proofs.Common.{◌≡◌, ◌≢◌, ℕ, ◌<◌, ◌==◌, true, false, eqb, List, length, get_or, set, refl, ap, sym, ◌∙◌, arith}
+use Rattle.std.proofs.Common.{◌≡◌, ◌≢◌, ℕ, ◌<◌, false, eqb, List, length, get_or, set, refl, ap, sym, ◌∙◌, arith}
 use Rattle.std.proofs.lemmas.Bool.Decides.{nat_tests}
 use Rattle.std.proofs.lemmas.List.{length-set, get_or-set_same, get_or-set_other}
 use Rattle.gba_psr.specs.Entry.{entered, left, entry_status, mode_entered, vector}
-use Rattle.gba_psr.specs.Modes.{place, saved_place, is_mode}
-use Rattle.gba_psr.specs.RegisterFile.{status, mode, register, with_register, with_status, saved_status, with_saved_status, IsRegisterFile}
-use Rattle.gba_psr.specs.Status.{mode_of, kept_status, written_status, IsStatus}
+use Rattle.gba_psr.specs.Modes.{place, saved_place}
+use Rattle.gba_psr.specs.RegisterFile.{status, flags, with_flags, mode, register, with_register, with_status, saved_status, with_saved_status, IsRegisterFile}
+use Rattle.gba_psr.specs.Status.{mode_of, kept_status, written_status, flags_of, flagged, IsStatus}
+use Rattle.gba_psr.specs.declared.condition.Flags.{Flags}
 use Rattle.gba_psr.specs.declared.exceptions.Exception.{Exception}
 use Rattle.gba_psr.specs.declared.exceptions.Exception.TheVariants.{Undefined, Software, Interrupt}
 use Rattle.gba_psr.proofs.Seats.{place_within, saved_place_within, saved_place_high, place_apart}
@@ -204,3 +205,23 @@ entered_then_left kind link file is =
     status-left (entered kind link file) (file-entered kind link file is).count
     (λ none. entry_saved kind (ap saved_place (sym inside) ∙ none)) (rw saved is.status_kept)
     ∙ saved
+
+pub status-with_flags : (file : List ℕ) (new : Flags) → length file ≡ 37 → status (with_flags file new) ≡ flagged (status file) new
+unfolding with_flags status
+status-with_flags file new count =
+    let some : 31 < length file = omega arith in
+    get_or-set_same file 31 (flagged (status file) new) 0 some
+
+mode_of-flagged : (old : ℕ) (new : Flags) → mode_of (flagged old new) ≡ mode_of old
+mode_of-flagged old new = grind (arith, nat_tests)
+
+pub mode-with_flags : (file : List ℕ) (new : Flags) → length file ≡ 37 → mode (with_flags file new) ≡ mode file
+unfolding mode
+mode-with_flags file new count = ap mode_of (status-with_flags file new count) ∙ mode_of-flagged (status file) new
+
+flags_of-flagged : (old : ℕ) (new : Flags) → flags_of (flagged old new) ≡ new
+flags_of-flagged old new = grind (arith, nat_tests)
+
+pub flags-with_flags : (file : List ℕ) (new : Flags) → length file ≡ 37 → flags (with_flags file new) ≡ new
+unfolding flags
+flags-with_flags file new count = ap flags_of (status-with_flags file new count) ∙ flags_of-flagged (status file) new

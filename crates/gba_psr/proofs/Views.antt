@@ -4,8 +4,9 @@ use Rattle.std.proofs.lemmas.Bool.Decides.{nat_tests}
 use Rattle.std.proofs.lemmas.List.{length-set, get_or-set_same, get_or-set_other}
 use Rattle.gba_psr.specs.Arrangement.{seat, arranged}
 use Rattle.gba_psr.specs.Modes.{place, saved_place}
-use Rattle.gba_psr.specs.RegisterFile.{status, mode, register, with_register, user_register, with_user_register, with_status, saved_status, with_saved_status}
-use Rattle.gba_psr.specs.Status.{mode_of, kept_status, written_status}
+use Rattle.gba_psr.specs.RegisterFile.{status, flags, with_flags, mode, register, with_register, user_register, with_user_register, with_status, saved_status, with_saved_status}
+use Rattle.gba_psr.specs.Status.{mode_of, kept_status, written_status, flags_of, flagged}
+use Rattle.gba_psr.specs.declared.condition.Flags.{Flags}
 use Rattle.gba_psr.proofs.Kept.{length-arranged, status-arranged, get_or-arranged, arranged_is, arranged-set}
 use Rattle.gba_psr.proofs.Seats.{seat_within, seat-seat, seat-status, seat-place, seat_general, seat-saved, place_within, saved_place_within}
 
@@ -78,17 +79,14 @@ unsaved_kept file value none =
     rw unsaved refl
 
 -- CPSR written, the banks of the old mode put back and those of the new one taken out
-pub with_status_kept : (old now : List ℕ) (value : ℕ) → length old ≡ 37 → length now ≡ 37 → ((p : ℕ) → p < 37 → get_or now p 0 ≡ get_or old (seat (mode_of (get_or old 31 0)) (seat (mode_of (written_status (get_or old 31 0) value)) p)) 0) → arranged (set now 31 (written_status (get_or old 31 0) value)) ≡ with_status (arranged old) value
-unfolding with_status
-with_status_kept old now value count count_now moved =
-    let written = written_status (get_or old 31 0) value in
+pub status_set_kept : (old now : List ℕ) (written : ℕ) → length old ≡ 37 → length now ≡ 37 → ((p : ℕ) → p < 37 → get_or now p 0 ≡ get_or old (seat (mode_of (get_or old 31 0)) (seat (mode_of written) p)) 0) → arranged (set now 31 written) ≡ set (arranged old) 31 written
+status_set_kept old now written count count_now moved =
     let before = mode_of (get_or old 31 0) in
     let after = mode_of written in
     let in_now : 31 < length now = omega arith in
     let in_file : 31 < length (arranged old) = rw (length-arranged old) (omega arith) in
     let stored : get_or (set now 31 written) 31 0 ≡ written = get_or-set_same now 31 written 0 in_now in
-    rw (status_kept old)
-    (arranged_is (set now 31 written) (set (arranged old) 31 written) (length-set (arranged old) 31 written ∙ length-arranged old)
+    arranged_is (set now 31 written) (set (arranged old) 31 written) (length-set (arranged old) 31 written ∙ length-arranged old)
     (λ p within.
     rw stored
     (⊎_elim
@@ -101,4 +99,20 @@ with_status_kept old now value count count_now moved =
     ∙ ap (λ (q : ℕ). get_or old (seat before q) 0) (sym (seat-seat after p))
     ∙ sym (moved (seat after p) (seat_within after p within))
     ∙ sym (get_or-set_other now 31 (seat after p) written 0 elsewhere))
-    (cases_eq p 31))))
+    (cases_eq p 31)))
+
+pub with_status_kept : (old now : List ℕ) (value : ℕ) → length old ≡ 37 → length now ≡ 37 → ((p : ℕ) → p < 37 → get_or now p 0 ≡ get_or old (seat (mode_of (get_or old 31 0)) (seat (mode_of (written_status (get_or old 31 0) value)) p)) 0) → arranged (set now 31 (written_status (get_or old 31 0) value)) ≡ with_status (arranged old) value
+unfolding with_status
+with_status_kept old now value count count_now moved =
+    rw (status_kept old) (status_set_kept old now (written_status (get_or old 31 0) value) count count_now moved)
+
+pub with_flags_kept : (numbers : List ℕ) (new : Flags) → length numbers ≡ 37 → mode_of (flagged (get_or numbers 31 0) new) ≡ mode_of (get_or numbers 31 0) → arranged (set numbers 31 (flagged (get_or numbers 31 0) new)) ≡ with_flags (arranged numbers) new
+unfolding with_flags
+with_flags_kept numbers new count same =
+    rw (status_kept numbers)
+    (status_set_kept numbers numbers (flagged (get_or numbers 31 0) new) count count
+    (λ p within. rw same (ap (λ (q : ℕ). get_or numbers q 0) (sym (seat-seat (mode_of (get_or numbers 31 0)) p)))))
+
+pub flags_kept : (numbers : List ℕ) → flags (arranged numbers) ≡ flags_of (get_or numbers 31 0)
+unfolding flags
+flags_kept numbers = ap flags_of (status_kept numbers)

@@ -1,6 +1,7 @@
 use Rattle.std.specs.Prelude.{◌≡◌, ℕ, List, ◌==◌, length, replicate, slice_index, slice_set, if◌then◌else◌}
 use Rattle.gba_psr.specs.Modes.{place, saved_place}
-use Rattle.gba_psr.specs.Status.{mode_of, kept_status, written_status, IsStatus}
+use Rattle.gba_psr.specs.Status.{mode_of, kept_status, written_status, flags_of, flagged, IsStatus}
+use Rattle.gba_psr.specs.declared.condition.Flags.{Flags}
 
 -- The register file is the list of the 37 numbers in the order of the register names: r0 to r15 of USR, the banked
 -- registers mode by mode, CPSR, the five SPSRs (ARM Architecture Reference Manual, A2.3 to A2.5).
@@ -12,6 +13,10 @@ status file = slice_index file 31
 -- the present mode
 unfoldable pub mode : List ℕ → ℕ
 mode file = mode_of (status file)
+
+-- N, Z, C, V of CPSR
+unfoldable pub flags : List ℕ → Flags
+flags file = flags_of (status file)
 
 -- register `number` in the present mode
 unfoldable pub register : List ℕ → ℕ → ℕ
@@ -32,6 +37,10 @@ with_user_register file number value = slice_set file number value
 -- the file once a number was written to CPSR
 unfoldable pub with_status : List ℕ → ℕ → List ℕ
 with_status file value = slice_set file 31 (written_status (status file) value)
+
+-- the file once CPSR has other flags
+unfoldable pub with_flags : List ℕ → Flags → List ℕ
+with_flags file new = slice_set file 31 (flagged (status file) new)
 
 -- the present mode's SPSR, and CPSR in USR and SYS
 unfoldable pub saved_status : List ℕ → ℕ

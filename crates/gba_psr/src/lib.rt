@@ -4,11 +4,13 @@
 //! Contracts see [`Registers`] as the list of the 37 numbers in the order of the register names.
 
 mod banks;
+mod condition;
 mod exceptions;
 pub mod laws;
 mod registers;
 #[cfg(test)]
 mod tests;
 
+pub use condition::Flags;
 pub use exceptions::Exception;
 pub use registers::Registers;

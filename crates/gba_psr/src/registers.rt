@@ -3,12 +3,12 @@
 ghost use Rattle.std.specs.Prelude.{◌≡◌, ◌<◌, slice_index};
 ghost use Rattle.gba_psr.specs.Arrangement.{arranged};
 ghost use Rattle.gba_psr.specs.Entry.{entered, entry_status, left, vector};
-ghost use Rattle.gba_psr.specs.Status.{IsStatus, kept_status, written_status};
-ghost use Rattle.gba_psr.specs.RegisterFile.{IsRegisterFile, register, reset_file, saved_status, status, user_register, with_register, with_saved_status, with_status, with_user_register};
+ghost use Rattle.gba_psr.specs.Status.{IsStatus, flagged, kept_status, mode_of, written_status};
+ghost use Rattle.gba_psr.specs.RegisterFile.{IsRegisterFile, flags, with_flags, register, reset_file, saved_status, status, user_register, with_register, with_saved_status, with_status, with_user_register};
 
-use crate::Exception;
 use crate::banks::{CPSR, change_bank, exchange, is_mode_number, place_of, saved_place_of};
-use gba_word::bits;
+use crate::{Exception, Flags};
+use gba_word::{bit, bits};
 use std::marker::Model;
 
 /// The 31 general and 6 status registers. r15 holds the address of the next instruction; `get` and `set` give and take
@@ -81,6 +81,26 @@ impl Registers {
         self.numbers[CPSR]
     }
 
+    /// N, Z, C and V of CPSR.
+    pub fn flags(&self) -> Flags
+        ensures { result ≡ flags self.now }
+    {
+        let status = self.numbers[CPSR];
+        Flags {
+            negative: bit(status, 31),
+            zero: bit(status, 30),
+            carry: bit(status, 29),
+            overflow: bit(status, 28),
+        }
+    }
+
+    /// Writes N, Z, C and V of CPSR.
+    pub fn set_flags(&mut self, flags: Flags)
+        ensures { self.new ≡ with_flags self.old flags }
+    {
+        self.numbers[CPSR] = flagged_status(self.numbers[CPSR], flags);
+    }
+
     /// The present mode's SPSR. USR and SYS have none and read CPSR.
     pub fn spsr(&self) -> u32
         ensures { result ≡ saved_status self.now }
@@ -145,6 +165,19 @@ fn keep_status(value: u32) -> u32
     ensures { result ≡ kept_status value }
 {
     (bits(value, 28, 4) << 28) + bits(value, 0, 8)
+}
+
+// A status register with other flags.
+fn flagged_status(status: u32, flags: Flags) -> u32
+    ensures value { result ≡ flagged status flags }
+    ensures status { IsStatus status → IsStatus result }
+    ensures mode { mode_of result ≡ mode_of status }
+{
+    let negative = u32::from(flags.negative) << 31;
+    let zero = u32::from(flags.zero) << 30;
+    let carry = u32::from(flags.carry) << 29;
+    let overflow = u32::from(flags.overflow) << 28;
+    negative + zero + carry + overflow + bits(status, 0, 28)
 }
 
 // What CPSR is once `value` was written.

@@ -124,6 +124,30 @@ fn status_registers_keep_their_bits(rt: HostRuntime) {
     }
 }
 
+#[test]
+fn flags_are_the_top_four_bits(rt: HostRuntime) {
+    for (status, negative, zero, carry, overflow) in [
+        (0x8000_00d3, true, false, false, false),
+        (0x4000_0010, false, true, false, false),
+        (0x2000_0011, false, false, true, false),
+        (0x1000_007f, false, false, false, true),
+        (0xf000_0092, true, true, true, true),
+    ] {
+        let flags = Flags {
+            negative,
+            zero,
+            carry,
+            overflow,
+        };
+        let mut registers = Registers::reset();
+        registers.set_cpsr(status);
+        assert_eq!(rt; registers.flags(), flags, "{status:x}");
+        registers.set_cpsr(status % 0x100);
+        registers.set_flags(flags);
+        assert_eq!(rt; registers.cpsr(), status, "{status:x}");
+    }
+}
+
 // The exception, its link, CPSR before it, CPSR in it and r15.
 #[test]
 fn exceptions_enter_and_leave(rt: HostRuntime) {

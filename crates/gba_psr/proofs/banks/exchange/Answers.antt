@@ -1,8 +1,7 @@
-use Rattle.std.proofs.Common.{◌≡◌, ℕ, ◌<◌, ◌⊎◌, ◌+◌, ◌≤◌, ◌∙◌, get_or, length, ap, sym, arith}
+use Rattle.std.proofs.Common.{◌≡◌, ◌<◌, ◌⊎◌, ◌+◌, ◌≤◌, length, arith}
 use Rattle.std.proofs.lemmas.Bool.Decides.{nat_tests}
 use Rattle.std.proofs.lemmas.List.Edits.{swapped_from_swap}
-use Rattle.gba_psr.specs.Arrangement.{seat, crossed}
-use Rattle.gba_psr.specs.Modes.{first_banked, bank_distance}
+use Rattle.gba_psr.specs.Arrangement.{seat}
 use Rattle.gba_psr.proofs.Seats.{banks_apart, crossed_more}
 use Rattle.gba_psr.proofs.banks.exchange.Goals as goal
 

@@ -1,5 +1,5 @@
 use Rattle.gba_psr.specs.RegisterFile.{mode}
-use Rattle.gba_psr.proofs.FileLaws.{status-with_status, file-with_status, saved_status-own_saved}
+use Rattle.gba_psr.proofs.FileLaws.{status-with_status, file-with_status, flags-with_flags, mode-with_flags, saved_status-own_saved}
 use Rattle.gba_psr.proofs.Seats.{saved_banked}
 use Rattle.gba_psr.proofs.Views.{unsaved_kept}
 use Rattle.gba_psr.proofs.laws.status_written.Goals as goal
@@ -15,3 +15,9 @@ returns-clause-saved c = λ file value is own. saved_status-own_saved file value
 
 pub returns-clause-none_saved : goal.returns-clause-none_saved
 returns-clause-none_saved c = λ file value none. unsaved_kept file value ((saved_banked (mode file)).0 none)
+
+pub returns-clause-flags : goal.returns-clause-flags
+returns-clause-flags c = λ file new is. flags-with_flags file new is.count
+
+pub returns-clause-mode : goal.returns-clause-mode
+returns-clause-mode c = λ file new is. mode-with_flags file new is.count

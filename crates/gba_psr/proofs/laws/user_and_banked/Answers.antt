@@ -1,5 +1,4 @@
-use Rattle.std.proofs.Common.{◌≡◌, ℕ, get_or, ap, arith}
-use Rattle.gba_psr.specs.Modes.{place}
+use Rattle.std.proofs.Common.{ℕ, get_or, ap}
 use Rattle.gba_psr.specs.RegisterFile.{mode, register, user_register}
 use Rattle.gba_psr.proofs.Seats.{place_unbanked, place_below, place_counter}
 use Rattle.gba_psr.proofs.laws.user_and_banked.Goals as goal

@@ -1,5 +1,4 @@
 use Rattle.std.proofs.Common.{sym, ◌∙◌, arith}
-use Rattle.std.proofs.lemmas.List.{ext_get_or}
 use Rattle.gba_psr.proofs.Kept.{arranged_is, length-arranged}
 use Rattle.gba_psr.proofs.Views.{status_kept}
 use Rattle.gba_psr.proofs.registers.Registers.all.Goals as goal

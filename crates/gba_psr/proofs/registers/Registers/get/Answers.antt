@@ -1,5 +1,4 @@
-use Rattle.std.proofs.Common.{sym, ◌∙◌, ap, arith}
-use Rattle.gba_psr.specs.RegisterFile.{register}
+use Rattle.std.proofs.Common.{sym}
 use Rattle.gba_psr.proofs.Views.{register_kept}
 use Rattle.gba_psr.proofs.registers.Registers.get.Goals as goal
 

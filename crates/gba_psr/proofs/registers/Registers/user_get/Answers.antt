@@ -1,4 +1,4 @@
-use Rattle.std.proofs.Common.{sym, arith}
+use Rattle.std.proofs.Common.{sym}
 use Rattle.gba_psr.proofs.Views.{user_register_kept}
 use Rattle.gba_psr.proofs.registers.Registers.user_get.Goals as goal
 
