@@ -77,11 +77,17 @@ turned_source bits = source.Turned (bits 0 8) (bits 8 4)
 abbrev pub is_compare : Bits → Bool
 is_compare bits = bits 21 4 / 4 == 2
 
--- data processing (A3.4): the operation in bits 24 to 21, S in bit 20, Rn in bits 19 to 16, Rd in 15 to 12
+-- data processing that writes the flags alone (A3.4): the operation in bits 24 to 21, Rn in bits 19 to 16
+abbrev pub compare : Operand → Bits → ArmOp
+compare operand bits = op.Compare (condition bits) (compare_of (bits 21 4)) (bits 16 4) operand
+
+-- data processing that writes Rd (A3.4): the operation in bits 24 to 21, S in bit 20, Rn in bits 19 to 16, Rd in
+-- 15 to 12
+abbrev pub compute : Operand → Bits → ArmOp
+compute operand bits = op.Compute (condition bits) (compute_of (bits 21 4)) (flag bits 20) (bits 16 4) (bits 12 4) operand
+
 abbrev pub processing : Operand → Bits → ArmOp
-processing operand bits =
-    if is_compare bits then op.Compare (condition bits) (compare_of (bits 21 4)) (bits 16 4) operand
-    else op.Compute (condition bits) (compute_of (bits 21 4)) (flag bits 20) (bits 16 4) (bits 12 4) operand
+processing operand bits = if is_compare bits then compare operand bits else compute operand bits
 
 -- the shifter operands (A5.1): Rm shifted by Rs; Rm shifted by bits 11 to 7; bits 7 to 0 turned right by twice
 -- bits 11 to 8. The kind of shift is in bits 6 and 5.

@@ -1,8 +1,9 @@
 #![tactic(auto)]
 //! The ARM instruction table: what operation a 32-bit word is, and what word an operation is.
 
-ghost use Rattle.std.specs.Prelude.{◌≡◌};
+ghost use Rattle.std.specs.Prelude.{◌≡◌, IfSome};
 ghost use Rattle.gba_terms.specs.Bits.{field};
+ghost use Rattle.gba_arm_table.specs.Limits.{Fits};
 ghost use Rattle.gba_arm_table.specs.Table.{operation, operation_of};
 
 mod fields;
@@ -16,9 +17,11 @@ pub use operation::{
 
 /// The operation of a word, by the first row of the table that fits its low 28 bits; the condition is bits 31
 /// to 28. None is a word without an operation, coprocessor words included: it takes the Undefined trap.
+/// Every field of the operation fits its bits, a register is below 16.
 /// Bits that should be zero or one aren't looked at (ARM Architecture Reference Manual, A3.1, for version 4T).
 pub fn decode(word: u32) -> Option<ArmOp>
-    ensures { result ≡ operation word }
+    ensures operation { result ≡ operation word }
+    ensures fits { IfSome result Fits }
 {
     of_form(form_of(word), word)
 }
