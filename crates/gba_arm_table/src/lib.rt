@@ -52,3 +52,6 @@ fn of_form(form: Form, word: u32) -> Option<ArmOp>
         Form::Undefined => None,
     }
 }
+
+#[cfg(test)]
+mod tests;
