@@ -1,0 +1,5 @@
+pub mod Numbers
+pub mod Fields
+pub mod Limits
+pub mod Table
+pub mod Branches
