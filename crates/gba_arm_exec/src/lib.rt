@@ -1,0 +1,13 @@
+#![tactic(auto)]
+//! What each ARM instruction does to registers and memory, over any bus, and what it costs.
+
+mod access;
+mod branching;
+mod conditions;
+mod multiplying;
+mod outcome;
+mod processing;
+mod site;
+mod status_moves;
+
+pub use site::Site;
