@@ -9,5 +9,7 @@ mod outcome;
 mod processing;
 mod site;
 mod status_moves;
+mod transfer;
+mod transfers;
 
 pub use site::Site;
