@@ -2,6 +2,7 @@
 //! What each ARM instruction does to registers and memory, over any bus, and what it costs.
 
 mod access;
+mod blocks;
 mod branching;
 mod conditions;
 mod multiplying;
