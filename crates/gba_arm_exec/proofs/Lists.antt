@@ -68,13 +68,13 @@ length-listed list first (suc count) small =
     let rest : list / 2 ^ (first + 1) < 2 ^ count = rw halved (half_below (list / 2 ^ first) count small) in
     let later = length-listed list (first + 1) count rest in
     ⊎_elim
-        (λ (odd : list / 2 ^ first % 2 ≡ 1).
-            ap length (listed-suc_in list first count (set_bit list first odd))
-                ∙ ap suc (later ∙ ap ones halved)
-                ∙ sym (ones_step (list / 2 ^ first) ∙ rw odd (one_more (ones (list / 2 ^ first / 2)))))
-        (λ (even : list / 2 ^ first % 2 ≡ 1 → ⊥).
-            let none : list / 2 ^ first % 2 ≡ 0 = clear_rest (list / 2 ^ first) even in
-            ap length (listed-suc_out list first count (clear_bit list first none))
-                ∙ later ∙ ap ones halved
-                ∙ sym (ones_step (list / 2 ^ first) ∙ rw none (none_more (ones (list / 2 ^ first / 2)))))
-        (cases_eq (list / 2 ^ first % 2) 1)
+    (λ (odd : list / 2 ^ first % 2 ≡ 1).
+    ap length (listed-suc_in list first count (set_bit list first odd))
+    ∙ ap suc (later ∙ ap ones halved)
+    ∙ sym (ones_step (list / 2 ^ first) ∙ rw odd (one_more (ones (list / 2 ^ first / 2)))))
+    (λ (even : list / 2 ^ first % 2 ≡ 1 → ⊥).
+    let none : list / 2 ^ first % 2 ≡ 0 = clear_rest (list / 2 ^ first) even in
+    ap length (listed-suc_out list first count (clear_bit list first none))
+    ∙ later ∙ ap ones halved
+    ∙ sym (ones_step (list / 2 ^ first) ∙ rw none (none_more (ones (list / 2 ^ first / 2)))))
+    (cases_eq (list / 2 ^ first % 2) 1)
