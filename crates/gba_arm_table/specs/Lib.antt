@@ -1,2 +1,5 @@
-pub mod Rows
-pub mod Operations
+pub mod Numbers
+pub mod Fields
+pub mod Limits
+pub mod Table
+pub mod Branches

@@ -1,4 +1,4 @@
+pub mod Memory
 pub mod Machine
-pub mod Conditions
 pub mod Step
 pub mod Run

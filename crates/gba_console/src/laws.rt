@@ -1,8 +1,1 @@
-//! Laws over the definitions. Each is the contract of a function that takes no value.
-
-ghost use Rattle.gba_console.specs.Run.{Reaches};
-
-/// A run that isn't refused ends with a clock at or past its end: the bound on its steps cuts none off.
-pub fn reaches()
-    ensures { Reaches }
-{}
+//! Laws over the definitions.

@@ -1,7 +1,7 @@
 -- The register lines, one after another.
-use Rattle.std.proofs.Common.{◌≡◌, ℕ, ◌+◌, ◌<◌, List, [], ◌∷◌, ◌++◌, length, drop, get_or, refl, sym, ap, ◌∙◌, append_assoc, add-one, drop-cons}
+use Rattle.std.proofs.Common.{◌≡◌, ℕ, suc, ◌+◌, ◌<◌, List, [], ◌∷◌, ◌++◌, length, take, drop, get_or, refl, sym, ap, ◌∙◌, append_assoc, add-one, drop-cons}
 use Rattle.gba_terms.specs.RegisterNames.{register_names}
-use Rattle.gba_link.specs.StateFile.{register_line, register_lines}
+use Rattle.gba_link.specs.StateFile.{register_line, register_lines, memory_line, memory_lines}
 
 -- what is left of the lines is the next one and what is left after it
 pub register_lines-more : (names : List (List ℕ)) (values : List ℕ) (i : ℕ) → i < length names → i < length values
@@ -21,3 +21,18 @@ length-register_names = refl
 pub joined : (old new piece left rest all : List ℕ) → new ≡ old ++ piece → left ≡ piece ++ rest → old ++ left ≡ all → new ++ rest ≡ all
 joined old new piece left rest all grew split whole =
     ap (λ t. t ++ rest) grew ∙ append_assoc old piece rest ∙ ap (λ t. old ++ t) (sym split) ∙ whole
+
+-- the lines of memory that are left are the next one and those after it
+pub memory_lines-more : (left count offset : ℕ) (bytes : List ℕ) → left ≡ suc count
+    → memory_lines left offset bytes ≡ memory_line offset (take 32 (drop offset bytes)) ++ memory_lines count (offset + 32) bytes
+unfolding memory_lines
+memory_lines-more left count offset bytes is = ap (λ n. memory_lines n offset bytes) is
+
+pub memory_lines-none : (left offset : ℕ) (bytes : List ℕ) → left ≡ 0 → memory_lines left offset bytes ≡ []
+unfolding memory_lines
+memory_lines-none left offset bytes is = ap (λ n. memory_lines n offset bytes) is
+
+-- a text that grew by three pieces
+pub grown_by_three : (old one two new a b c : List ℕ) → one ≡ old ++ a → two ≡ one ++ b → new ≡ two ++ c → new ≡ old ++ (a ++ b ++ c)
+grown_by_three old one two new a b c p q r =
+    r ∙ ap (λ t. t ++ c) (q ∙ ap (λ t. t ++ b) p ∙ append_assoc old a b) ∙ append_assoc old (a ++ b) c

@@ -46,3 +46,25 @@ pub(crate) fn hex_word(value: u32) -> [u8; 8]
         hex_digit(bits(value, 0, 4)),
     ]
 }
+
+/// The six lower case hexadecimal digits of an offset.
+pub(crate) fn hex_offset(value: u32) -> [u8; 6]
+    ensures { result ≡ hex 6 value }
+{
+    [
+        hex_digit(bits(value, 20, 4)),
+        hex_digit(bits(value, 16, 4)),
+        hex_digit(bits(value, 12, 4)),
+        hex_digit(bits(value, 8, 4)),
+        hex_digit(bits(value, 4, 4)),
+        hex_digit(bits(value, 0, 4)),
+    ]
+}
+
+/// The two lower case hexadecimal digits of a byte.
+pub(crate) fn hex_byte(value: u8) -> [u8; 2]
+    ensures { result ≡ hex 2 value }
+{
+    let value = u32::from(value);
+    [hex_digit(bits(value, 4, 4)), hex_digit(bits(value, 0, 4))]
+}

@@ -99,7 +99,10 @@ fn run_image(
     let Ok(mut state) = Vec::with_capacity(alloc, STATE_ROOM) else {
         return Err(Refusal::Memory);
     };
-    let console = match run_console(Console::new(image), job.cycles) {
+    let Ok(start) = Console::new(alloc, image) else {
+        return Err(Refusal::Memory);
+    };
+    let console = match run_console(start, job.cycles) {
         Ok(console) => console,
         Err(instruction) => return Err(Refusal::Unbuilt(instruction)),
     };

@@ -1,15 +1,20 @@
 //! The state file and the summary.
 
-ghost use Rattle.std.specs.Prelude.{◌≡◌, ◌+◌, ◌≤◌, ◌<◌, ◌++◌, [], length, drop, vec_len, vec_capacity, slice_index_or};
+ghost use Rattle.std.specs.Prelude.{◌≡◌, ◌+◌, ◌*◌, ◌/◌, ◌≤◌, ◌<◌, ◌==◌, ◌++◌, [], length, drop, vec_len, vec_capacity, slice_index_or};
+ghost use Rattle.std.specs.List.{list_all};
 ghost use Rattle.gba_terms.specs.RegisterNames.{register_names};
-ghost use Rattle.gba_link.specs.StateFile.{register_line, register_lines, heading, state_file, summary as summary_of};
+ghost use Rattle.gba_link.specs.StateFile.{hex_bytes, memory_line, memory_name, memory_row, memory_lines, register_line, register_lines, heading, state_file, summary as summary_of};
 
-use crate::line::{Line, hex_word, put};
+use crate::line::{Line, hex_byte, hex_offset, hex_word, put};
 use gba_console::Console;
 use itoa::Buffer;
 
-/// The room of a state file in bytes: its heading has at most 96, and each of the 37 registers at most 18.
-pub(crate) const STATE_ROOM: usize = 1_024;
+/// The room of a state file in bytes: its heading has at most 96, each of the 37 registers at most 18, and each of the
+/// 1,024 lines of the inner RAM 82.
+pub(crate) const STATE_ROOM: usize = 84_992;
+
+/// The bytes in a line of memory.
+const ROW: usize = 32;
 
 /// Adds bytes where there is room for them.
 fn add(into: &mut Vec<u8>, bytes: &[u8])
@@ -88,6 +93,8 @@ fn add_register_line(into: &mut Vec<u8>, name: &[u8], value: u32)
 fn add_register_lines(into: &mut Vec<u8>, registers: &[u32; 37])
     requires { vec_len into.old + 666 ≤ vec_capacity into.old }
     ensures items { into.new.items ≡ into.old.items ++ register_lines register_names registers.now }
+    ensures len { vec_len into.new ≤ vec_len into.old + 666 }
+    ensures room { vec_capacity into.old ≤ vec_capacity into.new }
 {
     for place in 0..37 {
         add_register_line(into, register_name(place), registers[place]);
@@ -107,14 +114,83 @@ fn add_heading(into: &mut Vec<u8>, clock: u64)
     add(into, b"\nhalted 0\n");
 }
 
+/// Adds bytes as two digits each.
+fn add_hex_bytes(into: &mut Vec<u8>, bytes: &[u8])
+    requires { vec_len into.old + 2 * length bytes.now ≤ vec_capacity into.old }
+    ensures items { into.new.items ≡ into.old.items ++ hex_bytes bytes.now }
+    ensures len { vec_len into.new ≡ vec_len into.old + 2 * length bytes.now }
+    ensures room { vec_capacity into.old ≤ vec_capacity into.new }
+{
+    for byte in bytes {
+        add(into, &hex_byte(*byte));
+    }
+}
+
+fn is_zero(bytes: &[u8]) -> bool
+    ensures { result ≡ list_all (λ byte. byte == 0) bytes.now }
+{
+    bytes.iter().all(|byte| *byte == 0)
+}
+
+/// Adds the name of a line of memory and its offset.
+fn add_memory_name(into: &mut Vec<u8>, offset: u32)
+    requires { vec_len into.old + 17 ≤ vec_capacity into.old }
+    ensures items { into.new.items ≡ into.old.items ++ memory_name offset }
+    ensures len { vec_len into.new ≡ vec_len into.old + 17 }
+    ensures room { vec_capacity into.old ≤ vec_capacity into.new }
+{
+    add(into, b"mem iwram ");
+    add(into, &hex_offset(offset));
+    add(into, b" ");
+}
+
+/// Adds the line of 32 bytes of memory.
+fn add_memory_row(into: &mut Vec<u8>, offset: u32, bytes: &[u8])
+    requires whole { length bytes.now ≡ 32 }
+    requires room { vec_len into.old + 82 ≤ vec_capacity into.old }
+    ensures items { into.new.items ≡ into.old.items ++ memory_row offset bytes.now }
+    ensures len { vec_len into.new ≡ vec_len into.old + 82 }
+    ensures room { vec_capacity into.old ≤ vec_capacity into.new }
+{
+    add_memory_name(into, offset);
+    add_hex_bytes(into, bytes);
+    add(into, b"\n");
+}
+
+/// Adds the line of 32 bytes of memory, where they aren't all 0.
+fn add_memory_line(into: &mut Vec<u8>, offset: u32, bytes: &[u8])
+    requires whole { length bytes.now ≡ 32 }
+    requires room { vec_len into.old + 82 ≤ vec_capacity into.old }
+    ensures items { into.new.items ≡ into.old.items ++ memory_line offset bytes.now }
+    ensures len { vec_len into.new ≤ vec_len into.old + 82 }
+    ensures room { vec_capacity into.old ≤ vec_capacity into.new }
+{
+    if !is_zero(bytes) {
+        add_memory_row(into, offset, bytes);
+    }
+}
+
+/// Adds the lines of a memory of at most 32,768 bytes.
+fn add_memory_lines(into: &mut Vec<u8>, bytes: &[u8])
+    requires most { length bytes.now ≤ 32768 }
+    requires room { vec_len into.old + 83968 ≤ vec_capacity into.old }
+    ensures { into.new.items ≡ into.old.items ++ memory_lines (length bytes.now / 32) 0 bytes.now }
+{
+    for line in 0..bytes.len() / ROW {
+        let offset = line * ROW;
+        add_memory_line(into, offset as u32, &bytes[offset..offset + ROW]);
+    }
+}
+
 /// Writes the state file of a console into an empty buffer with room for it.
 pub(crate) fn write_state(into: &mut Vec<u8>, console: &Console)
     requires empty { into.old.items ≡ [] }
-    requires room { 1024 ≤ vec_capacity into.old }
+    requires room { 84992 ≤ vec_capacity into.old }
     ensures { into.new.items ≡ state_file console.now }
 {
     add_heading(into, console.clock());
     add_register_lines(into, &console.all());
+    add_memory_lines(into, console.inner_ram());
 }
 
 /// The summary of a run.

@@ -1,6 +1,8 @@
 #![tactic(auto)]
-//! Tests of the first path: the outside, and the top call over files in memory.
+//! Tests of the outside, of a console by itself, and of the top call over files in memory.
 
+#[cfg(test)]
+mod console;
 #[cfg(test)]
 mod outside;
 #[cfg(test)]

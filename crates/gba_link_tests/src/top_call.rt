@@ -177,17 +177,6 @@ fn images_are_judged(rt: HostRuntime) -> Result<(), Fail> {
         (Some((LOOP, 16_383)), 6, "image b BiosLength\n"),
         (Some((LOOP, 16_385)), 6, "image b BiosLength\n"),
         (Some((LOOP, 0)), 6, "image b BiosLength\n"),
-        // MOV r0, r0 isn't built; nor is ADD r1, r2, r3 at a condition that holds.
-        (
-            Some((0xE1A0_0000, 16_384)),
-            11,
-            "notbuilt 00000000 e1a00000\n",
-        ),
-        (
-            Some((0x1082_1003, 16_384)),
-            11,
-            "notbuilt 00000000 10821003\n",
-        ),
     ] {
         let case = Case {
             image,
@@ -357,4 +346,68 @@ fn jobs_have_one_form(rt: HostRuntime) -> Result<(), Fail> {
         )?;
     }
     Ok(())
+}
+
+/// MOV r0, #5 and a branch to itself for 10 cycles; a table of two words in the inner RAM; a BIOS that enters Thumb state.
+#[test]
+fn programs_run_to_their_states(rt: HostRuntime) -> Result<(), Fail> {
+    let alloc = rt.alloc();
+    // MOV r1, #03000000h; MOV r2, #5; STR r2, [r1, #20h]; B to itself: the second row of the inner RAM.
+    let stored = run_words(
+        &rt,
+        alloc,
+        "5",
+        &[0xE3A0_1403, 0xE3A0_2005, 0xE581_2020, 0xEAFF_FFFE],
+    )?;
+    assert_eq!(rt; stored.0, 0);
+    let lines = stored.1.as_str();
+    assert!(rt; lines.contains("\nclock 7\n"));
+    assert!(rt; lines.contains("\nr1 03000000\nr2 00000005\n"));
+    assert!(rt;
+        lines.ends_with(
+            "\nspsr_und 00000000\nmem iwram 000020 0500000000000000000000000000000000000000000000000000000000000000\n"
+        )
+    );
+    let moved = run_words(&rt, alloc, "10", &[0xE3A0_0005, 0xEAFF_FFFE])?;
+    let lines = moved.1.as_str();
+    assert!(rt; lines.contains("\nclock 10\n"));
+    assert!(rt; lines.contains("\nr0 00000005\n"));
+    assert!(rt; lines.contains("\nr15 00000004\n"));
+    assert!(rt; lines.ends_with("\nspsr_und 00000000\n"));
+    // MOV r0, #9; BX r0; at 8 the halfword 5678h.
+    let thumb = run_words(&rt, alloc, "10", &[0xE3A0_0009, 0xE12F_FF10, 0x1234_5678])?;
+    assert_eq!(rt; thumb.0, 11);
+    assert_eq!(rt; thumb.1.as_str(), "notbuilt 00000008 00005678\n");
+    Ok(())
+}
+
+/// The status of a run of these words for so many cycles, and the state file, or the report where there is none.
+fn run_words<R: Abort + Threads + Sync>(
+    rt: &R,
+    alloc: Global,
+    cycles: &str,
+    code: &[u32],
+) -> Result<(u8, String), Fail> {
+    let job = format!(in alloc; "gbalink 1\ncycles {cycles}\nconsole 0\nbios b\nout state\nend\n")?;
+    let mut bios = Vec::new(alloc);
+    for word in code {
+        bios.extend_from_slice(&word.to_le_bytes())?;
+    }
+    for _ in bios.len()..16_384 {
+        bios.push(0)?;
+    }
+    let files = vec![in alloc;
+        stored(alloc, "j", Vec::from_slice(alloc, job.as_bytes())?)?,
+        stored(alloc, "b", bios)?,
+    ]?;
+    let mut store = MemoryStore::new(files, Vec::new(alloc));
+    let mut out = MemorySink::new(alloc, Vec::new(alloc), Vec::new(alloc));
+    let said = words(alloc, &["run", "j", "g"])?;
+    let status = gba_link(rt, alloc, said.as_slice(), &mut store, &mut out, &NoGate);
+    let written = out
+        .bytes("g.0.state")
+        .or(out.bytes("-"))
+        .unwrap_or(b"".as_slice());
+    let text = str::from_utf8(written).map_err(|_| "no text")?;
+    Ok((status, String::from_str(alloc, text)?))
 }

@@ -3,10 +3,18 @@
 
 ghost use Rattle.std.specs.Prelude.{◌≡◌, ◌+◌, ◌<◌, ◌≤◌};
 ghost use Rattle.gba_terms.specs.Bits.{field, bit};
+ghost use Rattle.gba_word.specs.Extension.{sign_extended};
 
 mod kinds;
+mod shifter;
+mod sums;
+
+#[cfg(test)]
+mod tests;
 
 pub use kinds::Shift;
+pub use shifter::{rotate, rotate_immediate, shift, shift_fixed};
+pub use sums::{Sum, add_carry};
 
 /// The number in the `width` bits of `value` from bit `low` up.
 pub fn bits(value: u32, low: u32, width: u32) -> u32
@@ -23,4 +31,18 @@ pub fn bit(value: u32, place: u32) -> bool
     ensures { result ≡ bit value place }
 {
     (value >> place) % 2 == 1
+}
+
+/// The low `width` bits of `value`, from 1 to 32 of them, as a signed number of 32 bits. Bits above don't count.
+pub fn sign_extend(value: u32, width: u32) -> u32
+    requires positive { 0 < width }
+    requires most { width ≤ 32 }
+    ensures { result ≡ sign_extended value width }
+{
+    let low = bits(value, 0, width);
+    if bit(value, width - 1) {
+        (u64::from(low) + ((1 << 32) - (1 << width))) as u32
+    } else {
+        low
+    }
 }

@@ -13,11 +13,11 @@ loop-place-preserved c =
     let valued : i < length c.args.registers.now = omega (arith, c.told-registers) in
     let grew : c.add_register_line.new.into.items ≡ c.loop-place.into.items ++ register_line (get_or register_names i []) (get_or c.args.registers.now i 0) =
     c.add_register_line.ensures.items ∙ ap (λ name. c.loop-place.into.items ++ register_line name (get_or c.args.registers.now i 0)) c.register_name.ensures.name in
-    (joined _ _ _ _ _ _ grew (register_lines-more register_names c.args.registers.now i named valued) c.loop-place.invariant.0, omega arith)
+    (joined _ _ _ _ _ _ grew (register_lines-more register_names c.args.registers.now i named valued) c.loop-place.invariant.0, omega arith, omega arith)
 
 pub returns : goal.returns
 returns c =
     let end : c.loop-place.place ≡ 37 = omega arith in
     let left = λ (i : ℕ). register_lines (drop i register_names) (drop c.loop-place.place c.args.registers.now) in
     let gone : left c.loop-place.place ≡ [] = ap left end ∙ register_lines-all (drop c.loop-place.place c.args.registers.now) in
-    record { items = sym (append-nil c.loop-place.into.items) ∙ ap (λ t. c.loop-place.into.items ++ t) (sym gone) ∙ c.loop-place.invariant.0 }
+    record { items = sym (append-nil c.loop-place.into.items) ∙ ap (λ t. c.loop-place.into.items ++ t) (sym gone) ∙ c.loop-place.invariant.0; len = omega arith; room = omega arith }

@@ -1,0 +1,7 @@
+use Rattle.std.specs.Prelude.{ℕ, List}
+
+-- what an instruction leaves: the register file and the bus, and the cycles that it took
+pub record Done (State : Type 0) : Type 0 where
+  pub registers : List ℕ
+  pub bus : State
+  pub cycles : ℕ

@@ -1,0 +1,249 @@
+//! LDR, STR and their kinds, and SWP.
+
+ghost use Rattle.std.specs.Prelude.{◌≡◌, ◌<◌, ◌≤◌};
+ghost use Rattle.gba_arm_exec.specs.Transfers.{after_load, after_store, after_swap, aligned, half_distance, loaded, moved, put, rebased, transfer_address, transfer_distance, unit_address, unit_value, unit_width, with_base};
+ghost use Rattle.gba_arm_table.specs.Limits.{Within, half_registers, transfer_immediates, transfer_registers};
+
+use crate::Site;
+use crate::access::{code_price, read_operand, refill_price, write_result};
+use crate::transfer::{LoadUnit, SingleTransfer};
+use gba_arm_table::{HalfOffset, TransferOffset};
+use gba_bus::{Bus, Width};
+use gba_psr::Registers;
+use gba_word::{rotate, shift_fixed, sign_extend};
+
+/// How far a word or byte transfer is from its base.
+#[tactic(auto, unfolding(crate::specs::Transfers::transfer_distance))]
+pub fn distance_of_transfer(registers: &Registers, site: Site, offset: TransferOffset) -> u32
+    requires registers { Within (transfer_registers offset) }
+    requires immediates { Within (transfer_immediates offset) }
+    ensures { result ≡ transfer_distance offset site registers.now }
+{
+    match offset {
+        TransferOffset::Number { value } => value,
+        TransferOffset::Shifted { rm, kind, amount } => {
+            let value = read_operand(registers, site.counter(), rm);
+            shift_fixed(kind, value, amount, registers.flags().carry).0
+        }
+    }
+}
+
+/// How far a halfword or signed byte transfer is from its base.
+#[tactic(auto, unfolding(crate::specs::Transfers::half_distance))]
+pub fn distance_of_half(registers: &Registers, site: Site, offset: HalfOffset) -> u32
+    requires { Within (half_registers offset) }
+    ensures { result ≡ half_distance offset site registers.now }
+{
+    match offset {
+        HalfOffset::Number { value } => value,
+        HalfOffset::Plain { rm } => read_operand(registers, site.counter(), rm),
+    }
+}
+
+/// LDR and its kinds. Answers the cycles.
+#[tactic(auto, unfolding(crate::specs::Transfers::after_load))]
+pub fn load_single<B: Bus>(
+    registers: &mut Registers,
+    bus: &mut B,
+    site: Site,
+    kind: LoadUnit,
+    one: SingleTransfer,
+) -> u32
+    requires rn { one.rn < 16 }
+    requires rd { one.rd < 16 }
+    ensures registers { registers.new ≡ (after_load B.code_price_of B.load_of B.store_of kind one site registers.old (B.state bus.old)).registers }
+    ensures bus { B.state bus.new ≡ (after_load B.code_price_of B.load_of B.store_of kind one site registers.old (B.state bus.old)).bus }
+    ensures cycles { result ≡ (after_load B.code_price_of B.load_of B.store_of kind one site registers.old (B.state bus.old)).cycles }
+{
+    let code = code_price(bus, site, true);
+    let refill = refill_price(bus, site, one.rd);
+    let (value, price) = load_unit(bus, site, kind, address_of(registers, site, one));
+    write_base(registers, site, one);
+    write_result(registers, one.rd, value);
+    code + price + 1 + refill
+}
+
+/// STR and its kinds. Answers the cycles.
+#[tactic(auto, unfolding(crate::specs::Transfers::after_store))]
+pub fn store_single<B: Bus>(
+    registers: &mut Registers,
+    bus: &mut B,
+    site: Site,
+    width: Width,
+    one: SingleTransfer,
+) -> u32
+    requires rn { one.rn < 16 }
+    requires rd { one.rd < 16 }
+    ensures registers { registers.new ≡ (after_store B.code_price_of B.load_of B.store_of width one site registers.old (B.state bus.old)).registers }
+    ensures bus { B.state bus.new ≡ (after_store B.code_price_of B.load_of B.store_of width one site registers.old (B.state bus.old)).bus }
+    ensures cycles { result ≡ (after_store B.code_price_of B.load_of B.store_of width one site registers.old (B.state bus.old)).cycles }
+{
+    let code = code_price(bus, site, false);
+    let value = read_operand(registers, site.late_counter(), one.rd);
+    let price = store_unit(bus, width, address_of(registers, site, one), value);
+    write_base(registers, site, one);
+    code + price
+}
+
+/// SWP. Answers the cycles.
+#[tactic(auto, unfolding(crate::specs::Transfers::after_swap))]
+pub fn swap<B: Bus>(
+    registers: &mut Registers,
+    bus: &mut B,
+    site: Site,
+    byte: bool,
+    rn: u8,
+    rd: u8,
+    rm: u8,
+) -> u32
+    requires rn { rn < 16 }
+    requires rd { rd < 16 }
+    requires rm { rm < 16 }
+    ensures registers { registers.new ≡ (after_swap B.code_price_of B.load_of B.store_of byte rn rd rm site registers.old (B.state bus.old)).registers }
+    ensures bus { B.state bus.new ≡ (after_swap B.code_price_of B.load_of B.store_of byte rn rd rm site registers.old (B.state bus.old)).bus }
+    ensures cycles { result ≡ (after_swap B.code_price_of B.load_of B.store_of byte rn rd rm site registers.old (B.state bus.old)).cycles }
+{
+    let code = code_price(bus, site, true);
+    let refill = refill_price(bus, site, rd);
+    let address = read_operand(registers, site.counter(), rn);
+    let kind = if byte { LoadUnit::Byte } else { LoadUnit::Word };
+    let width = if byte { Width::Byte } else { Width::Word };
+    let (value, load) = load_unit(bus, site, kind, address);
+    let store = store_unit(
+        bus,
+        width,
+        address,
+        read_operand(registers, site.counter(), rm),
+    );
+    write_result(registers, rd, value);
+    code + load + store + 1 + refill
+}
+
+// Where a load reads.
+fn address_of_unit(kind: LoadUnit, address: u32) -> u32
+    ensures { result ≡ unit_address kind address }
+{
+    match kind {
+        LoadUnit::Word => address - address % 4,
+        LoadUnit::Half => address - address % 2,
+        LoadUnit::Byte | LoadUnit::SignedByte | LoadUnit::SignedHalf => address,
+    }
+}
+
+// How wide a load reads.
+fn width_of_unit(kind: LoadUnit, address: u32) -> Width
+    ensures { result ≡ unit_width kind address }
+{
+    match kind {
+        LoadUnit::Word => Width::Word,
+        LoadUnit::Half => Width::Half,
+        LoadUnit::Byte | LoadUnit::SignedByte => Width::Byte,
+        LoadUnit::SignedHalf => if address % 2 == 1 {
+            Width::Byte
+        } else {
+            Width::Half
+        },
+    }
+}
+
+// What the register gets of what was read.
+fn value_of_unit(kind: LoadUnit, address: u32, read: u32) -> u32
+    ensures { result ≡ unit_value kind address read }
+{
+    match kind {
+        LoadUnit::Word => rotate(read, 8 * (address % 4)),
+        LoadUnit::Byte => read,
+        LoadUnit::Half => rotate(read, 8 * (address % 2)),
+        LoadUnit::SignedByte => sign_extend(read, 8),
+        LoadUnit::SignedHalf => sign_extend(read, if address % 2 == 1 { 8 } else { 16 }),
+    }
+}
+
+// One non-sequential load: the value and the price.
+#[tactic(auto, unfolding(crate::specs::Transfers::loaded))]
+fn load_unit<B: Bus>(bus: &mut B, site: Site, kind: LoadUnit, address: u32) -> (u32, u32)
+    ensures value { result.0 ≡ (loaded B.code_price_of B.load_of B.store_of kind site address (B.state bus.old)).value }
+    ensures price { result.1 ≡ (loaded B.code_price_of B.load_of B.store_of kind site address (B.state bus.old)).price }
+    ensures bus { B.state bus.new ≡ (loaded B.code_price_of B.load_of B.store_of kind site address (B.state bus.old)).after }
+    ensures most { result.1 ≤ 18 }
+{
+    let (read, price) = bus.load(
+        site.address,
+        address_of_unit(kind, address),
+        width_of_unit(kind, address),
+        false,
+    );
+    (value_of_unit(kind, address, read), price)
+}
+
+// Where a store writes.
+fn align(width: Width, address: u32) -> u32
+    ensures { result ≡ aligned width address }
+{
+    match width {
+        Width::Byte => address,
+        Width::Half => address - address % 2,
+        Width::Word => address - address % 4,
+    }
+}
+
+// One non-sequential store: the price.
+#[tactic(auto, unfolding(crate::specs::Transfers::put))]
+fn store_unit<B: Bus>(bus: &mut B, width: Width, address: u32, value: u32) -> u32
+    ensures price { result ≡ (put B.code_price_of B.load_of B.store_of width address value (B.state bus.old)).price }
+    ensures bus { B.state bus.new ≡ (put B.code_price_of B.load_of B.store_of width address value (B.state bus.old)).after }
+    ensures most { result ≤ 18 }
+{
+    bus.store(align(width, address), width, value, false)
+}
+
+/// The base moved up or down.
+pub fn move_base(up: bool, base: u32, distance: u32) -> u32
+    ensures { result ≡ moved up base distance }
+{
+    if up {
+        base.wrapping_add(distance)
+    } else {
+        base.wrapping_sub(distance)
+    }
+}
+
+/// Writes the base back, but never r15.
+#[tactic(auto, unfolding(crate::specs::Transfers::rebased))]
+pub fn rebase(registers: &mut Registers, write: bool, rn: u8, base: u32)
+    requires { rn < 16 }
+    ensures { registers.new ≡ rebased write rn base registers.old }
+{
+    if write && rn != 15 {
+        registers.set(u32::from(rn), base);
+    }
+}
+
+// The address of a transfer.
+#[tactic(auto, unfolding(crate::specs::Transfers::transfer_address))]
+fn address_of(registers: &Registers, site: Site, one: SingleTransfer) -> u32
+    requires { one.rn < 16 }
+    ensures { result ≡ transfer_address one site registers.now }
+{
+    let base = read_operand(registers, site.counter(), one.rn);
+    if one.pre {
+        move_base(one.up, base, one.distance)
+    } else {
+        base
+    }
+}
+
+// The base after a transfer.
+#[tactic(auto, unfolding(crate::specs::Transfers::with_base))]
+fn write_base(registers: &mut Registers, site: Site, one: SingleTransfer)
+    requires { one.rn < 16 }
+    ensures { registers.new ≡ with_base one site registers.old }
+{
+    let base = read_operand(registers, site.counter(), one.rn);
+    rebase(
+        registers,
+        one.write || !one.pre,
+        one.rn,
+        move_base(one.up, base, one.distance),
+    );
+}

@@ -1,0 +1,140 @@
+use Rattle.std.proofs.Common.{ℕ, zero, suc, ◌+◌, ◌*◌, ◌/◌, ◌%◌, ◌^◌, ◌<◌, ◌≡◌, ◌∙◌, ap, sym, refl, Bool, true, ◌&&◌, List, [], ◌∷◌, arith, lit<, inl, inr, get_or}
+use Rattle.std.proofs.lemmas.Bool.{cases_lt, eqb-true}
+use Rattle.std.proofs.Math.Path.{ap₂}
+use Rattle.std.specs.Prelude.{bit_and, nat_eq}
+use Rattle.std.specs.List.{list_all}
+use Rattle.std.proofs.lemmas.Nat.{and_block, and_mask, and_assoc}
+use Rattle.std.proofs.lemmas.Nat.Bits.{and_high}
+use Rattle.gba_terms.specs.Bits.{field}
+use Rattle.gba_arm_table.specs.declared.form.Form.{Form}
+use Rattle.gba_arm_table.specs.declared.form.Form.TheVariants as form
+use Rattle.gba_arm_table.specs.Fields.{Bits}
+use Rattle.gba_arm_table.specs.Table.{Row, rows, form_in}
+use Rattle.gba_arm_table.specs.Branches.{branched}
+
+-- The masks look at bits 27 to 20 and 7 to 4 alone. So a word has the row that these bits have with all others 0, and
+-- for those the checker compares the rows with the decision by bits, 4,096 times.
+
+-- a word of these bits alone
+abbrev pub kept : ℕ → ℕ → ℕ
+kept high low = high * 2 ^ 20 + low * 2 ^ 4
+
+and_looked : (word : ℕ) → bit_and word 0x0FF000F0 ≡ kept (field word 20 8) (field word 4 4)
+and_looked word =
+    let parted : word ≡ word / 2 ^ 20 * 2 ^ 20 + word % 2 ^ 20 = omega arith in
+    let upper : bit_and (word / 2 ^ 20) 255 ≡ word / 2 ^ 20 % 2 ^ 8 = and_mask (word / 2 ^ 20) 8 in
+    let lower : bit_and (word % 2 ^ 20) 240 ≡ (word % 2 ^ 20 / 2 ^ 4 % 2 ^ 4) * 2 ^ 4 = and_high (word % 2 ^ 20) 4 4 in
+    let same : word % 2 ^ 20 / 2 ^ 4 % 2 ^ 4 ≡ word / 2 ^ 4 % 2 ^ 4 = omega arith in
+    ap (λ n. bit_and n 0x0FF000F0) parted
+    ∙ and_block 20 (word / 2 ^ 20) 255 (word % 2 ^ 20) 240 (omega arith) (lit< tt)
+    ∙ ap₂ (λ m n. m * 2 ^ 20 + n) upper (lower ∙ ap (λ n. n * 2 ^ 4) same)
+
+-- whether a row looks at these bits alone
+abbrev pub looks : Row → Bool
+looks row = nat_eq (bit_and 0x0FF000F0 row.mask) row.mask
+
+form_in-kept : (rows : List Row) → list_all looks rows ≡ true → (word : ℕ) → form_in rows word ≡ form_in rows (bit_and word 0x0FF000F0)
+form_in-kept [] all word = refl
+form_in-kept (row ∷ rest) all word =
+    let here : looks row ≡ true = grind arith in
+    let later : list_all looks rest ≡ true = grind arith in
+    let mask : bit_and 0x0FF000F0 row.mask ≡ row.mask = eqb-true _ _ here in
+    let read : bit_and (bit_and word 0x0FF000F0) row.mask ≡ bit_and word row.mask =
+    and_assoc row.mask word 0x0FF000F0 ∙ ap (bit_and word) mask in
+    rw (read, form_in-kept rest later word) refl
+
+-- a number for each form, and back
+form_at : ℕ → Form
+form_at n = get_or (form.Exchange ∷ form.Multiply ∷ form.MultiplyLong ∷ form.Swap ∷ form.HalfTransfer ∷ form.SignedByteLoad
+    ∷ form.SignedHalfLoad ∷ form.StatusRead ∷ form.StatusWriteRegister ∷ form.StatusWriteTurned ∷ form.ProcessingByRegister
+    ∷ form.ProcessingFixed ∷ form.ProcessingTurned ∷ form.TransferNumber ∷ form.TransferShifted ∷ form.Block ∷ form.Branch
+    ∷ form.Interrupt ∷ []) n form.Undefined
+
+abbrev number : Form → ℕ
+number form.Exchange = 0
+number form.Multiply = 1
+number form.MultiplyLong = 2
+number form.Swap = 3
+number form.HalfTransfer = 4
+number form.SignedByteLoad = 5
+number form.SignedHalfLoad = 6
+number form.StatusRead = 7
+number form.StatusWriteRegister = 8
+number form.StatusWriteTurned = 9
+number form.ProcessingByRegister = 10
+number form.ProcessingFixed = 11
+number form.ProcessingTurned = 12
+number form.TransferNumber = 13
+number form.TransferShifted = 14
+number form.Block = 15
+number form.Branch = 16
+number form.Interrupt = 17
+number form.Undefined = 18
+
+all_below : (ℕ → Bool) → ℕ → Bool
+all_below test zero = true
+all_below test (suc n) = test n && all_below test n
+
+abbrev same_at : ℕ → ℕ → Bool
+same_at high low = nat_eq (number (form_in rows (kept high low))) (number (branched (field (kept high low))))
+
+all_same : all_below (λ high. all_below (same_at high) 16) 256 ≡ true
+unfolding rows all_below
+all_same = refl
+
+form_at-number : (f : Form) → form_at (number f) ≡ f
+unfolding form_at
+form_at-number form.Exchange = refl
+form_at-number form.Multiply = refl
+form_at-number form.MultiplyLong = refl
+form_at-number form.Swap = refl
+form_at-number form.HalfTransfer = refl
+form_at-number form.SignedByteLoad = refl
+form_at-number form.SignedHalfLoad = refl
+form_at-number form.StatusRead = refl
+form_at-number form.StatusWriteRegister = refl
+form_at-number form.StatusWriteTurned = refl
+form_at-number form.ProcessingByRegister = refl
+form_at-number form.ProcessingFixed = refl
+form_at-number form.ProcessingTurned = refl
+form_at-number form.TransferNumber = refl
+form_at-number form.TransferShifted = refl
+form_at-number form.Block = refl
+form_at-number form.Branch = refl
+form_at-number form.Interrupt = refl
+form_at-number form.Undefined = refl
+
+all_below-at : (test : ℕ → Bool) (n : ℕ) → all_below test n ≡ true → (k : ℕ) → k < n → test k ≡ true
+unfolding all_below
+all_below-at test zero all k small = absurd (omega arith)
+all_below-at test (suc n) all k small =
+    let here : test n ≡ true = grind arith in
+    let later : all_below test n ≡ true = grind arith in
+    elim (cases_lt k n) [ inl below ↦ all_below-at test n later k below | inr above ↦ ap test (omega arith) ∙ here ]
+
+same_form : (high low : ℕ) → high < 256 → low < 16 → form_in rows (kept high low) ≡ branched (field (kept high low))
+same_form high low high_small low_small =
+    let row : all_below (same_at high) 16 ≡ true = all_below-at _ 256 all_same high high_small in
+    let cell : same_at high low ≡ true = all_below-at (same_at high) 16 row low low_small in
+    let numbers : number (form_in rows (kept high low)) ≡ number (branched (field (kept high low))) = eqb-true _ _ cell in
+    sym (form_at-number _) ∙ ap form_at numbers ∙ form_at-number _
+
+-- the decision reads these twelve fields alone
+branched_agrees : (f g : Bits) → f 25 3 ≡ g 25 3 → f 4 1 ≡ g 4 1 → f 7 1 ≡ g 7 1 → f 5 2 ≡ g 5 2 → f 23 2 ≡ g 23 2
+    → f 22 1 ≡ g 22 1 → f 20 2 ≡ g 20 2 → f 20 1 ≡ g 20 1 → f 21 4 ≡ g 21 4 → f 21 1 ≡ g 21 1 → f 4 4 ≡ g 4 4
+    → f 24 1 ≡ g 24 1 → branched f ≡ branched g
+branched_agrees f g a b c d e h i j k l m n = rw (a, b, c, d, e, h, i, j, k, l, m, n) refl
+
+branched-kept : (word : ℕ) → branched (field (kept (field word 20 8) (field word 4 4))) ≡ branched (field word)
+branched-kept word =
+    branched_agrees (field (kept (field word 20 8) (field word 4 4))) (field word) (omega arith) (omega arith) (omega arith) (omega arith) (omega arith) (omega arith)
+    (omega arith) (omega arith) (omega arith) (omega arith) (omega arith) (omega arith)
+
+-- the first row that fits is found by the decision by bits
+pub form_in-rows : (word : ℕ) → form_in rows word ≡ branched (field word)
+form_in-rows word =
+    let all : list_all looks rows ≡ true = unfold rows in refl in
+    form_in-kept rows all word
+    ∙ ap (form_in rows) (and_looked word)
+    ∙ same_form (field word 20 8) (field word 4 4) (omega arith) (omega arith)
+    ∙ branched-kept word

@@ -1,0 +1,521 @@
+use super::*;
+use crate::operation::ArmOp as Op;
+use gba_word::Shift;
+use std::process::Abort;
+
+/// Each word decodes to the operation beside it.
+fn decodes(rt: &impl Abort, cases: &[(u32, Op)]) {
+    for (word, want) in cases {
+        assert_eq!(rt; decode(*word), Some(*want), "the word {word:#010x}");
+    }
+}
+
+// The encodings are put together by hand from the manual's diagrams.
+#[test]
+fn multiplies_swaps_and_status_words_decode(rt: HostRuntime) {
+    let cond = Condition::Always;
+    decodes(
+        &rt,
+        &[
+            // bx r1
+            (0xE12FFF11, Op::Exchange { cond, rm: 1 }),
+            // mul r3, r1, r2
+            (
+                0xE0030291,
+                Op::Multiply {
+                    cond,
+                    accumulate: false,
+                    set: false,
+                    rd: 3,
+                    rn: 0,
+                    rs: 2,
+                    rm: 1,
+                },
+            ),
+            // mlas r3, r1, r2, r4
+            (
+                0xE0334291,
+                Op::Multiply {
+                    cond,
+                    accumulate: true,
+                    set: true,
+                    rd: 3,
+                    rn: 4,
+                    rs: 2,
+                    rm: 1,
+                },
+            ),
+            // umull r0, r1, r2, r3
+            (
+                0xE0810392,
+                Op::MultiplyLong {
+                    cond,
+                    signed: false,
+                    accumulate: false,
+                    set: false,
+                    hi: 1,
+                    lo: 0,
+                    rs: 3,
+                    rm: 2,
+                },
+            ),
+            // smlals r0, r1, r2, r3
+            (
+                0xE0F10392,
+                Op::MultiplyLong {
+                    cond,
+                    signed: true,
+                    accumulate: true,
+                    set: true,
+                    hi: 1,
+                    lo: 0,
+                    rs: 3,
+                    rm: 2,
+                },
+            ),
+            // swp r0, r1, [r2]
+            (
+                0xE1020091,
+                Op::Swap {
+                    cond,
+                    byte: false,
+                    rn: 2,
+                    rd: 0,
+                    rm: 1,
+                },
+            ),
+            // swpb r0, r1, [r2]
+            (
+                0xE1420091,
+                Op::Swap {
+                    cond,
+                    byte: true,
+                    rn: 2,
+                    rd: 0,
+                    rm: 1,
+                },
+            ),
+            // mrs r0, cpsr
+            (
+                0xE10F0000,
+                Op::ReadStatus {
+                    cond,
+                    saved: false,
+                    rd: 0,
+                },
+            ),
+            // mrs r3, spsr
+            (
+                0xE14F3000,
+                Op::ReadStatus {
+                    cond,
+                    saved: true,
+                    rd: 3,
+                },
+            ),
+            // msr cpsr_f, r2
+            (
+                0xE128F002,
+                Op::WriteStatus {
+                    cond,
+                    saved: false,
+                    fields: 8,
+                    source: Source::Plain { rm: 2 },
+                },
+            ),
+            // msr spsr_fc, r1
+            (
+                0xE169F001,
+                Op::WriteStatus {
+                    cond,
+                    saved: true,
+                    fields: 9,
+                    source: Source::Plain { rm: 1 },
+                },
+            ),
+            // msr cpsr_c, #0x1F
+            (
+                0xE321F01F,
+                Op::WriteStatus {
+                    cond,
+                    saved: false,
+                    fields: 1,
+                    source: Source::Turned {
+                        value: 0x1F,
+                        turn: 0,
+                    },
+                },
+            ),
+            // msr cpsr_f, #0xF0000000
+            (
+                0xE328F20F,
+                Op::WriteStatus {
+                    cond,
+                    saved: false,
+                    fields: 8,
+                    source: Source::Turned {
+                        value: 0x0F,
+                        turn: 2,
+                    },
+                },
+            ),
+        ],
+    );
+}
+
+#[test]
+fn halfword_transfers_decode(rt: HostRuntime) {
+    let cond = Condition::Always;
+    decodes(
+        &rt,
+        &[
+            // strh r1, [r0, #0xAB]
+            (
+                0xE1C01ABB,
+                Op::Half {
+                    cond,
+                    kind: HalfKind::StoreHalf,
+                    pre: true,
+                    up: true,
+                    write: false,
+                    rn: 0,
+                    rd: 1,
+                    offset: HalfOffset::Number { value: 0xAB },
+                },
+            ),
+            // ldrh r1, [r0], -r2
+            (
+                0xE01010B2,
+                Op::Half {
+                    cond,
+                    kind: HalfKind::LoadHalf,
+                    pre: false,
+                    up: false,
+                    write: false,
+                    rn: 0,
+                    rd: 1,
+                    offset: HalfOffset::Plain { rm: 2 },
+                },
+            ),
+            // ldrsb r1, [r0, #1]!
+            (
+                0xE1F010D1,
+                Op::Half {
+                    cond,
+                    kind: HalfKind::LoadSignedByte,
+                    pre: true,
+                    up: true,
+                    write: true,
+                    rn: 0,
+                    rd: 1,
+                    offset: HalfOffset::Number { value: 1 },
+                },
+            ),
+            // ldrsh r1, [r0, -r2]
+            (
+                0xE11010F2,
+                Op::Half {
+                    cond,
+                    kind: HalfKind::LoadSignedHalf,
+                    pre: true,
+                    up: false,
+                    write: false,
+                    rn: 0,
+                    rd: 1,
+                    offset: HalfOffset::Plain { rm: 2 },
+                },
+            ),
+        ],
+    );
+}
+
+#[test]
+fn data_processing_decodes(rt: HostRuntime) {
+    let cond = Condition::Always;
+    decodes(
+        &rt,
+        &[
+            // add r0, r1, r2, lsl r3
+            (
+                0xE0810312,
+                Op::Compute {
+                    cond,
+                    op: ComputeOp::Add,
+                    set: false,
+                    rn: 1,
+                    rd: 0,
+                    operand: Operand::ByRegister {
+                        rm: 2,
+                        kind: Shift::Lsl,
+                        rs: 3,
+                    },
+                },
+            ),
+            // cmp r1, r2, ror r3
+            (
+                0xE1510372,
+                Op::Compare {
+                    cond,
+                    op: CompareOp::Cmp,
+                    rn: 1,
+                    operand: Operand::ByRegister {
+                        rm: 2,
+                        kind: Shift::Ror,
+                        rs: 3,
+                    },
+                },
+            ),
+            // movs r0, r1, lsr #32
+            (
+                0xE1B00021,
+                Op::Compute {
+                    cond,
+                    op: ComputeOp::Mov,
+                    set: true,
+                    rn: 0,
+                    rd: 0,
+                    operand: Operand::Fixed {
+                        rm: 1,
+                        kind: Shift::Lsr,
+                        amount: 0,
+                    },
+                },
+            ),
+            // tst r1, r2, asr #31
+            (
+                0xE1110FC2,
+                Op::Compare {
+                    cond,
+                    op: CompareOp::Tst,
+                    rn: 1,
+                    operand: Operand::Fixed {
+                        rm: 2,
+                        kind: Shift::Asr,
+                        amount: 31,
+                    },
+                },
+            ),
+            // mov r0, #5
+            (
+                0xE3A00005,
+                Op::Compute {
+                    cond,
+                    op: ComputeOp::Mov,
+                    set: false,
+                    rn: 0,
+                    rd: 0,
+                    operand: Operand::Turned { value: 5, turn: 0 },
+                },
+            ),
+            // cmn r1, #0xFF000000
+            (
+                0xE37104FF,
+                Op::Compare {
+                    cond,
+                    op: CompareOp::Cmn,
+                    rn: 1,
+                    operand: Operand::Turned {
+                        value: 0xFF,
+                        turn: 4,
+                    },
+                },
+            ),
+            // andeq r0, r0, r0
+            (
+                0x00000000,
+                Op::Compute {
+                    cond: Condition::Equal,
+                    op: ComputeOp::And,
+                    set: false,
+                    rn: 0,
+                    rd: 0,
+                    operand: Operand::Fixed {
+                        rm: 0,
+                        kind: Shift::Lsl,
+                        amount: 0,
+                    },
+                },
+            ),
+        ],
+    );
+}
+
+#[test]
+fn transfers_branches_and_interrupts_decode(rt: HostRuntime) {
+    let cond = Condition::Always;
+    decodes(
+        &rt,
+        &[
+            // ldr r0, [r1, #4]
+            (
+                0xE5910004,
+                Op::Transfer {
+                    cond,
+                    load: true,
+                    byte: false,
+                    pre: true,
+                    up: true,
+                    write: false,
+                    rn: 1,
+                    rd: 0,
+                    offset: TransferOffset::Number { value: 4 },
+                },
+            ),
+            // strb r0, [r1], #-0xFFF
+            (
+                0xE4410FFF,
+                Op::Transfer {
+                    cond,
+                    load: false,
+                    byte: true,
+                    pre: false,
+                    up: false,
+                    write: false,
+                    rn: 1,
+                    rd: 0,
+                    offset: TransferOffset::Number { value: 0xFFF },
+                },
+            ),
+            // ldr r0, [r1, r2, lsl #2]!
+            (
+                0xE7B10102,
+                Op::Transfer {
+                    cond,
+                    load: true,
+                    byte: false,
+                    pre: true,
+                    up: true,
+                    write: true,
+                    rn: 1,
+                    rd: 0,
+                    offset: TransferOffset::Shifted {
+                        rm: 2,
+                        kind: Shift::Lsl,
+                        amount: 2,
+                    },
+                },
+            ),
+            // stmdb r13!, {r0, r14}
+            (
+                0xE92D4001,
+                Op::Block {
+                    cond,
+                    load: false,
+                    pre: true,
+                    up: false,
+                    user: false,
+                    write: true,
+                    rn: 13,
+                    list: 0x4001,
+                },
+            ),
+            // ldmia r13, {r0-r15}^
+            (
+                0xE8DDFFFF,
+                Op::Block {
+                    cond,
+                    load: true,
+                    pre: false,
+                    up: true,
+                    user: true,
+                    write: false,
+                    rn: 13,
+                    list: 0xFFFF,
+                },
+            ),
+            // b to itself; bl to the next but one; the furthest branches
+            (
+                0xEAFFFFFE,
+                Op::Branch {
+                    cond,
+                    link: false,
+                    offset: -2,
+                },
+            ),
+            (
+                0xEB000000,
+                Op::Branch {
+                    cond,
+                    link: true,
+                    offset: 0,
+                },
+            ),
+            (
+                0xEA7FFFFF,
+                Op::Branch {
+                    cond,
+                    link: false,
+                    offset: 0x007F_FFFF,
+                },
+            ),
+            (
+                0xEA800000,
+                Op::Branch {
+                    cond,
+                    link: false,
+                    offset: -0x0080_0000,
+                },
+            ),
+            // swi 0x123456
+            (
+                0xEF123456,
+                Op::Interrupt {
+                    cond,
+                    comment: 0x123456,
+                },
+            ),
+            // the all-ones condition is a condition like the others
+            (
+                0xFAFFFFFE,
+                Op::Branch {
+                    cond: Condition::Never,
+                    link: false,
+                    offset: -2,
+                },
+            ),
+            (
+                0xFFFFFFFF,
+                Op::Interrupt {
+                    cond: Condition::Never,
+                    comment: 0xFFFFFF,
+                },
+            ),
+        ],
+    );
+}
+
+#[test]
+fn words_between_the_rows_decode_to_none(rt: HostRuntime) {
+    let words = [
+        // beside MUL and the long multiplies: bit 22 without bit 23, then bits 24 and 23
+        0xE0400090u32,
+        0xE1800090,
+        // beside SWP: bit 21 set, bit 20 set
+        0xE1200090,
+        0xE1100090,
+        // beside LDRSB and LDRSH: bit 20 clear
+        0xE00000D0,
+        0xE1C000F0,
+        // beside BX, MRS and MSR: TST to CMN without S, with a register
+        0xE1000010,
+        0xE1600010,
+        0xE1200030,
+        0xE1000020,
+        0xE1200080,
+        0xE16F0F70,
+        // TST and CMP without S, with a turned number
+        0xE3000000,
+        0xE3400000,
+        // beside the transfers: bit 4 with a register offset
+        0xE6000010,
+        0xE7F000F0,
+        // coprocessor words
+        0xEC000000,
+        0xED900000,
+        0xEE000000,
+        0xEE100010,
+    ];
+    for word in words {
+        assert_eq!(rt; decode(word), None, "the word {word:#010x}");
+    }
+}

@@ -1,5 +1,0 @@
-use Rattle.gba_console.proofs.Rises.{reaches}
-use Rattle.gba_console.proofs.laws.reaches.Goals as goal
-
-pub returns : goal.returns
-returns c = reaches

@@ -1,0 +1,4 @@
+pub mod FileLaws
+pub mod Kept
+pub mod Seats
+pub mod Views

@@ -1,0 +1,5 @@
+pub mod Arrangement
+pub mod Entry
+pub mod Modes
+pub mod RegisterFile
+pub mod Status

@@ -1,0 +1,16 @@
+#![tactic(auto)]
+//! The ARM7TDMI's registers with their banks, the status registers, and exception entry.
+//!
+//! Contracts see [`Registers`] as the list of the 37 numbers in the order of the register names.
+
+mod banks;
+mod condition;
+mod exceptions;
+pub mod laws;
+mod registers;
+#[cfg(test)]
+mod tests;
+
+pub use condition::Flags;
+pub use exceptions::Exception;
+pub use registers::Registers;

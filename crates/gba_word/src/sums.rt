@@ -1,0 +1,31 @@
+//! Adding with carry and overflow.
+
+ghost use Rattle.std.specs.Prelude.{◌≡◌};
+ghost use Rattle.gba_word.specs.Sums.{sum_of};
+
+use crate::bit;
+
+/// The sum of two words and a carry.
+#[derive(Clone, Copy, Debug, PartialEq, Eq)]
+pub struct Sum {
+    /// The sum modulo 2^32.
+    pub value: u32,
+    /// Whether the sum of the unsigned numbers left 32 bits.
+    pub carry: bool,
+    /// Whether the sum of the signed numbers left 32 bits.
+    pub overflow: bool,
+}
+
+/// `a` plus `b`, and 1 more where `carry` is set. A difference `a - b` is `add_carry(a, !b, true)`, and its carry is set
+/// where there is no borrow.
+pub fn add_carry(a: u32, b: u32, carry: bool) -> Sum
+    ensures { result ≡ sum_of a b carry }
+{
+    let whole = u64::from(a) + u64::from(b) + u64::from(carry);
+    let value = (whole % (1 << 32)) as u32;
+    Sum {
+        value,
+        carry: whole >= 1 << 32,
+        overflow: bit(a, 31) == bit(b, 31) && bit(value, 31) != bit(a, 31),
+    }
+}
