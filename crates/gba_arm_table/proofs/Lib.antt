@@ -1,2 +1,4 @@
 pub mod Branching
 pub mod Reading
+pub mod Packing
+pub mod RoundTrip

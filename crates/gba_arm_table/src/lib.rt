@@ -6,9 +6,12 @@ ghost use Rattle.gba_terms.specs.Bits.{field};
 ghost use Rattle.gba_arm_table.specs.Limits.{Fits};
 ghost use Rattle.gba_arm_table.specs.Table.{operation, operation_of};
 
+mod encode;
 mod fields;
 mod form;
+mod limits;
 mod operation;
+mod parts;
 
 use form::{Form, form_of};
 pub use operation::{
