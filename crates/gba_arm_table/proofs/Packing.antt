@@ -1,11 +1,11 @@
-use Rattle.std.proofs.Common.{ℕ, zero, suc, ◌+◌, ◌*◌, ◌-◌, ◌/◌, ◌%◌, ◌^◌, ◌<◌, ◌≤◌, ◌≡◌, ◌∙◌, ◌⊎◌, ap, sym, refl, subst, Bool, true, false, ◌&&◌, List, [], ◌∷◌, ◌++◌, arith, lit<, inl, inr, length, drop, get_or, add-one}
-use Rattle.std.proofs.Math.Path.{ap₂, fun_ext}
-use Rattle.std.proofs.Math.Nat.{mul_assoc, mul-add-div_right, mul-add-mod_self_right, mod-eq_of_lt, le-mul_of_pos_right}
+use Rattle.std.proofs.Common.{ℕ, ◌+◌, ◌*◌, ◌-◌, ◌/◌, ◌%◌, ◌^◌, ◌<◌, ◌≤◌, ◌≡◌, ◌∙◌, ap, sym, refl, subst, Bool, true, false, ◌&&◌, List, [], ◌∷◌, ◌++◌, arith, lit<, length, drop, get_or, add-one}
+use Rattle.std.proofs.Math.Path.{ap₂}
+use Rattle.std.proofs.Math.Nat.{mul-add-div_right, mul-add-mod_self_right, mod-eq_of_lt, le-mul_of_pos_right}
 use Rattle.std.proofs.lemmas.Bool.Decides.{nat_tests}
 use Rattle.std.proofs.Math.Seq.{drop-cons}
 use Rattle.std.proofs.Math.Pow.{pow_mono}
 use Rattle.std.proofs.lemmas.Nat.{pow-add, pow_pos, shr-shr, shr_high, shr_below, mod-pow-add, mod_below, mul-add-lt}
-use Rattle.std.specs.Prelude.{nat_le, nat_eq, ◌==◌}
+use Rattle.std.specs.Prelude.{nat_le, ◌==◌}
 use Rattle.gba_terms.specs.Bits.{field}
 use Rattle.gba_arm_table.specs.declared.parts.Part.{Part}
 use Rattle.gba_arm_table.specs.Diagrams.{widths, packed, part, operand_parts, source_parts, transfer_parts}
@@ -56,22 +56,27 @@ abbrev pub read : List Part → ℕ → ℕ → ℕ
 read [] low width = 0
 read (one ∷ rest) low width =
     elim (nat_le (low + width) (widths rest)) [
-      true ↦ read rest low width
-    | false ↦ elim (nat_le (widths rest) low) [
-        true ↦ elim (low == widths rest && width == one.width) [
-          true ↦ one.value % 2 ^ one.width
-        | false ↦ one.value % 2 ^ one.width / 2 ^ (low - widths rest) % 2 ^ width ]
-      | false ↦ one.value % 2 ^ one.width % 2 ^ (low + width - widths rest) * 2 ^ (widths rest - low)
-          + read rest low (widths rest - low) ] ]
+      | true ↦ read rest low width
+      | false ↦ elim (nat_le (widths rest) low) [
+        | true ↦ elim (low == widths rest && width == one.width) [
+          | true ↦ one.value % 2 ^ one.width
+          | false ↦ one.value % 2 ^ one.width / 2 ^ (low - widths rest) % 2 ^ width
+        ]
+        | false ↦ one.value % 2 ^ one.width % 2 ^ (low + width - widths rest) * 2 ^ (widths rest - low)
+            + read rest low (widths rest - low)
+      ]
+    ]
 
 -- one part more, v of w bits, above r of W bits
 field-step : (v w r W low width here later : ℕ) → v < 2 ^ w → r < 2 ^ W → field r low width ≡ here → field r low (W - low) ≡ later
     → (b1 b2 b3 : Bool) → nat_le (low + width) W ≡ b1 → nat_le W low ≡ b2 → (low == W && width == w) ≡ b3
     → field (v * 2 ^ W + r) low width ≡ elim b1 [
-      true ↦ here
-    | false ↦ elim b2 [
-        true ↦ elim b3 [ true ↦ v | false ↦ v / 2 ^ (low - W) % 2 ^ width ]
-      | false ↦ v % 2 ^ (low + width - W) * 2 ^ (W - low) + later ] ]
+      | true ↦ here
+      | false ↦ elim b2 [
+        | true ↦ elim b3 [ true ↦ v | false ↦ v / 2 ^ (low - W) % 2 ^ width ]
+        | false ↦ v % 2 ^ (low + width - W) * 2 ^ (W - low) + later
+      ]
+    ]
 field-step v w r W low width here later v_small r_small h l true b2 b3 e1 e2 e3 =
     let inside : low + width ≤ W = grind (arith, nat_tests) in
     let sum : W ≡ (W - (low + width)) + width + low = omega arith in
@@ -99,9 +104,9 @@ pub field-packed : (parts : List Part) (low width : ℕ) → field (packed parts
 field-packed [] low width = grind arith
 field-packed (one ∷ rest) low width =
     field-step (one.value % 2 ^ one.width) one.width (packed rest) (widths rest) low width
-        (read rest low width) (read rest low (widths rest - low))
-        (mod_below _ _ (pow_pos one.width)) (packed-small rest) (field-packed rest low width) (field-packed rest low (widths rest - low))
-        _ _ _ refl refl refl
+    (read rest low width) (read rest low (widths rest - low))
+    (mod_below _ _ (pow_pos one.width)) (packed-small rest) (field-packed rest low width) (field-packed rest low (widths rest - low))
+    _ _ _ refl refl refl
 
 -- ---- how the parts are put together one by one
 
@@ -121,7 +126,7 @@ pub Packs-step : (all : List Part) (word : ℕ) (one : Part) (rest : List Part) 
     → Packs all (word * 2 ^ one.width + one.value % 2 ^ one.width) rest
 Packs-step all word one rest h =
     let shifted : word * 2 ^ (one.width + widths rest) ≡ word * 2 ^ one.width * 2 ^ widths rest =
-        rw (pow-add 2 one.width (widths rest)) (grind arith) in
+    rw (pow-add 2 one.width (widths rest)) (grind arith) in
     ((grind (arith, shifted)), omega arith, h.2)
 
 pub Packs-next : (all : List Part) (i word : ℕ) (d : Part) (value : ℕ) → i < length all → Packs all word (drop i all)

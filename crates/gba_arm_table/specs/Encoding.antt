@@ -1,6 +1,6 @@
 use Rattle.std.specs.Prelude.{ℕ, Result, Ok, Err, if◌then◌else◌}
-use Rattle.gba_arm_table.specs.declared.encode.EncodeError.{EncodeError}
-use Rattle.gba_arm_table.specs.declared.encode.EncodeError.TheVariants.{Immediate, Offset, Register}
+use Rattle.gba_arm_table.specs.declared.encoding.EncodeError.{EncodeError}
+use Rattle.gba_arm_table.specs.declared.encoding.EncodeError.TheVariants.{Immediate, Offset, Register}
 use Rattle.gba_arm_table.specs.declared.operation.ArmOp.{ArmOp}
 use Rattle.gba_arm_table.specs.Limits.{within, registers_of, immediates_of, offsets_of}
 use Rattle.gba_arm_table.specs.Diagrams.{packed, diagram}
@@ -9,7 +9,7 @@ use Rattle.gba_arm_table.specs.Diagrams.{packed, diagram}
 abbrev pub encoding : ArmOp → Result ℕ EncodeError
 encoding op =
     if within (registers_of op) then
-        (if within (immediates_of op) then
-            (if within (offsets_of op) then Ok (packed (diagram op)) else Err Offset)
-        else Err Immediate)
+    (if within (immediates_of op) then
+    (if within (offsets_of op) then Ok (packed (diagram op)) else Err Offset)
+    else Err Immediate)
     else Err Register

@@ -2,8 +2,19 @@
 
 ghost use Rattle.std.specs.Prelude.{◌≡◌};
 ghost use Rattle.gba_arm_table.specs.Limits.{
-    half_offsets, half_registers, immediates_of, offsets_of, operand_immediates, operand_registers, registers_of,
-    source_immediates, source_registers, transfer_immediates, transfer_offsets, transfer_registers, within
+  half_offsets,
+  half_registers,
+  immediates_of,
+  offsets_of,
+  operand_immediates,
+  operand_registers,
+  registers_of,
+  source_immediates,
+  source_registers,
+  transfer_immediates,
+  transfer_offsets,
+  transfer_registers,
+  within,
 };
 
 use crate::operation::{ArmOp, HalfOffset, Operand, Source, TransferOffset};
@@ -19,9 +30,16 @@ pub fn registers_fit(op: ArmOp) -> bool
         ArmOp::Half { rn, rd, offset, .. } => rn < 16 && rd < 16 && half_registers_fit(offset),
         ArmOp::ReadStatus { rd, .. } => rd < 16,
         ArmOp::WriteStatus { source, .. } => source_registers_fit(source),
-        ArmOp::Compute { rn, rd, operand, .. } => rn < 16 && rd < 16 && operand_registers_fit(operand),
+        ArmOp::Compute {
+            rn,
+            rd,
+            operand,
+            ..
+        } => rn < 16 && rd < 16 && operand_registers_fit(operand),
         ArmOp::Compare { rn, operand, .. } => rn < 16 && operand_registers_fit(operand),
-        ArmOp::Transfer { rn, rd, offset, .. } => rn < 16 && rd < 16 && transfer_registers_fit(offset),
+        ArmOp::Transfer { rn, rd, offset, .. } => rn < 16
+            && rd < 16
+            && transfer_registers_fit(offset),
         ArmOp::Block { rn, .. } => rn < 16,
         ArmOp::Branch { .. } | ArmOp::Interrupt { .. } => true,
     }
@@ -69,7 +87,9 @@ pub fn immediates_fit(op: ArmOp) -> bool
 {
     match op {
         ArmOp::WriteStatus { fields, source, .. } => fields < 16 && source_immediates_fit(source),
-        ArmOp::Compute { operand, .. } | ArmOp::Compare { operand, .. } => operand_immediates_fit(operand),
+        ArmOp::Compute { operand, .. } | ArmOp::Compare { operand, .. } => operand_immediates_fit(
+            operand,
+        ),
         ArmOp::Transfer { offset, .. } => transfer_immediates_fit(offset),
         ArmOp::Interrupt { comment, .. } => comment < 0x0100_0000,
         _ => true,
@@ -108,8 +128,14 @@ pub fn offsets_fit(op: ArmOp) -> bool
     ensures { result ≡ within (offsets_of op) }
 {
     match op {
-        ArmOp::Half { offset: HalfOffset::Number { value }, .. } => value < 256,
-        ArmOp::Transfer { offset: TransferOffset::Number { value }, .. } => value < 4096,
+        ArmOp::Half {
+            offset: HalfOffset::Number { value },
+            ..
+        } => value < 256,
+        ArmOp::Transfer {
+            offset: TransferOffset::Number { value },
+            ..
+        } => value < 4096,
         ArmOp::Branch { offset, .. } => -0x0080_0000 <= offset && offset < 0x0080_0000,
         _ => true,
     }

@@ -1,5 +1,4 @@
-use Rattle.std.proofs.Common.{arith, ap, ◌∙◌, ◌%◌, ◌^◌, ◌+◌, ◌*◌, rules, subst, sym, drop}
-use Rattle.gba_arm_table.specs.Diagrams.{packed, widths}
+use Rattle.std.proofs.Common.{◌∙◌, ◌+◌, rules, subst, sym, drop}
 use Rattle.gba_arm_table.proofs.Packing.{Packs, Packs-next, Packs-small}
 use Rattle.gba_arm_table.proofs.parts.packed.Goals as goal
 

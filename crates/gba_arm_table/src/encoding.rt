@@ -2,12 +2,31 @@
 
 ghost use Rattle.std.specs.Prelude.{◌≡◌, IfOk, Some};
 ghost use Rattle.gba_arm_table.specs.Diagrams.{
-    condition_part, diagram, flag_part, half_code, half_high, half_low, is_load, is_number, is_shifted, is_turned,
-    is_turned_source, operand_parts, packed, part, processing_parts, source_parts, transfer_parts
+  condition_part,
+  diagram,
+  flag_part,
+  half_code,
+  half_high,
+  half_low,
+  is_load,
+  is_number,
+  is_shifted,
+  is_turned,
+  is_turned_source,
+  operand_parts,
+  packed,
+  part,
+  processing_parts,
+  source_parts,
+  transfer_parts,
 };
 ghost use Rattle.gba_arm_table.specs.Encoding.{encoding};
 ghost use Rattle.gba_arm_table.specs.Numbers.{
-    compare_number, compute_number, condition_number, flag_number, shift_number
+  compare_number,
+  compute_number,
+  condition_number,
+  flag_number,
+  shift_number,
 };
 ghost use Rattle.gba_arm_table.specs.Table.{operation};
 
@@ -32,6 +51,7 @@ pub enum EncodeError {
 /// first, then a number that is neither a register nor an offset, then an offset.
 pub fn encode(op: &ArmOp) -> Result<u32, EncodeError>
     ensures encoding { result ≡ encoding op.now }
+    ensures round_trip { IfOk result (λ word. operation word ≡ Some op.now) }
 {
     if !registers_fit(*op) {
         return Err(EncodeError::Register);
@@ -50,26 +70,84 @@ fn word_of(op: ArmOp) -> u32
 {
     match op {
         ArmOp::Exchange { cond, rm } => exchange(cond, rm),
-        ArmOp::Multiply { cond, accumulate, set, rd, rn, rs, rm } => {
-            multiply(cond, accumulate, set, rd, rn, rs, rm)
-        },
-        ArmOp::MultiplyLong { cond, signed, accumulate, set, hi, lo, rs, rm } => {
-            multiply_long(cond, signed, accumulate, set, hi, lo, rs, rm)
-        },
-        ArmOp::Swap { cond, byte, rn, rd, rm } => swap(cond, byte, rn, rd, rm),
-        ArmOp::Half { cond, kind, pre, up, write, rn, rd, offset } => {
-            half(cond, kind, pre, up, write, rn, rd, offset)
-        },
+        ArmOp::Multiply {
+            cond,
+            accumulate,
+            set,
+            rd,
+            rn,
+            rs,
+            rm,
+        } => { multiply(cond, accumulate, set, rd, rn, rs, rm) },
+        ArmOp::MultiplyLong {
+            cond,
+            signed,
+            accumulate,
+            set,
+            hi,
+            lo,
+            rs,
+            rm,
+        } => { multiply_long(cond, signed, accumulate, set, hi, lo, rs, rm) },
+        ArmOp::Swap {
+            cond,
+            byte,
+            rn,
+            rd,
+            rm,
+        } => swap(cond, byte, rn, rd, rm),
+        ArmOp::Half {
+            cond,
+            kind,
+            pre,
+            up,
+            write,
+            rn,
+            rd,
+            offset,
+        } => { half(cond, kind, pre, up, write, rn, rd, offset) },
         ArmOp::ReadStatus { cond, saved, rd } => read_status(cond, saved, rd),
-        ArmOp::WriteStatus { cond, saved, fields, source } => write_status(cond, saved, fields, source),
-        ArmOp::Compute { cond, op, set, rn, rd, operand } => processing(cond, op as u32, set, rn, rd, operand),
-        ArmOp::Compare { cond, op, rn, operand } => processing(cond, op as u32, true, rn, 0, operand),
-        ArmOp::Transfer { cond, load, byte, pre, up, write, rn, rd, offset } => {
-            transfer(cond, load, byte, pre, up, write, rn, rd, offset)
-        },
-        ArmOp::Block { cond, load, pre, up, user, write, rn, list } => {
-            block(cond, load, pre, up, user, write, rn, list)
-        },
+        ArmOp::WriteStatus {
+            cond,
+            saved,
+            fields,
+            source,
+        } => write_status(cond, saved, fields, source),
+        ArmOp::Compute {
+            cond,
+            op,
+            set,
+            rn,
+            rd,
+            operand,
+        } => processing(cond, op as u32, set, rn, rd, operand),
+        ArmOp::Compare {
+            cond,
+            op,
+            rn,
+            operand,
+        } => processing(cond, op as u32, true, rn, 0, operand),
+        ArmOp::Transfer {
+            cond,
+            load,
+            byte,
+            pre,
+            up,
+            write,
+            rn,
+            rd,
+            offset,
+        } => { transfer(cond, load, byte, pre, up, write, rn, rd, offset) },
+        ArmOp::Block {
+            cond,
+            load,
+            pre,
+            up,
+            user,
+            write,
+            rn,
+            list,
+        } => { block(cond, load, pre, up, user, write, rn, list) },
         ArmOp::Branch { cond, link, offset } => branch(cond, link, offset),
         ArmOp::Interrupt { cond, comment } => interrupt(cond, comment),
     }
@@ -108,7 +186,13 @@ fn shift_kind(kind: Shift) -> Part
 fn exchange(cond: Condition, rm: u8) -> u32
     ensures { result ≡ packed (diagram (ArmOp.Exchange cond rm)) }
 {
-    packed(&[condition(cond), part(8, 0x12), part(12, 0xFFF), part(4, 1), nibble(rm)])
+    packed(&[
+        condition(cond),
+        part(8, 0x12),
+        part(12, 0xFFF),
+        part(4, 1),
+        nibble(rm),
+    ])
 }
 
 fn multiply(cond: Condition, accumulate: bool, set: bool, rd: u8, rn: u8, rs: u8, rm: u8) -> u32
@@ -127,7 +211,16 @@ fn multiply(cond: Condition, accumulate: bool, set: bool, rd: u8, rn: u8, rs: u8
     ])
 }
 
-fn multiply_long(cond: Condition, signed: bool, accumulate: bool, set: bool, hi: u8, lo: u8, rs: u8, rm: u8) -> u32
+fn multiply_long(
+    cond: Condition,
+    signed: bool,
+    accumulate: bool,
+    set: bool,
+    hi: u8,
+    lo: u8,
+    rs: u8,
+    rm: u8,
+) -> u32
     ensures { result ≡ packed (diagram (ArmOp.MultiplyLong cond signed accumulate set hi lo rs rm)) }
 {
     packed(&[
@@ -283,10 +376,21 @@ fn operand_bits(operand: Operand) -> u32
     match operand {
         Operand::Turned { value, turn } => packed(&[nibble(turn), part(8, u32::from(value))]),
         Operand::Fixed { rm, kind, amount } => {
-            packed(&[part(5, u32::from(amount)), shift_kind(kind), part(1, 0), nibble(rm)])
+            packed(&[
+                part(5, u32::from(amount)),
+                shift_kind(kind),
+                part(1, 0),
+                nibble(rm),
+            ])
         },
         Operand::ByRegister { rm, kind, rs } => {
-            packed(&[nibble(rs), part(1, 0), shift_kind(kind), part(1, 1), nibble(rm)])
+            packed(&[
+                nibble(rs),
+                part(1, 0),
+                shift_kind(kind),
+                part(1, 1),
+                nibble(rm),
+            ])
         },
     }
 }
@@ -334,12 +438,26 @@ fn offset_bits(offset: TransferOffset) -> u32
     match offset {
         TransferOffset::Number { value } => packed(&[part(12, value)]),
         TransferOffset::Shifted { rm, kind, amount } => {
-            packed(&[part(5, u32::from(amount)), shift_kind(kind), part(1, 0), nibble(rm)])
+            packed(&[
+                part(5, u32::from(amount)),
+                shift_kind(kind),
+                part(1, 0),
+                nibble(rm),
+            ])
         },
     }
 }
 
-fn block(cond: Condition, load: bool, pre: bool, up: bool, user: bool, write: bool, rn: u8, list: u16) -> u32
+fn block(
+    cond: Condition,
+    load: bool,
+    pre: bool,
+    up: bool,
+    user: bool,
+    write: bool,
+    rn: u8,
+    list: u16,
+) -> u32
     ensures { result ≡ packed (diagram (ArmOp.Block cond load pre up user write rn list)) }
 {
     packed(&[
@@ -358,7 +476,12 @@ fn block(cond: Condition, load: bool, pre: bool, up: bool, user: bool, write: bo
 fn branch(cond: Condition, link: bool, offset: i32) -> u32
     ensures { result ≡ packed (diagram (ArmOp.Branch cond link offset)) }
 {
-    packed(&[condition(cond), part(3, 5), flag(link), part(24, offset.cast_unsigned())])
+    packed(&[
+        condition(cond),
+        part(3, 5),
+        flag(link),
+        part(24, offset.cast_unsigned()),
+    ])
 }
 
 fn interrupt(cond: Condition, comment: u32) -> u32

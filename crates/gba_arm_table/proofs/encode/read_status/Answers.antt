@@ -1,4 +1,0 @@
-use Rattle.gba_arm_table.proofs.encode.read_status.Goals as goal
-
-pub returns : goal.returns
-returns c = cc
