@@ -1,4 +1,4 @@
-use Rattle.std.specs.Prelude.{ℕ, ◌+◌, ◌*◌, ◌/◌, ◌%◌, ◌^◌, Bool, true, false, List, [], ◌∷◌}
+use Rattle.std.specs.Prelude.{ℕ, ◌+◌, ◌*◌, ◌/◌, ◌%◌, ◌^◌, Bool, true, false, ◌&&◌, ◌==◌, List, [], ◌∷◌}
 use Rattle.std.specs.Int.{cast_unsigned, w32}
 use Rattle.gba_arm_table.specs.declared.operation.ArmOp.{ArmOp}
 use Rattle.gba_arm_table.specs.declared.operation.ArmOp.TheVariants as op
@@ -14,6 +14,7 @@ use Rattle.gba_arm_table.specs.declared.operation.Source.TheVariants as source
 use Rattle.gba_arm_table.specs.declared.operation.TransferOffset.{TransferOffset}
 use Rattle.gba_arm_table.specs.declared.operation.TransferOffset.TheVariants as transfer_offset
 use Rattle.gba_arm_table.specs.declared.parts.Part.{Part}
+use Rattle.gba_arm_table.specs.Fields.{Bits}
 use Rattle.gba_arm_table.specs.Numbers.{condition_number, compute_number, compare_number, shift_number, flag_number}
 
 -- The word of each operation as the manual draws it (ARM Architecture Reference Manual, A3 to A5): its parts from bit
@@ -133,3 +134,21 @@ diagram (op.Block cond load pre up user write rn list) =
     ∷ part 4 rn ∷ part 16 list ∷ []
 diagram (op.Branch cond link offset) = condition_part cond ∷ part 3 5 ∷ flag_part link ∷ part 24 (cast_unsigned w32 offset) ∷ []
 diagram (op.Interrupt cond comment) = condition_part cond ∷ part 4 15 ∷ part 24 comment ∷ []
+
+-- whether the bits of a word that should be one or zero are, where no field of the operation names them (A4.1, A5.3)
+abbrev pub has_manual_half : HalfOffset → Bits → Bool
+has_manual_half (half_offset.Number value) bits = true
+has_manual_half (half_offset.Plain rm) bits = bits 8 4 == 0
+
+abbrev pub has_manual_source : Source → Bits → Bool
+has_manual_source (source.Turned value turn) bits = true
+has_manual_source (source.Plain rm) bits = bits 8 4 == 0
+
+abbrev pub has_manual_bits : ArmOp → Bits → Bool
+has_manual_bits (op.Exchange cond rm) bits = bits 8 12 == 0xFFF
+has_manual_bits (op.Swap cond byte rn rd rm) bits = bits 8 4 == 0
+has_manual_bits (op.Half cond kind pre up write rn rd offset) bits = has_manual_half offset bits
+has_manual_bits (op.ReadStatus cond saved rd) bits = bits 16 4 == 15 && bits 0 12 == 0
+has_manual_bits (op.WriteStatus cond saved fields source) bits = bits 12 4 == 15 && has_manual_source source bits
+has_manual_bits (op.Compare cond op rn operand) bits = bits 12 4 == 0
+has_manual_bits _ bits = true
