@@ -31,7 +31,7 @@ use Rattle.std.specs.Prelude.{ℤ, pos, negsuc}
 use Rattle.gba_arm_table.specs.Numbers.{condition_of, condition_number, compute_of, compute_number, compare_of, compare_number, shift_of, shift_number, signed_of, flag_number}
 use Rattle.gba_arm_table.specs.Table.{operation, operation_of}
 use Rattle.gba_arm_table.specs.Branches.{branched}
-use Rattle.gba_arm_table.specs.Diagrams.{packed, diagram}
+use Rattle.gba_arm_table.specs.Diagrams.{packed, diagram, has_manual_bits}
 use Rattle.gba_arm_table.specs.Encoding.{encoding}
 use Rattle.gba_arm_table.specs.declared.encoding.EncodeError.{EncodeError}
 use Rattle.gba_arm_table.proofs.Reading.{operation-Fits}
@@ -63,13 +63,15 @@ flag-back : (set : Bool) → (flag_number set % 2 == 1) ≡ set
 flag-back true = refl
 flag-back false = refl
 
+field-read : (parts : List Part) → field (packed parts) ≡ read parts
+field-read parts = fun_ext (λ low. fun_ext (λ width. field-packed parts low width))
+
 -- the operation of a word is computed from its parts
 operation-packed : (parts : List Part) → operation (packed parts) ≡ operation_of (branched (read parts)) (read parts)
 unfolding operation
 operation-packed parts =
-    let same : field (packed parts) ≡ read parts = fun_ext (λ low. fun_ext (λ width. field-packed parts low width)) in
     ap (λ form. operation_of form (field (packed parts))) (form_in-rows (packed parts))
-    ∙ ap (λ bits. operation_of (branched bits) bits) same
+    ∙ ap (λ bits. operation_of (branched bits) bits) (field-read parts)
 
 compute-apart : (o : ComputeOp) → (compute_number o % 16 / 4 == 2) ≡ false
 compute-apart And = refl
@@ -271,3 +273,21 @@ encoding-back o h =
 -- the operation of a word is encoded as a word that decodes to it
 pub operation-again : (word : ℕ) → IfSome (operation word) (λ o. IsOkAnd (encoding o) (λ again. operation again ≡ Some o))
 operation-again word = IfSome_then (operation word) (operation-Fits word) encoding-back
+
+-- ---- bits that should be one or zero
+
+manual-read : (o : ArmOp) → has_manual_bits o (read (diagram o)) ≡ true
+manual-read (op.Exchange cond rm) = refl
+manual-read (op.Swap cond byte rn rd rm) = refl
+manual-read (op.Half cond kind pre up write rn rd (half_offset.Number value)) = refl
+manual-read (op.Half cond kind pre up write rn rd (half_offset.Plain rm)) = refl
+manual-read (op.ReadStatus cond saved rd) = refl
+manual-read (op.WriteStatus cond saved fields (source.Turned value turn)) = refl
+manual-read (op.WriteStatus cond saved fields (source.Plain rm)) = refl
+manual-read (op.Compare cond o rn (operand.Turned value turn)) = refl
+manual-read (op.Compare cond o rn (operand.Fixed rm kind amount)) = refl
+manual-read (op.Compare cond o rn (operand.ByRegister rm kind rs)) = refl
+manual-read _ = refl
+
+pub manual-diagram : (o : ArmOp) → has_manual_bits o (field (packed (diagram o))) ≡ true
+manual-diagram o = ap (has_manual_bits o) (field-read (diagram o)) ∙ manual-read o

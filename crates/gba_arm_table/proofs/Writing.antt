@@ -1,4 +1,4 @@
-use Rattle.std.proofs.Common.{ℕ, ◌+◌, ◌*◌, ◌-◌, ◌/◌, ◌%◌, ◌^◌, ◌<◌, ◌≤◌, ◌≡◌, ◌∙◌, ap, sym, refl, Bool, true, false, ◌&&◌, arith}
+use Rattle.std.proofs.Common.{ℕ, ◌+◌, ◌*◌, ◌-◌, ◌/◌, ◌%◌, ◌^◌, ◌<◌, ◌≡◌, ◌∙◌, ap, sym, refl, Bool, true, false, ◌&&◌, arith}
 use Rattle.std.proofs.lemmas.Bool.{eqb-true}
 use Rattle.std.proofs.lemmas.Bool.Decides.{nat_tests}
 use Rattle.std.specs.Prelude.{Option, Some, None, Ok, IfSome, nat_lt, pos, negsuc, if◌then◌else◌, nat_eq, ◌==◌}
@@ -13,9 +13,8 @@ use Rattle.gba_arm_table.specs.declared.operation.Operand.{Operand}
 use Rattle.gba_arm_table.specs.declared.operation.HalfOffset.TheVariants as half_offset
 use Rattle.std.specs.Int.{cast_unsigned, w32}
 use Rattle.gba_arm_table.specs.Numbers.{signed_of, condition_of, condition_number, compute_of, compute_number, compare_of, compare_number, shift_of, shift_number, flag_number}
-use Rattle.gba_arm_table.specs.Fields.{Bits, flag, condition, exchange, multiply, multiply_long, swap, half, half_offset_of, unsigned_half_kind, read_status, write_status, plain_source, turned_source, is_compare, compare, compute, processing, by_register, fixed, turned, transfer, number_offset, shifted_offset, block, branch, interrupt}
+use Rattle.gba_arm_table.specs.Fields.{flag, condition, exchange, multiply, multiply_long, swap, half, read_status, write_status, plain_source, turned_source, is_compare, compare, compute, processing, by_register, fixed, turned, transfer, number_offset, shifted_offset, block, branch, interrupt}
 use Rattle.gba_arm_table.specs.Table.{rows, form_in, operation, operation_of}
-use Rattle.gba_arm_table.specs.Branches.{branched}
 use Rattle.gba_arm_table.specs.Diagrams.{packed, diagram, processing_parts, has_manual_bits, has_manual_half, is_load, half_code}
 use Rattle.gba_arm_table.specs.Encoding.{encoding}
 use Rattle.gba_arm_table.specs.Limits.{Fits}
@@ -125,15 +124,19 @@ multiply-there word small s m =
     let high : field word 20 8 / 4 ≡ 0 = grind (arith, nat_tests) in
     let low : field word 4 4 ≡ 9 = grind (arith, nat_tests) in
     rw (condition-there (field word 28 4) (omega arith), flag-there (field word 21 1) (omega arith), flag-there (field word 20 1) (omega arith))
-        (omega arith)
+    (omega arith)
 
 multiply_long-there : (word : ℕ) → word < 2 ^ 32 → Settled form.MultiplyLong word → Writes word (multiply_long (field word))
 multiply_long-there word small s m =
     let high : field word 20 8 / 8 ≡ 1 = grind (arith, nat_tests) in
     let low : field word 4 4 ≡ 9 = grind (arith, nat_tests) in
-    rw (condition-there (field word 28 4) (omega arith), flag-there (field word 22 1) (omega arith), flag-there (field word 21 1) (omega arith),
-        flag-there (field word 20 1) (omega arith))
-        (omega arith)
+    rw (
+      condition-there (field word 28 4) (omega arith),
+      flag-there (field word 22 1) (omega arith),
+      flag-there (field word 21 1) (omega arith),
+      flag-there (field word 20 1) (omega arith),
+    )
+    (omega arith)
 
 swap-there : (word : ℕ) → word < 2 ^ 32 → Settled form.Swap word → Writes word (swap (field word))
 swap-there word small s m =
@@ -146,27 +149,39 @@ swap-there word small s m =
 half_number-there : (kind : HalfKind) (word : ℕ) → word < 2 ^ 32 → field word 25 3 ≡ 0 → field word 7 1 ≡ 1 → field word 4 1 ≡ 1
     → flag_number (is_load kind) ≡ field word 20 1 → half_code kind ≡ field word 5 2 → field word 22 1 ≡ 1
     → packed (diagram (op.Half (condition (field word)) kind (flag (field word) 24) (flag (field word) 23) (flag (field word) 21)
-        (field word 16 4) (field word 12 4) (half_offset.Number (field word 8 4 * 16 + field word 0 4)))) ≡ word
+    (field word 16 4) (field word 12 4) (half_offset.Number (field word 8 4 * 16 + field word 0 4)))) ≡ word
 half_number-there kind word small h25 h7 h4 load code number =
-    rw (condition-there (field word 28 4) (omega arith), flag-there (field word 24 1) (omega arith), flag-there (field word 23 1) (omega arith),
-        flag-there (field word 21 1) (omega arith), load, code)
-        (omega arith)
+    rw (
+      condition-there (field word 28 4) (omega arith),
+      flag-there (field word 24 1) (omega arith),
+      flag-there (field word 23 1) (omega arith),
+      flag-there (field word 21 1) (omega arith),
+      load,
+      code,
+    )
+    (omega arith)
 
 half_plain-there : (kind : HalfKind) (word : ℕ) → word < 2 ^ 32 → field word 25 3 ≡ 0 → field word 7 1 ≡ 1 → field word 4 1 ≡ 1
     → flag_number (is_load kind) ≡ field word 20 1 → half_code kind ≡ field word 5 2 → field word 22 1 ≡ 0 → field word 8 4 ≡ 0
     → packed (diagram (op.Half (condition (field word)) kind (flag (field word) 24) (flag (field word) 23) (flag (field word) 21)
-        (field word 16 4) (field word 12 4) (half_offset.Plain (field word 0 4)))) ≡ word
+    (field word 16 4) (field word 12 4) (half_offset.Plain (field word 0 4)))) ≡ word
 half_plain-there kind word small h25 h7 h4 load code plain zeros =
-    rw (condition-there (field word 28 4) (omega arith), flag-there (field word 24 1) (omega arith), flag-there (field word 23 1) (omega arith),
-        flag-there (field word 21 1) (omega arith), load, code)
-        (omega arith)
+    rw (
+      condition-there (field word 28 4) (omega arith),
+      flag-there (field word 24 1) (omega arith),
+      flag-there (field word 23 1) (omega arith),
+      flag-there (field word 21 1) (omega arith),
+      load,
+      code,
+    )
+    (omega arith)
 
 half-cases : (kind : HalfKind) (word : ℕ) → word < 2 ^ 32 → field word 25 3 ≡ 0 → field word 7 1 ≡ 1 → field word 4 1 ≡ 1
     → flag_number (is_load kind) ≡ field word 20 1 → half_code kind ≡ field word 5 2 → (b : Bool) → flag (field word) 22 ≡ b
     → (let offset = if b then half_offset.Number (field word 8 4 * 16 + field word 0 4) else half_offset.Plain (field word 0 4) in
-        has_manual_half offset (field word) ≡ true
-        → packed (diagram (op.Half (condition (field word)) kind (flag (field word) 24) (flag (field word) 23) (flag (field word) 21)
-            (field word 16 4) (field word 12 4) offset)) ≡ word)
+    has_manual_half offset (field word) ≡ true
+    → packed (diagram (op.Half (condition (field word)) kind (flag (field word) 24) (flag (field word) 23) (flag (field word) 21)
+    (field word 16 4) (field word 12 4) offset)) ≡ word)
 half-cases kind word small h25 h7 h4 load code true b m = half_number-there kind word small h25 h7 h4 load code (eqb-true _ _ b)
 half-cases kind word small h25 h7 h4 load code false b m =
     let clear : field word 22 1 ≡ 0 = grind (arith, nat_tests) in
@@ -232,25 +247,43 @@ write_turned-there word small s m =
 number-there : (word : ℕ) → word < 2 ^ 32 → Settled form.TransferNumber word → Writes word (transfer (number_offset (field word)) (field word))
 number-there word small s m =
     let high : field word 20 8 / 32 ≡ 2 = grind (arith, nat_tests) in
-    rw (condition-there (field word 28 4) (omega arith), flag-there (field word 24 1) (omega arith), flag-there (field word 23 1) (omega arith),
-        flag-there (field word 22 1) (omega arith), flag-there (field word 21 1) (omega arith), flag-there (field word 20 1) (omega arith))
-        (omega arith)
+    rw (
+      condition-there (field word 28 4) (omega arith),
+      flag-there (field word 24 1) (omega arith),
+      flag-there (field word 23 1) (omega arith),
+      flag-there (field word 22 1) (omega arith),
+      flag-there (field word 21 1) (omega arith),
+      flag-there (field word 20 1) (omega arith),
+    )
+    (omega arith)
 
 shifted-there : (word : ℕ) → word < 2 ^ 32 → Settled form.TransferShifted word → Writes word (transfer (shifted_offset (field word)) (field word))
 shifted-there word small s m =
     let high : field word 20 8 / 32 ≡ 3 = grind (arith, nat_tests) in
     let low : field word 4 4 % 2 ≡ 0 = grind (arith, nat_tests) in
-    rw (condition-there (field word 28 4) (omega arith), flag-there (field word 24 1) (omega arith), flag-there (field word 23 1) (omega arith),
-        flag-there (field word 22 1) (omega arith), flag-there (field word 21 1) (omega arith), flag-there (field word 20 1) (omega arith),
-        shift-there (field word 5 2) (omega arith))
-        (omega arith)
+    rw (
+      condition-there (field word 28 4) (omega arith),
+      flag-there (field word 24 1) (omega arith),
+      flag-there (field word 23 1) (omega arith),
+      flag-there (field word 22 1) (omega arith),
+      flag-there (field word 21 1) (omega arith),
+      flag-there (field word 20 1) (omega arith),
+      shift-there (field word 5 2) (omega arith),
+    )
+    (omega arith)
 
 block-there : (word : ℕ) → word < 2 ^ 32 → Settled form.Block word → Writes word (block (field word))
 block-there word small s m =
     let high : field word 20 8 / 32 ≡ 4 = grind (arith, nat_tests) in
-    rw (condition-there (field word 28 4) (omega arith), flag-there (field word 24 1) (omega arith), flag-there (field word 23 1) (omega arith),
-        flag-there (field word 22 1) (omega arith), flag-there (field word 21 1) (omega arith), flag-there (field word 20 1) (omega arith))
-        (omega arith)
+    rw (
+      condition-there (field word 28 4) (omega arith),
+      flag-there (field word 24 1) (omega arith),
+      flag-there (field word 23 1) (omega arith),
+      flag-there (field word 22 1) (omega arith),
+      flag-there (field word 21 1) (omega arith),
+      flag-there (field word 20 1) (omega arith),
+    )
+    (omega arith)
 
 signed-cases : (n : ℕ) → n < 2 ^ 24 → (b : Bool) → nat_lt n (2 ^ 23) ≡ b
     → cast_unsigned w32 (if b then pos n else negsuc (2 ^ 24 - 1 - n)) % 2 ^ 24 ≡ n
@@ -264,7 +297,7 @@ branch-there : (word : ℕ) → word < 2 ^ 32 → Settled form.Branch word → W
 branch-there word small s m =
     let high : field word 20 8 / 32 ≡ 5 = grind (arith, nat_tests) in
     rw (condition-there (field word 28 4) (omega arith), flag-there (field word 24 1) (omega arith), signed-there (field word 0 24) (omega arith))
-        (omega arith)
+    (omega arith)
 
 interrupt-there : (word : ℕ) → word < 2 ^ 32 → Settled form.Interrupt word → Writes word (interrupt (field word))
 interrupt-there word small s m =
@@ -304,13 +337,13 @@ processing-there : (word : ℕ) (operand : Operand) → Processes word operand �
     → Writes word (processing operand (field word))
 processing-there word operand writes s =
     either-there (Writes word) (is_compare (field word)) (compare operand (field word)) (compute operand (field word))
-        (λ is m. writes (compare_number (compare_of (field word 21 4))) 0 true (compare-there (field word 21 4) (omega arith) is)
-            (sym (sets-there (field word 20 8) (field word 21 4) (omega arith) s is) ∙ omega arith)
-            (sym (eqb-true _ _ m)))
-        (λ is_not m. writes (compute_number (compute_of (field word 21 4))) (field word 12 4) (flag (field word) 20)
-            (compute-there (field word 21 4) (omega arith) is_not)
-            (flag-there (field word 20 1) (omega arith))
-            refl)
+    (λ is m. writes (compare_number (compare_of (field word 21 4))) 0 true (compare-there (field word 21 4) (omega arith) is)
+    (sym (sets-there (field word 20 8) (field word 21 4) (omega arith) s is) ∙ omega arith)
+    (sym (eqb-true _ _ m)))
+    (λ is_not m. writes (compute_number (compute_of (field word 21 4))) (field word 12 4) (flag (field word) 20)
+    (compute-there (field word 21 4) (omega arith) is_not)
+    (flag-there (field word 20 1) (omega arith))
+    refl)
 
 form-there : (f : Form) (word : ℕ) → word < 2 ^ 32 → Settled f word → IfSome (operation_of f (field word)) (Writes word)
 form-there form.Exchange word small s = exchange-there word small s

@@ -1,6 +1,7 @@
 //! The word of an operation.
 
-ghost use Rattle.std.specs.Prelude.{◌≡◌, IfOk, Some};
+ghost use Rattle.std.specs.Prelude.{◌≡◌, IfOk, IsTrue, Some};
+ghost use Rattle.gba_terms.specs.Bits.{field};
 ghost use Rattle.gba_arm_table.specs.Diagrams.{
   condition_part,
   diagram,
@@ -8,6 +9,7 @@ ghost use Rattle.gba_arm_table.specs.Diagrams.{
   half_code,
   half_high,
   half_low,
+  has_manual_bits,
   is_load,
   is_number,
   is_shifted,
@@ -52,6 +54,7 @@ pub enum EncodeError {
 pub fn encode(op: &ArmOp) -> Result<u32, EncodeError>
     ensures encoding { result ≡ encoding op.now }
     ensures round_trip { IfOk result (λ word. operation word ≡ Some op.now) }
+    ensures manual_bits { IfOk result (λ word. IsTrue (has_manual_bits op.now (field word))) }
 {
     if !registers_fit(*op) {
         return Err(EncodeError::Register);

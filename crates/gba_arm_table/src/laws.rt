@@ -9,14 +9,10 @@ ghost use Rattle.gba_arm_table.specs.Table.{operation};
 /// The operation of a word is never refused, and its own encoding decodes to it again.
 pub fn decoded_words_encode()
     ensures { (word : ℕ) → IfSome (operation word) (λ op. IsOkAnd (encoding op) (λ again. operation again ≡ Some op)) }
-{
-}
+{}
 
 /// A word whose bits that should be one or zero are as the manual has them is its operation's own encoding.
 pub fn manual_words_come_back()
-    ensures {
-        (word : ℕ) → word < 2 ^ 32
-        → IfSome (operation word) (λ op. IsTrue (has_manual_bits op (field word)) → encoding op ≡ Ok word)
-    }
-{
-}
+    ensures { (word : ℕ) → word < 2 ^ 32
+        → IfSome (operation word) (λ op. IsTrue (has_manual_bits op (field word)) → encoding op ≡ Ok word) }
+{}
