@@ -258,6 +258,7 @@ fitting o r i f = record { registers = Within-within _ r; immediates = Within-wi
 
 -- an operation whose fields fit is encoded
 pub encoding-Fits : (o : ArmOp) → Fits o → encoding o ≡ Ok (packed (diagram o))
+unfolding encoding
 encoding-Fits o h =
     let r : within (registers_of o) ≡ true = within-Within _ h.registers in
     let i : within (immediates_of o) ≡ true = within-Within _ h.immediates in

@@ -51,6 +51,7 @@ pub enum EncodeError {
 /// The word of an operation. Bits that should be one or zero are as the manual has them, but for those that a field of
 /// the variant names (ARM Architecture Reference Manual, A3 to A5). A register that is none of 0 to 15 is refused
 /// first, then a number that is neither a register nor an offset, then an offset.
+#[tactic(auto, unfolding(crate::specs::Encoding::encoding))]
 pub fn encode(op: &ArmOp) -> Result<u32, EncodeError>
     ensures encoding { result ≡ encoding op.now }
     ensures round_trip { IfOk result (λ word. operation word ≡ Some op.now) }
