@@ -71,7 +71,8 @@ number form.Branch = 16
 number form.Interrupt = 17
 number form.Undefined = 18
 
-all_below : (ℕ → Bool) → ℕ → Bool
+-- a test of each number below a bound
+unfoldable pub all_below : (ℕ → Bool) → ℕ → Bool
 all_below test zero = true
 all_below test (suc n) = test n && all_below test n
 
@@ -104,7 +105,7 @@ form_at-number form.Branch = refl
 form_at-number form.Interrupt = refl
 form_at-number form.Undefined = refl
 
-all_below-at : (test : ℕ → Bool) (n : ℕ) → all_below test n ≡ true → (k : ℕ) → k < n → test k ≡ true
+pub all_below-at : (test : ℕ → Bool) (n : ℕ) → all_below test n ≡ true → (k : ℕ) → k < n → test k ≡ true
 unfolding all_below
 all_below-at test zero all k small = absurd (omega arith)
 all_below-at test (suc n) all k small =
@@ -130,11 +131,15 @@ branched-kept word =
     branched_agrees (field (kept (field word 20 8) (field word 4 4))) (field word) (omega arith) (omega arith) (omega arith) (omega arith) (omega arith) (omega arith)
     (omega arith) (omega arith) (omega arith) (omega arith) (omega arith) (omega arith)
 
+-- a word has the row of its bits 27 to 20 and 7 to 4 alone
+pub form_in-key : (word : ℕ) → form_in rows word ≡ form_in rows (kept (field word 20 8) (field word 4 4))
+form_in-key word =
+    let all : list_all looks rows ≡ true = unfold rows in refl in
+    form_in-kept rows all word ∙ ap (form_in rows) (and_looked word)
+
 -- the first row that fits is found by the decision by bits
 pub form_in-rows : (word : ℕ) → form_in rows word ≡ branched (field word)
 form_in-rows word =
-    let all : list_all looks rows ≡ true = unfold rows in refl in
-    form_in-kept rows all word
-    ∙ ap (form_in rows) (and_looked word)
+    form_in-key word
     ∙ same_form (field word 20 8) (field word 4 4) (omega arith) (omega arith)
     ∙ branched-kept word

@@ -1,2 +1,5 @@
 pub mod Branching
 pub mod Reading
+pub mod Packing
+pub mod RoundTrip
+pub mod Writing

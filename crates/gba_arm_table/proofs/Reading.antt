@@ -8,7 +8,7 @@ use Rattle.gba_arm_table.specs.declared.operation.HalfOffset.TheVariants as half
 use Rattle.gba_arm_table.specs.declared.operation.Operand.{Operand}
 use Rattle.gba_arm_table.specs.declared.operation.ArmOp.{ArmOp}
 use Rattle.gba_arm_table.specs.Fields.{half, compare, compute, processing}
-use Rattle.gba_arm_table.specs.Table.{operation_of}
+use Rattle.gba_arm_table.specs.Table.{operation, operation_of}
 use Rattle.gba_arm_table.specs.Limits.{Fits, Within, half_registers, half_offsets, operand_registers, operand_immediates, distance}
 
 half_offset-within : (b : Bool) (high low : ℕ) → high < 16 → low < 16
@@ -47,3 +47,7 @@ operation_of-fits form.ProcessingTurned word = processing-fits _ tt (search rule
 operation_of-fits form.Branch word = record { registers = tt; immediates = tt; offsets = (distance-signed (field word 0 24) (omega arith), tt) }
 operation_of-fits form.Undefined word = tt
 operation_of-fits _ word = record { registers = search rules; immediates = search rules; offsets = search rules }
+
+pub operation-Fits : (word : ℕ) → IfSome (operation word) Fits
+unfolding operation
+operation-Fits word = operation_of-fits _ word

@@ -1,5 +1,7 @@
 pub mod Numbers
 pub mod Fields
 pub mod Limits
+pub mod Diagrams
+pub mod Encoding
 pub mod Table
 pub mod Branches

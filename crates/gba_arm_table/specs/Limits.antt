@@ -1,4 +1,4 @@
-use Rattle.std.specs.Prelude.{ℕ, ◌<◌, ◌^◌, List, [], ◌∷◌, ℤ, pos, negsuc}
+use Rattle.std.specs.Prelude.{ℕ, Bool, true, ◌&&◌, nat_lt, ◌<◌, ◌^◌, List, [], ◌∷◌, ℤ, pos, negsuc}
 use Rattle.gba_arm_table.specs.declared.operation.ArmOp.{ArmOp}
 use Rattle.gba_arm_table.specs.declared.operation.ArmOp.TheVariants as op
 use Rattle.gba_arm_table.specs.declared.operation.HalfOffset.{HalfOffset}
@@ -18,6 +18,11 @@ pub record Limit : Type 0 where
 
 abbrev pub limit : ℕ → ℕ → Limit
 limit number bound = record { number = number; bound = bound }
+
+-- whether each number is below its bound
+abbrev pub within : List Limit → Bool
+within [] = true
+within (one ∷ rest) = nat_lt one.number one.bound && within rest
 
 -- each number is below its bound
 abbrev pub Within : List Limit → Type 0
@@ -62,26 +67,28 @@ registers_of (op.Block cond load pre up user write rn list) = register rn ∷ []
 registers_of (op.Branch cond link offset) = []
 registers_of (op.Interrupt cond comment) = []
 
--- four bits turn an immediate, five bits are an amount of shift
+-- an immediate has eight bits and is turned by four, an amount of shift has five
 abbrev pub operand_immediates : Operand → List Limit
-operand_immediates (operand.Turned value turn) = limit turn 16 ∷ []
+operand_immediates (operand.Turned value turn) = limit turn 16 ∷ limit value 256 ∷ []
 operand_immediates (operand.Fixed rm kind amount) = limit amount 32 ∷ []
 operand_immediates (operand.ByRegister rm kind rs) = []
 
 abbrev pub source_immediates : Source → List Limit
-source_immediates (source.Turned value turn) = limit turn 16 ∷ []
+source_immediates (source.Turned value turn) = limit turn 16 ∷ limit value 256 ∷ []
 source_immediates (source.Plain rm) = []
 
 abbrev pub transfer_immediates : TransferOffset → List Limit
 transfer_immediates (transfer_offset.Number value) = []
 transfer_immediates (transfer_offset.Shifted rm kind amount) = limit amount 32 ∷ []
 
--- the numbers that are neither registers nor offsets: turns, amounts, MSR's fields (four bits), SWI's comment
+-- the numbers that are neither registers nor offsets; MSR's fields have four bits, the list of a block sixteen and the
+-- comment of SWI 24
 abbrev pub immediates_of : ArmOp → List Limit
 immediates_of (op.WriteStatus cond saved fields source) = limit fields 16 ∷ source_immediates source
 immediates_of (op.Compute cond op set rn rd operand) = operand_immediates operand
 immediates_of (op.Compare cond op rn operand) = operand_immediates operand
 immediates_of (op.Transfer cond load byte pre up write rn rd offset) = transfer_immediates offset
+immediates_of (op.Block cond load pre up user write rn list) = limit list (2 ^ 16) ∷ []
 immediates_of (op.Interrupt cond comment) = limit comment (2 ^ 24) ∷ []
 immediates_of _ = []
 

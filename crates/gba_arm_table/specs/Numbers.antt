@@ -1,4 +1,4 @@
-use Rattle.std.specs.Prelude.{ℕ, ◌-◌, ◌^◌, ◌==◌, nat_lt, if◌then◌else◌, ℤ, pos, negsuc}
+use Rattle.std.specs.Prelude.{ℕ, ◌-◌, ◌^◌, ◌==◌, nat_lt, Bool, if◌then◌else◌, ℤ, pos, negsuc}
 use Rattle.gba_word.specs.declared.kinds.Shift.{Shift}
 use Rattle.gba_word.specs.declared.kinds.Shift.TheVariants.{Lsl, Lsr, Asr, Ror}
 use Rattle.gba_arm_table.specs.declared.operation.Condition.{Condition}
@@ -37,6 +37,55 @@ compare_of n = if n == 8 then Tst else if n == 9 then Teq else if n == 10 then C
 -- the shift of a number below 4 (A5.1)
 abbrev pub shift_of : ℕ → Shift
 shift_of n = if n == 0 then Lsl else if n == 1 then Lsr else if n == 2 then Asr else Ror
+
+-- The numbers of these, the other way round.
+abbrev pub condition_number : Condition → ℕ
+condition_number Equal = 0
+condition_number NotEqual = 1
+condition_number CarrySet = 2
+condition_number CarryClear = 3
+condition_number Minus = 4
+condition_number Plus = 5
+condition_number Overflow = 6
+condition_number NoOverflow = 7
+condition_number Higher = 8
+condition_number LowerOrSame = 9
+condition_number GreaterOrEqual = 10
+condition_number Less = 11
+condition_number Greater = 12
+condition_number LessOrEqual = 13
+condition_number Always = 14
+condition_number Never = 15
+
+abbrev pub compute_number : ComputeOp → ℕ
+compute_number And = 0
+compute_number Eor = 1
+compute_number Sub = 2
+compute_number Rsb = 3
+compute_number Add = 4
+compute_number Adc = 5
+compute_number Sbc = 6
+compute_number Rsc = 7
+compute_number Orr = 12
+compute_number Mov = 13
+compute_number Bic = 14
+compute_number Mvn = 15
+
+abbrev pub compare_number : CompareOp → ℕ
+compare_number Tst = 8
+compare_number Teq = 9
+compare_number Cmp = 10
+compare_number Cmn = 11
+
+abbrev pub shift_number : Shift → ℕ
+shift_number Lsl = 0
+shift_number Lsr = 1
+shift_number Asr = 2
+shift_number Ror = 3
+
+-- a bit that is set is 1
+abbrev pub flag_number : Bool → ℕ
+flag_number set = if set then 1 else 0
 
 -- a number below 2 ^ 24 as a signed one of 24 bits
 abbrev pub signed_of : ℕ → ℤ

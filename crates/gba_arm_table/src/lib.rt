@@ -6,10 +6,15 @@ ghost use Rattle.gba_terms.specs.Bits.{field};
 ghost use Rattle.gba_arm_table.specs.Limits.{Fits};
 ghost use Rattle.gba_arm_table.specs.Table.{operation, operation_of};
 
+mod encoding;
 mod fields;
 mod form;
+pub mod laws;
+mod limits;
 mod operation;
+mod parts;
 
+pub use encoding::{EncodeError, encode};
 use form::{Form, form_of};
 pub use operation::{
     ArmOp, CompareOp, ComputeOp, Condition, HalfKind, HalfOffset, Operand, Source, TransferOffset,

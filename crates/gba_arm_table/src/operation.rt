@@ -38,7 +38,7 @@ pub enum ComputeOp {
     Adc,
     Sbc,
     Rsc,
-    Orr,
+    Orr = 12,
     Mov,
     Bic,
     Mvn,
@@ -47,7 +47,7 @@ pub enum ComputeOp {
 /// The data processing operations that write the flags alone, numbers 8 to 11 of bits 24 to 21.
 #[derive(Clone, Copy, Debug, PartialEq, Eq)]
 pub enum CompareOp {
-    Tst,
+    Tst = 8,
     Teq,
     Cmp,
     Cmn,

@@ -3,18 +3,19 @@ use crate::operation::ArmOp as Op;
 use gba_word::Shift;
 use std::process::Abort;
 
-/// Each word decodes to the operation beside it.
-fn decodes(rt: &impl Abort, cases: &[(u32, Op)]) {
-    for (word, want) in cases {
-        assert_eq!(rt; decode(*word), Some(*want), "the word {word:#010x}");
+/// Each word decodes to the operation beside it, and the operation encodes to the word.
+fn agree(rt: &impl Abort, cases: &[(u32, Op)]) {
+    for (word, op) in cases {
+        assert_eq!(rt; decode(*word), Some(*op), "the word {word:#010x}");
+        assert_eq!(rt; encode(op), Ok(*word), "the operation {op:?}");
     }
 }
 
 // The encodings are put together by hand from the manual's diagrams.
 #[test]
-fn multiplies_swaps_and_status_words_decode(rt: HostRuntime) {
+fn multiplies_swaps_and_status_words_agree(rt: HostRuntime) {
     let cond = Condition::Always;
-    decodes(
+    agree(
         &rt,
         &[
             // bx r1
@@ -164,9 +165,9 @@ fn multiplies_swaps_and_status_words_decode(rt: HostRuntime) {
 }
 
 #[test]
-fn halfword_transfers_decode(rt: HostRuntime) {
+fn halfword_transfers_agree(rt: HostRuntime) {
     let cond = Condition::Always;
-    decodes(
+    agree(
         &rt,
         &[
             // strh r1, [r0, #0xAB]
@@ -230,9 +231,9 @@ fn halfword_transfers_decode(rt: HostRuntime) {
 }
 
 #[test]
-fn data_processing_decodes(rt: HostRuntime) {
+fn data_processing_agrees(rt: HostRuntime) {
     let cond = Condition::Always;
-    decodes(
+    agree(
         &rt,
         &[
             // add r0, r1, r2, lsl r3
@@ -341,9 +342,9 @@ fn data_processing_decodes(rt: HostRuntime) {
 }
 
 #[test]
-fn transfers_branches_and_interrupts_decode(rt: HostRuntime) {
+fn transfers_branches_and_interrupts_agree(rt: HostRuntime) {
     let cond = Condition::Always;
-    decodes(
+    agree(
         &rt,
         &[
             // ldr r0, [r1, #4]
@@ -517,5 +518,255 @@ fn words_between_the_rows_decode_to_none(rt: HostRuntime) {
     ];
     for word in words {
         assert_eq!(rt; decode(word), None, "the word {word:#010x}");
+    }
+}
+
+#[test]
+fn bits_that_should_be_one_or_zero_are_encoded_as_the_manual_has_them(rt: HostRuntime) {
+    let cases = [
+        // bx r1; swp r0, r1, [r2]; mrs r0, cpsr
+        (0xE1200011u32, 0xE12FFF11u32),
+        (0xE1020F91, 0xE1020091),
+        (0xE1000F0F, 0xE10F0000),
+        // msr cpsr_f, r2; msr cpsr_f, #0xF0000000
+        (0xE1280F02, 0xE128F002),
+        (0xE328020F, 0xE328F20F),
+        // ldrh r1, [r0], -r2; cmp r1, r2, ror r3
+        (0xE0101FB2, 0xE01010B2),
+        (0xE151F372, 0xE1510372),
+    ];
+    for (word, want) in cases {
+        assert_eq!(rt;
+            decode(word).map(|op| encode(&op)),
+            Some(Ok(want)),
+            "the word {word:#010x}"
+        );
+    }
+}
+
+#[test]
+fn fields_out_of_their_bits_are_refused(rt: HostRuntime) {
+    let cond = Condition::Always;
+    let turned = Operand::Turned { value: 1, turn: 16 };
+    let shifted = Operand::Fixed {
+        rm: 1,
+        kind: Shift::Lsl,
+        amount: 32,
+    };
+    let far = TransferOffset::Number { value: 4096 };
+    let cases = [
+        (Op::Exchange { cond, rm: 16 }, EncodeError::Register),
+        (
+            Op::MultiplyLong {
+                cond,
+                signed: true,
+                accumulate: false,
+                set: false,
+                hi: 0,
+                lo: 16,
+                rs: 0,
+                rm: 0,
+            },
+            EncodeError::Register,
+        ),
+        (
+            Op::Compare {
+                cond,
+                op: CompareOp::Cmp,
+                rn: 0,
+                operand: Operand::ByRegister {
+                    rm: 0,
+                    kind: Shift::Lsl,
+                    rs: 16,
+                },
+            },
+            EncodeError::Register,
+        ),
+        (
+            Op::Compute {
+                cond,
+                op: ComputeOp::Mov,
+                set: false,
+                rn: 0,
+                rd: 0,
+                operand: turned,
+            },
+            EncodeError::Immediate,
+        ),
+        (
+            Op::Compute {
+                cond,
+                op: ComputeOp::Mov,
+                set: false,
+                rn: 0,
+                rd: 0,
+                operand: shifted,
+            },
+            EncodeError::Immediate,
+        ),
+        (
+            Op::WriteStatus {
+                cond,
+                saved: false,
+                fields: 16,
+                source: Source::Plain { rm: 0 },
+            },
+            EncodeError::Immediate,
+        ),
+        (
+            Op::Interrupt {
+                cond,
+                comment: 0x0100_0000,
+            },
+            EncodeError::Immediate,
+        ),
+        (
+            Op::Transfer {
+                cond,
+                load: true,
+                byte: false,
+                pre: true,
+                up: true,
+                write: false,
+                rn: 0,
+                rd: 0,
+                offset: far,
+            },
+            EncodeError::Offset,
+        ),
+        (
+            Op::Half {
+                cond,
+                kind: HalfKind::LoadHalf,
+                pre: true,
+                up: true,
+                write: false,
+                rn: 0,
+                rd: 0,
+                offset: HalfOffset::Number { value: 256 },
+            },
+            EncodeError::Offset,
+        ),
+        (
+            Op::Branch {
+                cond,
+                link: false,
+                offset: 0x0080_0000,
+            },
+            EncodeError::Offset,
+        ),
+        (
+            Op::Branch {
+                cond,
+                link: false,
+                offset: -0x0080_0001,
+            },
+            EncodeError::Offset,
+        ),
+        // of two faults the register's is told
+        (
+            Op::Compute {
+                cond,
+                op: ComputeOp::Mov,
+                set: false,
+                rn: 16,
+                rd: 0,
+                operand: turned,
+            },
+            EncodeError::Register,
+        ),
+        (
+            Op::Transfer {
+                cond,
+                load: true,
+                byte: false,
+                pre: true,
+                up: true,
+                write: false,
+                rn: 0,
+                rd: 16,
+                offset: far,
+            },
+            EncodeError::Register,
+        ),
+    ];
+    for (op, error) in cases {
+        assert_eq!(rt; encode(&op), Err(error), "the operation {op:?}");
+    }
+}
+
+/// The bits of an operation's word that should be one or zero, and what they should be, by the manual's diagrams.
+fn should_be(op: &Op) -> (u32, u32) {
+    match op {
+        Op::Exchange { .. } => (0x000F_FF00, 0x000F_FF00),
+        Op::Swap { .. } => (0x0000_0F00, 0),
+        Op::Half {
+            offset: HalfOffset::Plain { .. },
+            ..
+        } => (0x0000_0F00, 0),
+        Op::ReadStatus { .. } => (0x000F_0FFF, 0x000F_0000),
+        Op::WriteStatus {
+            source: Source::Plain { .. },
+            ..
+        } => (0x0000_FF00, 0x0000_F000),
+        Op::WriteStatus {
+            source: Source::Turned { .. },
+            ..
+        } => (0x0000_F000, 0x0000_F000),
+        Op::Compare { .. } => (0x0000_F000, 0),
+        _ => (0, 0),
+    }
+}
+
+// Every other word of the sample is any word; those between have the fixed bits of one diagram after the other, so
+// that each class is met often.
+#[test]
+fn words_with_the_manuals_bits_come_back(rt: HostRuntime) {
+    let diagrams = [
+        (0x0FFFFFF0u32, 0x012FFF10u32),
+        (0x0FC000F0, 0x00000090),
+        (0x0F8000F0, 0x00800090),
+        (0x0FB00FF0, 0x01000090),
+        (0x0E400FF0, 0x000000B0),
+        (0x0E4000F0, 0x004000B0),
+        (0x0E5000F0, 0x005000D0),
+        (0x0E500FF0, 0x001000F0),
+        (0x0FBF0FFF, 0x010F0000),
+        (0x0FB0FFF0, 0x0120F000),
+        (0x0FB0F000, 0x0320F000),
+        (0x0F90F010, 0x01100000),
+        (0x0E000090, 0x00000010),
+        (0x0E000010, 0x00000000),
+        (0x0E000000, 0x02000000),
+        (0x0E000000, 0x04000000),
+        (0x0E000010, 0x06000000),
+        (0x0E000000, 0x08000000),
+        (0x0E000000, 0x0A000000),
+        (0x0F000000, 0x0F000000),
+    ];
+    let mut random = 0x2545_F491u32;
+    let mut met = [0u32; 20];
+    let mut back = 0u32;
+    for n in 0..30_000usize {
+        random ^= random << 13;
+        random ^= random >> 17;
+        random ^= random << 5;
+        let place = n / 2 % 20;
+        let (fixed, value) = if n % 2 == 0 { (0, 0) } else { diagrams[place] };
+        let word = random & !fixed | value;
+        if let Some(op) = decode(word) {
+            let (mask, wanted) = should_be(&op);
+            if word & mask == wanted {
+                assert_eq!(rt; encode(&op), Ok(word), "the word {word:#010x}");
+                back = back.saturating_add(1);
+                if n % 2 == 1 {
+                    met[place] = met[place].saturating_add(1);
+                }
+            }
+        }
+    }
+    assert!(rt; back >= 20_000, "{back} words came back");
+    for (place, count) in met.iter().enumerate() {
+        assert!(rt; *count >= 300, "{count} words of diagram {place} came back");
     }
 }
