@@ -1,4 +1,4 @@
-use Rattle.std.specs.Prelude.{ℕ, Bool, true, false, ◌+◌, ◌*◌, ◌/◌, ◌%◌, ◌≤◌, slice_index, slice_set, if◌then◌else◌}
+use Rattle.std.specs.Prelude.{ℕ, Bool, true, false, ◌+◌, ◌*◌, ◌/◌, ◌%◌, slice_index, slice_set, if◌then◌else◌}
 use Rattle.std.proofs.Common.{arith}
 use Rattle.gba_bus.specs.Meanings.{Fetched, IsPrice, Loaded, Stored}
 use Rattle.gba_bus.specs.declared.width.Width.{Width}
