@@ -1,5 +1,5 @@
 use Rattle.std.specs.Int.{cast_unsigned, w32}
-use Rattle.std.specs.Prelude.{ℕ, ℤ, Bool, true, false, List, ◌+◌, ◌*◌, ◌%◌, ◌^◌, ◌==◌, if◌then◌else◌}
+use Rattle.std.specs.Prelude.{ℕ, ℤ, Bool, List, ◌+◌, ◌*◌, ◌%◌, ◌^◌, if◌then◌else◌}
 use Rattle.gba_terms.specs.Bits.{bit, field}
 use Rattle.gba_word.specs.Sums.{flag_number}
 use Rattle.gba_psr.specs.Entry.{entered}

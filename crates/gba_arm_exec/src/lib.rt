@@ -8,6 +8,7 @@ mod access;
 mod blocks;
 mod branching;
 mod conditions;
+pub mod laws;
 mod multiplying;
 mod outcome;
 mod performing;

@@ -108,13 +108,9 @@ pub fn swap<B: Bus>(
     let address = read_operand(registers, site.counter(), rn);
     let kind = if byte { LoadUnit::Byte } else { LoadUnit::Word };
     let width = if byte { Width::Byte } else { Width::Word };
+    let stored = read_operand(registers, site.counter(), rm);
     let (value, load) = load_unit(bus, site, kind, address);
-    let store = store_unit(
-        bus,
-        width,
-        address,
-        read_operand(registers, site.counter(), rm),
-    );
+    let store = store_unit(bus, width, address, stored);
     write_result(registers, rd, value);
     code + load + store + 1 + refill
 }

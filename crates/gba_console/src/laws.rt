@@ -1,1 +1,13 @@
-//! Laws over the definitions.
+//! Laws over the definitions. Each is the contract of a function that takes no value.
+
+ghost use Rattle.gba_console.specs.Run.{Reaches};
+
+use crate::memory::Memory;
+use gba_arm_exec::laws::cycles_of_a_word;
+
+/// A run that isn't refused ends with a clock at or past its end: the bound on its steps cuts none off.
+pub fn reaches()
+    ensures { Reaches }
+{
+    cycles_of_a_word::<Memory>();
+}

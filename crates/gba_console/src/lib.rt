@@ -8,6 +8,7 @@ pub mod laws;
 mod memory;
 
 use gba_arm_exec::execute;
+use gba_arm_exec::laws::cycles_of_a_word;
 use gba_bus::{Bus, Width};
 use gba_psr::Registers;
 use gba_terms::NoMemory;
@@ -103,7 +104,10 @@ impl Console {
         requires { self.old.clock < 2 ^ 40 }
         ensures step { MatchResult result (λ _. next self.old ≡ Ok self.new) (λ refusal. next self.old ≡ Err refusal) }
         ensures refused { OnErr result (self.new ≡ self.old) }
+        ensures raised { OnOk result (self.old.clock < self.new.clock) }
+        ensures short { self.new.clock ≤ self.old.clock + 512 }
     {
+        cycles_of_a_word::<Memory>();
         let address = self.registers.get(15);
         if bit(self.registers.cpsr(), 5) {
             let word = self.memory.code(address, Width::Half);

@@ -1,6 +1,5 @@
-use Rattle.std.proofs.Common.{◌≡◌, ℕ, zero, suc, Bool, false, eqb, ◌+◌, ◌-◌, ◌*◌, ◌/◌, ◌%◌, ◌^◌, ◌<◌, ◌≤◌, refl, ap, sym, ◌∙◌, ⊎_elim, subst, arith}
+use Rattle.std.proofs.Common.{◌≡◌, ℕ, zero, suc, ◌+◌, ◌-◌, ◌*◌, ◌/◌, ◌%◌, ◌^◌, ◌<◌, ◌≤◌, ap, sym, ◌∙◌, subst, arith}
 use Rattle.std.specs.Int.Bits.{bit_or, or_self}
-use Rattle.std.proofs.lemmas.Bool.{cases_lt}
 use Rattle.std.proofs.lemmas.Nat.{pow-add, mod-pow-add, shl-shr, or_comm, or_shifted, shr_below}
 use Rattle.std.proofs.Math.Nat.{div-eq_of_lt, mul_assoc, mul-mod_left, pow-le-pow_right, zero-lt-suc}
 
@@ -21,9 +20,9 @@ pub turned_parts : (n k : ℕ) → n < 2 ^ 32 → 0 < k → k < 32 → bit_or (n
 turned_parts n k word some below =
     let whole : k + (32 - k) ≡ 32 = omega arith in
     let cut : n * 2 ^ (32 - k) % 2 ^ (k + (32 - k)) ≡ (n * 2 ^ (32 - k) / 2 ^ (32 - k) % 2 ^ k) * 2 ^ (32 - k) + n * 2 ^ (32 - k) % 2 ^ (32 - k) =
-        mod-pow-add (n * 2 ^ (32 - k)) k (32 - k) in
+    mod-pow-add (n * 2 ^ (32 - k)) k (32 - k) in
     let high : n * 2 ^ (32 - k) % 2 ^ 32 ≡ n % 2 ^ k * 2 ^ (32 - k) =
-        ap (λ (j : ℕ). n * 2 ^ (32 - k) % 2 ^ j) (sym whole) ∙ cut ∙ rw (shl-shr n (32 - k), mul-mod_left n (2 ^ (32 - k))) (omega arith) in
+    ap (λ (j : ℕ). n * 2 ^ (32 - k) % 2 ^ j) (sym whole) ∙ cut ∙ rw (shl-shr n (32 - k), mul-mod_left n (2 ^ (32 - k))) (omega arith) in
     let turned : 32 ≡ (32 - k) + k = omega arith in
     let low : n / 2 ^ k < 2 ^ (32 - k) = shr_below n (32 - k) k (subst (λ (j : ℕ). n < 2 ^ j) turned word) in
     ap (bit_or (n / 2 ^ k)) high ∙ or_comm (n / 2 ^ k) (n % 2 ^ k * 2 ^ (32 - k)) ∙ or_shifted (n % 2 ^ k) (32 - k) (n / 2 ^ k) low ∙ omega arith

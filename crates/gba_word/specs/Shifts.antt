@@ -1,4 +1,4 @@
-use Rattle.std.specs.Prelude.{ℕ, Bool, false, min, ◌==◌, ◌+◌, ◌-◌, ◌*◌, ◌/◌, ◌%◌, ◌^◌, if◌then◌else◌}
+use Rattle.std.specs.Prelude.{ℕ, Bool, min, ◌==◌, ◌+◌, ◌-◌, ◌*◌, ◌/◌, ◌%◌, ◌^◌, if◌then◌else◌}
 use Rattle.gba_terms.specs.Bits.{bit}
 use Rattle.gba_word.specs.Sums.{flag_number}
 use Rattle.gba_word.specs.declared.kinds.Shift.{Shift}

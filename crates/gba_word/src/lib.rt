@@ -8,7 +8,6 @@ ghost use Rattle.gba_word.specs.Extension.{sign_extended};
 mod kinds;
 mod shifter;
 mod sums;
-
 #[cfg(test)]
 mod tests;
 

@@ -3,8 +3,7 @@
 ghost use Rattle.std.specs.Prelude.{◌≡◌, ◌<◌, ◌≤◌, ◌/◌, ◌^◌};
 ghost use Rattle.gba_word.specs.Shifts.{rotated, shifted, shifted_by, shifted_fixed, turned, unshifted};
 
-use crate::Shift;
-use crate::bit;
+use crate::{Shift, bit};
 
 /// `value` turned to the right by `turn` places: what leaves at bit 0 enters at bit 31. A turn of 32 or more counts modulo 32.
 pub fn rotate(value: u32, turn: u32) -> u32
@@ -44,7 +43,11 @@ pub fn rotate_immediate(value: u8, turn: u8, carry: bool) -> (u32, bool)
     ensures { result ≡ turned value turn carry }
 {
     let word = rotate(u32::from(value), 2 * u32::from(turn));
-    if turn == 0 { (word, carry) } else { (word, bit(word, 31)) }
+    if turn == 0 {
+        (word, carry)
+    } else {
+        (word, bit(word, 31))
+    }
 }
 
 // A shift by an amount that isn't 0.

@@ -78,9 +78,17 @@ const WRITTEN_ZEROS: [(Shift, u32, bool, u32, bool); 10] = [
 fn shifts_by_registers_and_numbers(rt: HostRuntime) {
     for (kind, word, amount, shifted, out) in SHIFTS {
         for carry in [false, true] {
-            assert_eq!(rt; shift(kind, word, amount, carry), (shifted, out), "{kind:?} {word:x} {amount}");
+            assert_eq!(rt;
+                shift(kind, word, amount, carry),
+                (shifted, out),
+                "{kind:?} {word:x} {amount}"
+            );
             if amount < 32 {
-                assert_eq!(rt; shift_fixed(kind, word, amount, carry), (shifted, out), "{kind:?} {word:x} {amount}");
+                assert_eq!(rt;
+                    shift_fixed(kind, word, amount, carry),
+                    (shifted, out),
+                    "{kind:?} {word:x} {amount}"
+                );
             }
         }
     }
@@ -89,8 +97,16 @@ fn shifts_by_registers_and_numbers(rt: HostRuntime) {
 #[test]
 fn shifts_by_zero(rt: HostRuntime) {
     for (kind, word, carry, shifted, out) in WRITTEN_ZEROS {
-        assert_eq!(rt; shift(kind, word, 0, carry), (word, carry), "{kind:?} {word:x} by a register");
-        assert_eq!(rt; shift_fixed(kind, word, 0, carry), (shifted, out), "{kind:?} {word:x}");
+        assert_eq!(rt;
+            shift(kind, word, 0, carry),
+            (word, carry),
+            "{kind:?} {word:x} by a register"
+        );
+        assert_eq!(rt;
+            shift_fixed(kind, word, 0, carry),
+            (shifted, out),
+            "{kind:?} {word:x}"
+        );
     }
 }
 
@@ -134,7 +150,11 @@ fn fields_signs_and_turned_bytes(rt: HostRuntime) {
         (0x8000_0000, 32, 0x8000_0000),
         (0x7fff_ffff, 32, 0x7fff_ffff),
     ] {
-        assert_eq!(rt; sign_extend(value, width), want, "{value:x} from {width} bits");
+        assert_eq!(rt;
+            sign_extend(value, width),
+            want,
+            "{value:x} from {width} bits"
+        );
     }
     for (value, turn, carry, want, out) in [
         (0xff, 0, false, 0xff, false),
@@ -145,7 +165,11 @@ fn fields_signs_and_turned_bytes(rt: HostRuntime) {
         (0x02, 1, false, 0x8000_0000, true),
         (0x04, 1, true, 0x0000_0001, false),
     ] {
-        assert_eq!(rt; rotate_immediate(value, turn, carry), (want, out), "{value:x} turned by {turn}");
+        assert_eq!(rt;
+            rotate_immediate(value, turn, carry),
+            (want, out),
+            "{value:x} turned by {turn}"
+        );
     }
     assert_eq!(rt; rotate(0x4433_2211, 24), 0x3322_1144);
     assert_eq!(rt; bits(0xe59f_1234, 28, 4), 0xe);

@@ -1,5 +1,4 @@
-use Rattle.std.proofs.Common.{◌≡◌, ◌-◌, ap, sym, ◌∙◌, true, false, arith}
-use Rattle.gba_terms.specs.Bits.{bit}
+use Rattle.std.proofs.Common.{ap, sym, ◌∙◌, arith}
 use Rattle.gba_arm_exec.proofs.Runs.{done_of, loads_more, loads_none, loads_skip}
 use Rattle.gba_arm_exec.proofs.blocks.load_listed.Goals as goal
 

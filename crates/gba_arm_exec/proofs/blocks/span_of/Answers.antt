@@ -1,7 +1,7 @@
-use Rattle.std.proofs.Common.{◌≡◌, ◌*◌, ◌/◌, ◌^◌, ◌<◌, ◌==◌, eqb, false, length, ap, sym, ◌∙◌, refl, arith}
+use Rattle.std.proofs.Common.{◌≡◌, ◌*◌, ◌/◌, ◌^◌, eqb, false, ap, sym, ◌∙◌, arith}
 use Rattle.std.proofs.lemmas.Bool.Decides.{nat_tests}
 use lib.Count.{ones}
-use Rattle.gba_arm_exec.specs.Blocks.{span, listed}
+use Rattle.gba_arm_exec.specs.Blocks.{span}
 use Rattle.gba_arm_exec.proofs.Lists.{length-listed}
 use Rattle.gba_arm_exec.proofs.blocks.span_of.Goals as goal
 

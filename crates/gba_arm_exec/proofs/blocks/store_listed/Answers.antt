@@ -1,5 +1,4 @@
-use Rattle.std.proofs.Common.{◌≡◌, ◌-◌, ap, sym, ◌∙◌, true, false, arith}
-use Rattle.gba_terms.specs.Bits.{bit}
+use Rattle.std.proofs.Common.{ap, sym, ◌∙◌, arith}
 use Rattle.gba_arm_exec.proofs.Runs.{done_of, stores_more, stores_none, stores_skip}
 use Rattle.gba_arm_exec.proofs.blocks.store_listed.Goals as goal
 

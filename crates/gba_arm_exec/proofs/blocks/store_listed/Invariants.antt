@@ -1,6 +1,5 @@
 use Rattle.std.proofs.Common.{◌≡◌, ◌+◌, ◌-◌, ◌*◌, ◌≤◌, false}
 use Rattle.gba_arm_exec.specs.Blocks.{listed, stores}
-use Rattle.gba_arm_exec.specs.Done.{Done}
 use Rattle.gba_arm_exec.proofs.blocks.store_listed.Given as goal
 
 -- what is left of the list leads to the same end

@@ -1,4 +1,4 @@
-use Rattle.std.proofs.Common.{◌<◌, ◌^◌, ◌≤◌, sym, arith}
+use Rattle.std.proofs.Common.{sym, arith}
 use Rattle.gba_word.proofs.Powers.{quotient_past}
 use Rattle.gba_word.proofs.shifter.divide.Goals as goal
 

@@ -1,4 +1,4 @@
-use Rattle.std.proofs.Common.{arith, rules}
+use Rattle.std.proofs.Common.{arith}
 use Rattle.gba_word.proofs.Powers.{product_past}
 use Rattle.gba_word.proofs.shifter.shift_left.Goals as goal
 
