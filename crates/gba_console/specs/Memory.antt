@@ -2,7 +2,7 @@ use Rattle.std.proofs.Common.{arith}
 use Rattle.std.specs.Int.{w16, w32, from_le_bytes}
 use Rattle.std.specs.Prelude.{ℕ, Bool, true, ◌+◌, ◌-◌, ◌/◌, ◌%◌, ◌^◌, ◌==◌, nat_lt, List, [], ◌∷◌, slice_index, slice_set, if◌then◌else◌}
 use Rattle.gba_terms.specs.Bits.{field}
-use Rattle.gba_bus.specs.Meanings.{Code, Price, Load, Store, Fetched, Loaded, Stored, IsPrice}
+use Rattle.gba_bus.specs.Meanings.{Code, Price, Load, Store, IsPrice}
 use Rattle.gba_bus.specs.declared.width.Width.{Width}
 use Rattle.gba_bus.specs.declared.width.Width.TheVariants.{Byte, Half, Word}
 

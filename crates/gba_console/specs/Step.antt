@@ -1,4 +1,4 @@
-use Rattle.std.specs.Prelude.{ℕ, ◌+◌, List, true, Result, Ok, Err, if◌then◌else◌}
+use Rattle.std.specs.Prelude.{ℕ, ◌+◌, true, Result, Ok, Err, if◌then◌else◌}
 use Rattle.gba_terms.specs.Bits.{bit}
 use Rattle.gba_bus.specs.declared.width.Width.TheVariants.{Half, Word}
 use Rattle.gba_psr.specs.RegisterFile.{status, register}

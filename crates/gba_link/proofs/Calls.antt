@@ -1,9 +1,9 @@
 -- The calls of a sink, one after another.
-use Rattle.std.proofs.Common.{◌≡◌, ◌⊎◌, ℕ, ◌≤◌, List, [], ◌∷◌, Result, Ok, Err, refl, inl, inr, arith}
-use Rattle.gba_store.specs.Files.{Files, Rose}
+use Rattle.std.proofs.Common.{ℕ, ◌≤◌, [], ◌∷◌, Result, Ok, Err, refl, inl, inr, arith}
+use Rattle.gba_store.specs.Files.{Rose}
 use Rattle.gba_link.specs.declared.output.Stop.{Stop}
 use Rattle.gba_link.specs.declared.output.Stop.TheVariants as stop
-use Rattle.gba_link.specs.Writing.{Call, SinkState, Does, DoesAll}
+use Rattle.gba_link.specs.Writing.{Call, SinkState, Does}
 use Rattle.gba_link.specs.Stops.{Performs, PerformsAll}
 
 -- a count that rose in a later part rose in the whole

@@ -1,6 +1,6 @@
 -- Texts of decimal digits.
-use Rattle.std.proofs.Common.{◌≡◌, ℕ, ◌<◌, ◌≤◌, ◌&&◌, ◌^◌, Bool, true, false, List, [], ◌∷◌, length, take, drop, get_or, cond, Result, refl, ap, sym, ◌∙◌, arith, rules}
-use Rattle.std.specs.Prelude.{take_while, nat_le}
+use Rattle.std.proofs.Common.{◌≡◌, ℕ, ◌<◌, ◌^◌, Bool, true, false, List, [], ◌∷◌, length, cond, Result, refl, arith}
+use Rattle.std.specs.Prelude.{take_while}
 use Rattle.std.specs.Char.{is_ascii_digit}
 use Rattle.std.specs.Result.{OkIff}
 use Rattle.std.specs.Str.{IsAscii, all_ascii_digits}
@@ -8,8 +8,7 @@ use Rattle.std.specs.Str.Parse.{ParsesUnsigned, digits_value}
 use Rattle.gba_link.specs.JobForm.{is_cycles}
 use Rattle.std.proofs.lemmas.List.Sums.{take_while-cons}
 use Rattle.std.proofs.lemmas.Str.Ascii.{IsAscii-cons}
-use Rattle.std.proofs.lemmas.Str.Parse.{IsNumeralModel, numerals_by_value, tells_all_ascii_digits, parse_digits}
-use Rattle.std.proofs.lemmas.Grind.{common_steps}
+use Rattle.std.proofs.lemmas.Str.Parse.{numerals_by_value, tells_all_ascii_digits, parse_digits}
 
 kept : (b : ℕ) (rest : List ℕ) → all_ascii_digits rest ≡ true → (t : Bool) → is_ascii_digit b ≡ t → all_ascii_digits (cond t (b ∷ rest) []) ≡ true
 kept b rest h true e = rw (e, h) refl

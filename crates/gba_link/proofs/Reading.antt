@@ -1,5 +1,5 @@
 -- What the reads of a run give, and what their refusals say of its outcome.
-use Rattle.std.proofs.Common.{◌≡◌, ◌⊎◌, ℕ, ◌+◌, ◌<◌, ◌≤◌, true, false, cond, List, [], ◌∷◌, length, take, Option, Some, None, Result, Ok, Err, refl, sym, ap, ◌∙◌, subst, inl, inr, arith}
+use Rattle.std.proofs.Common.{◌≡◌, ◌⊎◌, ℕ, ◌<◌, ◌≤◌, true, false, List, ◌∷◌, length, take, Some, None, Result, Ok, Err, refl, sym, ap, ◌∙◌, inl, inr, arith}
 use Rattle.std.specs.Prelude.{nat_lt, nat_eq}
 use Rattle.std.proofs.lemmas.Bool.{cases_lt}
 use Rattle.std.proofs.lemmas.List.{take_all, length-take-le}
@@ -8,7 +8,7 @@ use Rattle.gba_link.specs.declared.refusal.Refusal.{Refusal}
 use Rattle.gba_link.specs.declared.refusal.Refusal.TheVariants as refusal
 use Rattle.gba_link.specs.Words.{Command}
 use Rattle.gba_link.specs.JobForm.{Job, job_of, longest_job}
-use Rattle.gba_link.specs.Outcome.{Cause, Absent, Finished, from_image, from_job, from_command, job_in, job_or_form, reads_of_job, reads_of_command}
+use Rattle.gba_link.specs.Outcome.{Cause, Absent, from_image, from_job, job_in, job_or_form}
 use Rattle.gba_link.specs.Answer.{IsAmong}
 use Rattle.gba_link.specs.Refusals.{IsRefusedBy, IsReadRefusal, Agrees, IsCounted}
 

@@ -1,7 +1,6 @@
 -- A run, step by step.
-use Rattle.std.proofs.Common.{◌≡◌, ℕ, zero, suc, ◌+◌, ◌-◌, ◌<◌, ◌≤◌, true, false, cond, ltb, Result, Ok, Err, refl, sym, ap, ◌∙◌, subst, arith}
+use Rattle.std.proofs.Common.{◌≡◌, ℕ, zero, suc, ◌<◌, ◌≤◌, true, false, Ok, refl, ap, ◌∙◌, arith}
 use Rattle.std.specs.Prelude.{nat_lt}
-use Rattle.gba_console.specs.declared.NotBuilt.{NotBuilt}
 use Rattle.gba_console.specs.Machine.{Machine}
 use Rattle.gba_console.specs.Step.{next}
 use Rattle.gba_console.specs.Run.{run, after}

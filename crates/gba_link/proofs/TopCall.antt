@@ -1,7 +1,7 @@
 -- The answers of the top call.
 use Rattle.std.specs.Prelude.{MatchOption, IsErrOf}
 use Rattle.gba_link.specs.Words.{Command}
-use Rattle.std.proofs.Common.{◌≡◌, ◌≢◌, ◌⊎◌, ◌∙◌, ap, Option, Some, None, ℕ, ◌≤◌, List, [], ◌∷◌, Result, Ok, Err, refl, sym, subst, inl, inr, arith}
+use Rattle.std.proofs.Common.{◌≡◌, ◌≢◌, ◌⊎◌, ◌∙◌, ap, Option, Some, None, ℕ, ◌≤◌, List, Result, Ok, Err, sym, subst, inl, inr, arith}
 use Rattle.gba_store.specs.Files.{Rose}
 use Rattle.gba_link.specs.declared.output.Stop.{Stop}
 use Rattle.gba_link.specs.declared.output.Stop.TheVariants as stop
@@ -10,7 +10,7 @@ use Rattle.gba_link.specs.declared.refusal.Refusal.TheVariants as refusal
 use Rattle.gba_link.specs.Outcome.{Cause, Words, Absent, Form, Image, Unbuilt, Finished}
 use Rattle.gba_link.specs.Writing.{Call, SinkState, Reported, writes}
 use Rattle.gba_link.specs.Stops.{stop_status, stop_report, PerformsAll}
-use Rattle.gba_link.specs.Answer.{IsAmong, Finishes, SinkFails, SinkLacks, StoreFails, LacksMemory, Answer, Completes}
+use Rattle.gba_link.specs.Answer.{Finishes, SinkFails, SinkLacks, Answer, Completes}
 use Rattle.gba_link.specs.Refusals.{refusal_status, refusal_report, IsRefusedBy, IsCounted, IsNotWords}
 use Rattle.gba_link.proofs.Calls.{Rose-later}
 

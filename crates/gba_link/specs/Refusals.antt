@@ -1,4 +1,4 @@
-use Rattle.std.specs.Prelude.{◌≡◌, ℕ, List, [], None, Result, Ok, Err}
+use Rattle.std.specs.Prelude.{◌≡◌, ℕ, List, None, Result, Ok, Err}
 use Rattle.gba_store.specs.Files.{Files}
 use Rattle.gba_link.specs.declared.refusal.Refusal.{Refusal}
 use Rattle.gba_link.specs.declared.refusal.Refusal.TheVariants as refusal

@@ -1,5 +1,4 @@
-use Rattle.std.proofs.Common.{◌≡◌, List, ℕ, Err, false, sym, ap, ◌∙◌, subst, arith, refl}
-use Rattle.std.specs.Prelude.{Option, Some, None, if◌then◌else◌}
+use Rattle.std.proofs.Common.{◌≡◌, false, refl}
 use Rattle.gba_link.specs.JobForm.{is_cycles}
 use Rattle.gba_link.proofs.Digits.{IsAscii-from_digits, parsed_digits, not_cycles}
 use Rattle.gba_link.proofs.job.cycles_in.Goals as goal

@@ -1,5 +1,4 @@
-use Rattle.std.proofs.Common.{◌≡◌, ℕ, [], sym, ◌<◌, ◌≤◌, ◌++◌, ◌+◌, length, get_or, drop, refl, ap, ◌∙◌, arith, add-zero}
-use Rattle.std.proofs.lemmas.Grind.{common_steps}
+use Rattle.std.proofs.Common.{◌≡◌, ℕ, [], sym, ◌<◌, ◌++◌, length, get_or, drop, ap, ◌∙◌, arith}
 use Rattle.std.proofs.lemmas.List.{append-nil}
 use Rattle.gba_terms.specs.RegisterNames.{register_names}
 use Rattle.gba_link.specs.StateFile.{register_line, register_lines}

@@ -1,4 +1,4 @@
-use Rattle.std.proofs.Common.{◌≡◌, ◌+◌, ◌-◌, ◌*◌, ◌≤◌, ◌++◌, drop, vec_len}
+use Rattle.std.proofs.Common.{◌≡◌, ◌+◌, ◌*◌, ◌≤◌, ◌++◌, drop, vec_len}
 use Rattle.std.specs.Prelude.{vec_capacity}
 use Rattle.gba_terms.specs.RegisterNames.{register_names}
 use Rattle.gba_link.specs.StateFile.{register_lines}

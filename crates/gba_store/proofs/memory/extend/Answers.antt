@@ -12,6 +12,6 @@ returns-in_ok-extend_from_slice-in-Some-clause-ok c = record {
 pub returns-in_err-extend_from_slice-in-Some-clause-err : goal.returns-in_err-extend_from_slice-in-Some-clause-err
 returns-in_err-extend_from_slice-in-Some-clause-err c =
     let at : (other : List ℕ) → told (c.get_mut.follows.lender c.extend_from_slice.new.self) other ≡ told c.args.files.now other =
-        λ other. grind (arith, text_keys) in
+    λ other. grind (arith, text_keys) in
     let same : told (c.get_mut.follows.lender c.extend_from_slice.new.self) ≡ told c.args.files.now = λ t other. at other t in
     search rules
