@@ -11,6 +11,7 @@ use Rattle.gba_arm_table.specs.declared.operation.HalfKind.TheVariants.{StoreHal
 use Rattle.gba_arm_table.specs.declared.operation.Operand.{Operand}
 use Rattle.gba_arm_table.specs.declared.operation.Operand.TheVariants as operand
 use Rattle.gba_bus.specs.Meanings.{IsPrice, Load, Price, Store}
+use Rattle.gba_bus.specs.Widths.{aligned}
 use Rattle.gba_bus.specs.declared.width.Width.{Width}
 use Rattle.gba_bus.specs.declared.width.Width.TheVariants as width
 use Rattle.gba_bus.specs.declared.width.Width.TheVariants.{Word}
@@ -22,7 +23,7 @@ use Rattle.gba_arm_exec.specs.Done.{Done, IsStepLength}
 use Rattle.gba_arm_exec.specs.Execution.{executed, performed, performed_word}
 use Rattle.gba_arm_exec.specs.Multiplying.{multiplier_cycles}
 use Rattle.gba_arm_exec.specs.Processing.{shift_cost}
-use Rattle.gba_arm_exec.specs.Transfers.{after_load, after_store, after_swap, aligned, half_distance, loaded, moved, put, rebased, transfer_address, transfer_distance, unit_address, unit_width}
+use Rattle.gba_arm_exec.specs.Transfers.{after_load, after_store, after_swap, half_distance, loaded, moved, put, rebased, transfer_address, transfer_distance, unit_address, unit_width}
 use Rattle.gba_arm_exec.specs.declared.site.Site.{Site}
 use Rattle.gba_arm_exec.specs.declared.transfer.BlockTransfer.{BlockTransfer}
 use Rattle.gba_arm_exec.specs.declared.transfer.LoadUnit.{LoadUnit}

@@ -6,6 +6,7 @@ use Rattle.gba_arm_table.specs.declared.operation.HalfOffset.TheVariants as half
 use Rattle.gba_arm_table.specs.declared.operation.TransferOffset.{TransferOffset}
 use Rattle.gba_arm_table.specs.declared.operation.TransferOffset.TheVariants as transfer_offset
 use Rattle.gba_bus.specs.Meanings.{Load, Loaded, Price, Store, Stored}
+use Rattle.gba_bus.specs.Widths.{aligned}
 use Rattle.gba_bus.specs.declared.width.Width.{Width}
 use Rattle.gba_bus.specs.declared.width.Width.TheVariants as width
 use Rattle.gba_psr.specs.RegisterFile.{flags, with_register}
@@ -57,12 +58,6 @@ unit_value unit.Byte address read = read
 unit_value unit.Half address read = rotated read (8 * (address % 2))
 unit_value unit.SignedByte address read = sign_extended read 8
 unit_value unit.SignedHalf address read = sign_extended read (if address % 2 == 1 then 8 else 16)
-
--- where a store of this width writes: addresses are forced to its alignment
-abbrev pub aligned : Width → ℕ → ℕ
-aligned width.Byte address = address
-aligned width.Half address = address - address % 2
-aligned width.Word address = address - address % 4
 
 -- the base of a transfer, and the base moved
 abbrev pub base_of : SingleTransfer → Site → List ℕ → ℕ

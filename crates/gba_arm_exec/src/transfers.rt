@@ -1,7 +1,7 @@
 //! LDR, STR and their kinds, and SWP.
 
 ghost use Rattle.std.specs.Prelude.{◌≡◌, ◌<◌, ◌≤◌};
-ghost use Rattle.gba_arm_exec.specs.Transfers.{after_load, after_store, after_swap, aligned, half_distance, loaded, moved, put, rebased, transfer_address, transfer_distance, unit_address, unit_value, unit_width, with_base};
+ghost use Rattle.gba_arm_exec.specs.Transfers.{after_load, after_store, after_swap, half_distance, loaded, moved, put, rebased, transfer_address, transfer_distance, unit_address, unit_value, unit_width, with_base};
 ghost use Rattle.gba_arm_table.specs.Limits.{Within, half_registers, transfer_immediates, transfer_registers};
 
 use crate::Site;
@@ -172,17 +172,6 @@ fn load_unit<B: Bus>(bus: &mut B, site: Site, kind: LoadUnit, address: u32) -> (
     (value_of_unit(kind, address, read), price)
 }
 
-// Where a store writes.
-fn align(width: Width, address: u32) -> u32
-    ensures { result ≡ aligned width address }
-{
-    match width {
-        Width::Byte => address,
-        Width::Half => address - address % 2,
-        Width::Word => address - address % 4,
-    }
-}
-
 // One non-sequential store: the price.
 #[tactic(auto, unfolding(crate::specs::Transfers::put))]
 fn store_unit<B: Bus>(bus: &mut B, width: Width, address: u32, value: u32) -> u32
@@ -190,7 +179,7 @@ fn store_unit<B: Bus>(bus: &mut B, width: Width, address: u32, value: u32) -> u3
     ensures bus { B.state bus.new ≡ (put B.code_price_of B.load_of B.store_of width address value (B.state bus.old)).after }
     ensures most { result ≤ 18 }
 {
-    bus.store(align(width, address), width, value, false)
+    bus.store(width.align(address), width, value, false)
 }
 
 /// The base moved up or down.

@@ -28,7 +28,8 @@ use Rattle.gba_word.specs.declared.kinds.Shift.{Shift}
 use Rattle.gba_word.specs.declared.kinds.Shift.TheVariants.{Lsl, Lsr, Asr, Ror}
 use Rattle.std.specs.Int.{cast_unsigned, w32}
 use Rattle.std.specs.Prelude.{ℤ, pos, negsuc}
-use Rattle.gba_arm_table.specs.Numbers.{condition_of, condition_number, compute_of, compute_number, compare_of, compare_number, shift_of, shift_number, signed_of, flag_number}
+use Rattle.gba_word.specs.Sums.{flag_number}
+use Rattle.gba_arm_table.specs.Numbers.{condition_of, condition_number, compute_of, compute_number, compare_of, compare_number, shift_of, shift_number, signed_of}
 use Rattle.gba_arm_table.specs.Table.{operation, operation_of}
 use Rattle.gba_arm_table.specs.Branches.{branched}
 use Rattle.gba_arm_table.specs.Diagrams.{packed, diagram, has_manual_bits}

@@ -12,7 +12,8 @@ use Rattle.gba_arm_table.specs.declared.operation.HalfKind.TheVariants.{StoreHal
 use Rattle.gba_arm_table.specs.declared.operation.Operand.{Operand}
 use Rattle.gba_arm_table.specs.declared.operation.HalfOffset.TheVariants as half_offset
 use Rattle.std.specs.Int.{cast_unsigned, w32}
-use Rattle.gba_arm_table.specs.Numbers.{signed_of, condition_of, condition_number, compute_of, compute_number, compare_of, compare_number, shift_of, shift_number, flag_number}
+use Rattle.gba_word.specs.Sums.{flag_number}
+use Rattle.gba_arm_table.specs.Numbers.{signed_of, condition_of, condition_number, compute_of, compute_number, compare_of, compare_number, shift_of, shift_number}
 use Rattle.gba_arm_table.specs.Fields.{flag, condition, exchange, multiply, multiply_long, swap, half, read_status, write_status, plain_source, turned_source, is_compare, compare, compute, processing, by_register, fixed, turned, transfer, number_offset, shifted_offset, block, branch, interrupt}
 use Rattle.gba_arm_table.specs.Table.{rows, form_in, operation, operation_of}
 use Rattle.gba_arm_table.specs.Diagrams.{packed, diagram, processing_parts, has_manual_bits, has_manual_half, is_load, half_code}

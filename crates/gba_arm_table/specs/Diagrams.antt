@@ -15,7 +15,8 @@ use Rattle.gba_arm_table.specs.declared.operation.TransferOffset.{TransferOffset
 use Rattle.gba_arm_table.specs.declared.operation.TransferOffset.TheVariants as transfer_offset
 use Rattle.gba_arm_table.specs.declared.parts.Part.{Part}
 use Rattle.gba_arm_table.specs.Fields.{Bits}
-use Rattle.gba_arm_table.specs.Numbers.{condition_number, compute_number, compare_number, shift_number, flag_number}
+use Rattle.gba_word.specs.Sums.{flag_number}
+use Rattle.gba_arm_table.specs.Numbers.{condition_number, compute_number, compare_number, shift_number}
 
 -- The word of each operation as the manual draws it (ARM Architecture Reference Manual, A3 to A5): its parts from bit
 -- 31 down, with how many bits each has. Bits that should be one are ones, bits that should be zero are zeros.

@@ -83,10 +83,6 @@ shift_number Lsr = 1
 shift_number Asr = 2
 shift_number Ror = 3
 
--- a bit that is set is 1
-abbrev pub flag_number : Bool → ℕ
-flag_number set = if set then 1 else 0
-
 -- a number below 2 ^ 24 as a signed one of 24 bits
 abbrev pub signed_of : ℕ → ℤ
 signed_of n = if nat_lt n (2 ^ 23) then pos n else negsuc (2 ^ 24 - 1 - n)

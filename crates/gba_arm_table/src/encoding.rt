@@ -27,10 +27,10 @@ ghost use Rattle.gba_arm_table.specs.Numbers.{
   compare_number,
   compute_number,
   condition_number,
-  flag_number,
   shift_number,
 };
 ghost use Rattle.gba_arm_table.specs.Table.{operation};
+ghost use Rattle.gba_word.specs.Sums.{flag_number};
 
 use crate::limits::{immediates_fit, offsets_fit, registers_fit};
 use crate::operation::{ArmOp, Condition, HalfKind, HalfOffset, Operand, Source, TransferOffset};

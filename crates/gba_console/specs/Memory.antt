@@ -3,6 +3,7 @@ use Rattle.std.specs.Int.{w16, w32, from_le_bytes}
 use Rattle.std.specs.Prelude.{ℕ, Bool, true, ◌+◌, ◌-◌, ◌/◌, ◌%◌, ◌^◌, ◌==◌, nat_lt, List, [], ◌∷◌, slice_index, slice_set, if◌then◌else◌}
 use Rattle.gba_terms.specs.Bits.{field}
 use Rattle.gba_bus.specs.Meanings.{Code, Price, Load, Store, IsPrice}
+use Rattle.gba_bus.specs.Widths.{aligned}
 use Rattle.gba_bus.specs.declared.width.Width.{Width}
 use Rattle.gba_bus.specs.declared.width.Width.TheVariants.{Byte, Half, Word}
 
@@ -20,18 +21,6 @@ is_inner address = address / 2 ^ 24 == 3
 
 abbrev pub inner_place : ℕ → ℕ
 inner_place address = address % 0x8000
-
--- the address of an access: memory takes the low bits as 0
-abbrev pub aligned : Width → ℕ → ℕ
-aligned Byte address = address
-aligned Half address = address - address % 2
-aligned Word address = address - address % 4
-
--- how many bytes an access has
-abbrev pub size : Width → ℕ
-size Byte = 1
-size Half = 2
-size Word = 4
 
 -- the number that stands at a place, its lowest byte first
 abbrev pub number_at : List ℕ → ℕ → Width → ℕ

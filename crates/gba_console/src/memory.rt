@@ -1,8 +1,9 @@
 //! The memories of a console, as the bus of its processor.
 
 ghost use Rattle.std.specs.Prelude.{◌≡◌, ◌+◌, ◌<◌, ◌≤◌, ◌^◌, length, replicate, IfOk, vec_len};
+ghost use Rattle.gba_bus.specs.Widths.{aligned, size};
 ghost use Rattle.gba_console.specs.Machine.{inner_length};
-ghost use Rattle.gba_console.specs.Memory.{is_bios, is_inner, inner_place, aligned, size, number_at, with_number_at, read, written};
+ghost use Rattle.gba_console.specs.Memory.{is_bios, is_inner, inner_place, number_at, with_number_at, read, written};
 
 use gba_bus::{Bus, Width};
 use gba_word::bits;
@@ -14,6 +15,9 @@ pub const BIOS_LENGTH: usize = 16_384;
 
 /// The length of the inner RAM in bytes (GBATEK, GBA Memory Map).
 pub const INNER_LENGTH: usize = 32_768;
+
+/// What an address without memory reads.
+const NO_MEMORY: u32 = 0;
 
 /// The BIOS and the inner RAM. Every other address reads 0 and drops writes; each access costs 1 cycle. This project's
 /// profile until the other memories come.
@@ -44,17 +48,6 @@ fn in_inner(address: u32) -> bool
     ensures { result ≡ is_inner address }
 {
     address >> 24 == 3
-}
-
-/// The address of an access of this width.
-fn align(width: Width, address: u32) -> u32
-    ensures { result ≡ aligned width address }
-{
-    match width {
-        Width::Byte => address,
-        Width::Half => address - address % 2,
-        Width::Word => address - address % 4,
-    }
 }
 
 /// The bytes that an access of this width has.
@@ -100,7 +93,7 @@ fn bios_place(address: u32, width: Width) -> usize
     ensures place { result ≡ aligned width address }
     ensures within { result + size width ≤ 16384 }
 {
-    align(width, address) as usize
+    width.align(address) as usize
 }
 
 /// Where an access stands in the inner RAM.
@@ -108,7 +101,7 @@ fn place_in_inner(address: u32, width: Width) -> usize
     ensures place { result ≡ inner_place (aligned width address) }
     ensures within { result + size width ≤ 32768 }
 {
-    (align(width, address) % 0x8000) as usize
+    (width.align(address) % 0x8000) as usize
 }
 
 impl Memory {
@@ -146,7 +139,7 @@ impl Memory {
         } else if in_inner(address) {
             number(self.inner.as_slice(), place_in_inner(address, width), width)
         } else {
-            0
+            NO_MEMORY
         }
     }
 
