@@ -14,6 +14,7 @@ mod multiplying;
 mod outcome;
 mod performing;
 mod processing;
+mod products;
 mod site;
 mod status_moves;
 mod transfer;

@@ -11,6 +11,7 @@ use crate::blocks::{load_block, store_block};
 use crate::branching::{branch, exchange, interrupt, trap};
 use crate::multiplying::{multiply, multiply_long, multiply_long_price, multiply_price};
 use crate::processing::{compare, compare_price, compute, compute_price};
+use crate::products::{LongProduct, Product};
 use crate::status_moves::{read_status, write_status};
 use crate::transfer::{BlockTransfer, LoadUnit, SingleTransfer};
 use crate::transfers::{distance_of_half, distance_of_transfer, load_single, store_single, swap};
@@ -39,8 +40,16 @@ pub fn perform<B: Bus>(registers: &mut Registers, bus: &mut B, site: Site, op: A
             rm,
             ..
         } => {
-            let price = multiply_price(registers, bus, site, accumulate, rd, rs);
-            multiply(registers, site, accumulate, set, rd, rn, rs, rm);
+            let one = Product {
+                accumulate,
+                set,
+                rd,
+                rn,
+                rs,
+                rm,
+            };
+            let price = multiply_price(registers, bus, site, one);
+            multiply(registers, site, one);
             price
         }
         ArmOp::MultiplyLong {
@@ -53,8 +62,17 @@ pub fn perform<B: Bus>(registers: &mut Registers, bus: &mut B, site: Site, op: A
             rm,
             ..
         } => {
-            let price = multiply_long_price(registers, bus, site, signed, accumulate, hi, lo, rs);
-            multiply_long(registers, site, signed, accumulate, set, hi, lo, rs, rm);
+            let one = LongProduct {
+                signed,
+                accumulate,
+                set,
+                hi,
+                lo,
+                rs,
+                rm,
+            };
+            let price = multiply_long_price(registers, bus, site, one);
+            multiply_long(registers, site, one);
             price
         }
         ArmOp::Swap {
