@@ -1,7 +1,7 @@
 //! The multiplies with their registers.
 
 /// MUL and MLA: `rd` takes `rm` times `rs`, plus `rn` where it accumulates. `set` is the bit S.
-#[derive(Clone, Copy, Debug, PartialEq, Eq)]
+#[derive(Clone, Copy)]
 pub struct Product {
     pub accumulate: bool,
     pub set: bool,
@@ -12,7 +12,7 @@ pub struct Product {
 }
 
 /// A long multiply: `hi` and `lo` take `rm` times `rs`, plus themselves where it accumulates. `set` is the bit S.
-#[derive(Clone, Copy, Debug, PartialEq, Eq)]
+#[derive(Clone, Copy)]
 pub struct LongProduct {
     pub signed: bool,
     pub accumulate: bool,
