@@ -18,6 +18,8 @@ use Rattle.gba_arm_exec.specs.Multiplying.{after_multiply, after_multiply_long, 
 use Rattle.gba_arm_exec.specs.Processing.{after_compare, after_compute, compare_cost, compute_cost}
 use Rattle.gba_arm_exec.specs.StatusMoves.{after_read_status, after_write_status, read_status_cost, write_status_cost}
 use Rattle.gba_arm_exec.specs.Transfers.{after_load, after_store, after_swap, half_distance, transfer_distance}
+use Rattle.gba_arm_exec.specs.declared.products.LongProduct.{LongProduct}
+use Rattle.gba_arm_exec.specs.declared.products.Product.{Product}
 use Rattle.gba_arm_exec.specs.declared.site.Site.{Site}
 use Rattle.gba_arm_exec.specs.declared.transfer.BlockTransfer.{BlockTransfer}
 use Rattle.gba_arm_exec.specs.declared.transfer.LoadUnit.TheVariants as unit
@@ -51,11 +53,12 @@ module _ {State : Type 0} (price : Price State) (load : Load State) (store : Sto
   performed (op.Exchange cond rm) site file bus =
       internal bus (after_exchange rm site file) (jump_cost (code_cost price bus site))
   performed (op.Multiply cond accumulate set rd rn rs rm) site file bus =
-      internal bus (after_multiply accumulate set rd rn rs rm site file)
-      (multiply_cost accumulate rd rs site file (code_cost price bus site))
+      let one : Product = record { accumulate = accumulate; set = set; rd = rd; rn = rn; rs = rs; rm = rm } in
+      internal bus (after_multiply one site file) (multiply_cost one site file (code_cost price bus site))
   performed (op.MultiplyLong cond signed accumulate set hi lo rs rm) site file bus =
-      internal bus (after_multiply_long signed accumulate set hi lo rs rm site file)
-      (multiply_long_cost signed accumulate hi lo rs site file (code_cost price bus site))
+      let one : LongProduct =
+      record { signed = signed; accumulate = accumulate; set = set; hi = hi; lo = lo; rs = rs; rm = rm } in
+      internal bus (after_multiply_long one site file) (multiply_long_cost one site file (code_cost price bus site))
   performed (op.Swap cond byte rn rd rm) site file bus = after_swap price load store byte rn rd rm site file bus
   performed (op.Half cond kind pre up write rn rd offset) site file bus =
       after_half kind

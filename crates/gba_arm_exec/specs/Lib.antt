@@ -4,6 +4,7 @@ pub mod Branching
 pub mod Conditions
 pub mod Done
 pub mod Execution
+pub mod Lengths
 pub mod Multiplying
 pub mod Processing
 pub mod StatusMoves

@@ -3,7 +3,7 @@
 ghost use Rattle.std.specs.Prelude.{◌≡◌, ◌+◌, ◌<◌, ◌≤◌, false, if◌then◌else◌};
 ghost use Rattle.gba_arm_exec.specs.Blocks.{after_load_block, after_store_block, block_register, concluded_block, first_address, full_list, listed, loads, lowest, span, stores, with_block_register};
 ghost use Rattle.gba_arm_exec.specs.Transfers.{rebased};
-ghost use Rattle.gba_arm_exec.specs.Done.{Done};
+ghost use Rattle.gba_arm_exec.specs.Done.{Done, Leaves};
 ghost use Rattle.gba_bus.specs.declared.width.Width.TheVariants.{Word};
 
 use crate::Site;
@@ -25,9 +25,9 @@ fn load_listed<B: Bus>(
     cycles: u32,
 ) -> u32
     requires { cycles ≤ 100 }
-    ensures registers { registers.new ≡ (loads B.code_price_of B.load_of B.store_of user site (listed list 0 16) first false (record { registers = registers.old; bus = B.state bus.old; cycles = cycles })).registers }
-    ensures bus { B.state bus.new ≡ (loads B.code_price_of B.load_of B.store_of user site (listed list 0 16) first false (record { registers = registers.old; bus = B.state bus.old; cycles = cycles })).bus }
-    ensures cycles { result ≡ (loads B.code_price_of B.load_of B.store_of user site (listed list 0 16) first false (record { registers = registers.old; bus = B.state bus.old; cycles = cycles })).cycles }
+    ensures left { Leaves (loads B.code_price_of B.load_of B.store_of user site (listed list 0 16) first false
+        (record { registers = registers.old; bus = B.state bus.old; cycles = cycles }))
+        registers.new (B.state bus.new) result }
     ensures most { result ≤ cycles + 288 }
 {
     let mut total = cycles;
@@ -90,9 +90,9 @@ fn store_listed<B: Bus>(
 ) -> u32
     requires cycles { cycles ≤ 100 }
     requires rn { block.rn < 16 }
-    ensures registers { registers.new ≡ (stores B.code_price_of B.load_of B.store_of block.user site block.write block.rn base (listed list 0 16) first false (record { registers = registers.old; bus = B.state bus.old; cycles = cycles })).registers }
-    ensures bus { B.state bus.new ≡ (stores B.code_price_of B.load_of B.store_of block.user site block.write block.rn base (listed list 0 16) first false (record { registers = registers.old; bus = B.state bus.old; cycles = cycles })).bus }
-    ensures cycles { result ≡ (stores B.code_price_of B.load_of B.store_of block.user site block.write block.rn base (listed list 0 16) first false (record { registers = registers.old; bus = B.state bus.old; cycles = cycles })).cycles }
+    ensures left { Leaves (stores B.code_price_of B.load_of B.store_of block.user site block.write block.rn base (listed list 0 16) first false
+        (record { registers = registers.old; bus = B.state bus.old; cycles = cycles }))
+        registers.new (B.state bus.new) result }
     ensures most { result ≤ cycles + 288 }
 {
     let mut total = cycles;
@@ -168,9 +168,8 @@ pub fn load_block<B: Bus>(
     block: BlockTransfer,
 ) -> u32
     requires { block.rn < 16 }
-    ensures registers { registers.new ≡ (after_load_block B.code_price_of B.load_of B.store_of block site registers.old (B.state bus.old)).registers }
-    ensures bus { B.state bus.new ≡ (after_load_block B.code_price_of B.load_of B.store_of block site registers.old (B.state bus.old)).bus }
-    ensures cycles { result ≡ (after_load_block B.code_price_of B.load_of B.store_of block site registers.old (B.state bus.old)).cycles }
+    ensures { Leaves (after_load_block B.code_price_of B.load_of B.store_of block site registers.old (B.state bus.old))
+        registers.new (B.state bus.new) result }
 {
     let base = read_operand(registers, site.counter(), block.rn);
     let list = list_or_counter(block.list);
@@ -211,9 +210,8 @@ pub fn store_block<B: Bus>(
     block: BlockTransfer,
 ) -> u32
     requires { block.rn < 16 }
-    ensures registers { registers.new ≡ (after_store_block B.code_price_of B.load_of B.store_of block site registers.old (B.state bus.old)).registers }
-    ensures bus { B.state bus.new ≡ (after_store_block B.code_price_of B.load_of B.store_of block site registers.old (B.state bus.old)).bus }
-    ensures cycles { result ≡ (after_store_block B.code_price_of B.load_of B.store_of block site registers.old (B.state bus.old)).cycles }
+    ensures { Leaves (after_store_block B.code_price_of B.load_of B.store_of block site registers.old (B.state bus.old))
+        registers.new (B.state bus.new) result }
 {
     let base = read_operand(registers, site.counter(), block.rn);
     let code = code_price(bus, site, false);

@@ -2,6 +2,7 @@
 //! What each ARM instruction does to registers and memory, over any bus, and what it costs.
 
 ghost use Rattle.std.specs.Prelude.{◌≡◌};
+ghost use Rattle.gba_arm_exec.specs.Done.{Leaves};
 ghost use Rattle.gba_arm_exec.specs.Execution.{executed};
 
 mod access;
@@ -13,12 +14,14 @@ mod multiplying;
 mod outcome;
 mod performing;
 mod processing;
+mod products;
 mod site;
 mod status_moves;
 mod transfer;
 mod transfers;
 
-use conditions::condition_holds;
+pub use access::{code_price, jump, jump_price};
+pub use conditions::condition_holds;
 use gba_arm_table::decode;
 use gba_bus::{Bus, Width};
 use gba_psr::Registers;
@@ -31,9 +34,8 @@ pub use site::Site;
 /// next instruction (ARM Architecture Reference Manual, version 4T; cycles by the ARM7TDMI Technical Reference Manual).
 #[tactic(auto, unfolding(crate::specs::Execution::executed))]
 pub fn execute<B: Bus>(registers: &mut Registers, bus: &mut B, word: u32) -> u32
-    ensures registers { registers.new ≡ (executed B.code_price_of B.load_of B.store_of word registers.old (B.state bus.old)).registers }
-    ensures bus { B.state bus.new ≡ (executed B.code_price_of B.load_of B.store_of word registers.old (B.state bus.old)).bus }
-    ensures cycles { result ≡ (executed B.code_price_of B.load_of B.store_of word registers.old (B.state bus.old)).cycles }
+    ensures { Leaves (executed B.code_price_of B.load_of B.store_of word registers.old (B.state bus.old))
+        registers.new (B.state bus.new) result }
 {
     let site = Site {
         address: registers.get(15),

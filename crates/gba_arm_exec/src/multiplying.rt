@@ -6,46 +6,38 @@ ghost use Rattle.gba_arm_exec.specs.Multiplying.{after_multiply, after_multiply_
 
 use crate::Site;
 use crate::access::{code_price, read_operand, refill_price, write_result};
+use crate::products::{LongProduct, Product};
 use gba_bus::Bus;
 use gba_psr::{Flags, Registers};
 use gba_word::{bit, bits};
 
 /// MUL and MLA.
-pub fn multiply(
-    registers: &mut Registers,
-    site: Site,
-    accumulate: bool,
-    set: bool,
-    rd: u8,
-    rn: u8,
-    rs: u8,
-    rm: u8,
-)
-    requires rd { rd < 16 }
-    requires rn { rn < 16 }
-    requires rs { rs < 16 }
-    requires rm { rm < 16 }
-    ensures { registers.new ≡ after_multiply accumulate set rd rn rs rm site registers.old }
+pub fn multiply(registers: &mut Registers, site: Site, one: Product)
+    requires rd { one.rd < 16 }
+    requires rn { one.rn < 16 }
+    requires rs { one.rs < 16 }
+    requires rm { one.rm < 16 }
+    ensures { registers.new ≡ after_multiply one site registers.old }
 {
-    let value = make_product(registers, site, accumulate, rn, rs, rm);
-    write_product(registers, set, rd, value);
+    let value = make_product(registers, site, one);
+    write_product(registers, one.set, one.rd, value);
 }
 
 #[tactic(auto, unfolding(crate::specs::Multiplying::product))]
-fn make_product(registers: &Registers, site: Site, accumulate: bool, rn: u8, rs: u8, rm: u8) -> u32
-    requires rn { rn < 16 }
-    requires rs { rs < 16 }
-    requires rm { rm < 16 }
-    ensures { result ≡ product accumulate rn rs rm site registers.now }
+fn make_product(registers: &Registers, site: Site, one: Product) -> u32
+    requires rn { one.rn < 16 }
+    requires rs { one.rs < 16 }
+    requires rm { one.rm < 16 }
+    ensures { result ≡ product one site registers.now }
 {
     let counter = site.counter();
-    let added = if accumulate {
-        read_operand(registers, counter, rn)
+    let added = if one.accumulate {
+        read_operand(registers, counter, one.rn)
     } else {
         0
     };
-    read_operand(registers, counter, rm)
-        .wrapping_mul(read_operand(registers, counter, rs))
+    read_operand(registers, counter, one.rm)
+        .wrapping_mul(read_operand(registers, counter, one.rs))
         .wrapping_add(added)
 }
 
@@ -68,50 +60,31 @@ fn write_product(registers: &mut Registers, set: bool, rd: u8, value: u32)
 }
 
 /// UMULL, UMLAL, SMULL, SMLAL.
-pub fn multiply_long(
-    registers: &mut Registers,
-    site: Site,
-    signed: bool,
-    accumulate: bool,
-    set: bool,
-    hi: u8,
-    lo: u8,
-    rs: u8,
-    rm: u8,
-)
-    requires hi { hi < 16 }
-    requires lo { lo < 16 }
-    requires rs { rs < 16 }
-    requires rm { rm < 16 }
-    ensures { registers.new ≡ after_multiply_long signed accumulate set hi lo rs rm site registers.old }
+pub fn multiply_long(registers: &mut Registers, site: Site, one: LongProduct)
+    requires hi { one.hi < 16 }
+    requires lo { one.lo < 16 }
+    requires rs { one.rs < 16 }
+    requires rm { one.rm < 16 }
+    ensures { registers.new ≡ after_multiply_long one site registers.old }
 {
-    let value = make_long_product(registers, site, signed, accumulate, hi, lo, rs, rm);
-    write_long_product(registers, set, hi, lo, value);
+    let value = make_long_product(registers, site, one);
+    write_long_product(registers, one.set, one.hi, one.lo, value);
 }
 
 #[tactic(auto, unfolding(crate::specs::Multiplying::long_product))]
-fn make_long_product(
-    registers: &Registers,
-    site: Site,
-    signed: bool,
-    accumulate: bool,
-    hi: u8,
-    lo: u8,
-    rs: u8,
-    rm: u8,
-) -> u64
-    requires hi { hi < 16 }
-    requires lo { lo < 16 }
-    requires rs { rs < 16 }
-    requires rm { rm < 16 }
-    ensures { result ≡ long_product signed accumulate hi lo rs rm site registers.now }
+fn make_long_product(registers: &Registers, site: Site, one: LongProduct) -> u64
+    requires hi { one.hi < 16 }
+    requires lo { one.lo < 16 }
+    requires rs { one.rs < 16 }
+    requires rm { one.rm < 16 }
+    ensures { result ≡ long_product one site registers.now }
 {
     let counter = site.counter();
-    let a = extend(signed, read_operand(registers, counter, rm));
-    let b = extend(signed, read_operand(registers, counter, rs));
-    let added = if accumulate {
-        (u64::from(read_operand(registers, counter, hi)) << 32)
-            + u64::from(read_operand(registers, counter, lo))
+    let a = extend(one.signed, read_operand(registers, counter, one.rm));
+    let b = extend(one.signed, read_operand(registers, counter, one.rs));
+    let added = if one.accumulate {
+        (u64::from(read_operand(registers, counter, one.hi)) << 32)
+            + u64::from(read_operand(registers, counter, one.lo))
     } else {
         0
     };
@@ -157,19 +130,13 @@ fn write_halves(registers: &mut Registers, hi: u8, lo: u8, value: u64)
 }
 
 /// What MUL and MLA cost, before they are made.
-pub fn multiply_price<B: Bus>(
-    registers: &Registers,
-    bus: &B,
-    site: Site,
-    accumulate: bool,
-    rd: u8,
-    rs: u8,
-) -> u32
-    requires { rs < 16 }
-    ensures { result ≡ multiply_cost accumulate rd rs site registers.now (code_cost B.code_price_of (B.state bus.now) site) }
+pub fn multiply_price<B: Bus>(registers: &Registers, bus: &B, site: Site, one: Product) -> u32
+    requires { one.rs < 16 }
+    ensures { result ≡ multiply_cost one site registers.now (code_cost B.code_price_of (B.state bus.now) site) }
 {
-    let cycles = cycles_of_multiplier(true, read_operand(registers, site.counter(), rs));
-    code_price(bus, site, true) + cycles + u32::from(accumulate) + refill_price(bus, site, rd)
+    let cycles = cycles_of_multiplier(true, read_operand(registers, site.counter(), one.rs));
+    let accumulate = u32::from(one.accumulate);
+    code_price(bus, site, true) + cycles + accumulate + refill_price(bus, site, one.rd)
 }
 
 /// What a long multiply costs, before it is made.
@@ -177,22 +144,15 @@ pub fn multiply_long_price<B: Bus>(
     registers: &Registers,
     bus: &B,
     site: Site,
-    signed: bool,
-    accumulate: bool,
-    hi: u8,
-    lo: u8,
-    rs: u8,
+    one: LongProduct,
 ) -> u32
-    requires { rs < 16 }
-    ensures { result ≡ multiply_long_cost signed accumulate hi lo rs site registers.now (code_cost B.code_price_of (B.state bus.now) site) }
+    requires { one.rs < 16 }
+    ensures { result ≡ multiply_long_cost one site registers.now (code_cost B.code_price_of (B.state bus.now) site) }
 {
-    let cycles = cycles_of_multiplier(signed, read_operand(registers, site.counter(), rs));
-    let written = if hi == 15 { hi } else { lo };
-    code_price(bus, site, true)
-        + cycles
-        + 1
-        + u32::from(accumulate)
-        + refill_price(bus, site, written)
+    let cycles = cycles_of_multiplier(one.signed, read_operand(registers, site.counter(), one.rs));
+    let accumulate = u32::from(one.accumulate);
+    let written = if one.hi == 15 { one.hi } else { one.lo };
+    code_price(bus, site, true) + cycles + 1 + accumulate + refill_price(bus, site, written)
 }
 
 // The cycles of the multiplier.

@@ -1,7 +1,7 @@
 //! What a data operation gives.
 
 /// A result with the carry and the overflow that go with it.
-#[derive(Clone, Copy, Debug, PartialEq, Eq)]
+#[derive(Clone, Copy)]
 pub struct Outcome {
     pub value: u32,
     pub carry: bool,

@@ -1,6 +1,7 @@
 //! One operation, and one word.
 
 ghost use Rattle.std.specs.Prelude.{◌≡◌, ◌<◌, IfSome};
+ghost use Rattle.gba_arm_exec.specs.Done.{Leaves};
 ghost use Rattle.gba_arm_exec.specs.Execution.{after_block, after_half, after_transfer, performed, performed_word};
 ghost use Rattle.gba_arm_table.specs.Limits.{Fits};
 
@@ -10,6 +11,7 @@ use crate::blocks::{load_block, store_block};
 use crate::branching::{branch, exchange, interrupt, trap};
 use crate::multiplying::{multiply, multiply_long, multiply_long_price, multiply_price};
 use crate::processing::{compare, compare_price, compute, compute_price};
+use crate::products::{LongProduct, Product};
 use crate::status_moves::{read_status, write_status};
 use crate::transfer::{BlockTransfer, LoadUnit, SingleTransfer};
 use crate::transfers::{distance_of_half, distance_of_transfer, load_single, store_single, swap};
@@ -21,9 +23,8 @@ use gba_psr::Registers;
 #[tactic(auto, unfolding(crate::specs::Execution::performed))]
 pub fn perform<B: Bus>(registers: &mut Registers, bus: &mut B, site: Site, op: ArmOp) -> u32
     requires { Fits op }
-    ensures registers { registers.new ≡ (performed B.code_price_of B.load_of B.store_of op site registers.old (B.state bus.old)).registers }
-    ensures bus { B.state bus.new ≡ (performed B.code_price_of B.load_of B.store_of op site registers.old (B.state bus.old)).bus }
-    ensures cycles { result ≡ (performed B.code_price_of B.load_of B.store_of op site registers.old (B.state bus.old)).cycles }
+    ensures { Leaves (performed B.code_price_of B.load_of B.store_of op site registers.old (B.state bus.old))
+        registers.new (B.state bus.new) result }
 {
     match op {
         ArmOp::Exchange { rm, .. } => {
@@ -39,8 +40,16 @@ pub fn perform<B: Bus>(registers: &mut Registers, bus: &mut B, site: Site, op: A
             rm,
             ..
         } => {
-            let price = multiply_price(registers, bus, site, accumulate, rd, rs);
-            multiply(registers, site, accumulate, set, rd, rn, rs, rm);
+            let one = Product {
+                accumulate,
+                set,
+                rd,
+                rn,
+                rs,
+                rm,
+            };
+            let price = multiply_price(registers, bus, site, one);
+            multiply(registers, site, one);
             price
         }
         ArmOp::MultiplyLong {
@@ -53,8 +62,17 @@ pub fn perform<B: Bus>(registers: &mut Registers, bus: &mut B, site: Site, op: A
             rm,
             ..
         } => {
-            let price = multiply_long_price(registers, bus, site, signed, accumulate, hi, lo, rs);
-            multiply_long(registers, site, signed, accumulate, set, hi, lo, rs, rm);
+            let one = LongProduct {
+                signed,
+                accumulate,
+                set,
+                hi,
+                lo,
+                rs,
+                rm,
+            };
+            let price = multiply_long_price(registers, bus, site, one);
+            multiply_long(registers, site, one);
             price
         }
         ArmOp::Swap {
@@ -197,9 +215,8 @@ fn transfer_half<B: Bus>(
 ) -> u32
     requires rn { one.rn < 16 }
     requires rd { one.rd < 16 }
-    ensures registers { registers.new ≡ (after_half B.code_price_of B.load_of B.store_of kind one site registers.old (B.state bus.old)).registers }
-    ensures bus { B.state bus.new ≡ (after_half B.code_price_of B.load_of B.store_of kind one site registers.old (B.state bus.old)).bus }
-    ensures cycles { result ≡ (after_half B.code_price_of B.load_of B.store_of kind one site registers.old (B.state bus.old)).cycles }
+    ensures { Leaves (after_half B.code_price_of B.load_of B.store_of kind one site registers.old (B.state bus.old))
+        registers.new (B.state bus.new) result }
 {
     match kind {
         HalfKind::StoreHalf => store_single(registers, bus, site, Width::Half, one),
@@ -220,9 +237,8 @@ fn transfer<B: Bus>(
 ) -> u32
     requires rn { one.rn < 16 }
     requires rd { one.rd < 16 }
-    ensures registers { registers.new ≡ (after_transfer B.code_price_of B.load_of B.store_of load byte one site registers.old (B.state bus.old)).registers }
-    ensures bus { B.state bus.new ≡ (after_transfer B.code_price_of B.load_of B.store_of load byte one site registers.old (B.state bus.old)).bus }
-    ensures cycles { result ≡ (after_transfer B.code_price_of B.load_of B.store_of load byte one site registers.old (B.state bus.old)).cycles }
+    ensures { Leaves (after_transfer B.code_price_of B.load_of B.store_of load byte one site registers.old (B.state bus.old))
+        registers.new (B.state bus.new) result }
 {
     if load {
         load_single(
@@ -251,9 +267,8 @@ fn transfer_block<B: Bus>(
     block: BlockTransfer,
 ) -> u32
     requires { block.rn < 16 }
-    ensures registers { registers.new ≡ (after_block B.code_price_of B.load_of B.store_of load block site registers.old (B.state bus.old)).registers }
-    ensures bus { B.state bus.new ≡ (after_block B.code_price_of B.load_of B.store_of load block site registers.old (B.state bus.old)).bus }
-    ensures cycles { result ≡ (after_block B.code_price_of B.load_of B.store_of load block site registers.old (B.state bus.old)).cycles }
+    ensures { Leaves (after_block B.code_price_of B.load_of B.store_of load block site registers.old (B.state bus.old))
+        registers.new (B.state bus.new) result }
 {
     if load {
         load_block(registers, bus, site, block)
@@ -271,9 +286,8 @@ pub fn perform_word<B: Bus>(
     op: Option<ArmOp>,
 ) -> u32
     requires { IfSome op Fits }
-    ensures registers { registers.new ≡ (performed_word B.code_price_of B.load_of B.store_of op site registers.old (B.state bus.old)).registers }
-    ensures bus { B.state bus.new ≡ (performed_word B.code_price_of B.load_of B.store_of op site registers.old (B.state bus.old)).bus }
-    ensures cycles { result ≡ (performed_word B.code_price_of B.load_of B.store_of op site registers.old (B.state bus.old)).cycles }
+    ensures { Leaves (performed_word B.code_price_of B.load_of B.store_of op site registers.old (B.state bus.old))
+        registers.new (B.state bus.new) result }
 {
     match op {
         Some(op) => perform(registers, bus, site, op),

@@ -1,7 +1,7 @@
 //! The transfers of LDR, STR, LDM and STM, and what a load reads.
 
 /// What a single load reads.
-#[derive(Clone, Copy, Debug, PartialEq, Eq)]
+#[derive(Clone, Copy)]
 pub enum LoadUnit {
     Word,
     Byte,
@@ -11,7 +11,7 @@ pub enum LoadUnit {
 }
 
 /// A single transfer: `distance` is the offset's value in bytes.
-#[derive(Clone, Copy, Debug, PartialEq, Eq)]
+#[derive(Clone, Copy)]
 pub struct SingleTransfer {
     pub pre: bool,
     pub up: bool,
@@ -22,7 +22,7 @@ pub struct SingleTransfer {
 }
 
 /// A block transfer: bit n of `list` is register n, and `user` the S bit.
-#[derive(Clone, Copy, Debug, PartialEq, Eq)]
+#[derive(Clone, Copy)]
 pub struct BlockTransfer {
     pub pre: bool,
     pub up: bool,

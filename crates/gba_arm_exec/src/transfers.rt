@@ -1,6 +1,7 @@
 //! LDR, STR and their kinds, and SWP.
 
 ghost use Rattle.std.specs.Prelude.{◌≡◌, ◌<◌, ◌≤◌};
+ghost use Rattle.gba_arm_exec.specs.Done.{Leaves};
 ghost use Rattle.gba_arm_exec.specs.Transfers.{after_load, after_store, after_swap, half_distance, loaded, moved, put, rebased, transfer_address, transfer_distance, unit_address, unit_value, unit_width, with_base};
 ghost use Rattle.gba_arm_table.specs.Limits.{Within, half_registers, transfer_immediates, transfer_registers};
 
@@ -51,9 +52,8 @@ pub fn load_single<B: Bus>(
 ) -> u32
     requires rn { one.rn < 16 }
     requires rd { one.rd < 16 }
-    ensures registers { registers.new ≡ (after_load B.code_price_of B.load_of B.store_of kind one site registers.old (B.state bus.old)).registers }
-    ensures bus { B.state bus.new ≡ (after_load B.code_price_of B.load_of B.store_of kind one site registers.old (B.state bus.old)).bus }
-    ensures cycles { result ≡ (after_load B.code_price_of B.load_of B.store_of kind one site registers.old (B.state bus.old)).cycles }
+    ensures { Leaves (after_load B.code_price_of B.load_of B.store_of kind one site registers.old (B.state bus.old))
+        registers.new (B.state bus.new) result }
 {
     let code = code_price(bus, site, true);
     let refill = refill_price(bus, site, one.rd);
@@ -74,9 +74,8 @@ pub fn store_single<B: Bus>(
 ) -> u32
     requires rn { one.rn < 16 }
     requires rd { one.rd < 16 }
-    ensures registers { registers.new ≡ (after_store B.code_price_of B.load_of B.store_of width one site registers.old (B.state bus.old)).registers }
-    ensures bus { B.state bus.new ≡ (after_store B.code_price_of B.load_of B.store_of width one site registers.old (B.state bus.old)).bus }
-    ensures cycles { result ≡ (after_store B.code_price_of B.load_of B.store_of width one site registers.old (B.state bus.old)).cycles }
+    ensures { Leaves (after_store B.code_price_of B.load_of B.store_of width one site registers.old (B.state bus.old))
+        registers.new (B.state bus.new) result }
 {
     let code = code_price(bus, site, false);
     let value = read_operand(registers, site.late_counter(), one.rd);
@@ -99,9 +98,8 @@ pub fn swap<B: Bus>(
     requires rn { rn < 16 }
     requires rd { rd < 16 }
     requires rm { rm < 16 }
-    ensures registers { registers.new ≡ (after_swap B.code_price_of B.load_of B.store_of byte rn rd rm site registers.old (B.state bus.old)).registers }
-    ensures bus { B.state bus.new ≡ (after_swap B.code_price_of B.load_of B.store_of byte rn rd rm site registers.old (B.state bus.old)).bus }
-    ensures cycles { result ≡ (after_swap B.code_price_of B.load_of B.store_of byte rn rd rm site registers.old (B.state bus.old)).cycles }
+    ensures { Leaves (after_swap B.code_price_of B.load_of B.store_of byte rn rd rm site registers.old (B.state bus.old))
+        registers.new (B.state bus.new) result }
 {
     let code = code_price(bus, site, true);
     let refill = refill_price(bus, site, rd);

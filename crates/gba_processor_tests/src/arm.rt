@@ -1,9 +1,11 @@
 //! ARM words by hand: the worked ones, r15 in each place, conditions, status registers, banks.
 
 use crate::Ram;
-use gba_arm_exec::execute;
+use gba_arm_exec::{Site, execute, perform};
+use gba_arm_table::{ArmOp, ComputeOp, Condition, Operand};
 use gba_bus::{Bus, Width};
 use gba_psr::Registers;
+use gba_word::Shift;
 
 /// Registers with r15, CPSR and r0 to r3 as told.
 pub fn at(address: u32, status: u32, low: [u32; 4]) -> Registers {
@@ -376,5 +378,74 @@ fn blocks_of_user_registers(rt: HostRuntime) {
             stored,
         );
         assert_eq!(rt; after, want, "{word:x} at {status:x}");
+    }
+}
+
+// Operations at a Thumb address, as Thumb instructions stand for them: the operation, r0, r14, r15, CPSR and cycles over
+// slow memory. Before it r0 is 9, r1 03000007h, r15 the address plus 2 and CPSR 30h.
+#[test]
+fn operations_at_a_thumb_address(rt: HostRuntime) {
+    let cond = Condition::Always;
+    let to_r0 = Operand::Fixed {
+        rm: 15,
+        kind: Shift::Lsl,
+        amount: 0,
+    };
+    let to_r15 = Operand::Fixed {
+        rm: 1,
+        kind: Shift::Lsl,
+        amount: 0,
+    };
+    let op = ComputeOp::Mov;
+    for (op, want) in [
+        (
+            ArmOp::Compute {
+                cond,
+                op,
+                set: false,
+                rn: 0,
+                rd: 0,
+                operand: to_r0,
+            },
+            (0x0800_0104, 0, 0x0800_0102, 0x30, 2),
+        ),
+        (
+            ArmOp::Compute {
+                cond,
+                op,
+                set: false,
+                rn: 0,
+                rd: 15,
+                operand: to_r15,
+            },
+            (9, 0, 0x0300_0006, 0x30, 7),
+        ),
+        (
+            ArmOp::Exchange { cond, rm: 15 },
+            (9, 0, 0x0800_0104, 0x10, 7),
+        ),
+        (
+            ArmOp::Exchange { cond, rm: 1 },
+            (9, 0, 0x0300_0006, 0x30, 7),
+        ),
+        (
+            ArmOp::Interrupt { cond, comment: 1 },
+            (9, 0x0800_0102, 8, 0x93, 7),
+        ),
+    ] {
+        let mut registers = at(0x0800_0102, 0x30, [9, 0x0300_0007, 0, 0]);
+        let site = Site {
+            address: 0x0800_0100,
+            thumb: true,
+        };
+        let cycles = perform(&mut registers, &mut Ram::new(true), site, op);
+        let after = (
+            registers.get(0),
+            registers.get(14),
+            registers.get(15),
+            registers.cpsr(),
+            cycles,
+        );
+        assert_eq!(rt; after, want, "{op:?}");
     }
 }

@@ -15,7 +15,7 @@ type TransferCase = (u32, u32, u32, u32, u32, u32, u32, u32);
 // words begin at 02000010h where the word goes up, else at 02000008h.
 type BlockCase = (u32, u32, [u32; 4], [u32; 3], u32);
 
-const TRANSFERS: [TransferCase; 88] = [
+const TRANSFERS: [TransferCase; 92] = [
     (
         0xe4110004, 0x2000010, 8, 0x54433221, 0x200000c, 0x10, 0x54433221, 10,
     ),
@@ -87,6 +87,18 @@ const TRANSFERS: [TransferCase; 88] = [
     ),
     (
         0xe5e10003, 0x2000010, 8, 0xa1b2c3d4, 0x2000013, 0x10, 0xd4433221, 10,
+    ),
+    (
+        0xe4b10004, 0x2000010, 8, 0x54433221, 0x2000014, 0x10, 0x54433221, 10,
+    ),
+    (
+        0xe4f10004, 0x2000010, 8, 0x21, 0x2000014, 0x10, 0x54433221, 10,
+    ),
+    (
+        0xe4a10004, 0x2000010, 8, 0xa1b2c3d4, 0x2000014, 0x10, 0xa1b2c3d4, 10,
+    ),
+    (
+        0xe4e10004, 0x2000010, 8, 0xa1b2c3d4, 0x2000014, 0x10, 0x544332d4, 10,
     ),
     (
         0xe5910000, 0x2000010, 8, 0x54433221, 0x2000010, 0x10, 0x54433221, 10,

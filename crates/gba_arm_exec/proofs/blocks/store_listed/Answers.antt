@@ -25,26 +25,16 @@ loop-number-preserved g c = record {
       ∙ c.loop-number.invariant.left;
 }
 
-pub returns-clause-registers : goal.returns-clause-registers
-returns-clause-registers g c =
-    ap (λ done. done.registers)
-    (sym (stores_none g.B.Bus.code_price_of g.B.Bus.load_of g.B.Bus.store_of c.args.block.user c.args.site c.args.block.write c.args.block.rn c.args.base c.args.list c.loop-number.number
+pub returns-clause-left : goal.returns-clause-left
+returns-clause-left g c =
+    let whole =
+    sym (stores_none g.B.Bus.code_price_of g.B.Bus.load_of g.B.Bus.store_of c.args.block.user c.args.site c.args.block.write c.args.block.rn c.args.base c.args.list c.loop-number.number
     c.loop-number.address c.loop-number.sequential
     (done_of c.loop-number.registers (g.B.Bus.state c.loop-number.bus) c.loop-number.total) (omega arith))
-    ∙ c.loop-number.invariant.left)
-
-pub returns-clause-bus : goal.returns-clause-bus
-returns-clause-bus g c =
-    ap (λ done. done.bus)
-    (sym (stores_none g.B.Bus.code_price_of g.B.Bus.load_of g.B.Bus.store_of c.args.block.user c.args.site c.args.block.write c.args.block.rn c.args.base c.args.list c.loop-number.number
-    c.loop-number.address c.loop-number.sequential
-    (done_of c.loop-number.registers (g.B.Bus.state c.loop-number.bus) c.loop-number.total) (omega arith))
-    ∙ c.loop-number.invariant.left)
-
-pub returns-clause-cycles : goal.returns-clause-cycles
-returns-clause-cycles g c =
-    ap (λ done. done.cycles)
-    (sym (stores_none g.B.Bus.code_price_of g.B.Bus.load_of g.B.Bus.store_of c.args.block.user c.args.site c.args.block.write c.args.block.rn c.args.base c.args.list c.loop-number.number
-    c.loop-number.address c.loop-number.sequential
-    (done_of c.loop-number.registers (g.B.Bus.state c.loop-number.bus) c.loop-number.total) (omega arith))
-    ∙ c.loop-number.invariant.left)
+    ∙ c.loop-number.invariant.left
+    in
+    record {
+      registers_left = ap (λ done. done.registers) whole;
+      bus_left = ap (λ done. done.bus) whole;
+      cycles_taken = ap (λ done. done.cycles) whole;
+    }

@@ -1,4 +1,4 @@
-use Rattle.gba_arm_exec.proofs.Lengths.{executed_length}
+use Rattle.gba_arm_exec.specs.Lengths.{executed_length}
 use Rattle.gba_arm_exec.proofs.laws.cycles_of_a_word.Goals as goal
 
 pub returns : goal.returns

@@ -30,7 +30,7 @@ use Rattle.gba_arm_exec.specs.declared.transfer.LoadUnit.{LoadUnit}
 use Rattle.gba_arm_exec.specs.declared.transfer.LoadUnit.TheVariants as unit
 use Rattle.gba_arm_exec.specs.declared.transfer.SingleTransfer.{SingleTransfer}
 
--- How long instructions take, by the prices of the bus.
+-- Lemmas: how long instructions take where each price of the bus is from 1 to 18. The crates above cite the last one.
 
 kept_below : (test : Bool) (first : ℕ) (rest : List ℕ) (count : ℕ) → length rest ≤ count → length (if test then first ∷ rest else rest) ≤ suc count
 kept_below true first rest count below = omega arith
