@@ -1,4 +1,4 @@
-use Rattle.std.specs.Prelude.{ℕ, ◌≡◌, ◌<◌, ◌≤◌, ◌⊎◌, List, [], ◌∷◌, IfSome, All}
+use Rattle.std.specs.Prelude.{ℕ, ◌≡◌, ◌<◌, ◌≤◌, ◌⊎◌, List, IfSome, AllPairs}
 use Rattle.link_node.specs.declared.signal.Incoming.{Incoming}
 use Rattle.link_node.specs.declared.signal.Signal.{Signal}
 
@@ -17,8 +17,7 @@ Precedes a b = (a.arrival < b.arrival) ⊎ ((a.arrival ≡ b.arrival) × (a.send
 
 -- each signal of the list comes before all later ones
 abbrev pub InOrder : List Incoming → Type 0
-InOrder [] = Unit {0}
-InOrder (one ∷ rest) = All (Precedes one) rest × InOrder rest
+InOrder = AllPairs Precedes
 
 -- a start, where a signal has one, has a speed of two bits
 abbrev pub HasSpeed : Signal → Type 0

@@ -5,3 +5,5 @@ pub mod Lists
 pub mod Places
 pub mod Senders
 pub mod DueSignals
+pub mod DueOrder
+pub mod Awaited
