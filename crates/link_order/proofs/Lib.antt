@@ -7,3 +7,5 @@ pub mod Senders
 pub mod DueSignals
 pub mod DueOrder
 pub mod Awaited
+pub mod Sound
+pub mod Live

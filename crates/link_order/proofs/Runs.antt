@@ -55,8 +55,8 @@ falls kind law cut until some e =
     = subst (λ (n : ℕ). n < kind.clock (kind.next at.0 (due_at kind cut i)).0) (sym at.1.clock_is) (law.rises at.0 (due_at kind cut i)) in
   let f = left_falls (clock_at kind cut) until i (kind.clock (kind.next at.0 (due_at kind cut i)).0) (count cut) below early later in
   record {
-    count_is = s.count_is;
-    fewer = rw (s.clocks, s.count_is) f;
+    count_is = ap count s.cut_is ∙ s.count_is;
+    fewer = rw (s.cut_is, s.clocks, s.count_is) f;
   }
 
 -- where some cycles are left no more, the order ends

@@ -36,26 +36,41 @@ get_or-put xs i y k below =
   | inr apart ↦ get_or-set_other xs i k y 0 apart ∙ sym (put_other i k y (λ j. get_or xs j 0) apart)
   ]
 
+-- the cut after console x of player i has made a step
+abbrev pub after_step : {C : Type 0} → Steps C → Cut C → ℕ → C → List Incoming → Cut C
+after_step kind cut i x signals = record {
+  consoles = slice_set cut.consoles i (kind.next x signals).0;
+  delay = cut.delay;
+  sent = joined i (kind.next x signals).1 cut.sent;
+}
+
 -- a step of player i, seen by the clocks of all
-pub record IsStepped {C : Type 0} (kind : Steps C) (cut : Cut C) (i : ℕ) (x : C) (signals : List Incoming) (d : Cut C) : Type 0 where
-  pub cut_is : d ≡ record { consoles = slice_set cut.consoles i (kind.next x signals).0; delay = cut.delay; sent = joined i (kind.next x signals).1 cut.sent }
-  pub count_is : count d ≡ count cut
-  pub clocks : clock_at kind d ≡ put i (kind.clock (kind.next x signals).0) (clock_at kind cut)
-  pub wases : was_at kind d ≡ put i (kind.clock x) (was_at kind cut)
+pub record IsStepped {C : Type 0} (kind : Steps C) (cut : Cut C) (i : ℕ) (x : C) (signals : List Incoming) : Type 0 where
+  pub cut_is : stepped kind cut i signals ≡ after_step kind cut i x signals
+  pub count_is : count (after_step kind cut i x signals) ≡ count cut
+  pub clocks : clock_at kind (after_step kind cut i x signals) ≡ put i (kind.clock (kind.next x signals).0) (clock_at kind cut)
+  pub wases : was_at kind (after_step kind cut i x signals) ≡ put i (kind.clock x) (was_at kind cut)
 
 pub is_stepped : {C : Type 0} (kind : Steps C) → IsLawful kind → (cut : Cut C) (i : ℕ) (x : C) (signals : List Incoming)
-  → i < count cut → IsConsole kind cut i x → IsStepped kind cut i x signals (stepped kind cut i signals)
+  → i < count cut → IsConsole kind cut i x → IsStepped kind cut i x signals
 is_stepped {C = C} kind law cut i x signals below at =
   let y : C = (kind.next x signals).0 in
-  let e : stepped kind cut i signals ≡ record { consoles = slice_set cut.consoles i y; delay = cut.delay; sent = joined i (kind.next x signals).1 cut.sent }
-    = ap (stepped_from kind cut i signals) at.stands in
   let clocks : (k : ℕ) → get_or (map kind.clock (set cut.consoles i y)) k 0 ≡ put i (kind.clock y) (clock_at kind cut) k
     = λ k. rw map-set (get_or-put (map kind.clock cut.consoles) i (kind.clock y) k (rw length-map below)) in
   let wases : (k : ℕ) → get_or (map kind.was (set cut.consoles i y)) k 0 ≡ put i (kind.was y) (was_at kind cut) k
     = λ k. rw map-set (get_or-put (map kind.was cut.consoles) i (kind.was y) k (rw length-map below)) in
   record {
-    cut_is = e;
-    count_is = rw e (length-set cut.consoles i y);
-    clocks = ap (clock_at kind) e ∙ (λ t k. (clocks k) t);
-    wases = ap (was_at kind) e ∙ (λ t k. (wases k) t) ∙ ap (λ (w : ℕ). put i w (was_at kind cut)) (law.moves x signals);
+    cut_is = ap (stepped_from kind cut i signals) at.stands;
+    count_is = length-set cut.consoles i y;
+    clocks = λ t k. (clocks k) t;
+    wases = (λ t k. (wases k) t) ∙ ap (λ (w : ℕ). put i w (was_at kind cut)) (law.moves x signals);
   }
+
+-- one place of a function that was changed in one place
+pub put_cases : (i y : ℕ) (f g : ℕ → ℕ) → g ≡ put i y f → (k : ℕ) → ((k ≡ i) × (g k ≡ y)) ⊎ ((k ≢ i) × (g k ≡ f k))
+put_cases i y f g e k =
+  let at_k : g k ≡ put i y f k = ap (λ (h : ℕ → ℕ). h k) e in
+  elim (same_or_apart k i) [
+    inl same ↦ inl (same, at_k ∙ ap (put i y f) same ∙ put_same i y f)
+  | inr apart ↦ inr (apart, at_k ∙ put_other i k y f apart)
+  ]
