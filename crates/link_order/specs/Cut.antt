@@ -64,3 +64,7 @@ pub record IsCable {C : Type 0} (cut : Cut C) : Type 0 where
 abbrev pub IsInTime : {C : Type 0} → Steps C → Cut C → Type 0
 IsInTime kind cut =
   (i j : ℕ) → i < count cut → j < count cut → i ≢ j → was_at kind cut i < clock_at kind cut j + hop cut j i
+
+-- the cut of the plain records of a cut's nodes
+abbrev pub plain_cut : {N C : Type 0} → (N → C) → Cut N → Cut C
+plain_cut plain cut = record { consoles = map plain cut.consoles; delay = cut.delay; sent = cut.sent }

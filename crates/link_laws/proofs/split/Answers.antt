@@ -1,6 +1,6 @@
 use Rattle.link_order.specs.Steps.{IsLawful, kind_of}
 use Rattle.link_order.proofs.Runs.{splits}
-use Rattle.link_order.proofs.laws.split.Goals as goal
+use Rattle.link_laws.proofs.split.Goals as goal
 
 pub returns : goal.returns
 returns g c =

@@ -1,4 +1,6 @@
-//! Laws of the global order and of interleavings, over any node. Each function's contract is its law.
+#![tactic(auto)]
+//! Laws of the global order and of interleavings, over any node. Each function takes nothing and answers nothing: its
+//! contract is its law. A reader finds the words of the laws in the definitions of `link_order`.
 
 ghost use Rattle.std.specs.Prelude.{ℕ, ◌≡◌, ◌≤◌};
 ghost use Rattle.link_order.specs.Steps.{kind_of};
