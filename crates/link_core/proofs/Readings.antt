@@ -6,7 +6,7 @@ use Rattle.link_order.specs.Order.{is_before, place}
 use Rattle.link_node.specs.declared.signal.Incoming.{Incoming}
 use Rattle.link_order.specs.declared.sent.Sent.{Sent}
 use Rattle.link_order.specs.Order.{from}
-use Rattle.std.specs.Prelude.{Option, None}
+use Rattle.std.specs.Prelude.{Option, None, Some, slice_get}
 use Rattle.link_node.specs.declared.signal.LinkMode.TheVariants.{Normal8}
 use Rattle.link_order.specs.Due.{is_due, incoming, place_due, due}
 use Rattle.link_order.proofs.Numbers.{same_or_apart}
@@ -66,3 +66,15 @@ due_of_none between i was clock (suc j) =
 -- what a list of sent signals reads as past its end
 abbrev pub no_signal : Sent
 no_signal = record { sender = 0; signal = record { clock = 0; mode = Normal8; start = None; reply = None } }
+
+pub read-bound : {N : Type 0} (bound : N → ℕ) (xs : List N) (i : ℕ) (d : N) → i < length xs → get_or (map bound xs) i 0 ≡ bound (get_or xs i d)
+read-bound bound [] i d below = absurd (omega arith)
+read-bound bound (x ∷ xs) zero d below = refl
+read-bound bound (x ∷ xs) (suc i) d below = read-bound bound xs i d (omega arith)
+
+-- the record of one node of a list
+pub read-record : {N C : Type 0} (plain : N → C) (xs : List N) (i : ℕ) (d : N) (x : C) → slice_get (map plain xs) i ≡ Some x → plain (get_or xs i d) ≡ x
+read-record plain [] zero d x e = let f : None ≡ Some x = e in cc
+read-record plain [] (suc i) d x e = let f : None ≡ Some x = e in cc
+read-record plain (y ∷ ys) zero d x e = let f : Some (plain y) ≡ Some x = e in cc
+read-record plain (y ∷ ys) (suc i) d x e = read-record plain ys i d x e

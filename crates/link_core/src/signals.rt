@@ -135,7 +135,7 @@ pub(crate) fn gather(sent: &[Sent], delay: u64, player: u32, was: u64, clock: u6
 }
 
 /// The clock at which the last step of a node began.
-fn was_of<N: Node>(nodes: &[N], i: usize) -> u64
+pub(crate) fn was_of<N: Node>(nodes: &[N], i: usize) -> u64
     requires { i < length nodes.now }
     ensures { result ≡ slice_index (map N.was (map N.plain nodes.now)) i }
 {

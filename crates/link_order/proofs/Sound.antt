@@ -15,7 +15,7 @@ use Rattle.link_order.proofs.Lists.{all_map}
 use Rattle.link_order.proofs.Places.{Apart, Comes, All-place, AllPairs-place}
 use Rattle.link_order.proofs.Stepping.{IsConsole, console_at, after_step, IsStepped, is_stepped, put_cases}
 
-joined_all : (P : Sent → Type 0) (i : ℕ) (o : Option Signal) (sent : List Sent)
+pub joined_all : (P : Sent → Type 0) (i : ℕ) (o : Option Signal) (sent : List Sent)
   → IfSome o (λ s. P (record { sender = i; signal = s })) → All P sent → All P (joined i o sent)
 joined_all P i None sent here rest = rest
 joined_all P i (Some s) sent here rest = All-place clock_of sender_of P (record { sender = i; signal = s }) sent here rest
@@ -33,7 +33,7 @@ joined_ordered i clock (Some s) sent bears own ordered =
         ]) own)
     ordered
 
-some_map : {P Q : Signal → Type 0} (o : Option Signal) → ((s : Signal) → P s → Q s) → IfSome o P → IfSome o Q
+pub some_map : {P Q : Signal → Type 0} (o : Option Signal) → ((s : Signal) → P s → Q s) → IfSome o P → IfSome o Q
 some_map None f h = h
 some_map (Some s) f h = f s h
 
