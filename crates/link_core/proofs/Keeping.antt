@@ -10,11 +10,16 @@ use Rattle.std.proofs.lemmas.List.Elements.{All-filter, filter_passes}
 use Rattle.link_node.specs.declared.signal.Incoming.{Incoming}
 use Rattle.link_node.specs.declared.signal.Signal.{Signal}
 use Rattle.link_order.specs.Cut.{Cut, plain_cut, count, clock_at, was_at, hop, live, is_live, is_awaited, IsSound, IsSoundSignal, IsCable}
-use Rattle.link_order.specs.GlobalOrder.{least, least_below, step, stepped, due_at, joined}
-use Rattle.link_order.proofs.Numbers.{least_is_player}
+use Rattle.link_order.specs.GlobalOrder.{least, least_below, step, stepped, due_at, joined, run, left}
+use Rattle.link_order.proofs.Numbers.{least_is_player, least_is_least}
+use Rattle.link_order.proofs.Runs.{Falls, falls, run_unrolls, run_ends}
+use Rattle.link_order.proofs.LiveRuns.{run_live, live_whole}
+use Rattle.std.specs.Prelude.{nat_lt}
+use Rattle.std.proofs.lemmas.Bool.{lt-ltb}
+use Rattle.std.proofs.lemmas.Bool.Decides.{nat_tests}
 use Rattle.link_order.proofs.Stepping.{IsConsole, console_at, after_step, IsStepped, is_stepped}
 use Rattle.link_order.proofs.Sound.{sound_live, sound_step, joined_all, some_map}
-use Rattle.link_order.proofs.Lists.{test_cases, all_map}
+use Rattle.link_order.proofs.Lists.{test_cases, all_map, all_head, all_tail}
 use Rattle.link_order.specs.Order.{from}
 use Rattle.link_order.specs.Due.{due}
 use Rattle.link_order.proofs.DueOrder.{due_in_order, due_is_due}
@@ -166,3 +171,40 @@ due_may_go {C = C} kind plain cut i signals sent_room due_room kept is =
   (subst InOrder (sym is) (due_in_order (hop p) p.sent i (was_at kind p i) (clock_at kind p i) (count p) kept.sound.ordered),
    subst (All (IsDue (was_at kind p i) (clock_at kind p i))) (sym is)
      (due_is_due (hop p) (λ j. from j p.sent) i (was_at kind p i) (clock_at kind p i) (count p) kept.cable.at_most_four (λ j. kept.cable.some_delay j i)))
+
+-- one more step of the global order leaves the same end, and fewer cycles
+pub stepped_run : {C : Type 0} (kind : Steps C) → IsLawful kind → (p q : Cut C) (until : ℕ) → IsCable p → IsSound kind p
+  → clock_at kind p (least kind p) < until → q ≡ live kind (step kind p)
+  → (live kind (run kind q until) ≡ live kind (run kind p until)) × (left kind q until < left kind p until)
+stepped_run {C = C} kind law p q until cable sound early is =
+  let goes = lt-ltb (clock_at kind p (least kind p)) until early in
+  let f = falls kind law p until cable.some_console goes in
+  let some : 0 < count (step kind p) = subst (λ (n : ℕ). 0 < n) (sym f.count_is) cable.some_console in
+  let later : (a b : ℕ) → 0 < hop (step kind p) a b = λ a b. subst (λ (n : ℕ). 0 < n) (sym f.delay_is) (cable.some_delay a b) in
+  (ap (λ (d : Cut C). live kind (run kind d until)) is
+    ∙ run_live kind law (step kind p) until some later (sound_step kind law p cable.some_console cable.some_delay sound)
+    ∙ ap (live kind) (sym (run_unrolls kind law p until cable.some_console goes)),
+   subst (λ (d : Cut C). left kind d until < left kind p until) (sym is) f.fewer)
+
+-- where the least clock has come to the end, all have, and the run is over
+pub all_done : {C : Type 0} (kind : Steps C) (p : Cut C) (until : ℕ) → until ≤ clock_at kind p (least kind p) → (i : ℕ) → i < count p → until ≤ clock_at kind p i
+all_done kind p until late i below = omega (arith, late, least_is_least (clock_at kind p) (count p) i below)
+
+pub run_over : {C : Type 0} (kind : Steps C) (p : Cut C) (until : ℕ) → AllLive kind p → until ≤ clock_at kind p (least kind p)
+  → p ≡ live kind (run kind p until)
+run_over kind p until awaited late =
+  let over : nat_lt (clock_at kind p (least kind p)) until ≡ false = grind (arith, nat_tests) in
+  sym (ap (live kind) (run_ends kind p until over) ∙ live_whole kind p awaited)
+
+-- limits that stayed are still as far
+pub limits_reach : {N : Type 0} (bound : N → ℕ) (xs ys : List N) (until i : ℕ) → map bound xs ≡ map bound ys
+  → All (λ n. until ≤ bound n) ys → i < length xs → until ≤ slice_index (map bound xs) i
+limits_reach bound [] ys until i same all below = absurd (omega arith)
+limits_reach bound (x ∷ xs) [] until i same all below = cc
+limits_reach bound (x ∷ xs) (y ∷ ys) until zero same all below =
+  let h : until ≤ bound y = all_head (λ n. until ≤ bound n) y ys all in
+  let e : bound x ≡ bound y = cc in
+  omega arith
+limits_reach bound (x ∷ xs) (y ∷ ys) until (suc i) same all below =
+  let e : map bound xs ≡ map bound ys = cc in
+  limits_reach bound xs ys until i e (all_tail (λ n. until ≤ bound n) y ys all) (omega arith)

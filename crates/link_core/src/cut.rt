@@ -200,4 +200,35 @@ impl<N: Node> Cut<N> {
         join_signal(&mut self.sent, player, signal);
         drop_dead(&mut self.sent, &self.nodes, self.delay);
     }
+
+    /// The least clock of all nodes.
+    fn least_clock(&self) -> u64
+        ensures value {
+            result ≡ clock_at (kind_of N.clock N.was N.next) (plain_cut N.plain self.now)
+                (least (kind_of N.clock N.was N.next) (plain_cut N.plain self.now))
+        }
+        ensures cable { IsCable (plain_cut N.plain self.now) }
+        ensures sound { IsSound (kind_of N.clock N.was N.next) (plain_cut N.plain self.now) }
+        ensures live { AllLive (kind_of N.clock N.was N.next) (plain_cut N.plain self.now) }
+    {
+        clock_of(&self.nodes, least_of(&self.nodes))
+    }
+
+    /// Steps in the global order until every clock is at least `until`.
+    pub fn run_serial(&mut self, until: u64)
+        requires { All (λ node. until ≤ N.bound node) self.old.consoles }
+        ensures run {
+            plain_cut N.plain self.new
+                ≡ live (kind_of N.clock N.was N.next) (run (kind_of N.clock N.was N.next) (plain_cut N.plain self.old) until)
+        }
+        ensures done {
+            (i : ℕ) → i < length self.new.consoles →
+            until ≤ slice_index (map N.clock (map N.plain self.new.consoles)) i
+        }
+        ensures limits { map N.bound self.new.consoles ≡ map N.bound self.old.consoles }
+    {
+        while self.least_clock() < until {
+            self.serial_step();
+        }
+    }
 }

@@ -9,3 +9,4 @@ pub mod DueOrder
 pub mod Awaited
 pub mod Sound
 pub mod Live
+pub mod LiveRuns

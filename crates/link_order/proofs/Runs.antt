@@ -41,6 +41,7 @@ after_one kind cut i rest = refl
 -- a step of the least console: the count stays, and fewer cycles are left
 pub record Falls {C : Type 0} (kind : Steps C) (cut : Cut C) (until : ℕ) : Type 0 where
   pub count_is : count (step kind cut) ≡ count cut
+  pub delay_is : (step kind cut).delay ≡ cut.delay
   pub fewer : left kind (step kind cut) until < left kind cut until
 
 pub falls : {C : Type 0} (kind : Steps C) → IsLawful kind → (cut : Cut C) (until : ℕ) → 0 < count cut
@@ -56,6 +57,7 @@ falls kind law cut until some e =
   let f = left_falls (clock_at kind cut) until i (kind.clock (kind.next at.0 (due_at kind cut i)).0) (count cut) below early later in
   record {
     count_is = ap count s.cut_is ∙ s.count_is;
+    delay_is = ap (λ (d : Cut _). d.delay) s.cut_is;
     fewer = rw (s.cut_is, s.clocks, s.count_is) f;
   }
 
@@ -68,7 +70,7 @@ none_left clock until (suc n) i below e =
   | inr apart ↦ none_left clock until n i (omega arith) (omega arith)
   ]
 
-ends : {C : Type 0} (kind : Steps C) (cut : Cut C) (until : ℕ) → 0 < count cut → left kind cut until ≡ 0
+pub ends : {C : Type 0} (kind : Steps C) (cut : Cut C) (until : ℕ) → 0 < count cut → left kind cut until ≡ 0
   → nat_lt (clock_at kind cut (least kind cut)) until ≡ false
 ends kind cut until some e =
   let h : until ≤ clock_at kind cut (least kind cut)
