@@ -19,6 +19,7 @@ use std::marker::Model;
 const ROOM: usize = 16384;
 
 /// One to four nodes, the cable's delay, and the signals that some other node can still take.
+#[derive(Drop)]
 pub struct Cut<N: Node> {
     pub(crate) nodes: Vec<N>,
     pub(crate) delay: u64,
@@ -36,14 +37,13 @@ impl<N: Node> Model for Cut<N> {
 
     ghost view = { λ c. record { consoles = c.nodes.items; delay = c.delay; sent = c.sent.items } };
 
-    ghost invariant = {
-        λ c. IsKept (kind_of N.clock N.was N.next) N.plain
-            (record { consoles = c.nodes.items; delay = c.delay; sent = c.sent.items })
-            (vec_capacity c.sent) (vec_capacity c.due)
-    };
+    ghost invariant = { λ c. IsKept (kind_of N.clock N.was N.next) N.plain
+        (record { consoles = c.nodes.items; delay = c.delay; sent = c.sent.items })
+        (vec_capacity c.sent) (vec_capacity c.due) };
 }
 
 /// Want of memory: the nodes come back as they were.
+#[derive(Drop)]
 pub struct CutRefused<N: Node> {
     pub nodes: Vec<N>,
 }
@@ -74,21 +74,13 @@ fn least_of<N: Node>(nodes: &[N]) -> usize
 /// One step of a node, with what is due to it.
 fn turn_of<N: Node>(nodes: &mut Vec<N>, i: usize, due: &[Incoming]) -> Option<Signal>
     requires player { i < vec_len nodes.old }
-    requires below {
-        slice_index (map N.clock (map N.plain nodes.old.items)) i < slice_index (map N.bound nodes.old.items) i
-    }
+    requires below { slice_index (map N.clock (map N.plain nodes.old.items)) i < slice_index (map N.bound nodes.old.items) i }
     requires ordered { InOrder due.now }
-    requires taken {
-        All (IsDue (slice_index (map N.was (map N.plain nodes.old.items)) i)
-            (slice_index (map N.clock (map N.plain nodes.old.items)) i)) due.now
-    }
-    ensures node {
-        (x : N.Record) → slice_get (map N.plain nodes.old.items) i ≡ Some x →
-        map N.plain nodes.new.items ≡ slice_set (map N.plain nodes.old.items) i (N.next x due.now).0
-    }
-    ensures signal {
-        (x : N.Record) → slice_get (map N.plain nodes.old.items) i ≡ Some x → result ≡ (N.next x due.now).1
-    }
+    requires taken { All (IsDue (slice_index (map N.was (map N.plain nodes.old.items)) i)
+        (slice_index (map N.clock (map N.plain nodes.old.items)) i)) due.now }
+    ensures node { (x : N.Record) → slice_get (map N.plain nodes.old.items) i ≡ Some x →
+        map N.plain nodes.new.items ≡ slice_set (map N.plain nodes.old.items) i (N.next x due.now).0 }
+    ensures signal { (x : N.Record) → slice_get (map N.plain nodes.old.items) i ≡ Some x → result ≡ (N.next x due.now).1 }
     ensures limits { map N.bound nodes.new.items ≡ map N.bound nodes.old.items }
 {
     nodes[i].turn(due)
@@ -101,7 +93,13 @@ fn join_signal(sent: &mut Vec<Sent>, player: u32, signal: Option<Signal>)
     ensures room { vec_capacity sent.old ≤ vec_capacity sent.new }
 {
     if let Some(signal) = signal {
-        put_sent(sent, Sent { sender: player, signal });
+        put_sent(
+            sent,
+            Sent {
+                sender: player,
+                signal,
+            },
+        );
     }
 }
 
@@ -119,7 +117,12 @@ impl<N: Node> Cut<N> {
         let Ok(due) = Vec::with_capacity(alloc, ROOM) else {
             return Err(CutRefused { nodes });
         };
-        Ok(Cut { nodes, delay, sent, due })
+        Ok(Cut {
+            nodes,
+            delay,
+            sent,
+            due,
+        })
     }
 
     /// The nodes, by player number.
@@ -135,7 +138,12 @@ impl<N: Node> Cut<N> {
     pub fn into_nodes(self) -> Vec<N>
         ensures { result.items ≡ self.consoles }
     {
-        let Cut { nodes, delay: _, sent: _, due: _ } = self;
+        let Cut {
+            nodes,
+            delay: _,
+            sent: _,
+            due: _,
+        } = self;
         nodes
     }
 
@@ -172,7 +180,12 @@ impl<N: Node> Cut<N> {
         ensures delay { result.1.delay ≡ self.delay }
         ensures sent { result.1.sent ≡ self.sent }
     {
-        let Cut { nodes, delay, sent, due } = self;
+        let Cut {
+            nodes,
+            delay,
+            sent,
+            due,
+        } = self;
         (nodes, Shell { delay, sent, due })
     }
 }
@@ -181,14 +194,10 @@ impl<N: Node> Cut<N> {
     /// One step of the global order: the node with the least clock takes what is due to it, and its signal joins the
     /// others.
     pub fn serial_step(&mut self)
-        requires {
-            slice_index (map N.clock (map N.plain self.old.consoles)) (least (kind_of N.clock N.was N.next) (plain_cut N.plain self.old))
-                < slice_index (map N.bound self.old.consoles) (least (kind_of N.clock N.was N.next) (plain_cut N.plain self.old))
-        }
-        ensures step {
-            plain_cut N.plain self.new
-                ≡ live (kind_of N.clock N.was N.next) (step (kind_of N.clock N.was N.next) (plain_cut N.plain self.old))
-        }
+        requires { slice_index (map N.clock (map N.plain self.old.consoles)) (least (kind_of N.clock N.was N.next) (plain_cut N.plain self.old))
+            < slice_index (map N.bound self.old.consoles) (least (kind_of N.clock N.was N.next) (plain_cut N.plain self.old)) }
+        ensures step { plain_cut N.plain self.new
+            ≡ live (kind_of N.clock N.was N.next) (step (kind_of N.clock N.was N.next) (plain_cut N.plain self.old)) }
         ensures limits { map N.bound self.new.consoles ≡ map N.bound self.old.consoles }
     {
         let i = least_of(&self.nodes);
@@ -203,10 +212,8 @@ impl<N: Node> Cut<N> {
 
     /// The least clock of all nodes.
     fn least_clock(&self) -> u64
-        ensures value {
-            result ≡ clock_at (kind_of N.clock N.was N.next) (plain_cut N.plain self.now)
-                (least (kind_of N.clock N.was N.next) (plain_cut N.plain self.now))
-        }
+        ensures value { result ≡ clock_at (kind_of N.clock N.was N.next) (plain_cut N.plain self.now)
+            (least (kind_of N.clock N.was N.next) (plain_cut N.plain self.now)) }
         ensures cable { IsCable (plain_cut N.plain self.now) }
         ensures sound { IsSound (kind_of N.clock N.was N.next) (plain_cut N.plain self.now) }
         ensures live { AllLive (kind_of N.clock N.was N.next) (plain_cut N.plain self.now) }
@@ -217,14 +224,10 @@ impl<N: Node> Cut<N> {
     /// Steps in the global order until every clock is at least `until`.
     pub fn run_serial(&mut self, until: u64)
         requires { All (λ node. until ≤ N.bound node) self.old.consoles }
-        ensures run {
-            plain_cut N.plain self.new
-                ≡ live (kind_of N.clock N.was N.next) (run (kind_of N.clock N.was N.next) (plain_cut N.plain self.old) until)
-        }
-        ensures done {
-            (i : ℕ) → i < length self.new.consoles →
-            until ≤ slice_index (map N.clock (map N.plain self.new.consoles)) i
-        }
+        ensures run { plain_cut N.plain self.new
+            ≡ live (kind_of N.clock N.was N.next) (run (kind_of N.clock N.was N.next) (plain_cut N.plain self.old) until) }
+        ensures done { (i : ℕ) → i < length self.new.consoles →
+            until ≤ slice_index (map N.clock (map N.plain self.new.consoles)) i }
         ensures limits { map N.bound self.new.consoles ≡ map N.bound self.old.consoles }
     {
         while self.least_clock() < until {

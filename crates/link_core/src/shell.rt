@@ -29,9 +29,7 @@ impl Model for Shell {
 
     ghost view = { λ s. record { delay = s.delay; sent = s.sent.items } };
 
-    ghost invariant = {
-        λ s. IsPacked (record { delay = s.delay; sent = s.sent.items }) (vec_capacity s.sent) (vec_capacity s.due)
-    };
+    ghost invariant = { λ s. IsPacked (record { delay = s.delay; sent = s.sent.items }) (vec_capacity s.sent) (vec_capacity s.due) };
 }
 
 impl Shell {
@@ -82,6 +80,11 @@ impl Shell {
         ensures { result ≡ rejoined nodes.items self }
     {
         let Shell { delay, sent, due } = self;
-        Cut { nodes, delay, sent, due }
+        Cut {
+            nodes,
+            delay,
+            sent,
+            due,
+        }
     }
 }

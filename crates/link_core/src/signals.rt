@@ -78,10 +78,8 @@ fn put_due(list: &mut Vec<Incoming>, one: Incoming)
 
 /// A sent signal as it arrives, where a step with these clocks takes it.
 fn taken(one: &Sent, delay: u64, was: u64, clock: u64) -> Option<Incoming>
-    ensures {
-        result ≡ (if is_due was clock (one.now.signal.clock + delay)
-            then Some (incoming delay one.now.sender one.now.signal) else None)
-    }
+    ensures { result ≡ (if is_due was clock (one.now.signal.clock + delay)
+        then Some (incoming delay one.now.sender one.now.signal) else None) }
 {
     if clock < delay || one.signal.clock > clock - delay {
         return None;
@@ -100,14 +98,10 @@ fn taken(one: &Sent, delay: u64, was: u64, clock: u64) -> Option<Incoming>
 /// Puts one sent signal into the list of what is due to a player, where it is.
 fn gather_one(one: &Sent, delay: u64, player: u32, was: u64, clock: u64, list: &mut Vec<Incoming>)
     requires { vec_len list.old < vec_capacity list.old }
-    ensures takes {
-        one.now.sender ≢ player → is_due was clock (one.now.signal.clock + delay) ≡ true →
-        list.new.items ≡ place_due (incoming delay one.now.sender one.now.signal) list.old.items
-    }
-    ensures leaves {
-        (one.now.sender ≡ player) ⊎ (is_due was clock (one.now.signal.clock + delay) ≡ false) →
-        list.new.items ≡ list.old.items
-    }
+    ensures takes { one.now.sender ≢ player → is_due was clock (one.now.signal.clock + delay) ≡ true →
+        list.new.items ≡ place_due (incoming delay one.now.sender one.now.signal) list.old.items }
+    ensures leaves { (one.now.sender ≡ player) ⊎ (is_due was clock (one.now.signal.clock + delay) ≡ false) →
+        list.new.items ≡ list.old.items }
     ensures len { vec_len list.new ≤ vec_len list.old + 1 }
     ensures room { vec_capacity list.old ≤ vec_capacity list.new }
 {
@@ -120,12 +114,17 @@ fn gather_one(one: &Sent, delay: u64, player: u32, was: u64, clock: u64, list: &
 }
 
 /// Makes the list of what is due to a player.
-pub(crate) fn gather(sent: &[Sent], delay: u64, player: u32, was: u64, clock: u64, list: &mut Vec<Incoming>)
+pub(crate) fn gather(
+    sent: &[Sent],
+    delay: u64,
+    player: u32,
+    was: u64,
+    clock: u64,
+    list: &mut Vec<Incoming>,
+)
     requires { length sent.now ≤ vec_capacity list.old }
-    ensures due {
-        (count : ℕ) → All (λ one. one.sender < count) sent.now →
-        list.new.items ≡ due (λ _ _. delay) (λ j. from j sent.now) player was clock count
-    }
+    ensures due { (count : ℕ) → All (λ one. one.sender < count) sent.now →
+        list.new.items ≡ due (λ _ _. delay) (λ j. from j sent.now) player was clock count }
     ensures room { vec_capacity list.old ≤ vec_capacity list.new }
 {
     list.clear();
@@ -144,9 +143,7 @@ pub(crate) fn was_of<N: Node>(nodes: &[N], i: usize) -> u64
 
 /// Whether some node but its sender can still take a signal.
 fn is_awaited_by<N: Node>(nodes: &[N], delay: u64, one: &Sent) -> bool
-    ensures {
-        result ≡ is_awaited (λ _ _. delay) (slice_index (map N.was (map N.plain nodes.now))) (length nodes.now) one.now
-    }
+    ensures { result ≡ is_awaited (λ _ _. delay) (slice_index (map N.was (map N.plain nodes.now))) (length nodes.now) one.now }
 {
     let mut awaited = false;
     for i in 0..nodes.len() {
@@ -159,11 +156,9 @@ fn is_awaited_by<N: Node>(nodes: &[N], delay: u64, one: &Sent) -> bool
 
 /// Drops the signals that nobody can take any more.
 pub(crate) fn drop_dead<N: Node>(sent: &mut Vec<Sent>, nodes: &[N], delay: u64)
-    ensures items {
-        sent.new.items ≡ filter
-            (is_awaited (λ _ _. delay) (slice_index (map N.was (map N.plain nodes.now))) (length nodes.now))
-            sent.old.items
-    }
+    ensures items { sent.new.items ≡ filter
+        (is_awaited (λ _ _. delay) (slice_index (map N.was (map N.plain nodes.now))) (length nodes.now))
+        sent.old.items }
     ensures room { vec_capacity sent.new ≡ vec_capacity sent.old }
 {
     sent.retain(|one| is_awaited_by(nodes, delay, one));

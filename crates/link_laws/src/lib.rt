@@ -11,10 +11,7 @@ use link_node::Node;
 
 /// A run may be made in parts: to one clock, and from there to a later one.
 pub fn split<N: Node>()
-    ensures {
-        (cut : Cut N.Record) (first until : ℕ) → first ≤ until →
+    ensures { (cut : Cut N.Record) (first until : ℕ) → first ≤ until →
         run (kind_of N.clock N.was N.next) (run (kind_of N.clock N.was N.next) cut first) until
-            ≡ run (kind_of N.clock N.was N.next) cut until
-    }
-{
-}
+        ≡ run (kind_of N.clock N.was N.next) cut until }
+{}

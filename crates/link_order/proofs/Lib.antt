@@ -10,3 +10,4 @@ pub mod Awaited
 pub mod Sound
 pub mod Live
 pub mod LiveRuns
+pub mod Starts

@@ -50,13 +50,13 @@ filter_drops p x xs e = rw e refl
 pub filter_twice : {X : Type 0} (p q : X → Bool) → ((x : X) → q x ≡ true → p x ≡ true) → (xs : List X) → filter q (filter p xs) ≡ filter q xs
 filter_twice p q sub [] = refl
 filter_twice p q sub (x ∷ xs) =
-  elim (test_cases (p x)) [
-    inl e ↦ elim (test_cases (q x)) [
-        inl f ↦ ap (filter q) (filter_keeps p x xs e) ∙ filter_keeps q x (filter p xs) f ∙ ap (λ (t : List _). x ∷ t) (filter_twice p q sub xs) ∙ sym (filter_keeps q x xs f)
-      | inr f ↦ ap (filter q) (filter_keeps p x xs e) ∙ filter_drops q x (filter p xs) f ∙ filter_twice p q sub xs ∙ sym (filter_drops q x xs f)
+    elim (test_cases (p x)) [
+      | inl e ↦ elim (test_cases (q x)) [
+        | inl f ↦ ap (filter q) (filter_keeps p x xs e) ∙ filter_keeps q x (filter p xs) f ∙ ap (λ (t : List _). x ∷ t) (filter_twice p q sub xs) ∙ sym (filter_keeps q x xs f)
+        | inr f ↦ ap (filter q) (filter_keeps p x xs e) ∙ filter_drops q x (filter p xs) f ∙ filter_twice p q sub xs ∙ sym (filter_drops q x xs f)
       ]
-  | inr e ↦ elim (test_cases (q x)) [
-        inl f ↦ let t : true ≡ false = sym (sub x f) ∙ e in cc
-      | inr f ↦ ap (filter q) (filter_drops p x xs e) ∙ filter_twice p q sub xs ∙ sym (filter_drops q x xs f)
+      | inr e ↦ elim (test_cases (q x)) [
+        | inl f ↦ let t : true ≡ false = sym (sub x f) ∙ e in cc
+        | inr f ↦ ap (filter q) (filter_drops p x xs e) ∙ filter_twice p q sub xs ∙ sym (filter_drops q x xs f)
       ]
-  ]
+    ]

@@ -31,32 +31,32 @@ least_is_player clock n some = omega (arith, least_bound clock n)
 pub least_is_least : (clock : ℕ → ℕ) (n i : ℕ) → i < n → clock (least_below clock n) ≤ clock i
 least_is_least clock zero i below = absurd (omega arith)
 least_is_least clock (suc n) i below =
-  elim (same_or_apart i n) [
-    inl same ↦ rw same (grind (arith, nat_tests))
-  | inr apart ↦ let h = least_is_least clock n i (omega arith) in grind (arith, nat_tests)
-  ]
+    elim (same_or_apart i n) [
+      | inl same ↦ rw same (grind (arith, nat_tests))
+      | inr apart ↦ let h = least_is_least clock n i (omega arith) in grind (arith, nat_tests)
+    ]
 
 -- the cycles left without player i
 pub left_put_past : (clock : ℕ → ℕ) (until i y n : ℕ) → n ≤ i → left_below (put i y clock) until n ≡ left_below clock until n
 left_put_past clock until i y zero past = refl
 left_put_past clock until i y (suc n) past =
-  let e = put_other i n y clock (omega arith) in
-  let h = left_put_past clock until i y n (omega arith) in
-  rw (e, h) refl
+    let e = put_other i n y clock (omega arith) in
+    let h = left_put_past clock until i y n (omega arith) in
+    rw (e, h) refl
 
 -- a step of a player leaves fewer cycles
 pub left_falls : (clock : ℕ → ℕ) (until i y n : ℕ) → i < n → clock i < until → clock i < y
-  → left_below (put i y clock) until n < left_below clock until n
+    → left_below (put i y clock) until n < left_below clock until n
 left_falls clock until i y zero below early later = absurd (omega arith)
 left_falls clock until i y (suc n) below early later =
-  elim (same_or_apart n i) [
-    inl same ↦
-      let past = left_put_past clock until i y n (omega arith) in
-      let e : put i y clock n ≡ y = rw same (put_same i y clock) in
-      let f : clock n ≡ clock i = ap clock same in
-      rw (e, past) (omega arith)
-  | inr apart ↦
-      let e = put_other i n y clock apart in
-      let h = left_falls clock until i y n (omega arith) early later in
-      rw e (omega arith)
-  ]
+    elim (same_or_apart n i) [
+      | inl same ↦
+          let past = left_put_past clock until i y n (omega arith) in
+          let e : put i y clock n ≡ y = rw same (put_same i y clock) in
+          let f : clock n ≡ clock i = ap clock same in
+          rw (e, past) (omega arith)
+      | inr apart ↦
+          let e = put_other i n y clock apart in
+          let h = left_falls clock until i y n (omega arith) early later in
+          rw e (omega arith)
+    ]

@@ -50,11 +50,11 @@ place_past f s x y ys e = rw e refl
 pub All-place : {X : Type 0} (f s : X → ℕ) (P : X → Type 0) (x : X) (xs : List X) → P x → All P xs → All P (place f s x xs)
 All-place f s P x [] here rest = all_cons P x [] here rest
 All-place f s P x (y ∷ ys) here rest =
-  elim (test_cases (is_before f s x y)) [
-    inl e ↦ rw (place_before f s x y ys e) (all_cons P x (y ∷ ys) here rest)
-  | inr e ↦ rw (place_past f s x y ys e)
-      (all_cons P y (place f s x ys) (all_head P y ys rest) (All-place f s P x ys here (all_tail P y ys rest)))
-  ]
+    elim (test_cases (is_before f s x y)) [
+      | inl e ↦ rw (place_before f s x y ys e) (all_cons P x (y ∷ ys) here rest)
+      | inr e ↦ rw (place_past f s x y ys e)
+          (all_cons P y (place f s x ys) (all_head P y ys rest) (All-place f s P x ys here (all_tail P y ys rest)))
+    ]
 
 comes_all : {X : Type 0} (f s : X → ℕ) (x y : X) (ys : List X) → Comes f s x y → All (Comes f s y) ys → All (Comes f s x) ys
 comes_all f s x y ys e h = all_map (Comes f s y) (Comes f s x) ys (λ z k. less_trans (f x) (s x) (f y) (s y) (f z) (s z) e k) h
@@ -62,17 +62,17 @@ comes_all f s x y ys e h = all_map (Comes f s y) (Comes f s x) ys (λ z k. less_
 pub AllPairs-place : {X : Type 0} (f s : X → ℕ) (x : X) (xs : List X) → All (Apart f s x) xs → AllPairs (Comes f s) xs → AllPairs (Comes f s) (place f s x xs)
 AllPairs-place f s x [] apart h = pairs_cons (Comes f s) x [] (all_nil (Comes f s x)) h
 AllPairs-place f s x (y ∷ ys) apart h =
-  elim (test_cases (is_before f s x y)) [
-    inl e ↦ rw (place_before f s x y ys e)
-      (pairs_cons (Comes f s) x (y ∷ ys)
-        (all_cons (Comes f s x) y ys e (comes_all f s x y ys e (pairs_head (Comes f s) y ys h))) h)
-  | inr e ↦
-      let other : Comes f s y x = less_other (f x) (s x) (f y) (s y) (all_head (Apart f s x) y ys apart) e in
-      rw (place_past f s x y ys e)
-        (pairs_cons (Comes f s) y (place f s x ys)
+    elim (test_cases (is_before f s x y)) [
+      | inl e ↦ rw (place_before f s x y ys e)
+          (pairs_cons (Comes f s) x (y ∷ ys)
+          (all_cons (Comes f s x) y ys e (comes_all f s x y ys e (pairs_head (Comes f s) y ys h))) h)
+      | inr e ↦
+          let other : Comes f s y x = less_other (f x) (s x) (f y) (s y) (all_head (Apart f s x) y ys apart) e in
+          rw (place_past f s x y ys e)
+          (pairs_cons (Comes f s) y (place f s x ys)
           (All-place f s (Comes f s y) x ys other (pairs_head (Comes f s) y ys h))
           (AllPairs-place f s x ys (all_tail (Apart f s x) y ys apart) (pairs_tail (Comes f s) y ys h)))
-  ]
+    ]
 
 -- an element that comes before all others stands first
 place_front : {X : Type 0} (f s : X → ℕ) (x : X) (xs : List X) → All (Comes f s x) xs → place f s x xs ≡ x ∷ xs
@@ -81,74 +81,74 @@ place_front f s x (y ∷ ys) h = place_before f s x y ys (all_head (Comes f s x)
 
 -- elements that are dropped don't change the places of the others
 pub filter-place : {X : Type 0} (f s : X → ℕ) (p : X → Bool) (x : X) (xs : List X) → AllPairs (Comes f s) xs → p x ≡ true
-  → filter p (place f s x xs) ≡ place f s x (filter p xs)
+    → filter p (place f s x xs) ≡ place f s x (filter p xs)
 filter-place f s p x [] h keeps = filter_keeps p x [] keeps
 filter-place f s p x (y ∷ ys) h keeps =
-  elim (test_cases (is_before f s x y)) [
-    inl e ↦
-      let firsts = all_cons (Comes f s x) y ys e (comes_all f s x y ys e (pairs_head (Comes f s) y ys h)) in
-      ap (filter p) (place_before f s x y ys e) ∙ filter_keeps p x (y ∷ ys) keeps
-      ∙ sym (place_front f s x (filter p (y ∷ ys)) (All-filter p (Comes f s x) (y ∷ ys) firsts))
-  | inr e ↦
-      let ih = filter-place f s p x ys (pairs_tail (Comes f s) y ys h) keeps in
-      ap (filter p) (place_past f s x y ys e)
-      ∙ elim (test_cases (p y)) [
-          inl k ↦ filter_keeps p y (place f s x ys) k ∙ ap (λ (t : List _). y ∷ t) ih ∙ sym (place_past f s x y (filter p ys) e)
-            ∙ ap (place f s x) (sym (filter_keeps p y ys k))
-        | inr k ↦ filter_drops p y (place f s x ys) k ∙ ih ∙ ap (place f s x) (sym (filter_drops p y ys k))
-        ]
-  ]
+    elim (test_cases (is_before f s x y)) [
+      | inl e ↦
+          let firsts = all_cons (Comes f s x) y ys e (comes_all f s x y ys e (pairs_head (Comes f s) y ys h)) in
+          ap (filter p) (place_before f s x y ys e) ∙ filter_keeps p x (y ∷ ys) keeps
+          ∙ sym (place_front f s x (filter p (y ∷ ys)) (All-filter p (Comes f s x) (y ∷ ys) firsts))
+      | inr e ↦
+          let ih = filter-place f s p x ys (pairs_tail (Comes f s) y ys h) keeps in
+          ap (filter p) (place_past f s x y ys e)
+          ∙ elim (test_cases (p y)) [
+            | inl k ↦ filter_keeps p y (place f s x ys) k ∙ ap (λ (t : List _). y ∷ t) ih ∙ sym (place_past f s x y (filter p ys) e)
+                ∙ ap (place f s x) (sym (filter_keeps p y ys k))
+            | inr k ↦ filter_drops p y (place f s x ys) k ∙ ih ∙ ap (place f s x) (sym (filter_drops p y ys k))
+          ]
+    ]
 
 pub filter-place_dropped : {X : Type 0} (f s : X → ℕ) (p : X → Bool) (x : X) (xs : List X) → p x ≡ false
-  → filter p (place f s x xs) ≡ filter p xs
+    → filter p (place f s x xs) ≡ filter p xs
 filter-place_dropped f s p x [] drops = filter_drops p x [] drops
 filter-place_dropped f s p x (y ∷ ys) drops =
-  elim (test_cases (is_before f s x y)) [
-    inl e ↦ ap (filter p) (place_before f s x y ys e) ∙ filter_drops p x (y ∷ ys) drops
-  | inr e ↦
-      let ih = filter-place_dropped f s p x ys drops in
-      ap (filter p) (place_past f s x y ys e)
-      ∙ elim (test_cases (p y)) [
-          inl k ↦ filter_keeps p y (place f s x ys) k ∙ ap (λ (t : List _). y ∷ t) ih ∙ sym (filter_keeps p y ys k)
-        | inr k ↦ filter_drops p y (place f s x ys) k ∙ ih ∙ sym (filter_drops p y ys k)
-        ]
-  ]
+    elim (test_cases (is_before f s x y)) [
+      | inl e ↦ ap (filter p) (place_before f s x y ys e) ∙ filter_drops p x (y ∷ ys) drops
+      | inr e ↦
+          let ih = filter-place_dropped f s p x ys drops in
+          ap (filter p) (place_past f s x y ys e)
+          ∙ elim (test_cases (p y)) [
+            | inl k ↦ filter_keeps p y (place f s x ys) k ∙ ap (λ (t : List _). y ∷ t) ih ∙ sym (filter_keeps p y ys k)
+            | inr k ↦ filter_drops p y (place f s x ys) k ∙ ih ∙ sym (filter_drops p y ys k)
+          ]
+    ]
 
 -- two elements with different numbers may be placed in either order
 pub place_commutes : {X : Type 0} (f s : X → ℕ) (x y : X) (zs : List X) → Apart f s x y → place f s x (place f s y zs) ≡ place f s y (place f s x zs)
 place_commutes f s x y [] apart =
-  elim (test_cases (is_before f s x y)) [
-    inl e ↦ place_before f s x y [] e ∙ sym (place_past f s y x [] (less_not (f x) (s x) (f y) (s y) e))
-  | inr e ↦ place_past f s x y [] e ∙ sym (place_before f s y x [] (less_other (f x) (s x) (f y) (s y) apart e))
-  ]
+    elim (test_cases (is_before f s x y)) [
+      | inl e ↦ place_before f s x y [] e ∙ sym (place_past f s y x [] (less_not (f x) (s x) (f y) (s y) e))
+      | inr e ↦ place_past f s x y [] e ∙ sym (place_before f s y x [] (less_other (f x) (s x) (f y) (s y) apart e))
+    ]
 place_commutes f s x y (z ∷ zs) apart =
-  elim (test_cases (is_before f s x z)) [
-    inl xz ↦ elim (test_cases (is_before f s y z)) [
-        inl yz ↦ elim (test_cases (is_before f s x y)) [
-            inl xy ↦
+    elim (test_cases (is_before f s x z)) [
+      | inl xz ↦ elim (test_cases (is_before f s y z)) [
+        | inl yz ↦ elim (test_cases (is_before f s x y)) [
+          | inl xy ↦
               ap (place f s x) (place_before f s y z zs yz) ∙ place_before f s x y (z ∷ zs) xy
               ∙ sym (ap (place f s y) (place_before f s x z zs xz) ∙ place_past f s y x (z ∷ zs) (less_not (f x) (s x) (f y) (s y) xy)
-                  ∙ ap (λ (t : List _). x ∷ t) (place_before f s y z zs yz))
+              ∙ ap (λ (t : List _). x ∷ t) (place_before f s y z zs yz))
           | inr xy ↦
               ap (place f s x) (place_before f s y z zs yz) ∙ place_past f s x y (z ∷ zs) xy
               ∙ ap (λ (t : List _). y ∷ t) (place_before f s x z zs xz)
               ∙ sym (ap (place f s y) (place_before f s x z zs xz) ∙ place_before f s y x (z ∷ zs) (less_other (f x) (s x) (f y) (s y) apart xy))
-          ]
-      | inr yz ↦
-          ap (place f s x) (place_past f s y z zs yz) ∙ place_before f s x z (place f s y zs) xz
-          ∙ sym (ap (place f s y) (place_before f s x z zs xz)
-              ∙ place_past f s y x (z ∷ zs) (less_past (f x) (s x) (f y) (s y) (f z) (s z) xz yz)
-              ∙ ap (λ (t : List _). x ∷ t) (place_past f s y z zs yz))
+        ]
+        | inr yz ↦
+            ap (place f s x) (place_past f s y z zs yz) ∙ place_before f s x z (place f s y zs) xz
+            ∙ sym (ap (place f s y) (place_before f s x z zs xz)
+            ∙ place_past f s y x (z ∷ zs) (less_past (f x) (s x) (f y) (s y) (f z) (s z) xz yz)
+            ∙ ap (λ (t : List _). x ∷ t) (place_past f s y z zs yz))
       ]
-  | inr xz ↦ elim (test_cases (is_before f s y z)) [
-        inl yz ↦
-          ap (place f s x) (place_before f s y z zs yz)
-          ∙ place_past f s x y (z ∷ zs) (less_past (f y) (s y) (f x) (s x) (f z) (s z) yz xz)
-          ∙ ap (λ (t : List _). y ∷ t) (place_past f s x z zs xz)
-          ∙ sym (ap (place f s y) (place_past f s x z zs xz) ∙ place_before f s y z (place f s x zs) yz)
-      | inr yz ↦
-          ap (place f s x) (place_past f s y z zs yz) ∙ place_past f s x z (place f s y zs) xz
-          ∙ ap (λ (t : List _). z ∷ t) (place_commutes f s x y zs apart)
-          ∙ sym (ap (place f s y) (place_past f s x z zs xz) ∙ place_past f s y z (place f s x zs) yz)
+      | inr xz ↦ elim (test_cases (is_before f s y z)) [
+        | inl yz ↦
+            ap (place f s x) (place_before f s y z zs yz)
+            ∙ place_past f s x y (z ∷ zs) (less_past (f y) (s y) (f x) (s x) (f z) (s z) yz xz)
+            ∙ ap (λ (t : List _). y ∷ t) (place_past f s x z zs xz)
+            ∙ sym (ap (place f s y) (place_past f s x z zs xz) ∙ place_before f s y z (place f s x zs) yz)
+        | inr yz ↦
+            ap (place f s x) (place_past f s y z zs yz) ∙ place_past f s x z (place f s y zs) xz
+            ∙ ap (λ (t : List _). z ∷ t) (place_commutes f s x y zs apart)
+            ∙ sym (ap (place f s y) (place_past f s x z zs xz) ∙ place_past f s y z (place f s x zs) yz)
       ]
-  ]
+    ]

@@ -19,22 +19,22 @@ pub record IsConsole {C : Type 0} (kind : Steps C) (cut : Cut C) (i : ℕ) (x : 
   pub was_is : was_at kind cut i ≡ kind.was x
 
 found : {C : Type 0} (kind : Steps C) (xs : List C) (i : ℕ) → i < length xs
-  → (x : C) × (slice_get xs i ≡ Some x) × (slice_index (map kind.clock xs) i ≡ kind.clock x) × (slice_index (map kind.was xs) i ≡ kind.was x)
+    → (x : C) × (slice_get xs i ≡ Some x) × (slice_index (map kind.clock xs) i ≡ kind.clock x) × (slice_index (map kind.was xs) i ≡ kind.was x)
 found kind [] i below = absurd (omega arith)
 found kind (x ∷ xs) zero below = (x, refl, refl, refl)
 found kind (x ∷ xs) (suc i) below = found kind xs i (omega arith)
 
 pub console_at : {C : Type 0} (kind : Steps C) (cut : Cut C) (i : ℕ) → i < count cut → (x : C) × IsConsole kind cut i x
 console_at kind cut i below =
-  let f = found kind cut.consoles i below in
-  (f.0, record { stands = f.1; clock_is = f.2; was_is = f.3 })
+    let f = found kind cut.consoles i below in
+    (f.0, record { stands = f.1; clock_is = f.2; was_is = f.3 })
 
 get_or-put : (xs : List ℕ) (i y k : ℕ) → i < length xs → get_or (set xs i y) k 0 ≡ put i y (λ j. get_or xs j 0) k
 get_or-put xs i y k below =
-  elim (same_or_apart k i) [
-    inl same ↦ rw same (get_or-set_same xs i y 0 below ∙ sym (put_same i y (λ j. get_or xs j 0)))
-  | inr apart ↦ get_or-set_other xs i k y 0 apart ∙ sym (put_other i k y (λ j. get_or xs j 0) apart)
-  ]
+    elim (same_or_apart k i) [
+      | inl same ↦ rw same (get_or-set_same xs i y 0 below ∙ sym (put_same i y (λ j. get_or xs j 0)))
+      | inr apart ↦ get_or-set_other xs i k y 0 apart ∙ sym (put_other i k y (λ j. get_or xs j 0) apart)
+    ]
 
 -- the cut after console x of player i has made a step
 abbrev pub after_step : {C : Type 0} → Steps C → Cut C → ℕ → C → List Incoming → Cut C
@@ -52,25 +52,25 @@ pub record IsStepped {C : Type 0} (kind : Steps C) (cut : Cut C) (i : ℕ) (x : 
   pub wases : was_at kind (after_step kind cut i x signals) ≡ put i (kind.clock x) (was_at kind cut)
 
 pub is_stepped : {C : Type 0} (kind : Steps C) → IsLawful kind → (cut : Cut C) (i : ℕ) (x : C) (signals : List Incoming)
-  → i < count cut → IsConsole kind cut i x → IsStepped kind cut i x signals
+    → i < count cut → IsConsole kind cut i x → IsStepped kind cut i x signals
 is_stepped {C = C} kind law cut i x signals below at =
-  let y : C = (kind.next x signals).0 in
-  let clocks : (k : ℕ) → get_or (map kind.clock (set cut.consoles i y)) k 0 ≡ put i (kind.clock y) (clock_at kind cut) k
+    let y : C = (kind.next x signals).0 in
+    let clocks : (k : ℕ) → get_or (map kind.clock (set cut.consoles i y)) k 0 ≡ put i (kind.clock y) (clock_at kind cut) k
     = λ k. rw map-set (get_or-put (map kind.clock cut.consoles) i (kind.clock y) k (rw length-map below)) in
-  let wases : (k : ℕ) → get_or (map kind.was (set cut.consoles i y)) k 0 ≡ put i (kind.was y) (was_at kind cut) k
+    let wases : (k : ℕ) → get_or (map kind.was (set cut.consoles i y)) k 0 ≡ put i (kind.was y) (was_at kind cut) k
     = λ k. rw map-set (get_or-put (map kind.was cut.consoles) i (kind.was y) k (rw length-map below)) in
-  record {
-    cut_is = ap (stepped_from kind cut i signals) at.stands;
-    count_is = length-set cut.consoles i y;
-    clocks = λ t k. (clocks k) t;
-    wases = (λ t k. (wases k) t) ∙ ap (λ (w : ℕ). put i w (was_at kind cut)) (law.moves x signals);
-  }
+    record {
+      cut_is = ap (stepped_from kind cut i signals) at.stands;
+      count_is = length-set cut.consoles i y;
+      clocks = λ t k. (clocks k) t;
+      wases = (λ t k. (wases k) t) ∙ ap (λ (w : ℕ). put i w (was_at kind cut)) (law.moves x signals);
+    }
 
 -- one place of a function that was changed in one place
 pub put_cases : (i y : ℕ) (f g : ℕ → ℕ) → g ≡ put i y f → (k : ℕ) → ((k ≡ i) × (g k ≡ y)) ⊎ ((k ≢ i) × (g k ≡ f k))
 put_cases i y f g e k =
-  let at_k : g k ≡ put i y f k = ap (λ (h : ℕ → ℕ). h k) e in
-  elim (same_or_apart k i) [
-    inl same ↦ inl (same, at_k ∙ ap (put i y f) same ∙ put_same i y f)
-  | inr apart ↦ inr (apart, at_k ∙ put_other i k y f apart)
-  ]
+    let at_k : g k ≡ put i y f k = ap (λ (h : ℕ → ℕ). h k) e in
+    elim (same_or_apart k i) [
+      | inl same ↦ inl (same, at_k ∙ ap (put i y f) same ∙ put_same i y f)
+      | inr apart ↦ inr (apart, at_k ∙ put_other i k y f apart)
+    ]

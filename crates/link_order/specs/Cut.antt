@@ -30,7 +30,7 @@ was_at kind cut i = slice_index (map kind.was cut.consoles) i
 abbrev pub is_awaited : (ℕ → ℕ → ℕ) → (ℕ → ℕ) → ℕ → Sent → Bool
 is_awaited between was zero one = false
 is_awaited between was (suc i) one =
-  (not (i == one.sender) && nat_lt (was i) (one.signal.clock + between one.sender i)) || is_awaited between was i one
+    (not (i == one.sender) && nat_lt (was i) (one.signal.clock + between one.sender i)) || is_awaited between was i one
 
 abbrev pub is_live : {C : Type 0} → Steps C → Cut C → Sent → Bool
 is_live kind cut one = is_awaited (hop cut) (was_at kind cut) (count cut) one
@@ -63,7 +63,7 @@ pub record IsCable {C : Type 0} (cut : Cut C) : Type 0 where
 -- a cut in time: no console's last step began where a peer's present step can still be heard
 abbrev pub IsInTime : {C : Type 0} → Steps C → Cut C → Type 0
 IsInTime kind cut =
-  (i j : ℕ) → i < count cut → j < count cut → i ≢ j → was_at kind cut i < clock_at kind cut j + hop cut j i
+    (i j : ℕ) → i < count cut → j < count cut → i ≢ j → was_at kind cut i < clock_at kind cut j + hop cut j i
 
 -- the cut of the plain records of a cut's nodes
 abbrev pub plain_cut : {N C : Type 0} → (N → C) → Cut N → Cut C

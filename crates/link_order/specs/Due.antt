@@ -18,9 +18,9 @@ incoming delay sender signal = record { sender = sender; arrival = signal.clock 
 abbrev pub arriving : ℕ → ℕ → ℕ → ℕ → List Signal → List Incoming
 arriving was clock delay sender [] = []
 arriving was clock delay sender (signal ∷ rest) =
-  if is_due was clock (signal.clock + delay)
-  then incoming delay sender signal ∷ arriving was clock delay sender rest
-  else arriving was clock delay sender rest
+    if is_due was clock (signal.clock + delay)
+    then incoming delay sender signal ∷ arriving was clock delay sender rest
+    else arriving was clock delay sender rest
 
 -- due signals stand by arrival, then by sender
 abbrev pub arrival_of : Incoming → ℕ
@@ -42,6 +42,6 @@ place_all (one ∷ rest) due = place_all rest (place_due one due)
 abbrev pub due : (ℕ → ℕ → ℕ) → (ℕ → List Signal) → ℕ → ℕ → ℕ → ℕ → List Incoming
 due between known i was clock zero = []
 due between known i was clock (suc j) =
-  if j == i
-  then due between known i was clock j
-  else place_all (arriving was clock (between j i) j (known j)) (due between known i was clock j)
+    if j == i
+    then due between known i was clock j
+    else place_all (arriving was clock (between j i) j (known j)) (due between known i was clock j)

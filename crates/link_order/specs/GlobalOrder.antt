@@ -14,7 +14,7 @@ use Rattle.link_order.specs.Cut.{Cut, hop, count, clock_at, was_at}
 abbrev pub least_below : (ℕ → ℕ) → ℕ → ℕ
 least_below clock zero = 0
 least_below clock (suc i) =
-  if nat_lt (clock i) (clock (least_below clock i)) then i else least_below clock i
+    if nat_lt (clock i) (clock (least_below clock i)) then i else least_below clock i
 
 abbrev pub least : {C : Type 0} → Steps C → Cut C → ℕ
 least kind cut = least_below (clock_at kind cut) (count cut)
@@ -60,9 +60,9 @@ left kind cut until = left_below (clock_at kind cut) until (count cut)
 unfoldable pub trace_of : {C : Type 0} → Steps C → ℕ → Cut C → ℕ → List ℕ
 trace_of kind zero cut until = []
 trace_of kind (suc most) cut until =
-  if nat_lt (clock_at kind cut (least kind cut)) until
-  then least kind cut ∷ trace_of kind most (step kind cut) until
-  else []
+    if nat_lt (clock_at kind cut (least kind cut)) until
+    then least kind cut ∷ trace_of kind most (step kind cut) until
+    else []
 
 -- the global order's steps while the least clock is below `until`. Each step leaves fewer cycles, so that is all of them
 abbrev pub trace : {C : Type 0} → Steps C → Cut C → ℕ → List ℕ

@@ -3,3 +3,4 @@ pub mod Order
 pub mod Due
 pub mod Cut
 pub mod GlobalOrder
+pub mod Interleaving

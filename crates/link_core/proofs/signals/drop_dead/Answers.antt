@@ -7,4 +7,4 @@ use Rattle.link_core.proofs.signals.drop_dead.Goals as goal
 pub returns-clause-items : goal.returns-clause-items
 returns-clause-items g c =
     filter_same _ (is_awaited (λ _ _. c.args.delay) (slice_index (map g.N.Node.was (map g.N.Node.plain c.args.nodes.now))) (length c.args.nodes.now))
-      _ (λ x b f h. search rules) _ _ c.retain.ensures.filtered
+    _ (λ x b f h. search rules) _ _ c.retain.ensures.filtered

@@ -16,7 +16,7 @@ loop-one-init c = record {
 pub loop-one-preserved : goal.loop-one-preserved
 loop-one-preserved c = record {
   due_so_far = λ count senders.
-    due_gathers (λ _ _. c.args.delay) (take c.loop-one.one-index c.args.sent.now) (take (c.loop-one.one-index + 1) c.args.sent.now)
+      due_gathers (λ _ _. c.args.delay) (take c.loop-one.one-index c.args.sent.now) (take (c.loop-one.one-index + 1) c.args.sent.now)
       (get_or c.args.sent.now c.loop-one.one-index no_signal)
       c.args.player c.args.was c.args.clock count c.loop-one.list.items c.gather_one.new.list.items
       (take_more c.args.sent.now c.loop-one.one-index no_signal (omega arith))
@@ -29,6 +29,6 @@ loop-one-preserved c = record {
 
 pub returns-clause-due : goal.returns-clause-due
 returns-clause-due c count senders =
-  c.loop-one.invariant.due_so_far count senders
-  ∙ ap (λ (t : _). due (λ _ _. c.args.delay) (λ j. from j t) c.args.player c.args.was c.args.clock count)
+    c.loop-one.invariant.due_so_far count senders
+    ∙ ap (λ (t : _). due (λ _ _. c.args.delay) (λ j. from j t) c.args.player c.args.was c.args.clock count)
     (take_all c.loop-one.one-index c.args.sent.now (omega arith))

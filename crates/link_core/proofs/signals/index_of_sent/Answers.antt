@@ -12,4 +12,4 @@ returns-then-is_sent_before-clause-placed c =
 pub returns-clause-placed : goal.returns-clause-placed
 returns-clause-placed c =
     insert-place clock_of sender_of c.args.one.now c.args.list.now (length c.args.list.now) (omega arith)
-        (λ k d less. c.loop-i.invariant k d (omega arith)) (inl refl)
+    (λ k d less. c.loop-i.invariant k d (omega arith)) (inl refl)

@@ -15,14 +15,19 @@ serial_step-requires g c =
     let player : least kind p < count p = least_is_player (clock_at kind p) (count p) c.least_clock.ensures.cable.some_console in
     let same = length-map c.loop-self.self.consoles g.N.Node.plain in
     let far = limits_reach g.N.Node.bound c.loop-self.self.consoles c.args.self.now.consoles c.args.until (least kind p)
-      c.loop-self.invariant.limits c.requires (omega (arith, player, same)) in
+    c.loop-self.invariant.limits c.requires (omega (arith, player, same)) in
     omega (arith, far, c.least_clock.ensures.value, c.loop-self-test.true)
 
 pub loop-self-smaller : goal.loop-self-smaller
 loop-self-smaller g c =
     let kind : Steps g.N.Node.Record = kind_of g.N.Node.clock g.N.Node.was g.N.Node.next in
     let law : IsLawful kind = record {
-      rises = g.met.N.Node.rises; short = g.met.N.Node.short; moves = g.met.N.Node.moves; bears = g.met.N.Node.bears; has_speed = g.met.N.Node.has_speed } in
+      rises = g.met.N.Node.rises;
+      short = g.met.N.Node.short;
+      moves = g.met.N.Node.moves;
+      bears = g.met.N.Node.bears;
+      has_speed = g.met.N.Node.has_speed;
+    } in
     let p : Cut g.N.Node.Record = plain_cut g.N.Node.plain c.loop-self.self in
     let early : clock_at kind p (least kind p) < c.args.until = subst (λ (n : ℕ). n < c.args.until) c.least_clock.ensures.value c.loop-self-test.true in
     (stepped_run kind law p _ c.args.until c.least_clock.ensures.cable c.least_clock.ensures.sound early c.serial_step.ensures.step).1
@@ -31,12 +36,17 @@ pub loop-self-preserved : goal.loop-self-preserved
 loop-self-preserved g c =
     let kind : Steps g.N.Node.Record = kind_of g.N.Node.clock g.N.Node.was g.N.Node.next in
     let law : IsLawful kind = record {
-      rises = g.met.N.Node.rises; short = g.met.N.Node.short; moves = g.met.N.Node.moves; bears = g.met.N.Node.bears; has_speed = g.met.N.Node.has_speed } in
+      rises = g.met.N.Node.rises;
+      short = g.met.N.Node.short;
+      moves = g.met.N.Node.moves;
+      bears = g.met.N.Node.bears;
+      has_speed = g.met.N.Node.has_speed;
+    } in
     let p : Cut g.N.Node.Record = plain_cut g.N.Node.plain c.loop-self.self in
     let early : clock_at kind p (least kind p) < c.args.until = subst (λ (n : ℕ). n < c.args.until) c.least_clock.ensures.value c.loop-self-test.true in
     record {
       same_end = (stepped_run kind law p _ c.args.until c.least_clock.ensures.cable c.least_clock.ensures.sound early c.serial_step.ensures.step).0
-        ∙ c.loop-self.invariant.same_end;
+          ∙ c.loop-self.invariant.same_end;
       limits = c.serial_step.ensures.limits ∙ c.loop-self.invariant.limits;
     }
 

@@ -1,0 +1,13 @@
+#![tactic(auto)]
+//! Tests of the cable's crates on small nodes: runs in the global order, compared with a plain second program.
+
+mod beat;
+mod mixer;
+mod start;
+
+pub use beat::Beat;
+pub use mixer::{Mixer, cycles, mixed, told};
+pub use start::{begin, mixers};
+
+#[cfg(test)]
+mod tests;
