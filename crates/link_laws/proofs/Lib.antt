@@ -1,0 +1,4 @@
+pub mod Advance
+pub mod History
+pub mod Going
+pub mod Watching
