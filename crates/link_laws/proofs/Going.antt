@@ -19,7 +19,7 @@ use Rattle.link_laws.proofs.Advance.{number_found}
 use Rattle.link_laws.proofs.History.{count_of, Leads, Same, same_is, same_trans, On, on_step, not_over, moment_all, Ends, history_ends, Goes, goes}
 
 -- two lists with the same elements at each index
-same_lists : {X : Type 0} (xs ys : List X) → length xs ≡ length ys → ((i : ℕ) → i < length xs → slice_get xs i ≡ slice_get ys i) → xs ≡ ys
+pub same_lists : {X : Type 0} (xs ys : List X) → length xs ≡ length ys → ((i : ℕ) → i < length xs → slice_get xs i ≡ slice_get ys i) → xs ≡ ys
 same_lists [] [] e h = refl
 same_lists [] (y ∷ ys) e h = absurd (omega arith)
 same_lists (x ∷ xs) [] e h = absurd (omega arith)

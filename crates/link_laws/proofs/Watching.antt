@@ -17,7 +17,7 @@ use Rattle.link_order.proofs.Lists.{all_nil, all_map}
 use Rattle.link_laws.proofs.Advance.{Ahead, Advanced, advance, Later, due_of_all}
 
 -- a place that a look changed, or didn't
-changed_cases : {A : Type 0} (i j : ℕ) (y : A) (f : ℕ → ℕ → A) (a b : ℕ)
+pub changed_cases : {A : Type 0} (i j : ℕ) (y : A) (f : ℕ → ℕ → A) (a b : ℕ)
   → ((a ≡ i) × (b ≡ j) × (changed i j y f a b ≡ y)) ⊎ (changed i j y f a b ≡ f a b)
 changed_cases i j y f a b =
   elim (same_or_apart a i) [
@@ -160,8 +160,3 @@ watching_happens {C = C} kind law cut until (Step i) w watch may =
   subst (λ (d : Cut C). Watching kind cut (record { cut = d; seen = w.seen; got = w.got })) (sym (may_due kind cut until w i watch may))
     (watching_step kind law cut until w i watch may)
 
-pub watching_played : {C : Type 0} (kind : Steps C) → IsLawful kind → (cut : Cut C) (until : ℕ) (acts : List Action) (w : Watched C)
-  → Watching kind cut w → IsInterleaving kind until acts w → Watching kind cut (played kind acts w)
-watching_played kind law cut until [] w watch may = watch
-watching_played kind law cut until (act ∷ rest) w watch may =
-  watching_played kind law cut until rest (happens kind act w) (watching_happens kind law cut until act w watch may.0) may.1
