@@ -5,10 +5,12 @@
 //! The definitions are those of `link_order`, and the laws those of `link_laws`, which is here the module `laws`.
 
 mod cut;
+mod horizon;
 mod shell;
 mod signals;
 
 pub use cut::{Cut, CutRefused};
+pub use horizon::{Seen, may_step};
 pub use link_laws as laws;
 pub use link_order::Sent;
 pub use shell::Shell;

@@ -4,10 +4,11 @@ use Rattle.link_order.specs.Steps.{Steps}
 use Rattle.link_order.specs.Order.{from}
 use Rattle.link_order.specs.Cut.{Cut, hop, count, clock_at, was_at, live, IsSound, IsInTime, IsCable}
 use Rattle.link_order.specs.GlobalOrder.{trace, run}
-use Rattle.link_order.specs.Interleaving.{Watched, Action, Look, Step, happens, opened, IsInterleaving, played, steps_of, moment}
+use Rattle.link_order.specs.Interleaving.{Watched, Action, Look, Step, happens, opened, IsInterleaving, played, steps_of, moment, count_of}
 
 -- console i of a cut is the one, with the signals, that the global order has after k of that console's steps
 pub record IsAfter {C : Type 0} (kind : Steps C) (cut : Cut C) (until : ℕ) (d : Cut C) (i k : ℕ) : Type 0 where
+  pub within : k ≤ count_of i (trace kind cut until)
   pub console : slice_get d.consoles i ≡ slice_get (moment kind cut (trace kind cut until) i k).consoles i
   pub signals : from i d.sent ≡ from i (moment kind cut (trace kind cut until) i k).sent
 

@@ -22,73 +22,54 @@ pub fn split<N: Node>()
 /// Consoles that step by what each has seen of the others are those of the global order, whatever the order of their
 /// looks and steps. They and their signals make a sound cut, from which the global order goes on to the same end.
 pub fn equal<N: Node>()
-    ensures {
-        (cut : Cut N.Record) (until : ℕ) (actions : List Action) →
+    ensures { (cut : Cut N.Record) (until : ℕ) (actions : List Action) →
         IsCable cut → IsSound (kind_of N.clock N.was N.next) cut →
         IsInterleaving (kind_of N.clock N.was N.next) until actions (opened (kind_of N.clock N.was N.next) cut) →
-        IsEqual (kind_of N.clock N.was N.next) cut until actions (played (kind_of N.clock N.was N.next) actions (opened (kind_of N.clock N.was N.next) cut)).cut
-    }
-{
-}
+        IsEqual (kind_of N.clock N.was N.next) cut until actions (played (kind_of N.clock N.was N.next) actions (opened (kind_of N.clock N.was N.next) cut)).cut }
+{}
 
 /// From a cut in time, each signal that a look adds arrives after the start of every step that the console has made.
 /// And the console that is furthest behind may step once it has looked at each peer.
 pub fn horizon<N: Node>()
-    ensures no_signal_in_the_past {
-        (cut : Cut N.Record) (until : ℕ) (actions : List Action) (i j : ℕ) →
+    ensures no_signal_in_the_past { (cut : Cut N.Record) (until : ℕ) (actions : List Action) (i j : ℕ) →
         IsCable cut → IsSound (kind_of N.clock N.was N.next) cut → IsInTime (kind_of N.clock N.was N.next) cut →
         IsInterleaving (kind_of N.clock N.was N.next) until actions (opened (kind_of N.clock N.was N.next) cut) →
         i < count cut → j < count cut → i ≢ j →
-        LooksAhead (kind_of N.clock N.was N.next) (played (kind_of N.clock N.was N.next) actions (opened (kind_of N.clock N.was N.next) cut)) i j
-    }
-    ensures furthest_behind_may_step {
-        (cut : Cut N.Record) (until : ℕ) (actions more : List Action) (i : ℕ) →
+        LooksAhead (kind_of N.clock N.was N.next) (played (kind_of N.clock N.was N.next) actions (opened (kind_of N.clock N.was N.next) cut)) i j }
+    ensures furthest_behind_may_step { (cut : Cut N.Record) (until : ℕ) (actions more : List Action) (i : ℕ) →
         IsCable cut → IsSound (kind_of N.clock N.was N.next) cut →
         IsInterleaving (kind_of N.clock N.was N.next) until actions (opened (kind_of N.clock N.was N.next) cut) →
         IsFurthestBehind (kind_of N.clock N.was N.next) until (played (kind_of N.clock N.was N.next) actions (opened (kind_of N.clock N.was N.next) cut)).cut i →
         IsInterleaving (kind_of N.clock N.was N.next) until more (played (kind_of N.clock N.was N.next) actions (opened (kind_of N.clock N.was N.next) cut)) →
         StaysAside i more → ((j : ℕ) → j < count cut → j ≢ i → LooksAt i j more) →
-        MayStep (kind_of N.clock N.was N.next) until (played (kind_of N.clock N.was N.next) more (played (kind_of N.clock N.was N.next) actions (opened (kind_of N.clock N.was N.next) cut))) i
-    }
-{
-}
+        MayStep (kind_of N.clock N.was N.next) until (played (kind_of N.clock N.was N.next) more (played (kind_of N.clock N.was N.next) actions (opened (kind_of N.clock N.was N.next) cut))) i }
+{}
 
 /// No console gets further ahead of another than the delay and one step.
 pub fn skew<N: Node>()
-    ensures {
-        (cut : Cut N.Record) (until : ℕ) (actions : List Action) (i j : ℕ) →
+    ensures { (cut : Cut N.Record) (until : ℕ) (actions : List Action) (i j : ℕ) →
         IsCable cut → IsSound (kind_of N.clock N.was N.next) cut →
         IsInterleaving (kind_of N.clock N.was N.next) until actions (opened (kind_of N.clock N.was N.next) cut) →
         i < count cut → j < count cut →
         clock_at (kind_of N.clock N.was N.next) (played (kind_of N.clock N.was N.next) actions (opened (kind_of N.clock N.was N.next) cut)).cut i
-            < clock_at (kind_of N.clock N.was N.next) (played (kind_of N.clock N.was N.next) actions (opened (kind_of N.clock N.was N.next) cut)).cut j + hop cut j i + 512
-    }
-{
-}
+        < clock_at (kind_of N.clock N.was N.next) (played (kind_of N.clock N.was N.next) actions (opened (kind_of N.clock N.was N.next) cut)).cut j + hop cut j i + 512 }
+{}
 
 /// Few signals of one console are ones that a peer hasn't seen, and few of one sender can still be taken.
 pub fn unread<N: Node>()
-    ensures unseen {
-        (cut : Cut N.Record) (until : ℕ) (actions : List Action) (i j : ℕ) →
+    ensures unseen { (cut : Cut N.Record) (until : ℕ) (actions : List Action) (i j : ℕ) →
         IsCable cut → IsSound (kind_of N.clock N.was N.next) cut →
         IsInterleaving (kind_of N.clock N.was N.next) until actions (opened (kind_of N.clock N.was N.next) cut) →
         i < count cut → j < count cut → i ≢ j →
-        FewUnread (kind_of N.clock N.was N.next) (played (kind_of N.clock N.was N.next) actions (opened (kind_of N.clock N.was N.next) cut)) i j
-    }
-    ensures live {
-        (cut : Cut N.Record) (most j : ℕ) →
+        FewUnread (kind_of N.clock N.was N.next) (played (kind_of N.clock N.was N.next) actions (opened (kind_of N.clock N.was N.next) cut)) i j }
+    ensures live { (cut : Cut N.Record) (most j : ℕ) →
         IsCable cut → IsSound (kind_of N.clock N.was N.next) cut → ((a b : ℕ) → hop cut a b ≤ most) →
-        length (from j (live (kind_of N.clock N.was N.next) cut).sent) ≤ 2 * most + 511
-    }
-{
-}
+        length (from j (live (kind_of N.clock N.was N.next) cut).sent) ≤ 2 * most + 511 }
+{}
 
 /// Consoles that each have made some of their steps of the global order, none of them begun where a peer's present step
 /// could still be heard, are reached by some interleaving.
 pub fn reached<N: Node>()
-    ensures {
-        (cut d : Cut N.Record) (until : ℕ) (k : ℕ → ℕ) →
-        IsCable cut → IsSound (kind_of N.clock N.was N.next) cut → IsReachable (kind_of N.clock N.was N.next) cut until d k → Reaches (kind_of N.clock N.was N.next) cut until d
-    }
-{
-}
+    ensures { (cut d : Cut N.Record) (until : ℕ) (k : ℕ → ℕ) →
+        IsCable cut → IsSound (kind_of N.clock N.was N.next) cut → IsReachable (kind_of N.clock N.was N.next) cut until d k → Reaches (kind_of N.clock N.was N.next) cut until d }
+{}

@@ -68,9 +68,14 @@ steps_of i [] = 0
 steps_of i (Look a b ∷ rest) = steps_of i rest
 steps_of i (Step a ∷ rest) = if a == i then 1 + steps_of i rest else steps_of i rest
 
+-- how often player i is among these players
+abbrev pub count_of : ℕ → List ℕ → ℕ
+count_of i [] = 0
+count_of i (p ∷ rest) = if p == i then 1 + count_of i rest else count_of i rest
+
 -- the cut at which console i of these steps has made k of its own and is about to make the next, or has made all
 abbrev pub moment : {C : Type 0} → Steps C → Cut C → List ℕ → ℕ → ℕ → Cut C
 moment kind cut [] i k = cut
 moment kind cut (p ∷ rest) i zero = if p == i then cut else moment kind (step_of kind cut p) rest i zero
 moment kind cut (p ∷ rest) i (suc k) =
-  if p == i then moment kind (step_of kind cut p) rest i k else moment kind (step_of kind cut p) rest i (suc k)
+    if p == i then moment kind (step_of kind cut p) rest i k else moment kind (step_of kind cut p) rest i (suc k)

@@ -10,4 +10,8 @@ pub use mixer::{Mixer, cycles, mixed, told};
 pub use start::{begin, mixers};
 
 #[cfg(test)]
+mod interleavings;
+#[cfg(test)]
+mod plain;
+#[cfg(test)]
 mod tests;

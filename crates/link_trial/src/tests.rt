@@ -3,92 +3,12 @@
 ghost use Rattle.std.specs.Prelude.{◌≡◌, ◌<◌, ◌≤◌, ◌^◌, All, IfOk};
 ghost use Rattle.std.specs.Vec.{vec_len};
 
-use crate::{Beat, Mixer, begin, cycles, mixed, mixers, told};
-use link_core::{Cut, Sent};
-use link_node::{Incoming, Node, Signal};
+use crate::plain::{LIMIT, plain_run};
+use crate::{Beat, Mixer, begin, mixers};
+use link_core::{Cut, Seen, Sent, may_step};
 use std::alloc::Global;
 use std::process::Abort;
 use std::test::Fail;
-
-const LIMIT: u64 = 1 << 20;
-
-/// The signals of a plain run that player `player` takes in a step with these clocks.
-fn plain_due(
-    rt: &impl Abort,
-    alloc: Global,
-    sent: &[Sent],
-    player: u32,
-    node: &Mixer,
-    delay: u64,
-) -> Result<Vec<Incoming>, Fail> {
-    let mut due = Vec::new(alloc);
-    for one in sent {
-        assert!(rt; one.signal.clock < 1 << 40 && delay <= 1024);
-        let arrival = one.signal.clock + delay;
-        if one.sender != player && node.was < arrival && arrival <= node.clock {
-            due.push(Incoming {
-                sender: one.sender,
-                arrival,
-                signal: one.signal,
-            })?;
-        }
-    }
-    due.sort_by_key(|one| (one.arrival, one.sender))?;
-    Ok(due)
-}
-
-/// The player with the least clock, at a tie the least number.
-fn plain_least(nodes: &[Mixer]) -> usize {
-    let mut least = 0;
-    let mut clock = u64::MAX;
-    for (i, node) in nodes.iter().enumerate() {
-        if node.clock < clock {
-            least = i;
-            clock = node.clock;
-        }
-    }
-    least
-}
-
-/// The plain program: nodes and every signal that they sent, until every clock is at least `until`.
-fn plain_run(
-    rt: &impl Abort,
-    alloc: Global,
-    nodes: &mut Vec<Mixer>,
-    delay: u64,
-    until: u64,
-) -> Result<Vec<Sent>, Fail> {
-    let mut sent = Vec::new(alloc);
-    for _ in 0..100_000 {
-        let least = plain_least(nodes);
-        assert!(rt; least < nodes.len() && least < 4);
-        let Mixer {
-            state,
-            clock,
-            was: _,
-            limit,
-        } = nodes[least];
-        if clock >= until {
-            return Ok(sent);
-        }
-        let due = plain_due(rt, alloc, &sent, least as u32, &nodes[least], delay)?;
-        let state = mixed(state, &due);
-        if let Some(signal) = told(state, clock) {
-            sent.push(Sent {
-                sender: least as u32,
-                signal,
-            })?;
-        }
-        assert!(rt; clock < limit && limit <= LIMIT);
-        nodes[least] = Mixer {
-            state,
-            clock: clock + cycles(state),
-            was: clock,
-            limit,
-        };
-    }
-    Ok(sent)
-}
 
 /// Whether some node but its sender can still take a signal.
 fn is_live(rt: &impl Abort, nodes: &[Mixer], one: &Sent, delay: u64) -> bool {
@@ -121,7 +41,7 @@ fn runs_are_those_of_the_plain_program(rt: HostRuntime) -> Result<(), Fail> {
             assert_eq!(rt; cut.nodes(), plain.as_slice());
             assert_eq!(rt; cut.delay(), delay);
             let mut live = Vec::new(rt.alloc());
-            for one in &all {
+            for one in &all.sent {
                 if is_live(&rt, &plain, one, delay) {
                     live.push(*one)?;
                 }
@@ -177,5 +97,61 @@ fn a_signal_is_taken_at_its_arrival_and_not_before(rt: HostRuntime) -> Result<()
         assert_eq!(rt; cut.nodes()[0].heard, None);
         let _ = cut.into_nodes();
     }
+    Ok(())
+}
+
+#[test]
+fn a_step_is_allowed_below_each_seen_clock_and_the_delay(rt: HostRuntime) {
+    // two consoles that have seen clock 0, and what they may do at delay 1 until 10
+    assert!(rt; may_step(0, 10, &[Seen { clock: 0 }], 1));
+    assert!(rt; !may_step(1, 10, &[Seen { clock: 0 }], 1));
+    assert!(rt; may_step(1, 10, &[Seen { clock: 1 }], 1));
+    assert!(rt; !may_step(10, 10, &[Seen { clock: 1000 }, Seen { clock: 1000 }], 1));
+    assert!(rt; !may_step(5, 10, &[Seen { clock: 9 }, Seen { clock: 4 }], 1));
+    assert!(rt; may_step(9, 10, &[], 1));
+}
+
+/// A cut that is taken apart and put together again is as it was.
+fn rejoined(cut: Cut<Mixer>) -> Cut<Mixer>
+    ensures { result ≡ cut }
+{
+    let _nodes = cut.nodes();
+    let _sent = cut.sent();
+    let (nodes, shell) = cut.part();
+    shell.join(nodes)
+}
+
+#[test]
+fn a_cut_is_parted_and_joined(rt: HostRuntime) -> Result<(), Fail> {
+    let nodes = mixers(rt.alloc(), 3, 11, LIMIT)?;
+    let Ok(mut cut) = begin(rt.alloc(), nodes, 512) else {
+        panic!(&rt; "no memory");
+    };
+    cut.run_serial(5_000);
+    let least = cut.least();
+    let clocks = cut.nodes().iter().map(|node| node.clock).min();
+    assert_eq!(rt;
+        cut.nodes().get(least as usize).map(|node| node.clock),
+        clocks
+    );
+    let sent = cut.sent().to_vec(rt.alloc())?;
+    assert!(rt; !sent.is_empty());
+    let cut = rejoined(cut);
+    assert_eq!(rt; cut.sent(), sent.as_slice());
+    assert_eq!(rt; cut.nodes().len(), 3);
+    let (nodes, mut shell) = cut.part();
+    assert_eq!(rt; nodes.len(), 3);
+    assert_eq!(rt; shell.delay(), 512);
+    assert_eq!(rt; shell.sent(), sent.as_slice());
+    shell.clear();
+    assert_eq!(rt; shell.sent().len(), 0);
+    for one in sent.iter().rev() {
+        assert!(rt; one.signal.start.is_none_or(|start| start.speed < 4));
+        assert!(rt; shell.sent().len() < 16_384);
+        shell.add(*one);
+        assert!(rt; shell.sent().len() < 16_384);
+        shell.add(*one);
+    }
+    assert_eq!(rt; shell.sent(), sent.as_slice());
     Ok(())
 }
