@@ -23,7 +23,7 @@ use Rattle.link_order.proofs.Lists.{test_cases, all_map, all_cons, all_head, all
 use Rattle.link_order.specs.Order.{from}
 use Rattle.link_order.specs.Due.{due}
 use Rattle.link_order.proofs.DueOrder.{due_in_order, due_is_due}
-use Rattle.link_order.proofs.Places.{place_before, place_past, All-place}
+use Rattle.link_order.proofs.Places.{place_before, place_past, All-place, sorted_from_ordered, sorted-place}
 use Rattle.link_order.proofs.Live.{few_live}
 use Rattle.link_core.specs.Kept.{Flight, IsKept, IsPacked, AllLive, AllHaveSpeed}
 
@@ -39,6 +39,7 @@ packed_from_kept kind plain cut sent_room due_room kept = record {
   some_delay = kept.cable.some_delay 0 0;
   short_delay = kept.cable.short_delay 0 0;
   few = omega (arith, kept_few kind plain cut sent_room due_room kept);
+  sorted = sorted_from_ordered cut.sent kept.sound.ordered;
   speeds = kept.speeds;
   room_of_sent = kept.room_of_sent;
   room_of_due = kept.room_of_due;
@@ -60,6 +61,7 @@ packed_more flight one sent_room due_room more_room packed room speed more = rec
   some_delay = packed.some_delay;
   short_delay = packed.short_delay;
   few = omega (arith, length-place clock_of sender_of one flight.sent);
+  sorted = sorted-place one flight.sent packed.sorted;
   speeds = All-place clock_of sender_of (λ (other : Sent). HasSpeed other.signal) one flight.sent speed packed.speeds;
   room_of_sent = omega (arith, packed.room_of_sent);
   room_of_due = packed.room_of_due;

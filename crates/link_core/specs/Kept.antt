@@ -2,6 +2,7 @@ use Rattle.std.specs.Prelude.{ℕ, Bool, true, ◌≡◌, ◌<◌, ◌≤◌, Li
 use Rattle.link_node.specs.Due.{HasSpeed}
 use Rattle.link_order.specs.declared.sent.Sent.{Sent}
 use Rattle.link_order.specs.Steps.{Steps}
+use Rattle.link_order.specs.Order.{IsSorted}
 use Rattle.link_order.specs.Cut.{Cut, plain_cut, is_live, IsSound, IsCable}
 
 -- the signals that are on their way, with the cable's delay
@@ -38,6 +39,7 @@ pub record IsPacked (flight : Flight) (sent_room due_room : ℕ) : Type 0 where
   pub some_delay : 0 < flight.delay
   pub short_delay : flight.delay ≤ 1024
   pub few : length flight.sent ≤ 16384
+  pub sorted : IsSorted flight.sent
   pub speeds : AllHaveSpeed flight.sent
   pub room_of_sent : 16384 ≤ sent_room
   pub room_of_due : 16384 ≤ due_room

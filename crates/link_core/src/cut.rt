@@ -4,6 +4,7 @@ ghost use Rattle.std.specs.Prelude.{ℕ, ◌≡◌, ◌+◌, ◌<◌, ◌≤◌,
 ghost use Rattle.std.specs.Vec.{vec_len, vec_capacity};
 ghost use Rattle.link_node.specs.Due.{IsDue, InOrder};
 ghost use Rattle.link_order.specs.Steps.{kind_of};
+ghost use Rattle.link_order.specs.Order.{IsOrdered};
 ghost use Rattle.link_order.specs.Cut.{plain_cut, live, count, clock_at, IsSound, IsCable};
 ghost use Rattle.link_order.specs.GlobalOrder.{least, least_below, joined, step, run};
 ghost use Rattle.link_core.specs.Kept.{opening, Flight, AllLive, AllHaveSpeed};
@@ -169,6 +170,7 @@ impl<N: Node> Cut<N> {
         ensures value { result.now ≡ self.now.sent }
         ensures live { AllLive (kind_of N.clock N.was N.next) (plain_cut N.plain self.now) }
         ensures few { length result.now ≤ 10236 }
+        ensures ordered { IsOrdered result.now }
         ensures speeds { AllHaveSpeed result.now }
     {
         self.sent.as_slice()

@@ -3,7 +3,7 @@
 ghost use Rattle.std.specs.Prelude.{◌≡◌, ◌<◌, ◌≤◌, ◌^◌, List, [], length, map, Contains};
 ghost use Rattle.link_node.specs.Due.{HasSpeed};
 ghost use Rattle.link_order.specs.Steps.{kind_of};
-ghost use Rattle.link_order.specs.Order.{place_sent};
+ghost use Rattle.link_order.specs.Order.{IsSorted, place_sent};
 ghost use Rattle.link_order.specs.Cut.{plain_cut, IsSound, IsCable};
 ghost use Rattle.link_core.specs.Kept.{Flight, rejoined, AllLive, AllHaveSpeed};
 
@@ -46,6 +46,7 @@ impl Shell {
     pub fn sent(&self) -> &[Sent]
         ensures value { result.now ≡ self.now.sent }
         ensures few { length result.now ≤ 16384 }
+        ensures sorted { IsSorted result.now }
         ensures speeds { AllHaveSpeed result.now }
     {
         self.sent.as_slice()

@@ -5,8 +5,8 @@ use Rattle.std.proofs.lemmas.Bool.Decides.{nat_tests}
 use Rattle.std.proofs.lemmas.List.Elements.{All-filter}
 use Rattle.link_node.specs.declared.signal.Signal.{Signal}
 use Rattle.link_order.specs.declared.sent.Sent.{Sent}
-use Rattle.link_order.specs.Order.{is_before, place, place_sent, clock_of, sender_of, IsOrdered, from}
-use Rattle.link_order.proofs.Lists.{test_cases, all_nil, all_cons, all_head, all_tail, all_map, pairs_nil, pairs_cons, pairs_head, pairs_tail, filter_keeps, filter_drops}
+use Rattle.link_order.specs.Order.{is_before, place, place_sent, clock_of, sender_of, IsOrdered, IsSorted}
+use Rattle.link_order.proofs.Lists.{test_cases, all_nil, all_cons, all_head, all_tail, all_map, pairs_nil, pairs_cons, pairs_head, pairs_tail, pairs_map, filter_keeps, filter_drops}
 
 -- the order of two pairs of numbers
 abbrev less : ℕ → ℕ → ℕ → ℕ → Bool
@@ -151,4 +151,26 @@ place_commutes f s x y (z ∷ zs) apart =
             ∙ ap (λ (t : List _). z ∷ t) (place_commutes f s x y zs apart)
             ∙ sym (ap (place f s y) (place_past f s x z zs xz) ∙ place_past f s y z (place f s x zs) yz)
       ]
+    ]
+
+-- lists that are ordered but for equal elements
+pub sorted_from_ordered : (xs : List Sent) → IsOrdered xs → IsSorted xs
+sorted_from_ordered xs h = pairs_map (λ (a b : Sent). is_before clock_of sender_of a b ≡ true) (λ (a b : Sent). is_before clock_of sender_of b a ≡ false) xs
+    (λ a b e. less_not (clock_of a) (sender_of a) (clock_of b) (sender_of b) e) h
+
+not_past : (a b c d e f : ℕ) → less a b c d ≡ true → less e f c d ≡ false → less e f a b ≡ false
+not_past a b c d e f h k = let x = less_true a b c d h in let y = less_false e f c d k in grind (arith, nat_tests)
+
+pub sorted-place : (x : Sent) (xs : List Sent) → IsSorted xs → IsSorted (place_sent x xs)
+sorted-place x [] h = pairs_cons (λ (a b : Sent). is_before clock_of sender_of b a ≡ false) x [] (all_nil (λ (b : Sent). is_before clock_of sender_of b x ≡ false)) h
+sorted-place x (y ∷ ys) h =
+    let R : Sent → Sent → Type 0 = λ (a b : Sent). is_before clock_of sender_of b a ≡ false in
+    let later = pairs_head R y ys h in
+    elim (test_cases (is_before clock_of sender_of x y)) [
+      | inl e ↦ rw (place_before clock_of sender_of x y ys e)
+          (pairs_cons R x (y ∷ ys)
+          (all_cons (R x) y ys (less_not (clock_of x) (sender_of x) (clock_of y) (sender_of y) e)
+          (all_map (R y) (R x) ys (λ z k. not_past (clock_of x) (sender_of x) (clock_of y) (sender_of y) (clock_of z) (sender_of z) e k) later)) h)
+      | inr e ↦ rw (place_past clock_of sender_of x y ys e)
+          (pairs_cons R y (place_sent x ys) (All-place clock_of sender_of (R y) x ys e later) (sorted-place x ys (pairs_tail R y ys h)))
     ]

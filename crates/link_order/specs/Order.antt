@@ -1,4 +1,4 @@
-use Rattle.std.specs.Prelude.{ℕ, Bool, ◌≡◌, ◌<◌, ◌⊎◌, ◌&&◌, ◌||◌, ◌==◌, nat_lt, if◌then◌else◌, List, [], ◌∷◌, IsTrue, AllPairs}
+use Rattle.std.specs.Prelude.{ℕ, Bool, false, ◌≡◌, ◌<◌, ◌⊎◌, ◌&&◌, ◌||◌, ◌==◌, nat_lt, if◌then◌else◌, List, [], ◌∷◌, IsTrue, AllPairs}
 use Rattle.link_node.specs.declared.signal.Signal.{Signal}
 use Rattle.link_order.specs.declared.sent.Sent.{Sent}
 
@@ -26,6 +26,10 @@ place_sent = place clock_of sender_of
 -- in that order, and no two of one sender with one clock
 abbrev pub IsOrdered : List Sent → Type 0
 IsOrdered sent = AllPairs (λ a b. IsTrue (is_before clock_of sender_of a b)) sent
+
+-- in that order, where some may be of one sender with one clock
+abbrev pub IsSorted : List Sent → Type 0
+IsSorted sent = AllPairs (λ a b. is_before clock_of sender_of b a ≡ false) sent
 
 -- the signals of one player, in the same order
 abbrev pub from : ℕ → List Sent → List Signal

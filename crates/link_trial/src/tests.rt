@@ -5,7 +5,7 @@ ghost use Rattle.std.specs.Vec.{vec_len};
 
 use crate::plain::{LIMIT, plain_run};
 use crate::{Beat, Mixer, begin, mixers};
-use link_core::{Cut, Seen, Sent, may_step};
+use link_core::{Cut, Seen, Sent, laws, may_step};
 use std::alloc::Global;
 use std::process::Abort;
 use std::test::Fail;
@@ -119,6 +119,16 @@ fn rejoined(cut: Cut<Mixer>) -> Cut<Mixer>
     let _sent = cut.sent();
     let (nodes, shell) = cut.part();
     shell.join(nodes)
+}
+
+#[test]
+fn the_laws_hold_of_a_mixer() {
+    laws::split::<Mixer>();
+    laws::equal::<Mixer>();
+    laws::horizon::<Mixer>();
+    laws::skew::<Mixer>();
+    laws::unread::<Mixer>();
+    laws::reached::<Mixer>();
 }
 
 #[test]

@@ -4,4 +4,4 @@ use Rattle.link_core.specs.declared.horizon.Seen.{Seen}
 use Rattle.link_trial.proofs.interleavings.peers.Given as goal
 
 abbrev pub invariant-loop-j : goal.invariant-loop-j
-invariant-loop-j l = All (λ (peer : Seen). peer.clock < 2 ^ 40) l.others.items
+invariant-loop-j g l = All (λ (peer : Seen). peer.clock < 2 ^ 40) l.others.items
