@@ -165,3 +165,29 @@ fn a_cut_is_parted_and_joined(rt: HostRuntime) -> Result<(), Fail> {
     assert_eq!(rt; shell.sent(), sent.as_slice());
     Ok(())
 }
+
+/// One step of the global order, where the least node is below its limit. It answers the player, and the node after it.
+fn step_once(rt: &impl Abort, cut: &mut Cut<Mixer>) -> (usize, Mixer) {
+    let player = cut.least() as usize;
+    let node = cut.nodes()[player];
+    assert!(rt; node.clock < node.limit);
+    cut.serial_step();
+    let nodes = cut.nodes();
+    assert!(rt; player < nodes.len());
+    (player, nodes[player])
+}
+
+#[test]
+fn steps_are_those_of_the_plain_program(rt: HostRuntime) -> Result<(), Fail> {
+    let mut plain = mixers(rt.alloc(), 3, 5, LIMIT)?;
+    let all = plain_run(&rt, rt.alloc(), &mut plain, 100, 5_000)?;
+    assert!(rt; all.steps.len() > 60);
+    let nodes = mixers(rt.alloc(), 3, 5, LIMIT)?;
+    let Ok(mut cut) = begin(rt.alloc(), nodes, 100) else {
+        panic!(&rt; "no memory");
+    };
+    for wanted in &all.steps {
+        assert_eq!(rt; step_once(&rt, &mut cut), *wanted);
+    }
+    Ok(())
+}
