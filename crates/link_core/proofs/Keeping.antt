@@ -1,6 +1,6 @@
 -- What a cut keeps.
-use Rattle.std.specs.Prelude.{Bool, true, false, List, [], ◌∷◌, ◌++◌, length, map, filter, All, Option, None, Some, IfSome, slice_get, slice_set, slice_index}
-use Rattle.std.proofs.Common.{ℕ, zero, suc, ◌≡◌, ◌≢◌, ◌+◌, ◌<◌, ◌≤◌, ◌⊎◌, inl, inr, arith, refl, sym, ap, ◌∙◌, subst, get_or}
+use Rattle.std.specs.Prelude.{false, List, [], ◌∷◌, length, map, filter, All, Option, Some, slice_get, slice_set, slice_index}
+use Rattle.std.proofs.Common.{ℕ, zero, suc, ◌≡◌, ◌+◌, ◌<◌, ◌≤◌, inl, inr, arith, sym, ap, ◌∙◌, subst}
 use Rattle.link_node.specs.Due.{HasSpeed, IsDue, InOrder}
 use Rattle.link_order.specs.declared.sent.Sent.{Sent}
 use Rattle.link_order.specs.Steps.{Steps, IsLawful}
@@ -10,15 +10,15 @@ use Rattle.std.proofs.lemmas.List.Elements.{All-filter, filter_passes}
 use Rattle.link_node.specs.declared.signal.Incoming.{Incoming}
 use Rattle.link_node.specs.declared.signal.Signal.{Signal}
 use Rattle.link_order.specs.Cut.{Cut, plain_cut, count, clock_at, was_at, hop, live, is_live, is_awaited, IsSound, IsSoundSignal, IsCable}
-use Rattle.link_order.specs.GlobalOrder.{least, least_below, step, stepped, due_at, joined, run, left}
+use Rattle.link_order.specs.GlobalOrder.{least, least_below, step, due_at, joined, run, left}
 use Rattle.link_order.proofs.Numbers.{least_is_player, least_is_least}
-use Rattle.link_order.proofs.Runs.{Falls, falls, run_unrolls, run_ends}
+use Rattle.link_order.proofs.Runs.{falls, run_unrolls, run_ends}
 use Rattle.link_order.proofs.LiveRuns.{run_live, live_whole}
 use Rattle.std.specs.Prelude.{nat_lt}
 use Rattle.std.proofs.lemmas.Bool.{lt-ltb}
 use Rattle.std.proofs.lemmas.Bool.Decides.{nat_tests}
-use Rattle.link_order.proofs.Stepping.{IsConsole, console_at, after_step, IsStepped, is_stepped}
-use Rattle.link_order.proofs.Sound.{sound_live, sound_step, joined_all, some_map}
+use Rattle.link_order.proofs.Stepping.{console_at, is_stepped}
+use Rattle.link_order.proofs.Sound.{sound_live, sound_step, joined_all}
 use Rattle.link_order.proofs.Lists.{test_cases, all_map, all_cons, all_head, all_tail}
 use Rattle.link_order.specs.Order.{from}
 use Rattle.link_order.specs.Due.{due}

@@ -1,12 +1,12 @@
 -- What the code reads, as the definitions say it.
-use Rattle.std.specs.Prelude.{Bool, true, false, List, [], ◌∷◌, ◌++◌, length, map, filter, take, insert}
-use Rattle.std.proofs.Common.{ℕ, zero, suc, ◌≡◌, ◌≢◌, ◌+◌, ◌<◌, ◌≤◌, ◌⊎◌, inl, inr, arith, refl, sym, ap, ◌∙◌, subst, get_or}
+use Rattle.std.specs.Prelude.{true, false, List, [], ◌∷◌, ◌++◌, length, map, insert}
+use Rattle.std.proofs.Common.{ℕ, zero, suc, ◌≡◌, ◌≢◌, ◌+◌, ◌<◌, ◌≤◌, ◌⊎◌, inl, inr, arith, refl, sym, ap, ◌∙◌, get_or}
 use Rattle.std.specs.List.{insert}
 use Rattle.link_order.specs.Order.{is_before, place}
 use Rattle.link_node.specs.declared.signal.Incoming.{Incoming}
 use Rattle.link_order.specs.declared.sent.Sent.{Sent}
 use Rattle.link_order.specs.Order.{from}
-use Rattle.std.specs.Prelude.{Option, None, Some, slice_get}
+use Rattle.std.specs.Prelude.{None, Some, slice_get}
 use Rattle.link_node.specs.declared.signal.LinkMode.TheVariants.{Normal8}
 use Rattle.link_order.specs.Due.{is_due, incoming, place_due, due}
 use Rattle.link_order.proofs.Numbers.{same_or_apart}

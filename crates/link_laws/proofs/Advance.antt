@@ -1,6 +1,6 @@
 -- One step of a console that is ahead of no peer's horizon, seen by each console and its signals.
-use Rattle.std.specs.Prelude.{Bool, true, false, List, [], ◌∷◌, ◌++◌, length, map, All, Option, None, Some, IfSome, slice_get, slice_set, slice_index, option_to_list}
-use Rattle.std.proofs.Common.{ℕ, zero, suc, ◌≡◌, ◌≢◌, ◌+◌, ◌<◌, ◌≤◌, ◌⊎◌, inl, inr, arith, refl, sym, ap, ◌∙◌, subst, get_or, set}
+use Rattle.std.specs.Prelude.{false, List, [], ◌∷◌, ◌++◌, length, map, All, Option, None, Some, IfSome, slice_get, slice_index, option_to_list}
+use Rattle.std.proofs.Common.{ℕ, zero, suc, ◌≡◌, ◌≢◌, ◌+◌, ◌<◌, ◌≤◌, inl, inr, arith, refl, sym, ap, ◌∙◌, subst, set}
 use Rattle.std.proofs.lemmas.Bool.Decides.{nat_tests}
 use Rattle.std.proofs.lemmas.List.{append-nil}
 use Rattle.link_node.specs.declared.signal.Incoming.{Incoming}
@@ -10,12 +10,11 @@ use Rattle.link_order.specs.Steps.{Steps, IsLawful}
 use Rattle.link_order.specs.Order.{from, IsOrdered}
 use Rattle.link_order.specs.Due.{is_due, arriving, due}
 use Rattle.link_order.specs.Cut.{Cut, hop, count, clock_at, was_at, IsSound, IsSoundSignal}
-use Rattle.link_order.specs.GlobalOrder.{stepped, joined, step_of, due_at}
-use Rattle.link_order.proofs.Numbers.{same_or_apart, put}
-use Rattle.link_order.proofs.Lists.{test_cases, all_nil, all_cons, all_head, all_tail, all_map}
+use Rattle.link_order.specs.GlobalOrder.{joined, step_of, due_at}
+use Rattle.link_order.proofs.Lists.{all_nil, all_cons, all_head, all_tail, all_map}
 use Rattle.link_order.proofs.Senders.{OwnBelow, from-place_own, from-place_other}
 use Rattle.link_order.proofs.DueSignals.{arriving_not, arriving-append, due_same}
-use Rattle.link_order.proofs.Stepping.{IsConsole, console_at, after_step, IsStepped, is_stepped, put_cases}
+use Rattle.link_order.proofs.Stepping.{console_at, after_step, is_stepped, put_cases}
 use Rattle.link_order.proofs.Sound.{sound_after_step}
 
 -- console i may step: each peer's present clock is so far that nothing that it still sends can be due

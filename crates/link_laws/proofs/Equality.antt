@@ -1,16 +1,16 @@
 -- Consoles that an interleaving reaches stand on the history of the global order.
-use Rattle.std.specs.Prelude.{Bool, true, false, List, [], ◌∷◌, ◌++◌, All, nat_lt, ◌==◌, if◌then◌else◌}
-use Rattle.std.proofs.Common.{ℕ, zero, suc, ◌≡◌, ◌≢◌, ◌+◌, ◌<◌, ◌≤◌, ◌⊎◌, inl, inr, arith, refl, sym, ap, ◌∙◌, subst}
+use Rattle.std.specs.Prelude.{true, false, List, [], ◌∷◌, nat_lt, ◌==◌, if◌then◌else◌}
+use Rattle.std.proofs.Common.{ℕ, suc, ◌≡◌, ◌≢◌, ◌+◌, ◌<◌, ◌≤◌, inl, inr, arith, refl, sym, ap, ◌∙◌, subst}
 use Rattle.std.proofs.lemmas.Bool.Decides.{nat_tests}
 use Rattle.link_order.specs.Steps.{Steps, IsLawful}
-use Rattle.link_order.specs.Cut.{Cut, hop, count, clock_at, was_at, IsSound, IsInTime, IsCable}
-use Rattle.link_order.specs.GlobalOrder.{least, step_of, trace, run, after}
-use Rattle.link_order.specs.Interleaving.{Watched, opened, Action, Look, Step, changed, happens, MayStep, May, IsInterleaving, played, steps_of, moment}
+use Rattle.link_order.specs.Cut.{Cut, hop, count, clock_at, was_at, IsSound, IsCable}
+use Rattle.link_order.specs.GlobalOrder.{least, step_of, trace, run}
+use Rattle.link_order.specs.Interleaving.{Watched, opened, Action, Look, Step, happens, MayStep, May, IsInterleaving, played, steps_of, moment}
 use Rattle.link_order.proofs.Numbers.{same_or_apart, put, put_same, put_other, least_is_player}
 use Rattle.link_order.proofs.Runs.{run_ends}
-use Rattle.link_laws.specs.Law.{IsAfter, GoesOn, IsEqual}
-use Rattle.link_laws.proofs.Advance.{Ahead, Advanced, advance, Later}
-use Rattle.link_laws.proofs.History.{Leads, trace_leads, Same, same_sym, On, on_step, moment_none}
+use Rattle.link_laws.specs.Law.{IsEqual}
+use Rattle.link_laws.proofs.Advance.{advance}
+use Rattle.link_laws.proofs.History.{Leads, trace_leads, same_sym, On, on_step, moment_none}
 use Rattle.link_laws.proofs.Going.{goes_on}
 use Rattle.link_laws.proofs.Watching.{Watching, HearsInTime, watching_opened, watching_happens, may_ahead, may_due, changed_cases}
 

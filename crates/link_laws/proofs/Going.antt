@@ -1,22 +1,22 @@
 -- From any cut on the history, the global order goes on to the history's end.
-use Rattle.std.specs.Prelude.{Bool, true, false, List, [], ◌∷◌, ◌++◌, length, All, AllPairs, IsTrue, Option, None, Some, slice_get, nat_lt}
-use Rattle.std.proofs.Common.{ℕ, zero, suc, ◌≡◌, ◌≢◌, ◌+◌, ◌<◌, ◌≤◌, ◌⊎◌, inl, inr, arith, refl, sym, ap, ◌∙◌, subst}
+use Rattle.std.specs.Prelude.{true, false, List, [], ◌∷◌, length, All, Some, slice_get, nat_lt}
+use Rattle.std.proofs.Common.{ℕ, zero, suc, ◌≡◌, ◌≢◌, ◌<◌, ◌≤◌, ◌⊎◌, inl, inr, arith, refl, sym, ap, ◌∙◌, subst}
 use Rattle.std.proofs.lemmas.Bool.Decides.{nat_tests}
 use Rattle.link_node.specs.declared.signal.Signal.{Signal}
 use Rattle.link_order.specs.declared.sent.Sent.{Sent}
 use Rattle.link_order.specs.Steps.{Steps, IsLawful}
 use Rattle.link_order.specs.Order.{is_before, clock_of, sender_of, IsOrdered, from}
 use Rattle.link_order.specs.Cut.{Cut, hop, count, clock_at, IsSound, IsSoundSignal}
-use Rattle.link_order.specs.GlobalOrder.{least, step, step_of, left, after, trace, run}
+use Rattle.link_order.specs.GlobalOrder.{least, step, left, after, run}
 use Rattle.link_order.specs.Interleaving.{moment, count_of}
 use Rattle.link_order.proofs.Numbers.{same_or_apart, put, least_is_player, least_is_least}
 use Rattle.link_order.proofs.Lists.{test_cases, all_head, all_tail, all_map, pairs_head, pairs_tail}
 use Rattle.link_order.proofs.Places.{Comes}
 use Rattle.link_order.proofs.Senders.{from_own, from_other}
-use Rattle.link_order.proofs.Runs.{Falls, falls, ends, run_unrolls, run_ends}
+use Rattle.link_order.proofs.Runs.{falls, ends, run_unrolls, run_ends}
 use Rattle.link_order.proofs.Sound.{least_ahead}
 use Rattle.link_laws.proofs.Advance.{number_found}
-use Rattle.link_laws.proofs.History.{Leads, Same, same_is, same_trans, On, on_step, not_over, moment_all, Ends, history_ends, Goes, goes}
+use Rattle.link_laws.proofs.History.{Leads, Same, same_is, same_trans, On, on_step, moment_all, history_ends, goes}
 
 -- two lists with the same elements at each index
 pub same_lists : {X : Type 0} (xs ys : List X) → length xs ≡ length ys → ((i : ℕ) → i < length xs → slice_get xs i ≡ slice_get ys i) → xs ≡ ys

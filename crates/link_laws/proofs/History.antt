@@ -1,6 +1,6 @@
 -- The history of each console along a list of steps, and cuts that stand somewhere on it.
-use Rattle.std.specs.Prelude.{Bool, true, false, List, [], ◌∷◌, ◌++◌, length, map, All, Option, None, Some, IfSome, slice_get, slice_index, option_to_list, nat_lt, ◌==◌, if◌then◌else◌}
-use Rattle.std.proofs.Common.{ℕ, zero, suc, ◌≡◌, ◌≢◌, ◌+◌, ◌<◌, ◌≤◌, ◌⊎◌, inl, inr, arith, refl, sym, ap, ◌∙◌, subst, get_or, append_assoc}
+use Rattle.std.specs.Prelude.{true, false, List, [], ◌∷◌, ◌++◌, All, Option, Some, slice_get, option_to_list, nat_lt, ◌==◌, if◌then◌else◌}
+use Rattle.std.proofs.Common.{ℕ, zero, suc, ◌≡◌, ◌≢◌, ◌+◌, ◌<◌, ◌≤◌, ◌⊎◌, inl, inr, arith, refl, sym, ap, ◌∙◌, subst, append_assoc}
 use Rattle.std.proofs.lemmas.Bool.Decides.{nat_tests}
 use Rattle.std.proofs.lemmas.List.{append-nil}
 use Rattle.std.proofs.lemmas.List.Elements.{All-append}
@@ -14,9 +14,9 @@ use Rattle.link_order.specs.GlobalOrder.{least, step_of, due_at, after, trace_of
 use Rattle.link_order.specs.Interleaving.{moment, count_of}
 use Rattle.link_order.proofs.Numbers.{same_or_apart, put, put_same, put_other, least_is_player, least_is_least}
 use Rattle.link_order.proofs.Lists.{test_cases, all_nil, all_map}
-use Rattle.link_order.proofs.Runs.{Falls, falls, ends, trace_goes, trace_ends, trace_zero, after_none, after_one}
+use Rattle.link_order.proofs.Runs.{falls, ends, trace_goes, trace_ends, trace_zero, after_none, after_one}
 use Rattle.link_order.proofs.Sound.{sound_step, least_ahead}
-use Rattle.link_laws.proofs.Advance.{Ahead, Advanced, advance, number_same, Later, due_of_all}
+use Rattle.link_laws.proofs.Advance.{Ahead, advance, number_same, Later, due_of_all}
 
 pub count_own : (i p : ℕ) (rest : List ℕ) → p ≡ i → count_of i (p ∷ rest) ≡ 1 + count_of i rest
 count_own i p rest e = let t : (p == i) ≡ true = grind (arith, nat_tests) in ap (λ b. if b then 1 + count_of i rest else count_of i rest) t

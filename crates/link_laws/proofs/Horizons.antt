@@ -1,6 +1,6 @@
 -- No signal in the past, the furthest behind may step, and few signals that aren't seen.
-use Rattle.std.specs.Prelude.{Bool, true, false, List, [], ◌∷◌, ◌++◌, length, All, AllPairs, filter, ◌==◌, ◌&&◌, if◌then◌else◌}
-use Rattle.std.proofs.Common.{ℕ, zero, suc, ◌≡◌, ◌≢◌, ◌+◌, ◌*◌, ◌-◌, ◌<◌, ◌≤◌, ◌⊎◌, inl, inr, arith, refl, sym, ap, ◌∙◌, subst, get_or}
+use Rattle.std.specs.Prelude.{true, List, [], ◌∷◌, ◌++◌, length, All, AllPairs, ◌==◌, ◌&&◌, if◌then◌else◌}
+use Rattle.std.proofs.Common.{ℕ, ◌≡◌, ◌≢◌, ◌+◌, ◌*◌, ◌-◌, ◌<◌, ◌≤◌, ◌⊎◌, inl, inr, arith, refl, sym, ap, ◌∙◌, subst, get_or}
 use Rattle.std.proofs.lemmas.Bool.Decides.{nat_tests}
 use Rattle.std.proofs.lemmas.List.Elements.{All-filter, filter_passes}
 use Rattle.std.proofs.lemmas.List.Kept.{AllPairs-filter}
@@ -11,14 +11,14 @@ use Rattle.link_order.specs.Order.{from, clock_of, sender_of, IsOrdered}
 use Rattle.link_order.specs.Cut.{Cut, hop, count, clock_at, was_at, live, is_live, IsSound, IsSoundSignal, IsInTime, IsCable}
 use Rattle.link_order.specs.GlobalOrder.{least_below, step_of}
 use Rattle.link_order.specs.Interleaving.{Watched, opened, Action, Look, Step, changed, happens, MayStep, May, IsInterleaving, played}
-use Rattle.link_order.proofs.Numbers.{same_or_apart, least_is_player, least_is_least}
-use Rattle.link_order.proofs.Lists.{all_nil, all_cons, all_head, all_tail, all_map, pairs_nil, pairs_tail}
+use Rattle.link_order.proofs.Numbers.{same_or_apart}
+use Rattle.link_order.proofs.Lists.{all_tail, all_map, pairs_tail}
 use Rattle.link_order.proofs.Places.{Comes}
 use Rattle.link_order.proofs.DueOrder.{from_rises, from_all}
 use Rattle.link_order.proofs.Live.{rising_length, live_near}
 use Rattle.link_laws.specs.Law.{Adds, ArrivesLater, LooksAhead, FewUnread, LooksAt, StaysAside, IsFurthestBehind}
-use Rattle.link_laws.proofs.Advance.{Ahead, Advanced, advance, Later}
-use Rattle.link_laws.proofs.Watching.{Watching, HearsInTime, watching_opened, watching_happens, may_ahead, may_due, changed_cases}
+use Rattle.link_laws.proofs.Advance.{advance, Later}
+use Rattle.link_laws.proofs.Watching.{Watching, watching_opened, watching_happens, may_ahead, may_due, changed_cases}
 use Rattle.link_laws.proofs.Equality.{hears_played, watching_played}
 
 pub looked : {A : Type 0} (a b : ℕ) (y : A) (f : ℕ → ℕ → A) → changed a b y f a b ≡ y
@@ -70,7 +70,7 @@ few_unread {C = C} kind law cut until actions i j cable sound may li lj apart =
     = from_all (λ (s : Signal). s.clock < clock_at kind w.cut i + hop w.cut i j) j w.cut.sent
     (all_map (IsSoundSignal kind w.cut) (λ (one : Sent). one.sender ≡ j → one.signal.clock < clock_at kind w.cut i + hop w.cut i j) w.cut.sent
     (λ one h e.
-    let n = h.not_arrived i (up i li) (λ t. apart (t ∙ e)) in
+    let n = h.allowed i (up i li) (λ t. apart (t ∙ e)) in
     let f : hop w.cut i one.sender ≡ hop w.cut i j = ap (hop w.cut i) e in
     omega (arith, n, f)) watch.sound.signals) in
     let below : All (λ (s : Signal). s.clock < clock_at kind w.cut i + hop w.cut i j) l.rest

@@ -1,18 +1,17 @@
 -- Some interleaving reaches consoles that have each made some of their steps.
-use Rattle.std.specs.Prelude.{Bool, true, false, List, [], ◌∷◌, ◌++◌, length, All, slice_get, min, nat_lt, ◌==◌, ◌&&◌, if◌then◌else◌}
+use Rattle.std.specs.Prelude.{true, false, List, [], ◌∷◌, ◌++◌, min, nat_lt, ◌==◌, ◌&&◌, if◌then◌else◌}
 use Rattle.std.proofs.Common.{ℕ, zero, suc, ◌≡◌, ◌≢◌, ◌+◌, ◌-◌, ◌<◌, ◌≤◌, ◌⊎◌, inl, inr, arith, refl, sym, ap, ◌∙◌, subst, append_assoc}
 use Rattle.std.proofs.lemmas.Bool.Decides.{nat_tests}
 use Rattle.std.proofs.lemmas.List.{append-nil}
 use Rattle.link_order.specs.Steps.{Steps, IsLawful}
-use Rattle.link_order.specs.Order.{from}
 use Rattle.link_order.specs.Cut.{Cut, hop, count, clock_at, was_at, IsSound, IsCable}
 use Rattle.link_order.specs.GlobalOrder.{step_of, trace, after}
-use Rattle.link_order.specs.Interleaving.{Watched, opened, Action, Look, Step, changed, happens, MayStep, May, IsInterleaving, played, moment, count_of}
+use Rattle.link_order.specs.Interleaving.{Watched, opened, Action, Look, Step, changed, happens, MayStep, IsInterleaving, played, moment, count_of}
 use Rattle.link_order.proofs.Numbers.{same_or_apart, put, put_same, put_other}
 use Rattle.link_order.proofs.Lists.{test_cases}
 use Rattle.link_order.proofs.Runs.{after_none, after_one}
-use Rattle.link_laws.specs.Law.{IsAfter, IsReachable, Reaches}
-use Rattle.link_laws.proofs.Advance.{Ahead, Advanced, advance, number_same}
+use Rattle.link_laws.specs.Law.{IsReachable, Reaches}
+use Rattle.link_laws.proofs.Advance.{advance, number_same}
 use Rattle.link_laws.proofs.History.{count_own, count_other, moment_first, moment_own, moment_other, Leads, trace_leads, Same, same_is, same_trans, same_sym, moment_none, moment_all, On, on_step}
 use Rattle.link_laws.proofs.Going.{same_lists}
 use Rattle.link_laws.proofs.Watching.{Watching, watching_opened, watching_happens, may_ahead, may_due}

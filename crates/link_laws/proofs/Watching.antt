@@ -1,20 +1,18 @@
 -- What holds of consoles that step by what they have seen, whatever the order.
-use Rattle.std.specs.Prelude.{Bool, true, false, List, [], ◌∷◌, ◌++◌, length, All, AllPairs, Option, None, Some, slice_get, option_to_list, ◌==◌, ◌&&◌, if◌then◌else◌}
-use Rattle.std.proofs.Common.{ℕ, zero, suc, ◌≡◌, ◌≢◌, ◌+◌, ◌<◌, ◌≤◌, ◌⊎◌, inl, inr, arith, refl, sym, ap, ◌∙◌, subst, append_assoc}
+use Rattle.std.specs.Prelude.{true, false, List, [], ◌++◌, option_to_list, ◌==◌, ◌&&◌, if◌then◌else◌}
+use Rattle.std.proofs.Common.{ℕ, ◌≡◌, ◌≢◌, ◌+◌, ◌<◌, ◌≤◌, ◌⊎◌, inl, inr, arith, refl, sym, ap, ◌∙◌, subst, append_assoc}
 use Rattle.std.proofs.lemmas.Bool.Decides.{nat_tests}
 use Rattle.std.proofs.lemmas.List.{append-nil}
 use Rattle.std.proofs.lemmas.List.Elements.{All-append}
-use Rattle.link_node.specs.declared.signal.Incoming.{Incoming}
 use Rattle.link_node.specs.declared.signal.Signal.{Signal}
 use Rattle.link_order.specs.Steps.{Steps, IsLawful}
 use Rattle.link_order.specs.Order.{from}
-use Rattle.link_order.specs.Due.{due}
-use Rattle.link_order.specs.Cut.{Cut, hop, count, clock_at, was_at, IsSound, IsInTime}
+use Rattle.link_order.specs.Cut.{Cut, hop, count, clock_at, was_at, IsSound}
 use Rattle.link_order.specs.GlobalOrder.{stepped, step_of, due_at}
-use Rattle.link_order.specs.Interleaving.{Watched, opened, Action, Look, Step, changed, due_seen, happens, MayStep, May, IsInterleaving, played, steps_of, moment}
-use Rattle.link_order.proofs.Numbers.{same_or_apart, put, put_same, put_other}
+use Rattle.link_order.specs.Interleaving.{Watched, opened, Action, Look, Step, changed, due_seen, happens, MayStep, May}
+use Rattle.link_order.proofs.Numbers.{same_or_apart}
 use Rattle.link_order.proofs.Lists.{all_nil, all_map}
-use Rattle.link_laws.proofs.Advance.{Ahead, Advanced, advance, Later, due_of_all}
+use Rattle.link_laws.proofs.Advance.{Ahead, advance, Later, due_of_all}
 
 -- a place that a look changed, or didn't
 pub changed_cases : {A : Type 0} (i j : ℕ) (y : A) (f : ℕ → ℕ → A) (a b : ℕ)

@@ -1,8 +1,8 @@
-use Rattle.std.specs.Prelude.{ℕ, ◌≡◌, ◌≢◌, ◌+◌, ◌*◌, ◌<◌, ◌≤◌, ◌⊎◌, List, [], ◌∷◌, ◌++◌, length, All, slice_get}
+use Rattle.std.specs.Prelude.{ℕ, ◌≡◌, ◌≢◌, ◌+◌, ◌<◌, ◌≤◌, ◌⊎◌, List, [], ◌∷◌, ◌++◌, length, All, slice_get}
 use Rattle.link_node.specs.declared.signal.Signal.{Signal}
 use Rattle.link_order.specs.Steps.{Steps}
 use Rattle.link_order.specs.Order.{from}
-use Rattle.link_order.specs.Cut.{Cut, hop, count, clock_at, was_at, live, IsSound, IsInTime, IsCable}
+use Rattle.link_order.specs.Cut.{Cut, hop, count, clock_at, was_at, IsSound, IsInTime, IsCable}
 use Rattle.link_order.specs.GlobalOrder.{trace, run}
 use Rattle.link_order.specs.Interleaving.{Watched, Action, Look, Step, happens, opened, IsInterleaving, played, steps_of, moment, count_of}
 

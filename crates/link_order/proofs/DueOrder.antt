@@ -1,12 +1,12 @@
 -- What is due stands in order, and each of it may be taken.
-use Rattle.std.specs.Prelude.{Bool, true, false, not, List, [], ◌∷◌, ◌++◌, All, AllPairs, IsTrue, filter, nat_lt, nat_le, ◌==◌, ◌||◌, ◌&&◌, if◌then◌else◌}
-use Rattle.std.proofs.Common.{ℕ, zero, suc, ◌≡◌, ◌≢◌, ◌+◌, ◌<◌, ◌≤◌, ◌⊎◌, inl, inr, arith, refl, sym, ap, ◌∙◌, subst, get_or}
+use Rattle.std.specs.Prelude.{Bool, true, false, List, [], ◌∷◌, All, AllPairs, filter}
+use Rattle.std.proofs.Common.{ℕ, zero, suc, ◌≡◌, ◌≢◌, ◌+◌, ◌<◌, ◌≤◌, inl, inr, arith, refl, sym, ap, ◌∙◌, subst, get_or}
 use Rattle.std.proofs.lemmas.Bool.Decides.{nat_tests}
 use Rattle.link_node.specs.declared.signal.Incoming.{Incoming}
 use Rattle.link_node.specs.declared.signal.Signal.{Signal}
 use Rattle.link_node.specs.Due.{IsDue, InOrder, Precedes}
 use Rattle.link_order.specs.declared.sent.Sent.{Sent}
-use Rattle.link_order.specs.Order.{is_before, place, from, IsOrdered, clock_of, sender_of}
+use Rattle.link_order.specs.Order.{is_before, from, IsOrdered, clock_of, sender_of}
 use Rattle.link_order.specs.Due.{is_due, incoming, arriving, arrival_of, player_of, place_due, place_all, due}
 use Rattle.link_order.proofs.Numbers.{same_or_apart}
 use Rattle.link_order.proofs.Lists.{test_cases, all_nil, all_cons, all_head, all_tail, all_map, pairs_nil, pairs_cons, pairs_head, pairs_tail, pairs_map, filter_keeps, filter_drops}

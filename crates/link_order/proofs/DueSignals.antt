@@ -1,17 +1,16 @@
 -- Due signals: one more signal, signals that aren't due, and their order.
-use Rattle.std.specs.Prelude.{Bool, true, false, not, List, [], ◌∷◌, ◌++◌, All, AllPairs, IsTrue, filter, nat_lt, nat_le, ◌==◌, ◌||◌, ◌&&◌, if◌then◌else◌}
+use Rattle.std.specs.Prelude.{true, false, List, [], ◌∷◌, ◌++◌, All, ◌==◌, if◌then◌else◌}
 use Rattle.std.proofs.Common.{ℕ, zero, suc, ◌≡◌, ◌≢◌, ◌+◌, ◌<◌, ◌≤◌, ◌⊎◌, inl, inr, arith, refl, sym, ap, ◌∙◌, subst}
 use Rattle.std.proofs.lemmas.Bool.Decides.{nat_tests}
 use Rattle.std.proofs.lemmas.List.{append-nil}
 use Rattle.link_node.specs.declared.signal.Incoming.{Incoming}
 use Rattle.link_node.specs.declared.signal.Signal.{Signal}
-use Rattle.link_node.specs.Due.{IsDue, InOrder, Precedes}
 use Rattle.link_order.specs.declared.sent.Sent.{Sent}
-use Rattle.link_order.specs.Order.{is_before, place, from}
+use Rattle.link_order.specs.Order.{from}
 use Rattle.link_order.specs.Due.{is_due, incoming, arriving, arrival_of, player_of, place_due, place_all, due}
 use Rattle.link_order.proofs.Numbers.{same_or_apart}
-use Rattle.link_order.proofs.Lists.{test_cases, all_nil, all_cons, all_head, all_tail, all_map, pairs_nil, pairs_cons, pairs_head, pairs_tail, pairs_map}
-use Rattle.link_order.proofs.Places.{Apart, Comes, All-place, AllPairs-place, place_commutes}
+use Rattle.link_order.proofs.Lists.{test_cases, all_nil, all_cons, all_head, all_tail, all_map}
+use Rattle.link_order.proofs.Places.{Apart, place_commutes}
 use Rattle.link_order.proofs.Senders.{from_own, from_other, from-append}
 
 pub arriving_due : (was clock delay j : ℕ) (s : Signal) (rest : List Signal) → is_due was clock (s.clock + delay) ≡ true

@@ -1,6 +1,6 @@
 -- Facts about each element, or each pair of elements, of a list: at its head, in its tail, put together.
-use Rattle.std.specs.Prelude.{Bool, true, false, List, [], ◌∷◌, ◌++◌, length, All, AllPairs, filter}
-use Rattle.std.proofs.Common.{ℕ, zero, suc, ◌≡◌, ◌+◌, ◌<◌, ◌≤◌, ◌⊎◌, inl, inr, arith, refl, sym, ap, ◌∙◌, subst}
+use Rattle.std.specs.Prelude.{Bool, true, false, List, [], ◌∷◌, All, AllPairs, filter}
+use Rattle.std.proofs.Common.{zero, suc, ◌≡◌, ◌⊎◌, inl, inr, arith, refl, sym, ap, ◌∙◌}
 
 pub test_cases : (b : Bool) → (b ≡ true) ⊎ (b ≡ false)
 test_cases true = inl refl

@@ -1,22 +1,21 @@
 -- Dropping signals that nobody can take any more changes no step, and few signals are live.
-use Rattle.std.specs.Prelude.{Bool, true, false, List, [], ◌∷◌, length, All, AllPairs, Option, None, Some, IfSome, filter}
-use Rattle.std.proofs.Common.{ℕ, zero, suc, ◌≡◌, ◌≢◌, ◌+◌, ◌*◌, ◌-◌, ◌<◌, ◌≤◌, ◌⊎◌, inl, inr, arith, refl, sym, ap, ◌∙◌, subst, get_or}
+use Rattle.std.specs.Prelude.{Bool, true, List, [], ◌∷◌, length, All, AllPairs, Option, None, Some, filter}
+use Rattle.std.proofs.Common.{ℕ, suc, ◌≡◌, ◌+◌, ◌*◌, ◌-◌, ◌<◌, ◌≤◌, inl, inr, arith, sym, ap, ◌∙◌, subst, get_or}
 use Rattle.std.proofs.lemmas.Bool.Decides.{nat_tests}
 use Rattle.std.proofs.lemmas.List.Kept.{AllPairs-filter}
 use Rattle.link_node.specs.declared.signal.Incoming.{Incoming}
 use Rattle.link_node.specs.declared.signal.Signal.{Signal}
 use Rattle.link_order.specs.declared.sent.Sent.{Sent}
 use Rattle.link_order.specs.Steps.{Steps, IsLawful}
-use Rattle.link_order.specs.Order.{is_before, place_sent, clock_of, sender_of, IsOrdered, from}
-use Rattle.link_order.specs.Due.{is_due}
+use Rattle.link_order.specs.Order.{is_before, place_sent, clock_of, sender_of, IsOrdered}
 use Rattle.link_order.specs.Cut.{Cut, hop, count, clock_at, was_at, live, is_live, is_awaited, IsSound, IsSoundSignal}
-use Rattle.link_order.specs.GlobalOrder.{least, least_below, stepped, joined, step, step_of, due_at}
-use Rattle.link_order.proofs.Numbers.{same_or_apart, put, least_is_player, least_is_least}
-use Rattle.link_order.proofs.Lists.{test_cases, all_head, all_tail, all_map, pairs_head, pairs_tail, pairs_map, filter_twice}
+use Rattle.link_order.specs.GlobalOrder.{least_below, stepped, joined, step_of, due_at}
+use Rattle.link_order.proofs.Numbers.{same_or_apart, least_is_player, least_is_least}
+use Rattle.link_order.proofs.Lists.{test_cases, all_head, all_tail, pairs_head, pairs_tail, filter_twice}
 use Rattle.link_order.proofs.Places.{Comes, filter-place, filter-place_dropped}
 use Rattle.link_order.proofs.DueOrder.{due_facts, due_filter}
-use Rattle.link_order.proofs.Awaited.{Awaits, awaits, is_awaited_by, awaited_before}
-use Rattle.link_order.proofs.Stepping.{IsConsole, console_at, after_step, IsStepped, is_stepped, put_cases}
+use Rattle.link_order.proofs.Awaited.{awaits, is_awaited_by, awaited_before}
+use Rattle.link_order.proofs.Stepping.{IsConsole, console_at, after_step, is_stepped, put_cases}
 
 -- live signals alone give the same due signals
 pub due_live : {C : Type 0} (kind : Steps C) (cut : Cut C) (i : ℕ) → i < count cut → due_at kind (live kind cut) i ≡ due_at kind cut i
@@ -93,7 +92,7 @@ live_near kind cut most some few sound one good awaited =
       omega (arith, first, a.hears, few one.sender a.player),
       elim (same_or_apart m one.sender) [
         | inl e ↦ let f = ap (clock_at kind cut) e in omega (arith, good.sent_before, f, sound.short m below)
-        | inr e ↦ omega (arith, good.not_arrived m below e, sound.short m below, few m one.sender)
+        | inr e ↦ omega (arith, good.allowed m below e, sound.short m below, few m one.sender)
       ],
     )
 

@@ -1,13 +1,13 @@
 -- Runs from the live signals alone.
-use Rattle.std.specs.Prelude.{Bool, true, false, List, [], ◌∷◌, All, filter, nat_lt}
-use Rattle.std.proofs.Common.{ℕ, zero, suc, ◌≡◌, ◌≢◌, ◌+◌, ◌<◌, ◌≤◌, ◌⊎◌, inl, inr, arith, refl, sym, ap, ◌∙◌, subst}
+use Rattle.std.specs.Prelude.{Bool, true, List, [], ◌∷◌, All, filter, nat_lt}
+use Rattle.std.proofs.Common.{ℕ, zero, suc, ◌≡◌, ◌<◌, ◌≤◌, inl, inr, arith, refl, sym, ap, ◌∙◌, subst}
 use Rattle.link_order.specs.declared.sent.Sent.{Sent}
 use Rattle.link_order.specs.Steps.{Steps, IsLawful}
-use Rattle.link_order.specs.Cut.{Cut, hop, count, clock_at, was_at, live, is_live, IsSound}
+use Rattle.link_order.specs.Cut.{Cut, hop, count, clock_at, live, is_live, IsSound}
 use Rattle.link_order.specs.GlobalOrder.{least, step, left, run}
 use Rattle.link_order.proofs.Numbers.{least_is_player}
 use Rattle.link_order.proofs.Lists.{test_cases, all_head, all_tail, filter_keeps, filter_twice}
-use Rattle.link_order.proofs.Runs.{Falls, falls, ends, run_unrolls, run_ends}
+use Rattle.link_order.proofs.Runs.{falls, ends, run_unrolls, run_ends}
 use Rattle.link_order.proofs.Sound.{sound_live, sound_step}
 use Rattle.link_order.proofs.Live.{live_step}
 

@@ -1,12 +1,11 @@
 -- Putting an element in its place in an ordered list.
-use Rattle.std.specs.Prelude.{Bool, true, false, List, [], ◌∷◌, ◌++◌, length, All, AllPairs, IsTrue, filter, nat_lt, ◌==◌, ◌||◌, ◌&&◌, if◌then◌else◌}
-use Rattle.std.proofs.Common.{ℕ, zero, suc, ◌≡◌, ◌≢◌, ◌+◌, ◌<◌, ◌≤◌, ◌⊎◌, inl, inr, arith, refl, sym, ap, ◌∙◌, subst}
+use Rattle.std.specs.Prelude.{Bool, true, false, List, [], ◌∷◌, All, AllPairs, IsTrue, filter, nat_lt, ◌==◌, ◌||◌, ◌&&◌}
+use Rattle.std.proofs.Common.{ℕ, ◌≡◌, ◌≢◌, ◌<◌, ◌≤◌, ◌⊎◌, inl, inr, arith, refl, sym, ap, ◌∙◌}
 use Rattle.std.proofs.lemmas.Bool.Decides.{nat_tests}
 use Rattle.std.proofs.lemmas.List.Elements.{All-filter}
-use Rattle.link_node.specs.declared.signal.Signal.{Signal}
 use Rattle.link_order.specs.declared.sent.Sent.{Sent}
 use Rattle.link_order.specs.Order.{is_before, place, place_sent, clock_of, sender_of, IsOrdered, IsSorted}
-use Rattle.link_order.proofs.Lists.{test_cases, all_nil, all_cons, all_head, all_tail, all_map, pairs_nil, pairs_cons, pairs_head, pairs_tail, pairs_map, filter_keeps, filter_drops}
+use Rattle.link_order.proofs.Lists.{test_cases, all_nil, all_cons, all_head, all_tail, all_map, pairs_cons, pairs_head, pairs_tail, pairs_map, filter_keeps, filter_drops}
 
 -- the order of two pairs of numbers
 abbrev less : ℕ → ℕ → ℕ → ℕ → Bool

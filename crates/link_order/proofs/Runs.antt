@@ -1,13 +1,13 @@
 -- The global order, made in parts.
-use Rattle.std.specs.Prelude.{Bool, true, false, List, [], ◌∷◌, nat_lt, if◌then◌else◌}
-use Rattle.std.proofs.Common.{ℕ, zero, suc, ◌≡◌, ◌≢◌, ◌+◌, ◌<◌, ◌≤◌, ◌⊎◌, inl, inr, arith, refl, sym, ap, ◌∙◌, subst}
+use Rattle.std.specs.Prelude.{Bool, true, false, List, [], ◌∷◌, nat_lt}
+use Rattle.std.proofs.Common.{ℕ, zero, suc, ◌≡◌, ◌<◌, ◌≤◌, ◌⊎◌, inl, inr, arith, refl, sym, ap, ◌∙◌, subst}
 use Rattle.std.proofs.lemmas.Bool.Decides.{nat_tests}
 use Rattle.std.proofs.lemmas.Bool.{ltb-true, lt-ltb}
 use Rattle.link_order.specs.Steps.{Steps, IsLawful}
 use Rattle.link_order.specs.Cut.{Cut, count, clock_at}
-use Rattle.link_order.specs.GlobalOrder.{least_below, least, left_below, left, step, step_of, due_at, trace_of, trace, after, run}
-use Rattle.link_order.proofs.Numbers.{same_or_apart, put, least_is_player, least_is_least, left_falls}
-use Rattle.link_order.proofs.Stepping.{IsConsole, console_at, IsStepped, is_stepped}
+use Rattle.link_order.specs.GlobalOrder.{least, left_below, left, step, step_of, due_at, trace_of, trace, after, run}
+use Rattle.link_order.proofs.Numbers.{same_or_apart, least_is_player, left_falls}
+use Rattle.link_order.proofs.Stepping.{console_at, is_stepped}
 
 -- the test that the global order makes
 abbrev goes_on : {C : Type 0} → Steps C → Cut C → ℕ → Bool

@@ -1,12 +1,12 @@
 -- The signals of one player in the list of all.
-use Rattle.std.specs.Prelude.{Bool, true, false, List, [], ◌∷◌, ◌++◌, All, AllPairs, filter, ◌==◌, if◌then◌else◌}
-use Rattle.std.proofs.Common.{ℕ, zero, suc, ◌≡◌, ◌≢◌, ◌+◌, ◌<◌, ◌≤◌, ◌⊎◌, inl, inr, arith, refl, sym, ap, ◌∙◌, subst, get_or}
+use Rattle.std.specs.Prelude.{true, false, List, [], ◌∷◌, ◌++◌, All, ◌==◌, if◌then◌else◌}
+use Rattle.std.proofs.Common.{ℕ, ◌≡◌, ◌≢◌, ◌<◌, inl, inr, arith, refl, sym, ap, ◌∙◌, get_or}
 use Rattle.std.proofs.lemmas.Bool.Decides.{nat_tests}
 use Rattle.link_node.specs.declared.signal.Signal.{Signal}
 use Rattle.link_order.specs.declared.sent.Sent.{Sent}
-use Rattle.link_order.specs.Order.{is_before, place, place_sent, clock_of, sender_of, IsOrdered, from}
+use Rattle.link_order.specs.Order.{is_before, place_sent, clock_of, sender_of, IsOrdered, from}
 use Rattle.link_order.proofs.Numbers.{same_or_apart}
-use Rattle.link_order.proofs.Lists.{test_cases, all_nil, all_cons, all_head, all_tail, all_map, pairs_head, pairs_tail}
+use Rattle.link_order.proofs.Lists.{test_cases, all_cons, all_head, all_tail, pairs_head, pairs_tail}
 use Rattle.link_order.proofs.Places.{Comes, place_before, place_past}
 
 test_same : (i : ℕ) → (i == i) ≡ true

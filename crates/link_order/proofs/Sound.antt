@@ -1,19 +1,19 @@
 -- A step keeps a cut sound.
-use Rattle.std.specs.Prelude.{Bool, true, false, List, [], ◌∷◌, All, AllPairs, Option, None, Some, IfSome, filter}
-use Rattle.std.proofs.Common.{ℕ, zero, suc, ◌≡◌, ◌≢◌, ◌+◌, ◌<◌, ◌≤◌, ◌⊎◌, inl, inr, arith, refl, sym, ap, ◌∙◌, subst, get_or}
+use Rattle.std.specs.Prelude.{List, All, Option, None, Some, IfSome, filter}
+use Rattle.std.proofs.Common.{ℕ, ◌≡◌, ◌≢◌, ◌+◌, ◌<◌, ◌≤◌, inl, inr, arith, refl, sym, ap, ◌∙◌, subst}
 use Rattle.std.proofs.lemmas.List.Elements.{All-filter}
 use Rattle.std.proofs.lemmas.List.Kept.{AllPairs-filter}
 use Rattle.link_node.specs.declared.signal.Incoming.{Incoming}
 use Rattle.link_node.specs.declared.signal.Signal.{Signal}
 use Rattle.link_order.specs.declared.sent.Sent.{Sent}
 use Rattle.link_order.specs.Steps.{Steps, IsLawful}
-use Rattle.link_order.specs.Order.{place_sent, clock_of, sender_of, IsOrdered}
-use Rattle.link_order.specs.Cut.{Cut, hop, count, clock_at, was_at, live, is_live, IsSound, IsSoundSignal, IsCable}
-use Rattle.link_order.specs.GlobalOrder.{least, stepped, joined, step, step_of, due_at}
-use Rattle.link_order.proofs.Numbers.{same_or_apart, put, least_is_player, least_is_least}
+use Rattle.link_order.specs.Order.{clock_of, sender_of, IsOrdered}
+use Rattle.link_order.specs.Cut.{Cut, hop, count, clock_at, was_at, live, is_live, IsSound, IsSoundSignal}
+use Rattle.link_order.specs.GlobalOrder.{least, joined, step, due_at}
+use Rattle.link_order.proofs.Numbers.{same_or_apart, least_is_player, least_is_least}
 use Rattle.link_order.proofs.Lists.{all_map}
 use Rattle.link_order.proofs.Places.{Apart, Comes, All-place, AllPairs-place}
-use Rattle.link_order.proofs.Stepping.{IsConsole, console_at, after_step, IsStepped, is_stepped, put_cases}
+use Rattle.link_order.proofs.Stepping.{IsConsole, console_at, after_step, is_stepped, put_cases}
 
 pub joined_all : (P : Sent → Type 0) (i : ℕ) (o : Option Signal) (sent : List Sent)
     → IfSome o (λ s. P (record { sender = i; signal = s })) → All P sent → All P (joined i o sent)
@@ -62,13 +62,13 @@ sound_after_step {C = C} kind law cut i x signals below at ahead sound =
     = λ one h. record {
       from_player = up one.sender h.from_player;
       sent_before = omega (arith, later one.sender, h.sent_before);
-      not_arrived = λ k less apart. omega (arith, later k, h.not_arrived k (down k less) apart);
+      allowed = λ k less apart. omega (arith, later k, h.allowed k (down k less) apart);
     } in
     let new : (t : Signal) → t.clock ≡ kind.clock x → IsSoundSignal kind d (record { sender = i; signal = t })
     = λ t e. record {
       from_player = up i below;
       sent_before = elim (clock_of_d i) [ inl f ↦ omega (arith, e, f.1) | inr f ↦ absurd (f.0 refl) ];
-      not_arrived = λ k less apart. omega (arith, e, later k, ahead k (down k less) apart);
+      allowed = λ k less apart. omega (arith, e, later k, ahead k (down k less) apart);
     } in
     record {
       near = λ a b la lb apart. elim (clock_of_d a) [
@@ -101,7 +101,7 @@ sound_live kind cut sound = record {
   begun = sound.begun;
   short = sound.short;
   signals = all_map (IsSoundSignal kind cut) (IsSoundSignal kind (live kind cut)) (filter (is_live kind cut) cut.sent)
-      (λ one h. record { from_player = h.from_player; sent_before = h.sent_before; not_arrived = h.not_arrived })
+      (λ one h. record { from_player = h.from_player; sent_before = h.sent_before; allowed = h.allowed })
       (All-filter (is_live kind cut) (IsSoundSignal kind cut) cut.sent sound.signals);
   ordered = AllPairs-filter (Comes clock_of sender_of) (is_live kind cut) cut.sent sound.ordered;
 }

@@ -1,9 +1,9 @@
 -- Consoles that all stand at clock 0, with nothing sent, make a sound cut in time.
 use Rattle.std.specs.Prelude.{List, [], ◌∷◌, length, map, All, slice_index}
-use Rattle.std.proofs.Common.{ℕ, zero, suc, ◌≡◌, ◌≢◌, ◌+◌, ◌<◌, ◌≤◌, arith, refl, get_or}
+use Rattle.std.proofs.Common.{ℕ, zero, suc, ◌≡◌, ◌<◌, arith, refl, get_or}
 use Rattle.link_order.specs.Steps.{Steps}
 use Rattle.link_order.specs.Order.{sender_of, clock_of}
-use Rattle.link_order.specs.Cut.{Cut, hop, count, clock_at, was_at, IsSound, IsSoundSignal, IsInTime}
+use Rattle.link_order.specs.Cut.{Cut, IsSound, IsSoundSignal, IsInTime}
 use Rattle.link_order.proofs.Lists.{all_nil, all_cons, all_head, all_tail, pairs_nil}
 use Rattle.link_order.proofs.Places.{Comes}
 

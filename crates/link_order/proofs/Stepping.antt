@@ -1,15 +1,12 @@
 -- What a step does to the numbers of a cut.
-use Rattle.std.specs.Prelude.{Bool, true, false, List, [], ◌∷◌, length, map, Option, None, Some, IfSome, slice_get, slice_set, slice_index, nat_lt, if◌then◌else◌, ◌==◌}
-use Rattle.std.proofs.Common.{ℕ, zero, suc, ◌≡◌, ◌≢◌, ◌+◌, ◌<◌, ◌≤◌, ◌⊎◌, inl, inr, arith, refl, sym, ap, ◌∙◌, subst, get_or, set}
-use Rattle.std.proofs.lemmas.Bool.Decides.{nat_tests}
+use Rattle.std.specs.Prelude.{List, [], ◌∷◌, length, map, Some, slice_get, slice_set, slice_index}
+use Rattle.std.proofs.Common.{ℕ, zero, suc, ◌≡◌, ◌≢◌, ◌<◌, ◌⊎◌, inl, inr, arith, refl, sym, ap, ◌∙◌, get_or, set}
 use Rattle.std.proofs.lemmas.List.{get_or-set_same, get_or-set_other, map-set, length-map}
 use Rattle.std.proofs.Math.ListN.{length-set}
 use Rattle.link_node.specs.declared.signal.Incoming.{Incoming}
-use Rattle.link_node.specs.declared.signal.Signal.{Signal}
-use Rattle.link_order.specs.declared.sent.Sent.{Sent}
 use Rattle.link_order.specs.Steps.{Steps, IsLawful}
-use Rattle.link_order.specs.Cut.{Cut, hop, count, clock_at, was_at}
-use Rattle.link_order.specs.GlobalOrder.{stepped, stepped_from, joined, step_of, due_at}
+use Rattle.link_order.specs.Cut.{Cut, count, clock_at, was_at}
+use Rattle.link_order.specs.GlobalOrder.{stepped, stepped_from, joined}
 use Rattle.link_order.proofs.Numbers.{put, put_same, put_other, same_or_apart}
 
 -- the console of a player below the count, with its clocks

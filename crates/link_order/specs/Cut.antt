@@ -1,8 +1,8 @@
-use Rattle.std.specs.Prelude.{ℕ, Bool, false, not, ◌≡◌, ◌≢◌, ◌+◌, ◌^◌, ◌<◌, ◌≤◌, ◌&&◌, ◌||◌, ◌==◌, nat_lt, List, length, map, filter, slice_index, All}
+use Rattle.std.specs.Prelude.{ℕ, Bool, false, not, ◌≢◌, ◌+◌, ◌<◌, ◌≤◌, ◌&&◌, ◌||◌, ◌==◌, nat_lt, List, length, map, filter, slice_index, All}
 use Rattle.std.proofs.Common.{zero, suc}
 use Rattle.link_order.specs.declared.sent.Sent.{Sent}
 use Rattle.link_order.specs.Steps.{Steps}
-use Rattle.link_order.specs.Order.{IsOrdered, clock_of}
+use Rattle.link_order.specs.Order.{IsOrdered}
 
 -- this project's profile: a cut of a run, and what makes it sound
 
@@ -39,13 +39,15 @@ is_live kind cut one = is_awaited (hop cut) (was_at kind cut) (count cut) one
 abbrev pub live : {C : Type 0} → Steps C → Cut C → Cut C
 live kind cut = record { consoles = cut.consoles; delay = cut.delay; sent = filter (is_live kind cut) cut.sent }
 
--- one signal of a sound cut: it was sent before its sender's present step, and can't have arrived before another's
+-- a sound signal: its sender has stepped since, and what any other console may still send arrives at the sender after
+-- that step began
 pub record IsSoundSignal {C : Type 0} (kind : Steps C) (cut : Cut C) (one : Sent) : Type 0 where
   pub from_player : one.sender < count cut
   pub sent_before : one.signal.clock < clock_at kind cut one.sender
-  pub not_arrived : (i : ℕ) → i < count cut → i ≢ one.sender → one.signal.clock < clock_at kind cut i + hop cut i one.sender
+  pub allowed : (i : ℕ) → i < count cut → i ≢ one.sender → one.signal.clock < clock_at kind cut i + hop cut i one.sender
 
--- a sound cut: clocks near each other, steps of at most 512 cycles, and sound signals in order
+-- a sound cut: no console is further ahead of another than the delay and a step, each last step took at most 512
+-- cycles, and the signals are sound and in order
 pub record IsSound {C : Type 0} (kind : Steps C) (cut : Cut C) : Type 0 where
   pub near : (i j : ℕ) → i < count cut → j < count cut → i ≢ j → clock_at kind cut i < clock_at kind cut j + hop cut j i + 512
   pub begun : (i : ℕ) → i < count cut → was_at kind cut i ≤ clock_at kind cut i
@@ -60,7 +62,7 @@ pub record IsCable {C : Type 0} (cut : Cut C) : Type 0 where
   pub some_delay : (i j : ℕ) → 0 < hop cut i j
   pub short_delay : (i j : ℕ) → hop cut i j ≤ 1024
 
--- a cut in time: no console's last step began where a peer's present step can still be heard
+-- a cut in time: what a console may still send arrives after each other console's last step began
 abbrev pub IsInTime : {C : Type 0} → Steps C → Cut C → Type 0
 IsInTime kind cut =
     (i j : ℕ) → i < count cut → j < count cut → i ≢ j → was_at kind cut i < clock_at kind cut j + hop cut j i

@@ -1,4 +1,4 @@
-use Rattle.std.specs.Prelude.{ℕ, Bool, ◌+◌, ◌-◌, nat_lt, if◌then◌else◌, List, [], ◌∷◌, Option, None, Some, slice_get, slice_set}
+use Rattle.std.specs.Prelude.{ℕ, ◌+◌, ◌-◌, nat_lt, if◌then◌else◌, List, [], ◌∷◌, Option, None, Some, slice_get, slice_set}
 use Rattle.std.proofs.Common.{zero, suc}
 use Rattle.link_node.specs.declared.signal.Incoming.{Incoming}
 use Rattle.link_node.specs.declared.signal.Signal.{Signal}
@@ -28,7 +28,7 @@ abbrev pub joined : ℕ → Option Signal → List Sent → List Sent
 joined player None sent = sent
 joined player (Some signal) sent = place_sent (record { sender = player; signal = signal }) sent
 
--- the cut after player i, with this console, has made a step with these due signals
+-- the cut after player i's console has made a step with these due signals. With no such player nothing happens
 abbrev pub stepped_from : {C : Type 0} → Steps C → Cut C → ℕ → List Incoming → Option C → Cut C
 stepped_from kind cut i signals None = cut
 stepped_from kind cut i signals (Some x) = record {

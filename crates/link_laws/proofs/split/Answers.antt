@@ -1,4 +1,4 @@
-use Rattle.link_order.specs.Steps.{IsLawful, kind_of}
+use Rattle.link_order.specs.Steps.{kind_of}
 use Rattle.link_order.proofs.Runs.{splits}
 use Rattle.link_laws.proofs.split.Goals as goal
 

@@ -1,4 +1,4 @@
-use Rattle.std.proofs.Common.{ℕ, ◌≡◌, ◌<◌}
+use Rattle.std.proofs.Common.{◌≡◌, ◌<◌}
 use Rattle.std.specs.Prelude.{map, slice_index, length}
 use Rattle.link_order.specs.GlobalOrder.{least_below}
 use Rattle.link_core.proofs.cut.least_of.Given as goal

@@ -1,5 +1,5 @@
-use Rattle.std.proofs.Common.{ℕ, ◌≡◌, ◌<◌, ◌+◌, arith, sym, ap, ◌∙◌, subst, get_or, set}
-use Rattle.std.specs.Prelude.{map, slice_index, length, Some, All}
+use Rattle.std.proofs.Common.{ℕ, ◌<◌, arith, sym, ap, ◌∙◌, subst, set}
+use Rattle.std.specs.Prelude.{map, slice_index, length, All}
 use Rattle.std.proofs.lemmas.List.{map-set}
 use Rattle.std.proofs.Math.Seq.{map-set_same}
 use Rattle.link_node.specs.Due.{IsDue}

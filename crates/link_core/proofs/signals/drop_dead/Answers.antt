@@ -1,5 +1,5 @@
 use Rattle.std.proofs.Common.{rules}
-use Rattle.std.specs.Prelude.{map, filter, slice_index, length}
+use Rattle.std.specs.Prelude.{map, slice_index, length}
 use Rattle.std.proofs.lemmas.Fn.{filter_same}
 use Rattle.link_order.specs.Cut.{is_awaited}
 use Rattle.link_core.proofs.signals.drop_dead.Goals as goal

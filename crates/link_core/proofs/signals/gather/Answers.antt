@@ -1,6 +1,5 @@
-use Rattle.std.proofs.Common.{ℕ, ◌≡◌, ◌<◌, ◌+◌, arith, refl, sym, ◌∙◌, ap, take, get_or}
+use Rattle.std.proofs.Common.{◌+◌, arith, sym, ◌∙◌, ap, take, get_or}
 use Rattle.std.proofs.lemmas.List.{take_more, take_all}
-use Rattle.link_order.specs.declared.sent.Sent.{Sent}
 use Rattle.link_order.specs.Order.{from}
 use Rattle.link_order.specs.Due.{due}
 use Rattle.link_core.proofs.Readings.{due_gathers, due_of_none, no_signal}

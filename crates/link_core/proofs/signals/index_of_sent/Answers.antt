@@ -1,7 +1,6 @@
-use Rattle.std.proofs.Common.{◌≡◌, arith, refl, inl, inr, sym, ◌∙◌}
+use Rattle.std.proofs.Common.{arith, refl, inl, inr, sym, ◌∙◌}
 use Rattle.std.specs.Prelude.{length}
 use Rattle.link_order.specs.Order.{clock_of, sender_of}
-use Rattle.link_order.specs.Due.{arrival_of, player_of}
 use Rattle.link_core.proofs.Readings.{insert-place}
 use Rattle.link_core.proofs.signals.index_of_sent.Goals as goal
 

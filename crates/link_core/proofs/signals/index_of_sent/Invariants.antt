@@ -1,9 +1,7 @@
 use Rattle.std.proofs.Common.{ℕ, ◌≡◌, ◌<◌, get_or}
 use Rattle.std.specs.Prelude.{false}
-use Rattle.link_node.specs.declared.signal.Incoming.{Incoming}
 use Rattle.link_order.specs.declared.sent.Sent.{Sent}
 use Rattle.link_order.specs.Order.{is_before, clock_of, sender_of}
-use Rattle.link_order.specs.Due.{arrival_of, player_of}
 use Rattle.link_core.proofs.signals.index_of_sent.Given as goal
 
 abbrev pub invariant-loop-i : goal.invariant-loop-i

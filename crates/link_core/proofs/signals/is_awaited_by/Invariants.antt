@@ -1,4 +1,4 @@
-use Rattle.std.proofs.Common.{ℕ, ◌≡◌}
+use Rattle.std.proofs.Common.{◌≡◌}
 use Rattle.std.specs.Prelude.{map, slice_index}
 use Rattle.link_order.specs.Cut.{is_awaited}
 use Rattle.link_core.proofs.signals.is_awaited_by.Given as goal

@@ -1,4 +1,4 @@
-use Rattle.std.proofs.Common.{◌≡◌, arith, sym, ap, ◌∙◌}
+use Rattle.std.proofs.Common.{sym, ap, ◌∙◌}
 use Rattle.link_core.proofs.Readings.{read-node}
 use Rattle.link_core.proofs.signals.was_of.Goals as goal
 

@@ -1,9 +1,8 @@
-use Rattle.std.proofs.Common.{ℕ, ◌≡◌, ◌<◌, ◌≤◌, arith, sym, ap, ◌∙◌, subst, refl}
-use Rattle.std.specs.Prelude.{map, slice_index, length, List}
+use Rattle.std.proofs.Common.{ℕ, ◌<◌, ◌≤◌, arith, ◌∙◌, subst}
 use Rattle.std.proofs.lemmas.List.{length-map}
 use Rattle.link_order.specs.Steps.{Steps, IsLawful, kind_of}
-use Rattle.link_order.specs.Cut.{Cut, plain_cut, live, count, clock_at}
-use Rattle.link_order.specs.GlobalOrder.{least, step, run}
+use Rattle.link_order.specs.Cut.{Cut, plain_cut, count, clock_at}
+use Rattle.link_order.specs.GlobalOrder.{least}
 use Rattle.link_order.proofs.Numbers.{least_is_player}
 use Rattle.link_core.proofs.Keeping.{stepped_run, all_done, run_over, limits_reach}
 use Rattle.link_core.proofs.cut.Cut.run_serial.Goals as goal

@@ -1,4 +1,4 @@
-use Rattle.std.proofs.Common.{ℕ, ◌≡◌}
+use Rattle.std.proofs.Common.{◌≡◌}
 use Rattle.std.specs.Prelude.{map}
 use Rattle.link_order.specs.Steps.{kind_of}
 use Rattle.link_order.specs.Cut.{plain_cut, live}

@@ -1,5 +1,3 @@
-use Rattle.std.proofs.Common.{arith, ap}
-use Rattle.std.specs.Prelude.{length}
 use Rattle.link_order.specs.Steps.{kind_of}
 use Rattle.link_core.proofs.Keeping.{kept_few}
 use Rattle.link_core.proofs.cut.Cut.sent.Goals as goal

@@ -1,6 +1,5 @@
-use Rattle.std.proofs.Common.{ℕ, ◌≡◌, ◌<◌, ◌≤◌, ◌+◌, arith, sym, ap, ◌∙◌, subst, refl}
-use Rattle.std.specs.Prelude.{map, slice_index, length, All, List, filter}
-use Rattle.std.specs.Vec.{vec_len, vec_capacity}
+use Rattle.std.proofs.Common.{ℕ, ◌≡◌, ◌<◌, arith, sym, ap, ◌∙◌, subst}
+use Rattle.std.specs.Prelude.{map, slice_index, length, List, filter}
 use Rattle.link_order.specs.Steps.{Steps, IsLawful, kind_of}
 use Rattle.link_order.specs.Cut.{Cut, plain_cut, live, is_awaited}
 use Rattle.link_order.specs.GlobalOrder.{least, due_at, step}

@@ -1,4 +1,4 @@
-use Rattle.std.proofs.Common.{◌<◌, arith, sym, subst}
+use Rattle.std.proofs.Common.{◌<◌, sym, subst}
 use Rattle.std.specs.Prelude.{length}
 use Rattle.link_core.specs.Kept.{Flight}
 use Rattle.link_core.proofs.Keeping.{packed_more}
