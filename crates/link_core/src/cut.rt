@@ -1,0 +1,239 @@
+//! A cut of a run, and its steps in the global order.
+
+ghost use Rattle.std.specs.Prelude.{ℕ, ◌≡◌, ◌+◌, ◌<◌, ◌≤◌, List, [], Some, length, map, slice_index, slice_get, slice_set, IfOk, IfErr, All, EachIndex};
+ghost use Rattle.std.specs.Vec.{vec_len, vec_capacity};
+ghost use Rattle.link_node.specs.Due.{IsDue, InOrder};
+ghost use Rattle.link_order.specs.Steps.{kind_of};
+ghost use Rattle.link_order.specs.Order.{IsOrdered};
+ghost use Rattle.link_order.specs.Cut.{plain_cut, live, count, clock_at, IsSound, IsCable};
+ghost use Rattle.link_order.specs.GlobalOrder.{least, least_below, joined, step, run};
+ghost use Rattle.link_core.specs.Kept.{opening, Flight, AllLive, AllHaveSpeed};
+
+use crate::shell::Shell;
+use crate::signals::{drop_dead, gather, put_sent, was_of};
+use link_node::{Incoming, Node, Signal};
+use link_order::Sent;
+use std::alloc::Global;
+use std::marker::Model;
+
+/// How many signals there is room for. At most 10,236 are live.
+const ROOM: usize = 16384;
+
+/// One to four nodes, the cable's delay, and the signals that some other node can still take.
+#[derive(Drop)]
+pub struct Cut<N: Node> {
+    pub(crate) nodes: Vec<N>,
+    pub(crate) delay: u64,
+    pub(crate) sent: Vec<Sent>,
+    pub(crate) due: Vec<Incoming>,
+}
+
+impl<N: Node> Model for Cut<N> {
+    ghost use Rattle.std.specs.Vec.{vec_capacity};
+    ghost use Rattle.link_order.specs.Steps.{kind_of};
+    ghost use Rattle.link_order.specs.Cut as order;
+    ghost use Rattle.link_core.specs.Kept.{IsKept};
+
+    ghost Value = { order.Cut N };
+
+    ghost view = { λ c. record { consoles = c.nodes.items; delay = c.delay; sent = c.sent.items } };
+
+    ghost invariant = { λ c. IsKept (kind_of N.clock N.was N.next) N.plain
+        (record { consoles = c.nodes.items; delay = c.delay; sent = c.sent.items })
+        (vec_capacity c.sent) (vec_capacity c.due) };
+}
+
+/// Want of memory: the nodes come back as they were.
+#[derive(Drop)]
+pub struct CutRefused<N: Node> {
+    pub nodes: Vec<N>,
+}
+
+/// The clock of a node.
+fn clock_of<N: Node>(nodes: &[N], i: usize) -> u64
+    requires { i < length nodes.now }
+    ensures { result ≡ slice_index (map N.clock (map N.plain nodes.now)) i }
+{
+    nodes[i].clock()
+}
+
+/// The node with the least clock, at a tie the first one.
+fn least_of<N: Node>(nodes: &[N]) -> usize
+    requires { 0 < length nodes.now }
+    ensures value { result ≡ least_below (slice_index (map N.clock (map N.plain nodes.now))) (length nodes.now) }
+    ensures player { result < length nodes.now }
+{
+    let mut least = 0;
+    for i in 0..nodes.len() {
+        if clock_of(nodes, i) < clock_of(nodes, least) {
+            least = i;
+        }
+    }
+    least
+}
+
+/// One step of a node, with what is due to it.
+fn turn_of<N: Node>(nodes: &mut Vec<N>, i: usize, due: &[Incoming]) -> Option<Signal>
+    requires player { i < vec_len nodes.old }
+    requires below { slice_index (map N.clock (map N.plain nodes.old.items)) i < slice_index (map N.bound nodes.old.items) i }
+    requires ordered { InOrder due.now }
+    requires taken { All (IsDue (slice_index (map N.was (map N.plain nodes.old.items)) i)
+        (slice_index (map N.clock (map N.plain nodes.old.items)) i)) due.now }
+    ensures node { (x : N.Record) → slice_get (map N.plain nodes.old.items) i ≡ Some x →
+        map N.plain nodes.new.items ≡ slice_set (map N.plain nodes.old.items) i (N.next x due.now).0 }
+    ensures signal { (x : N.Record) → slice_get (map N.plain nodes.old.items) i ≡ Some x → result ≡ (N.next x due.now).1 }
+    ensures limits { map N.bound nodes.new.items ≡ map N.bound nodes.old.items }
+{
+    nodes[i].turn(due)
+}
+
+/// Puts the signal of a player's step, if there is one, among the others.
+fn join_signal(sent: &mut Vec<Sent>, player: u32, signal: Option<Signal>)
+    requires { vec_len sent.old < vec_capacity sent.old }
+    ensures items { sent.new.items ≡ joined player signal sent.old.items }
+    ensures room { vec_capacity sent.old ≤ vec_capacity sent.new }
+{
+    if let Some(signal) = signal {
+        put_sent(
+            sent,
+            Sent {
+                sender: player,
+                signal,
+            },
+        );
+    }
+}
+
+impl<N: Node> Cut<N> {
+    /// A cut with nothing sent. It takes all the memory that later calls need.
+    pub fn new(alloc: Global, nodes: Vec<N>, delay: u64) -> Result<Cut<N>, CutRefused<N>>
+        requires cable { IsCable (plain_cut N.plain (opening nodes.items delay)) }
+        requires sound { IsSound (kind_of N.clock N.was N.next) (plain_cut N.plain (opening nodes.items delay)) }
+        ensures made { IfOk result (λ cut. cut ≡ opening nodes.items delay) }
+        ensures refused { IfErr result (λ refused. refused.nodes ≡ nodes) }
+    {
+        let Ok(sent) = Vec::with_capacity(alloc, ROOM) else {
+            return Err(CutRefused { nodes });
+        };
+        let Ok(due) = Vec::with_capacity(alloc, ROOM) else {
+            return Err(CutRefused { nodes });
+        };
+        Ok(Cut {
+            nodes,
+            delay,
+            sent,
+            due,
+        })
+    }
+
+    /// The nodes, by player number.
+    pub fn nodes(&self) -> &[N]
+        ensures value { result.now ≡ self.now.consoles }
+        ensures cable { IsCable (plain_cut N.plain self.now) }
+        ensures sound { IsSound (kind_of N.clock N.was N.next) (plain_cut N.plain self.now) }
+    {
+        self.nodes.as_slice()
+    }
+
+    /// Takes the nodes out, by player number, and drops the signals.
+    pub fn into_nodes(self) -> Vec<N>
+        ensures { result.items ≡ self.consoles }
+    {
+        let Cut {
+            nodes,
+            delay: _,
+            sent: _,
+            due: _,
+        } = self;
+        nodes
+    }
+
+    /// The player number of the node with the least clock, at a tie the least number.
+    pub fn least(&self) -> u32
+        ensures value { result ≡ least (kind_of N.clock N.was N.next) (plain_cut N.plain self.now) }
+        ensures player { result < length self.now.consoles }
+    {
+        least_of(&self.nodes) as u32
+    }
+
+    /// The cable's delay in cycles, from 1 to 1,024.
+    pub fn delay(&self) -> u64
+        ensures value { result ≡ self.now.delay }
+        ensures some { 0 < result }
+        ensures short { result ≤ 1024 }
+    {
+        self.delay
+    }
+
+    /// The signals that some other node can still take, by clock, then by sender.
+    pub fn sent(&self) -> &[Sent]
+        ensures value { result.now ≡ self.now.sent }
+        ensures live { AllLive (kind_of N.clock N.was N.next) (plain_cut N.plain self.now) }
+        ensures few { length result.now ≤ 10236 }
+        ensures ordered { IsOrdered result.now }
+        ensures speeds { AllHaveSpeed result.now }
+    {
+        self.sent.as_slice()
+    }
+
+    /// Takes the nodes out, by player number. The signals and the room for them stay in the shell.
+    pub fn part(self) -> (Vec<N>, Shell)
+        ensures nodes { result.0.items ≡ self.consoles }
+        ensures delay { result.1.delay ≡ self.delay }
+        ensures sent { result.1.sent ≡ self.sent }
+    {
+        let Cut {
+            nodes,
+            delay,
+            sent,
+            due,
+        } = self;
+        (nodes, Shell { delay, sent, due })
+    }
+}
+
+impl<N: Node> Cut<N> {
+    /// One step of the global order: the node with the least clock takes what is due to it, and its signal joins the
+    /// others.
+    pub fn serial_step(&mut self)
+        requires { slice_index (map N.clock (map N.plain self.old.consoles)) (least (kind_of N.clock N.was N.next) (plain_cut N.plain self.old))
+            < slice_index (map N.bound self.old.consoles) (least (kind_of N.clock N.was N.next) (plain_cut N.plain self.old)) }
+        ensures step { plain_cut N.plain self.new
+            ≡ live (kind_of N.clock N.was N.next) (step (kind_of N.clock N.was N.next) (plain_cut N.plain self.old)) }
+        ensures limits { map N.bound self.new.consoles ≡ map N.bound self.old.consoles }
+    {
+        let i = least_of(&self.nodes);
+        let player = i as u32;
+        let was = was_of(&self.nodes, i);
+        let clock = clock_of(&self.nodes, i);
+        gather(&self.sent, self.delay, player, was, clock, &mut self.due);
+        let signal = turn_of(&mut self.nodes, i, &self.due);
+        join_signal(&mut self.sent, player, signal);
+        drop_dead(&mut self.sent, &self.nodes, self.delay);
+    }
+
+    /// The least clock of all nodes.
+    fn least_clock(&self) -> u64
+        ensures value { result ≡ clock_at (kind_of N.clock N.was N.next) (plain_cut N.plain self.now)
+            (least (kind_of N.clock N.was N.next) (plain_cut N.plain self.now)) }
+        ensures cable { IsCable (plain_cut N.plain self.now) }
+        ensures sound { IsSound (kind_of N.clock N.was N.next) (plain_cut N.plain self.now) }
+        ensures live { AllLive (kind_of N.clock N.was N.next) (plain_cut N.plain self.now) }
+    {
+        clock_of(&self.nodes, least_of(&self.nodes))
+    }
+
+    /// Steps in the global order until every clock is at least `until`.
+    pub fn run_serial(&mut self, until: u64)
+        requires { All (λ node. until ≤ N.bound node) self.old.consoles }
+        ensures run { plain_cut N.plain self.new
+            ≡ live (kind_of N.clock N.was N.next) (run (kind_of N.clock N.was N.next) (plain_cut N.plain self.old) until) }
+        ensures done { (i : ℕ) → i < length self.new.consoles →
+            until ≤ slice_index (map N.clock (map N.plain self.new.consoles)) i }
+        ensures limits { map N.bound self.new.consoles ≡ map N.bound self.old.consoles }
+    {
+        while self.least_clock() < until {
+            self.serial_step();
+        }
+    }
+}

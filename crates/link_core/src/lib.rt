@@ -1,0 +1,16 @@
+#![tactic(auto)]
+//! A cut of a run: one to four nodes, the cable's delay and the signals that are on their way. It steps its nodes in
+//! the global order, which always steps the one that is furthest behind.
+//!
+//! The definitions are those of `link_order`, and the laws those of `link_laws`, which is here the module `laws`.
+
+mod cut;
+mod horizon;
+mod shell;
+mod signals;
+
+pub use cut::{Cut, CutRefused};
+pub use horizon::{Seen, may_step};
+pub use link_laws as laws;
+pub use link_order::Sent;
+pub use shell::Shell;

@@ -1,0 +1,91 @@
+//! The signals of a cut while its nodes are elsewhere.
+
+ghost use Rattle.std.specs.Prelude.{◌≡◌, ◌<◌, ◌≤◌, ◌^◌, List, [], length, map, Contains};
+ghost use Rattle.link_node.specs.Due.{HasSpeed};
+ghost use Rattle.link_order.specs.Steps.{kind_of};
+ghost use Rattle.link_order.specs.Order.{IsSorted, place_sent};
+ghost use Rattle.link_order.specs.Cut.{plain_cut, IsSound, IsCable};
+ghost use Rattle.link_core.specs.Kept.{Flight, rejoined, AllLive, AllHaveSpeed};
+
+use crate::cut::Cut;
+use crate::signals::put_sent;
+use link_node::{Incoming, Node};
+use link_order::Sent;
+use std::marker::Model;
+
+/// The delay and the live signals of a cut without its nodes, with the room for 16,384 signals.
+#[derive(Drop)]
+pub struct Shell {
+    pub(crate) delay: u64,
+    pub(crate) sent: Vec<Sent>,
+    pub(crate) due: Vec<Incoming>,
+}
+
+impl Model for Shell {
+    ghost use Rattle.std.specs.Vec.{vec_capacity};
+    ghost use Rattle.link_core.specs.Kept.{Flight, IsPacked};
+
+    ghost Value = { Flight };
+
+    ghost view = { λ s. record { delay = s.delay; sent = s.sent.items } };
+
+    ghost invariant = { λ s. IsPacked (record { delay = s.delay; sent = s.sent.items }) (vec_capacity s.sent) (vec_capacity s.due) };
+}
+
+impl Shell {
+    /// The cable's delay in cycles, from 1 to 1,024.
+    pub fn delay(&self) -> u64
+        ensures value { result ≡ self.now.delay }
+        ensures some { 0 < result }
+        ensures short { result ≤ 1024 }
+    {
+        self.delay
+    }
+
+    /// The signals, by clock, then by sender.
+    pub fn sent(&self) -> &[Sent]
+        ensures value { result.now ≡ self.now.sent }
+        ensures few { length result.now ≤ 16384 }
+        ensures sorted { IsSorted result.now }
+        ensures speeds { AllHaveSpeed result.now }
+    {
+        self.sent.as_slice()
+    }
+
+    /// Drops all signals.
+    pub fn clear(&mut self)
+        ensures delay { self.new.delay ≡ self.old.delay }
+        ensures sent { self.new.sent ≡ [] }
+    {
+        self.sent.clear();
+    }
+
+    /// Puts a signal in its place among the others, by clock, then by sender. A signal that is there already stays one.
+    pub fn add(&mut self, one: Sent)
+        requires room { length self.old.sent < 16384 }
+        requires speed { HasSpeed one.signal }
+        ensures delay { self.new.delay ≡ self.old.delay }
+        ensures there { Contains self.old.sent one → self.new.sent ≡ self.old.sent }
+        ensures placed { (Contains self.old.sent one → ⊥) → self.new.sent ≡ place_sent one self.old.sent }
+    {
+        if !self.sent.contains(&one) {
+            put_sent(&mut self.sent, one);
+        }
+    }
+
+    /// The cut of these signals and their nodes.
+    pub fn join<N: Node>(self, nodes: Vec<N>) -> Cut<N>
+        requires cable { IsCable (plain_cut N.plain (rejoined nodes.items self)) }
+        requires sound { IsSound (kind_of N.clock N.was N.next) (plain_cut N.plain (rejoined nodes.items self)) }
+        requires live { AllLive (kind_of N.clock N.was N.next) (plain_cut N.plain (rejoined nodes.items self)) }
+        ensures { result ≡ rejoined nodes.items self }
+    {
+        let Shell { delay, sent, due } = self;
+        Cut {
+            nodes,
+            delay,
+            sent,
+            due,
+        }
+    }
+}

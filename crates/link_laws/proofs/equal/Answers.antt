@@ -1,0 +1,13 @@
+use Rattle.link_order.specs.Steps.{kind_of}
+use Rattle.link_laws.proofs.Equality.{equality}
+use Rattle.link_laws.proofs.equal.Goals as goal
+
+pub returns : goal.returns
+returns g c =
+    equality (kind_of g.N.Node.clock g.N.Node.was g.N.Node.next) (record {
+      rises = g.met.N.Node.rises;
+      short = g.met.N.Node.short;
+      moves = g.met.N.Node.moves;
+      bears = g.met.N.Node.bears;
+      has_speed = g.met.N.Node.has_speed;
+    })

@@ -1,0 +1,79 @@
+use Rattle.std.specs.Prelude.{ℕ, ◌≡◌, ◌≢◌, ◌+◌, ◌<◌, ◌≤◌, ◌⊎◌, List, [], ◌∷◌, ◌++◌, length, All, slice_get}
+use Rattle.link_node.specs.declared.signal.Signal.{Signal}
+use Rattle.link_order.specs.Steps.{Steps}
+use Rattle.link_order.specs.Order.{from}
+use Rattle.link_order.specs.Cut.{Cut, hop, count, clock_at, was_at, IsSound, IsInTime, IsCable}
+use Rattle.link_order.specs.GlobalOrder.{trace, run}
+use Rattle.link_order.specs.Interleaving.{Watched, Action, Look, Step, happens, opened, IsInterleaving, played, steps_of, moment, count_of}
+
+-- console i of a cut is the one, with the signals, that the global order has after k of that console's steps
+pub record IsAfter {C : Type 0} (kind : Steps C) (cut : Cut C) (until : ℕ) (d : Cut C) (i k : ℕ) : Type 0 where
+  pub within : k ≤ count_of i (trace kind cut until)
+  pub console : slice_get d.consoles i ≡ slice_get (moment kind cut (trace kind cut until) i k).consoles i
+  pub signals : from i d.sent ≡ from i (moment kind cut (trace kind cut until) i k).sent
+
+-- a cut from which the global order goes on as from an earlier one
+pub record GoesOn {C : Type 0} (kind : Steps C) (cut : Cut C) (until : ℕ) (d : Cut C) : Type 0 where
+  pub cable : IsCable d
+  pub sound : IsSound kind d
+  pub in_time : IsInTime kind cut → IsInTime kind d
+  pub same_end : run kind d until ≡ run kind cut until
+  pub at_end : ((i : ℕ) → i < count d → until ≤ clock_at kind d i) → d ≡ run kind cut until
+
+-- consoles that a list of actions has reached: each is the global order's after as many of its steps, and the cut goes on
+pub record IsEqual {C : Type 0} (kind : Steps C) (cut : Cut C) (until : ℕ) (actions : List Action) (d : Cut C) : Type 0 where
+  pub each : (i : ℕ) → i < count cut → IsAfter kind cut until d i (steps_of i actions)
+  pub goes_on : GoesOn kind cut until d
+
+-- what a look of console i at console j adds to what i has got of j
+pub record Adds {C : Type 0} (kind : Steps C) (w : Watched C) (i j : ℕ) (added : List Signal) : Type 0 where
+  pub got_is : (happens kind (Look i j) w).got i j ≡ w.got i j ++ added
+  pub sent_is : from j w.cut.sent ≡ w.got i j ++ added
+
+-- a signal of j that arrives at i after i's last step began
+abbrev pub ArrivesLater : {C : Type 0} → Steps C → Watched C → ℕ → ℕ → Signal → Type 0
+ArrivesLater kind w i j signal = was_at kind w.cut i < signal.clock + hop w.cut j i
+
+-- all that a look would add arrives later
+pub record LooksAhead {C : Type 0} (kind : Steps C) (w : Watched C) (i j : ℕ) : Type 0 where
+  pub added : List Signal
+  pub adds : Adds kind w i j added
+  pub later : All (ArrivesLater kind w i j) added
+
+-- all that a look would add is few
+pub record FewUnread {C : Type 0} (kind : Steps C) (w : Watched C) (i j : ℕ) : Type 0 where
+  pub added : List Signal
+  pub adds : Adds kind w i j added
+  pub few : length added ≤ hop w.cut i j + hop w.cut j i + 511
+  pub fits : length added < 4096
+
+-- some action is console i's look at console j
+abbrev pub LooksAt : ℕ → ℕ → List Action → Type 0
+LooksAt i j [] = ⊥
+LooksAt i j (Look a b ∷ rest) = ((a ≡ i) × (b ≡ j)) ⊎ LooksAt i j rest
+LooksAt i j (Step a ∷ rest) = LooksAt i j rest
+
+-- no action is a step of console i
+abbrev pub StaysAside : ℕ → List Action → Type 0
+StaysAside i [] = Unit {0}
+StaysAside i (Look a b ∷ rest) = StaysAside i rest
+StaysAside i (Step a ∷ rest) = (a ≢ i) × StaysAside i rest
+
+-- the console that is furthest behind, with a step left
+pub record IsFurthestBehind {C : Type 0} (kind : Steps C) (until : ℕ) (d : Cut C) (i : ℕ) : Type 0 where
+  pub player : i < count d
+  pub least : (j : ℕ) → j < count d → clock_at kind d i ≤ clock_at kind d j
+  pub early : clock_at kind d i < until
+
+-- consoles that each have made k of their steps, none beyond what a peer can still tell it
+pub record IsReachable {C : Type 0} (kind : Steps C) (cut : Cut C) (until : ℕ) (d : Cut C) (k : ℕ → ℕ) : Type 0 where
+  pub count_is : count d ≡ count cut
+  pub each : (i : ℕ) → i < count cut → IsAfter kind cut until d i (k i)
+  pub heard : (i j : ℕ) → i < count cut → j < count cut → i ≢ j → 0 < k i → was_at kind d i < clock_at kind d j + hop cut j i
+
+-- an interleaving that reaches these consoles, with the signals of these steps
+pub record Reaches {C : Type 0} (kind : Steps C) (cut : Cut C) (until : ℕ) (d : Cut C) : Type 0 where
+  pub actions : List Action
+  pub allowed : IsInterleaving kind until actions (opened kind cut)
+  pub consoles : (played kind actions (opened kind cut)).cut.consoles ≡ d.consoles
+  pub signals : (i : ℕ) → i < count cut → from i (played kind actions (opened kind cut)).cut.sent ≡ from i d.sent

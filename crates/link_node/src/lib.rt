@@ -1,0 +1,11 @@
+#![tactic(auto)]
+//! A console as the cable sees it: what a step tells its peers, the two numbers of such a signal, and the laws of a
+//! node. Nothing here knows what a console does in its step.
+
+mod node;
+mod packing;
+mod signal;
+
+pub use node::Node;
+pub use packing::{pack, unpack};
+pub use signal::{Incoming, LinkMode, Signal, Start};

@@ -1,0 +1,13 @@
+pub mod Numbers
+pub mod Stepping
+pub mod Runs
+pub mod Lists
+pub mod Places
+pub mod Senders
+pub mod DueSignals
+pub mod DueOrder
+pub mod Awaited
+pub mod Sound
+pub mod Live
+pub mod LiveRuns
+pub mod Starts

@@ -1,0 +1,6 @@
+pub mod Steps
+pub mod Order
+pub mod Due
+pub mod Cut
+pub mod GlobalOrder
+pub mod Interleaving

@@ -1,0 +1,17 @@
+#![tactic(auto)]
+//! Tests of the cable's crates on small nodes: runs in the global order, compared with a plain second program.
+
+mod beat;
+mod mixer;
+mod start;
+
+pub use beat::Beat;
+pub use mixer::{Mixer, cycles, mixed, told};
+pub use start::{begin, mixers};
+
+#[cfg(test)]
+mod interleavings;
+#[cfg(test)]
+mod plain;
+#[cfg(test)]
+mod tests;

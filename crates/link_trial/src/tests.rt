@@ -1,0 +1,193 @@
+//! Runs in the global order, beside a plain program that keeps every signal ever sent.
+
+ghost use Rattle.std.specs.Prelude.{◌≡◌, ◌<◌, ◌≤◌, ◌^◌, All, IfOk};
+ghost use Rattle.std.specs.Vec.{vec_len};
+
+use crate::plain::{LIMIT, plain_run};
+use crate::{Beat, Mixer, begin, mixers};
+use link_core::{Cut, Seen, Sent, laws, may_step};
+use std::alloc::Global;
+use std::process::Abort;
+use std::test::Fail;
+
+/// Whether some node but its sender can still take a signal.
+fn is_live(rt: &impl Abort, nodes: &[Mixer], one: &Sent, delay: u64) -> bool {
+    assert!(rt; one.signal.clock < 1 << 40 && delay <= 1024);
+    nodes.iter().enumerate().any(|(i, node)| i as u64 != u64::from(one.sender)
+        && node.was < one.signal.clock + delay)
+}
+
+/// A run in two parts.
+fn run_parts(cut: &mut Cut<Mixer>, first: u64, until: u64)
+    requires first { All (λ m. first ≤ m.limit) cut.old.consoles }
+    requires until { All (λ m. until ≤ m.limit) cut.old.consoles }
+{
+    cut.run_serial(first);
+    cut.run_serial(until);
+}
+
+#[test]
+fn runs_are_those_of_the_plain_program(rt: HostRuntime) -> Result<(), Fail> {
+    let mut told_at_all = 0u64;
+    for count in 1..5 {
+        for (delay, seed) in [(1, 7), (16, 8), (512, 9), (1024, 10)] {
+            let mut plain = mixers(rt.alloc(), count, seed, LIMIT)?;
+            let all = plain_run(&rt, rt.alloc(), &mut plain, delay, 20_000)?;
+            let nodes = mixers(rt.alloc(), count, seed, LIMIT)?;
+            let Ok(mut cut) = begin(rt.alloc(), nodes, delay) else {
+                panic!(&rt; "no memory");
+            };
+            run_parts(&mut cut, 9_000, 20_000);
+            assert_eq!(rt; cut.nodes(), plain.as_slice());
+            assert_eq!(rt; cut.delay(), delay);
+            let mut live = Vec::new(rt.alloc());
+            for one in &all.sent {
+                if is_live(&rt, &plain, one, delay) {
+                    live.push(*one)?;
+                }
+            }
+            assert_eq!(rt; cut.sent(), live.as_slice());
+            told_at_all = told_at_all.saturating_add(live.len() as u64);
+            let _ = cut.into_nodes();
+        }
+    }
+    assert!(rt;
+        told_at_all > 20,
+        "some signals are on their way at the end"
+    );
+    Ok(())
+}
+
+/// A node that tells once, and one that listens.
+fn beats(alloc: Global, first: u64) -> Result<Vec<Beat>, Fail>
+    ensures { IfOk result (λ nodes. (vec_len nodes ≡ 2) × All (λ b. (b.clock ≡ 0) × (b.was ≡ 0) × (b.limit ≡ 4096)) nodes.items) }
+{
+    let teller = Beat {
+        first: 99,
+        pace: 99,
+        tells: 100,
+        heard: None,
+        clock: 0,
+        was: 0,
+        limit: 4096,
+    };
+    let listener = Beat {
+        first,
+        pace: 280,
+        tells: 1 << 40,
+        heard: None,
+        clock: 0,
+        was: 0,
+        limit: 4096,
+    };
+    Ok(vec![in alloc; teller, listener]?)
+}
+
+#[test]
+fn a_signal_is_taken_at_its_arrival_and_not_before(rt: HostRuntime) -> Result<(), Fail> {
+    // sent at 100, so it arrives at 1,124: steps at 0, 281, 562, 843, 1,124, and at 0, 280, 561, 842, 1,123, 1,404
+    for (first, heard) in [(280, 1124), (279, 1404)] {
+        let nodes = beats(rt.alloc(), first)?;
+        let Ok(mut cut) = begin(rt.alloc(), nodes, 1024) else {
+            panic!(&rt; "no memory");
+        };
+        cut.run_serial(1500);
+        assert_eq!(rt; cut.nodes().len(), 2);
+        assert_eq!(rt; cut.nodes()[1].heard, Some(heard));
+        assert_eq!(rt; cut.nodes()[0].heard, None);
+        let _ = cut.into_nodes();
+    }
+    Ok(())
+}
+
+#[test]
+fn a_step_is_allowed_below_each_seen_clock_and_the_delay(rt: HostRuntime) {
+    // two consoles that have seen clock 0, and what they may do at delay 1 until 10
+    assert!(rt; may_step(0, 10, &[Seen { clock: 0 }], 1));
+    assert!(rt; !may_step(1, 10, &[Seen { clock: 0 }], 1));
+    assert!(rt; may_step(1, 10, &[Seen { clock: 1 }], 1));
+    assert!(rt; !may_step(10, 10, &[Seen { clock: 1000 }, Seen { clock: 1000 }], 1));
+    assert!(rt; !may_step(5, 10, &[Seen { clock: 9 }, Seen { clock: 4 }], 1));
+    assert!(rt; may_step(9, 10, &[], 1));
+}
+
+/// A cut that is taken apart and put together again is as it was.
+fn rejoined(cut: Cut<Mixer>) -> Cut<Mixer>
+    ensures { result ≡ cut }
+{
+    let _nodes = cut.nodes();
+    let _sent = cut.sent();
+    let (nodes, shell) = cut.part();
+    shell.join(nodes)
+}
+
+#[test]
+fn the_laws_hold_of_a_mixer() {
+    laws::split::<Mixer>();
+    laws::equal::<Mixer>();
+    laws::horizon::<Mixer>();
+    laws::skew::<Mixer>();
+    laws::unread::<Mixer>();
+    laws::reached::<Mixer>();
+}
+
+#[test]
+fn a_cut_is_parted_and_joined(rt: HostRuntime) -> Result<(), Fail> {
+    let nodes = mixers(rt.alloc(), 3, 11, LIMIT)?;
+    let Ok(mut cut) = begin(rt.alloc(), nodes, 512) else {
+        panic!(&rt; "no memory");
+    };
+    cut.run_serial(5_000);
+    let least = cut.least();
+    let clocks = cut.nodes().iter().map(|node| node.clock).min();
+    assert_eq!(rt;
+        cut.nodes().get(least as usize).map(|node| node.clock),
+        clocks
+    );
+    let sent = cut.sent().to_vec(rt.alloc())?;
+    assert!(rt; !sent.is_empty());
+    let cut = rejoined(cut);
+    assert_eq!(rt; cut.sent(), sent.as_slice());
+    assert_eq!(rt; cut.nodes().len(), 3);
+    let (nodes, mut shell) = cut.part();
+    assert_eq!(rt; nodes.len(), 3);
+    assert_eq!(rt; shell.delay(), 512);
+    assert_eq!(rt; shell.sent(), sent.as_slice());
+    shell.clear();
+    assert_eq!(rt; shell.sent().len(), 0);
+    for one in sent.iter().rev() {
+        assert!(rt; one.signal.start.is_none_or(|start| start.speed < 4));
+        assert!(rt; shell.sent().len() < 16_384);
+        shell.add(*one);
+        assert!(rt; shell.sent().len() < 16_384);
+        shell.add(*one);
+    }
+    assert_eq!(rt; shell.sent(), sent.as_slice());
+    Ok(())
+}
+
+/// One step of the global order, where the least node is below its limit. It answers the player, and the node after it.
+fn step_once(rt: &impl Abort, cut: &mut Cut<Mixer>) -> (usize, Mixer) {
+    let player = cut.least() as usize;
+    let node = cut.nodes()[player];
+    assert!(rt; node.clock < node.limit);
+    cut.serial_step();
+    let nodes = cut.nodes();
+    assert!(rt; player < nodes.len());
+    (player, nodes[player])
+}
+
+#[test]
+fn steps_are_those_of_the_plain_program(rt: HostRuntime) -> Result<(), Fail> {
+    let mut plain = mixers(rt.alloc(), 3, 5, LIMIT)?;
+    let all = plain_run(&rt, rt.alloc(), &mut plain, 100, 5_000)?;
+    assert!(rt; all.steps.len() > 60);
+    let nodes = mixers(rt.alloc(), 3, 5, LIMIT)?;
+    let Ok(mut cut) = begin(rt.alloc(), nodes, 100) else {
+        panic!(&rt; "no memory");
+    };
+    for wanted in &all.steps {
+        assert_eq!(rt; step_once(&rt, &mut cut), *wanted);
+    }
+    Ok(())
+}
