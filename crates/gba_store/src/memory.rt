@@ -1,8 +1,8 @@
 //! A store and a sink in memory, which tell their files. Calls that are to fail are chosen when they are made.
 
-ghost use Rattle.std.specs.Prelude.{◌≡◌, ◌++◌, [], ◌∷◌, Some, option_map, take, IfOk, MatchResult, IsOk, IsErr, ◌≤◌, OnErr, OnOk, List, ℕ};
-ghost use Rattle.std.specs.BTreeMap.{get_by_text};
-ghost use Rattle.gba_store.specs.Files.{Written, Appended, Rose};
+ghost use Rattle.std.specs.Prelude.{◌≡◌, ◌≤◌, Some, None, Ok, false, option_map, take, IfOk, OnOk, OnErr, IsOk, IsErr, IsErrOf, IsTrue, MatchResult};
+ghost use Rattle.gba_store.specs.Chosen.{Counts, IsNewSink, Refuses, append_is_chosen, attempt, create_is_chosen, files_in, half, next_number};
+ghost use Rattle.gba_store.specs.Files.{Written, Created, Appended, CreateFailed, AppendFailed, IsFront, Rose};
 ghost use Rattle.gba_store.specs.Memory.{held, told};
 
 use crate::outside::{ReadError, Sink, Store, WriteError};
@@ -93,7 +93,20 @@ impl Store for MemoryStore {
 
     ghost absences = { λ store. store.absences };
 
-    fn read(&mut self, alloc: Global, name: &str, most: u64) -> Result<Vec<u8>, ReadError> {
+    /// The chosen reads fail, and the others give what the files have, unless memory is wanting.
+    fn read(&mut self, alloc: Global, name: &str, most: u64) -> Result<Vec<u8>, ReadError>
+        ensures files { Unit {0} → held self.new.files ≡ held self.old.files }
+        ensures bytes { Unit {0} → IfOk result (λ bytes. IsFront (held self.old.files) name.now most bytes.items) }
+        ensures missing { Unit {0} → IsErrOf result ReadError.Absent → held self.old.files name.now ≡ None }
+        ensures absent { IsErrOf result ReadError.Absent → Rose self.old.absences self.new.absences }
+        ensures failed { IsErrOf result ReadError.Failed → Rose self.old.faults self.new.faults }
+        ensures later_absences { self.old.absences ≤ self.new.absences }
+        ensures later_faults { self.old.faults ≤ self.new.faults }
+        ensures attempt { MatchResult result (λ bytes. attempt self.old name.now most ≡ Ok bytes.items)
+            (Refuses (attempt self.old name.now most)) }
+        ensures reads { self.new.reads ≡ next_number self.old.reads }
+        ensures chosen { self.new.failing ≡ self.old.failing }
+    {
         self.reads = self.reads.saturating_add(1);
         if self.failing.contains(&self.reads) {
             self.faults = self.faults.saturating_add(1);
@@ -127,7 +140,9 @@ pub struct MemorySink {
 
 impl MemorySink {
     /// A sink with no file. It keeps the allocator for its growths.
-    pub fn new(alloc: Global, failing_creates: Vec<u64>, failing_appends: Vec<u64>) -> MemorySink {
+    pub fn new(alloc: Global, failing_creates: Vec<u64>, failing_appends: Vec<u64>) -> MemorySink
+        ensures { IsNewSink failing_creates.items failing_appends.items result }
+    {
         MemorySink {
             alloc,
             files: BTreeMap::new(alloc),
@@ -158,7 +173,7 @@ impl MemorySink {
 
     /// The content of the file, or None where there is no such file.
     pub fn bytes(&self, name: &str) -> Option<&[u8]>
-        ensures { option_map (λ bytes. bytes.now) result ≡ told self.now.files name.now }
+        ensures { option_map (λ bytes. bytes.now) result ≡ files_in self.now name.now }
     {
         match self.files.get(name) {
             Some(bytes) => Some(bytes.as_slice()),
@@ -209,7 +224,19 @@ impl Sink for MemorySink {
 
     ghost wants = { λ sink. sink.wants };
 
-    fn create(&mut self, name: &str) -> Result<(), WriteError> {
+    /// The chosen creates fail and change no file.
+    fn create(&mut self, name: &str) -> Result<(), WriteError>
+        ensures created { Unit {0} → OnOk result (Created name.now (files_in self.old) (files_in self.new)) }
+        ensures left { Unit {0} → IsErrOf result WriteError.Failed → CreateFailed name.now (files_in self.old) (files_in self.new) }
+        ensures unchanged { Unit {0} → IsErrOf result WriteError.NoMemory → files_in self.new ≡ files_in self.old }
+        ensures failed { IsErrOf result WriteError.Failed → Rose self.old.faults self.new.faults }
+        ensures wanting { IsErrOf result WriteError.NoMemory → Rose self.old.wants self.new.wants }
+        ensures later_faults { self.old.faults ≤ self.new.faults }
+        ensures later_wants { self.old.wants ≤ self.new.wants }
+        ensures chosen { IsErrOf result WriteError.Failed → IsTrue (create_is_chosen self.old) }
+        ensures not_chosen { OnOk result (create_is_chosen self.old ≡ false) }
+        ensures counts { Counts self.old self.new (next_number self.old.creates) self.old.appends }
+    {
         self.creates = self.creates.saturating_add(1);
         if self.failing_creates.contains(&self.creates) {
             self.faults = self.faults.saturating_add(1);
@@ -219,7 +246,20 @@ impl Sink for MemorySink {
         self.answer(written)
     }
 
-    fn append(&mut self, name: &str, bytes: &[u8]) -> Result<(), WriteError> {
+    /// The chosen appends add half of their piece and fail, unless memory is wanting.
+    fn append(&mut self, name: &str, bytes: &[u8]) -> Result<(), WriteError>
+        ensures appended { Unit {0} → OnOk result (Appended name.now bytes.now (files_in self.old) (files_in self.new)) }
+        ensures left { Unit {0} → IsErrOf result WriteError.Failed → AppendFailed name.now bytes.now (files_in self.old) (files_in self.new) }
+        ensures unchanged { Unit {0} → IsErrOf result WriteError.NoMemory → files_in self.new ≡ files_in self.old }
+        ensures failed { IsErrOf result WriteError.Failed → Rose self.old.faults self.new.faults }
+        ensures wanting { IsErrOf result WriteError.NoMemory → Rose self.old.wants self.new.wants }
+        ensures later_faults { self.old.faults ≤ self.new.faults }
+        ensures later_wants { self.old.wants ≤ self.new.wants }
+        ensures chosen { IsErrOf result WriteError.Failed → IsTrue (append_is_chosen self.old) }
+        ensures not_chosen { OnOk result (append_is_chosen self.old ≡ false) }
+        ensures halved { IsErrOf result WriteError.Failed → Appended name.now (half bytes.now) (files_in self.old) (files_in self.new) }
+        ensures counts { Counts self.old self.new self.old.creates (next_number self.old.appends) }
+    {
         self.appends = self.appends.saturating_add(1);
         let fails = self.failing_appends.contains(&self.appends);
         let count = if fails { bytes.len() / 2 } else { bytes.len() };
