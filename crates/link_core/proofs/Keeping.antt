@@ -17,7 +17,7 @@ use Rattle.link_order.proofs.LiveRuns.{run_live, live_whole}
 use Rattle.std.specs.Prelude.{nat_lt}
 use Rattle.std.proofs.lemmas.Bool.{lt-ltb}
 use Rattle.std.proofs.lemmas.Bool.Decides.{nat_tests}
-use Rattle.link_order.proofs.Stepping.{console_at, is_stepped}
+use Rattle.link_order.proofs.Stepping.{hop_same, console_at, is_stepped}
 use Rattle.link_order.proofs.Sound.{sound_live, sound_step, joined_all}
 use Rattle.link_order.proofs.Lists.{test_cases, all_map, all_cons, all_head, all_tail}
 use Rattle.link_order.specs.Order.{from}
@@ -183,7 +183,7 @@ stepped_run {C = C} kind law p q until cable sound early is =
     let goes = lt-ltb (clock_at kind p (least kind p)) until early in
     let f = falls kind law p until cable.some_console goes in
     let some : 0 < count (step kind p) = subst (λ (n : ℕ). 0 < n) (sym f.count_is) cable.some_console in
-    let later : (a b : ℕ) → 0 < hop (step kind p) a b = λ a b. subst (λ (n : ℕ). 0 < n) (sym f.delay_is) (cable.some_delay a b) in (
+    let later : (a b : ℕ) → 0 < hop (step kind p) a b = λ a b. subst (λ (h : ℕ → ℕ → ℕ). 0 < h a b) (sym (hop_same (step kind p) p f.delay_is)) (cable.some_delay a b) in (
       ap (λ (d : Cut C). live kind (run kind d until)) is
           ∙ run_live kind law (step kind p) until some later (sound_step kind law p cable.some_console cable.some_delay sound)
           ∙ ap (live kind) (sym (run_unrolls kind law p until cable.some_console goes)),

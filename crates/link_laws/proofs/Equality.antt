@@ -7,6 +7,7 @@ use Rattle.link_order.specs.Cut.{Cut, hop, count, clock_at, was_at, IsSound, IsC
 use Rattle.link_order.specs.GlobalOrder.{least, step_of, trace, run}
 use Rattle.link_order.specs.Interleaving.{Watched, opened, Action, Look, Step, happens, MayStep, May, IsInterleaving, played, steps_of, moment}
 use Rattle.link_order.proofs.Numbers.{same_or_apart, put, put_same, put_other, least_is_player}
+use Rattle.link_order.proofs.Stepping.{hop_same}
 use Rattle.link_order.proofs.Runs.{run_ends}
 use Rattle.link_laws.specs.Law.{IsEqual}
 use Rattle.link_laws.proofs.Advance.{advance}
@@ -79,7 +80,7 @@ hears_happens {C = C} kind law cut until (Step i) w watch may hears =
     let down : (k : ℕ) → k < count (step_of kind w.cut i) → k < count w.cut = λ k h. subst (λ (n : ℕ). k < n) s.count_is h in
     let next : HearsInTime kind (record { cut = step_of kind w.cut i; seen = w.seen; got = w.got })
     = λ a b la lb apart.
-    let h : hop (step_of kind w.cut i) b a ≡ hop w.cut b a = s.delay_is in
+    let h : hop (step_of kind w.cut i) b a ≡ hop w.cut b a = ap (λ (f : ℕ → ℕ → ℕ). f b a) (hop_same (step_of kind w.cut i) w.cut s.delay_is) in
     elim (same_or_apart a i) [
       | inl e ↦
           let f = ap (was_at kind (step_of kind w.cut i)) e in
@@ -122,8 +123,8 @@ equality {C = C} kind law cut until actions cable sound may =
         cable = record {
           some_console = subst (λ (n : ℕ). 0 < n) (sym exact.count_is) cable.some_console;
           at_most_four = subst (λ (n : ℕ). n ≤ 4) (sym exact.count_is) cable.at_most_four;
-          some_delay = λ a b. subst (λ (n : ℕ). 0 < n) (sym exact.delay_is) (cable.some_delay a b);
-          short_delay = λ a b. subst (λ (n : ℕ). n ≤ 1024) (sym exact.delay_is) (cable.short_delay a b);
+          some_delay = λ a b. subst (λ (h : ℕ → ℕ → ℕ). 0 < h a b) (sym (hop_same w.cut cut exact.delay_is)) (cable.some_delay a b);
+          short_delay = λ a b. subst (λ (h : ℕ → ℕ → ℕ). h a b ≤ 1024) (sym (hop_same w.cut cut exact.delay_is)) (cable.short_delay a b);
         };
         sound = exact.sound;
         in_time = λ time a b la lb apart.

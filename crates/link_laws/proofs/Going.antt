@@ -14,6 +14,7 @@ use Rattle.link_order.proofs.Lists.{test_cases, all_head, all_tail, all_map, pai
 use Rattle.link_order.proofs.Places.{Comes}
 use Rattle.link_order.proofs.Senders.{from_own, from_other}
 use Rattle.link_order.proofs.Runs.{falls, ends, run_unrolls, run_ends}
+use Rattle.link_order.proofs.Stepping.{hop_same}
 use Rattle.link_order.proofs.Sound.{least_ahead}
 use Rattle.link_laws.proofs.Advance.{number_found}
 use Rattle.link_laws.proofs.History.{Leads, Same, same_is, same_trans, On, on_step, moment_all, history_ends, goes}
@@ -149,7 +150,7 @@ goes_on_by kind law zero until cut ps d made leads sound some later on few =
     goes_over kind law until cut ps d made leads sound on (ends kind d until some_d (omega arith))
 goes_on_by {C = C} kind law (suc most) until cut ps d made leads sound some later on few =
     let some_d : 0 < count d = subst (λ (n : ℕ). 0 < n) (sym on.count_is) some in
-    let later_d : (a b : ℕ) → 0 < hop d a b = λ a b. subst (λ (n : ℕ). 0 < n) (sym on.delay_is) (later a b) in
+    let later_d : (a b : ℕ) → 0 < hop d a b = λ a b. subst (λ (h : ℕ → ℕ → ℕ). 0 < h a b) (sym (hop_same d cut on.delay_is)) (later a b) in
     elim (test_cases (nat_lt (clock_at kind d (least kind d)) until)) [
       | inr e ↦ goes_over kind law until cut ps d made leads sound on e
       | inl e ↦

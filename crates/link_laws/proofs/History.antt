@@ -15,6 +15,7 @@ use Rattle.link_order.specs.Interleaving.{moment, count_of}
 use Rattle.link_order.proofs.Numbers.{same_or_apart, put, put_same, put_other, least_is_player, least_is_least}
 use Rattle.link_order.proofs.Lists.{test_cases, all_nil, all_map}
 use Rattle.link_order.proofs.Runs.{falls, ends, trace_goes, trace_ends, trace_zero, after_none, after_one}
+use Rattle.link_order.proofs.Stepping.{hop_same}
 use Rattle.link_order.proofs.Sound.{sound_step, least_ahead}
 use Rattle.link_laws.proofs.Advance.{Ahead, advance, number_same, Later, due_of_all}
 
@@ -62,7 +63,7 @@ leads_by kind law (suc most) cut until some later few sound =
           let f = falls kind law cut until some e in
           let less : left kind (step_of kind cut (least kind cut)) until < left kind cut until = f.fewer in
           let some' : 0 < count (step_of kind cut (least kind cut)) = subst (λ (n : ℕ). 0 < n) (sym f.count_is) some in
-          let later' : (a b : ℕ) → 0 < hop (step_of kind cut (least kind cut)) a b = λ a b. subst (λ (n : ℕ). 0 < n) (sym f.delay_is) (later a b) in
+          let later' : (a b : ℕ) → 0 < hop (step_of kind cut (least kind cut)) a b = λ a b. subst (λ (h : ℕ → ℕ → ℕ). 0 < h a b) (sym (hop_same (step_of kind cut (least kind cut)) cut f.delay_is)) (later a b) in
           let ih = leads_by kind law most (step_of kind cut (least kind cut)) until some' later' (omega arith) (sound_step kind law cut some later sound) in
           subst (Leads kind until cut) (sym (trace_goes kind most cut until e))
           (least_is_player (clock_at kind cut) (count cut) some, is_early (clock_at kind cut (least kind cut)) until e, (λ j below apart. least_ahead kind cut later j below), ih)
@@ -231,11 +232,6 @@ goes_first {C = C} kind law until ps cut i leads sound =
       next_console = stay.console ∙ a.own_console ∙ ap (λ (d : List Incoming). Some (kind.next a.x d).0) (sym whole);
       next_sent = stay.signals ∙ a.own_sent ∙ ap (λ (d : List Incoming). from i cut.sent ++ option_to_list (kind.next a.x d).1) (sym whole);
     }
-
-hop_same : {C : Type 0} (d e : Cut C) → d.delay ≡ e.delay → hop d ≡ hop e
-hop_same d e same =
-    let make : ℕ → ℕ → ℕ → ℕ = λ n j i. n in
-    ap make same
 
 pub goes : {C : Type 0} (kind : Steps C) → IsLawful kind → (until : ℕ) (ps : List ℕ) (cut : Cut C) (i k : ℕ) → Leads kind until cut ps → IsSound kind cut
     → k < count_of i ps → Goes kind until (moment kind cut ps i k) (moment kind cut ps i (suc k)) (after kind cut ps) i (count cut) (hop cut)

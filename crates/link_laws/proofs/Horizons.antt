@@ -15,6 +15,7 @@ use Rattle.link_order.proofs.Numbers.{same_or_apart}
 use Rattle.link_order.proofs.Lists.{all_tail, all_map, pairs_tail}
 use Rattle.link_order.proofs.Places.{Comes}
 use Rattle.link_order.proofs.DueOrder.{from_rises, from_all}
+use Rattle.link_order.proofs.Stepping.{hop_same}
 use Rattle.link_order.proofs.Live.{rising_length, live_near}
 use Rattle.link_laws.specs.Law.{Adds, ArrivesLater, LooksAhead, FewUnread, LooksAt, StaysAside, IsFurthestBehind}
 use Rattle.link_laws.proofs.Advance.{advance, Later}
@@ -76,9 +77,9 @@ few_unread {C = C} kind law cut until actions i j cable sound may li lj apart =
     let below : All (λ (s : Signal). s.clock < clock_at kind w.cut i + hop w.cut i j) l.rest
     = all_drop (λ (s : Signal). s.clock < clock_at kind w.cut i + hop w.cut i j) (w.got i j) l.rest
     (subst (All (λ (s : Signal). s.clock < clock_at kind w.cut i + hop w.cut i j)) l.all_is bound) in
-    let some : 0 < hop w.cut i j = subst (λ (n : ℕ). 0 < n) (sym watch.delay_is) (cable.some_delay i j) in
-    let short : hop w.cut i j ≤ 1024 = subst (λ (n : ℕ). n ≤ 1024) (sym watch.delay_is) (cable.short_delay i j) in
-    let short' : hop w.cut j i ≤ 1024 = subst (λ (n : ℕ). n ≤ 1024) (sym watch.delay_is) (cable.short_delay j i) in
+    let some : 0 < hop w.cut i j = subst (λ (h : ℕ → ℕ → ℕ). 0 < h i j) (sym (hop_same w.cut cut watch.delay_is)) (cable.some_delay i j) in
+    let short : hop w.cut i j ≤ 1024 = subst (λ (h : ℕ → ℕ → ℕ). h i j ≤ 1024) (sym (hop_same w.cut cut watch.delay_is)) (cable.short_delay i j) in
+    let short' : hop w.cut j i ≤ 1024 = subst (λ (h : ℕ → ℕ → ℕ). h j i ≤ 1024) (sym (hop_same w.cut cut watch.delay_is)) (cable.short_delay j i) in
     let long = rising_length (λ (s : Signal). s.clock) (w.seen i j) (w.seen i j + hop w.cut j i + 511 + hop w.cut i j) l.rest rising l.late
     (all_map (λ (s : Signal). s.clock < clock_at kind w.cut i + hop w.cut i j) (λ (s : Signal). s.clock < w.seen i j + hop w.cut j i + 511 + hop w.cut i j) l.rest
     (λ s h. omega arith) below) (omega arith) in
@@ -199,7 +200,7 @@ furthest_behind {C = C} kind law cut until actions more i cable sound may last m
       ahead = λ j below apart.
           let less : j < count cut = subst (λ (n : ℕ). j < n) after.watch.count_is below in
           let seen = seen_stays kind law cut until i j clock more w less waits may_more aside (inl (looks j less apart)) in
-          let some : 0 < hop v.cut j i = subst (λ (n : ℕ). 0 < n) (sym after.watch.delay_is) (cable.some_delay j i) in
+          let some : 0 < hop v.cut j i = subst (λ (h : ℕ → ℕ → ℕ). 0 < h j i) (sym (hop_same v.cut cut after.watch.delay_is)) (cable.some_delay j i) in
           omega (arith, after.stays, seen, some);
     }
 
@@ -214,6 +215,6 @@ clocks_near {C = C} kind law cut until actions i j cable sound may li lj =
     elim (same_or_apart i j) [
       | inl e ↦ let f = ap (clock_at kind w.cut) e in omega (arith, f)
       | inr apart ↦
-          let h : hop w.cut j i ≡ hop cut j i = watch.delay_is in
+          let h : hop w.cut j i ≡ hop cut j i = ap (λ (f : ℕ → ℕ → ℕ). f j i) (hop_same w.cut cut watch.delay_is) in
           omega (arith, h, watch.sound.near i j (up i li) (up j lj) apart)
     ]

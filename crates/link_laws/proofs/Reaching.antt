@@ -9,6 +9,7 @@ use Rattle.link_order.specs.GlobalOrder.{step_of, trace, after}
 use Rattle.link_order.specs.Interleaving.{Watched, opened, Action, Look, Step, changed, happens, MayStep, IsInterleaving, played, moment, count_of}
 use Rattle.link_order.proofs.Numbers.{same_or_apart, put, put_same, put_other}
 use Rattle.link_order.proofs.Lists.{test_cases}
+use Rattle.link_order.proofs.Stepping.{hop_same}
 use Rattle.link_order.proofs.Runs.{after_none, after_one}
 use Rattle.link_laws.specs.Law.{IsReachable, Reaches}
 use Rattle.link_laws.proofs.Advance.{advance, number_same}
@@ -226,8 +227,9 @@ plan_may {C = C} kind law until start d all qs p ps k w leads sound counts delay
       ahead = λ j less apart.
           let less_j : j < count start = subst (λ (n : ℕ). j < n) count_v less in
           let seen : v.seen p j ≡ clock_at kind w.cut j = looks_seen kind p (count start) j w less_j in
-          let h : hop v.cut j p ≡ hop start j p = ap (λ (e : Cut C). e.delay) cut_is ∙ stands.watch.delay_is in
-          let g : hop c j p ≡ hop start j p = delays in
+          let h : hop v.cut j p ≡ hop start j p
+          = ap (λ (e : Cut C). hop e j p) cut_is ∙ ap (λ (f : ℕ → ℕ → ℕ). f j p) (hop_same w.cut start stands.watch.delay_is) in
+          let g : hop c j p ≡ hop start j p = ap (λ (f : ℕ → ℕ → ℕ). f j p) (hop_same c start delays) in
           elim (less_or_past (k j) (count_of j qs)) [
             | inl over ↦
                 let there = clock_same kind w.cut d j (stopped kind start d all qs (p ∷ ps) k w j stands (is j less_j) less_j over) in

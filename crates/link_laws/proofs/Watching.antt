@@ -12,6 +12,7 @@ use Rattle.link_order.specs.GlobalOrder.{stepped, step_of, due_at}
 use Rattle.link_order.specs.Interleaving.{Watched, opened, Action, Look, Step, changed, due_seen, happens, MayStep, May}
 use Rattle.link_order.proofs.Numbers.{same_or_apart}
 use Rattle.link_order.proofs.Lists.{all_nil, all_map}
+use Rattle.link_order.proofs.Stepping.{hop_same}
 use Rattle.link_laws.proofs.Advance.{Ahead, advance, Later, due_of_all}
 
 -- a place that a look changed, or didn't
@@ -115,7 +116,8 @@ watching_step {C = C} kind law cut until w i watch may =
       | inl e ↦ let f = ap (clock_at kind w.cut) e in let g = ap (clock_at kind (step_of kind w.cut i)) e in omega (arith, f, g, a.own_clock)
       | inr e ↦ omega (arith, a.other_clock k e)
     ] in
-    let hops : (m n : ℕ) → hop (step_of kind w.cut i) m n ≡ hop w.cut m n = λ m n. a.delay_is in
+    let hops : (m n : ℕ) → hop (step_of kind w.cut i) m n ≡ hop w.cut m n
+    = λ m n. ap (λ (f : ℕ → ℕ → ℕ). f m n) (hop_same (step_of kind w.cut i) w.cut a.delay_is) in
     record {
       count_is = a.count_is ∙ watch.count_is;
       delay_is = a.delay_is ∙ watch.delay_is;

@@ -1,10 +1,10 @@
-use Rattle.std.specs.Prelude.{ℕ, ◌≡◌, ◌≢◌, ◌+◌, ◌<◌, ◌≤◌, ◌⊎◌, List, [], ◌∷◌, ◌++◌, length, All, slice_get}
+use Rattle.std.specs.Prelude.{ℕ, ◌≡◌, ◌≢◌, ◌+◌, ◌*◌, ◌<◌, ◌≤◌, ◌⊎◌, List, [], ◌∷◌, ◌++◌, length, All, slice_get}
 use Rattle.link_node.specs.declared.signal.Signal.{Signal}
 use Rattle.link_order.specs.Steps.{Steps}
 use Rattle.link_order.specs.Order.{from}
-use Rattle.link_order.specs.Cut.{Cut, hop, count, clock_at, was_at, IsSound, IsInTime, IsCable}
+use Rattle.link_order.specs.Cut.{Cut, hop, count, clock_at, was_at, live, IsSound, IsInTime, IsCable}
 use Rattle.link_order.specs.GlobalOrder.{trace, run}
-use Rattle.link_order.specs.Interleaving.{Watched, Action, Look, Step, happens, opened, IsInterleaving, played, steps_of, moment, count_of}
+use Rattle.link_order.specs.Interleaving.{Watched, Action, Look, Step, happens, opened, IsInterleaving, MayStep, played, steps_of, moment, count_of}
 
 -- console i of a cut is the one, with the signals, that the global order has after k of that console's steps
 pub record IsAfter {C : Type 0} (kind : Steps C) (cut : Cut C) (until : ℕ) (d : Cut C) (i k : ℕ) : Type 0 where
@@ -77,3 +77,60 @@ pub record Reaches {C : Type 0} (kind : Steps C) (cut : Cut C) (until : ℕ) (d 
   pub allowed : IsInterleaving kind until actions (opened kind cut)
   pub consoles : (played kind actions (opened kind cut)).cut.consoles ≡ d.consoles
   pub signals : (i : ℕ) → i < count cut → from i (played kind actions (opened kind cut)).cut.sent ≡ from i d.sent
+
+-- the laws. `kind` is any kind of console
+
+-- a run may be made in parts
+abbrev pub RunsInParts : {C : Type 0} → Steps C → Type 0
+RunsInParts {C} kind =
+    (cut : Cut C) (first until : ℕ) → first ≤ until → run kind (run kind cut first) until ≡ run kind cut until
+
+-- every interleaving of a sound cut equals the global order
+abbrev pub EqualsGlobalOrder : {C : Type 0} → Steps C → Type 0
+EqualsGlobalOrder {C} kind =
+    (cut : Cut C) (until : ℕ) (actions : List Action) → IsCable cut → IsSound kind cut
+    → IsInterleaving kind until actions (opened kind cut)
+    → IsEqual kind cut until actions (played kind actions (opened kind cut)).cut
+
+-- from a cut in time no look brings a signal that should have been taken
+abbrev pub BringsNothingPast : {C : Type 0} → Steps C → Type 0
+BringsNothingPast {C} kind =
+    (cut : Cut C) (until : ℕ) (actions : List Action) (i j : ℕ) → IsCable cut → IsSound kind cut → IsInTime kind cut
+    → IsInterleaving kind until actions (opened kind cut) → i < count cut → j < count cut → i ≢ j
+    → LooksAhead kind (played kind actions (opened kind cut)) i j
+
+-- the console that is furthest behind may step once it has looked at each peer, with any actions of the others between
+abbrev pub LetsTheLastStep : {C : Type 0} → Steps C → Type 0
+LetsTheLastStep {C} kind =
+    (cut : Cut C) (until : ℕ) (actions more : List Action) (i : ℕ) → IsCable cut → IsSound kind cut
+    → IsInterleaving kind until actions (opened kind cut)
+    → IsFurthestBehind kind until (played kind actions (opened kind cut)).cut i
+    → IsInterleaving kind until more (played kind actions (opened kind cut))
+    → StaysAside i more → ((j : ℕ) → j < count cut → j ≢ i → LooksAt i j more)
+    → MayStep kind until (played kind more (played kind actions (opened kind cut))) i
+
+-- no clock gets further ahead of another than the delay and a step
+abbrev pub KeepsNear : {C : Type 0} → Steps C → Type 0
+KeepsNear {C} kind =
+    (cut : Cut C) (until : ℕ) (actions : List Action) (i j : ℕ) → IsCable cut → IsSound kind cut
+    → IsInterleaving kind until actions (opened kind cut) → i < count cut → j < count cut
+    → clock_at kind (played kind actions (opened kind cut)).cut i
+    < clock_at kind (played kind actions (opened kind cut)).cut j + hop cut j i + 512
+
+-- few signals of one console are unseen by a peer
+abbrev pub LeavesFewUnread : {C : Type 0} → Steps C → Type 0
+LeavesFewUnread {C} kind =
+    (cut : Cut C) (until : ℕ) (actions : List Action) (i j : ℕ) → IsCable cut → IsSound kind cut
+    → IsInterleaving kind until actions (opened kind cut) → i < count cut → j < count cut → i ≢ j
+    → FewUnread kind (played kind actions (opened kind cut)) i j
+
+-- few signals of one sender are live, `most` being at least each delay
+abbrev pub HasFewLive : {C : Type 0} → Steps C → Type 0
+HasFewLive {C} kind =
+    (cut : Cut C) (most j : ℕ) → IsCable cut → IsSound kind cut → ((a b : ℕ) → hop cut a b ≤ most)
+    → length (from j (live kind cut).sent) ≤ 2 * most + 511
+
+-- consoles that each have made some of their steps are reached, where no peer can still tell them what they should have taken
+abbrev pub ReachesCounts : {C : Type 0} → Steps C → Type 0
+ReachesCounts {C} kind =
+    (cut d : Cut C) (until : ℕ) (k : ℕ → ℕ) → IsCable cut → IsSound kind cut → IsReachable kind cut until d k → Reaches kind cut until d

@@ -8,6 +8,7 @@ use Rattle.link_order.specs.GlobalOrder.{least, step, left, run}
 use Rattle.link_order.proofs.Numbers.{least_is_player}
 use Rattle.link_order.proofs.Lists.{test_cases, all_head, all_tail, filter_keeps, filter_twice}
 use Rattle.link_order.proofs.Runs.{falls, ends, run_unrolls, run_ends}
+use Rattle.link_order.proofs.Stepping.{hop_same}
 use Rattle.link_order.proofs.Sound.{sound_live, sound_step}
 use Rattle.link_order.proofs.Live.{live_step}
 
@@ -46,8 +47,8 @@ run_live_by {C = C} kind law (suc most) cut until few some later sound =
           let same : live kind a ≡ live kind b = live_step kind law cut (least kind cut) (least_is_player (clock_at kind cut) (count cut) some) sound in
           let delay_a : a.delay ≡ cut.delay = fa.delay_is in
           let delay_b : b.delay ≡ cut.delay = fb.delay_is in
-          let later_a : (m n : ℕ) → 0 < hop a m n = λ m n. subst (λ (k : ℕ). 0 < k) (sym delay_a) (later m n) in
-          let later_b : (m n : ℕ) → 0 < hop b m n = λ m n. subst (λ (k : ℕ). 0 < k) (sym delay_b) (later m n) in
+          let later_a : (m n : ℕ) → 0 < hop a m n = λ m n. subst (λ (h : ℕ → ℕ → ℕ). 0 < h m n) (sym (hop_same a cut delay_a)) (later m n) in
+          let later_b : (m n : ℕ) → 0 < hop b m n = λ m n. subst (λ (h : ℕ → ℕ → ℕ). 0 < h m n) (sym (hop_same b cut delay_b)) (later m n) in
           let sound_a = sound_step kind law (live kind cut) some later (sound_live kind cut sound) in
           let sound_b = sound_step kind law cut some later sound in
           let ia = run_live_by kind law most a until (omega arith) some_a later_a sound_a in

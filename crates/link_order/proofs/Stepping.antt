@@ -5,7 +5,7 @@ use Rattle.std.proofs.lemmas.List.{get_or-set_same, get_or-set_other, map-set, l
 use Rattle.std.proofs.Math.ListN.{length-set}
 use Rattle.link_node.specs.declared.signal.Incoming.{Incoming}
 use Rattle.link_order.specs.Steps.{Steps, IsLawful}
-use Rattle.link_order.specs.Cut.{Cut, count, clock_at, was_at}
+use Rattle.link_order.specs.Cut.{Cut, hop, count, clock_at, was_at}
 use Rattle.link_order.specs.GlobalOrder.{stepped, stepped_from, joined}
 use Rattle.link_order.proofs.Numbers.{put, put_same, put_other, same_or_apart}
 
@@ -32,6 +32,12 @@ get_or-put xs i y k below =
       | inl same ↦ rw same (get_or-set_same xs i y 0 below ∙ sym (put_same i y (λ j. get_or xs j 0)))
       | inr apart ↦ get_or-set_other xs i k y 0 apart ∙ sym (put_other i k y (λ j. get_or xs j 0) apart)
     ]
+
+-- the delays go by the cut's delay alone. No other proof knows what `hop` looks at
+pub hop_same : {C : Type 0} (d e : Cut C) → d.delay ≡ e.delay → hop d ≡ hop e
+hop_same d e same =
+    let make : ℕ → ℕ → ℕ → ℕ = λ n j i. n in
+    ap make same
 
 -- the cut after console x of player i has made a step
 abbrev pub after_step : {C : Type 0} → Steps C → Cut C → ℕ → C → List Incoming → Cut C

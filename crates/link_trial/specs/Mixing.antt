@@ -3,7 +3,6 @@ use Rattle.std.proofs.Common.{arith}
 use Rattle.link_node.specs.declared.signal.Incoming.{Incoming}
 use Rattle.link_node.specs.declared.signal.LinkMode.TheVariants.{Multi}
 use Rattle.link_node.specs.declared.signal.Signal.{Signal}
-use Rattle.link_node.specs.declared.signal.Start.{Start}
 use Rattle.link_node.specs.Due.{HasSpeed}
 
 -- a node for tests: a number that mixes into itself each signal that it takes

@@ -1,5 +1,5 @@
 use Rattle.std.proofs.Common.{ℕ, ◌≡◌, ◌<◌, arith, ap, sym, ◌∙◌, subst, get_or}
-use Rattle.std.specs.Prelude.{List, length, map, slice_index}
+use Rattle.std.specs.Prelude.{List, map, slice_index}
 use Rattle.link_core.proofs.Readings.{read-node, read-bound}
 use Rattle.link_trial.specs.declared.mixer.Mixer.{Mixer}
 use Rattle.link_trial.specs.Mixing.{Mixed}
