@@ -1,44 +1,34 @@
 -- What the reads of a run give, and what their refusals say of its outcome.
-use Rattle.std.proofs.Common.{◌≡◌, ◌⊎◌, ℕ, ◌<◌, ◌≤◌, true, false, List, ◌∷◌, length, take, Some, None, Result, Ok, Err, refl, sym, ap, ◌∙◌, inl, inr, arith}
+use Rattle.std.proofs.Common.{◌≡◌, ◌⊎◌, ℕ, ◌<◌, ◌≤◌, true, false, List, length, take, Some, Result, Ok, Err, refl, sym, ap, ◌∙◌, inl, inr, arith}
 use Rattle.std.specs.Prelude.{nat_lt, nat_eq}
 use Rattle.std.proofs.lemmas.Bool.{cases_lt}
 use Rattle.std.proofs.lemmas.List.{take_all, length-take-le}
 use Rattle.gba_store.specs.Files.{Files, IsFront}
+use Rattle.gba_store.specs.declared.outside.ReadError.{ReadError}
+use Rattle.gba_store.specs.declared.outside.ReadError.TheVariants as error
 use Rattle.gba_link.specs.declared.refusal.Refusal.{Refusal}
 use Rattle.gba_link.specs.declared.refusal.Refusal.TheVariants as refusal
 use Rattle.gba_link.specs.Words.{Command}
 use Rattle.gba_link.specs.JobForm.{Job, job_of, longest_job}
-use Rattle.gba_link.specs.Outcome.{Cause, Absent, from_image, from_job, job_in, job_or_form}
-use Rattle.gba_link.specs.Answer.{IsAmong}
-use Rattle.gba_link.specs.Refusals.{IsRefusedBy, IsReadRefusal, Agrees, IsCounted}
+use Rattle.gba_link.specs.Outcome.{Cause, from_image, from_job, job_in, job_or_form}
+use Rattle.gba_link.specs.Refusals.{IsRefusedBy, Agrees}
 
--- a refusal by one outcome is one by another that has the same causes, over more reads
-pub refused-weaker : {X Y : Type 0} (o : Result X Cause) (p : Result Y Cause) (reads more : List (List ℕ)) (r : Refusal)
-    → ((cause : Cause) → o ≡ Err cause → p ≡ Err cause) → ((name : List ℕ) → IsAmong name reads → IsAmong name more)
-    → IsRefusedBy o reads r → IsRefusedBy p more r
-refused-weaker o p reads more refusal.Words causes names h = causes _ h
-refused-weaker o p reads more (refusal.Absent name) causes names h = causes _ h
-refused-weaker o p reads more (refusal.StoreFault name) causes names h = names name.items h
-refused-weaker o p reads more refusal.Form causes names h = causes _ h
-refused-weaker o p reads more (refusal.Image name) causes names h = causes _ h
-refused-weaker o p reads more (refusal.Unbuilt instruction) causes names h = causes _ h
-refused-weaker o p reads more refusal.Memory causes names h = tt
+-- a refusal by one outcome is one by another that has the same causes, and stops at the same reads
+pub refused-weaker : {X Y : Type 0} (o : Result X Cause) (p : Result Y Cause) (Stops More : ReadError → List ℕ → Type 0) (r : Refusal)
+    → ((cause : Cause) → o ≡ Err cause → p ≡ Err cause) → ((refused : ReadError) (name : List ℕ) → Stops refused name → More refused name)
+    → IsRefusedBy o Stops r → IsRefusedBy p More r
+refused-weaker o p Stops More refusal.Words causes more h = causes _ h
+refused-weaker o p Stops More (refusal.Absent name) causes more h = (causes _ h.0, more error.Absent name.items h.1)
+refused-weaker o p Stops More (refusal.StoreFault name) causes more h = more error.Failed name.items h
+refused-weaker o p Stops More refusal.Form causes more h = causes _ h
+refused-weaker o p Stops More (refusal.Image name) causes more h = causes _ h
+refused-weaker o p Stops More (refusal.Unbuilt instruction) causes more h = causes _ h
+refused-weaker o p Stops More refusal.Memory causes more h = tt
 
-pub agrees-weaker : {X Y : Type 0} (view : X → Y) (o p : Result Y Cause) (reads more : List (List ℕ)) (result : Result X Refusal)
-    → o ≡ p → ((name : List ℕ) → IsAmong name reads → IsAmong name more) → Agrees view o reads result → Agrees view p more result
-agrees-weaker view o p reads more (Ok x) same names h = sym same ∙ h
-agrees-weaker view o p reads more (Err r) same names h = refused-weaker o p reads more r (λ cause e. sym same ∙ e) names h
-
--- a refused read of the next file
-pub refused-read : {X : Type 0} (files : Files) (name : List ℕ) (o : Result X Cause) (more : List (List ℕ)) (r : Refusal)
-    → (files name ≡ None → o ≡ Err (Absent name)) → IsReadRefusal files name r → IsRefusedBy o (name ∷ more) r
-refused-read files name o more refusal.Words absent h = absurd h
-refused-read files name o more (refusal.Absent other) absent h = absent h.1 ∙ ap (λ n. Err (Absent n)) (sym h.0)
-refused-read files name o more (refusal.StoreFault other) absent h = inl h
-refused-read files name o more refusal.Form absent h = absurd h
-refused-read files name o more (refusal.Image other) absent h = absurd h
-refused-read files name o more (refusal.Unbuilt instruction) absent h = absurd h
-refused-read files name o more refusal.Memory absent h = tt
+pub agrees-weaker : {X Y : Type 0} (view : X → Y) (o p : Result Y Cause) (Stops More : ReadError → List ℕ → Type 0) (result : Result X Refusal)
+    → o ≡ p → ((refused : ReadError) (name : List ℕ) → Stops refused name → More refused name) → Agrees view o Stops result → Agrees view p More result
+agrees-weaker view o p Stops More (Ok x) same more h = sym same ∙ h
+agrees-weaker view o p Stops More (Err r) same more h = refused-weaker o p Stops More r (λ cause e. sym same ∙ e) more h
 
 unequal : (m n : ℕ) → m < n → nat_eq n m ≡ false
 unequal m n h = grind arith
@@ -86,13 +76,3 @@ job-read files command bytes front =
 -- the outcome of a job that is refused, and of one that isn't
 pub from_job-refused : (files : Files) (command : Command) (j : Result Job Cause) (cause : Cause) → j ≡ Err cause → from_job files command j ≡ Err cause
 from_job-refused files command j cause e = ap (from_job files command) e
-
--- a function that never blames the store counts nothing
-pub counted-any : (absence fault : Type 0) (r : Refusal) → IsCounted ⊥ ⊥ r → IsCounted absence fault r
-counted-any absence fault refusal.Words h = tt
-counted-any absence fault (refusal.Absent name) h = absurd h
-counted-any absence fault (refusal.StoreFault name) h = absurd h
-counted-any absence fault refusal.Form h = tt
-counted-any absence fault (refusal.Image name) h = tt
-counted-any absence fault (refusal.Unbuilt instruction) h = tt
-counted-any absence fault refusal.Memory h = tt

@@ -1,12 +1,7 @@
-use Rattle.std.specs.Prelude.{◌≡◌, ◌⊎◌, ℕ, List, [], ◌∷◌, Result, Ok, Err}
+use Rattle.std.specs.Prelude.{◌≡◌, ◌⊎◌, ℕ, List, Result, Ok, Err}
 use Rattle.gba_store.specs.Files.{Rose}
 use Rattle.gba_link.specs.Outcome.{Cause, Words, Absent, Form, Image, Unbuilt, Finished, status_of, report_of, store_report, sink_report, memory_report}
 use Rattle.gba_link.specs.Writing.{Call, writes, SinkState, Reported, DoesAll, FailsAt, LacksAt}
-
--- the name is one of these
-abbrev pub IsAmong : List ℕ → List (List ℕ) → Type 0
-IsAmong name [] = ⊥
-IsAmong name (other ∷ others) = (name ≡ other) ⊎ IsAmong name others
 
 -- What a call of the program answers, and what it does to the sink. `Tells` says whether the sink tells its files;
 -- what stands behind it is said only then.
@@ -35,35 +30,40 @@ module _ (Tells : Type 0) (status : ℕ) (old new : SinkState) where
       (status ≡ 10) × Rose old.wants new.wants
       × (Tells → (mid : SinkState) × LacksAt calls old.files mid.files × Reported memory_report mid new)
 
--- The same with what the store did: `AbsenceRose` and `FaultRose` say that its counts rose in the call.
-module _ (Tells : Type 0) (status : ℕ) (AbsenceRose FaultRose : Type 0) (old new : SinkState) where
-  abbrev pub RefusesFor : Cause → Type 0
-  RefusesFor (Absent name) = AbsenceRose × Refuses Tells status old new 3 (report_of (Absent name))
-  RefusesFor Words = Refuses Tells status old new (status_of Words) (report_of Words)
-  RefusesFor Form = Refuses Tells status old new (status_of Form) (report_of Form)
-  RefusesFor (Image name) = Refuses Tells status old new (status_of (Image name)) (report_of (Image name))
-  RefusesFor (Unbuilt refusal) = Refuses Tells status old new (status_of (Unbuilt refusal)) (report_of (Unbuilt refusal))
+  -- refused as the words and the files say
+  abbrev pub RefusesAs : Cause → Type 0
+  RefusesAs cause = Refuses (status_of cause) (report_of cause)
 
-  -- a file that was to be read next wasn't, for a fault of the store
-  abbrev pub StoreFails : List (List ℕ) → Type 0
-  StoreFails reads = (name : List ℕ) × IsAmong name reads × FaultRose × Refuses Tells status old new 4 (store_report name)
+  -- What is left to answer where no count of faults or absences rose: the run is finished, or refused as the words and
+  -- the files say; or memory was wanting, before anything was written or in a call of the sink.
+  abbrev pub Completes : Result Finished Cause → Type 0
+  Completes (Ok run) = Finishes (writes run) ⊎ SinkLacks (writes run) ⊎ LacksMemory
+  Completes (Err (Absent name)) = LacksMemory
+  Completes (Err Words) = RefusesAs Words ⊎ LacksMemory
+  Completes (Err Form) = RefusesAs Form ⊎ LacksMemory
+  Completes (Err (Image name)) = RefusesAs (Image name) ⊎ LacksMemory
+  Completes (Err (Unbuilt refusal)) = RefusesAs (Unbuilt refusal) ⊎ LacksMemory
+
+-- The same with what the store did: of a name, that its file was to be read next and wasn't there (`FindsNone`), or
+-- couldn't be read (`FailsToRead`).
+module _ (Tells : Type 0) (status : ℕ) (FindsNone FailsToRead : List ℕ → Type 0) (old new : SinkState) where
+  abbrev pub RefusesFor : Cause → Type 0
+  RefusesFor (Absent name) = FindsNone name × RefusesAs Tells status old new (Absent name)
+  RefusesFor Words = RefusesAs Tells status old new Words
+  RefusesFor Form = RefusesAs Tells status old new Form
+  RefusesFor (Image name) = RefusesAs Tells status old new (Image name)
+  RefusesFor (Unbuilt refusal) = RefusesAs Tells status old new (Unbuilt refusal)
+
+  -- a fault of the store in the read of the next file
+  abbrev pub StoreFails : Type 0
+  StoreFails = (name : List ℕ) × FailsToRead name × Refuses Tells status old new 4 (store_report name)
 
   -- The table of statuses: what is answered for an outcome, with what is written, and why.
-  abbrev pub Answer : Result Finished Cause → List (List ℕ) → Type 0
-  Answer (Ok run) reads =
+  abbrev pub Answer : Result Finished Cause → Type 0
+  Answer (Ok run) =
       Finishes Tells status old new (writes run)
       ⊎ SinkFails Tells status old new (writes run)
       ⊎ SinkLacks Tells status old new (writes run)
-      ⊎ StoreFails reads
+      ⊎ StoreFails
       ⊎ LacksMemory Tells status old new
-  Answer (Err cause) reads = RefusesFor cause ⊎ StoreFails reads ⊎ LacksMemory Tells status old new
-
-  -- What is left to answer where no count of faults or absences rose: the run is finished, or refused as the files
-  -- say; or memory was wanting, before anything was written or in a call of the sink.
-  abbrev pub Completes : Result Finished Cause → Type 0
-  Completes (Ok run) = Finishes Tells status old new (writes run) ⊎ SinkLacks Tells status old new (writes run) ⊎ LacksMemory Tells status old new
-  Completes (Err (Absent name)) = LacksMemory Tells status old new
-  Completes (Err Words) = RefusesFor Words ⊎ LacksMemory Tells status old new
-  Completes (Err Form) = RefusesFor Form ⊎ LacksMemory Tells status old new
-  Completes (Err (Image name)) = RefusesFor (Image name) ⊎ LacksMemory Tells status old new
-  Completes (Err (Unbuilt refusal)) = RefusesFor (Unbuilt refusal) ⊎ LacksMemory Tells status old new
+  Answer (Err cause) = RefusesFor cause ⊎ StoreFails ⊎ LacksMemory Tells status old new

@@ -1,9 +1,10 @@
-use Rattle.std.specs.Prelude.{◌≡◌, ℕ, List, None, Result, Ok, Err}
+use Rattle.std.specs.Prelude.{◌≡◌, ℕ, List, Option, Some, None, Result, Ok, Err}
 use Rattle.gba_store.specs.Files.{Files}
+use Rattle.gba_store.specs.declared.outside.ReadError.{ReadError}
+use Rattle.gba_store.specs.declared.outside.ReadError.TheVariants as error
 use Rattle.gba_link.specs.declared.refusal.Refusal.{Refusal}
 use Rattle.gba_link.specs.declared.refusal.Refusal.TheVariants as refusal
 use Rattle.gba_link.specs.Outcome.{Cause, Words, Absent, Form, Image, Unbuilt, report_of, store_report, memory_report}
-use Rattle.gba_link.specs.Answer.{IsAmong}
 
 -- the status and the report of a refusal before anything is written
 abbrev pub refusal_status : Refusal → ℕ
@@ -24,20 +25,24 @@ refusal_report refusal.Memory = memory_report
 refusal_report refusal.Form = report_of Form
 refusal_report (refusal.Unbuilt instruction) = report_of (Unbuilt instruction)
 
--- A refusal that the outcome gives; or a fault of the store, on a file that is read; or want of memory.
-abbrev pub IsRefusedBy : {X : Type 0} → Result X Cause → List (List ℕ) → Refusal → Type 0
-IsRefusedBy o reads refusal.Words = o ≡ Err Words
-IsRefusedBy o reads (refusal.Absent name) = o ≡ Err (Absent name.items)
-IsRefusedBy o reads (refusal.StoreFault name) = IsAmong name.items reads
-IsRefusedBy o reads (refusal.Image name) = o ≡ Err (Image name.items)
-IsRefusedBy o reads refusal.Memory = Unit {0}
-IsRefusedBy o reads refusal.Form = o ≡ Err Form
-IsRefusedBy o reads (refusal.Unbuilt instruction) = o ≡ Err (Unbuilt instruction)
+-- no read is refused
+abbrev pub NeverStops : ReadError → List ℕ → Type 0
+NeverStops refusal name = ⊥
+
+-- A refusal that the outcome gives; or a fault of the store; or want of memory. `Stops` says at which read, and how.
+abbrev pub IsRefusedBy : {X : Type 0} → Result X Cause → (ReadError → List ℕ → Type 0) → Refusal → Type 0
+IsRefusedBy o Stops refusal.Words = o ≡ Err Words
+IsRefusedBy o Stops (refusal.Absent name) = (o ≡ Err (Absent name.items)) × Stops error.Absent name.items
+IsRefusedBy o Stops (refusal.StoreFault name) = Stops error.Failed name.items
+IsRefusedBy o Stops (refusal.Image name) = o ≡ Err (Image name.items)
+IsRefusedBy o Stops refusal.Memory = Unit {0}
+IsRefusedBy o Stops refusal.Form = o ≡ Err Form
+IsRefusedBy o Stops (refusal.Unbuilt instruction) = o ≡ Err (Unbuilt instruction)
 
 -- what a function returned, seen by `view`, is the outcome, or is refused by it
-abbrev pub Agrees : {X Y : Type 0} → (X → Y) → Result Y Cause → List (List ℕ) → Result X Refusal → Type 0
-Agrees view o reads (Ok x) = o ≡ Ok (view x)
-Agrees view o reads (Err refusal) = IsRefusedBy o reads refusal
+abbrev pub Agrees : {X Y : Type 0} → (X → Y) → Result Y Cause → (ReadError → List ℕ → Type 0) → Result X Refusal → Type 0
+Agrees view o Stops (Ok x) = o ≡ Ok (view x)
+Agrees view o Stops (Err refusal) = IsRefusedBy o Stops refusal
 
 -- the counts of the store rose where the refusal says so
 abbrev pub IsCounted : Type 0 → Type 0 → Refusal → Type 0
@@ -49,15 +54,15 @@ IsCounted absence_rose fault_rose refusal.Memory = Unit {0}
 IsCounted absence_rose fault_rose refusal.Form = Unit {0}
 IsCounted absence_rose fault_rose (refusal.Unbuilt instruction) = Unit {0}
 
--- why the read of a file was refused
-abbrev pub IsReadRefusal : Files → List ℕ → Refusal → Type 0
-IsReadRefusal files name refusal.Words = ⊥
-IsReadRefusal files name (refusal.Absent other) = (other.items ≡ name) × (files name ≡ None)
-IsReadRefusal files name (refusal.StoreFault other) = other.items ≡ name
-IsReadRefusal files name (refusal.Image other) = ⊥
-IsReadRefusal files name refusal.Memory = Unit {0}
-IsReadRefusal files name refusal.Form = ⊥
-IsReadRefusal files name (refusal.Unbuilt instruction) = ⊥
+-- why the read of a file was refused; `Reads` is what the store says of this read
+abbrev pub IsReadRefusal : Files → List ℕ → (Option ReadError → Type 0) → Refusal → Type 0
+IsReadRefusal files name Reads refusal.Words = ⊥
+IsReadRefusal files name Reads (refusal.Absent other) = (other.items ≡ name) × (files name ≡ None) × Reads (Some error.Absent)
+IsReadRefusal files name Reads (refusal.StoreFault other) = (other.items ≡ name) × Reads (Some error.Failed)
+IsReadRefusal files name Reads (refusal.Image other) = ⊥
+IsReadRefusal files name Reads refusal.Memory = Unit {0}
+IsReadRefusal files name Reads refusal.Form = ⊥
+IsReadRefusal files name Reads (refusal.Unbuilt instruction) = ⊥
 
 -- it isn't the words
 abbrev pub IsNotWords : Refusal → Type 0

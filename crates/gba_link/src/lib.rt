@@ -5,11 +5,13 @@ ghost use Rattle.std.specs.Prelude.{◌≡◌, ◌≢◌, map, MatchOption, stri
 ghost use Rattle.gba_store.specs.Files.{Rose};
 ghost use Rattle.gba_link.specs.Answer.{Answer, Completes};
 ghost use Rattle.gba_link.specs.Outcome.{outcome, reads};
+ghost use Rattle.gba_link.specs.Reading.{FailsToRead, FindsNone};
 ghost use Rattle.gba_link.specs.Words.{command_of};
 ghost use Rattle.gba_link.specs.Writing.{sink_state};
 
 mod finished;
 mod job;
+pub mod laws;
 mod line;
 mod output;
 mod refusal;
@@ -48,16 +50,15 @@ pub fn gba_link<R: Threads + Sync, S: Store, O: Sink, G: Gate + Sync>(
     _gate: &G,
 ) -> u8
     // With a store that tells its files: the status, what is written, and why.
-    ensures answer { S.Tells → Answer O.Tells result
-        (Rose (S.absences store.old) (S.absences store.new)) (Rose (S.faults store.old) (S.faults store.new))
+    ensures answer { S.Tells → let names = reads (S.files store.old) (map string_bytes words.now) in Answer O.Tells result
+        (FindsNone S.Reads S.absences names store.old store.new) (FailsToRead S.Reads S.faults names store.old store.new)
         (sink_state (O.files out.old) (O.faults out.old) (O.wants out.old)) (sink_state (O.files out.new) (O.faults out.new) (O.wants out.new))
-        (outcome (S.files store.old) (map string_bytes words.now)) (reads (S.files store.old) (map string_bytes words.now)) }
+        (outcome (S.files store.old) (map string_bytes words.now)) }
     // And where no count of faults or absences rose, it completes.
     ensures complete { S.Tells
         → (Rose (S.absences store.old) (S.absences store.new) → ⊥) → (Rose (S.faults store.old) (S.faults store.new) → ⊥)
         → (Rose (O.faults out.old) (O.faults out.new) → ⊥)
         → Completes O.Tells result
-        (Rose (S.absences store.old) (S.absences store.new)) (Rose (S.faults store.old) (S.faults store.new))
         (sink_state (O.files out.old) (O.faults out.old) (O.wants out.old)) (sink_state (O.files out.new) (O.faults out.new) (O.wants out.new))
         (outcome (S.files store.old) (map string_bytes words.now)) }
     // With any store and sink.

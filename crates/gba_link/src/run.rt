@@ -1,11 +1,12 @@
 //! From the words and the files to what a run writes.
 
-ghost use Rattle.std.specs.Prelude.{◌≡◌, ◌≤◌, ◌^◌, ◌++◌, [], ◌∷◌, Ok, Err, Some, map, MatchOption, MatchResult, IsErrOf, IfOk, IfErr, IfSome, length, codes, string_bytes, string_len};
+ghost use Rattle.std.specs.Prelude.{◌≡◌, ◌≤◌, ◌^◌, ◌++◌, [], ◌∷◌, Ok, Err, Some, None, map, MatchOption, MatchResult, IsErrOf, IfOk, IfErr, IfSome, OnOk, length, codes, string_bytes, string_len};
 ghost use Rattle.gba_store.specs.Files.{IsFront, Rose};
 ghost use Rattle.gba_console.specs.Run.{run_to};
 ghost use Rattle.gba_link.specs.JobForm.{job_of as job_said};
 ghost use Rattle.gba_link.specs.Outcome.{from_image, from_command, job_or_form, state_name as state_name_of, outcome, reads, reads_of_command};
-ghost use Rattle.gba_link.specs.Refusals.{Agrees, IsCounted, IsReadRefusal, IsNotWords};
+ghost use Rattle.gba_link.specs.Reading.{StopsAt};
+ghost use Rattle.gba_link.specs.Refusals.{Agrees, IsCounted, IsReadRefusal, IsNotWords, NeverStops};
 ghost use Rattle.gba_link.specs.Words.{Command, command_of as command_said};
 ghost use Rattle.gba_link.specs.Views.{command_value, job_value, finished_value};
 
@@ -28,7 +29,8 @@ fn read_file<S: Store>(
     requires { length name.now ≤ 200 }
     ensures files { S.Tells → S.files store.new ≡ S.files store.old }
     ensures read { S.Tells → IfOk result (λ bytes. IsFront (S.files store.old) name.now most bytes.items) }
-    ensures refused { S.Tells → IfErr result (IsReadRefusal (S.files store.old) name.now) }
+    ensures given { OnOk result (S.Reads name.now None store.old store.new) }
+    ensures refused { S.Tells → IfErr result (IsReadRefusal (S.files store.old) name.now (λ refusal. S.Reads name.now refusal store.old store.new)) }
     ensures counted { IfErr result (IsCounted (Rose (S.absences store.old) (S.absences store.new)) (Rose (S.faults store.old) (S.faults store.new))) }
     ensures not_words { IfErr result IsNotWords }
     ensures later_absences { S.absences store.old ≤ S.absences store.new }
@@ -49,7 +51,7 @@ fn accepted_job<'a>(
     bytes: &'a [u8],
 ) -> Result<JobText<'a>, Refusal>
     requires { state_name.now ≡ state_name_of command.now.out.now }
-    ensures agrees { Agrees job_value (job_or_form (command_value command.now) (job_said bytes.now)) [] result }
+    ensures agrees { Agrees job_value (job_or_form (command_value command.now) (job_said bytes.now)) NeverStops result }
     ensures not_words { IfErr result IsNotWords }
     ensures bounded { IfOk result (λ job. (length job.bios.now ≤ 200) × (job.cycles ≤ 2 ^ 31)) }
 {
@@ -89,7 +91,7 @@ fn run_image(
     requires named { string_len state_name ≤ 200 }
     requires bounded { (length job.now.bios.now ≤ 200) × (job.now.cycles ≤ 2 ^ 31) }
     ensures agrees { (command : Command) → string_bytes state_name ≡ state_name_of command.out
-        → Agrees finished_value (from_image command (job_value job.now) (Some image.items)) [] result }
+        → Agrees finished_value (from_image command (job_value job.now) (Some image.items)) NeverStops result }
     ensures own { IfErr result (IsCounted ⊥ ⊥) }
     ensures not_words { IfErr result IsNotWords }
 {
@@ -124,7 +126,8 @@ fn run_job<S: Store>(
     requires named { string_len state_name ≤ 200 }
     requires bounded { (length job.now.bios.now ≤ 200) × (job.now.cycles ≤ 2 ^ 31) }
     ensures agrees { S.Tells → (command : Command) → string_bytes state_name ≡ state_name_of command.out
-        → Agrees finished_value (from_image command (job_value job.now) (S.files store.old job.now.bios.now)) (job.now.bios.now ∷ []) result }
+        → Agrees finished_value (from_image command (job_value job.now) (S.files store.old job.now.bios.now))
+        (StopsAt S.Reads (job.now.bios.now ∷ []) store.old store.new) result }
     ensures counted { IfErr result (IsCounted (Rose (S.absences store.old) (S.absences store.new)) (Rose (S.faults store.old) (S.faults store.new))) }
     ensures not_words { IfErr result IsNotWords }
     ensures later_absences { S.absences store.old ≤ S.absences store.new }
@@ -142,7 +145,7 @@ pub(crate) fn run_command<S: Store>(
 ) -> Result<FinishedRun, Refusal>
     requires { (length command.now.job.now ≤ 200) × (length command.now.out.now ≤ 180) }
     ensures agrees { S.Tells → Agrees finished_value (from_command (S.files store.old) (Some (command_value command.now)))
-        (reads_of_command (S.files store.old) (Some (command_value command.now))) result }
+        (StopsAt S.Reads (reads_of_command (S.files store.old) (Some (command_value command.now))) store.old store.new) result }
     ensures counted { IfErr result (IsCounted (Rose (S.absences store.old) (S.absences store.new)) (Rose (S.faults store.old) (S.faults store.new))) }
     ensures not_words { IfErr result IsNotWords }
     ensures later_absences { S.absences store.old ≤ S.absences store.new }
@@ -163,7 +166,8 @@ pub(crate) fn run_words<S: Store>(
     store: &mut S,
     words: &[String],
 ) -> Result<FinishedRun, Refusal>
-    ensures agrees { S.Tells → Agrees finished_value (outcome (S.files store.old) (map string_bytes words.now)) (reads (S.files store.old) (map string_bytes words.now)) result }
+    ensures agrees { S.Tells → Agrees finished_value (outcome (S.files store.old) (map string_bytes words.now))
+        (StopsAt S.Reads (reads (S.files store.old) (map string_bytes words.now)) store.old store.new) result }
     ensures words { MatchOption (command_said (map string_bytes words.now)) (IsErrOf result Refusal.Words) (λ _. IfErr result IsNotWords) }
     ensures counted { IfErr result (IsCounted (Rose (S.absences store.old) (S.absences store.new)) (Rose (S.faults store.old) (S.faults store.new))) }
 {

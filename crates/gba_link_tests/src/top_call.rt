@@ -190,11 +190,19 @@ fn images_are_judged(rt: HostRuntime) -> Result<(), Fail> {
     Ok(())
 }
 
+/// Numbers of reads that fail, and the report: it names the file that was to be read next, and no read follows.
+const FAILING_READS: [(&[u64], &str); 4] = [
+    (&[1], "store j\n"),
+    (&[2], "store b\n"),
+    (&[1, 2], "store j\n"),
+    (&[3, 2], "store b\n"),
+];
+
 /// The reads, creates and appends that fail. A failed create leaves no file, and a failed append half of its piece.
 #[test]
 fn failing_calls_are_told(rt: HostRuntime) -> Result<(), Fail> {
     let alloc = rt.alloc();
-    for (failing_reads, report) in [(&[1], "store j\n"), (&[2], "store b\n")] {
+    for (failing_reads, report) in FAILING_READS {
         let case = Case {
             failing_reads,
             status: 4,

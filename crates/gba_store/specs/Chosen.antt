@@ -1,5 +1,5 @@
 use Rattle.std.specs.List.{list_any}
-use Rattle.std.specs.Prelude.{◌≡◌, ℕ, ◌+◌, ◌-◌, ◌^◌, ◌==◌, Bool, min, List, Option, Some, None, Result, Ok, Err, length, take, ◌/◌, if◌then◌else◌}
+use Rattle.std.specs.Prelude.{◌≡◌, ℕ, ◌+◌, ◌-◌, ◌^◌, ◌==◌, Bool, min, List, Option, Some, None, length, take, ◌/◌, if◌then◌else◌}
 use Rattle.gba_store.specs.Files.{Files}
 use Rattle.gba_store.specs.Memory.{Memory, held, told}
 use Rattle.gba_store.specs.declared.memory.MemorySink.{MemorySink}
@@ -14,19 +14,28 @@ next_number made = min (made + 1) (2 ^ 64 - 1)
 abbrev pub is_chosen : List ℕ → ℕ → Bool
 is_chosen failing made = list_any (λ number. number == next_number made) failing
 
--- what a read of a store in memory gives, unless memory is wanting
-abbrev pub front_of : Option (List ℕ) → ℕ → Result (List ℕ) ReadError
-front_of None most = Err Absent
-front_of (Some all) most = Ok (take most all)
+-- a read finds its file, or is refused because there is none
+abbrev pub refusal_where : Option (List ℕ) → Option ReadError
+refusal_where None = Some Absent
+refusal_where (Some all) = None
 
-abbrev pub attempt : Memory → List ℕ → ℕ → Result (List ℕ) ReadError
-attempt store name most = if is_chosen store.failing store.reads then Err Failed else front_of (held store.files name) most
+-- why the next read of a name is to be refused, if it is
+abbrev pub refusal_due : Memory → List ℕ → Option ReadError
+refusal_due store name = if is_chosen store.failing store.reads then Some Failed else refusal_where (held store.files name)
 
--- a refusal that a read was to give; want of memory may come in any read
-abbrev pub Refuses : Result (List ℕ) ReadError → ReadError → Type 0
-Refuses given Absent = given ≡ Err Absent
-Refuses given Failed = given ≡ Err Failed
-Refuses given NoMemory = Unit {0}
+-- a refusal but for want of memory, which may come in any read that isn't to be refused
+abbrev pub but_memory : Option ReadError → Option ReadError
+but_memory None = None
+but_memory (Some Absent) = Some Absent
+but_memory (Some Failed) = Some Failed
+but_memory (Some NoMemory) = None
+
+-- a read of that name, refused so or not at all, took the store from the one state to the other
+pub record IsRead (name : List ℕ) (refusal : Option ReadError) (old new : Memory) : Type 0 where
+  pub due : but_memory refusal ≡ refusal_due old name
+  pub files : new.files ≡ old.files
+  pub failing : new.failing ≡ old.failing
+  pub reads : new.reads ≡ next_number old.reads
 
 -- the files in a sink in memory
 abbrev pub files_in : MemorySink → Files

@@ -1,7 +1,8 @@
 //! A store and a sink in memory, which tell their files. Calls that are to fail are chosen when they are made.
 
-ghost use Rattle.std.specs.Prelude.{◌≡◌, ◌≤◌, Some, None, Ok, false, option_map, take, IfOk, OnOk, OnErr, IsOk, IsErr, IsErrOf, IsTrue, MatchResult};
-ghost use Rattle.gba_store.specs.Chosen.{Counts, IsNewSink, Refuses, append_is_chosen, attempt, create_is_chosen, files_in, half, next_number};
+ghost use Rattle.std.specs.Prelude.{◌≡◌, ◌≤◌, Some, None, false, option_map, take, IfOk, OnOk, OnErr, IsOk, IsErr, IsErrOf, IsTrue, MatchResult};
+ghost use Rattle.std.specs.Result.{result_err};
+ghost use Rattle.gba_store.specs.Chosen.{Counts, IsNewSink, IsRead, append_is_chosen, create_is_chosen, files_in, half, next_number};
 ghost use Rattle.gba_store.specs.Files.{Written, Created, Appended, CreateFailed, AppendFailed, IsFront, Rose};
 ghost use Rattle.gba_store.specs.Memory.{held, told};
 
@@ -93,8 +94,11 @@ impl Store for MemoryStore {
 
     ghost absences = { λ store. store.absences };
 
+    ghost Reads = { IsRead };
+
     /// The chosen reads fail, and the others give what the files have, unless memory is wanting.
     fn read(&mut self, alloc: Global, name: &str, most: u64) -> Result<Vec<u8>, ReadError>
+        ensures read { IsRead name.now (result_err result) self.old self.new }
         ensures files { Unit {0} → held self.new.files ≡ held self.old.files }
         ensures bytes { Unit {0} → IfOk result (λ bytes. IsFront (held self.old.files) name.now most bytes.items) }
         ensures missing { Unit {0} → IsErrOf result ReadError.Absent → held self.old.files name.now ≡ None }
@@ -102,10 +106,6 @@ impl Store for MemoryStore {
         ensures failed { IsErrOf result ReadError.Failed → Rose self.old.faults self.new.faults }
         ensures later_absences { self.old.absences ≤ self.new.absences }
         ensures later_faults { self.old.faults ≤ self.new.faults }
-        ensures attempt { MatchResult result (λ bytes. attempt self.old name.now most ≡ Ok bytes.items)
-            (Refuses (attempt self.old name.now most)) }
-        ensures reads { self.new.reads ≡ next_number self.old.reads }
-        ensures chosen { self.new.failing ≡ self.old.failing }
     {
         self.reads = self.reads.saturating_add(1);
         if self.failing.contains(&self.reads) {

@@ -1,6 +1,7 @@
 //! The traits of a store, which gives files, and of a sink, which takes them.
 
-ghost use Rattle.std.specs.Prelude.{◌≡◌, ℕ, ◌≤◌, IfOk, IsErrOf, OnOk};
+ghost use Rattle.std.specs.Prelude.{◌≡◌, ℕ, ◌≤◌, List, Option, IfOk, IsErrOf, OnOk};
+ghost use Rattle.std.specs.Result.{result_err};
 ghost use Rattle.gba_store.specs.Files.{Files, Rose, IsFront, Created, Appended, CreateFailed, AppendFailed};
 
 use std::alloc::Global;
@@ -28,6 +29,8 @@ pub enum WriteError {
 /// Gives files by name. It may tell its files, and it counts its faults and the absences that it found. Neither
 /// count ever falls. This project's profile.
 pub trait Store {
+    ghost use Rattle.gba_store.specs.declared.outside.ReadError.{ReadError};
+
     /// Whether the files are told: a type with a value, or one with none.
     ghost Tells: { Type 0 };
 
@@ -37,8 +40,13 @@ pub trait Store {
 
     ghost absences: { Self → ℕ };
 
+    /// What a store says of a read: that a read of this name, refused so or not at all, took it from the one state to
+    /// the other. Contracts say by it which of several reads was refused, which the counts alone don't tell.
+    ghost Reads: { List ℕ → Option ReadError → Self → Self → Type 0 };
+
     /// The first `most` bytes of the file, or all of them where there are fewer.
     fn read(&mut self, alloc: Global, name: &str, most: u64) -> Result<Vec<u8>, ReadError>
+        ensures read { Reads name.now (result_err result) self.old self.new }
         ensures files { Tells → files self.new ≡ files self.old }
         ensures bytes { Tells → IfOk result (λ bytes. IsFront (files self.old) name.now most bytes.items) }
         ensures missing { Tells → IsErrOf result ReadError.Absent → files self.old name.now ≡ None }

@@ -45,6 +45,8 @@ impl<R: Files + Drop> Store for FileStore<R> {
 
     ghost absences = { λ store. store.absences };
 
+    ghost Reads = { λ _ _ _ _. Unit {0} };
+
     /// A file that the system doesn't find is absent. Every other refusal but want of memory is a fault.
     fn read(&mut self, alloc: Global, name: &str, most: u64) -> Result<Vec<u8>, ReadError> {
         let error = match read_front(&self.runtime, alloc, name, most) {

@@ -2,7 +2,8 @@ use Rattle.std.proofs.Common.{◌≡◌, [], ◌∷◌, Ok, sym, ap, ◌∙◌, 
 use Rattle.std.proofs.lemmas.Result.{err_from_is_err_and}
 use Rattle.gba_link.specs.JobForm.{job_of}
 use Rattle.gba_link.specs.Outcome.{from_image, from_job, job_in, job_or_form, reads_of_job}
-use Rattle.gba_link.specs.Answer.{IsAmong}
+use Rattle.gba_link.specs.Reading.{StopsAt}
+use Rattle.gba_link.specs.Refusals.{NeverStops}
 use Rattle.gba_link.specs.Views.{command_value, job_value, finished_value}
 use Rattle.gba_link.proofs.Reading.{agrees-weaker, refused-weaker, job-read, from_job-refused}
 use Rattle.gba_link.proofs.run.run_command.Goals as goal
@@ -15,10 +16,10 @@ returns-in_err-job-clause-agrees g c = λ tells.
     let read = job-read files command bytes (c.in_ok-bytes.ensures.read tells) in
     let p = err_from_is_err_and c.from_residual-in_err-job.result c.from_residual-in_err-job.ensures.1 in
     rw (p.1, p.2)
-    (refused-weaker (job_or_form command (job_of bytes)) (from_job files command (job_in command (files command.job))) []
-    (command.job ∷ reads_of_job (job_in command (files command.job))) _
+    (refused-weaker (job_or_form command (job_of bytes)) (from_job files command (job_in command (files command.job))) NeverStops
+    (StopsAt g.S.Store.Reads (command.job ∷ reads_of_job (job_in command (files command.job))) c.args.store.now c.read_file.new.store) _
     (λ cause e. from_job-refused files command (job_in command (files command.job)) cause (sym read ∙ e))
-    (λ name none. absurd none) (rw c.as_slice.ensures.value at c.in_err-job.ensures.agrees))
+    (λ refused name none. absurd none) (rw c.as_slice.ensures.value at c.in_err-job.ensures.agrees))
 
 pub returns-clause-agrees : goal.returns-clause-agrees
 returns-clause-agrees g c = λ tells.
@@ -28,8 +29,12 @@ returns-clause-agrees g c = λ tells.
     let job = job_value c.in_ok-job.job in
     let read = job-read files command bytes (c.in_ok-bytes.ensures.read tells) in
     let accepted : job_in command (files command.job) ≡ Ok job = sym read ∙ (rw c.as_slice.ensures.value at c.in_ok-job.ensures.agrees) in
-    agrees-weaker finished_value (from_image command job (files job.bios)) (from_job files command (job_in command (files command.job))) (job.bios ∷ [])
-    (command.job ∷ reads_of_job (job_in command (files command.job))) c.run_job.result
+    let Reads = g.S.Store.Reads in
+    let mid = c.read_file.new.store in
+    let new = c.run_job.new.store in
+    agrees-weaker finished_value (from_image command job (files job.bios)) (from_job files command (job_in command (files command.job)))
+    (StopsAt Reads (job.bios ∷ []) mid new)
+    (StopsAt Reads (command.job ∷ reads_of_job (job_in command (files command.job))) c.args.store.now new) c.run_job.result
     (sym (ap (from_job files command) accepted))
-    (λ name h. inr (subst (λ r. IsAmong name (reads_of_job r)) (sym accepted) h))
+    (λ refused name h. inr (mid, c.in_ok-bytes.ensures.given, subst (λ r. StopsAt Reads (reads_of_job r) mid new refused name) (sym accepted) h))
     (rw (c.in_ok-bytes.ensures.files tells) at (c.run_job.ensures.agrees tells command (search rules)))
