@@ -32,8 +32,8 @@ use std::thread::Threads;
 /// |---|---|---|
 /// | 0 | the summary | the run is done and its file is written |
 /// | 2 | `words` | exactly where the words aren't `run JOB OUT` |
-/// | 3 | `absent NAME` | JOB or the BIOS image isn't there |
-/// | 4 | `store NAME` | the store failed |
+/// | 3 | `absent NAME` | JOB or the BIOS image, the next file to read, isn't there |
+/// | 4 | `store NAME` | the store failed in the read of the next file |
 /// | 6 | `image NAME BiosLength` | the BIOS image hasn't 16,384 bytes |
 /// | 9 | `sink NAME` | the sink failed |
 /// | 10 | `memory` | memory was wanting |

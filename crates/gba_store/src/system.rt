@@ -19,7 +19,10 @@ pub struct FileStore<R: Files + Drop> {
 
 impl<R: Files + Drop> FileStore<R> {
     /// A store with no fault and no absence yet.
-    pub fn new(runtime: R) -> FileStore<R> {
+    pub fn new(runtime: R) -> FileStore<R>
+        ensures no_fault { ⟦<FileStore<R> as Store>⟧.faults result ≡ 0 }
+        ensures no_absence { ⟦<FileStore<R> as Store>⟧.absences result ≡ 0 }
+    {
         FileStore {
             runtime,
             faults: 0,
@@ -78,7 +81,10 @@ pub struct StdSink<R: Files + Print + Drop> {
 
 impl<R: Files + Print + Drop> StdSink<R> {
     /// A sink with no fault and no want yet.
-    pub fn new(runtime: R) -> StdSink<R> {
+    pub fn new(runtime: R) -> StdSink<R>
+        ensures no_fault { ⟦<StdSink<R> as Sink>⟧.faults result ≡ 0 }
+        ensures no_want { ⟦<StdSink<R> as Sink>⟧.wants result ≡ 0 }
+    {
         StdSink {
             runtime,
             faults: 0,
