@@ -25,20 +25,25 @@ stopped Tells status calls old mid new (stop.Fault name) h is reported faults wa
 stopped Tells status calls old mid new stop.Memory h is reported faults wants =
     inr (inr (is, Rose-later old.wants mid.wants new.wants wants h.0, λ t. (mid, h.1 t, reported t)))
 
+-- the answer to an outcome, where the reads may have stopped at a file, and the counts may have risen
+abbrev pub Answers : Type 0 → ℕ → Type 0 → Type 0 → (ReadError → List ℕ → Type 0) → SinkState → SinkState → Result Finished Cause → Type 0
+Answers Tells status absence fault Stops old new o =
+    Answer Tells status (λ name. absence × Stops error.Absent name) (λ name. fault × Stops error.Failed name) old new o
+
 -- a refusal before anything was written
 pub refused : (Tells : Type 0) (status : ℕ) (absence fault : Type 0) (Stops : ReadError → List ℕ → Type 0) (old new : SinkState) (o : Result Finished Cause) (r : Refusal)
     → IsRefusedBy o Stops r → IsCounted absence fault r → status ≡ refusal_status r → (Tells → Reported (refusal_report r) old new)
-    → Answer Tells status (λ name. absence × Stops error.Absent name) (λ name. fault × Stops error.Failed name) old new o
+    → Answers Tells status absence fault Stops old new o
 refused Tells status absence fault Stops old new o refusal.Words h counted is reported =
-    subst (Answer Tells status (λ name. absence × Stops error.Absent name) (λ name. fault × Stops error.Failed name) old new) (sym h) (inl (is, reported))
+    subst (Answers Tells status absence fault Stops old new) (sym h) (inl (is, reported))
 refused Tells status absence fault Stops old new o (refusal.Absent name) h counted is reported =
-    subst (Answer Tells status (λ name. absence × Stops error.Absent name) (λ name. fault × Stops error.Failed name) old new) (sym h.0) (inl ((counted, h.1), (is, reported)))
+    subst (Answers Tells status absence fault Stops old new) (sym h.0) (inl ((counted, h.1), (is, reported)))
 refused Tells status absence fault Stops old new o (refusal.Image name) h counted is reported =
-    subst (Answer Tells status (λ name. absence × Stops error.Absent name) (λ name. fault × Stops error.Failed name) old new) (sym h) (inl (is, reported))
+    subst (Answers Tells status absence fault Stops old new) (sym h) (inl (is, reported))
 refused Tells status absence fault Stops old new o refusal.Form h counted is reported =
-    subst (Answer Tells status (λ name. absence × Stops error.Absent name) (λ name. fault × Stops error.Failed name) old new) (sym h) (inl (is, reported))
+    subst (Answers Tells status absence fault Stops old new) (sym h) (inl (is, reported))
 refused Tells status absence fault Stops old new o (refusal.Unbuilt instruction) h counted is reported =
-    subst (Answer Tells status (λ name. absence × Stops error.Absent name) (λ name. fault × Stops error.Failed name) old new) (sym h) (inl (is, reported))
+    subst (Answers Tells status absence fault Stops old new) (sym h) (inl (is, reported))
 refused Tells status absence fault Stops old new (Ok run) (refusal.StoreFault name) h counted is reported =
     inr (inr (inr (inl (name.items, (counted, h), (is, reported)))))
 refused Tells status absence fault Stops old new (Err cause) (refusal.StoreFault name) h counted is reported =
