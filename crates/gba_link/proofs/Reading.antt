@@ -1,5 +1,5 @@
 -- What the reads of a run give, and what their refusals say of its outcome.
-use Rattle.std.proofs.Common.{◌≡◌, ◌⊎◌, ℕ, ◌<◌, ◌≤◌, true, false, List, length, take, Some, Result, Ok, Err, refl, sym, ap, ◌∙◌, inl, inr, arith}
+use Rattle.std.proofs.Common.{◌≡◌, ◌⊎◌, ℕ, ◌<◌, ◌≤◌, true, false, List, length, take, Option, Some, Result, Ok, Err, refl, sym, ap, ◌∙◌, subst, inl, inr, arith}
 use Rattle.std.specs.Prelude.{nat_lt, nat_eq}
 use Rattle.std.proofs.lemmas.Bool.{cases_lt}
 use Rattle.std.proofs.lemmas.List.{take_all, length-take-le}
@@ -11,7 +11,8 @@ use Rattle.gba_link.specs.declared.refusal.Refusal.TheVariants as refusal
 use Rattle.gba_link.specs.Words.{Command}
 use Rattle.gba_link.specs.JobForm.{Job, job_of, longest_job}
 use Rattle.gba_link.specs.Outcome.{Cause, from_image, from_job, job_in, job_or_form}
-use Rattle.gba_link.specs.Refusals.{IsRefusedBy, Agrees}
+use Rattle.std.specs.Prelude.{IfErr}
+use Rattle.gba_link.specs.Refusals.{IsReadRefusal, IsStop, NeverStops, IsRefusedBy, Agrees}
 
 -- a refusal by one outcome is one by another that has the same causes, and stops at the same reads
 pub refused-weaker : {X Y : Type 0} (o : Result X Cause) (p : Result Y Cause) (Stops More : ReadError → List ℕ → Type 0) (r : Refusal)
@@ -29,6 +30,45 @@ pub agrees-weaker : {X Y : Type 0} (view : X → Y) (o p : Result Y Cause) (Stop
     → o ≡ p → ((refused : ReadError) (name : List ℕ) → Stops refused name → More refused name) → Agrees view o Stops result → Agrees view p More result
 agrees-weaker view o p Stops More (Ok x) same more h = sym same ∙ h
 agrees-weaker view o p Stops More (Err r) same more h = refused-weaker o p Stops More r (λ cause e. sym same ∙ e) more h
+
+-- a refused read is where the reads stop
+pub stops-read : (name : List ℕ) (Reads : Option ReadError → Type 0) (Stops : ReadError → List ℕ → Type 0) (r : Refusal)
+    → ((refused : ReadError) → Reads (Some refused) → Stops refused name) → IsReadRefusal name Reads r → IsStop Stops r
+stops-read name Reads Stops refusal.Words stops h = tt
+stops-read name Reads Stops (refusal.Absent other) stops h = subst (Stops error.Absent) (sym h.0) (stops error.Absent h.1)
+stops-read name Reads Stops (refusal.StoreFault other) stops h = subst (Stops error.Failed) (sym h.0) (stops error.Failed h.1)
+stops-read name Reads Stops (refusal.Image other) stops h = tt
+stops-read name Reads Stops refusal.Memory stops h = tt
+stops-read name Reads Stops refusal.Form stops h = tt
+stops-read name Reads Stops (refusal.Unbuilt instruction) stops h = tt
+
+-- a refusal of what reads nothing is no such place
+pub stops-never : {X : Type 0} (o : Result X Cause) (Stops : ReadError → List ℕ → Type 0) (r : Refusal) → IsRefusedBy o NeverStops r → IsStop Stops r
+stops-never o Stops refusal.Words h = tt
+stops-never o Stops (refusal.Absent name) h = absurd h.1
+stops-never o Stops (refusal.StoreFault name) h = absurd h
+stops-never o Stops (refusal.Image name) h = tt
+stops-never o Stops refusal.Memory h = tt
+stops-never o Stops refusal.Form h = tt
+stops-never o Stops (refusal.Unbuilt instruction) h = tt
+
+-- where reads stop, more reads stop too
+stops-more : (Stops More : ReadError → List ℕ → Type 0) (r : Refusal) → ((refused : ReadError) (name : List ℕ) → Stops refused name → More refused name)
+    → IsStop Stops r → IsStop More r
+stops-more Stops More refusal.Words more h = tt
+stops-more Stops More (refusal.Absent name) more h = more error.Absent name.items h
+stops-more Stops More (refusal.StoreFault name) more h = more error.Failed name.items h
+stops-more Stops More (refusal.Image name) more h = tt
+stops-more Stops More refusal.Memory more h = tt
+stops-more Stops More refusal.Form more h = tt
+stops-more Stops More (refusal.Unbuilt instruction) more h = tt
+
+-- the same of what a function returned, for some files
+pub stops-weaker : {X : Type 0} (Stops : ReadError → List ℕ → Type 0) (More : Files → ReadError → List ℕ → Type 0) (files : Files) (result : Result X Refusal)
+    → ((refused : ReadError) (name : List ℕ) → Stops refused name → More files refused name) → IfErr result (IsStop Stops)
+    → IfErr result (λ r. (of : Files) × IsStop (More of) r)
+stops-weaker Stops More files (Ok x) more h = tt
+stops-weaker Stops More files (Err r) more h = (files, stops-more Stops (More files) r more h)
 
 unequal : (m n : ℕ) → m < n → nat_eq n m ≡ false
 unequal m n h = grind arith

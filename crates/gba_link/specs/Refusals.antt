@@ -54,15 +54,35 @@ IsCounted absence_rose fault_rose refusal.Memory = Unit {0}
 IsCounted absence_rose fault_rose refusal.Form = Unit {0}
 IsCounted absence_rose fault_rose (refusal.Unbuilt instruction) = Unit {0}
 
--- why the read of a file was refused; `Reads` is what the store says of this read
-abbrev pub IsReadRefusal : Files → List ℕ → (Option ReadError → Type 0) → Refusal → Type 0
-IsReadRefusal files name Reads refusal.Words = ⊥
-IsReadRefusal files name Reads (refusal.Absent other) = (other.items ≡ name) × (files name ≡ None) × Reads (Some error.Absent)
-IsReadRefusal files name Reads (refusal.StoreFault other) = (other.items ≡ name) × Reads (Some error.Failed)
-IsReadRefusal files name Reads (refusal.Image other) = ⊥
-IsReadRefusal files name Reads refusal.Memory = Unit {0}
-IsReadRefusal files name Reads refusal.Form = ⊥
-IsReadRefusal files name Reads (refusal.Unbuilt instruction) = ⊥
+-- the read of a file was refused, and this names it; `Reads` is what the store says of this read
+abbrev pub IsReadRefusal : List ℕ → (Option ReadError → Type 0) → Refusal → Type 0
+IsReadRefusal name Reads refusal.Words = ⊥
+IsReadRefusal name Reads (refusal.Absent other) = (other.items ≡ name) × Reads (Some error.Absent)
+IsReadRefusal name Reads (refusal.StoreFault other) = (other.items ≡ name) × Reads (Some error.Failed)
+IsReadRefusal name Reads (refusal.Image other) = ⊥
+IsReadRefusal name Reads refusal.Memory = Unit {0}
+IsReadRefusal name Reads refusal.Form = ⊥
+IsReadRefusal name Reads (refusal.Unbuilt instruction) = ⊥
+
+-- where it says that there is no file, there is none
+abbrev pub IsMissing : Files → List ℕ → Refusal → Type 0
+IsMissing files name refusal.Words = Unit {0}
+IsMissing files name (refusal.Absent other) = files name ≡ None
+IsMissing files name (refusal.StoreFault other) = Unit {0}
+IsMissing files name (refusal.Image other) = Unit {0}
+IsMissing files name refusal.Memory = Unit {0}
+IsMissing files name refusal.Form = Unit {0}
+IsMissing files name (refusal.Unbuilt instruction) = Unit {0}
+
+-- the reads stopped where a refusal says that a file is absent or failed
+abbrev pub IsStop : (ReadError → List ℕ → Type 0) → Refusal → Type 0
+IsStop Stops refusal.Words = Unit {0}
+IsStop Stops (refusal.Absent name) = Stops error.Absent name.items
+IsStop Stops (refusal.StoreFault name) = Stops error.Failed name.items
+IsStop Stops (refusal.Image name) = Unit {0}
+IsStop Stops refusal.Memory = Unit {0}
+IsStop Stops refusal.Form = Unit {0}
+IsStop Stops (refusal.Unbuilt instruction) = Unit {0}
 
 -- it isn't the words
 abbrev pub IsNotWords : Refusal → Type 0

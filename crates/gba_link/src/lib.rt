@@ -1,13 +1,13 @@
 #![tactic(auto)]
 //! The top call: the program's words, its files and its outputs.
 
-ghost use Rattle.std.specs.Prelude.{◌≡◌, ◌≢◌, map, MatchOption, string_bytes};
-ghost use Rattle.gba_store.specs.Files.{Rose};
+ghost use Rattle.std.specs.Prelude.{◌≡◌, ◌≢◌, ℕ, List, map, MatchOption, string_bytes};
+ghost use Rattle.gba_store.specs.Files.{Files, Rose};
 ghost use Rattle.gba_link.specs.Answer.{Answer, Completes};
-ghost use Rattle.gba_link.specs.Outcome.{outcome, reads};
+ghost use Rattle.gba_link.specs.Outcome.{Absent, outcome, reads, report_of, store_report};
 ghost use Rattle.gba_link.specs.Reading.{FailsToRead, FindsNone};
 ghost use Rattle.gba_link.specs.Words.{command_of};
-ghost use Rattle.gba_link.specs.Writing.{sink_state};
+ghost use Rattle.gba_link.specs.Writing.{Reported, sink_state};
 
 mod finished;
 mod job;
@@ -61,10 +61,17 @@ pub fn gba_link<R: Threads + Sync, S: Store, O: Sink, G: Gate + Sync>(
         → Completes O.Tells result
         (sink_state (O.files out.old) (O.faults out.old) (O.wants out.old)) (sink_state (O.files out.new) (O.faults out.new) (O.wants out.new))
         (outcome (S.files store.old) (map string_bytes words.now)) }
-    // With any store and sink.
+    // With any store and sink, whether or not they tell their files. A store that doesn't still says of each read which
+    // file it was: there are files with which these are the ones to read, in this order.
     ensures words { MatchOption (command_of (map string_bytes words.now)) (result ≡ 2) (λ _. result ≢ 2) }
-    ensures absent { result ≡ 3 → Rose (S.absences store.old) (S.absences store.new) }
-    ensures failed { result ≡ 4 → Rose (S.faults store.old) (S.faults store.new) }
+    ensures absent { result ≡ 3 → (files : Files) × (name : List ℕ)
+        × FindsNone S.Reads S.absences (reads files (map string_bytes words.now)) store.old store.new name
+        × (O.Tells → Reported (report_of (Absent name)) (sink_state (O.files out.old) (O.faults out.old) (O.wants out.old))
+        (sink_state (O.files out.new) (O.faults out.new) (O.wants out.new))) }
+    ensures failed { result ≡ 4 → (files : Files) × (name : List ℕ)
+        × FailsToRead S.Reads S.faults (reads files (map string_bytes words.now)) store.old store.new name
+        × (O.Tells → Reported (store_report name) (sink_state (O.files out.old) (O.faults out.old) (O.wants out.old))
+        (sink_state (O.files out.new) (O.faults out.new) (O.wants out.new))) }
     ensures sink_failed { result ≡ 9 → Rose (O.faults out.old) (O.faults out.new) }
 {
     match run_words(alloc, store, words) {

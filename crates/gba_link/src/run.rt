@@ -1,12 +1,12 @@
 //! From the words and the files to what a run writes.
 
 ghost use Rattle.std.specs.Prelude.{◌≡◌, ◌≤◌, ◌^◌, ◌++◌, [], ◌∷◌, Ok, Err, Some, None, map, MatchOption, MatchResult, IsErrOf, IfOk, IfErr, IfSome, OnOk, length, codes, string_bytes, string_len};
-ghost use Rattle.gba_store.specs.Files.{IsFront, Rose};
+ghost use Rattle.gba_store.specs.Files.{Files, IsFront, Rose};
 ghost use Rattle.gba_console.specs.Run.{run_to};
 ghost use Rattle.gba_link.specs.JobForm.{job_of as job_said};
 ghost use Rattle.gba_link.specs.Outcome.{from_image, from_command, job_or_form, state_name as state_name_of, outcome, reads, reads_of_command};
 ghost use Rattle.gba_link.specs.Reading.{StopsAt};
-ghost use Rattle.gba_link.specs.Refusals.{Agrees, IsCounted, IsReadRefusal, IsNotWords, NeverStops};
+ghost use Rattle.gba_link.specs.Refusals.{Agrees, IsCounted, IsMissing, IsReadRefusal, IsNotWords, IsStop, NeverStops};
 ghost use Rattle.gba_link.specs.Words.{Command, command_of as command_said};
 ghost use Rattle.gba_link.specs.Views.{command_value, job_value, finished_value};
 
@@ -30,7 +30,8 @@ fn read_file<S: Store>(
     ensures files { S.Tells → S.files store.new ≡ S.files store.old }
     ensures read { S.Tells → IfOk result (λ bytes. IsFront (S.files store.old) name.now most bytes.items) }
     ensures given { OnOk result (S.Reads name.now None store.old store.new) }
-    ensures refused { S.Tells → IfErr result (IsReadRefusal (S.files store.old) name.now (λ refusal. S.Reads name.now refusal store.old store.new)) }
+    ensures refused { IfErr result (IsReadRefusal name.now (λ refusal. S.Reads name.now refusal store.old store.new)) }
+    ensures missing { S.Tells → IfErr result (IsMissing (S.files store.old) name.now) }
     ensures counted { IfErr result (IsCounted (Rose (S.absences store.old) (S.absences store.new)) (Rose (S.faults store.old) (S.faults store.new))) }
     ensures not_words { IfErr result IsNotWords }
     ensures later_absences { S.absences store.old ≤ S.absences store.new }
@@ -128,6 +129,7 @@ fn run_job<S: Store>(
     ensures agrees { S.Tells → (command : Command) → string_bytes state_name ≡ state_name_of command.out
         → Agrees finished_value (from_image command (job_value job.now) (S.files store.old job.now.bios.now))
         (StopsAt S.Reads (job.now.bios.now ∷ []) store.old store.new) result }
+    ensures stops { IfErr result (IsStop (StopsAt S.Reads (job.now.bios.now ∷ []) store.old store.new)) }
     ensures counted { IfErr result (IsCounted (Rose (S.absences store.old) (S.absences store.new)) (Rose (S.faults store.old) (S.faults store.new))) }
     ensures not_words { IfErr result IsNotWords }
     ensures later_absences { S.absences store.old ≤ S.absences store.new }
@@ -146,6 +148,8 @@ pub(crate) fn run_command<S: Store>(
     requires { (length command.now.job.now ≤ 200) × (length command.now.out.now ≤ 180) }
     ensures agrees { S.Tells → Agrees finished_value (from_command (S.files store.old) (Some (command_value command.now)))
         (StopsAt S.Reads (reads_of_command (S.files store.old) (Some (command_value command.now))) store.old store.new) result }
+    ensures stops { IfErr result (λ refusal. (files : Files)
+        × IsStop (StopsAt S.Reads (reads_of_command files (Some (command_value command.now))) store.old store.new) refusal) }
     ensures counted { IfErr result (IsCounted (Rose (S.absences store.old) (S.absences store.new)) (Rose (S.faults store.old) (S.faults store.new))) }
     ensures not_words { IfErr result IsNotWords }
     ensures later_absences { S.absences store.old ≤ S.absences store.new }
@@ -168,6 +172,8 @@ pub(crate) fn run_words<S: Store>(
 ) -> Result<FinishedRun, Refusal>
     ensures agrees { S.Tells → Agrees finished_value (outcome (S.files store.old) (map string_bytes words.now))
         (StopsAt S.Reads (reads (S.files store.old) (map string_bytes words.now)) store.old store.new) result }
+    ensures stops { IfErr result (λ refusal. (files : Files)
+        × IsStop (StopsAt S.Reads (reads files (map string_bytes words.now)) store.old store.new) refusal) }
     ensures words { MatchOption (command_said (map string_bytes words.now)) (IsErrOf result Refusal.Words) (λ _. IfErr result IsNotWords) }
     ensures counted { IfErr result (IsCounted (Rose (S.absences store.old) (S.absences store.new)) (Rose (S.faults store.old) (S.faults store.new))) }
 {
