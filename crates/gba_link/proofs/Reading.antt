@@ -1,6 +1,6 @@
 -- What the reads of a run give, and what their refusals say of its outcome.
 use Rattle.std.proofs.Common.{◌≡◌, ◌⊎◌, ℕ, ◌<◌, ◌≤◌, true, false, List, length, take, Option, Some, Result, Ok, Err, refl, sym, ap, ◌∙◌, subst, inl, inr, arith}
-use Rattle.std.specs.Prelude.{nat_lt, nat_eq}
+use Rattle.std.specs.Prelude.{IfErr, nat_lt, nat_eq}
 use Rattle.std.proofs.lemmas.Bool.{cases_lt}
 use Rattle.std.proofs.lemmas.List.{take_all, length-take-le}
 use Rattle.gba_store.specs.Files.{Files, IsFront}
@@ -11,20 +11,35 @@ use Rattle.gba_link.specs.declared.refusal.Refusal.TheVariants as refusal
 use Rattle.gba_link.specs.Words.{Command}
 use Rattle.gba_link.specs.JobForm.{Job, job_of, longest_job}
 use Rattle.gba_link.specs.Outcome.{Cause, from_image, from_job, job_in, job_or_form}
-use Rattle.std.specs.Prelude.{IfErr}
-use Rattle.gba_link.specs.Refusals.{IsReadRefusal, IsStop, NeverStops, IsRefusedBy, Agrees}
+use Rattle.gba_link.specs.Refusals.{IsCause, IsReadRefusal, IsStop, IsRefusedBy, Agrees}
 
--- a refusal by one outcome is one by another that has the same causes, and stops at the same reads
+-- a cause of one outcome is one of another that has the same causes
+cause-weaker : {X Y : Type 0} (o : Result X Cause) (p : Result Y Cause) (r : Refusal) → ((cause : Cause) → o ≡ Err cause → p ≡ Err cause)
+    → IsCause o r → IsCause p r
+cause-weaker o p refusal.Words causes h = causes _ h
+cause-weaker o p (refusal.Absent name) causes h = causes _ h
+cause-weaker o p (refusal.StoreFault name) causes h = tt
+cause-weaker o p refusal.Form causes h = causes _ h
+cause-weaker o p (refusal.Image name) causes h = causes _ h
+cause-weaker o p (refusal.Unbuilt instruction) causes h = causes _ h
+cause-weaker o p refusal.Memory causes h = tt
+
+-- where reads stop, more reads stop too
+pub stops-more : (Stops More : ReadError → List ℕ → Type 0) (r : Refusal) → ((refused : ReadError) (name : List ℕ) → Stops refused name → More refused name)
+    → IsStop Stops r → IsStop More r
+stops-more Stops More refusal.Words more h = tt
+stops-more Stops More (refusal.Absent name) more h = more error.Absent name.items h
+stops-more Stops More (refusal.StoreFault name) more h = more error.Failed name.items h
+stops-more Stops More (refusal.Image name) more h = tt
+stops-more Stops More refusal.Memory more h = tt
+stops-more Stops More refusal.Form more h = tt
+stops-more Stops More (refusal.Unbuilt instruction) more h = tt
+
+-- a refusal by one outcome and some reads is one by another outcome with the same causes, and by more reads
 pub refused-weaker : {X Y : Type 0} (o : Result X Cause) (p : Result Y Cause) (Stops More : ReadError → List ℕ → Type 0) (r : Refusal)
     → ((cause : Cause) → o ≡ Err cause → p ≡ Err cause) → ((refused : ReadError) (name : List ℕ) → Stops refused name → More refused name)
     → IsRefusedBy o Stops r → IsRefusedBy p More r
-refused-weaker o p Stops More refusal.Words causes more h = causes _ h
-refused-weaker o p Stops More (refusal.Absent name) causes more h = (causes _ h.0, more error.Absent name.items h.1)
-refused-weaker o p Stops More (refusal.StoreFault name) causes more h = more error.Failed name.items h
-refused-weaker o p Stops More refusal.Form causes more h = causes _ h
-refused-weaker o p Stops More (refusal.Image name) causes more h = causes _ h
-refused-weaker o p Stops More (refusal.Unbuilt instruction) causes more h = causes _ h
-refused-weaker o p Stops More refusal.Memory causes more h = tt
+refused-weaker o p Stops More r causes more h = (cause-weaker o p r causes h.0, stops-more Stops More r more h.1)
 
 pub agrees-weaker : {X Y : Type 0} (view : X → Y) (o p : Result Y Cause) (Stops More : ReadError → List ℕ → Type 0) (result : Result X Refusal)
     → o ≡ p → ((refused : ReadError) (name : List ℕ) → Stops refused name → More refused name) → Agrees view o Stops result → Agrees view p More result
@@ -42,28 +57,7 @@ stops-read name Reads Stops refusal.Memory stops h = tt
 stops-read name Reads Stops refusal.Form stops h = tt
 stops-read name Reads Stops (refusal.Unbuilt instruction) stops h = tt
 
--- a refusal of what reads nothing is no such place
-pub stops-never : {X : Type 0} (o : Result X Cause) (Stops : ReadError → List ℕ → Type 0) (r : Refusal) → IsRefusedBy o NeverStops r → IsStop Stops r
-stops-never o Stops refusal.Words h = tt
-stops-never o Stops (refusal.Absent name) h = absurd h.1
-stops-never o Stops (refusal.StoreFault name) h = absurd h
-stops-never o Stops (refusal.Image name) h = tt
-stops-never o Stops refusal.Memory h = tt
-stops-never o Stops refusal.Form h = tt
-stops-never o Stops (refusal.Unbuilt instruction) h = tt
-
--- where reads stop, more reads stop too
-stops-more : (Stops More : ReadError → List ℕ → Type 0) (r : Refusal) → ((refused : ReadError) (name : List ℕ) → Stops refused name → More refused name)
-    → IsStop Stops r → IsStop More r
-stops-more Stops More refusal.Words more h = tt
-stops-more Stops More (refusal.Absent name) more h = more error.Absent name.items h
-stops-more Stops More (refusal.StoreFault name) more h = more error.Failed name.items h
-stops-more Stops More (refusal.Image name) more h = tt
-stops-more Stops More refusal.Memory more h = tt
-stops-more Stops More refusal.Form more h = tt
-stops-more Stops More (refusal.Unbuilt instruction) more h = tt
-
--- the same of what a function returned, for some files
+-- where the reads of what a function returned stop, more reads stop too, for some files
 pub stops-weaker : {X : Type 0} (Stops : ReadError → List ℕ → Type 0) (More : Files → ReadError → List ℕ → Type 0) (files : Files) (result : Result X Refusal)
     → ((refused : ReadError) (name : List ℕ) → Stops refused name → More files refused name) → IfErr result (IsStop Stops)
     → IfErr result (λ r. (of : Files) × IsStop (More of) r)

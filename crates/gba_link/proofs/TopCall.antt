@@ -35,19 +35,19 @@ pub refused : (Tells : Type 0) (status : ℕ) (absence fault : Type 0) (Stops : 
     → IsRefusedBy o Stops r → IsCounted absence fault r → status ≡ refusal_status r → (Tells → Reported (refusal_report r) old new)
     → Answers Tells status absence fault Stops old new o
 refused Tells status absence fault Stops old new o refusal.Words h counted is reported =
-    subst (Answers Tells status absence fault Stops old new) (sym h) (inl (is, reported))
+    subst (Answers Tells status absence fault Stops old new) (sym h.0) (inl (is, reported))
 refused Tells status absence fault Stops old new o (refusal.Absent name) h counted is reported =
     subst (Answers Tells status absence fault Stops old new) (sym h.0) (inl ((counted, h.1), (is, reported)))
 refused Tells status absence fault Stops old new o (refusal.Image name) h counted is reported =
-    subst (Answers Tells status absence fault Stops old new) (sym h) (inl (is, reported))
+    subst (Answers Tells status absence fault Stops old new) (sym h.0) (inl (is, reported))
 refused Tells status absence fault Stops old new o refusal.Form h counted is reported =
-    subst (Answers Tells status absence fault Stops old new) (sym h) (inl (is, reported))
+    subst (Answers Tells status absence fault Stops old new) (sym h.0) (inl (is, reported))
 refused Tells status absence fault Stops old new o (refusal.Unbuilt instruction) h counted is reported =
-    subst (Answers Tells status absence fault Stops old new) (sym h) (inl (is, reported))
+    subst (Answers Tells status absence fault Stops old new) (sym h.0) (inl (is, reported))
 refused Tells status absence fault Stops old new (Ok run) (refusal.StoreFault name) h counted is reported =
-    inr (inr (inr (inl (name.items, (counted, h), (is, reported)))))
+    inr (inr (inr (inl (name.items, (counted, h.1), (is, reported)))))
 refused Tells status absence fault Stops old new (Err cause) (refusal.StoreFault name) h counted is reported =
-    inr (inl (name.items, (counted, h), (is, reported)))
+    inr (inl (name.items, (counted, h.1), (is, reported)))
 refused Tells status absence fault Stops old new (Ok run) refusal.Memory h counted is reported =
     inr (inr (inr (inr (is, reported))))
 refused Tells status absence fault Stops old new (Err cause) refusal.Memory h counted is reported =

@@ -44,8 +44,8 @@ module _ (Tells : Type 0) (status : ℕ) (old new : SinkState) where
   Completes (Err (Image name)) = RefusesAs (Image name) ⊎ LacksMemory
   Completes (Err (Unbuilt refusal)) = RefusesAs (Unbuilt refusal) ⊎ LacksMemory
 
--- The same with what the store did: of a name, that its file was to be read next and wasn't there (`FindsNone`), or
--- couldn't be read (`FailsToRead`).
+-- The same with what the store did: of a name, that it was the next to be read, and that its read found no such file
+-- (`FindsNone`) or failed (`FailsToRead`).
 module _ (Tells : Type 0) (status : ℕ) (FindsNone FailsToRead : List ℕ → Type 0) (old new : SinkState) where
   abbrev pub RefusesFor : Cause → Type 0
   RefusesFor (Absent name) = FindsNone name × RefusesAs Tells status old new (Absent name)

@@ -12,10 +12,10 @@ module _ {Store : Type 0} (Reads : List ℕ → Option ReadError → Store → S
   StopsAt (next ∷ names) old new refusal name =
       ((next ≡ name) × Reads next (Some refusal) old new) ⊎ ((mid : Store) × Reads next None old mid × StopsAt names mid new refusal name)
 
-  -- the named file, the next one to read, isn't there, and the store's count of absences rose
+  -- the read of the named file, the next one of the order, found no such file, and the store's count of absences rose
   abbrev pub FindsNone : (Store → ℕ) → List (List ℕ) → Store → Store → List ℕ → Type 0
   FindsNone absences names old new name = Rose (absences old) (absences new) × StopsAt names old new Absent name
 
-  -- the named file, the next one to read, couldn't be read, and the store's count of faults rose
+  -- the read of the named file, the next one of the order, failed, and the store's count of faults rose
   abbrev pub FailsToRead : (Store → ℕ) → List (List ℕ) → Store → Store → List ℕ → Type 0
   FailsToRead faults names old new name = Rose (faults old) (faults new) × StopsAt names old new Failed name

@@ -25,19 +25,33 @@ refusal_report refusal.Memory = memory_report
 refusal_report refusal.Form = report_of Form
 refusal_report (refusal.Unbuilt instruction) = report_of (Unbuilt instruction)
 
+-- a refusal that the outcome gives; a fault of the store and want of memory are no outcome
+abbrev pub IsCause : {X : Type 0} → Result X Cause → Refusal → Type 0
+IsCause o refusal.Words = o ≡ Err Words
+IsCause o (refusal.Absent name) = o ≡ Err (Absent name.items)
+IsCause o (refusal.StoreFault name) = Unit {0}
+IsCause o (refusal.Image name) = o ≡ Err (Image name.items)
+IsCause o refusal.Memory = Unit {0}
+IsCause o refusal.Form = o ≡ Err Form
+IsCause o (refusal.Unbuilt instruction) = o ≡ Err (Unbuilt instruction)
+
+-- where a refusal says that a file is absent or failed, the reads stopped there; `Stops` says at which read, and how
+abbrev pub IsStop : (ReadError → List ℕ → Type 0) → Refusal → Type 0
+IsStop Stops refusal.Words = Unit {0}
+IsStop Stops (refusal.Absent name) = Stops error.Absent name.items
+IsStop Stops (refusal.StoreFault name) = Stops error.Failed name.items
+IsStop Stops (refusal.Image name) = Unit {0}
+IsStop Stops refusal.Memory = Unit {0}
+IsStop Stops refusal.Form = Unit {0}
+IsStop Stops (refusal.Unbuilt instruction) = Unit {0}
+
 -- no read is refused
 abbrev pub NeverStops : ReadError → List ℕ → Type 0
 NeverStops refusal name = ⊥
 
--- A refusal that the outcome gives; or a fault of the store; or want of memory. `Stops` says at which read, and how.
+-- refused for a cause of the outcome, or at a read
 abbrev pub IsRefusedBy : {X : Type 0} → Result X Cause → (ReadError → List ℕ → Type 0) → Refusal → Type 0
-IsRefusedBy o Stops refusal.Words = o ≡ Err Words
-IsRefusedBy o Stops (refusal.Absent name) = (o ≡ Err (Absent name.items)) × Stops error.Absent name.items
-IsRefusedBy o Stops (refusal.StoreFault name) = Stops error.Failed name.items
-IsRefusedBy o Stops (refusal.Image name) = o ≡ Err (Image name.items)
-IsRefusedBy o Stops refusal.Memory = Unit {0}
-IsRefusedBy o Stops refusal.Form = o ≡ Err Form
-IsRefusedBy o Stops (refusal.Unbuilt instruction) = o ≡ Err (Unbuilt instruction)
+IsRefusedBy o Stops r = IsCause o r × IsStop Stops r
 
 -- what a function returned, seen by `view`, is the outcome, or is refused by it
 abbrev pub Agrees : {X Y : Type 0} → (X → Y) → Result Y Cause → (ReadError → List ℕ → Type 0) → Result X Refusal → Type 0
@@ -73,16 +87,6 @@ IsMissing files name (refusal.Image other) = Unit {0}
 IsMissing files name refusal.Memory = Unit {0}
 IsMissing files name refusal.Form = Unit {0}
 IsMissing files name (refusal.Unbuilt instruction) = Unit {0}
-
--- the reads stopped where a refusal says that a file is absent or failed
-abbrev pub IsStop : (ReadError → List ℕ → Type 0) → Refusal → Type 0
-IsStop Stops refusal.Words = Unit {0}
-IsStop Stops (refusal.Absent name) = Stops error.Absent name.items
-IsStop Stops (refusal.StoreFault name) = Stops error.Failed name.items
-IsStop Stops (refusal.Image name) = Unit {0}
-IsStop Stops refusal.Memory = Unit {0}
-IsStop Stops refusal.Form = Unit {0}
-IsStop Stops (refusal.Unbuilt instruction) = Unit {0}
 
 -- it isn't the words
 abbrev pub IsNotWords : Refusal → Type 0

@@ -6,7 +6,7 @@ use Rattle.gba_link.specs.Outcome.{from_image, from_job, job_in, job_or_form, re
 use Rattle.gba_link.specs.Reading.{StopsAt}
 use Rattle.gba_link.specs.Refusals.{NeverStops}
 use Rattle.gba_link.specs.Views.{command_value, job_value, finished_value}
-use Rattle.gba_link.proofs.Reading.{agrees-weaker, refused-weaker, job-read, from_job-refused, stops-never, stops-read, stops-weaker}
+use Rattle.gba_link.proofs.Reading.{agrees-weaker, refused-weaker, job-read, from_job-refused, stops-more, stops-read, stops-weaker}
 use Rattle.gba_link.proofs.run.run_command.Goals as goal
 
 pub returns-in_err-job-clause-agrees : goal.returns-in_err-job-clause-agrees
@@ -62,9 +62,8 @@ returns-in_err-job-clause-stops g c =
     let p = err_from_is_err_and c.from_residual-in_err-job.result c.from_residual-in_err-job.ensures.1 in
     rw (p.1, p.2) (
       files,
-      stops-never (job_or_form command (job_of c.in_ok-bytes.bytes.items))
-          (StopsAt g.S.Store.Reads (reads_of_command files (Some command)) c.args.store.now c.read_file.new.store) _
-          (rw c.as_slice.ensures.value at c.in_err-job.ensures.agrees),
+      stops-more NeverStops (StopsAt g.S.Store.Reads (reads_of_command files (Some command)) c.args.store.now c.read_file.new.store) _
+          (λ refused name none. absurd none) c.in_err-job.ensures.agrees.1,
     )
 
 -- for files in which the job is what was read, the image is the next one
