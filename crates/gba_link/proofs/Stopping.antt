@@ -1,6 +1,7 @@
 -- Where the reads of a store in memory stop.
 use Rattle.std.proofs.Common.{◌≡◌, ◌≢◌, ◌∙◌, ℕ, List, [], ◌∷◌, Some, None, refl, sym, ap, inl, inr}
-use Rattle.gba_store.specs.Chosen.{IsRead, but_memory, next_number, refusal_due}
+use Rattle.gba_store.specs.Chosen.{IsRead, but_memory, refusal_due}
+use Rattle.gba_store.specs.Files.{one_more}
 use Rattle.gba_store.specs.Memory.{Memory}
 use Rattle.gba_store.specs.declared.outside.ReadError.{ReadError}
 use Rattle.gba_store.specs.declared.outside.ReadError.TheVariants.{Absent, Failed, NoMemory}
@@ -33,6 +34,6 @@ stops-once (next ∷ names) old older new newer refusal name other alike apart (
     let alike_after : IsAlike s.0 t.0 = record {
       files = s.1.files ∙ alike.files ∙ sym t.1.files;
       failing = s.1.failing ∙ alike.failing ∙ sym t.1.failing;
-      reads = s.1.reads ∙ ap next_number alike.reads ∙ sym t.1.reads;
+      reads = s.1.reads ∙ ap one_more alike.reads ∙ sym t.1.reads;
     } in
     stops-once names s.0 t.0 new newer refusal name other alike_after apart s.2 t.2

@@ -4,14 +4,18 @@ use gba_store::{
     FileStore, Gate, MemoryStore, NoGate, ReadError, Sink, StdSink, Store, StoredFile, WriteError,
 };
 use std::test::Fail;
-use std::{env, fs};
+use std::{env, fs, process};
 
 /// A file is written in pieces, read whole and in part, and not found once it is gone.
 #[test]
 fn real_files(rt: HostRuntime) -> Result<(), Fail> {
     let alloc = rt.alloc();
     let folder = env::temp_dir(&rt)?;
-    let path = folder.join(alloc, "gbalink-outside-test")?;
+    let number = process::id(rt.process());
+    let path = folder.join(
+        alloc,
+        format!(in alloc; "gbalink-outside-test-{number}")?.as_str(),
+    )?;
     let name = path.as_path().to_str().ok_or("a path that is no text")?;
     let mut sink = StdSink::new(rt);
     let mut store = FileStore::new(rt);

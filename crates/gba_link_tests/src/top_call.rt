@@ -361,14 +361,18 @@ fn jobs_have_one_form(rt: HostRuntime) -> Result<(), Fail> {
 fn programs_run_to_their_states(rt: HostRuntime) -> Result<(), Fail> {
     let alloc = rt.alloc();
     // MOV r1, #03000000h; MOV r2, #5; STR r2, [r1, #20h]; B to itself: the second row of the inner RAM.
-    let stored = run_words(
+    let stored = run_code(
         &rt,
         alloc,
         "5",
         &[0xE3A0_1403, 0xE3A0_2005, 0xE581_2020, 0xEAFF_FFFE],
     )?;
-    assert_eq!(rt; stored.0, 0);
-    let lines = stored.1.as_str();
+    assert_eq!(rt; stored.status, 0);
+    assert_eq!(rt;
+        stored.report.as_str(),
+        "console 0 clock 7 frames 0 samples 0 words 0\n"
+    );
+    let lines = stored.state.as_str();
     assert!(rt; lines.contains("\nclock 7\n"));
     assert!(rt; lines.contains("\nr1 03000000\nr2 00000005\n"));
     assert!(rt;
@@ -376,27 +380,40 @@ fn programs_run_to_their_states(rt: HostRuntime) -> Result<(), Fail> {
             "\nspsr_und 00000000\nmem iwram 000020 0500000000000000000000000000000000000000000000000000000000000000\n"
         )
     );
-    let moved = run_words(&rt, alloc, "10", &[0xE3A0_0005, 0xEAFF_FFFE])?;
-    let lines = moved.1.as_str();
+    let moved = run_code(&rt, alloc, "10", &[0xE3A0_0005, 0xEAFF_FFFE])?;
+    assert_eq!(rt; moved.status, 0);
+    assert_eq!(rt;
+        moved.report.as_str(),
+        "console 0 clock 10 frames 0 samples 0 words 0\n"
+    );
+    let lines = moved.state.as_str();
     assert!(rt; lines.contains("\nclock 10\n"));
     assert!(rt; lines.contains("\nr0 00000005\n"));
     assert!(rt; lines.contains("\nr15 00000004\n"));
     assert!(rt; lines.ends_with("\nspsr_und 00000000\n"));
     // MOV r0, #9; BX r0; at 8 the halfword 5678h.
-    let thumb = run_words(&rt, alloc, "10", &[0xE3A0_0009, 0xE12F_FF10, 0x1234_5678])?;
-    assert_eq!(rt; thumb.0, 11);
-    assert_eq!(rt; thumb.1.as_str(), "notbuilt 00000008 00005678\n");
+    let thumb = run_code(&rt, alloc, "10", &[0xE3A0_0009, 0xE12F_FF10, 0x1234_5678])?;
+    assert_eq!(rt; thumb.status, 11);
+    assert_eq!(rt; thumb.report.as_str(), "notbuilt 00000008 00005678\n");
+    assert_eq!(rt; thumb.state.as_str(), "");
     Ok(())
 }
 
-/// The status of a run of these words for so many cycles, and the state file, or the report where there is none.
-fn run_words<R: Abort + Threads + Sync>(
-    rt: &R,
-    alloc: Global,
-    cycles: &str,
-    code: &[u32],
-) -> Result<(u8, String), Fail> {
-    let job = format!(in alloc; "gbalink 1\ncycles {cycles}\nconsole 0\nbios b\nout state\nend\n")?;
+/// What a call left: its status, standard output, and the state file, empty where there is none.
+#[derive(Drop)]
+struct Written {
+    status: u8,
+    report: String,
+    state: String,
+}
+
+fn text_of(alloc: Global, bytes: Option<&[u8]>) -> Result<String, Fail> {
+    let text = str::from_utf8(bytes.unwrap_or(b"".as_slice())).map_err(|_| "no text")?;
+    Ok(String::from_str(alloc, text)?)
+}
+
+/// A BIOS that begins with these words.
+fn image_of(alloc: Global, code: &[u32]) -> Result<Vec<u8>, AllocError> {
     let mut bios = Vec::new(alloc);
     for word in code {
         bios.extend_from_slice(&word.to_le_bytes())?;
@@ -404,18 +421,28 @@ fn run_words<R: Abort + Threads + Sync>(
     for _ in bios.len()..16_384 {
         bios.push(0)?;
     }
+    Ok(bios)
+}
+
+/// A run of these words for so many cycles.
+fn run_code<R: Abort + Threads + Sync>(
+    rt: &R,
+    alloc: Global,
+    cycles: &str,
+    code: &[u32],
+) -> Result<Written, Fail> {
+    let job = format!(in alloc; "gbalink 1\ncycles {cycles}\nconsole 0\nbios b\nout state\nend\n")?;
     let files = vec![in alloc;
         stored(alloc, "j", Vec::from_slice(alloc, job.as_bytes())?)?,
-        stored(alloc, "b", bios)?,
+        stored(alloc, "b", image_of(alloc, code)?)?,
     ]?;
     let mut store = MemoryStore::new(files, Vec::new(alloc));
     let mut out = MemorySink::new(alloc, Vec::new(alloc), Vec::new(alloc));
     let said = words(alloc, &["run", "j", "g"])?;
     let status = gba_link(rt, alloc, said.as_slice(), &mut store, &mut out, &NoGate);
-    let written = out
-        .bytes("g.0.state")
-        .or(out.bytes("-"))
-        .unwrap_or(b"".as_slice());
-    let text = str::from_utf8(written).map_err(|_| "no text")?;
-    Ok((status, String::from_str(alloc, text)?))
+    Ok(Written {
+        status,
+        report: text_of(alloc, out.bytes("-"))?,
+        state: text_of(alloc, out.bytes("g.0.state"))?,
+    })
 }

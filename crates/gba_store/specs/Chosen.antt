@@ -1,18 +1,16 @@
 use Rattle.std.specs.List.{list_any}
-use Rattle.std.specs.Prelude.{◌≡◌, ℕ, ◌+◌, ◌-◌, ◌^◌, ◌==◌, Bool, min, List, Option, Some, None, length, take, ◌/◌, if◌then◌else◌}
-use Rattle.gba_store.specs.Files.{Files}
+use Rattle.std.specs.Prelude.{◌≡◌, ℕ, ◌==◌, Bool, List, Option, Some, None, length, take, ◌/◌, if◌then◌else◌}
+use Rattle.gba_store.specs.Counts.{absences_after, read_faults_after, write_faults_after, wants_after}
+use Rattle.gba_store.specs.Files.{Files, one_more}
 use Rattle.gba_store.specs.Memory.{Memory, held, told}
 use Rattle.gba_store.specs.declared.memory.MemorySink.{MemorySink}
 use Rattle.gba_store.specs.declared.outside.ReadError.{ReadError}
 use Rattle.gba_store.specs.declared.outside.ReadError.TheVariants.{Absent, Failed, NoMemory}
+use Rattle.gba_store.specs.declared.outside.WriteError.{WriteError}
 
--- the number of the next call after so many; it stands still at the last value of a u64
-abbrev pub next_number : ℕ → ℕ
-next_number made = min (made + 1) (2 ^ 64 - 1)
-
--- whether the next call is among those that are to fail
+-- whether the next call after so many is among those that are to fail, which are named by their numbers
 abbrev pub is_chosen : List ℕ → ℕ → Bool
-is_chosen failing made = list_any (λ number. number == next_number made) failing
+is_chosen failing made = list_any (λ number. number == one_more made) failing
 
 -- a read finds its file, or is refused because there is none
 abbrev pub refusal_where : Option (List ℕ) → Option ReadError
@@ -35,7 +33,9 @@ pub record IsRead (name : List ℕ) (refusal : Option ReadError) (old new : Memo
   pub due : but_memory refusal ≡ refusal_due old name
   pub files : new.files ≡ old.files
   pub failing : new.failing ≡ old.failing
-  pub reads : new.reads ≡ next_number old.reads
+  pub reads : new.reads ≡ one_more old.reads
+  pub faults : new.faults ≡ read_faults_after refusal old.faults
+  pub absences : new.absences ≡ absences_after refusal old.absences
 
 -- the files in a sink in memory
 abbrev pub files_in : MemorySink → Files
@@ -48,13 +48,18 @@ pub record IsNewSink (creates appends : List ℕ) (sink : MemorySink) : Type 0 w
   pub appends_to_fail : sink.failing_appends.items ≡ appends
   pub no_create : sink.creates ≡ 0
   pub no_append : sink.appends ≡ 0
+  pub no_fault : sink.faults ≡ 0
+  pub no_want : sink.wants ≡ 0
 
--- how many calls of each kind were made, and which are to fail
-pub record Counts (old new : MemorySink) (creates appends : ℕ) : Type 0 where
+-- after a call that was refused so or not at all: how many calls of each kind were made, which are to fail, and how
+-- many were refused
+pub record Counts (refusal : Option WriteError) (old new : MemorySink) (creates appends : ℕ) : Type 0 where
   pub creates_to_fail : new.failing_creates.items ≡ old.failing_creates.items
   pub appends_to_fail : new.failing_appends.items ≡ old.failing_appends.items
   pub creates_made : new.creates ≡ creates
   pub appends_made : new.appends ≡ appends
+  pub faults : new.faults ≡ write_faults_after refusal old.faults
+  pub wants : new.wants ≡ wants_after refusal old.wants
 
 -- whether the next create, and the next append, is to fail
 abbrev pub create_is_chosen : MemorySink → Bool

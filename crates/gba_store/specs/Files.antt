@@ -4,9 +4,13 @@ use Rattle.std.specs.Prelude.{◌≡◌, ◌≢◌, ◌⊎◌, ℕ, ◌+◌, ◌
 abbrev pub Files : Type 0
 Files = List ℕ → Option (List ℕ)
 
+-- One more, up to the last value of a u64, at which a count stands still.
+abbrev pub one_more : ℕ → ℕ
+one_more count = min (count + 1) (2 ^ 64 - 1)
+
 -- A count that never falls rose: it is greater than before, or stands at the last value of a u64.
 abbrev pub Rose : ℕ → ℕ → Type 0
-Rose before after = min (before + 1) (2 ^ 64 - 1) ≤ after
+Rose before after = one_more before ≤ after
 
 -- These bytes are the file's first `most`, or the whole file where it has fewer.
 abbrev pub IsFront : Files → List ℕ → ℕ → List ℕ → Type 0

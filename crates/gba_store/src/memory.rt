@@ -2,8 +2,9 @@
 
 ghost use Rattle.std.specs.Prelude.{◌≡◌, ◌≤◌, Some, None, false, option_map, take, IfOk, OnOk, OnErr, IsOk, IsErr, IsErrOf, IsTrue, MatchResult};
 ghost use Rattle.std.specs.Result.{result_err};
-ghost use Rattle.gba_store.specs.Chosen.{Counts, IsNewSink, IsRead, append_is_chosen, create_is_chosen, files_in, half, next_number};
-ghost use Rattle.gba_store.specs.Files.{Written, Created, Appended, CreateFailed, AppendFailed, IsFront, Rose};
+ghost use Rattle.gba_store.specs.Chosen.{Counts, IsNewSink, IsRead, append_is_chosen, create_is_chosen, files_in, half};
+ghost use Rattle.gba_store.specs.Counts.{wants_after};
+ghost use Rattle.gba_store.specs.Files.{Written, Created, Appended, CreateFailed, AppendFailed, IsFront, Rose, one_more};
 ghost use Rattle.gba_store.specs.Memory.{held, told};
 
 use crate::outside::{ReadError, Sink, Store, WriteError};
@@ -158,7 +159,7 @@ impl MemorySink {
     /// Counts a want of memory.
     fn answer(&mut self, written: Result<(), AllocError>) -> Result<(), WriteError>
         ensures kind { MatchResult result (λ _. IsOk written) (λ error. IsErr written × (error ≡ WriteError.NoMemory)) }
-        ensures counted { OnErr written (Rose self.old.wants self.new.wants) }
+        ensures counted { self.new.wants ≡ wants_after (result_err result) self.old.wants }
         ensures rest { self.new ≡ record self.old { wants = self.new.wants } }
         ensures later_wants { self.old.wants ≤ self.new.wants }
     {
@@ -224,7 +225,7 @@ impl Sink for MemorySink {
 
     ghost wants = { λ sink. sink.wants };
 
-    /// The chosen creates fail and change no file.
+    /// The chosen creates fail and change no file, whether or not there is memory.
     fn create(&mut self, name: &str) -> Result<(), WriteError>
         ensures created { Unit {0} → OnOk result (Created name.now (files_in self.old) (files_in self.new)) }
         ensures left { Unit {0} → IsErrOf result WriteError.Failed → CreateFailed name.now (files_in self.old) (files_in self.new) }
@@ -235,7 +236,9 @@ impl Sink for MemorySink {
         ensures later_wants { self.old.wants ≤ self.new.wants }
         ensures chosen { IsErrOf result WriteError.Failed → IsTrue (create_is_chosen self.old) }
         ensures not_chosen { OnOk result (create_is_chosen self.old ≡ false) }
-        ensures counts { Counts self.old self.new (next_number self.old.creates) self.old.appends }
+        ensures no_want_of_a_chosen { IsErrOf result WriteError.NoMemory → create_is_chosen self.old ≡ false }
+        ensures kept { OnErr result (files_in self.new ≡ files_in self.old) }
+        ensures counts { Counts (result_err result) self.old self.new (one_more self.old.creates) self.old.appends }
     {
         self.creates = self.creates.saturating_add(1);
         if self.failing_creates.contains(&self.creates) {
@@ -258,7 +261,7 @@ impl Sink for MemorySink {
         ensures chosen { IsErrOf result WriteError.Failed → IsTrue (append_is_chosen self.old) }
         ensures not_chosen { OnOk result (append_is_chosen self.old ≡ false) }
         ensures halved { IsErrOf result WriteError.Failed → Appended name.now (half bytes.now) (files_in self.old) (files_in self.new) }
-        ensures counts { Counts self.old self.new self.old.creates (next_number self.old.appends) }
+        ensures counts { Counts (result_err result) self.old self.new self.old.creates (one_more self.old.appends) }
     {
         self.appends = self.appends.saturating_add(1);
         let fails = self.failing_appends.contains(&self.appends);

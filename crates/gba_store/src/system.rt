@@ -1,7 +1,8 @@
 //! The real store and sink: the files of the current folder, and standard output. They tell nothing of content.
 
-ghost use Rattle.std.specs.Prelude.{◌≡◌, ◌≤◌, None};
-ghost use Rattle.gba_store.specs.Files.{Rose};
+ghost use Rattle.std.specs.Prelude.{◌≡◌, ◌≤◌, Some, None};
+ghost use Rattle.std.specs.Result.{result_err};
+ghost use Rattle.gba_store.specs.Counts.{absences_after, read_faults_after, write_faults_after, wants_after};
 
 use crate::outside::{ReadError, Sink, Store, WriteError};
 use std::alloc::Global;
@@ -51,7 +52,12 @@ impl<R: Files + Drop> Store for FileStore<R> {
     ghost Reads = { λ _ _ _ _. Unit {0} };
 
     /// A file that the system doesn't find is absent. Every other refusal but want of memory is a fault.
-    fn read(&mut self, alloc: Global, name: &str, most: u64) -> Result<Vec<u8>, ReadError> {
+    fn read(&mut self, alloc: Global, name: &str, most: u64) -> Result<Vec<u8>, ReadError>
+        ensures faults { self.new.faults ≡ read_faults_after (result_err result) self.old.faults }
+        ensures absences { self.new.absences ≡ absences_after (result_err result) self.old.absences }
+        ensures later_absences { self.old.absences ≤ self.new.absences }
+        ensures later_faults { self.old.faults ≤ self.new.faults }
+    {
         let error = match read_front(&self.runtime, alloc, name, most) {
             Ok(bytes) => return Ok(bytes),
             Err(error) => error,
@@ -94,8 +100,8 @@ impl<R: Files + Print + Drop> StdSink<R> {
 
     /// Counts a refusal of the system.
     fn refusal(&mut self, error: &io::Error) -> WriteError
-        ensures failed { result ≡ WriteError.Failed → Rose self.old.faults self.new.faults }
-        ensures wanting { result ≡ WriteError.NoMemory → Rose self.old.wants self.new.wants }
+        ensures faults { self.new.faults ≡ write_faults_after (Some result) self.old.faults }
+        ensures wants { self.new.wants ≡ wants_after (Some result) self.old.wants }
         ensures later_faults { self.old.faults ≤ self.new.faults }
         ensures later_wants { self.old.wants ≤ self.new.wants }
     {
@@ -139,7 +145,12 @@ impl<R: Files + Print + Drop> Sink for StdSink<R> {
     ghost wants = { λ sink. sink.wants };
 
     /// Standard output can't be made empty: `create` of `-` is a fault.
-    fn create(&mut self, name: &str) -> Result<(), WriteError> {
+    fn create(&mut self, name: &str) -> Result<(), WriteError>
+        ensures faults { self.new.faults ≡ write_faults_after (result_err result) self.old.faults }
+        ensures wants { self.new.wants ≡ wants_after (result_err result) self.old.wants }
+        ensures later_faults { self.old.faults ≤ self.new.faults }
+        ensures later_wants { self.old.wants ≤ self.new.wants }
+    {
         if name == "-" {
             self.faults = self.faults.saturating_add(1);
             return Err(WriteError::Failed);
@@ -151,7 +162,12 @@ impl<R: Files + Print + Drop> Sink for StdSink<R> {
     }
 
     /// A file is opened for each append. Each append is flushed before it answers.
-    fn append(&mut self, name: &str, bytes: &[u8]) -> Result<(), WriteError> {
+    fn append(&mut self, name: &str, bytes: &[u8]) -> Result<(), WriteError>
+        ensures faults { self.new.faults ≡ write_faults_after (result_err result) self.old.faults }
+        ensures wants { self.new.wants ≡ wants_after (result_err result) self.old.wants }
+        ensures later_faults { self.old.faults ≤ self.new.faults }
+        ensures later_wants { self.old.wants ≤ self.new.wants }
+    {
         let written = if name == "-" {
             print_bytes(&self.runtime, bytes)
         } else {
