@@ -1,12 +1,17 @@
-use Rattle.std.specs.Prelude.{◌≡◌, ◌≢◌, ℕ, List}
-use Rattle.gba_store.specs.Chosen.{IsRead}
-use Rattle.gba_store.specs.Memory.{Memory}
+use Rattle.std.specs.Prelude.{◌≡◌, ◌⊎◌, ℕ, List, Option, None, Result, Err}
+use Rattle.gba_store.specs.Files.{Files}
 use Rattle.gba_store.specs.declared.outside.ReadError.{ReadError}
-use Rattle.gba_store.specs.declared.outside.ReadError.TheVariants.{NoMemory}
-use Rattle.gba_link.specs.Reading.{StopsAt}
+use Rattle.gba_command.specs.Cause.{Words, Stop, Refused, LacksMemory}
+use Rattle.gba_command.specs.Reading.{Gives, GoesTo}
+use Rattle.gba_command.specs.Writing.{Run}
+use Rattle.gba_link.specs.CommandPlan.{plan_of}
+use Rattle.gba_link.specs.Words.{command_of}
 
--- Reads of a store in memory stop for an absence or for a fault at one name alone.
-abbrev pub StopsOnce : Type 0
-StopsOnce =
-    (names : List (List ℕ)) (old new : Memory) (refusal : ReadError) (name other : List ℕ) → refusal ≢ NoMemory
-    → StopsAt IsRead names old new refusal name → StopsAt IsRead names old new refusal other → other ≡ name
+-- Words are refused just where they say no command: then nothing is read, and the end is that refusal or want of memory.
+abbrev pub RefusesWrongWords : {Store : Type 0} → Type 0 → (Store → Files) → (List ℕ → ℕ → Option ReadError → Store → Store → Type 0)
+    → (Store → ℕ) → (Store → ℕ) → Type 0
+RefusesWrongWords {Store} Tells files Reads absences faults =
+    (words : List (List ℕ)) (old new : Store) (end : Result Run Stop)
+    → GoesTo (Gives Tells files Reads absences faults) (plan_of words) old new end
+    → ((end ≡ Err (Refused Words)) → command_of words ≡ None)
+    × (command_of words ≡ None → (new ≡ old) × ((end ≡ Err LacksMemory) ⊎ (end ≡ Err (Refused Words))))

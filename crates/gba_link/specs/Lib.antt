@@ -1,11 +1,6 @@
 pub mod Words
 pub mod JobForm
 pub mod StateFile
-pub mod Outcome
-pub mod Reading
-pub mod Writing
-pub mod Answer
+pub mod CommandPlan
 pub mod Views
-pub mod Refusals
-pub mod Stops
 pub mod Law

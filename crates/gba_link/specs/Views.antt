@@ -1,9 +1,7 @@
-use Rattle.std.specs.Prelude.{ℕ, List, string_bytes}
+use Rattle.std.specs.Prelude.{ℕ, List}
 use Rattle.std.specs.Borrow.{Bor}
 use Rattle.gba_link.specs.declared.words.RunWords.{RunWords}
 use Rattle.gba_link.specs.declared.job.JobText.{JobText}
-use Rattle.gba_link.specs.declared.finished.FinishedRun.{FinishedRun}
-use Rattle.gba_link.specs.Outcome.{Finished}
 use Rattle.gba_link.specs.Words.{Command}
 use Rattle.gba_link.specs.JobForm.{Job, Number}
 
@@ -16,6 +14,3 @@ job_value text = record { cycles = text.cycles; bios = text.bios.now }
 
 abbrev pub number_value : ℕ × Bor (List ℕ) → Number
 number_value pair = record { value = pair.0; rest = pair.1.now }
-
-abbrev pub finished_value : FinishedRun → Finished
-finished_value run = record { state_name = string_bytes run.state_name; state = run.state.items; summary = run.summary.items }

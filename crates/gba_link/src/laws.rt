@@ -1,9 +1,10 @@
 //! Laws over the definitions. Each is the contract of a function that takes no value.
 
-ghost use Rattle.gba_link.specs.Law.{StopsOnce};
+ghost use Rattle.gba_link.specs.Law.{RefusesWrongWords};
 
-/// Reads of a store in memory stop at one file: where one was absent or failed, no other name fits. So over such a store
-/// the contract of [`gba_link`](crate::gba_link) allows one name alone in the report of status 3 or 4.
-pub fn stops_once()
-    ensures { StopsOnce }
+use gba_store::Store;
+
+/// Words are refused just where they say no command, and then nothing is read. Want of memory may come before it.
+pub fn refuses_wrong_words<S: Store>()
+    ensures { RefusesWrongWords S.Tells S.files S.Reads S.absences S.faults }
 {}

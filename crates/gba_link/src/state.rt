@@ -5,7 +5,8 @@ ghost use Rattle.std.specs.List.{list_all};
 ghost use Rattle.gba_terms.specs.RegisterNames.{register_names};
 ghost use Rattle.gba_link.specs.StateFile.{hex_bytes, memory_line, memory_name, memory_row, memory_lines, register_line, register_lines, heading, state_file, summary as summary_of};
 
-use crate::line::{Line, hex_byte, hex_offset, hex_word, put};
+use gba_command::hexadecimal::{hex_byte, hex_offset, hex_word};
+use gba_command::{Line, put};
 use gba_console::Console;
 use itoa::Buffer;
 

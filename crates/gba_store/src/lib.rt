@@ -6,6 +6,7 @@
 //! `FileStore` and `StdSink` are the real ones, and tell nothing of content.
 
 mod gate;
+pub mod laws;
 mod memory;
 mod outside;
 mod system;

@@ -95,7 +95,7 @@ impl Store for MemoryStore {
 
     ghost absences = { λ store. store.absences };
 
-    ghost Reads = { IsRead };
+    ghost Reads = { λ name _. IsRead name };
 
     /// The chosen reads fail, and the others give what the files have, unless memory is wanting.
     fn read(&mut self, alloc: Global, name: &str, most: u64) -> Result<Vec<u8>, ReadError>

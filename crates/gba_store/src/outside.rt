@@ -40,13 +40,14 @@ pub trait Store {
 
     ghost absences: { Self → ℕ };
 
-    /// What a store says of a read: that a read of this name, refused so or not at all, took it from the one state to
-    /// the other. Contracts say by it which of several reads was refused, which the counts alone don't tell.
-    ghost Reads: { List ℕ → Option ReadError → Self → Self → Type 0 };
+    /// What a store says of a read: that a read of this name and of at most so many bytes, refused so or not at all,
+    /// took it from the one state to the other. Contracts say by it which reads were made, and which of them was
+    /// refused, which the counts alone don't tell.
+    ghost Reads: { List ℕ → ℕ → Option ReadError → Self → Self → Type 0 };
 
     /// The first `most` bytes of the file, or all of them where there are fewer.
     fn read(&mut self, alloc: Global, name: &str, most: u64) -> Result<Vec<u8>, ReadError>
-        ensures read { Reads name.now (result_err result) self.old self.new }
+        ensures read { Reads name.now most (result_err result) self.old self.new }
         ensures files { Tells → files self.new ≡ files self.old }
         ensures bytes { Tells → IfOk result (λ bytes. IsFront (files self.old) name.now most bytes.items) }
         ensures missing { Tells → IsErrOf result ReadError.Absent → files self.old name.now ≡ None }

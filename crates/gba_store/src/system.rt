@@ -11,6 +11,7 @@ use std::io::{self, ErrorKind, Read, Write};
 use std::rt::Files;
 
 /// Reads the files of the current folder. It counts each fault and each absence from 0, up to the last value of a u64.
+/// It says of a read only what that counts.
 #[derive(Drop)]
 pub struct FileStore<R: Files + Drop> {
     runtime: R,
@@ -49,12 +50,13 @@ impl<R: Files + Drop> Store for FileStore<R> {
 
     ghost absences = { λ store. store.absences };
 
-    ghost Reads = { λ _ _ _ _. Unit {0} };
+    ghost Reads = { λ _ _ refusal old new.
+        (new.absences ≡ absences_after refusal old.absences) × (new.faults ≡ read_faults_after refusal old.faults) };
 
     /// A file that the system doesn't find is absent. Every other refusal but want of memory is a fault.
     fn read(&mut self, alloc: Global, name: &str, most: u64) -> Result<Vec<u8>, ReadError>
-        ensures faults { self.new.faults ≡ read_faults_after (result_err result) self.old.faults }
-        ensures absences { self.new.absences ≡ absences_after (result_err result) self.old.absences }
+        ensures counts { (self.new.absences ≡ absences_after (result_err result) self.old.absences)
+            × (self.new.faults ≡ read_faults_after (result_err result) self.old.faults) }
         ensures later_absences { self.old.absences ≤ self.new.absences }
         ensures later_faults { self.old.faults ≤ self.new.faults }
     {

@@ -1,16 +1,25 @@
-use Rattle.gba_link.specs.Outcome.{from_image}
-use Rattle.gba_link.specs.Reading.{StopsAt}
-use Rattle.gba_link.specs.Refusals.{NeverStops}
-use Rattle.gba_link.specs.Views.{job_value, finished_value}
-use Rattle.gba_link.proofs.Reading.{agrees-weaker, image-read}
+use Rattle.std.proofs.lemmas.Result.{err_from_is_err_and}
+use Rattle.gba_command.specs.Cause.{BiosLength}
+use Rattle.gba_command.specs.Plan.{file}
+use Rattle.gba_command.specs.Reading.{Gives}
+use Rattle.gba_command.specs.Views.{run_value}
+use Rattle.gba_command.proofs.Plans.{goes-then, goes-stop, goes-judged}
+use Rattle.gba_link.specs.CommandPlan.{after_image, result_of_run}
+use Rattle.gba_link.specs.Views.{job_value}
 use Rattle.gba_link.proofs.run.run_job.Goals as goal
-use Rattle.std.proofs.Common.{[], ◌∷◌, Some}
 
-pub returns-clause-agrees : goal.returns-clause-agrees
-returns-clause-agrees g c = λ tells command named.
-    let files = g.S.Store.files c.args.store.now in
+pub returns-in_err-image : goal.returns-in_err-image
+returns-in_err-image g c = λ command named.
     let job = job_value c.args.job.now in
-    agrees-weaker finished_value (from_image command job (Some c.in_ok-image.image.items)) (from_image command job (files job.bios)) NeverStops
-    (StopsAt g.S.Store.Reads (job.bios ∷ []) c.args.store.now c.read_file.new.store) c.run_image.result
-    (image-read files command job c.in_ok-image.image.items (c.in_ok-image.ensures.read tells))
-    (λ refused name none. absurd none) (c.run_image.ensures.agrees command named)
+    let gives = Gives g.S.Store.Tells g.S.Store.files g.S.Store.Reads g.S.Store.absences g.S.Store.faults in
+    let p = err_from_is_err_and c.from_residual.result c.from_residual.ensures.1 in
+    rw (p.1, p.2)
+    (goes-stop gives (file job.bios 16384 (BiosLength job.bios)) (after_image command job) _ _ _ (rw c.name_in_report.ensures at c.in_err-image.ensures.goes))
+
+pub returns : goal.returns
+returns g c = λ command named.
+    let job = job_value c.args.job.now in
+    let gives = Gives g.S.Store.Tells g.S.Store.files g.S.Store.Reads g.S.Store.absences g.S.Store.faults in
+    goes-then gives (file job.bios 16384 (BiosLength job.bios)) (after_image command job) _ _ _ _ _
+    (rw c.name_in_report.ensures at c.in_ok-image.ensures.goes)
+    (goes-judged gives run_value (result_of_run command job c.in_ok-image.image.items) c.run_image.result _ (c.run_image.ensures command named))

@@ -1,0 +1,46 @@
+use Rattle.std.specs.Prelude.{ℕ, List, ◌++◌, codes}
+use Rattle.gba_terms.specs.Hexadecimal.{hex}
+
+-- why a command is refused, as its words and the files say
+pub data Cause : Type 0 where
+  -- the words are no command
+  Words : Cause
+  -- the job hasn't the form of this version, or an output file would be the job or an image
+  Form : Cause
+  -- the BIOS image of this name hasn't its length
+  BiosLength : List ℕ → Cause
+  -- the instruction at this address, which is this word, isn't built
+  Unbuilt : ℕ → ℕ → Cause
+
+abbrev pub status_of : Cause → ℕ
+status_of Words = 2
+status_of (BiosLength name) = 6
+status_of Form = 11
+status_of (Unbuilt address word) = 11
+
+-- the line that is reported on standard output
+abbrev pub report_of : Cause → List ℕ
+report_of Words = codes "words\n"
+report_of (BiosLength name) = codes "image " ++ name ++ codes " BiosLength\n"
+report_of Form = codes "notbuilt job\n"
+report_of (Unbuilt address word) = codes "notbuilt " ++ hex 8 address ++ codes " " ++ hex 8 word ++ codes "\n"
+
+-- why a command stops before anything is written: refused for a cause, the named file isn't there, the store failed in
+-- the read of the named file, or memory was wanting
+pub data Stop : Type 0 where
+  Refused : Cause → Stop
+  Absent : List ℕ → Stop
+  StoreFails : List ℕ → Stop
+  LacksMemory : Stop
+
+abbrev pub stop_status : Stop → ℕ
+stop_status (Refused cause) = status_of cause
+stop_status (Absent name) = 3
+stop_status (StoreFails name) = 4
+stop_status LacksMemory = 10
+
+abbrev pub stop_report : Stop → List ℕ
+stop_report (Refused cause) = report_of cause
+stop_report (Absent name) = codes "absent " ++ name ++ codes "\n"
+stop_report (StoreFails name) = codes "store " ++ name ++ codes "\n"
+stop_report LacksMemory = codes "memory\n"

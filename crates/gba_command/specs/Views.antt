@@ -1,0 +1,56 @@
+use Rattle.std.specs.Prelude.{◌≡◌, ℕ, List, map, Result, Ok, Err, Vec, string_bytes}
+use Rattle.gba_command.specs.declared.cause.Cause.{Cause as CauseText}
+use Rattle.gba_command.specs.declared.cause.Cause.TheVariants as cause
+use Rattle.gba_command.specs.declared.refusal.Refusal.{Refusal}
+use Rattle.gba_command.specs.declared.refusal.Refusal.TheVariants as refusal
+use Rattle.gba_command.specs.declared.writing.WriteStop.{WriteStop}
+use Rattle.gba_command.specs.declared.writing.WriteStop.TheVariants as writing
+use Rattle.gba_command.specs.declared.outputs.OutputFile.{OutputFile}
+use Rattle.gba_command.specs.declared.outputs.Outputs.{Outputs}
+use Rattle.gba_command.specs.Cause.{Cause, Words, Form, BiosLength, Unbuilt, Stop, Refused, Absent, StoreFails, LacksMemory}
+use Rattle.gba_command.specs.Writing.{Output, Run, WriteEnd, Wrote, SinkFails, SinkLacks}
+
+-- what the program's types stand for
+
+abbrev pub cause_value : CauseText → Cause
+cause_value cause.Words = Words
+cause_value cause.Form = Form
+cause_value (cause.BiosLength name) = BiosLength name.items
+cause_value (cause.Unbuilt address word) = Unbuilt address word
+
+abbrev pub stop_value : Refusal → Stop
+stop_value (refusal.Refused of) = Refused (cause_value of)
+stop_value (refusal.Absent name) = Absent name.items
+stop_value (refusal.StoreFault name) = StoreFails name.items
+stop_value refusal.NoMemory = LacksMemory
+
+-- how the reads of a function ended that returned this, whose value is seen by `view`
+abbrev pub ended : {X Y : Type 0} → (X → Y) → Result X Refusal → Result Y Stop
+ended view (Ok x) = Ok (view x)
+ended view (Err refusal) = Err (stop_value refusal)
+
+-- what a function returned that reads nothing is this judgement, unless memory was wanting
+abbrev pub Agrees : {X Y : Type 0} → (X → Y) → Result Y Cause → Result X Refusal → Type 0
+Agrees view due (Ok x) = due ≡ Ok (view x)
+Agrees view due (Err (refusal.Refused of)) = due ≡ Err (cause_value of)
+Agrees view due (Err (refusal.Absent name)) = ⊥
+Agrees view due (Err (refusal.StoreFault name)) = ⊥
+Agrees view due (Err refusal.NoMemory) = Unit {0}
+
+abbrev pub bytes_value : {Z : Type 0} → Vec ℕ Z → List ℕ
+bytes_value bytes = bytes.items
+
+abbrev pub output_value : OutputFile → Output
+output_value output = record { name = string_bytes output.name; bytes = output.bytes.items }
+
+abbrev pub run_value : Outputs → Run
+run_value outputs = record { outputs = map output_value outputs.files.items; summary = outputs.summary.items }
+
+abbrev pub write_stop_value : WriteStop → WriteEnd
+write_stop_value (writing.Fault name) = SinkFails name.items
+write_stop_value writing.NoMemory = SinkLacks
+
+-- how the calls of a sink ended in a function that returned this
+abbrev pub write_end : {X : Type 0} → Result X WriteStop → WriteEnd
+write_end (Ok x) = Wrote
+write_end (Err stop) = write_stop_value stop

@@ -1,0 +1,20 @@
+#![tactic(auto)]
+//! A command as one plan of reads and one list of calls of the sink: what is read, in which order, with each cause of a
+//! refusal; how the reads ended; what is written; and what is answered. It knows no console.
+
+mod answering;
+mod cause;
+pub mod hexadecimal;
+pub mod laws;
+mod line;
+mod outputs;
+mod reading;
+mod refusal;
+mod writing;
+
+pub use answering::answer;
+pub use cause::Cause;
+pub use line::{Line, put};
+pub use outputs::{OutputFile, Outputs};
+pub use reading::read_file;
+pub use refusal::{Name, Refusal, name_in_report};

@@ -1,0 +1,29 @@
+//! Lines in buffers of a fixed size.
+
+ghost use Rattle.std.specs.Prelude.{◌≡◌, ◌+◌, ◌≤◌, ◌++◌, length};
+ghost use Rattle.arrayvec.specs.ArrayVec.{array_vec_len};
+
+use arrayvec::ArrayVec;
+
+/// A line of a report or a summary, with its line feed: at most 256 bytes, and it takes no memory.
+pub type Line = ArrayVec<u8, 256>;
+
+/// Adds bytes to a line that has room for them.
+pub fn put(line: &mut Line, bytes: &[u8])
+    requires { array_vec_len line.old + length bytes.now ≤ 256 }
+    ensures { line.new.items ≡ line.old.items ++ bytes.now }
+{
+    if line.try_extend_from_slice(bytes).is_err() {
+        unreachable!()
+    }
+}
+
+/// A line that is this text.
+pub(crate) fn line_of(text: &[u8]) -> Line
+    requires { length text.now ≤ 256 }
+    ensures { result.items ≡ text.now }
+{
+    let mut line = Line::new();
+    put(&mut line, text);
+    line
+}

@@ -1,0 +1,35 @@
+//! The reads of a command.
+
+ghost use Rattle.std.specs.Prelude.{◌+◌, ◌^◌, ◌≤◌, ◌<◌, length};
+ghost use Rattle.gba_command.specs.Plan.{file};
+ghost use Rattle.gba_command.specs.Reading.{Gives, GoesTo};
+ghost use Rattle.gba_command.specs.Views.{bytes_value, cause_value, ended};
+
+use crate::cause::Cause;
+use crate::refusal::{Refusal, name_in_report};
+use gba_store::{ReadError, Store};
+use std::alloc::Global;
+
+/// Reads a file of at most `most` bytes. The store is asked for one byte more, which tells whether the file is longer:
+/// then it is refused for the cause `long`.
+#[tactic(auto, unfolding(crate::specs::Reading::GoesTo))]
+pub fn read_file<S: Store>(
+    alloc: Global,
+    store: &mut S,
+    name: &str,
+    most: u64,
+    long: Cause,
+) -> Result<Vec<u8>, Refusal>
+    requires named { length name.now ≤ 200 }
+    requires bounded { most + 1 < 2 ^ 64 }
+    ensures goes { GoesTo (Gives S.Tells S.files S.Reads S.absences S.faults) (file name.now most (cause_value long))
+        store.old store.new (ended bytes_value result) }
+{
+    match store.read(alloc, name, most + 1) {
+        Ok(bytes) if bytes.len() as u64 > most => Err(Refusal::Refused(long)),
+        Ok(bytes) => Ok(bytes),
+        Err(ReadError::Absent) => Err(Refusal::Absent(name_in_report(name))),
+        Err(ReadError::Failed) => Err(Refusal::StoreFault(name_in_report(name))),
+        Err(ReadError::NoMemory) => Err(Refusal::NoMemory),
+    }
+}

@@ -1,0 +1,114 @@
+//! The calls of a sink.
+
+ghost use Rattle.std.specs.Prelude.{◌≡◌, ◌≤◌, length, map, codes};
+ghost use Rattle.gba_command.specs.Answer.{Reported};
+ghost use Rattle.gba_command.specs.Views.{output_value, run_value, write_end};
+ghost use Rattle.gba_command.specs.Writing.{Create, Append, Performs, PerformsAll, addition, calls_of, creation, sink_state};
+
+use crate::line::{Line, line_of};
+use crate::outputs::{OutputFile, Outputs};
+use crate::refusal::{Name, line_about, name_in_report};
+use gba_store::{Sink, WriteError};
+
+/// Why the writing of a run stopped.
+#[derive(Drop)]
+pub(crate) enum WriteStop {
+    /// The sink failed at this file: 9.
+    Fault(Name),
+    /// Memory was wanting: 10.
+    NoMemory,
+}
+
+impl WriteStop {
+    ghost use Rattle.std.specs.Prelude.{◌≡◌};
+    ghost use Rattle.gba_command.specs.Answer.{end_status, end_report};
+    ghost use Rattle.gba_command.specs.Views.{write_stop_value};
+
+    /// The exit status.
+    pub(crate) fn status(&self) -> u8
+        ensures { result ≡ end_status (write_stop_value self.now) }
+    {
+        match self {
+            WriteStop::Fault(_) => 9,
+            WriteStop::NoMemory => 10,
+        }
+    }
+
+    /// The line of report, with its line feed.
+    pub(crate) fn report(&self) -> Line
+        ensures { result.items ≡ end_report (write_stop_value self.now) }
+    {
+        match self {
+            WriteStop::Fault(name) => line_about(b"sink ", name, b"\n"),
+            WriteStop::NoMemory => line_of(b"memory\n"),
+        }
+    }
+}
+
+/// Makes a file empty.
+#[tactic(auto, unfolding(crate::specs::Writing::Performs))]
+fn create<O: Sink>(out: &mut O, name: &str) -> Result<(), WriteStop>
+    requires { length name.now ≤ 200 }
+    ensures { Performs O.Tells (Create name.now) (sink_state (O.files out.old) (O.faults out.old) (O.wants out.old))
+        (sink_state (O.files out.new) (O.faults out.new) (O.wants out.new)) (write_end result) }
+{
+    match out.create(name) {
+        Ok(()) => Ok(()),
+        Err(WriteError::Failed) => Err(WriteStop::Fault(name_in_report(name))),
+        Err(WriteError::NoMemory) => Err(WriteStop::NoMemory),
+    }
+}
+
+/// Adds bytes at the end of a file.
+#[tactic(auto, unfolding(crate::specs::Writing::Performs))]
+fn append<O: Sink>(out: &mut O, name: &str, piece: &[u8]) -> Result<(), WriteStop>
+    requires { length name.now ≤ 200 }
+    ensures { Performs O.Tells (Append name.now piece.now) (sink_state (O.files out.old) (O.faults out.old) (O.wants out.old))
+        (sink_state (O.files out.new) (O.faults out.new) (O.wants out.new)) (write_end result) }
+{
+    match out.append(name, piece) {
+        Ok(()) => Ok(()),
+        Err(WriteError::Failed) => Err(WriteStop::Fault(name_in_report(name))),
+        Err(WriteError::NoMemory) => Err(WriteStop::NoMemory),
+    }
+}
+
+/// Makes the files empty, one after another.
+fn create_all<O: Sink>(out: &mut O, files: &[OutputFile]) -> Result<(), WriteStop>
+    ensures { PerformsAll O.Tells (map creation (map output_value files.now)) (sink_state (O.files out.old) (O.faults out.old) (O.wants out.old))
+        (sink_state (O.files out.new) (O.faults out.new) (O.wants out.new)) (write_end result) }
+{
+    for file in files {
+        create(out, file.name.as_str())?;
+    }
+    Ok(())
+}
+
+/// Adds the bytes of the files, one after another.
+fn append_all<O: Sink>(out: &mut O, files: &[OutputFile]) -> Result<(), WriteStop>
+    ensures { PerformsAll O.Tells (map addition (map output_value files.now)) (sink_state (O.files out.old) (O.faults out.old) (O.wants out.old))
+        (sink_state (O.files out.new) (O.faults out.new) (O.wants out.new)) (write_end result) }
+{
+    for file in files {
+        append(out, file.name.as_str(), file.bytes.as_slice())?;
+    }
+    Ok(())
+}
+
+/// Writes a run: its files are made empty, their bytes are added, and the summary goes to standard output.
+pub(crate) fn write_run<O: Sink>(out: &mut O, run: &Outputs) -> Result<(), WriteStop>
+    ensures { PerformsAll O.Tells (calls_of (run_value run.now)) (sink_state (O.files out.old) (O.faults out.old) (O.wants out.old))
+        (sink_state (O.files out.new) (O.faults out.new) (O.wants out.new)) (write_end result) }
+{
+    create_all(out, run.files.as_slice())?;
+    append_all(out, run.files.as_slice())?;
+    append(out, "-", run.summary.as_slice())
+}
+
+/// Reports a line on standard output. Where that is refused, nothing more is done.
+pub(crate) fn report<O: Sink>(out: &mut O, line: &Line)
+    ensures { Reported O.Tells line.now.items (sink_state (O.files out.old) (O.faults out.old) (O.wants out.old))
+        (sink_state (O.files out.new) (O.faults out.new) (O.wants out.new)) }
+{
+    let _ = append(out, "-", line.as_slice());
+}
