@@ -3,3 +3,4 @@ pub mod Words
 pub mod Numbers
 pub mod Reading
 pub mod Answers
+pub mod Told

@@ -1,5 +1,8 @@
 //! Why a word or a number can't be read.
 
+ghost use Rattle.std.specs.Prelude.{Some};
+ghost use Rattle.gba_text.specs.Told.{error_text};
+
 use std::error::Error;
 use std::fmt;
 
@@ -25,6 +28,8 @@ pub struct TextError {
 }
 
 impl fmt::Display for TextError {
+    ghost output = { λ e. Some (error_text e) };
+
     fn fmt<W: fmt::Write>(&self, f: &mut fmt::Formatter<W>) -> fmt::Result {
         let line = self.line;
         match self.kind {
