@@ -21,17 +21,17 @@ pub record IsReading (bytes : List ℕ) (number : ℕ) (d : Draft) (rest : List 
 pub begun : (bytes : List ℕ) → IsReading bytes 0 nothing_said (lines bytes)
 begun bytes = record { said = refl; count = omega arith }
 
-lines_say-more : (number : ℕ) (d : Draft) (line : List ℕ) (rest : List (List ℕ)) (e : Draft) → said_with (number + 1) d line ≡ Ok e
+pub lines_say-more : (number : ℕ) (d : Draft) (line : List ℕ) (rest : List (List ℕ)) (e : Draft) → said_with (number + 1) d line ≡ Ok e
     → lines_say number d (line ∷ rest) ≡ lines_say (number + 1) e rest
 unfolding lines_say
 lines_say-more number d line rest e h = rw h refl
 
-lines_say-refused : (number : ℕ) (d : Draft) (line : List ℕ) (rest : List (List ℕ)) (kind : JobKind) → said_with (number + 1) d line ≡ Err kind
+pub lines_say-refused : (number : ℕ) (d : Draft) (line : List ℕ) (rest : List (List ℕ)) (kind : JobKind) → said_with (number + 1) d line ≡ Err kind
     → lines_say number d (line ∷ rest) ≡ Err (refused (number + 1) kind)
 unfolding lines_say
 lines_say-refused number d line rest kind h = rw h refl
 
-lines_say-end : (number : ℕ) (d : Draft) → lines_say number d [] ≡ finished number d
+pub lines_say-end : (number : ℕ) (d : Draft) → lines_say number d [] ≡ finished number d
 unfolding lines_say
 lines_say-end number d = refl
 

@@ -92,33 +92,37 @@ unfoldable pub Leads : ℕ → Draft → List (List ℕ) → Draft → Type 0
 Leads number from [] to = from ≡ to
 Leads number from (line ∷ rest) to = (mid : Draft) × (said_with (number + 1) from line ≡ Ok mid) × Leads (number + 1) mid rest to
 
--- a file is no longer than a job may be, and all its lines are of the language and say this
-pub record Said (bytes : List ℕ) (d : Draft) : Type 0 where
-  pub short : length bytes ≤ longest_job
-  pub leads : Leads 0 nothing_said (lines bytes) d
-
--- The first refused line of a file: the lines before it are of the language, and after them it is refused.
-pub record IsFirstRefused (bytes : List ℕ) (e : JobError) : Type 0 where
-  pub short : length bytes ≤ longest_job
+-- The first refused one of these lines, which stand after so many others: those before it aren't refused, and after them
+-- it is.
+pub record StopsAt (number : ℕ) (from : Draft) (lines : List (List ℕ)) (e : JobError) : Type 0 where
   pub before : List (List ℕ)
   pub line : List ℕ
   pub after : List (List ℕ)
-  pub place : lines bytes ≡ before ++ line ∷ after
-  pub number : e.line ≡ length before + 1
-  pub d : Draft
-  pub leads : Leads 0 nothing_said before d
-  pub refusal : said_with e.line d line ≡ Err e.kind
+  pub said : Draft
+  pub place : lines ≡ before ++ line ∷ after
+  pub count : e.line ≡ number + length before + 1
+  pub leads : Leads number from before said
+  pub refusal : said_with e.line said line ≡ Err e.kind
 
--- The job that a file says, or its refusal: the file is too long; or a line is refused, the first one; or all lines are of
--- the language, and say a job, or end too early.
+-- a file that isn't longer than a job may be, and a line of it is refused
+pub record IsRefusedAt (bytes : List ℕ) (e : JobError) : Type 0 where
+  pub short : length bytes ≤ longest_job
+  pub stops : StopsAt 0 nothing_said (lines bytes) e
+
+-- a file that isn't longer than a job may be, and no line of it is refused: what it comes to at its end
+pub record EndsIn (bytes : List ℕ) (answer : Result WholeJob JobError) : Type 0 where
+  pub short : length bytes ≤ longest_job
+  pub said : Draft
+  pub leads : Leads 0 nothing_said (lines bytes) said
+  pub end : finished (length (lines bytes)) said ≡ answer
+
+-- The job that a file says, or its refusal. A file is refused with line 0 where it is too long; else at its first refused
+-- line; else past its last line, where it ends too early.
 abbrev pub Says : List ℕ → Result WholeJob JobError → Type 0
-Says bytes (Ok job) = (d : Draft) × Said bytes d × (finished (length (lines bytes)) d ≡ Ok job)
-Says bytes (Err e) =
-    ((longest_job < length bytes) × (e ≡ refused 0 kind.Long))
-    ⊎ IsFirstRefused bytes e
-    ⊎ ((d : Draft) × Said bytes d × (finished (length (lines bytes)) d ≡ Err e))
+Says bytes (Ok job) = EndsIn bytes (Ok job)
+Says bytes (Err e) = ((longest_job < length bytes) × (e ≡ refused 0 kind.Long)) ⊎ IsRefusedAt bytes e ⊎ EndsIn bytes (Err e)
 
--- the same as a function: what lines say that stand after so many others
+-- the same as a function: what lines say, one after another, that stand after so many others
 abbrev pub go_on : ℕ → (Draft → Result WholeJob JobError) → Result Draft JobKind → Result WholeJob JobError
 go_on number rest (Ok d) = rest d
 go_on number rest (Err kind) = Err (refused number kind)
@@ -129,3 +133,10 @@ lines_say number d (line ∷ rest) = go_on (number + 1) (λ mid. lines_say (numb
 
 unfoldable pub job_of : List ℕ → Result WholeJob JobError
 job_of bytes = if nat_lt longest_job (length bytes) then Err (refused 0 kind.Long) else lines_say 0 nothing_said (lines bytes)
+
+-- the relation and the function are one
+abbrev pub IsAnswered : Type 0
+IsAnswered = (bytes : List ℕ) → Says bytes (job_of bytes)
+
+abbrev pub HasOneAnswer : Type 0
+HasOneAnswer = (bytes : List ℕ) (answer : Result WholeJob JobError) → Says bytes answer → answer ≡ job_of bytes

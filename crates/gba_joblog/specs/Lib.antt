@@ -5,6 +5,7 @@ pub mod Draft
 pub mod Operands
 pub mod Statements
 pub mod Language
+pub mod Soundness
 pub mod Clash
 pub mod Views
 pub mod Answers

@@ -8,6 +8,7 @@ mod clash;
 mod draft;
 mod job;
 mod kinds;
+pub mod laws;
 mod names;
 mod operands;
 mod parse;

@@ -1,10 +1,11 @@
 //! The lines of a job, one after another.
 
-ghost use Rattle.std.specs.Prelude.{◌≡◌, ◌+◌, ◌<◌, ◌≤◌, ◌^◌, length, OnOk, Some, None, option_map};
+ghost use Rattle.std.specs.Prelude.{◌≡◌, ◌+◌, ◌<◌, ◌≤◌, ◌^◌, length, IfOk, OnOk, Some, None, option_map};
 ghost use Rattle.gba_text.specs.Reading.{rest_of};
 ghost use Rattle.gba_text.specs.Words.{fault_of, words};
 ghost use Rattle.gba_joblog.specs.Answers.{Agrees, IsSaid, Parses, Reads};
 ghost use Rattle.gba_joblog.specs.Language.{first_word as first_word_of, is_comment as is_comment_of, job_of, line_says as line_says_of, said_with, words_say as words_say_of};
+ghost use Rattle.gba_joblog.specs.Soundness.{IsJob};
 ghost use Rattle.gba_joblog.specs.Views.{draft_value, job_value, statement_value};
 
 use crate::draft::{DraftJob, Place};
@@ -132,27 +133,37 @@ fn read_line(
     }
 }
 
+/// The job that the bytes say.
+#[tactic(auto, unfolding(crate::specs::Language::job_of))]
+fn read_job(alloc: Global, bytes: &[u8]) -> Result<Job, ParseRefused>
+    ensures job { Parses job_value result (job_of bytes.now) }
+{
+    if bytes.len() > LONGEST_JOB {
+        return Err(refused(0, JobKind::Long));
+    }
+    let mut cursor = Cursor::new(bytes);
+    let mut draft = DraftJob::new(alloc);
+    while let Some(line) = cursor.line() {
+        match read_line(&mut draft, alloc, line, &mut cursor) {
+            Ok(()) => {}
+            Err(refusal) => return Err(refusal),
+        }
+    }
+    match draft.finished(cursor.line_number()) {
+        Ok(job) => Ok(job),
+        Err(refusal) => Err(ParseRefused::Job(refusal)),
+    }
+}
+
 impl Job {
     /// Reads a job. Refused is the first line that isn't of the language, or the whole file with line 0 where it has more
-    /// than 134,217,728 bytes. It takes memory for the names alone.
-    #[tactic(auto, unfolding(crate::specs::Language::job_of))]
+    /// than 134,217,728 bytes. It takes memory for the names alone. A job that is read has one console with its BIOS image,
+    /// and each name has 1 to 200 bytes.
     pub fn parse(alloc: Global, bytes: &[u8]) -> Result<Job, ParseRefused>
+        ensures said { IsSaid job_value bytes.now result }
         ensures job { Parses job_value result (job_of bytes.now) }
+        ensures sound { IfOk result (λ job. IsJob (job_value job)) }
     {
-        if bytes.len() > LONGEST_JOB {
-            return Err(refused(0, JobKind::Long));
-        }
-        let mut cursor = Cursor::new(bytes);
-        let mut draft = DraftJob::new(alloc);
-        while let Some(line) = cursor.line() {
-            match read_line(&mut draft, alloc, line, &mut cursor) {
-                Ok(()) => {}
-                Err(refusal) => return Err(refusal),
-            }
-        }
-        match draft.finished(cursor.line_number()) {
-            Ok(job) => Ok(job),
-            Err(refusal) => Err(ParseRefused::Job(refusal)),
-        }
+        read_job(alloc, bytes)
     }
 }

@@ -4,7 +4,7 @@ use Rattle.gba_joblog.specs.Draft.{nothing_said}
 use Rattle.gba_joblog.specs.Language.{lines_say}
 use Rattle.gba_joblog.specs.Views.{draft_value}
 use Rattle.gba_joblog.proofs.Reading.{IsReading}
-use Rattle.gba_joblog.proofs.job.Job.parse.Given as goal
+use Rattle.gba_joblog.proofs.parse.read_job.Given as goal
 
 abbrev pub invariant-loop-line : goal.invariant-loop-line
 invariant-loop-line l = IsReading l.bytes l.cursor.number (draft_value l.draft) l.cursor.lines
