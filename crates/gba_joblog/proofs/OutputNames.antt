@@ -6,10 +6,8 @@ use Rattle.std.specs.Str.{bytes_eq}
 use Rattle.std.proofs.Math.Bool.{and-false}
 use Rattle.std.proofs.lemmas.List.{drop_more, drop_all}
 use Rattle.std.proofs.lemmas.Bool.Decides.{nat_tests}
-use Rattle.gba_joblog.specs.Clash.{after_text, tail_after, ends_as, out_name, output_file, writes_as, console_writes, writes, least, console_clash, inputs_clash}
-use Rattle.gba_joblog.specs.Job.{ConsoleJob, NamedFile}
-use Rattle.gba_joblog.specs.declared.job.OutKind.{OutKind}
-use Rattle.gba_joblog.specs.declared.job.OutKind.TheVariants.{Frames, Samples, Words, State, Save}
+use Rattle.gba_joblog.specs.Clash.{after_text, tail_after, ends_as, console_writes, writes, least, console_clash, inputs_clash}
+use Rattle.gba_joblog.specs.Job.{ConsoleJob}
 
 -- the bytes are this text; there may be none
 abbrev pub is_text : List ℕ → Option (List ℕ) → Bool

@@ -1,12 +1,13 @@
 -- The lines of a file, read one after another.
-use Rattle.std.proofs.Common.{◌≡◌, ◌≤◌, ◌<◌, ℕ, ◌+◌, Bool, true, false, cond, ◌&&◌, eqb, List, [], ◌∷◌, ◌++◌, length, Option, Some, None, Result, Ok, Err, refl, ap, sym, ◌∙◌, arith}
-use Rattle.std.proofs.lemmas.Bool.{lt-ltb, le-ltb}
+use Rattle.std.proofs.Common.{◌≡◌, ◌≤◌, ◌<◌, ℕ, ◌+◌, Bool, true, false, cond, ◌&&◌, eqb, List, [], ◌∷◌, length, Some, None, Result, Ok, Err, inl, inr, take, refl, ap, sym, ◌∙◌, arith}
+use Rattle.std.proofs.lemmas.Bool.{lt-ltb, le-ltb, cases_lt}
+use Rattle.std.proofs.lemmas.List.{length-take, take_all}
 use Rattle.gba_joblog.specs.declared.kinds.JobKind.TheVariants.{Long}
 use Rattle.gba_text.specs.Lines.{lines, begins_with_feed, onto_front}
 use Rattle.gba_text.specs.Reading.{Reading as Place, first_of, opened, next_line}
 use Rattle.gba_joblog.specs.Draft.{Draft, nothing_said}
 use Rattle.gba_joblog.specs.Job.{WholeJob}
-use Rattle.gba_joblog.specs.Language.{lines_say, finished, said_with, refused, go_on, job_of, longest_job}
+use Rattle.gba_joblog.specs.Language.{lines_say, finished, said_with, refused, job_of, longest_job}
 use Rattle.gba_joblog.specs.Answers.{Parses, Reads}
 use Rattle.gba_joblog.specs.declared.kinds.ParseRefused.{ParseRefused}
 use Rattle.gba_joblog.specs.declared.kinds.ParseRefused.TheVariants as refusal
@@ -130,3 +131,10 @@ pub reads_few : (bytes : List ℕ) (old new : Place) (d : Draft) → length byte
     → None ≡ first_of old.lines → new ≡ next_line old → new.number ≤ longest_job
 reads_few bytes old new d short h first state =
     omega (arith, lines-few bytes, (reads_end bytes old new d h first state).1)
+
+-- one byte more than the longest job tells what the whole file says
+pub job_of-take : (bytes : List ℕ) → job_of (take (longest_job + 1) bytes) ≡ job_of bytes
+job_of-take bytes = elim (cases_lt longest_job (length bytes)) [
+  | inl long ↦ job_of-long (take (longest_job + 1) bytes) (omega (arith, length-take (longest_job + 1) bytes)) ∙ sym (job_of-long bytes long)
+  | inr short ↦ ap job_of (take_all (longest_job + 1) bytes (omega arith))
+]

@@ -1,14 +1,12 @@
 -- The relation between files and jobs, and the function that gives the job.
-use Rattle.std.proofs.Common.{◌≡◌, ◌≤◌, ◌<◌, ℕ, ◌+◌, Bool, true, false, ◌⊎◌, inl, inr, List, [], ◌∷◌, ◌++◌, length, Result, Ok, Err, refl, ap, sym, subst, ◌∙◌, arith}
-use Rattle.std.proofs.Math.Nat.{zero-add}
+use Rattle.std.proofs.Common.{◌≡◌, ◌≤◌, ℕ, ◌+◌, ◌⊎◌, inl, inr, List, [], ◌∷◌, ◌++◌, length, Result, Ok, Err, refl, ap, sym, ◌∙◌, arith}
 use Rattle.std.proofs.lemmas.Bool.{cases_lt}
 use Rattle.gba_text.specs.Lines.{lines}
 use Rattle.gba_joblog.specs.Draft.{Draft, nothing_said}
 use Rattle.gba_joblog.specs.Job.{WholeJob}
-use Rattle.gba_joblog.specs.Language.{Says, StopsAt, IsRefusedAt, EndsIn, Leads, lines_say, finished, said_with, refused, go_on, job_of, longest_job}
+use Rattle.gba_joblog.specs.Language.{Says, StopsAt, Leads, lines_say, finished, said_with, refused, job_of, longest_job}
 use Rattle.gba_joblog.specs.declared.kinds.JobError.{JobError}
 use Rattle.gba_joblog.specs.declared.kinds.JobKind.{JobKind}
-use Rattle.gba_joblog.specs.declared.kinds.JobKind.TheVariants.{Long}
 use Rattle.gba_joblog.proofs.Reading.{lines_say-more, lines_say-refused, lines_say-end, job_of-lines, job_of-long}
 
 -- what lines come to: a line is refused, or they all lead to an end

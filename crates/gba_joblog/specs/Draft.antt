@@ -1,8 +1,7 @@
-use Rattle.std.specs.Prelude.{ℕ, List, [], ◌∷◌, ◌++◌, Option, Some, None, Bool, is_some, is_none, slice_set, slice_get, option_and_then}
-use Rattle.gba_joblog.specs.Job.{ConsoleJob, NamedFile}
+use Rattle.std.specs.Prelude.{ℕ, List, [], ◌∷◌, Option, None}
+use Rattle.gba_joblog.specs.Job.{ConsoleJob}
 use Rattle.gba_joblog.specs.declared.draft.Place.{Place}
-use Rattle.gba_joblog.specs.declared.draft.Place.TheVariants.{Start, Head, Inside, Ended}
-use Rattle.gba_joblog.specs.declared.job.OutLine.{OutLine}
+use Rattle.gba_joblog.specs.declared.draft.Place.TheVariants.{Start}
 
 -- What the lines before have said: where in the job the next line stands, the cycles, the consoles that are whole, and
 -- what is said of the console whose lines stand here.

@@ -1,5 +1,5 @@
 -- The job language: what a line says after the lines before it, what is refused first, and the job that a file says.
-use Rattle.std.specs.Prelude.{◌≡◌, ◌≤◌, ◌<◌, ℕ, ◌+◌, Bool, true, false, ◌⊎◌, List, [], ◌∷◌, ◌++◌, length, nat_lt, ◌==◌, Option, Some, None, Result, Ok, Err, if◌then◌else◌}
+use Rattle.std.specs.Prelude.{◌≡◌, ◌≤◌, ◌<◌, ℕ, ◌+◌, Bool, false, ◌⊎◌, List, [], ◌∷◌, ◌++◌, length, nat_lt, ◌==◌, Option, Some, None, Result, Ok, Err, if◌then◌else◌}
 use Rattle.gba_text.specs.Lines.{lines}
 use Rattle.gba_text.specs.Reading.{first_of, rest_of}
 use Rattle.gba_text.specs.Words.{words, has_text_alone, longest_line}

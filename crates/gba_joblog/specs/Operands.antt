@@ -2,7 +2,7 @@
 use Rattle.std.specs.Prelude.{ℕ, Bool, true, List, [], ◌∷◌, codes, Option, Some, None, Result, Ok, Err, if◌then◌else◌}
 use Rattle.std.specs.Str.{bytes_eq}
 use Rattle.gba_text.specs.Numbers.{number_of}
-use Rattle.gba_joblog.specs.Kinds.{◌>>=◌, holds}
+use Rattle.gba_joblog.specs.Kinds.{◌>>=◌}
 use Rattle.gba_joblog.specs.Names.{is_name}
 use Rattle.gba_joblog.specs.declared.job.OutKind.{OutKind}
 use Rattle.gba_joblog.specs.declared.job.OutKind.TheVariants.{State}

@@ -1,6 +1,5 @@
 -- What holds of every job that is read.
-use Rattle.std.specs.Prelude.{◌≡◌, ◌≤◌, ◌^◌, ℕ, true, List, [], ◌∷◌, length, Option, Some, None, IfSome, IsSome, Result, Ok}
-use Rattle.gba_joblog.specs.Draft.{Draft}
+use Rattle.std.specs.Prelude.{◌≡◌, ◌≤◌, ◌^◌, ℕ, true, List, [], ◌∷◌, length, None, IfSome, IsSome, Ok}
 use Rattle.gba_joblog.specs.Job.{ConsoleJob, NamedFile, WholeJob}
 use Rattle.gba_joblog.specs.Language.{job_of, usual_delay}
 use Rattle.gba_joblog.specs.Names.{is_name}

@@ -1,5 +1,4 @@
-use Rattle.std.specs.Prelude.{◌≡◌, ℕ, List, map, option_map, string_bytes, Result, Ok, Err}
-use Rattle.std.specs.Borrow.{Bor}
+use Rattle.std.specs.Prelude.{map, option_map, string_bytes}
 use Rattle.gba_joblog.specs.Draft.{Draft}
 use Rattle.gba_joblog.specs.Job.{ConsoleJob, NamedFile, WholeJob}
 use Rattle.gba_joblog.specs.Statements.{Statement, Version, Cycles, Console, Bios, Out, End}
@@ -7,10 +6,6 @@ use Rattle.gba_joblog.specs.declared.draft.DraftJob.{DraftJob}
 use Rattle.gba_joblog.specs.declared.job.FileLine.{FileLine}
 use Rattle.gba_joblog.specs.declared.job.Job.{Job}
 use Rattle.gba_joblog.specs.declared.job.JobConsole.{JobConsole}
-use Rattle.gba_joblog.specs.declared.kinds.ParseRefused.{ParseRefused}
-use Rattle.gba_joblog.specs.declared.kinds.ParseRefused.TheVariants as refusal
-use Rattle.gba_joblog.specs.declared.kinds.JobError.{JobError}
-use Rattle.gba_joblog.specs.declared.kinds.JobKind.{JobKind}
 use Rattle.gba_joblog.specs.declared.statement.Line.{Line}
 use Rattle.gba_joblog.specs.declared.statement.Line.TheVariants as line
 

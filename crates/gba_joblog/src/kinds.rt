@@ -1,7 +1,7 @@
 //! Why a job is refused.
 
 ghost use Rattle.std.specs.Prelude.{◌≡◌, Some};
-ghost use Rattle.gba_joblog.specs.Kinds.{kind_name, kind_of_text};
+ghost use Rattle.gba_joblog.specs.Kinds.{kind_name, kind_of_text, refusal_text};
 
 use gba_text::TextKind;
 use std::alloc::AllocError;
@@ -85,6 +85,8 @@ pub struct JobError {
 }
 
 impl fmt::Display for JobError {
+    ghost output = { λ e. Some (refusal_text e) };
+
     fn fmt<W: fmt::Write>(&self, f: &mut fmt::Formatter<W>) -> fmt::Result {
         let line = self.line;
         let kind = self.kind;

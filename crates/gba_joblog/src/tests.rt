@@ -106,197 +106,199 @@ fn jobs_are_read(rt: HostRuntime) {
     }
 }
 
+static REFUSED_LINES: [(&[u8], u64, JobKind); 30] = [
+    (b"", 1, JobKind::Missing),
+    (b"\n", 2, JobKind::Missing),
+    (
+        b"gbalink 1\ncycles 1\nconsole 0\nbios b\nout state\n",
+        6,
+        JobKind::Missing,
+    ),
+    (
+        b"gbalink 1\ncycles 1\nconsole 0\nbios b\nout state",
+        6,
+        JobKind::Missing,
+    ),
+    (b"gbalink 1\n# more\n\n", 4, JobKind::Missing),
+    (b"gbalink", 1, JobKind::Missing),
+    (b"gbalink 1\ncycles ", 2, JobKind::Missing),
+    (b"gbalink 1\ncycles 1\nconsole", 3, JobKind::Missing),
+    (b"gbalink 1\ncycles 1\nconsole 0\nbios", 4, JobKind::Missing),
+    (b"gbalink 1\ncycles 1\nconsole 0\nout", 4, JobKind::Missing),
+    (
+        b"gbalink 1\ncycles 1\nconsole 0\nout state\nend",
+        5,
+        JobKind::Missing,
+    ),
+    (
+        b"gbalink 1\ncycles 1\nconsole 0\nend x",
+        4,
+        JobKind::Missing,
+    ),
+    (b"gbalink 1 1", 1, JobKind::Extra),
+    (b"gbalink 1\ncycles 1 1", 2, JobKind::Extra),
+    (b"gbalink 1\ncycles 1\nconsole 0 0", 3, JobKind::Extra),
+    (
+        b"gbalink 1\ncycles 1\nconsole 0\nbios b sha256",
+        4,
+        JobKind::Extra,
+    ),
+    (
+        b"gbalink 1\ncycles 1\nconsole 0\nout state x",
+        4,
+        JobKind::Extra,
+    ),
+    (
+        b"gbalink 1\ncycles 1\nconsole 0\nbios b\nend end",
+        5,
+        JobKind::Extra,
+    ),
+    (
+        b"gbalink 1\ncycles 1\nconsole 0\nbios b\nend\nend",
+        6,
+        JobKind::Extra,
+    ),
+    (
+        b"gbalink 1\ncycles 1\nconsole 0\nbios b\nend\n\n#\nhello",
+        8,
+        JobKind::Extra,
+    ),
+    (
+        b"gbalink 1\ncycles 1\nconsole 0\nbios b\nend\ngbalink 1",
+        6,
+        JobKind::Extra,
+    ),
+    (
+        b"gbalink 1\ncycles 1\nconsole 0\nbios b\nend\ncycles 0",
+        6,
+        JobKind::Extra,
+    ),
+    (
+        b"gbalink 1\ncycles 1\nconsole 0\nbios b\nend\nhello\x80",
+        6,
+        JobKind::Byte,
+    ),
+    (b"gbalink 1\n\xef\xbb\xbf\n", 2, JobKind::Byte),
+    (b"gbalink 1\ncycles 1\rconsole 0\n", 2, JobKind::Byte),
+    (b"gbalink 1\nhello \x7f", 2, JobKind::Byte),
+    (b"gbalink 1\ncycles x\x1f\n", 2, JobKind::Byte),
+    (b"gbalink 1\n\r", 2, JobKind::Byte),
+    (b"hello\nworld", 1, JobKind::Word),
+    (b"gbalink 1\ncycles 1\nhello\ncycles 1\n", 3, JobKind::Word),
+];
+
 #[test]
 fn the_first_refused_line_is_named(rt: HostRuntime) {
-    let cases: [(&[u8], u64, JobKind); 30] = [
-        (b"", 1, JobKind::Missing),
-        (b"\n", 2, JobKind::Missing),
-        (
-            b"gbalink 1\ncycles 1\nconsole 0\nbios b\nout state\n",
-            6,
-            JobKind::Missing,
-        ),
-        (
-            b"gbalink 1\ncycles 1\nconsole 0\nbios b\nout state",
-            6,
-            JobKind::Missing,
-        ),
-        (b"gbalink 1\n# more\n\n", 4, JobKind::Missing),
-        (b"gbalink", 1, JobKind::Missing),
-        (b"gbalink 1\ncycles ", 2, JobKind::Missing),
-        (b"gbalink 1\ncycles 1\nconsole", 3, JobKind::Missing),
-        (b"gbalink 1\ncycles 1\nconsole 0\nbios", 4, JobKind::Missing),
-        (b"gbalink 1\ncycles 1\nconsole 0\nout", 4, JobKind::Missing),
-        (
-            b"gbalink 1\ncycles 1\nconsole 0\nout state\nend",
-            5,
-            JobKind::Missing,
-        ),
-        (
-            b"gbalink 1\ncycles 1\nconsole 0\nend x",
-            4,
-            JobKind::Missing,
-        ),
-        (b"gbalink 1 1", 1, JobKind::Extra),
-        (b"gbalink 1\ncycles 1 1", 2, JobKind::Extra),
-        (b"gbalink 1\ncycles 1\nconsole 0 0", 3, JobKind::Extra),
-        (
-            b"gbalink 1\ncycles 1\nconsole 0\nbios b sha256",
-            4,
-            JobKind::Extra,
-        ),
-        (
-            b"gbalink 1\ncycles 1\nconsole 0\nout state x",
-            4,
-            JobKind::Extra,
-        ),
-        (
-            b"gbalink 1\ncycles 1\nconsole 0\nbios b\nend end",
-            5,
-            JobKind::Extra,
-        ),
-        (
-            b"gbalink 1\ncycles 1\nconsole 0\nbios b\nend\nend",
-            6,
-            JobKind::Extra,
-        ),
-        (
-            b"gbalink 1\ncycles 1\nconsole 0\nbios b\nend\n\n#\nhello",
-            8,
-            JobKind::Extra,
-        ),
-        (
-            b"gbalink 1\ncycles 1\nconsole 0\nbios b\nend\ngbalink 1",
-            6,
-            JobKind::Extra,
-        ),
-        (
-            b"gbalink 1\ncycles 1\nconsole 0\nbios b\nend\ncycles 0",
-            6,
-            JobKind::Extra,
-        ),
-        (
-            b"gbalink 1\ncycles 1\nconsole 0\nbios b\nend\nhello\x80",
-            6,
-            JobKind::Byte,
-        ),
-        (b"gbalink 1\n\xef\xbb\xbf\n", 2, JobKind::Byte),
-        (b"gbalink 1\ncycles 1\rconsole 0\n", 2, JobKind::Byte),
-        (b"gbalink 1\nhello \x7f", 2, JobKind::Byte),
-        (b"gbalink 1\ncycles x\x1f\n", 2, JobKind::Byte),
-        (b"gbalink 1\n\r", 2, JobKind::Byte),
-        (b"hello\nworld", 1, JobKind::Word),
-        (b"gbalink 1\ncycles 1\nhello\ncycles 1\n", 3, JobKind::Word),
-    ];
-    for (text, line, kind) in cases {
-        assert!(rt; refuses(rt.alloc(), text, line, kind), "of {text:?}");
+    for (text, line, kind) in &REFUSED_LINES {
+        assert!(rt; refuses(rt.alloc(), text, *line, *kind), "of {text:?}");
     }
 }
 
+static TESTS_IN_ORDER: [(&[u8], u64, JobKind); 42] = [
+    (b" #\n", 1, JobKind::Word),
+    (b"GBALINK 1\n", 1, JobKind::Word),
+    (b"gbalink 01", 1, JobKind::Word),
+    (b"gbalink 2 3", 1, JobKind::Word),
+    (b"cart c", 1, JobKind::Word),
+    (b"gbalink 1\ndelay 5", 2, JobKind::Word),
+    (b"gbalink 1\ncycles 1\nconsole 0\nkeys k", 4, JobKind::Word),
+    (
+        b"gbalink 1\ncycles 1\nconsole 0\nkey 1 000",
+        4,
+        JobKind::Word,
+    ),
+    (b"gbalink 1\ncycles 1\nconsole 0\nsave s", 4, JobKind::Word),
+    (
+        b"gbalink 1\ncycles 1\nconsole 0\nconsole 1",
+        4,
+        JobKind::Word,
+    ),
+    (
+        b"gbalink 1\ncycles 1\nconsole 0\nbios b\nconsole 1",
+        5,
+        JobKind::Word,
+    ),
+    (
+        b"gbalink 1\ncycles 1\nconsole 0\nout frames",
+        4,
+        JobKind::Word,
+    ),
+    (
+        b"gbalink 1\ncycles 1\nconsole 0\nout State x",
+        4,
+        JobKind::Word,
+    ),
+    (b"cycles 1", 1, JobKind::Order),
+    (b"cycles x", 1, JobKind::Order),
+    (b"console 9", 1, JobKind::Order),
+    (b"bios -", 1, JobKind::Order),
+    (b"out", 1, JobKind::Order),
+    (b"end", 1, JobKind::Order),
+    (b"gbalink 1\nconsole 0", 2, JobKind::Order),
+    (b"gbalink 1\nbios b", 2, JobKind::Order),
+    (b"gbalink 1\nout state", 2, JobKind::Order),
+    (b"gbalink 1\ncycles 1\nend", 3, JobKind::Order),
+    (b"gbalink 1\ncycles 1\nconsole 1 x", 3, JobKind::Order),
+    (
+        b"gbalink 1\ncycles 1\nconsole 0\ncycles 1",
+        4,
+        JobKind::Order,
+    ),
+    (b"gbalink 1\ngbalink 2", 2, JobKind::Repeated),
+    (
+        b"gbalink 1\ncycles 1\nconsole 0\ngbalink",
+        4,
+        JobKind::Repeated,
+    ),
+    (b"gbalink 1\ncycles 1\ncycles x", 3, JobKind::Repeated),
+    (
+        b"gbalink 1\ncycles 1\nconsole 0\nbios b\nbios b\nend",
+        5,
+        JobKind::Repeated,
+    ),
+    (
+        b"gbalink 1\ncycles 1\nconsole 0\nbios b\nbios -",
+        5,
+        JobKind::Repeated,
+    ),
+    (
+        b"gbalink 1\ncycles 1\nconsole 0\nout state\nout state x",
+        5,
+        JobKind::Repeated,
+    ),
+    (b"gbalink 1\ncycles 0", 2, JobKind::Number),
+    (b"gbalink 1\ncycles 2147483649", 2, JobKind::Number),
+    (
+        b"gbalink 1\ncycles 000000000000000000001",
+        2,
+        JobKind::Number,
+    ),
+    (
+        b"gbalink 1\ncycles 18446744073709551617",
+        2,
+        JobKind::Number,
+    ),
+    (b"gbalink 1\ncycles +1 x", 2, JobKind::Number),
+    (b"gbalink 1\ncycles 1\nconsole 4", 3, JobKind::Number),
+    (b"gbalink 1\ncycles 1\nconsole x", 3, JobKind::Number),
+    (b"gbalink 1\ncycles 1\nconsole 0\nbios -", 4, JobKind::Name),
+    (
+        b"gbalink 1\ncycles 1\nconsole 0\nbios a*b c",
+        4,
+        JobKind::Name,
+    ),
+    (b"gbalink 1\ncycles 1\nconsole 0\nbios a~", 4, JobKind::Name),
+    (
+        b"gbalink 1\ncycles 1\nconsole 0\nbios a\\b",
+        4,
+        JobKind::Name,
+    ),
+];
+
 #[test]
 fn the_tests_of_a_line_have_their_order(rt: HostRuntime) {
-    let cases: [(&[u8], u64, JobKind); 42] = [
-        (b" #\n", 1, JobKind::Word),
-        (b"GBALINK 1\n", 1, JobKind::Word),
-        (b"gbalink 01", 1, JobKind::Word),
-        (b"gbalink 2 3", 1, JobKind::Word),
-        (b"cart c", 1, JobKind::Word),
-        (b"gbalink 1\ndelay 5", 2, JobKind::Word),
-        (b"gbalink 1\ncycles 1\nconsole 0\nkeys k", 4, JobKind::Word),
-        (
-            b"gbalink 1\ncycles 1\nconsole 0\nkey 1 000",
-            4,
-            JobKind::Word,
-        ),
-        (b"gbalink 1\ncycles 1\nconsole 0\nsave s", 4, JobKind::Word),
-        (
-            b"gbalink 1\ncycles 1\nconsole 0\nconsole 1",
-            4,
-            JobKind::Word,
-        ),
-        (
-            b"gbalink 1\ncycles 1\nconsole 0\nbios b\nconsole 1",
-            5,
-            JobKind::Word,
-        ),
-        (
-            b"gbalink 1\ncycles 1\nconsole 0\nout frames",
-            4,
-            JobKind::Word,
-        ),
-        (
-            b"gbalink 1\ncycles 1\nconsole 0\nout State x",
-            4,
-            JobKind::Word,
-        ),
-        (b"cycles 1", 1, JobKind::Order),
-        (b"cycles x", 1, JobKind::Order),
-        (b"console 9", 1, JobKind::Order),
-        (b"bios -", 1, JobKind::Order),
-        (b"out", 1, JobKind::Order),
-        (b"end", 1, JobKind::Order),
-        (b"gbalink 1\nconsole 0", 2, JobKind::Order),
-        (b"gbalink 1\nbios b", 2, JobKind::Order),
-        (b"gbalink 1\nout state", 2, JobKind::Order),
-        (b"gbalink 1\ncycles 1\nend", 3, JobKind::Order),
-        (b"gbalink 1\ncycles 1\nconsole 1 x", 3, JobKind::Order),
-        (
-            b"gbalink 1\ncycles 1\nconsole 0\ncycles 1",
-            4,
-            JobKind::Order,
-        ),
-        (b"gbalink 1\ngbalink 2", 2, JobKind::Repeated),
-        (
-            b"gbalink 1\ncycles 1\nconsole 0\ngbalink",
-            4,
-            JobKind::Repeated,
-        ),
-        (b"gbalink 1\ncycles 1\ncycles x", 3, JobKind::Repeated),
-        (
-            b"gbalink 1\ncycles 1\nconsole 0\nbios b\nbios b\nend",
-            5,
-            JobKind::Repeated,
-        ),
-        (
-            b"gbalink 1\ncycles 1\nconsole 0\nbios b\nbios -",
-            5,
-            JobKind::Repeated,
-        ),
-        (
-            b"gbalink 1\ncycles 1\nconsole 0\nout state\nout state x",
-            5,
-            JobKind::Repeated,
-        ),
-        (b"gbalink 1\ncycles 0", 2, JobKind::Number),
-        (b"gbalink 1\ncycles 2147483649", 2, JobKind::Number),
-        (
-            b"gbalink 1\ncycles 000000000000000000001",
-            2,
-            JobKind::Number,
-        ),
-        (
-            b"gbalink 1\ncycles 18446744073709551617",
-            2,
-            JobKind::Number,
-        ),
-        (b"gbalink 1\ncycles +1 x", 2, JobKind::Number),
-        (b"gbalink 1\ncycles 1\nconsole 4", 3, JobKind::Number),
-        (b"gbalink 1\ncycles 1\nconsole x", 3, JobKind::Number),
-        (b"gbalink 1\ncycles 1\nconsole 0\nbios -", 4, JobKind::Name),
-        (
-            b"gbalink 1\ncycles 1\nconsole 0\nbios a*b c",
-            4,
-            JobKind::Name,
-        ),
-        (b"gbalink 1\ncycles 1\nconsole 0\nbios a~", 4, JobKind::Name),
-        (
-            b"gbalink 1\ncycles 1\nconsole 0\nbios a\\b",
-            4,
-            JobKind::Name,
-        ),
-    ];
-    for (text, line, kind) in cases {
-        assert!(rt; refuses(rt.alloc(), text, line, kind), "of {text:?}");
+    for (text, line, kind) in &TESTS_IN_ORDER {
+        assert!(rt; refuses(rt.alloc(), text, *line, *kind), "of {text:?}");
     }
 }
 
@@ -448,4 +450,12 @@ fn refusals_are_told_by_line_and_kind(rt: HostRuntime) -> Result<(), Fail> {
     assert!(rt; is_name(b"a/b.c"));
     assert!(rt; !is_name(b"-"));
     Ok(())
+}
+
+// A law answers nothing: that it holds is its contract.
+#[test]
+fn the_laws_are_stated() {
+    laws::answered();
+    laws::one_answer();
+    laws::sound();
 }

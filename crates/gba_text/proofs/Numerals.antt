@@ -1,7 +1,6 @@
 -- Words of digits.
-use Rattle.std.proofs.Common.{◌≡◌, ◌≢◌, ℕ, ◌<◌, ◌≤◌, ◌^◌, Bool, true, false, cond, ◌&&◌, List, [], ◌∷◌, length, get_or, Result, Option, Some, None, Ok, Err, lit<, refl, ap, sym, ◌∙◌, arith, rules}
+use Rattle.std.proofs.Common.{◌≡◌, ◌≢◌, ℕ, ◌<◌, ◌≤◌, ◌^◌, Bool, true, false, ◌&&◌, List, [], ◌∷◌, length, get_or, Result, Some, None, lit<, refl, ap, arith, rules}
 use Rattle.std.specs.Char.{digit_value, is_ascii_digit, is_ascii_hexdigit}
-use Rattle.std.specs.List.{list_all}
 use Rattle.std.specs.Result.{OkIff, result_ok}
 use Rattle.std.specs.Str.{IsAscii}
 use Rattle.std.specs.Str.Parse.{AllDigits, ParsesUnsigned, digits_value}
@@ -12,7 +11,7 @@ use Rattle.std.proofs.lemmas.Result.{Ok-from_Ok_iff}
 use Rattle.std.proofs.lemmas.Str.Ascii.{IsAscii-cons}
 use Rattle.std.proofs.lemmas.Str.Parse.{numerals_by_value, parse_digits, without_leading_plus_none}
 use Rattle.gba_text.proofs.Spans.{first_of_all, rest_of_all}
-use Rattle.gba_text.specs.Numbers.{all_digits, all_hex_digits, is_number, is_within, number_of, hex_number_of}
+use Rattle.gba_text.specs.Numbers.{all_digits, all_hex_digits, is_number, is_within, number_of}
 
 digit-small : (c : ℕ) → is_ascii_digit c ≡ true → c < 128
 digit-small c h = grind (arith, nat_tests)

@@ -1,5 +1,5 @@
 -- What the next word, and the number that it spells, are.
-use Rattle.std.proofs.Common.{◌≡◌, ℕ, List, [], ◌∷◌, Option, Some, None, Result, Ok, Err, refl, ap, sym, ◌∙◌}
+use Rattle.std.proofs.Common.{◌≡◌, ℕ, List, [], ◌∷◌, Some, None, Ok, Err, refl}
 use Rattle.gba_text.specs.Numbers.{number_of, hex_number_of}
 use Rattle.gba_text.specs.Reading.{Reading, next_word, next_number, next_hex_number, or_number}
 use Rattle.gba_text.specs.Words.{fault_of}

@@ -1,4 +1,4 @@
-use Rattle.std.proofs.Common.{◌≡◌, List, ℕ, Some, None, Option, sym, refl, ap, ◌∙◌}
+use Rattle.std.proofs.Common.{◌≡◌, Some, None, sym, ◌∙◌}
 use Rattle.std.specs.Prelude.{decimal}
 use Rattle.gba_joblog.specs.Clash.{tail_after}
 use Rattle.gba_joblog.proofs.OutputNames.{console_writes-tail, console_writes-no_tail}

@@ -1,5 +1,5 @@
-use Rattle.std.proofs.Common.{◌≡◌, sym, refl, ap, ◌∙◌, arith, drop, map, ◌+◌}
-use Rattle.gba_joblog.specs.Clash.{inputs_clash, writes, least}
+use Rattle.std.proofs.Common.{sym, ◌∙◌, arith, map}
+use Rattle.gba_joblog.specs.Clash.{writes}
 use Rattle.gba_joblog.specs.Views.{console_value}
 use Rattle.gba_joblog.proofs.OutputNames.{clash_at, clash_done}
 use Rattle.gba_joblog.proofs.clash.inputs_clash.Goals as goal

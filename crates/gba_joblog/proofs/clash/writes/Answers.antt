@@ -1,5 +1,4 @@
-use Rattle.std.proofs.Common.{◌≡◌, ◌||◌, sym, refl, ap, ◌∙◌, arith, drop, map, ◌+◌, true, false, Bool}
-use Rattle.gba_joblog.specs.Clash.{writes}
+use Rattle.std.proofs.Common.{sym, ◌∙◌, arith}
 use Rattle.gba_joblog.specs.Views.{console_value}
 use Rattle.gba_joblog.proofs.OutputNames.{writes_at, writes_done}
 use Rattle.gba_joblog.proofs.clash.writes.Goals as goal

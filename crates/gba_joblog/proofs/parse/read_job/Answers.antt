@@ -1,4 +1,4 @@
-use Rattle.std.proofs.Common.{◌≡◌, ◌≤◌, ◌<◌, ◌+◌, length, refl, sym, ◌∙◌, arith}
+use Rattle.std.proofs.Common.{arith}
 use Rattle.gba_joblog.proofs.Reading.{reads_on, refuses, finishes, reads_few}
 use Rattle.gba_joblog.specs.Views.{draft_value, job_value}
 use Rattle.gba_joblog.proofs.parse.read_job.Goals as goal

@@ -1,7 +1,4 @@
-use Rattle.std.proofs.Common.{◌≡◌, ◌+◌, length}
-use Rattle.gba_text.specs.Lines.{lines}
-use Rattle.gba_joblog.specs.Draft.{nothing_said}
-use Rattle.gba_joblog.specs.Language.{lines_say}
+use Rattle.std.proofs.Common.{length}
 use Rattle.gba_joblog.specs.Views.{draft_value}
 use Rattle.gba_joblog.proofs.Reading.{IsReading}
 use Rattle.gba_joblog.proofs.parse.read_job.Given as goal

@@ -1,5 +1,4 @@
-use Rattle.std.proofs.Common.{◌≡◌, ◌<◌, ◌≤◌, true, length, eqb, eq-eqb, sym, ◌∙◌, refl, arith}
-use Rattle.std.specs.Str.Parse.{digits_value}
+use Rattle.std.proofs.Common.{◌≡◌, true, length, eqb, eq-eqb, ◌∙◌, refl, arith}
 use Rattle.gba_text.specs.Numbers.{all_hex_digits, hex_number_of}
 use Rattle.gba_text.proofs.Numerals.{IsAscii-from_hex_digits, parsed_hex_digits}
 use Rattle.gba_text.proofs.numbers.hex_number_in.Goals as goal

@@ -1,7 +1,6 @@
-use Rattle.std.proofs.Common.{◌≡◌, ◌<◌, ◌^◌, [], length, take, refl, sym, ap, ◌∙◌, arith}
+use Rattle.std.proofs.Common.{◌≡◌, [], refl, arith}
 use Rattle.std.proofs.lemmas.List.{nil_from_length}
 use Rattle.gba_text.proofs.FirstPieces.{lines_none}
-use Rattle.gba_text.specs.Lines.{lines}
 use Rattle.gba_text.proofs.cursor.Cursor.line.Goals as goal
 
 pub returns-then-is_empty-clause-line : goal.returns-then-is_empty-clause-line

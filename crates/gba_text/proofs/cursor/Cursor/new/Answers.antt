@@ -1,5 +1,4 @@
-use Rattle.std.proofs.Common.{◌≡◌, ◌<◌, ◌^◌, ◌-◌, [], length, take, drop, refl, sym, ap, ◌∙◌, arith}
-use Rattle.std.proofs.lemmas.List.{nil_from_length}
+use Rattle.std.proofs.Common.{◌≡◌, ◌-◌, [], length, take, drop, refl, arith}
 use Rattle.gba_text.specs.Words.{fault_of, words}
 use Rattle.gba_text.proofs.cursor.Cursor.new.Goals as goal
 
