@@ -1,0 +1,5 @@
+pub mod NameTexts
+pub mod Reading
+pub mod OutputNames
+pub mod Relation
+pub mod Sound

@@ -1,0 +1,263 @@
+-- Every job that is read is sound: each line keeps what is said so far sound.
+use Rattle.std.proofs.Common.{◌≡◌, ◌≤◌, ◌^◌, ℕ, ◌+◌, Bool, true, false, cond, not, List, [], ◌∷◌, ◌++◌, length, nat_lt, ◌==◌, ◌&&◌, Option, Some, None, Result, Ok, Err, refl, ap, sym, subst, ◌∙◌, arith}
+use Rattle.std.specs.Prelude.{IfOk, IfSome, is_some, slice_set}
+use Rattle.std.specs.Str.Parse.{digits_value}
+use Rattle.std.proofs.lemmas.List.{length-set}
+use Rattle.std.proofs.lemmas.Bool.Decides.{nat_tests}
+use Rattle.gba_text.specs.Lines.{lines}
+use Rattle.gba_text.specs.Numbers.{number_of, is_number, is_within}
+use Rattle.gba_text.specs.Reading.{rest_of}
+use Rattle.gba_text.specs.Words.{words, longest_line}
+use Rattle.gba_joblog.specs.Answers.{IsSaid, Parses}
+use Rattle.gba_joblog.specs.Draft.{Draft, nothing_said, silent_console}
+use Rattle.gba_joblog.specs.Job.{ConsoleJob, WholeJob}
+use Rattle.gba_joblog.specs.Kinds.{◌>>=◌, holds}
+use Rattle.gba_joblog.specs.Language.{Leads, EndsIn, line_says, said_with, first_word, words_say, keyword_says, statement_of, unless_ended, is_comment, added_if, finished, finished_at, job_with, job_of, usual_delay}
+use Rattle.gba_joblog.specs.Names.{is_name}
+use Rattle.gba_joblog.specs.Operands.{Words, Taken, word_at, number_in, number_at, name_in, name_of, name_at, version_at, out_kind_at, end_at, or_refused, taken}
+use Rattle.gba_joblog.specs.Soundness.{IsFile, IsPartOfConsole, IsConsole, IsJob}
+use Rattle.gba_joblog.specs.Statements.{Statement, Version, Cycles, Console, Bios, Out, End, keyword_of, refusal_at, arguments, added, at_start, in_console, before_console, plain_file, plain_output, place_of, asks_for}
+use Rattle.gba_joblog.specs.declared.draft.Place.{Place}
+use Rattle.gba_joblog.specs.declared.draft.Place.TheVariants.{Start, Head, Inside, Ended}
+use Rattle.gba_joblog.specs.declared.kinds.ParseRefused.{ParseRefused}
+use Rattle.gba_joblog.specs.declared.kinds.ParseRefused.TheVariants as refusal
+use Rattle.gba_joblog.specs.declared.kinds.JobKind.{JobKind}
+use Rattle.gba_joblog.specs.declared.kinds.JobKind.TheVariants.{Order, Repeated, Missing, Long}
+use Rattle.gba_joblog.specs.declared.statement.Keyword.{Keyword}
+use Rattle.gba_joblog.specs.declared.statement.Keyword.TheVariants as keyword
+use Rattle.gba_joblog.proofs.Relation.{says}
+
+abbrev pub InRange : ℕ → Type 0
+InRange cycles = (1 ≤ cycles) × (cycles ≤ 2 ^ 31)
+
+-- the consoles that are whole, by the place
+abbrev pub AreConsoles : Place → List ConsoleJob → Type 0
+AreConsoles Start consoles = consoles ≡ []
+AreConsoles Head consoles = consoles ≡ []
+AreConsoles Inside consoles = consoles ≡ []
+AreConsoles Ended consoles = (console : ConsoleJob) × (consoles ≡ console ∷ []) × IsConsole console
+
+pub record IsDraft (d : Draft) : Type 0 where
+  cycles : IfSome d.cycles InRange
+  last : IsPartOfConsole d.last
+  consoles : AreConsoles d.place d.consoles
+
+silent : IsPartOfConsole silent_console
+silent = record { bios = tt; cart = refl; save = refl; keys = refl; changes = refl; five = refl }
+
+pub begins : IsDraft nothing_said
+begins = record { cycles = tt; last = silent; consoles = refl }
+
+-- what a step gave and what the steps after it made of that
+bind-ok : {A B : Type 0} (r : Result A JobKind) (f : A → Result B JobKind) (y : B) → (r >>= f) ≡ Ok y → (x : A) × (r ≡ Ok x) × (f x ≡ Ok y)
+bind-ok (Ok x) f y h = (x, refl, h)
+bind-ok (Err kind) f y h = absurd cc
+
+ok-is : {A E : Type 0} (x y : A) → ◌≡◌ {A = Result A E} (Ok x) (Ok y) → x ≡ y
+ok-is x y h = cc
+
+some-is : {A : Type 0} (x y : A) → Some x ≡ Some y → x ≡ y
+some-is x y h = cc
+
+starts : (place : Place) → at_start place ≡ None → place ≡ Start
+starts Start h = refl
+starts Head h = absurd cc
+starts Inside h = absurd cc
+starts Ended h = absurd cc
+
+heads : (place : Place) (said : Bool) → before_console place said ≡ None → place ≡ Head
+heads Start said h = absurd cc
+heads Head said h = refl
+heads Inside said h = absurd cc
+heads Ended said h = absurd cc
+
+insides : (place : Place) (refusal : Option JobKind) → in_console place refusal ≡ None → place ≡ Inside
+insides Start refusal h = absurd cc
+insides Head refusal h = absurd cc
+insides Inside refusal h = refl
+insides Ended refusal h = absurd cc
+
+held-true : (b : Bool) (kind : JobKind) (x : Bool) → holds b kind ≡ Ok x → b ≡ true
+held-true true kind x h = refl
+held-true false kind x h = absurd cc
+
+number-range : (least most n : ℕ) (word : List ℕ) → number_of least most word ≡ Some n → (least ≤ n) × (n ≤ most)
+unfolding number_of
+number-range least most n word h = by_test (is_number word && is_within least most (digits_value 10 word)) refl h where
+  by_test : (t : Bool) → (is_number word && is_within least most (digits_value 10 word)) ≡ t → cond t (Some (digits_value 10 word)) None ≡ Some n → (least ≤ n) × (n ≤ most)
+  by_test true e s =
+      let same : digits_value 10 word ≡ n = cc in
+      let low : least ≤ digits_value 10 word = grind (arith, nat_tests) in
+      let high : digits_value 10 word ≤ most = grind (arith, nat_tests) in
+      (omega arith, omega arith)
+  by_test false e s = absurd cc
+
+refused-some : {T : Type 0} (kind : JobKind) (words : Words) (o : Option T) (t : Taken T) → or_refused kind words o ≡ Ok t → o ≡ Some t.value
+refused-some kind words (Some x) t h = let same : taken x words ≡ t = cc in ap (λ t. Some t.value) same
+refused-some kind words None t h = absurd cc
+
+number_at-range : (least most : ℕ) (ws : Words) (t : Taken ℕ) → number_at least most ws ≡ Ok t → (least ≤ t.value) × (t.value ≤ most)
+unfolding number_at
+number_at-range least most ws t h =
+    let b = bind-ok (word_at ws) (number_in least most) t h in
+    number-range least most t.value b.0.value (refused-some _ _ (number_of least most b.0.value) t b.2)
+
+name-is : (word name : List ℕ) → name_of word ≡ Some name → is_name name ≡ true
+name-is word name h = by_test (is_name word) refl h where
+  by_test : (t : Bool) → is_name word ≡ t → cond t (Some word) None ≡ Some name → is_name name ≡ true
+  by_test true e s = let same : word ≡ name = cc in rw (← same) e
+  by_test false e s = absurd cc
+
+name_at-is : (ws : Words) (t : Taken (List ℕ)) → name_at ws ≡ Ok t → is_name t.value ≡ true
+unfolding name_at
+name_at-is ws t h =
+    let b = bind-ok (word_at ws) name_in t h in
+    name-is b.0.value t.value (refused-some _ _ (name_of b.0.value) t b.2)
+
+-- each keyword with its operands keeps what is said sound
+keeps : (n : ℕ) (d : Draft) (k : Keyword) (ws : Words) (s : Statement) → IsDraft d → refusal_at d k ≡ None → arguments d k ws ≡ Ok s → IsDraft (added n s d)
+unfolding refusal_at arguments added
+keeps n d keyword.Version ws s h place e =
+    let b = bind-ok (version_at ws) (λ version. end_at version.words >>= (λ _. Ok Version)) s e in
+    let c = bind-ok (end_at b.0.words) (λ _. Ok Version) s b.2 in
+    let same : s ≡ Version = sym (ok-is Version s c.2) in
+    let here : d.place ≡ Start = starts d.place place in
+    let none : d.consoles ≡ [] = rw here at h.consoles in
+    rw same (record { cycles = h.cycles; last = h.last; consoles = none })
+keeps n d keyword.Cycles ws s h place e =
+    let b = bind-ok (number_at 1 (2 ^ 31) ws) (λ cycles. end_at cycles.words >>= (λ _. Ok (Cycles cycles.value))) s e in
+    let c = bind-ok (end_at b.0.words) (λ _. Ok (Cycles b.0.value)) s b.2 in
+    let same : s ≡ Cycles b.0.value = sym (ok-is (Cycles b.0.value) s c.2) in
+    rw same (record { cycles = number_at-range 1 (2 ^ 31) ws b.0 b.1; last = h.last; consoles = h.consoles })
+keeps n d keyword.Console ws s h place e =
+    let b = bind-ok (number_at 0 3 ws)
+    (λ player. holds (player.value == length d.consoles) Order >>= (λ _. end_at player.words >>= (λ _. Ok Console))) s e in
+    let c = bind-ok (holds (b.0.value == length d.consoles) Order) (λ _. end_at b.0.words >>= (λ _. Ok Console)) s b.2 in
+    let f = bind-ok (end_at b.0.words) (λ _. Ok Console) s c.2 in
+    let same : s ≡ Console = sym (ok-is Console s f.2) in
+    let here : d.place ≡ Head = heads d.place (is_some d.cycles) place in
+    let none : d.consoles ≡ [] = rw here at h.consoles in
+    rw same (record { cycles = h.cycles; last = h.last; consoles = none })
+keeps n d keyword.Bios ws s h place e =
+    let b = bind-ok (name_at ws) (λ name. end_at name.words >>= (λ _. Ok (Bios name.value))) s e in
+    let c = bind-ok (end_at b.0.words) (λ _. Ok (Bios b.0.value)) s b.2 in
+    let same : s ≡ Bios b.0.value = sym (ok-is (Bios b.0.value) s c.2) in
+    let file : IsFile (plain_file b.0.value n) = record { named = name_at-is ws b.0 b.1; plain = refl } in
+    rw same (record {
+      cycles = h.cycles;
+      last = record { bios = file; cart = h.last.cart; save = h.last.save; keys = h.last.keys; changes = h.last.changes; five = h.last.five };
+      consoles = h.consoles;
+    })
+keeps n d keyword.Out ws s h place e =
+    let b = bind-ok (out_kind_at ws)
+    (λ out. holds (not (asks_for d.last out.value)) Repeated >>= (λ _. end_at out.words >>= (λ _. Ok (Out out.value)))) s e in
+    let c = bind-ok (holds (not (asks_for d.last b.0.value)) Repeated) (λ _. end_at b.0.words >>= (λ _. Ok (Out b.0.value))) s b.2 in
+    let f = bind-ok (end_at b.0.words) (λ _. Ok (Out b.0.value)) s c.2 in
+    let same : s ≡ Out b.0.value = sym (ok-is (Out b.0.value) s f.2) in
+    let five : length (slice_set d.last.outs (place_of b.0.value) (Some plain_output)) ≡ 5 = rw length-set h.last.five in
+    rw same (record {
+      cycles = h.cycles;
+      last = record { bios = h.last.bios; cart = h.last.cart; save = h.last.save; keys = h.last.keys; changes = h.last.changes; five = five };
+      consoles = h.consoles;
+    })
+keeps n d keyword.End ws s h place e =
+    let b = bind-ok (holds (is_some d.last.bios) Missing) (λ _. end_at ws >>= (λ _. Ok End)) s e in
+    let c = bind-ok (end_at ws) (λ _. Ok End) s b.2 in
+    let same : s ≡ End = sym (ok-is End s c.2) in
+    let here : d.place ≡ Inside = insides d.place None place in
+    let none : d.consoles ≡ [] = rw here at h.consoles in
+    let image : is_some d.last.bios ≡ true = held-true (is_some d.last.bios) Missing b.0 b.1 in
+    rw same (record {
+      cycles = h.cycles;
+      last = silent;
+      consoles = (d.last, ap (λ cs. cs ++ d.last ∷ []) none, record { part = h.last; image = image });
+    })
+
+not-ended : (place : Place) (said : Result (Option Statement) JobKind) (s : Statement) → unless_ended place said ≡ Ok (Some s) → said ≡ Ok (Some s)
+not-ended Start said s h = h
+not-ended Head said s h = h
+not-ended Inside said s h = h
+not-ended Ended said s h = absurd cc
+
+-- a keyword that may stand there, with operands that are right
+record IsStatement (d : Draft) (s : Statement) : Type 0 where
+  keyword : Keyword
+  words : Words
+  place : refusal_at d keyword ≡ None
+  right : arguments d keyword words ≡ Ok s
+
+by_place : (d : Draft) (k : Keyword) (ws : Words) (s : Statement) (o : Option JobKind) → refusal_at d k ≡ o → statement_of d k ws o ≡ Ok (Some s) → IsStatement d s
+by_place d k ws s None place h =
+    let b = bind-ok (arguments d k ws) (λ statement. Ok (Some statement)) (Some s) h in
+    let same : b.0 ≡ s = some-is b.0 s (ok-is (Some b.0) (Some s) b.2) in
+    record { keyword = k; words = ws; place = place; right = b.1 ∙ ap (λ s. Ok s) same }
+by_place d k ws s (Some kind) place h = absurd cc
+
+by_keyword : (d : Draft) (ws : Words) (s : Statement) (o : Option Keyword) → keyword_says d ws o ≡ Ok (Some s) → IsStatement d s
+by_keyword d ws s None h = absurd cc
+by_keyword d ws s (Some k) h = by_place d k ws s (refusal_at d k) refl h
+
+by_words : (d : Draft) (ws : Words) (s : Statement) (o : Option (List ℕ)) → words_say d ws o ≡ Ok (Some s) → IsStatement d s
+by_words d ws s None h = absurd cc
+by_words d ws s (Some word) h = by_keyword d ws s (keyword_of word) (not-ended d.place (keyword_says d ws (keyword_of word)) s h)
+
+by_text : (d : Draft) (line : List ℕ) (s : Statement) (long comment : Bool)
+    → cond long (Err Long) (cond comment (Ok None) (first_word line (words line) >>= words_say d (rest_of (words line)))) ≡ Ok (Some s) → IsStatement d s
+by_text d line s true comment h = absurd cc
+by_text d line s false true h = absurd cc
+by_text d line s false false h =
+    let b = bind-ok (first_word line (words line)) (words_say d (rest_of (words line))) (Some s) h in
+    by_words d (rest_of (words line)) s b.0 b.2
+
+says-statement : (d : Draft) (line : List ℕ) (s : Statement) → line_says d line ≡ Ok (Some s) → IsStatement d s
+unfolding line_says
+says-statement d line s h = by_text d line s (nat_lt longest_line (length line)) (is_comment line) h
+
+with_statement : (n : ℕ) (d : Draft) (line : List ℕ) (o : Option Statement) → IsDraft d → line_says d line ≡ Ok o → IsDraft (added_if n d o)
+with_statement n d line None h said = h
+with_statement n d line (Some s) h said =
+    let is = says-statement d line s said in
+    keeps n d is.keyword is.words s h is.place is.right
+
+line-keeps : (n : ℕ) (d e : Draft) (line : List ℕ) → IsDraft d → said_with n d line ≡ Ok e → IsDraft e
+unfolding said_with
+line-keeps n d e line h said =
+    let b = bind-ok (line_says d line) (λ statement. Ok (added_if n d statement)) e said in
+    subst IsDraft (ok-is (added_if n d b.0) e b.2) (with_statement n d line b.0 h b.1)
+
+lines-keep : (n : ℕ) (d e : Draft) (ls : List (List ℕ)) → IsDraft d → Leads n d ls e → IsDraft e
+unfolding Leads
+lines-keep n d e [] h leads = subst IsDraft leads h
+lines-keep n d e (line ∷ ls) h leads = lines-keep (n + 1) leads.0 e ls (line-keeps (n + 1) d leads.0 line h leads.1) leads.2
+
+by_cycles : (d : Draft) (o : Option ℕ) (n : ℕ) (job : WholeJob) → IfSome o InRange → AreConsoles Ended d.consoles → job_with d o n ≡ Ok job → IsJob job
+by_cycles d None n job range consoles h = absurd cc
+by_cycles d (Some cycles) n job range consoles h =
+    subst IsJob (ok-is (record { cycles = cycles; delay = usual_delay; consoles = d.consoles }) job h)
+    (record { some_cycles = range.0; few_cycles = range.1; delay = refl; console = consoles.0; alone = consoles.1; whole = consoles.2 })
+
+by_end : (d : Draft) (place : Place) (n : ℕ) (job : WholeJob) → IfSome d.cycles InRange → AreConsoles place d.consoles → finished_at d place n ≡ Ok job → IsJob job
+by_end d Start n job range consoles h = absurd cc
+by_end d Head n job range consoles h = absurd cc
+by_end d Inside n job range consoles h = absurd cc
+by_end d Ended n job range consoles h = by_cycles d d.cycles n job range consoles h
+
+at-end : (n : ℕ) (d : Draft) (job : WholeJob) → IsDraft d → finished n d ≡ Ok job → IsJob job
+unfolding finished
+at-end n d job h end = by_end d d.place n job h.cycles h.consoles end
+
+-- each job that is read is sound
+pub sound : (bytes : List ℕ) (job : WholeJob) → job_of bytes ≡ Ok job → IsJob job
+sound bytes job h =
+    let ends : EndsIn bytes (Ok job) = rw h at (says bytes) in
+    at-end (length (lines bytes)) ends.said job (lines-keep 0 nothing_said ends.said (lines bytes) begins ends.leads) ends.end
+
+-- what the function says of an answer, the relation says too
+pub is_said : {X : Type 0} (view : X → WholeJob) (bytes : List ℕ) (answer : Result X ParseRefused) → Parses view answer (job_of bytes) → IsSaid view bytes answer
+is_said view bytes (Ok x) h = rw h at (says bytes)
+is_said view bytes (Err (refusal.Job e)) h = rw h at (says bytes)
+is_said view bytes (Err refusal.NoMemory) h = tt
+
+pub is_sound : {X : Type 0} (view : X → WholeJob) (bytes : List ℕ) (answer : Result X ParseRefused) → Parses view answer (job_of bytes) → IfOk answer (λ x. IsJob (view x))
+is_sound view bytes (Ok x) h = sound bytes (view x) h
+is_sound view bytes (Err e) h = tt

@@ -1,0 +1,78 @@
+-- Names of output files that are also the name of the job or of an input.
+use Rattle.std.specs.Prelude.{ℕ, ◌+◌, Bool, false, ◌&&◌, ◌||◌, nat_le, nat_eq, List, [], ◌∷◌, ◌++◌, length, take, drop, codes, decimal, Option, Some, None, option_and_then, if◌then◌else◌}
+use Rattle.std.specs.Cmp.Lexicographic.{pointwise}
+use Rattle.std.specs.Str.{bytes_eq}
+use Rattle.gba_joblog.specs.Job.{ConsoleJob, NamedFile, WholeJob}
+use Rattle.gba_joblog.specs.Statements.{asks_for}
+use Rattle.gba_joblog.specs.declared.job.OutKind.{OutKind}
+use Rattle.gba_joblog.specs.declared.job.OutKind.TheVariants.{Frames, Samples, Words, State, Save}
+
+-- the end of an output's name
+abbrev pub out_name : OutKind → List ℕ
+out_name Frames = codes "frames"
+out_name Samples = codes "samples"
+out_name Words = codes "words"
+out_name State = codes "state"
+out_name Save = codes "save"
+
+-- the name of a console's output under OUT, as `OUT.0.state`
+abbrev pub output_file : List ℕ → ℕ → OutKind → List ℕ
+output_file out player kind = out ++ (codes "." ++ (decimal player ++ (codes "." ++ out_name kind)))
+
+-- whether a console writes a file of this name
+abbrev pub writes_as : List ℕ → ℕ → ConsoleJob → List ℕ → OutKind → Bool
+writes_as out player console name kind = asks_for console kind && bytes_eq name (output_file out player kind)
+
+unfoldable pub console_writes : List ℕ → ℕ → ConsoleJob → List ℕ → Bool
+console_writes out player console name =
+    writes_as out player console name Frames || writes_as out player console name Samples
+    || writes_as out player console name Words || writes_as out player console name State
+    || writes_as out player console name Save
+
+-- whether one of these consoles, which stand after so many others, writes a file of this name
+unfoldable pub writes : List ℕ → ℕ → List ConsoleJob → List ℕ → Bool
+writes out player [] name = false
+writes out player (console ∷ consoles) name = console_writes out player console name || writes out (player + 1) consoles name
+
+-- the lesser of two lines, where both are there
+abbrev pub least : Option ℕ → Option ℕ → Option ℕ
+least None line = line
+least (Some m) None = Some m
+least (Some m) (Some n) = if nat_le m n then Some m else Some n
+
+-- the line of an input, where its name is that of an output
+abbrev pub line_of : (List ℕ → Bool) → Option NamedFile → Option ℕ
+line_of is_output None = None
+line_of is_output (Some file) = if is_output file.name then Some file.line else None
+
+unfoldable pub console_clash : (List ℕ → Bool) → ConsoleJob → Option ℕ
+console_clash is_output console =
+    least (line_of is_output console.bios)
+    (least (line_of is_output console.cart) (least (line_of is_output console.save) (line_of is_output console.keys)))
+
+unfoldable pub inputs_clash : (List ℕ → Bool) → List ConsoleJob → Option ℕ
+inputs_clash is_output [] = None
+inputs_clash is_output (console ∷ consoles) = least (console_clash is_output console) (inputs_clash is_output consoles)
+
+abbrev pub clash_under : (List ℕ → Bool) → WholeJob → List ℕ → Option ℕ
+clash_under is_output job name = if is_output name then Some 0 else inputs_clash is_output job.consoles
+
+-- The clash of a job that is read from the file `name` and writes under `out`: 0 where an output would be that file,
+-- else the least line of an input that an output would be.
+unfoldable pub clash_of : WholeJob → List ℕ → List ℕ → Option ℕ
+clash_of job name out = clash_under (writes out 0 job.consoles) job name
+
+-- What follows a text at the front of the bytes, where they begin with it. Only private functions cite this and the next.
+abbrev pub after_text : List ℕ → List ℕ → Option (List ℕ)
+after_text text bytes = if pointwise nat_eq (take (length text) bytes) text then Some (drop (length text) bytes) else None
+
+unfoldable pub tail_after : List ℕ → List ℕ → List ℕ → Option (List ℕ)
+tail_after out player name =
+    option_and_then (after_text (codes "."))
+    (option_and_then (after_text player) (option_and_then (after_text (codes ".")) (after_text out name)))
+
+abbrev pub ends_as : ConsoleJob → List ℕ → Bool
+ends_as console tail =
+    (asks_for console Frames && bytes_eq tail (codes "frames")) || (asks_for console Samples && bytes_eq tail (codes "samples"))
+    || (asks_for console Words && bytes_eq tail (codes "words")) || (asks_for console State && bytes_eq tail (codes "state"))
+    || (asks_for console Save && bytes_eq tail (codes "save"))

@@ -1,0 +1,42 @@
+use Rattle.std.specs.Prelude.{List, ℕ, ◌++◌, codes, decimal, Result, Ok, Err, Bool, true, false}
+use Rattle.gba_text.specs.declared.kinds.TextKind.{TextKind}
+use Rattle.gba_text.specs.declared.kinds.TextKind.TheVariants as text
+use Rattle.gba_joblog.specs.declared.kinds.JobError.{JobError}
+use Rattle.gba_joblog.specs.declared.kinds.JobKind.{JobKind}
+use Rattle.gba_joblog.specs.declared.kinds.JobKind.TheVariants.{Byte, Word, Number, Name, Digest, Order, Repeated, Missing, Extra, Long, Clash}
+
+-- the name of a kind in reports
+abbrev pub kind_name : JobKind → List ℕ
+kind_name Byte = codes "Byte"
+kind_name Word = codes "Word"
+kind_name Number = codes "Number"
+kind_name Name = codes "Name"
+kind_name Digest = codes "Digest"
+kind_name Order = codes "Order"
+kind_name Repeated = codes "Repeated"
+kind_name Missing = codes "Missing"
+kind_name Extra = codes "Extra"
+kind_name Long = codes "Long"
+kind_name Clash = codes "Clash"
+
+-- how a refusal is told: its line and its kind
+abbrev pub refusal_text : JobError → List ℕ
+refusal_text e = codes "line " ++ decimal e.line ++ codes " " ++ kind_name e.kind
+
+-- what is wrong with a line's bytes or its words, as a kind of the job language
+abbrev pub kind_of_text : TextKind → JobKind
+kind_of_text text.Byte = Byte
+kind_of_text text.Missing = Missing
+kind_of_text text.Number = Number
+kind_of_text text.Long = Long
+
+-- one step after another: the first refusal decides
+infixl 10 ◌>>=◌
+abbrev pub ◌>>=◌ : {A B : Type 0} → Result A JobKind → (A → Result B JobKind) → Result B JobKind
+(Ok x) >>= f = f x
+(Err kind) >>= f = Err kind
+
+-- refused with this kind unless the test holds
+abbrev pub holds : Bool → JobKind → Result Bool JobKind
+holds true kind = Ok true
+holds false kind = Err kind

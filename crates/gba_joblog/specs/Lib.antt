@@ -1,0 +1,11 @@
+pub mod Kinds
+pub mod Job
+pub mod Names
+pub mod Draft
+pub mod Operands
+pub mod Statements
+pub mod Language
+pub mod Soundness
+pub mod Clash
+pub mod Views
+pub mod Answers

@@ -1,0 +1,74 @@
+-- The words after a line's first one, from left to right: each reader takes the next word, or says why it can't.
+use Rattle.std.specs.Prelude.{ℕ, Bool, true, List, [], ◌∷◌, codes, Option, Some, None, Result, Ok, Err, if◌then◌else◌}
+use Rattle.std.specs.Str.{bytes_eq}
+use Rattle.gba_text.specs.Numbers.{number_of}
+use Rattle.gba_joblog.specs.Kinds.{◌>>=◌}
+use Rattle.gba_joblog.specs.Names.{is_name}
+use Rattle.gba_joblog.specs.declared.job.OutKind.{OutKind}
+use Rattle.gba_joblog.specs.declared.job.OutKind.TheVariants.{State}
+use Rattle.gba_joblog.specs.declared.kinds.JobKind.{JobKind}
+use Rattle.gba_joblog.specs.declared.kinds.JobKind.TheVariants.{Word, Number, Name, Missing, Extra}
+
+-- the words that aren't read yet
+abbrev pub Words : Type 0
+Words = List (List ℕ)
+
+-- an operand, and the words after it
+pub record Taken (T : Type 0) : Type 0 where
+  pub value : T
+  pub words : Words
+
+abbrev pub taken : {T : Type 0} → T → Words → Taken T
+taken value words = record { value = value; words = words }
+
+abbrev pub word_at : Words → Result (Taken (List ℕ)) JobKind
+word_at [] = Err Missing
+word_at (word ∷ words) = Ok (taken word words)
+
+abbrev pub or_refused : {T : Type 0} → JobKind → Words → Option T → Result (Taken T) JobKind
+or_refused kind words (Some value) = Ok (taken value words)
+or_refused kind words None = Err kind
+
+abbrev pub number_in : ℕ → ℕ → Taken (List ℕ) → Result (Taken ℕ) JobKind
+number_in least most t = or_refused Number t.words (number_of least most t.value)
+
+-- a number from `least` to `most`
+unfoldable pub number_at : ℕ → ℕ → Words → Result (Taken ℕ) JobKind
+number_at least most words = word_at words >>= number_in least most
+
+abbrev pub name_of : List ℕ → Option (List ℕ)
+name_of word = if is_name word then Some word else None
+
+abbrev pub name_in : Taken (List ℕ) → Result (Taken (List ℕ)) JobKind
+name_in t = or_refused Name t.words (name_of t.value)
+
+-- a file's name
+unfoldable pub name_at : Words → Result (Taken (List ℕ)) JobKind
+name_at words = word_at words >>= name_in
+
+-- the version of the language that is understood
+abbrev pub version_of : List ℕ → Option Bool
+version_of word = if bytes_eq word (codes "1") then Some true else None
+
+abbrev pub version_in : Taken (List ℕ) → Result (Taken Bool) JobKind
+version_in t = or_refused Word t.words (version_of t.value)
+
+-- the word `1`, the version
+unfoldable pub version_at : Words → Result (Taken Bool) JobKind
+version_at words = word_at words >>= version_in
+
+-- the outputs that can be asked for so far
+abbrev pub out_kind_of : List ℕ → Option OutKind
+out_kind_of word = if bytes_eq word (codes "state") then Some State else None
+
+abbrev pub out_kind_in : Taken (List ℕ) → Result (Taken OutKind) JobKind
+out_kind_in t = or_refused Word t.words (out_kind_of t.value)
+
+-- the kind of an output
+unfoldable pub out_kind_at : Words → Result (Taken OutKind) JobKind
+out_kind_at words = word_at words >>= out_kind_in
+
+-- nothing follows
+abbrev pub end_at : Words → Result Bool JobKind
+end_at [] = Ok true
+end_at (_ ∷ _) = Err Extra

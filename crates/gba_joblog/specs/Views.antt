@@ -1,0 +1,43 @@
+use Rattle.std.specs.Prelude.{map, option_map, string_bytes}
+use Rattle.gba_joblog.specs.Draft.{Draft}
+use Rattle.gba_joblog.specs.Job.{ConsoleJob, NamedFile, WholeJob}
+use Rattle.gba_joblog.specs.Statements.{Statement, Version, Cycles, Console, Bios, Out, End}
+use Rattle.gba_joblog.specs.declared.draft.DraftJob.{DraftJob}
+use Rattle.gba_joblog.specs.declared.job.FileLine.{FileLine}
+use Rattle.gba_joblog.specs.declared.job.Job.{Job}
+use Rattle.gba_joblog.specs.declared.job.JobConsole.{JobConsole}
+use Rattle.gba_joblog.specs.declared.statement.Line.{Line}
+use Rattle.gba_joblog.specs.declared.statement.Line.TheVariants as line
+
+-- what the program's types stand for
+abbrev pub file_value : FileLine → NamedFile
+file_value file = record { name = string_bytes file.name; digest = file.digest; line = file.line }
+
+abbrev pub console_value : JobConsole → ConsoleJob
+console_value console = record {
+  bios = option_map file_value console.bios;
+  cart = option_map file_value console.cart;
+  save = option_map file_value console.save;
+  keys = option_map file_value console.keys;
+  changes = console.changes.items;
+  outs = console.outs;
+}
+
+abbrev pub job_value : Job → WholeJob
+job_value job = record { cycles = job.cycles; delay = job.delay; consoles = map console_value job.consoles.items }
+
+abbrev pub draft_value : DraftJob → Draft
+draft_value draft = record {
+  place = draft.place;
+  cycles = draft.cycles;
+  consoles = map console_value draft.consoles.items;
+  last = console_value draft.last;
+}
+
+abbrev pub statement_value : Line → Statement
+statement_value line.Version = Version
+statement_value (line.Cycles cycles) = Cycles cycles
+statement_value line.Console = Console
+statement_value (line.Bios name) = Bios name.now
+statement_value (line.Out out) = Out out
+statement_value line.End = End

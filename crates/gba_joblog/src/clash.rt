@@ -1,0 +1,118 @@
+//! Output files that would be the job or one of its inputs.
+
+ghost use Rattle.std.specs.Prelude.{◌≡◌, ◌<◌, ◌^◌, decimal, map, option_map};
+ghost use Rattle.gba_joblog.specs.Clash.{clash_of, console_clash as console_clash_of, console_writes as console_writes_of, ends_as as ends_as_of, inputs_clash as inputs_clash_of, least as least_of, line_of as line_of_of, tail_after as tail_after_of, writes as writes_of};
+ghost use Rattle.gba_joblog.specs.Views.{console_value, file_value, job_value};
+
+use crate::job::{FileLine, Job, JobConsole, OutKind};
+use itoa::Buffer;
+
+/// What follows `OUT.K.` in a name.
+#[tactic(auto, unfolding(crate::specs::Clash::tail_after))]
+fn tail_after<'a>(name: &'a [u8], out: &[u8], player: &[u8]) -> Option<&'a [u8]>
+    ensures { option_map (λ tail. tail.now) result ≡ tail_after_of out.now player.now name.now }
+{
+    name.strip_prefix(out)?
+        .strip_prefix(b".".as_slice())?
+        .strip_prefix(player)?
+        .strip_prefix(b".".as_slice())
+}
+
+/// Whether a console is asked for the output of this name.
+fn ends_as(console: &JobConsole, tail: &[u8]) -> bool
+    ensures { result ≡ ends_as_of (console_value console.now) tail.now }
+{
+    (console.asks_for(OutKind::Frames) && tail == b"frames".as_slice())
+        || (console.asks_for(OutKind::Samples) && tail == b"samples".as_slice())
+        || (console.asks_for(OutKind::Words) && tail == b"words".as_slice())
+        || (console.asks_for(OutKind::State) && tail == b"state".as_slice())
+        || (console.asks_for(OutKind::Save) && tail == b"save".as_slice())
+}
+
+/// Whether console `player` writes a file of this name.
+fn console_writes(out: &[u8], player: u64, console: &JobConsole, name: &[u8]) -> bool
+    ensures { result ≡ console_writes_of out.now player (console_value console.now) name.now }
+{
+    let mut buffer = Buffer::new();
+    match tail_after(name, out, buffer.format(player).as_bytes()) {
+        Some(tail) => ends_as(console, tail),
+        None => false,
+    }
+}
+
+/// Whether one of the consoles writes a file of this name.
+fn writes(out: &[u8], consoles: &[JobConsole], name: &[u8]) -> bool
+    ensures { result ≡ writes_of out.now 0 (map console_value consoles.now) name.now }
+{
+    for (player, console) in consoles.iter().enumerate() {
+        if console_writes(out, player as u64, console, name) {
+            return true;
+        }
+    }
+    false
+}
+
+/// The lesser of two lines, where both are there.
+fn least(a: Option<u64>, b: Option<u64>) -> Option<u64>
+    ensures { result ≡ least_of a b }
+{
+    match (a, b) {
+        (Some(m), Some(n)) => { if m <= n { Some(m) } else { Some(n) } }
+        (Some(m), None) => Some(m),
+        (None, line) => line,
+    }
+}
+
+/// The line of an input that an output would be.
+fn line_of(out: &[u8], consoles: &[JobConsole], file: &Option<FileLine>) -> Option<u64>
+    ensures { result ≡ line_of_of (writes_of out.now 0 (map console_value consoles.now)) (option_map file_value file.now) }
+{
+    match file {
+        Some(file) => {
+            if writes(out, consoles, file.name.as_bytes()) {
+                Some(file.line)
+            } else {
+                None
+            }
+        }
+        None => None,
+    }
+}
+
+/// The least line of a console's inputs that an output would be.
+#[tactic(auto, unfolding(crate::specs::Clash::console_clash))]
+fn console_clash(out: &[u8], consoles: &[JobConsole], console: &JobConsole) -> Option<u64>
+    ensures { result ≡ console_clash_of (writes_of out.now 0 (map console_value consoles.now)) (console_value console.now) }
+{
+    let bios = line_of(out, consoles, &console.bios);
+    let cart = line_of(out, consoles, &console.cart);
+    let save = line_of(out, consoles, &console.save);
+    let keys = line_of(out, consoles, &console.keys);
+    least(bios, least(cart, least(save, keys)))
+}
+
+/// The least line of an input that an output would be.
+fn inputs_clash(out: &[u8], consoles: &[JobConsole]) -> Option<u64>
+    ensures { result ≡ inputs_clash_of (writes_of out.now 0 (map console_value consoles.now)) (map console_value consoles.now) }
+{
+    let mut found = None;
+    for console in consoles {
+        found = least(found, console_clash(out, consoles, console));
+    }
+    found
+}
+
+impl Job {
+    /// Where an output file of a run with this OUT would be the file of the job, line 0, or one of its inputs: then the
+    /// least line of such an input.
+    #[tactic(auto, unfolding(crate::specs::Clash::clash_of))]
+    pub fn clash(&self, job_name: &str, out: &str) -> Option<u64>
+        ensures { result ≡ clash_of (job_value self.now) job_name.now out.now }
+    {
+        let consoles = self.consoles.as_slice();
+        if writes(out.as_bytes(), consoles, job_name.as_bytes()) {
+            return Some(0);
+        }
+        inputs_clash(out.as_bytes(), consoles)
+    }
+}

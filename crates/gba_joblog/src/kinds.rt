@@ -1,0 +1,114 @@
+//! Why a job is refused.
+
+ghost use Rattle.std.specs.Prelude.{◌≡◌, Some};
+ghost use Rattle.gba_joblog.specs.Kinds.{kind_name, kind_of_text, refusal_text};
+
+use gba_text::TextKind;
+use std::alloc::AllocError;
+use std::error::Error;
+use std::fmt;
+
+/// What is wrong with a line of a job. On one line the tests come in this order: `Long`; `Byte`; for the first word `Word`,
+/// `Order` and `Repeated`; the other words from left to right; `Missing` or `Extra`.
+#[derive(Clone, Copy, Debug, PartialEq, Eq)]
+pub enum JobKind {
+    /// A byte may not stand there.
+    Byte,
+    /// A word isn't one of those that may stand there.
+    Word,
+    /// A number isn't spelled so, or is out of its range.
+    Number,
+    /// A name isn't a name.
+    Name,
+    /// The digits aren't 64 hexadecimal digits. No line states a digest yet.
+    Digest,
+    /// A line stands where it may not, or a console isn't the next one.
+    Order,
+    /// A line that may stand once stands again.
+    Repeated,
+    /// A line ends before its words do, a console ends without `bios`, or the file ends without `end`.
+    Missing,
+    /// A word follows a whole line, or a line follows `end`.
+    Extra,
+    /// A line has more than 400 bytes, or the file more than 134,217,728.
+    Long,
+    /// An output file would be the job or one of its inputs.
+    Clash,
+}
+
+impl JobKind {
+    /// The kind's name in reports, as `Repeated`.
+    pub fn name(self) -> &'static str
+        ensures { result.now ≡ kind_name self }
+    {
+        match self {
+            JobKind::Byte => "Byte",
+            JobKind::Word => "Word",
+            JobKind::Number => "Number",
+            JobKind::Name => "Name",
+            JobKind::Digest => "Digest",
+            JobKind::Order => "Order",
+            JobKind::Repeated => "Repeated",
+            JobKind::Missing => "Missing",
+            JobKind::Extra => "Extra",
+            JobKind::Long => "Long",
+            JobKind::Clash => "Clash",
+        }
+    }
+
+    pub(crate) fn of_text(kind: TextKind) -> JobKind
+        ensures { result ≡ kind_of_text kind }
+    {
+        match kind {
+            TextKind::Byte => JobKind::Byte,
+            TextKind::Missing => JobKind::Missing,
+            TextKind::Number => JobKind::Number,
+            TextKind::Long => JobKind::Long,
+        }
+    }
+}
+
+impl fmt::Display for JobKind {
+    ghost output = { λ kind. Some (kind_name kind) };
+
+    fn fmt<W: fmt::Write>(&self, f: &mut fmt::Formatter<W>) -> fmt::Result {
+        f.write_str(self.name())
+    }
+}
+
+/// The first refused line of a job, and why it is refused.
+#[derive(Clone, Copy, Debug, PartialEq, Eq)]
+pub struct JobError {
+    /// The line's number, from 1; one past the last line where the file ends too early; 0 where the file is too long.
+    pub line: u64,
+    pub kind: JobKind,
+}
+
+impl fmt::Display for JobError {
+    ghost output = { λ e. Some (refusal_text e) };
+
+    fn fmt<W: fmt::Write>(&self, f: &mut fmt::Formatter<W>) -> fmt::Result {
+        let line = self.line;
+        let kind = self.kind;
+        write!(f, "line {line} {kind}")
+    }
+}
+
+impl Error for JobError {}
+
+/// Why a job can't be read: it isn't of the language, or memory is wanting.
+#[derive(Clone, Copy, Debug, PartialEq, Eq)]
+pub enum ParseRefused {
+    Job(JobError),
+    NoMemory,
+}
+
+impl From<AllocError> for ParseRefused {
+    ghost from_gives = { λ _ refusal. refusal ≡ NoMemory };
+
+    ghost use Rattle.gba_joblog.specs.declared.kinds.ParseRefused.TheVariants.{NoMemory};
+
+    fn from(_refusal: AllocError) -> ParseRefused {
+        ParseRefused::NoMemory
+    }
+}

@@ -1,0 +1,21 @@
+#![tactic(auto)]
+//! The job language: `Job::parse` reads a job or names the first refused line, and `Job::clash` finds an output file that
+//! would be the job or one of its inputs.
+//!
+//! Contracts see a [`Job`] as numbers and lists, and a name as its bytes (`specs/Job.antt`).
+
+mod clash;
+mod draft;
+mod job;
+mod kinds;
+pub mod laws;
+mod names;
+mod operands;
+mod parse;
+mod statement;
+#[cfg(test)]
+mod tests;
+
+pub use job::{FileLine, Job, JobConsole, KeyChange, OutLine};
+pub use kinds::{JobError, JobKind, ParseRefused};
+pub use names::is_name;

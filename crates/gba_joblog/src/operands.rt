@@ -1,0 +1,109 @@
+//! The words after a line's first one.
+
+ghost use Rattle.std.specs.Prelude.{◌≡◌, ◌<◌, true};
+ghost use Rattle.gba_text.specs.Words.{fault_of};
+ghost use Rattle.gba_joblog.specs.Answers.{Agrees, Takes};
+ghost use Rattle.gba_joblog.specs.Operands.{end_at as end_at_of, name_at as name_at_of, number_at as number_at_of, out_kind_at as out_kind_at_of, version_at as version_at_of, word_at as word_at_of};
+
+use crate::job::OutKind;
+use crate::kinds::JobKind;
+use crate::names::{is_name, name_text};
+use gba_text::Cursor;
+
+/// The next word of the line.
+#[tactic(auto, unfolding(gba_text::specs::Reading::next_word))]
+pub(crate) fn word_at<'a>(cursor: &mut Cursor<'a>) -> Result<&'a [u8], JobKind>
+    requires given { 0 < cursor.old.number }
+    requires sound { fault_of cursor.old.line ≡ None }
+    ensures word { Takes (λ w. w.now) result cursor.new.words (word_at_of cursor.old.words) }
+    ensures number { cursor.new.number ≡ cursor.old.number }
+    ensures line { cursor.new.line ≡ cursor.old.line }
+    ensures lines { cursor.new.lines ≡ cursor.old.lines }
+{
+    match cursor.word() {
+        Ok(word) => Ok(word),
+        Err(refusal) => Err(JobKind::of_text(refusal.kind)),
+    }
+}
+
+/// The next word as a number from `least` to `most`.
+#[tactic(auto, unfolding(gba_text::specs::Reading::next_word, gba_text::specs::Reading::next_number, crate::specs::Operands::number_at))]
+pub(crate) fn number_at(cursor: &mut Cursor<'_>, least: u64, most: u64) -> Result<u64, JobKind>
+    requires given { 0 < cursor.old.number }
+    requires sound { fault_of cursor.old.line ≡ None }
+    ensures word { Takes (λ n. n) result cursor.new.words (number_at_of least most cursor.old.words) }
+    ensures number { cursor.new.number ≡ cursor.old.number }
+    ensures line { cursor.new.line ≡ cursor.old.line }
+    ensures lines { cursor.new.lines ≡ cursor.old.lines }
+{
+    match cursor.number(least, most) {
+        Ok(number) => Ok(number),
+        Err(refusal) => Err(JobKind::of_text(refusal.kind)),
+    }
+}
+
+/// The next word as a file's name.
+#[tactic(auto, unfolding(crate::specs::Operands::name_at))]
+pub(crate) fn name_at<'a>(cursor: &mut Cursor<'a>) -> Result<&'a str, JobKind>
+    requires given { 0 < cursor.old.number }
+    requires sound { fault_of cursor.old.line ≡ None }
+    ensures word { Takes (λ w. w.now) result cursor.new.words (name_at_of cursor.old.words) }
+    ensures number { cursor.new.number ≡ cursor.old.number }
+    ensures line { cursor.new.line ≡ cursor.old.line }
+    ensures lines { cursor.new.lines ≡ cursor.old.lines }
+{
+    let word = word_at(cursor)?;
+    if !is_name(word) {
+        return Err(JobKind::Name);
+    }
+    Ok(name_text(word))
+}
+
+/// The word `1`, the version of the language.
+#[tactic(auto, unfolding(crate::specs::Operands::version_at))]
+pub(crate) fn version_at(cursor: &mut Cursor<'_>) -> Result<(), JobKind>
+    requires given { 0 < cursor.old.number }
+    requires sound { fault_of cursor.old.line ≡ None }
+    ensures word { Takes (λ _. true) result cursor.new.words (version_at_of cursor.old.words) }
+    ensures number { cursor.new.number ≡ cursor.old.number }
+    ensures line { cursor.new.line ≡ cursor.old.line }
+    ensures lines { cursor.new.lines ≡ cursor.old.lines }
+{
+    let word = word_at(cursor)?;
+    if word != b"1".as_slice() {
+        return Err(JobKind::Word);
+    }
+    Ok(())
+}
+
+/// The next word as the kind of an output.
+#[tactic(auto, unfolding(crate::specs::Operands::out_kind_at))]
+pub(crate) fn out_kind_at(cursor: &mut Cursor<'_>) -> Result<OutKind, JobKind>
+    requires given { 0 < cursor.old.number }
+    requires sound { fault_of cursor.old.line ≡ None }
+    ensures word { Takes (λ out. out) result cursor.new.words (out_kind_at_of cursor.old.words) }
+    ensures number { cursor.new.number ≡ cursor.old.number }
+    ensures line { cursor.new.line ≡ cursor.old.line }
+    ensures lines { cursor.new.lines ≡ cursor.old.lines }
+{
+    let word = word_at(cursor)?;
+    if word != b"state".as_slice() {
+        return Err(JobKind::Word);
+    }
+    Ok(OutKind::State)
+}
+
+/// The end of the line.
+pub(crate) fn end_at(cursor: &mut Cursor<'_>) -> Result<(), JobKind>
+    requires given { 0 < cursor.old.number }
+    requires sound { fault_of cursor.old.line ≡ None }
+    ensures end { Agrees (λ _. true) result (end_at_of cursor.old.words) }
+    ensures number { cursor.new.number ≡ cursor.old.number }
+    ensures line { cursor.new.line ≡ cursor.old.line }
+    ensures lines { cursor.new.lines ≡ cursor.old.lines }
+{
+    match word_at(cursor) {
+        Ok(_) => Err(JobKind::Extra),
+        Err(_) => Ok(()),
+    }
+}

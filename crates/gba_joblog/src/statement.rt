@@ -1,0 +1,137 @@
+//! The table of statements: keywords, places and operands.
+
+ghost use Rattle.std.specs.Prelude.{◌≡◌, ◌<◌};
+ghost use Rattle.gba_text.specs.Words.{fault_of};
+ghost use Rattle.gba_joblog.specs.Answers.{Agrees};
+ghost use Rattle.gba_joblog.specs.Statements.{arguments as arguments_of, keyword_of as keyword_spelled, refusal_at as refusal_at_of};
+ghost use Rattle.gba_joblog.specs.Views.{draft_value, statement_value};
+
+use crate::draft::{DraftJob, Place};
+use crate::job::OutKind;
+use crate::kinds::JobKind;
+use crate::operands::{end_at, name_at, number_at, out_kind_at, version_at};
+use gba_text::Cursor;
+
+/// The greatest number of cycles.
+const MOST_CYCLES: u64 = 2_147_483_648;
+
+/// The greatest number of a console.
+const LAST_CONSOLE: u64 = 3;
+
+/// What the first word of a line is.
+#[derive(Clone, Copy, Debug, PartialEq, Eq)]
+pub(crate) enum Keyword {
+    Version,
+    Cycles,
+    Console,
+    Bios,
+    Out,
+    End,
+}
+
+/// What a line says.
+#[derive(Clone, Copy)]
+pub(crate) enum Line<'a> {
+    Version,
+    Cycles(u64),
+    Console,
+    Bios(&'a str),
+    Out(OutKind),
+    End,
+}
+
+/// The keyword that a word spells.
+#[tactic(auto, unfolding(crate::specs::Statements::keyword_of))]
+pub(crate) fn keyword_of(word: &[u8]) -> Option<Keyword>
+    ensures { result ≡ keyword_spelled word.now }
+{
+    if word == b"gbalink".as_slice() {
+        Some(Keyword::Version)
+    } else if word == b"cycles".as_slice() {
+        Some(Keyword::Cycles)
+    } else if word == b"console".as_slice() {
+        Some(Keyword::Console)
+    } else if word == b"bios".as_slice() {
+        Some(Keyword::Bios)
+    } else if word == b"out".as_slice() {
+        Some(Keyword::Out)
+    } else if word == b"end".as_slice() {
+        Some(Keyword::End)
+    } else {
+        None
+    }
+}
+
+/// Why a line may not stand here, if so.
+#[tactic(auto, unfolding(crate::specs::Statements::refusal_at))]
+pub(crate) fn refusal_at(draft: &DraftJob, keyword: Keyword) -> Option<JobKind>
+    ensures { result ≡ refusal_at_of (draft_value draft.now) keyword }
+{
+    match (keyword, draft.place) {
+        (Keyword::Version, Place::Start) => None,
+        (Keyword::Version, _) => Some(JobKind::Repeated),
+        (Keyword::Cycles, Place::Head) if draft.cycles.is_some() => Some(JobKind::Repeated),
+        (Keyword::Cycles, Place::Head) => None,
+        (Keyword::Console, Place::Inside | Place::Ended) => Some(JobKind::Word),
+        (Keyword::Console, Place::Head) if draft.cycles.is_some() => None,
+        (Keyword::Bios, Place::Inside) if draft.last.bios.is_some() => Some(JobKind::Repeated),
+        (Keyword::Bios | Keyword::Out | Keyword::End, Place::Inside) => None,
+        _ => Some(JobKind::Order),
+    }
+}
+
+/// What a line says with its operands.
+#[tactic(auto, unfolding(crate::specs::Statements::arguments))]
+pub(crate) fn arguments<'a>(
+    draft: &DraftJob,
+    keyword: Keyword,
+    cursor: &mut Cursor<'a>,
+) -> Result<Line<'a>, JobKind>
+    requires given { 0 < cursor.old.number }
+    requires sound { fault_of cursor.old.line ≡ None }
+    ensures says { Agrees statement_value result (arguments_of (draft_value draft.now) keyword cursor.old.words) }
+    ensures number { cursor.new.number ≡ cursor.old.number }
+    ensures line { cursor.new.line ≡ cursor.old.line }
+    ensures lines { cursor.new.lines ≡ cursor.old.lines }
+{
+    match keyword {
+        Keyword::Version => {
+            version_at(cursor)?;
+            end_at(cursor)?;
+            Ok(Line::Version)
+        }
+        Keyword::Cycles => {
+            let cycles = number_at(cursor, 1, MOST_CYCLES)?;
+            end_at(cursor)?;
+            Ok(Line::Cycles(cycles))
+        }
+        Keyword::Console => {
+            let player = number_at(cursor, 0, LAST_CONSOLE)?;
+            if player != draft.consoles.len() as u64 {
+                return Err(JobKind::Order);
+            }
+            end_at(cursor)?;
+            Ok(Line::Console)
+        }
+        Keyword::Bios => {
+            let name = name_at(cursor)?;
+            end_at(cursor)?;
+            Ok(Line::Bios(name))
+        }
+        Keyword::Out => {
+            let out = out_kind_at(cursor)?;
+            if draft.last.asks_for(out) {
+                return Err(JobKind::Repeated);
+            }
+            end_at(cursor)?;
+            Ok(Line::Out(out))
+        }
+        Keyword::End => {
+            if draft.last.bios.is_none() {
+                return Err(JobKind::Missing);
+            }
+            end_at(cursor)?;
+            Ok(Line::End)
+        }
+    }
+}

@@ -1,0 +1,4 @@
+pub mod Spans
+pub mod FirstPieces
+pub mod Numerals
+pub mod Readings

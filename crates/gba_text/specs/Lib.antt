@@ -1,0 +1,6 @@
+pub mod Lines
+pub mod Words
+pub mod Numbers
+pub mod Reading
+pub mod Answers
+pub mod Told
