@@ -4,3 +4,4 @@ pub mod Fronts
 pub mod Ends
 pub mod Once
 pub mod Completing
+pub mod KindNames

@@ -1,19 +1,22 @@
 //! Why a command is refused, as its words and the files say.
 
-ghost use Rattle.std.specs.Prelude.{◌≡◌, ◌++◌, codes};
+ghost use Rattle.std.specs.Prelude.{◌≡◌, ◌≤◌, ◌++◌, codes, decimal, length};
 ghost use Rattle.gba_terms.specs.Hexadecimal.{hex};
+ghost use Rattle.gba_joblog.specs.Kinds.{kind_name};
 
 use crate::hexadecimal::hex_word;
 use crate::line::{Line, line_of, put};
 use crate::refusal::{Name, line_about};
+use gba_joblog::{JobError, JobKind};
+use itoa::Buffer;
 
 /// Why a command is refused, as its words and the files say. Each cause has a status and one line of report.
 #[derive(Drop)]
 pub enum Cause {
     /// The words are no command: 2.
     Words,
-    /// The job hasn't the form of this version, or an output file would be the job or an image: 11.
-    Form,
+    /// The job of this name isn't of the language, or an output file would be the job or one of its inputs: 5.
+    Job(Name, JobError),
     /// The BIOS image of this name hasn't 16,384 bytes: 6.
     BiosLength(Name),
     /// The instruction at this address, which is this word, isn't built: 11.
@@ -32,6 +35,26 @@ fn unbuilt_line(address: u32, word: u32) -> Line
     line
 }
 
+#[tactic(auto, using(crate::proofs::KindNames::kind_name_short))]
+fn kind_text(kind: JobKind) -> &'static [u8]
+    ensures text { result.now ≡ kind_name kind }
+    ensures short { length result.now ≤ 8 }
+{
+    kind.name().as_bytes()
+}
+
+fn job_line(name: &Name, error: &JobError) -> Line
+    ensures { result.items ≡ codes "job " ++ name.now.items ++ codes " line " ++ decimal error.now.line ++ codes " " ++ kind_name error.now.kind ++ codes "\n" }
+{
+    let mut buffer = Buffer::new();
+    let mut line = line_about(b"job ", name, b" line ");
+    put(&mut line, buffer.format(error.line).as_bytes());
+    put(&mut line, b" ");
+    put(&mut line, kind_text(error.kind));
+    put(&mut line, b"\n");
+    line
+}
+
 impl Cause {
     ghost use Rattle.std.specs.Prelude.{◌≡◌};
     ghost use Rattle.gba_command.specs.Cause.{status_of, report_of};
@@ -43,8 +66,9 @@ impl Cause {
     {
         match self {
             Cause::Words => 2,
+            Cause::Job(..) => 5,
             Cause::BiosLength(_) => 6,
-            Cause::Form | Cause::Unbuilt(..) => 11,
+            Cause::Unbuilt(..) => 11,
         }
     }
 
@@ -54,7 +78,7 @@ impl Cause {
     {
         match self {
             Cause::Words => line_of(b"words\n"),
-            Cause::Form => line_of(b"notbuilt job\n"),
+            Cause::Job(name, error) => job_line(name, error),
             Cause::BiosLength(name) => line_about(b"image ", name, b" BiosLength\n"),
             Cause::Unbuilt(address, word) => unbuilt_line(*address, *word),
         }

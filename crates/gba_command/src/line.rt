@@ -11,7 +11,8 @@ pub type Line = ArrayVec<u8, 256>;
 /// Adds bytes to a line that has room for them.
 pub fn put(line: &mut Line, bytes: &[u8])
     requires { array_vec_len line.old + length bytes.now ≤ 256 }
-    ensures { line.new.items ≡ line.old.items ++ bytes.now }
+    ensures items { line.new.items ≡ line.old.items ++ bytes.now }
+    ensures len { array_vec_len line.new ≡ array_vec_len line.old + length bytes.now }
 {
     if line.try_extend_from_slice(bytes).is_err() {
         unreachable!()

@@ -1,6 +1,7 @@
 //! Why a command stops before anything is written.
 
 ghost use Rattle.std.specs.Prelude.{◌≡◌, ◌+◌, ◌≤◌, ◌++◌, length};
+ghost use Rattle.arrayvec.specs.ArrayVec.{array_vec_len};
 
 use crate::cause::Cause;
 use crate::line::{Line, line_of, put};
@@ -37,7 +38,8 @@ pub fn name_in_report(name: &str) -> Name
 /// A name between two texts.
 pub(crate) fn line_about(before: &[u8], name: &Name, after: &[u8]) -> Line
     requires { length before.now + length after.now ≤ 56 }
-    ensures { result.items ≡ before.now ++ name.now.items ++ after.now }
+    ensures items { result.items ≡ before.now ++ name.now.items ++ after.now }
+    ensures short { array_vec_len result ≤ length before.now + length after.now + 200 }
 {
     let mut line = Line::new();
     put(&mut line, before);

@@ -59,7 +59,7 @@ pub struct Job {
 
 /// The five outputs of a console.
 #[derive(Clone, Copy, Debug, PartialEq, Eq)]
-pub(crate) enum OutKind {
+pub enum OutKind {
     Frames,
     Samples,
     Words,
@@ -99,7 +99,7 @@ impl JobConsole {
     }
 
     /// Whether the console is asked for an output.
-    pub(crate) fn asks_for(&self, out: OutKind) -> bool
+    pub fn asks_for(&self, out: OutKind) -> bool
         ensures { result ≡ asks_for_of (console_value self.now) out }
     {
         self.outs[out.place()].is_some()

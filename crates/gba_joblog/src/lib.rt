@@ -16,6 +16,7 @@ mod statement;
 #[cfg(test)]
 mod tests;
 
-pub use job::{FileLine, Job, JobConsole, KeyChange, OutLine};
+pub use job::{FileLine, Job, JobConsole, KeyChange, OutKind, OutLine};
 pub use kinds::{JobError, JobKind, ParseRefused};
 pub use names::is_name;
+pub use parse::LONGEST_JOB;

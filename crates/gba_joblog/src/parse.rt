@@ -16,7 +16,7 @@ use gba_text::{Cursor, TextKind};
 use std::alloc::Global;
 
 /// The most bytes of a job.
-const LONGEST_JOB: usize = 134_217_728;
+pub const LONGEST_JOB: usize = 134_217_728;
 
 /// The most bytes of a line.
 const LONGEST_LINE: usize = 400;

@@ -11,40 +11,44 @@ use Rattle.gba_command.proofs.Plans.{Names, refused-named, refuses-alone}
 use Rattle.gba_console.specs.Machine.{Machine, reset}
 use Rattle.gba_console.specs.Run.{run_to}
 use Rattle.gba_console.specs.declared.NotBuilt.{NotBuilt}
-use Rattle.gba_link.specs.CommandPlan.{accepted, after_image, clashes, command_plan, from_end, image_plan, job_or_form}
-use Rattle.gba_link.specs.JobForm.{Job, job_of}
+use Rattle.gba_joblog.specs.Clash.{clash_of}
+use Rattle.gba_joblog.specs.Job.{WholeJob}
+use Rattle.gba_joblog.specs.Language.{job_of}
+use Rattle.gba_joblog.specs.declared.kinds.JobError.{JobError}
+use Rattle.gba_link.specs.CommandPlan.{accepted, after_image, command_plan, from_end, image_plan, unless_clash, without_clash}
 use Rattle.gba_link.specs.Words.{Command}
 
-end-named : (command : Command) (end : Result Machine NotBuilt) → Names Words (judgement (from_end command end)) → ⊥
+end-named : (command : Command) (job : WholeJob) (end : Result Machine NotBuilt) → Names Words (judgement (from_end command job end)) → ⊥
 unfolding Names
-end-named command (Ok m) h = h
-end-named command (Err refusal) h = cc
+end-named command job (Ok m) h = h
+end-named command job (Err refusal) h = cc
 
-run-named : (command : Command) (job : Job) (bios : List ℕ) (whole : Bool) → nat_eq (length bios) 16384 ≡ whole → Names Words (after_image command job bios) → ⊥
+run-named : (command : Command) (job : WholeJob) (bios : List ℕ) (whole : Bool) → nat_eq (length bios) 16384 ≡ whole → Names Words (after_image command job bios)
+    → ⊥
 unfolding Names
-run-named command job bios true is h = end-named command (run_to job.cycles (reset bios)) (rw is at h)
+run-named command job bios true is h = end-named command job (run_to job.cycles (reset bios)) (rw is at h)
 run-named command job bios false is h = let apart = rw is at h in cc
 
-image-named : (command : Command) (job : Job) → Names Words (image_plan command job) → ⊥
+image-named : (command : Command) (job : WholeJob) → Names Words (image_plan command job) → ⊥
 unfolding Names
 image-named command job (inl h) = cc
 image-named command job (inr h) = run-named command job h.0 (nat_eq (length h.0) 16384) refl h.1
 
-abbrev refused_job : Cause → Result Job Cause
+abbrev refused_job : Cause → Result WholeJob Cause
 refused_job cause = Err cause
 
-judged-named : (command : Command) (judged : Result Job Cause) → (judged ≡ Err Words → ⊥) → Names Words (bind (judgement judged) (image_plan command)) → ⊥
+judged-named : (command : Command) (judged : Result WholeJob Cause) → (judged ≡ Err Words → ⊥) → Names Words (bind (judgement judged) (image_plan command)) → ⊥
 unfolding Names
 judged-named command (Ok job) apart h = image-named command job h
 judged-named command (Err cause) apart h = apart (ap refused_job h)
 
-unclashing : (command : Command) (job : Job) (clash : Bool) → clashes command job ≡ clash → job_or_form command (Some job) ≡ Err Words → ⊥
-unclashing command job true is h = let form = rw is at h in cc
-unclashing command job false is h = let well = rw is at h in cc
+unclashing : (command : Command) (job : WholeJob) (clash : Option ℕ) → unless_clash command job clash ≡ Err Words → ⊥
+unclashing command job None h = cc
+unclashing command job (Some line) h = cc
 
-not-words : (command : Command) (job : Option Job) → job_or_form command job ≡ Err Words → ⊥
-not-words command None h = cc
-not-words command (Some job) h = unclashing command job (clashes command job) refl h
+not-words : (command : Command) (said : Result WholeJob JobError) → without_clash command said ≡ Err Words → ⊥
+not-words command (Ok job) h = unclashing command job (clash_of job command.job command.out) h
+not-words command (Err error) h = cc
 
 read-named : (command : Command) → Names Words (command_plan (Some command)) → ⊥
 unfolding Names

@@ -1,15 +1,6 @@
-use Rattle.std.specs.Prelude.{ℕ, Bool, not, nat_le, ◌&&◌, ◌||◌, ◌==◌, List, [], ◌∷◌, length, codes, Option, Some, None, if◌then◌else◌}
-use Rattle.std.specs.Char.{is_ascii_alphanumeric}
-use Rattle.std.specs.List.{list_all}
+use Rattle.std.specs.Prelude.{ℕ, Bool, nat_le, ◌&&◌, List, [], ◌∷◌, length, codes, Option, Some, None, if◌then◌else◌}
 use Rattle.std.specs.Str.{bytes_eq}
-
--- a letter, a digit, or one of `-` (45), `.` (46), `/` (47) and `_` (95)
-abbrev pub is_name_byte : ℕ → Bool
-is_name_byte byte = is_ascii_alphanumeric byte || (nat_le 45 byte && nat_le byte 47) || byte == 95
-
--- a file's name: 1 to 200 such bytes, and not `-`, which is standard output
-abbrev pub is_name : List ℕ → Bool
-is_name name = nat_le 1 (length name) && nat_le (length name) 200 && list_all is_name_byte name && not (bytes_eq name (codes "-"))
+use Rattle.gba_joblog.specs.Names.{is_name}
 
 -- the command `run JOB OUT`
 pub record Command : Type 0 where

@@ -10,11 +10,9 @@ ghost use Rattle.gba_command.specs.Reading.{Gives, GoesTo};
 ghost use Rattle.gba_command.specs.Writing.{Run, sink_state};
 ghost use Rattle.gba_link.specs.CommandPlan.{plan_of};
 
-mod job;
 pub mod laws;
 mod run;
 mod state;
-mod text;
 mod words;
 
 use crate::run::run_words;
@@ -31,10 +29,10 @@ use std::thread::Threads;
 /// | 2 | `words` | the words aren't `run JOB OUT` |
 /// | 3 | `absent NAME` | JOB or the BIOS image, the next file to read, isn't there |
 /// | 4 | `store NAME` | the store failed in the read of the next file |
+/// | 5 | `job NAME line L KIND` | JOB isn't of the job language, at this line, or an output file would be JOB or an input |
 /// | 6 | `image NAME BiosLength` | the BIOS image hasn't 16,384 bytes |
 /// | 9 | `sink NAME` | the sink failed |
 /// | 10 | `memory` | memory was wanting; it may come in place of any other, and hides no absence and no fault |
-/// | 11 | `notbuilt job` | the job hasn't the form of this version, or its state file would be JOB or the image |
 /// | 11 | `notbuilt ADDRESS WORD` | the run came to an instruction that isn't built |
 ///
 /// Two clauses say all of it, over every store and sink: `answer`, that the reads made are those of the plan of the

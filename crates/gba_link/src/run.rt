@@ -1,41 +1,91 @@
 //! From the words and the files to what a run writes.
 
-ghost use Rattle.std.specs.Prelude.{◌≡◌, ◌≤◌, ◌^◌, ◌<◌, ◌++◌, [], ◌∷◌, Ok, Err, Some, map, MatchResult, IfOk, length, vec_len, vec_capacity, string_bytes, string_len};
+ghost use Rattle.std.specs.Prelude.{◌≡◌, ◌≤◌, ◌^◌, ◌<◌, ◌++◌, [], ◌∷◌, Ok, Err, Some, IsSome, map, MatchResult, IfOk, IfSome, length, option_map, vec_len, vec_capacity, string_bytes, string_len};
 ghost use Rattle.gba_console.specs.Run.{run_to};
 ghost use Rattle.gba_command.specs.Reading.{Gives, GoesTo};
 ghost use Rattle.gba_command.specs.Views.{Agrees, ended, run_value};
-ghost use Rattle.gba_link.specs.CommandPlan.{accepted, written, command_plan, image_plan, plan_of, result_of_run, state_name as state_name_of};
+ghost use Rattle.gba_joblog.specs.Soundness.{IsFile, IsJob};
+ghost use Rattle.gba_joblog.specs.Views.{console_value, file_value, job_value};
+ghost use Rattle.gba_link.specs.CommandPlan.{accepted, written, command_plan, console_of as console_said, image_name as image_said, image_plan, name_in, plan_of, result_of_run, state_name as state_name_of};
 ghost use Rattle.gba_link.specs.Words.{Command};
-ghost use Rattle.gba_link.specs.Views.{command_value, job_value};
+ghost use Rattle.gba_link.specs.Views.{command_value};
 
-use crate::job::{JobText, LONGEST_JOB, job_of};
 use crate::state::{STATE_ROOM, summary, write_state};
 use crate::words::{RunWords, command_of};
 use gba_command::{Cause, OutputFile, Outputs, Refusal, name_in_report, read_file};
 use gba_console::{BIOS_LENGTH, Console, NotBuilt};
+use gba_joblog::{
+    FileLine, Job, JobConsole, JobError, JobKind, LONGEST_JOB, OutKind, ParseRefused,
+};
 use gba_store::Store;
-use std::alloc::Global;
+use std::alloc::{AllocError, Global};
 
-/// The job that the bytes say, where its state file is neither the job nor its image.
-fn accepted_job<'a>(
-    command: &RunWords<'_>,
-    state_name: &str,
-    bytes: &'a [u8],
-) -> Result<JobText<'a>, Refusal>
-    requires { state_name.now ≡ state_name_of command.now.out.now }
+/// The job that the bytes say, where no output file is JOB or one of the job's inputs.
+fn accepted_job(alloc: Global, command: &RunWords<'_>, bytes: &[u8]) -> Result<Job, Refusal>
+    requires { length command.now.job.now ≤ 200 }
     ensures agrees { Agrees job_value (accepted (command_value command.now) bytes.now) result }
-    ensures bounded { IfOk result (λ job. (length job.bios.now ≤ 200) × (job.cycles ≤ 2 ^ 31)) }
+    ensures sound { IfOk result (λ job. IsJob (job_value job)) }
 {
-    let Some(job) = job_of(bytes) else {
-        return Err(Refusal::Refused(Cause::Form));
+    let job = match Job::parse(alloc, bytes) {
+        Ok(job) => job,
+        Err(ParseRefused::Job(error)) => return Err(Refusal::Refused(Cause::Job(
+            name_in_report(command.job),
+            error,
+        ))),
+        Err(ParseRefused::NoMemory) => return Err(Refusal::NoMemory),
     };
-    if state_name == command.job {
-        return Err(Refusal::Refused(Cause::Form));
+    match job.clash(command.job, command.out) {
+        None => Ok(job),
+        Some(line) => {
+            let error = JobError {
+                line,
+                kind: JobKind::Clash,
+            };
+            Err(Refusal::Refused(Cause::Job(name_in_report(command.job), error)))
+        }
     }
-    if state_name == job.bios {
-        return Err(Refusal::Refused(Cause::Form));
+}
+
+/// The name of the state file under OUT.
+fn make_state_name(alloc: Global, out: &str) -> Result<String, AllocError>
+    requires { length out.now ≤ 180 }
+    ensures name { IfOk result (λ name. string_bytes name ≡ state_name_of out.now) }
+    ensures short { IfOk result (λ name. string_len name ≤ 200) }
+{
+    let name = format!(in alloc; "{out}.0.state")?;
+    Ok(name)
+}
+
+/// The console of a job.
+fn console_of(job: &Job) -> &JobConsole
+    requires { IsJob (job_value job.now) }
+    ensures { console_value result.now ≡ console_said (job_value job.now) }
+{
+    match job.consoles.as_slice() {
+        [console, ..] => console,
+        [] => unreachable!(),
     }
-    Ok(job)
+}
+
+fn name_of(file: &Option<FileLine>) -> &str
+    requires some { IsSome file.now }
+    requires named { IfSome (option_map file_value file.now) IsFile }
+    ensures name { result.now ≡ name_in (option_map file_value file.now) }
+    ensures short { length result.now ≤ 200 }
+{
+    match file {
+        Some(file) => file.name.as_str(),
+        None => unreachable!(),
+    }
+}
+
+/// The name of a job's BIOS image.
+fn image_name(job: &Job) -> &str
+    requires { IsJob (job_value job.now) }
+    ensures name { result.now ≡ image_said (job_value job.now) }
+    ensures short { length result.now ≤ 200 }
+{
+    name_of(&console_of(job).bios)
 }
 
 /// Steps a console until its clock is at least `until`.
@@ -62,11 +112,12 @@ fn add_file(files: &mut Vec<OutputFile>, file: OutputFile)
     }
 }
 
-/// What a run writes that ended with this console, into a list and a buffer with room for it.
+/// What a run of a job writes that ended with this console, into a list and a buffer with room for it.
 fn outputs_of(
     mut files: Vec<OutputFile>,
     mut state: Vec<u8>,
     state_name: String,
+    job: &Job,
     console: &Console,
 ) -> Outputs
     requires no_file { files.items ≡ [] }
@@ -74,16 +125,18 @@ fn outputs_of(
     requires no_byte { state.items ≡ [] }
     requires state_room { 84992 ≤ vec_capacity state }
     requires named { string_len state_name ≤ 200 }
-    ensures { (command : Command) → string_bytes state_name ≡ state_name_of command.out → run_value result ≡ written command console.now }
+    requires sound { IsJob (job_value job.now) }
+    ensures { (command : Command) → string_bytes state_name ≡ state_name_of command.out
+        → run_value result ≡ written command (job_value job.now) console.now }
 {
-    write_state(&mut state, console);
-    add_file(
-        &mut files,
-        OutputFile {
+    if console_of(job).asks_for(OutKind::State) {
+        write_state(&mut state, console);
+        let file = OutputFile {
             name: state_name,
             bytes: state,
-        },
-    );
+        };
+        add_file(&mut files, file);
+    }
     Outputs {
         files,
         summary: summary(console),
@@ -94,16 +147,16 @@ fn outputs_of(
 fn run_image(
     alloc: Global,
     state_name: String,
-    job: &JobText<'_>,
+    job: &Job,
     image: Vec<u8>,
 ) -> Result<Outputs, Refusal>
     requires named { string_len state_name ≤ 200 }
-    requires bounded { (length job.now.bios.now ≤ 200) × (job.now.cycles ≤ 2 ^ 31) }
+    requires sound { IsJob (job_value job.now) }
     ensures { (command : Command) → string_bytes state_name ≡ state_name_of command.out
         → Agrees run_value (result_of_run command (job_value job.now) image.items) result }
 {
     if image.len() != BIOS_LENGTH {
-        return Err(Refusal::Refused(Cause::BiosLength(name_in_report(job.bios))));
+        return Err(Refusal::Refused(Cause::BiosLength(name_in_report(image_name(job)))));
     }
     let Ok(files) = Vec::with_capacity(alloc, 1) else {
         return Err(Refusal::NoMemory);
@@ -115,7 +168,7 @@ fn run_image(
         return Err(Refusal::NoMemory);
     };
     match run_console(start, job.cycles) {
-        Ok(console) => Ok(outputs_of(files, state, state_name, &console)),
+        Ok(console) => Ok(outputs_of(files, state, state_name, job, &console)),
         Err(at) => Err(Refusal::Refused(Cause::Unbuilt(at.address, at.word))),
     }
 }
@@ -125,15 +178,16 @@ fn run_job<S: Store>(
     alloc: Global,
     store: &mut S,
     state_name: String,
-    job: &JobText<'_>,
+    job: &Job,
 ) -> Result<Outputs, Refusal>
     requires named { string_len state_name ≤ 200 }
-    requires bounded { (length job.now.bios.now ≤ 200) × (job.now.cycles ≤ 2 ^ 31) }
+    requires sound { IsJob (job_value job.now) }
     ensures { (command : Command) → string_bytes state_name ≡ state_name_of command.out
         → GoesTo (Gives S.Tells S.files S.Reads S.absences S.faults) (image_plan command (job_value job.now)) store.old store.new (ended run_value result) }
 {
-    let long = Cause::BiosLength(name_in_report(job.bios));
-    let image = read_file(alloc, store, job.bios, BIOS_LENGTH as u64, long)?;
+    let name = image_name(job);
+    let long = Cause::BiosLength(name_in_report(name));
+    let image = read_file(alloc, store, name, BIOS_LENGTH as u64, long)?;
     run_image(alloc, state_name, job, image)
 }
 
@@ -147,12 +201,18 @@ fn run_command<S: Store>(
     ensures { GoesTo (Gives S.Tells S.files S.Reads S.absences S.faults) (command_plan (Some (command_value command.now))) store.old store.new
         (ended run_value result) }
 {
-    let out = command.out;
-    let Ok(state_name) = format!(in alloc; "{out}.0.state") else {
+    let Ok(state_name) = make_state_name(alloc, command.out) else {
         return Err(Refusal::NoMemory);
     };
-    let bytes = read_file(alloc, store, command.job, LONGEST_JOB as u64, Cause::Form)?;
-    let job = accepted_job(command, state_name.as_str(), bytes.as_slice())?;
+    let long = Cause::Job(
+        name_in_report(command.job),
+        JobError {
+            line: 0,
+            kind: JobKind::Long,
+        },
+    );
+    let bytes = read_file(alloc, store, command.job, LONGEST_JOB as u64, long)?;
+    let job = accepted_job(alloc, command, bytes.as_slice())?;
     run_job(alloc, store, state_name, &job)
 }
 

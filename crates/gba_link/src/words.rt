@@ -2,12 +2,10 @@
 
 ghost use Rattle.std.specs.Prelude.{◌≡◌, ◌≤◌, IfSome, length, map, option_map, string_bytes};
 ghost use Rattle.std.specs.Bool.{OnTrue};
-ghost use Rattle.std.specs.List.{list_all};
 ghost use Rattle.gba_link.specs.Views.{command_value};
-ghost use Rattle.gba_link.specs.Words.{is_command, is_name_byte, is_name as is_name_of, command_of as command_said};
+ghost use Rattle.gba_link.specs.Words.{is_command, command_of as command_said};
 
-/// The longest name of a file, in bytes.
-pub(crate) const LONGEST_NAME: usize = 200;
+use gba_joblog::is_name;
 
 /// The longest OUT: the names of the written files are longer, and are names too.
 const LONGEST_OUT: usize = 180;
@@ -19,26 +17,7 @@ pub(crate) struct RunWords<'a> {
     pub(crate) out: &'a str,
 }
 
-/// Whether a byte may stand in a name.
-pub(crate) fn may_stand_in_name(byte: u8) -> bool
-    ensures { result ≡ is_name_byte byte }
-{
-    byte.is_ascii_alphanumeric() || (b'-' <= byte && byte <= b'/') || byte == b'_'
-}
-
-fn all_may_stand(name: &[u8]) -> bool
-    ensures { result ≡ list_all is_name_byte name.now }
-{
-    name.iter().all(|byte| may_stand_in_name(*byte))
-}
-
-/// Whether these bytes are a file's name.
-pub(crate) fn is_name(name: &[u8]) -> bool
-    ensures { result ≡ is_name_of name.now }
-{
-    !name.is_empty() && name.len() <= LONGEST_NAME && all_may_stand(name) && name != b"-".as_slice()
-}
-
+#[tactic(auto, unfolding(gba_joblog::specs::Names::is_name))]
 fn are_run_words(run: &str, job: &str, out: &str) -> bool
     ensures value { result ≡ is_command run.now job.now out.now }
     ensures bounded { OnTrue result ((length job.now ≤ 200) × (length out.now ≤ 180)) }

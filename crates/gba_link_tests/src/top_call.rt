@@ -237,7 +237,8 @@ fn failing_calls_are_told(rt: HostRuntime) -> Result<(), Fail> {
     play(&rt, alloc, "j", "g.0.state", &summed)
 }
 
-/// A file that isn't there, a job without its last line feed, and reports that are refused: the status stays.
+/// A file that isn't there, a job without its last line feed, which is a job, and reports that are refused: the status
+/// stays.
 #[test]
 fn refusals_keep_their_status(rt: HostRuntime) -> Result<(), Fail> {
     let alloc = rt.alloc();
@@ -252,9 +253,6 @@ fn refusals_keep_their_status(rt: HostRuntime) -> Result<(), Fail> {
     play(&rt, alloc, "j", "g.0.state", &absent)?;
     let form = Case {
         job: Some(NO_LAST_LINE_FEED),
-        status: 11,
-        report: "notbuilt job\n",
-        state: None,
         ..PLAIN
     };
     play(&rt, alloc, "j", "g.0.state", &form)?;
@@ -284,16 +282,16 @@ fn names_at_their_edges(rt: HostRuntime) -> Result<(), Fail> {
     let alloc = rt.alloc();
     let clash = Case {
         words: &["run", "g.0.state", "g"],
-        status: 11,
-        report: "notbuilt job\n",
+        status: 5,
+        report: "job g.0.state line 0 Clash\n",
         state: None,
         ..PLAIN
     };
     play(&rt, alloc, "g.0.state", "g.0.state", &clash)?;
     let image_clash = Case {
         job: Some("gbalink 1\ncycles 1\nconsole 0\nbios g.0.state\nout state\nend\n"),
-        status: 11,
-        report: "notbuilt job\n",
+        status: 5,
+        report: "job j line 4 Clash\n",
         state: None,
         ..PLAIN
     };
@@ -305,55 +303,77 @@ fn names_at_their_edges(rt: HostRuntime) -> Result<(), Fail> {
     play(&rt, alloc, "j", LONGEST_STATE_NAME, &longest)
 }
 
-/// Spellings of the job, and what is answered for them: 0 where it is a job of one branch.
-#[test]
-fn jobs_have_one_form(rt: HostRuntime) -> Result<(), Fail> {
-    let alloc = rt.alloc();
-    let refused = [
-        "",
-        "gbalink 1\n",
-        "gbalink 2\ncycles 1\nconsole 0\nbios b\nout state\nend\n",
-        "gbalink 1\ncycles 0\nconsole 0\nbios b\nout state\nend\n",
-        "gbalink 1\ncycles 2147483649\nconsole 0\nbios b\nout state\nend\n",
-        "gbalink 1\ncycles 18446744073709551617\nconsole 0\nbios b\nout state\nend\n",
-        "gbalink 1\ncycles 000000000000000000001\nconsole 0\nbios b\nout state\nend\n",
-        "gbalink 1\ncycles \nconsole 0\nbios b\nout state\nend\n",
-        "gbalink 1\ncycles +1\nconsole 0\nbios b\nout state\nend\n",
-        "gbalink 1\ncycles  1\nconsole 0\nbios b\nout state\nend\n",
-        "gbalink 1\ncycles 1 \nconsole 0\nbios b\nout state\nend\n",
-        "gbalink 1\ncycles 1\nconsole 1\nbios b\nout state\nend\n",
-        "gbalink 1\ncycles 1\nconsole 0\nbios -\nout state\nend\n",
-        "gbalink 1\ncycles 1\nconsole 0\nbios \nout state\nend\n",
+/// Files that are no jobs, and the report of each.
+const WRONG_JOBS: [(&str, &str); 12] = [
+    ("", "job j line 1 Missing\n"),
+    ("gbalink 2\n", "job j line 1 Word\n"),
+    ("gbalink 1\ncycles 0\n", "job j line 2 Number\n"),
+    (
+        "gbalink 1\ncycles 2147483649\nconsole 0\n",
+        "job j line 2 Number\n",
+    ),
+    (
+        "gbalink 1\ncycles 1\nconsole 0\nbios b\nbios b\nout state\nend\n",
+        "job j line 5 Repeated\n",
+    ),
+    (
         "gbalink 1\ncycles 1\nconsole 0\nbios b\nout state\n",
-        "gbalink 1\ncycles 1\nconsole 0\nbios b\nout state\nend\n\n",
-        "gbalink 1\r\ncycles 1\r\nconsole 0\r\nbios b\r\nout state\r\nend\r\n",
-    ];
-    for job in refused {
+        "job j line 6 Missing\n",
+    ),
+    (
+        "gbalink 1\ncycles 1\nconsole 0\nbios -\nout state\nend\n",
+        "job j line 4 Name\n",
+    ),
+    ("gbalink 1\ncycles 1\nbios b\n", "job j line 3 Order\n"),
+    (
+        "gbalink 1\ncycles 1\nconsole 0\nbios b c\n",
+        "job j line 4 Extra\n",
+    ),
+    ("gbalink 1\ncycles 1\x7f\n", "job j line 2 Byte\n"),
+    (
+        "gbalink 1\ncycles 1\nconsole 0\nbios b\nout state\nend\nend\n",
+        "job j line 7 Extra\n",
+    ),
+    (
+        "gbalink 1\ncycles 1\nconsole 0\nout state\nend\n",
+        "job j line 5 Missing\n",
+    ),
+];
+
+/// Other spellings of the job of one branch.
+const OTHER_SPELLINGS: [&str; 4] = [
+    "gbalink 1\r\ncycles 1\r\nconsole 0\r\nbios b\r\nout state\r\nend\r\n",
+    "# one branch\n\n \tgbalink\t1 \ncycles 00000000000000000003\n#\nconsole 0\nout state\nbios b\nend\n\n# done",
+    "gbalink 1\ncycles 1\nconsole 0\nbios b\nout state\nend",
+    "gbalink 1\ncycles 2\nconsole 00\nbios b\nout state\nend\n",
+];
+
+#[test]
+fn jobs_are_read_or_refused(rt: HostRuntime) -> Result<(), Fail> {
+    let alloc = rt.alloc();
+    for (job, report) in WRONG_JOBS {
         let case = Case {
             job: Some(job),
-            status: 11,
-            report: "notbuilt job\n",
+            status: 5,
+            report,
             state: None,
             ..PLAIN
         };
         play(&rt, alloc, "j", "g.0.state", &case)?;
     }
-    for job in [
-        "gbalink 1\ncycles 00000000000000000001\nconsole 0\nbios b\nout state\nend\n",
-        "gbalink 1\ncycles 3\nconsole 0\nbios b\nout state\nend\n",
-    ] {
-        play(
-            &rt,
-            alloc,
-            "j",
-            "g.0.state",
-            &Case {
-                job: Some(job),
-                ..PLAIN
-            },
-        )?;
+    for job in OTHER_SPELLINGS {
+        let case = Case {
+            job: Some(job),
+            ..PLAIN
+        };
+        play(&rt, alloc, "j", "g.0.state", &case)?;
     }
-    Ok(())
+    let silent = Case {
+        job: Some("gbalink 1\ncycles 1\nconsole 0\nbios b\nend\n"),
+        state: None,
+        ..PLAIN
+    };
+    play(&rt, alloc, "j", "g.0.state", &silent)
 }
 
 /// MOV r0, #5 and a branch to itself for 10 cycles; a table of two words in the inner RAM; a BIOS that enters Thumb state.

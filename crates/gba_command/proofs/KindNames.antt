@@ -1,0 +1,18 @@
+-- The names of the kinds of refusal.
+use Rattle.std.proofs.Common.{◌≤◌, length, lit≤}
+use Rattle.gba_joblog.specs.Kinds.{kind_name}
+use Rattle.gba_joblog.specs.declared.kinds.JobKind.{JobKind}
+use Rattle.gba_joblog.specs.declared.kinds.JobKind.TheVariants.{Byte, Word, Number, Name, Digest, Order, Repeated, Missing, Extra, Long, Clash}
+
+pub kind_name_short : (kind : JobKind) → length (kind_name kind) ≤ 8
+kind_name_short Byte = lit≤ tt
+kind_name_short Word = lit≤ tt
+kind_name_short Number = lit≤ tt
+kind_name_short Name = lit≤ tt
+kind_name_short Digest = lit≤ tt
+kind_name_short Order = lit≤ tt
+kind_name_short Repeated = lit≤ tt
+kind_name_short Missing = lit≤ tt
+kind_name_short Extra = lit≤ tt
+kind_name_short Long = lit≤ tt
+kind_name_short Clash = lit≤ tt
