@@ -137,5 +137,6 @@ added line Version d = record d { place = Head }
 added line (Cycles cycles) d = record d { cycles = Some cycles }
 added line Console d = record d { place = Inside }
 added line (Bios name) d = record d { last = record d.last { bios = Some (plain_file name line) } }
-added line (Out out) d = record d { last = record d.last { outs = slice_set d.last.outs (place_of out) (Some plain_output) } }
+added line (Out out) d =
+    record d { last = record d.last { outs = slice_set d.last.outs (place_of out) (Some plain_output) } }
 added line End d = record d { place = Ended; consoles = d.consoles ++ d.last ∷ []; last = silent_console }
