@@ -1,5 +1,5 @@
 -- Every job that is read is sound: each line keeps what is said so far sound.
-use Rattle.std.proofs.Common.{◌≡◌, ◌≤◌, ◌^◌, ℕ, ◌+◌, Bool, true, false, cond, not, List, [], ◌∷◌, ◌++◌, length, nat_lt, ◌==◌, ◌&&◌, Option, Some, None, Result, Ok, Err, refl, ap, sym, subst, ◌∙◌, arith}
+use Rattle.std.proofs.Common.{◌≡◌, ◌≤◌, ◌^◌, ℕ, ◌+◌, Bool, true, false, cond, not, List, [], ◌∷◌, ◌++◌, length, nat_lt, ◌&&◌, Option, Some, None, Result, Ok, Err, refl, ap, sym, subst, ◌∙◌, arith}
 use Rattle.std.specs.Prelude.{IfOk, IfSome, is_some, slice_set}
 use Rattle.std.specs.Str.Parse.{digits_value}
 use Rattle.std.proofs.lemmas.List.{length-set}
@@ -14,7 +14,7 @@ use Rattle.gba_joblog.specs.Job.{ConsoleJob, WholeJob}
 use Rattle.gba_joblog.specs.Kinds.{◌>>=◌, holds}
 use Rattle.gba_joblog.specs.Language.{Leads, EndsIn, line_says, said_with, first_word, words_say, keyword_says, statement_of, unless_ended, is_comment, added_if, finished, finished_at, job_with, job_of, usual_delay}
 use Rattle.gba_joblog.specs.Names.{is_name}
-use Rattle.gba_joblog.specs.Operands.{Words, Taken, word_at, number_in, number_at, name_in, name_of, name_at, version_at, out_kind_at, end_at, or_refused, taken}
+use Rattle.gba_joblog.specs.Operands.{Words, Taken, word_at, number_in, number_at, name_in, name_of, name_at, player_at, version_at, out_kind_at, end_at, or_refused, taken}
 use Rattle.gba_joblog.specs.Soundness.{IsFile, IsPartOfConsole, IsConsole, IsJob}
 use Rattle.gba_joblog.specs.Statements.{Statement, Version, Cycles, Console, Bios, Out, End, keyword_of, refusal_at, arguments, added, at_start, in_console, before_console, plain_file, plain_output, place_of, asks_for}
 use Rattle.gba_joblog.specs.declared.draft.Place.{Place}
@@ -22,7 +22,7 @@ use Rattle.gba_joblog.specs.declared.draft.Place.TheVariants.{Start, Head, Insid
 use Rattle.gba_joblog.specs.declared.kinds.ParseRefused.{ParseRefused}
 use Rattle.gba_joblog.specs.declared.kinds.ParseRefused.TheVariants as refusal
 use Rattle.gba_joblog.specs.declared.kinds.JobKind.{JobKind}
-use Rattle.gba_joblog.specs.declared.kinds.JobKind.TheVariants.{Order, Repeated, Missing, Long}
+use Rattle.gba_joblog.specs.declared.kinds.JobKind.TheVariants.{Repeated, Missing, Long}
 use Rattle.gba_joblog.specs.declared.statement.Keyword.{Keyword}
 use Rattle.gba_joblog.specs.declared.statement.Keyword.TheVariants as keyword
 use Rattle.gba_joblog.proofs.Relation.{says}
@@ -135,13 +135,9 @@ keeps n d keyword.Cycles ws s h place e =
     let same : s ≡ Cycles b.0.value = sym (ok-is (Cycles b.0.value) s c.2) in
     rw same (record { cycles = number_at-range 1 (2 ^ 31) ws b.0 b.1; last = h.last; consoles = h.consoles })
 keeps n d keyword.Console ws s h place e =
-    let b = bind-ok (number_at 0 3 ws)
-    (λ player. holds (player.value == length d.consoles) Order >>= (λ _. end_at player.words >>=
-    (λ _. Ok Console))) s e in
-    let c = bind-ok (holds (b.0.value == length d.consoles) Order) (λ _. end_at b.0.words >>=
-    (λ _. Ok Console)) s b.2 in
-    let f = bind-ok (end_at b.0.words) (λ _. Ok Console) s c.2 in
-    let same : s ≡ Console = sym (ok-is Console s f.2) in
+    let b = bind-ok (player_at (length d.consoles) ws) (λ player. end_at player.words >>= (λ _. Ok Console)) s e in
+    let c = bind-ok (end_at b.0.words) (λ _. Ok Console) s b.2 in
+    let same : s ≡ Console = sym (ok-is Console s c.2) in
     let here : d.place ≡ Head = heads d.place (is_some d.cycles) place in
     let none : d.consoles ≡ [] = rw here at h.consoles in
     rw same (record { cycles = h.cycles; last = h.last; consoles = none })
