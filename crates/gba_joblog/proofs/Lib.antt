@@ -3,3 +3,4 @@ pub mod Reading
 pub mod OutputNames
 pub mod Relation
 pub mod Sound
+pub mod Players

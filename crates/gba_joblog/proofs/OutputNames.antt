@@ -15,7 +15,8 @@ is_text text (Some bytes) = bytes_eq bytes text
 is_text text None = false
 
 same_front : (fs ns tail : List ℕ) → bytes_eq ns (fs ++ tail) ≡ is_text tail (after_text fs ns) → (t : Bool)
-    → (t && bytes_eq ns (fs ++ tail)) ≡ is_text tail (cond (t && pointwise nat_eq (take (length fs) ns) fs) (Some (drop (length fs) ns)) None)
+    → (t && bytes_eq ns (fs ++ tail)) ≡ is_text tail (cond (t && pointwise nat_eq (take (length fs) ns) fs) (Some
+    (drop (length fs) ns)) None)
 same_front fs ns tail h true = h
 same_front fs ns tail h false = refl
 
@@ -25,35 +26,44 @@ front-tail [] name tail = refl
 front-tail (f ∷ fs) [] tail = refl
 front-tail (f ∷ fs) (n ∷ ns) tail = same_front fs ns tail (front-tail fs ns tail) (nat_eq n f)
 
-then_text : (text front : List ℕ) (found : Option (List ℕ)) → is_text (front ++ text) found ≡ is_text text (option_and_then (after_text front) found)
+then_text : (text front : List ℕ) (found : Option (List ℕ))
+    → is_text (front ++ text) found ≡ is_text text (option_and_then (after_text front) found)
 then_text text front None = refl
 then_text text front (Some name) = front-tail front name text
 
 -- the name of an output ends as it should, after OUT and the player
-pub name_is : (name out digits text : List ℕ) → bytes_eq name (out ++ (codes "." ++ (digits ++ (codes "." ++ text)))) ≡ is_text text (tail_after out digits name)
+pub name_is : (name out digits text : List ℕ)
+    → bytes_eq name (out ++ (codes "." ++ (digits ++ (codes "." ++ text)))) ≡ is_text text (tail_after out digits name)
 unfolding tail_after
 name_is name out digits text =
     front-tail out name (codes "." ++ (digits ++ (codes "." ++ text)))
     ∙ then_text (digits ++ (codes "." ++ text)) (codes ".") (after_text out name)
     ∙ then_text (codes "." ++ text) digits (option_and_then (after_text (codes ".")) (after_text out name))
-    ∙ then_text text (codes ".") (option_and_then (after_text digits) (option_and_then (after_text (codes ".")) (after_text out name)))
+    ∙ then_text text (codes ".") (option_and_then (after_text digits) (option_and_then (after_text (codes "."))
+    (after_text out name)))
 
-pub console_writes-tail : (out : List ℕ) (player : ℕ) (console : ConsoleJob) (name tail : List ℕ) → tail_after out (decimal player) name ≡ Some tail
+pub console_writes-tail : (out : List ℕ) (player : ℕ) (console : ConsoleJob) (name tail : List ℕ)
+    → tail_after out (decimal player) name ≡ Some tail
     → console_writes out player console name ≡ ends_as console tail
 unfolding console_writes
 console_writes-tail out player console name tail e =
-    let is : (text : List ℕ) → bytes_eq name (out ++ (codes "." ++ (decimal player ++ (codes "." ++ text)))) ≡ bytes_eq tail text = λ text. name_is name out (decimal player) text ∙ ap (is_text text) e in
+    let is : (text : List ℕ) → bytes_eq name (out ++ (codes "." ++ (decimal player ++ (codes "." ++ text))))
+    ≡ bytes_eq tail text = λ text. name_is name out (decimal player) text ∙ ap (is_text text) e in
     rw (is (codes "frames"), is (codes "samples"), is (codes "words"), is (codes "state"), is (codes "save")) refl
 
-pub console_writes-no_tail : (out : List ℕ) (player : ℕ) (console : ConsoleJob) (name : List ℕ) → tail_after out (decimal player) name ≡ None
+pub console_writes-no_tail : (out : List ℕ) (player : ℕ) (console : ConsoleJob) (name : List ℕ)
+    → tail_after out (decimal player) name ≡ None
     → console_writes out player console name ≡ false
 unfolding console_writes
 console_writes-no_tail out player console name e =
-    let is : (text : List ℕ) → bytes_eq name (out ++ (codes "." ++ (decimal player ++ (codes "." ++ text)))) ≡ false = λ text. name_is name out (decimal player) text ∙ ap (is_text text) e in
-    rw (is (codes "frames"), is (codes "samples"), is (codes "words"), is (codes "state"), is (codes "save")) (simp and-false)
+    let is : (text : List ℕ) → bytes_eq name (out ++ (codes "." ++ (decimal player ++ (codes "." ++ text))))
+    ≡ false = λ text. name_is name out (decimal player) text ∙ ap (is_text text) e in
+    rw (is (codes "frames"), is (codes "samples"), is (codes "words"), is (codes "state"), is (codes "save"))
+    (simp and-false)
 
 pub writes-more : (out : List ℕ) (player : ℕ) (console : ConsoleJob) (consoles : List ConsoleJob) (name : List ℕ)
-    → writes out player (console ∷ consoles) name ≡ (console_writes out player console name || writes out (player + 1) consoles name)
+    → writes out player (console ∷ consoles) name
+    ≡ (console_writes out player console name || writes out (player + 1) consoles name)
 unfolding writes
 writes-more out player console consoles name = refl
 
@@ -66,7 +76,8 @@ unfolding inputs_clash
 inputs_clash-none is_output = refl
 
 pub inputs_clash-more : (is_output : List ℕ → Bool) (console : ConsoleJob) (consoles : List ConsoleJob)
-    → inputs_clash is_output (console ∷ consoles) ≡ least (console_clash is_output console) (inputs_clash is_output consoles)
+    → inputs_clash is_output (console ∷ consoles)
+    ≡ least (console_clash is_output console) (inputs_clash is_output consoles)
 unfolding inputs_clash
 inputs_clash-more is_output console consoles = refl
 
@@ -81,23 +92,30 @@ least_assoc (Some l) (Some m) None = least-none (least (Some l) (Some m))
 least_assoc (Some l) (Some m) (Some n) = grind (arith, nat_tests)
 
 -- a loop over the consoles, of which each stands for a value
-at_item : {X : Type 0} (xs : List X) (i : ℕ) (x : X) → i < length xs → x ≡ get_or xs i x → drop i xs ≡ x ∷ drop (i + 1) xs
+at_item : {X : Type 0} (xs : List X) (i : ℕ) (x : X) → i < length xs → x ≡ get_or xs i x
+    → drop i xs ≡ x ∷ drop (i + 1) xs
 at_item xs i x h e = drop_more xs i x h ∙ ap (λ y. y ∷ drop (i + 1) xs) (sym e)
 
-pub writes_at : {X : Type 0} (view : X → ConsoleJob) (out name : List ℕ) (xs : List X) (i : ℕ) (x : X) (answer : Bool) → i < length xs → x ≡ get_or xs i x
+pub writes_at : {X : Type 0} (view : X → ConsoleJob) (out name : List ℕ) (xs : List X) (i : ℕ) (x : X)
+    (answer : Bool) → i < length xs → x ≡ get_or xs i x
     → answer ≡ console_writes out i (view x) name
     → writes out i (map view (drop i xs)) name ≡ (answer || writes out (i + 1) (map view (drop (i + 1) xs)) name)
-writes_at view out name xs i x answer h e a = rw (at_item xs i x h e, a) (writes-more out i (view x) (map view (drop (i + 1) xs)) name)
+writes_at view out name xs i x answer h e a = rw (at_item xs i x h e, a) (writes-more out i (view x) (map view (drop
+    (i + 1) xs)) name)
 
-pub writes_done : {X : Type 0} (view : X → ConsoleJob) (out name : List ℕ) (xs : List X) (i : ℕ) → length xs ≤ i → writes out i (map view (drop i xs)) name ≡ false
+pub writes_done : {X : Type 0} (view : X → ConsoleJob) (out name : List ℕ) (xs : List X) (i : ℕ) → length xs ≤ i
+    → writes out i (map view (drop i xs)) name ≡ false
 writes_done view out name xs i h = rw drop_all (writes-none out i name)
 
-pub clash_at : {X : Type 0} (view : X → ConsoleJob) (is_output : List ℕ → Bool) (xs : List X) (i : ℕ) (x : X) (found : Option ℕ) → i < length xs → x ≡ get_or xs i x
-    → least found (inputs_clash is_output (map view (drop i xs))) ≡ least (least found (console_clash is_output (view x))) (inputs_clash is_output (map view (drop (i + 1) xs)))
+pub clash_at : {X : Type 0} (view : X → ConsoleJob) (is_output : List ℕ
+    → Bool) (xs : List X) (i : ℕ) (x : X) (found : Option ℕ) → i < length xs → x ≡ get_or xs i x
+    → least found (inputs_clash is_output (map view (drop i xs)))
+    ≡ least (least found (console_clash is_output (view x))) (inputs_clash is_output (map view (drop (i + 1) xs)))
 clash_at view is_output xs i x found h e =
     rw (at_item xs i x h e) (ap (least found) (inputs_clash-more is_output (view x) (map view (drop (i + 1) xs)))
     ∙ sym (least_assoc found (console_clash is_output (view x)) (inputs_clash is_output (map view (drop (i + 1) xs)))))
 
-pub clash_done : {X : Type 0} (view : X → ConsoleJob) (is_output : List ℕ → Bool) (xs : List X) (i : ℕ) (found : Option ℕ) → length xs ≤ i
+pub clash_done : {X : Type 0} (view : X → ConsoleJob) (is_output : List ℕ
+    → Bool) (xs : List X) (i : ℕ) (found : Option ℕ) → length xs ≤ i
     → least found (inputs_clash is_output (map view (drop i xs))) ≡ found
 clash_done view is_output xs i found h = rw drop_all (ap (least found) (inputs_clash-none is_output) ∙ least-none found)

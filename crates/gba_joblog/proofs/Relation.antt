@@ -18,7 +18,8 @@ leads_none : (n : ℕ) (d : Draft) → Leads n d [] d
 unfolding Leads
 leads_none n d = refl
 
-leads_more : (n : ℕ) (d mid e : Draft) (line : List ℕ) (ls : List (List ℕ)) → said_with (n + 1) d line ≡ Ok mid → Leads (n + 1) mid ls e → Leads n d (line ∷ ls) e
+leads_more : (n : ℕ) (d mid e : Draft) (line : List ℕ) (ls : List (List ℕ)) → said_with (n + 1) d line ≡ Ok mid
+    → Leads (n + 1) mid ls e → Leads n d (line ∷ ls) e
 unfolding Leads
 leads_more n d mid e line ls said rest = (mid, said, rest)
 
@@ -26,7 +27,8 @@ at_end : (n : ℕ) (d : Draft) (answer : Result WholeJob JobError) → finished 
 at_end n d (Ok job) h = (d, leads_none n d, ap (λ k. finished k d) (omega arith) ∙ h)
 at_end n d (Err r) h = inr (d, leads_none n d, ap (λ k. finished k d) (omega arith) ∙ h)
 
-one_more : (n : ℕ) (d mid : Draft) (line : List ℕ) (ls : List (List ℕ)) (answer : Result WholeJob JobError) → said_with (n + 1) d line ≡ Ok mid
+one_more : (n : ℕ) (d mid : Draft) (line : List ℕ) (ls : List (List ℕ)) (answer : Result WholeJob JobError)
+    → said_with (n + 1) d line ≡ Ok mid
     → ComesTo (n + 1) mid ls answer → ComesTo n d (line ∷ ls) answer
 one_more n d mid line ls (Ok job) said h =
     (h.0, leads_more n d mid h.0 line ls said h.1, ap (λ k. finished k h.0) (omega arith) ∙ h.2)
@@ -47,9 +49,11 @@ one_more n d mid line ls (Err r) said (inr h) =
 comes_to : (n : ℕ) (d : Draft) (ls : List (List ℕ)) → ComesTo n d ls (lines_say n d ls)
 comes_to n d [] = rw lines_say-end (at_end n d (finished n d) refl)
 comes_to n d (line ∷ ls) = by_line (said_with (n + 1) d line) refl (λ mid. comes_to (n + 1) mid ls) where
-  by_line : (said : Result Draft JobKind) → said_with (n + 1) d line ≡ said → ((mid : Draft) → ComesTo (n + 1) mid ls (lines_say (n + 1) mid ls))
+  by_line : (said : Result Draft JobKind) → said_with (n + 1) d line ≡ said → ((mid : Draft)
+      → ComesTo (n + 1) mid ls (lines_say (n + 1) mid ls))
       → ComesTo n d (line ∷ ls) (lines_say n d (line ∷ ls))
-  by_line (Ok mid) e rest = rw (lines_say-more n d line ls mid e) (one_more n d mid line ls (lines_say (n + 1) mid ls) e (rest mid))
+  by_line (Ok mid) e rest = rw (lines_say-more n d line ls mid e) (one_more n d mid line ls (lines_say
+      (n + 1) mid ls) e (rest mid))
   by_line (Err kind) e rest =
       rw (lines_say-refused n d line ls kind e) (inl (record {
         before = [];
@@ -62,8 +66,15 @@ comes_to n d (line ∷ ls) = by_line (said_with (n + 1) d line) refl (λ mid. co
         refusal = e;
       }))
 
-said_by : (bytes : List ℕ) (answer : Result WholeJob JobError) → length bytes ≤ longest_job → ComesTo 0 nothing_said (lines bytes) answer → Says bytes answer
-said_by bytes (Ok job) short h = record { short = short; said = h.0; leads = h.1; end = ap (λ k. finished k h.0) (omega arith) ∙ h.2 }
+said_by : (bytes : List ℕ) (answer : Result WholeJob JobError) → length bytes ≤ longest_job
+    → ComesTo 0 nothing_said (lines bytes) answer → Says bytes answer
+said_by bytes (Ok job) short h = record {
+  short = short;
+  said = h.0;
+  leads = h.1;
+  end = ap (λ k. finished k h.0)
+      (omega arith) ∙ h.2;
+}
 said_by bytes (Err r) short (inl stops) = inr (inl (record { short = short; stops = stops }))
 said_by bytes (Err r) short (inr h) =
     inr (inr (record { short = short; said = h.0; leads = h.1; end = ap (λ k. finished k h.0) (omega arith) ∙ h.2 }))
@@ -81,8 +92,10 @@ led n d e [] h = lines_say-end n d ∙ ap (λ k. finished k d) (omega arith) ∙
 led n d e (line ∷ ls) h =
     lines_say-more n d line ls h.0 h.1 ∙ led (n + 1) h.0 e ls h.2 ∙ ap (λ k. finished k e) (omega arith)
 
-stopped_at : (n : ℕ) (d mid : Draft) (before : List (List ℕ)) (line : List ℕ) (after : List (List ℕ)) (kind : JobKind) (at : ℕ) → Leads n d before mid
-    → at ≡ n + length before + 1 → said_with at mid line ≡ Err kind → lines_say n d (before ++ line ∷ after) ≡ Err (refused at kind)
+stopped_at : (n : ℕ) (d mid : Draft) (before : List (List ℕ)) (line : List ℕ) (after : List (List ℕ))
+    (kind : JobKind) (at : ℕ) → Leads n d before mid
+    → at ≡ n + length before + 1 → said_with at mid line ≡ Err kind
+    → lines_say n d (before ++ line ∷ after) ≡ Err (refused at kind)
 unfolding Leads
 stopped_at n d mid [] line after kind at h count e =
     let here : at ≡ n + 1 = omega arith in
@@ -93,10 +106,13 @@ stopped_at n d mid (first ∷ before) line after kind at h count e =
 
 -- no other
 pub one : (bytes : List ℕ) (answer : Result WholeJob JobError) → Says bytes answer → answer ≡ job_of bytes
-one bytes (Ok job) h = sym (job_of-lines bytes (Ok job) h.short (led 0 nothing_said h.said (lines bytes) h.leads ∙ ap (λ k. finished k h.said) (omega arith) ∙ h.end))
+one bytes (Ok job) h = sym (job_of-lines bytes (Ok job) h.short (led 0 nothing_said h.said (lines bytes) h.leads
+    ∙ ap (λ k. finished k h.said) (omega arith) ∙ h.end))
 one bytes (Err r) (inl h) = ap Err h.1 ∙ sym (job_of-long bytes h.0)
 one bytes (Err r) (inr (inl h)) =
     let s = h.stops in
-    sym (job_of-lines bytes (Err r) h.short (ap (lines_say 0 nothing_said) s.place ∙ stopped_at 0 nothing_said s.said s.before s.line s.after r.kind r.line s.leads s.count s.refusal))
+    sym (job_of-lines bytes (Err r) h.short (ap (lines_say 0 nothing_said) s.place
+    ∙ stopped_at 0 nothing_said s.said s.before s.line s.after r.kind r.line s.leads s.count s.refusal))
 one bytes (Err r) (inr (inr h)) =
-    sym (job_of-lines bytes (Err r) h.short (led 0 nothing_said h.said (lines bytes) h.leads ∙ ap (λ k. finished k h.said) (omega arith) ∙ h.end))
+    sym (job_of-lines bytes (Err r) h.short (led 0 nothing_said h.said (lines bytes) h.leads
+    ∙ ap (λ k. finished k h.said) (omega arith) ∙ h.end))

@@ -1,5 +1,5 @@
 -- Every job that is read is sound: each line keeps what is said so far sound.
-use Rattle.std.proofs.Common.{◌≡◌, ◌≤◌, ◌^◌, ℕ, ◌+◌, Bool, true, false, cond, not, List, [], ◌∷◌, ◌++◌, length, nat_lt, ◌==◌, ◌&&◌, Option, Some, None, Result, Ok, Err, refl, ap, sym, subst, ◌∙◌, arith}
+use Rattle.std.proofs.Common.{◌≡◌, ◌≤◌, ◌^◌, ℕ, ◌+◌, Bool, true, false, cond, not, List, [], ◌∷◌, ◌++◌, length, nat_lt, ◌&&◌, Option, Some, None, Result, Ok, Err, refl, ap, sym, subst, ◌∙◌, arith}
 use Rattle.std.specs.Prelude.{IfOk, IfSome, is_some, slice_set}
 use Rattle.std.specs.Str.Parse.{digits_value}
 use Rattle.std.proofs.lemmas.List.{length-set}
@@ -14,7 +14,7 @@ use Rattle.gba_joblog.specs.Job.{ConsoleJob, WholeJob}
 use Rattle.gba_joblog.specs.Kinds.{◌>>=◌, holds}
 use Rattle.gba_joblog.specs.Language.{Leads, EndsIn, line_says, said_with, first_word, words_say, keyword_says, statement_of, unless_ended, is_comment, added_if, finished, finished_at, job_with, job_of, usual_delay}
 use Rattle.gba_joblog.specs.Names.{is_name}
-use Rattle.gba_joblog.specs.Operands.{Words, Taken, word_at, number_in, number_at, name_in, name_of, name_at, version_at, out_kind_at, end_at, or_refused, taken}
+use Rattle.gba_joblog.specs.Operands.{Words, Taken, word_at, number_in, number_at, name_in, name_of, name_at, player_at, version_at, out_kind_at, end_at, or_refused, taken}
 use Rattle.gba_joblog.specs.Soundness.{IsFile, IsPartOfConsole, IsConsole, IsJob}
 use Rattle.gba_joblog.specs.Statements.{Statement, Version, Cycles, Console, Bios, Out, End, keyword_of, refusal_at, arguments, added, at_start, in_console, before_console, plain_file, plain_output, place_of, asks_for}
 use Rattle.gba_joblog.specs.declared.draft.Place.{Place}
@@ -22,7 +22,7 @@ use Rattle.gba_joblog.specs.declared.draft.Place.TheVariants.{Start, Head, Insid
 use Rattle.gba_joblog.specs.declared.kinds.ParseRefused.{ParseRefused}
 use Rattle.gba_joblog.specs.declared.kinds.ParseRefused.TheVariants as refusal
 use Rattle.gba_joblog.specs.declared.kinds.JobKind.{JobKind}
-use Rattle.gba_joblog.specs.declared.kinds.JobKind.TheVariants.{Order, Repeated, Missing, Long}
+use Rattle.gba_joblog.specs.declared.kinds.JobKind.TheVariants.{Repeated, Missing, Long}
 use Rattle.gba_joblog.specs.declared.statement.Keyword.{Keyword}
 use Rattle.gba_joblog.specs.declared.statement.Keyword.TheVariants as keyword
 use Rattle.gba_joblog.proofs.Relation.{says}
@@ -49,7 +49,8 @@ pub begins : IsDraft nothing_said
 begins = record { cycles = tt; last = silent; consoles = refl }
 
 -- what a step gave and what the steps after it made of that
-bind-ok : {A B : Type 0} (r : Result A JobKind) (f : A → Result B JobKind) (y : B) → (r >>= f) ≡ Ok y → (x : A) × (r ≡ Ok x) × (f x ≡ Ok y)
+bind-ok : {A B : Type 0} (r : Result A JobKind) (f : A → Result B JobKind) (y : B) → (r >>= f) ≡ Ok y
+    → (x : A) × (r ≡ Ok x) × (f x ≡ Ok y)
 bind-ok (Ok x) f y h = (x, refl, h)
 bind-ok (Err kind) f y h = absurd cc
 
@@ -84,7 +85,8 @@ held-true false kind x h = absurd cc
 number-range : (least most n : ℕ) (word : List ℕ) → number_of least most word ≡ Some n → (least ≤ n) × (n ≤ most)
 unfolding number_of
 number-range least most n word h = by_test (is_number word && is_within least most (digits_value 10 word)) refl h where
-  by_test : (t : Bool) → (is_number word && is_within least most (digits_value 10 word)) ≡ t → cond t (Some (digits_value 10 word)) None ≡ Some n → (least ≤ n) × (n ≤ most)
+  by_test : (t : Bool) → (is_number word && is_within least most (digits_value 10 word)) ≡ t
+      → cond t (Some (digits_value 10 word)) None ≡ Some n → (least ≤ n) × (n ≤ most)
   by_test true e s =
       let same : digits_value 10 word ≡ n = cc in
       let low : least ≤ digits_value 10 word = grind (arith, nat_tests) in
@@ -92,11 +94,13 @@ number-range least most n word h = by_test (is_number word && is_within least mo
       (omega arith, omega arith)
   by_test false e s = absurd cc
 
-refused-some : {T : Type 0} (kind : JobKind) (words : Words) (o : Option T) (t : Taken T) → or_refused kind words o ≡ Ok t → o ≡ Some t.value
+refused-some : {T : Type 0} (kind : JobKind) (words : Words) (o : Option T) (t : Taken T)
+    → or_refused kind words o ≡ Ok t → o ≡ Some t.value
 refused-some kind words (Some x) t h = let same : taken x words ≡ t = cc in ap (λ t. Some t.value) same
 refused-some kind words None t h = absurd cc
 
-number_at-range : (least most : ℕ) (ws : Words) (t : Taken ℕ) → number_at least most ws ≡ Ok t → (least ≤ t.value) × (t.value ≤ most)
+number_at-range : (least most : ℕ) (ws : Words) (t : Taken ℕ) → number_at least most ws ≡ Ok t
+    → (least ≤ t.value) × (t.value ≤ most)
 unfolding number_at
 number_at-range least most ws t h =
     let b = bind-ok (word_at ws) (number_in least most) t h in
@@ -115,7 +119,8 @@ name_at-is ws t h =
     name-is b.0.value t.value (refused-some _ _ (name_of b.0.value) t b.2)
 
 -- each keyword with its operands keeps what is said sound
-keeps : (n : ℕ) (d : Draft) (k : Keyword) (ws : Words) (s : Statement) → IsDraft d → refusal_at d k ≡ None → arguments d k ws ≡ Ok s → IsDraft (added n s d)
+keeps : (n : ℕ) (d : Draft) (k : Keyword) (ws : Words) (s : Statement) → IsDraft d → refusal_at d k ≡ None
+    → arguments d k ws ≡ Ok s → IsDraft (added n s d)
 unfolding refusal_at arguments added
 keeps n d keyword.Version ws s h place e =
     let b = bind-ok (version_at ws) (λ version. end_at version.words >>= (λ _. Ok Version)) s e in
@@ -130,11 +135,9 @@ keeps n d keyword.Cycles ws s h place e =
     let same : s ≡ Cycles b.0.value = sym (ok-is (Cycles b.0.value) s c.2) in
     rw same (record { cycles = number_at-range 1 (2 ^ 31) ws b.0 b.1; last = h.last; consoles = h.consoles })
 keeps n d keyword.Console ws s h place e =
-    let b = bind-ok (number_at 0 3 ws)
-    (λ player. holds (player.value == length d.consoles) Order >>= (λ _. end_at player.words >>= (λ _. Ok Console))) s e in
-    let c = bind-ok (holds (b.0.value == length d.consoles) Order) (λ _. end_at b.0.words >>= (λ _. Ok Console)) s b.2 in
-    let f = bind-ok (end_at b.0.words) (λ _. Ok Console) s c.2 in
-    let same : s ≡ Console = sym (ok-is Console s f.2) in
+    let b = bind-ok (player_at (length d.consoles) ws) (λ player. end_at player.words >>= (λ _. Ok Console)) s e in
+    let c = bind-ok (end_at b.0.words) (λ _. Ok Console) s b.2 in
+    let same : s ≡ Console = sym (ok-is Console s c.2) in
     let here : d.place ≡ Head = heads d.place (is_some d.cycles) place in
     let none : d.consoles ≡ [] = rw here at h.consoles in
     rw same (record { cycles = h.cycles; last = h.last; consoles = none })
@@ -145,19 +148,38 @@ keeps n d keyword.Bios ws s h place e =
     let file : IsFile (plain_file b.0.value n) = record { named = name_at-is ws b.0 b.1; plain = refl } in
     rw same (record {
       cycles = h.cycles;
-      last = record { bios = file; cart = h.last.cart; save = h.last.save; keys = h.last.keys; changes = h.last.changes; five = h.last.five };
+      last = record {
+        bios = file;
+        cart = h.last.cart;
+        save = h.last.save;
+        keys = h.last.keys;
+        changes =
+            h.last.changes;
+        five = h.last.five;
+      };
       consoles = h.consoles;
     })
 keeps n d keyword.Out ws s h place e =
     let b = bind-ok (out_kind_at ws)
-    (λ out. holds (not (asks_for d.last out.value)) Repeated >>= (λ _. end_at out.words >>= (λ _. Ok (Out out.value)))) s e in
-    let c = bind-ok (holds (not (asks_for d.last b.0.value)) Repeated) (λ _. end_at b.0.words >>= (λ _. Ok (Out b.0.value))) s b.2 in
+    (λ out. holds (not (asks_for d.last out.value)) Repeated >>= (λ _. end_at out.words >>= (λ _. Ok
+    (Out out.value)))) s e in
+    let c = bind-ok (holds (not (asks_for d.last b.0.value)) Repeated) (λ _. end_at b.0.words >>= (λ _. Ok
+    (Out b.0.value))) s b.2 in
     let f = bind-ok (end_at b.0.words) (λ _. Ok (Out b.0.value)) s c.2 in
     let same : s ≡ Out b.0.value = sym (ok-is (Out b.0.value) s f.2) in
-    let five : length (slice_set d.last.outs (place_of b.0.value) (Some plain_output)) ≡ 5 = rw length-set h.last.five in
+    let five : length (slice_set d.last.outs (place_of b.0.value) (Some plain_output))
+    ≡ 5 = rw length-set h.last.five in
     rw same (record {
       cycles = h.cycles;
-      last = record { bios = h.last.bios; cart = h.last.cart; save = h.last.save; keys = h.last.keys; changes = h.last.changes; five = five };
+      last = record {
+        bios = h.last.bios;
+        cart = h.last.cart;
+        save = h.last.save;
+        keys = h.last.keys;
+        changes =
+            h.last.changes;
+        five = five;
+      };
       consoles = h.consoles;
     })
 keeps n d keyword.End ws s h place e =
@@ -173,7 +195,8 @@ keeps n d keyword.End ws s h place e =
       consoles = (d.last, ap (λ cs. cs ++ d.last ∷ []) none, record { part = h.last; image = image });
     })
 
-not-ended : (place : Place) (said : Result (Option Statement) JobKind) (s : Statement) → unless_ended place said ≡ Ok (Some s) → said ≡ Ok (Some s)
+not-ended : (place : Place) (said : Result (Option Statement) JobKind) (s : Statement)
+    → unless_ended place said ≡ Ok (Some s) → said ≡ Ok (Some s)
 not-ended Start said s h = h
 not-ended Head said s h = h
 not-ended Inside said s h = h
@@ -186,23 +209,28 @@ record IsStatement (d : Draft) (s : Statement) : Type 0 where
   place : refusal_at d keyword ≡ None
   right : arguments d keyword words ≡ Ok s
 
-by_place : (d : Draft) (k : Keyword) (ws : Words) (s : Statement) (o : Option JobKind) → refusal_at d k ≡ o → statement_of d k ws o ≡ Ok (Some s) → IsStatement d s
+by_place : (d : Draft) (k : Keyword) (ws : Words) (s : Statement) (o : Option JobKind) → refusal_at d k ≡ o
+    → statement_of d k ws o ≡ Ok (Some s) → IsStatement d s
 by_place d k ws s None place h =
     let b = bind-ok (arguments d k ws) (λ statement. Ok (Some statement)) (Some s) h in
     let same : b.0 ≡ s = some-is b.0 s (ok-is (Some b.0) (Some s) b.2) in
     record { keyword = k; words = ws; place = place; right = b.1 ∙ ap (λ s. Ok s) same }
 by_place d k ws s (Some kind) place h = absurd cc
 
-by_keyword : (d : Draft) (ws : Words) (s : Statement) (o : Option Keyword) → keyword_says d ws o ≡ Ok (Some s) → IsStatement d s
+by_keyword : (d : Draft) (ws : Words) (s : Statement) (o : Option Keyword) → keyword_says d ws o ≡ Ok (Some s)
+    → IsStatement d s
 by_keyword d ws s None h = absurd cc
 by_keyword d ws s (Some k) h = by_place d k ws s (refusal_at d k) refl h
 
-by_words : (d : Draft) (ws : Words) (s : Statement) (o : Option (List ℕ)) → words_say d ws o ≡ Ok (Some s) → IsStatement d s
+by_words : (d : Draft) (ws : Words) (s : Statement) (o : Option (List ℕ)) → words_say d ws o ≡ Ok (Some s)
+    → IsStatement d s
 by_words d ws s None h = absurd cc
-by_words d ws s (Some word) h = by_keyword d ws s (keyword_of word) (not-ended d.place (keyword_says d ws (keyword_of word)) s h)
+by_words d ws s (Some word) h = by_keyword d ws s (keyword_of word) (not-ended d.place (keyword_says d ws
+    (keyword_of word)) s h)
 
 by_text : (d : Draft) (line : List ℕ) (s : Statement) (long comment : Bool)
-    → cond long (Err Long) (cond comment (Ok None) (first_word line (words line) >>= words_say d (rest_of (words line)))) ≡ Ok (Some s) → IsStatement d s
+    → cond long (Err Long) (cond comment (Ok None) (first_word line (words line) >>= words_say d (rest_of
+    (words line)))) ≡ Ok (Some s) → IsStatement d s
 by_text d line s true comment h = absurd cc
 by_text d line s false true h = absurd cc
 by_text d line s false false h =
@@ -213,7 +241,8 @@ says-statement : (d : Draft) (line : List ℕ) (s : Statement) → line_says d l
 unfolding line_says
 says-statement d line s h = by_text d line s (nat_lt longest_line (length line)) (is_comment line) h
 
-with_statement : (n : ℕ) (d : Draft) (line : List ℕ) (o : Option Statement) → IsDraft d → line_says d line ≡ Ok o → IsDraft (added_if n d o)
+with_statement : (n : ℕ) (d : Draft) (line : List ℕ) (o : Option Statement) → IsDraft d → line_says d line ≡ Ok o
+    → IsDraft (added_if n d o)
 with_statement n d line None h said = h
 with_statement n d line (Some s) h said =
     let is = says-statement d line s said in
@@ -228,15 +257,25 @@ line-keeps n d e line h said =
 lines-keep : (n : ℕ) (d e : Draft) (ls : List (List ℕ)) → IsDraft d → Leads n d ls e → IsDraft e
 unfolding Leads
 lines-keep n d e [] h leads = subst IsDraft leads h
-lines-keep n d e (line ∷ ls) h leads = lines-keep (n + 1) leads.0 e ls (line-keeps (n + 1) d leads.0 line h leads.1) leads.2
+lines-keep n d e (line ∷ ls) h leads = lines-keep (n + 1) leads.0 e ls (line-keeps
+    (n + 1) d leads.0 line h leads.1) leads.2
 
-by_cycles : (d : Draft) (o : Option ℕ) (n : ℕ) (job : WholeJob) → IfSome o InRange → AreConsoles Ended d.consoles → job_with d o n ≡ Ok job → IsJob job
+by_cycles : (d : Draft) (o : Option ℕ) (n : ℕ) (job : WholeJob) → IfSome o InRange → AreConsoles Ended d.consoles
+    → job_with d o n ≡ Ok job → IsJob job
 by_cycles d None n job range consoles h = absurd cc
 by_cycles d (Some cycles) n job range consoles h =
     subst IsJob (ok-is (record { cycles = cycles; delay = usual_delay; consoles = d.consoles }) job h)
-    (record { some_cycles = range.0; few_cycles = range.1; delay = refl; console = consoles.0; alone = consoles.1; whole = consoles.2 })
+    (record {
+      some_cycles = range.0;
+      few_cycles = range.1;
+      delay = refl;
+      console = consoles.0;
+      alone = consoles.1;
+      whole = consoles.2;
+    })
 
-by_end : (d : Draft) (place : Place) (n : ℕ) (job : WholeJob) → IfSome d.cycles InRange → AreConsoles place d.consoles → finished_at d place n ≡ Ok job → IsJob job
+by_end : (d : Draft) (place : Place) (n : ℕ) (job : WholeJob) → IfSome d.cycles InRange
+    → AreConsoles place d.consoles → finished_at d place n ≡ Ok job → IsJob job
 by_end d Start n job range consoles h = absurd cc
 by_end d Head n job range consoles h = absurd cc
 by_end d Inside n job range consoles h = absurd cc
@@ -250,14 +289,17 @@ at-end n d job h end = by_end d d.place n job h.cycles h.consoles end
 pub sound : (bytes : List ℕ) (job : WholeJob) → job_of bytes ≡ Ok job → IsJob job
 sound bytes job h =
     let ends : EndsIn bytes (Ok job) = rw h at (says bytes) in
-    at-end (length (lines bytes)) ends.said job (lines-keep 0 nothing_said ends.said (lines bytes) begins ends.leads) ends.end
+    at-end (length (lines bytes)) ends.said job (lines-keep 0 nothing_said ends.said
+    (lines bytes) begins ends.leads) ends.end
 
 -- what the function says of an answer, the relation says too
-pub is_said : {X : Type 0} (view : X → WholeJob) (bytes : List ℕ) (answer : Result X ParseRefused) → Parses view answer (job_of bytes) → IsSaid view bytes answer
+pub is_said : {X : Type 0} (view : X → WholeJob) (bytes : List ℕ) (answer : Result X ParseRefused)
+    → Parses view answer (job_of bytes) → IsSaid view bytes answer
 is_said view bytes (Ok x) h = rw h at (says bytes)
 is_said view bytes (Err (refusal.Job e)) h = rw h at (says bytes)
 is_said view bytes (Err refusal.NoMemory) h = tt
 
-pub is_sound : {X : Type 0} (view : X → WholeJob) (bytes : List ℕ) (answer : Result X ParseRefused) → Parses view answer (job_of bytes) → IfOk answer (λ x. IsJob (view x))
+pub is_sound : {X : Type 0} (view : X → WholeJob) (bytes : List ℕ) (answer : Result X ParseRefused)
+    → Parses view answer (job_of bytes) → IfOk answer (λ x. IsJob (view x))
 is_sound view bytes (Ok x) h = sound bytes (view x) h
 is_sound view bytes (Err e) h = tt

@@ -32,7 +32,8 @@ console_writes out player console name =
 -- whether one of these consoles, which stand after so many others, writes a file of this name
 unfoldable pub writes : List ℕ → ℕ → List ConsoleJob → List ℕ → Bool
 writes out player [] name = false
-writes out player (console ∷ consoles) name = console_writes out player console name || writes out (player + 1) consoles name
+writes out player (console ∷ consoles) name =
+    console_writes out player console name || writes out (player + 1) consoles name
 
 -- the lesser of two lines, where both are there
 abbrev pub least : Option ℕ → Option ℕ → Option ℕ
@@ -62,9 +63,11 @@ clash_under is_output job name = if is_output name then Some 0 else inputs_clash
 unfoldable pub clash_of : WholeJob → List ℕ → List ℕ → Option ℕ
 clash_of job name out = clash_under (writes out 0 job.consoles) job name
 
--- What follows a text at the front of the bytes, where they begin with it. Only private functions cite this and the next.
+-- What follows a text at the front of the bytes, where they begin with it. Only private functions cite this and what
+-- follows here.
 abbrev pub after_text : List ℕ → List ℕ → Option (List ℕ)
-after_text text bytes = if pointwise nat_eq (take (length text) bytes) text then Some (drop (length text) bytes) else None
+after_text text bytes =
+    if pointwise nat_eq (take (length text) bytes) text then Some (drop (length text) bytes) else None
 
 unfoldable pub tail_after : List ℕ → List ℕ → List ℕ → Option (List ℕ)
 tail_after out player name =
@@ -73,6 +76,8 @@ tail_after out player name =
 
 abbrev pub ends_as : ConsoleJob → List ℕ → Bool
 ends_as console tail =
-    (asks_for console Frames && bytes_eq tail (codes "frames")) || (asks_for console Samples && bytes_eq tail (codes "samples"))
-    || (asks_for console Words && bytes_eq tail (codes "words")) || (asks_for console State && bytes_eq tail (codes "state"))
+    (asks_for console Frames && bytes_eq tail (codes "frames"))
+    || (asks_for console Samples && bytes_eq tail (codes "samples"))
+    || (asks_for console Words && bytes_eq tail (codes "words"))
+    || (asks_for console State && bytes_eq tail (codes "state"))
     || (asks_for console Save && bytes_eq tail (codes "save"))

@@ -13,7 +13,14 @@ pub record Draft : Type 0 where
 
 -- a console of which nothing is said
 abbrev pub silent_console : ConsoleJob
-silent_console = record { bios = None; cart = None; save = None; keys = None; changes = []; outs = None ∷ None ∷ None ∷ None ∷ None ∷ [] }
+silent_console = record {
+  bios = None;
+  cart = None;
+  save = None;
+  keys = None;
+  changes = [];
+  outs = None ∷ None ∷ None ∷ None ∷ None ∷ [];
+}
 
 -- before the first line
 abbrev pub nothing_said : Draft

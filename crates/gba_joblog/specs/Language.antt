@@ -46,8 +46,8 @@ abbrev pub words_say : Draft → Words → Option (List ℕ) → Result (Option 
 words_say d others None = Ok None
 words_say d others (Some word) = unless_ended d.place (keyword_says d others (keyword_of word))
 
--- What a line says, after what the lines before it said; None where it is skipped. The tests in their order: its length,
--- its bytes unless it is a comment, its first word with the place, its other words.
+-- What a line says, after what the lines before it said; None where it is skipped. The tests in their order: its
+-- length, its bytes unless it is a comment, its first word with the place, its other words.
 unfoldable pub line_says : Draft → List ℕ → Result (Option Statement) JobKind
 line_says d line =
     if nat_lt longest_line (length line) then Err kind.Long
@@ -90,10 +90,11 @@ longest_job = 134217728
 -- None of these lines, which stand after so many others, is refused, and they lead from what was said to what is said.
 unfoldable pub Leads : ℕ → Draft → List (List ℕ) → Draft → Type 0
 Leads number from [] to = from ≡ to
-Leads number from (line ∷ rest) to = (mid : Draft) × (said_with (number + 1) from line ≡ Ok mid) × Leads (number + 1) mid rest to
+Leads number from (line ∷ rest) to =
+    (mid : Draft) × (said_with (number + 1) from line ≡ Ok mid) × Leads (number + 1) mid rest to
 
--- The first refused one of these lines, which stand after so many others: those before it aren't refused, and after them
--- it is.
+-- The first refused one of these lines, which stand after so many others: those before it aren't refused, and after
+-- them it is.
 pub record StopsAt (number : ℕ) (from : Draft) (lines : List (List ℕ)) (e : JobError) : Type 0 where
   pub before : List (List ℕ)
   pub line : List ℕ
@@ -116,11 +117,12 @@ pub record EndsIn (bytes : List ℕ) (answer : Result WholeJob JobError) : Type 
   pub leads : Leads 0 nothing_said (lines bytes) said
   pub end : finished (length (lines bytes)) said ≡ answer
 
--- The job that a file says, or its refusal. A file is refused with line 0 where it is too long; else at its first refused
--- line; else past its last line, where it ends too early.
+-- The job that a file says, or its refusal. A file is refused with line 0 where it is too long; else at its first
+-- refused line; else past its last line, where it ends too early.
 abbrev pub Says : List ℕ → Result WholeJob JobError → Type 0
 Says bytes (Ok job) = EndsIn bytes (Ok job)
-Says bytes (Err e) = ((longest_job < length bytes) × (e ≡ refused 0 kind.Long)) ⊎ IsRefusedAt bytes e ⊎ EndsIn bytes (Err e)
+Says bytes (Err e) =
+    ((longest_job < length bytes) × (e ≡ refused 0 kind.Long)) ⊎ IsRefusedAt bytes e ⊎ EndsIn bytes (Err e)
 
 -- the same as a function: what lines say, one after another, that stand after so many others
 abbrev pub go_on : ℕ → (Draft → Result WholeJob JobError) → Result Draft JobKind → Result WholeJob JobError
@@ -129,10 +131,12 @@ go_on number rest (Err kind) = Err (refused number kind)
 
 unfoldable pub lines_say : ℕ → Draft → List (List ℕ) → Result WholeJob JobError
 lines_say number d [] = finished number d
-lines_say number d (line ∷ rest) = go_on (number + 1) (λ mid. lines_say (number + 1) mid rest) (said_with (number + 1) d line)
+lines_say number d (line ∷ rest) =
+    go_on (number + 1) (λ mid. lines_say (number + 1) mid rest) (said_with (number + 1) d line)
 
 unfoldable pub job_of : List ℕ → Result WholeJob JobError
-job_of bytes = if nat_lt longest_job (length bytes) then Err (refused 0 kind.Long) else lines_say 0 nothing_said (lines bytes)
+job_of bytes =
+    if nat_lt longest_job (length bytes) then Err (refused 0 kind.Long) else lines_say 0 nothing_said (lines bytes)
 
 -- the relation and the function are one
 abbrev pub IsAnswered : Type 0

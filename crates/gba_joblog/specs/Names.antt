@@ -12,4 +12,6 @@ longest_name = 200
 
 -- a file's name: 1 to 200 such bytes, and not `-`, which is standard output
 unfoldable pub is_name : List ℕ → Bool
-is_name name = nat_le 1 (length name) && nat_le (length name) longest_name && list_all is_name_byte name && not (bytes_eq name (codes "-"))
+is_name name =
+    nat_le 1 (length name) && nat_le (length name) longest_name && list_all is_name_byte name
+    && not (bytes_eq name (codes "-"))

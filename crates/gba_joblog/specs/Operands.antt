@@ -1,13 +1,14 @@
 -- The words after a line's first one, from left to right: each reader takes the next word, or says why it can't.
-use Rattle.std.specs.Prelude.{ℕ, Bool, true, List, [], ◌∷◌, codes, Option, Some, None, Result, Ok, Err, if◌then◌else◌}
+use Rattle.std.specs.Prelude.{ℕ, Bool, true, ◌==◌, List, [], ◌∷◌, codes, Option, Some, None, Result, Ok, Err, if◌then◌else◌}
 use Rattle.std.specs.Str.{bytes_eq}
-use Rattle.gba_text.specs.Numbers.{number_of}
+use Rattle.std.specs.Str.Parse.{digits_value}
+use Rattle.gba_text.specs.Numbers.{is_number, number_of}
 use Rattle.gba_joblog.specs.Kinds.{◌>>=◌}
 use Rattle.gba_joblog.specs.Names.{is_name}
 use Rattle.gba_joblog.specs.declared.job.OutKind.{OutKind}
 use Rattle.gba_joblog.specs.declared.job.OutKind.TheVariants.{State}
 use Rattle.gba_joblog.specs.declared.kinds.JobKind.{JobKind}
-use Rattle.gba_joblog.specs.declared.kinds.JobKind.TheVariants.{Word, Number, Name, Missing, Extra}
+use Rattle.gba_joblog.specs.declared.kinds.JobKind.TheVariants.{Word, Number, Name, Order, Missing, Extra}
 
 -- the words that aren't read yet
 abbrev pub Words : Type 0
@@ -68,7 +69,26 @@ out_kind_in t = or_refused Word t.words (out_kind_of t.value)
 unfoldable pub out_kind_at : Words → Result (Taken OutKind) JobKind
 out_kind_at words = word_at words >>= out_kind_in
 
+-- a number, whatever it is
+abbrev pub any_number_of : List ℕ → Option ℕ
+any_number_of word = if is_number word then Some (digits_value 10 word) else None
+
+abbrev pub only : ℕ → Taken ℕ → Result (Taken ℕ) JobKind
+only next t = if t.value == next then Ok t else Err Order
+
+abbrev pub player_in : ℕ → Taken (List ℕ) → Result (Taken ℕ) JobKind
+player_in next t = or_refused Number t.words (any_number_of t.value) >>= only next
+
+-- the number of the next console
+unfoldable pub player_at : ℕ → Words → Result (Taken ℕ) JobKind
+player_at next words = word_at words >>= player_in next
+
 -- nothing follows
 abbrev pub end_at : Words → Result Bool JobKind
 end_at [] = Ok true
 end_at (_ ∷ _) = Err Extra
+
+-- why the next word isn't the number of the next console; only private functions cite it
+abbrev pub other_player : Words → JobKind
+other_player [] = Missing
+other_player (word ∷ _) = if is_number word then Order else Number

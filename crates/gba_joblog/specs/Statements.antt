@@ -1,10 +1,10 @@
 -- The table of statements. Each keyword has its spelling, its place, its operands, and what it says.
-use Rattle.std.specs.Prelude.{ℕ, ◌^◌, ◌==◌, Bool, true, false, List, [], ◌∷◌, ◌++◌, length, codes, not, Option, Some, None, Result, Ok, is_some, slice_get, slice_set, if◌then◌else◌}
+use Rattle.std.specs.Prelude.{ℕ, ◌^◌, Bool, true, false, List, [], ◌∷◌, ◌++◌, length, codes, not, Option, Some, None, Result, Ok, is_some, slice_get, slice_set, if◌then◌else◌}
 use Rattle.std.specs.Str.{bytes_eq}
 use Rattle.gba_joblog.specs.Draft.{Draft, silent_console}
 use Rattle.gba_joblog.specs.Job.{ConsoleJob, NamedFile}
 use Rattle.gba_joblog.specs.Kinds.{◌>>=◌, holds}
-use Rattle.gba_joblog.specs.Operands.{Words, number_at, name_at, version_at, out_kind_at, end_at}
+use Rattle.gba_joblog.specs.Operands.{Words, number_at, name_at, player_at, version_at, out_kind_at, end_at}
 use Rattle.gba_joblog.specs.declared.draft.Place.{Place}
 use Rattle.gba_joblog.specs.declared.draft.Place.TheVariants.{Start, Head, Inside, Ended}
 use Rattle.gba_joblog.specs.declared.job.OutKind.{OutKind}
@@ -106,8 +106,7 @@ arguments d keyword.Cycles words = do
   _ ← end_at cycles.words
   Ok (Cycles cycles.value)
 arguments d keyword.Console words = do
-  player ← number_at 0 3 words
-  _ ← holds (player.value == length d.consoles) kind.Order
+  player ← player_at (length d.consoles) words
   _ ← end_at player.words
   Ok Console
 arguments d keyword.Bios words = do
@@ -137,5 +136,6 @@ added line Version d = record d { place = Head }
 added line (Cycles cycles) d = record d { cycles = Some cycles }
 added line Console d = record d { place = Inside }
 added line (Bios name) d = record d { last = record d.last { bios = Some (plain_file name line) } }
-added line (Out out) d = record d { last = record d.last { outs = slice_set d.last.outs (place_of out) (Some plain_output) } }
+added line (Out out) d =
+    record d { last = record d.last { outs = slice_set d.last.outs (place_of out) (Some plain_output) } }
 added line End d = record d { place = Ended; consoles = d.consoles ++ d.last ∷ []; last = silent_console }

@@ -65,7 +65,8 @@ fn least(a: Option<u64>, b: Option<u64>) -> Option<u64>
 
 /// The line of an input that an output would be.
 fn line_of(out: &[u8], consoles: &[JobConsole], file: &Option<FileLine>) -> Option<u64>
-    ensures { result ≡ line_of_of (writes_of out.now 0 (map console_value consoles.now)) (option_map file_value file.now) }
+    ensures { result
+        ≡ line_of_of (writes_of out.now 0 (map console_value consoles.now)) (option_map file_value file.now) }
 {
     match file {
         Some(file) => {
@@ -82,7 +83,8 @@ fn line_of(out: &[u8], consoles: &[JobConsole], file: &Option<FileLine>) -> Opti
 /// The least line of a console's inputs that an output would be.
 #[tactic(auto, unfolding(crate::specs::Clash::console_clash))]
 fn console_clash(out: &[u8], consoles: &[JobConsole], console: &JobConsole) -> Option<u64>
-    ensures { result ≡ console_clash_of (writes_of out.now 0 (map console_value consoles.now)) (console_value console.now) }
+    ensures { result
+        ≡ console_clash_of (writes_of out.now 0 (map console_value consoles.now)) (console_value console.now) }
 {
     let bios = line_of(out, consoles, &console.bios);
     let cart = line_of(out, consoles, &console.cart);
@@ -93,7 +95,8 @@ fn console_clash(out: &[u8], consoles: &[JobConsole], console: &JobConsole) -> O
 
 /// The least line of an input that an output would be.
 fn inputs_clash(out: &[u8], consoles: &[JobConsole]) -> Option<u64>
-    ensures { result ≡ inputs_clash_of (writes_of out.now 0 (map console_value consoles.now)) (map console_value consoles.now) }
+    ensures { result
+        ≡ inputs_clash_of (writes_of out.now 0 (map console_value consoles.now)) (map console_value consoles.now) }
 {
     let mut found = None;
     for console in consoles {

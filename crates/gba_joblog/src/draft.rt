@@ -82,7 +82,8 @@ impl DraftJob {
         line: Line<'_>,
         number: u64,
     ) -> Result<(), AllocError>
-        ensures { OnOk result (draft_value self.new ≡ added number (statement_value line.entry) (draft_value self.old)) }
+        ensures { OnOk result
+            (draft_value self.new ≡ added number (statement_value line.entry) (draft_value self.old)) }
     {
         match line {
             Line::Version => {

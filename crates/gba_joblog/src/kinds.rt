@@ -8,8 +8,8 @@ use std::alloc::AllocError;
 use std::error::Error;
 use std::fmt;
 
-/// What is wrong with a line of a job. On one line the tests come in this order: `Long`; `Byte`; for the first word `Word`,
-/// `Order` and `Repeated`; the other words from left to right; `Missing` or `Extra`.
+/// What is wrong with a line of a job. On one line the tests come in this order: `Long`; `Byte`; for the first word
+/// `Word`, `Order` and `Repeated`; the other words from left to right; `Missing` or `Extra`.
 #[derive(Clone, Copy, Debug, PartialEq, Eq)]
 pub enum JobKind {
     /// A byte may not stand there.

@@ -1,6 +1,6 @@
 #![tactic(auto)]
-//! The job language: `Job::parse` reads a job or names the first refused line, and `Job::clash` finds an output file that
-//! would be the job or one of its inputs.
+//! The job language: `Job::parse` reads a job or names the first refused line, and `Job::clash` finds an output file
+//! that would be the job or one of its inputs.
 //!
 //! Contracts see a [`Job`] as numbers and lists, and a name as its bytes (`specs/Job.antt`).
 

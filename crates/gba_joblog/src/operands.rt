@@ -1,14 +1,18 @@
 //! The words after a line's first one.
 
 ghost use Rattle.std.specs.Prelude.{◌≡◌, ◌<◌, true};
+ghost use Rattle.gba_text.specs.Numbers.{all_digits, is_number as is_number_of};
 ghost use Rattle.gba_text.specs.Words.{fault_of};
 ghost use Rattle.gba_joblog.specs.Answers.{Agrees, Takes};
-ghost use Rattle.gba_joblog.specs.Operands.{end_at as end_at_of, name_at as name_at_of, number_at as number_at_of, out_kind_at as out_kind_at_of, version_at as version_at_of, word_at as word_at_of};
+ghost use Rattle.gba_joblog.specs.Operands.{end_at as end_at_of, name_at as name_at_of, number_at as number_at_of, other_player as other_player_of, out_kind_at as out_kind_at_of, player_at as player_at_of, version_at as version_at_of, word_at as word_at_of};
 
 use crate::job::OutKind;
 use crate::kinds::JobKind;
 use crate::names::{is_name, name_text};
 use gba_text::Cursor;
+
+/// The most digits of a number.
+const MOST_DIGITS: usize = 20;
 
 /// The next word of the line.
 #[tactic(auto, unfolding(gba_text::specs::Reading::next_word))]
@@ -91,6 +95,54 @@ pub(crate) fn out_kind_at(cursor: &mut Cursor<'_>) -> Result<OutKind, JobKind>
         return Err(JobKind::Word);
     }
     Ok(OutKind::State)
+}
+
+fn are_digits(word: &[u8]) -> bool
+    ensures { result ≡ all_digits word.now }
+{
+    word.iter().all(|byte| byte.is_ascii_digit())
+}
+
+fn is_number(word: &[u8]) -> bool
+    ensures { result ≡ is_number_of word.now }
+{
+    !word.is_empty() && word.len() <= MOST_DIGITS && are_digits(word)
+}
+
+/// Why the next word isn't the number of the next console.
+fn other_player(cursor: &mut Cursor<'_>) -> JobKind
+    requires given { 0 < cursor.old.number }
+    requires sound { fault_of cursor.old.line ≡ None }
+    ensures kind { result ≡ other_player_of cursor.old.words }
+    ensures number { cursor.new.number ≡ cursor.old.number }
+    ensures line { cursor.new.line ≡ cursor.old.line }
+    ensures lines { cursor.new.lines ≡ cursor.old.lines }
+{
+    match word_at(cursor) {
+        Ok(word) => {
+            if is_number(word) {
+                JobKind::Order
+            } else {
+                JobKind::Number
+            }
+        }
+        Err(kind) => kind,
+    }
+}
+
+/// The next word as the number of a console, which has to be this one.
+pub(crate) fn player_at(cursor: &mut Cursor<'_>, next: u64) -> Result<(), JobKind>
+    requires given { 0 < cursor.old.number }
+    requires sound { fault_of cursor.old.line ≡ None }
+    ensures word { Takes (λ _. next) result cursor.new.words (player_at_of next cursor.old.words) }
+    ensures number { cursor.new.number ≡ cursor.old.number }
+    ensures line { cursor.new.line ≡ cursor.old.line }
+    ensures lines { cursor.new.lines ≡ cursor.old.lines }
+{
+    match cursor.number(next, next) {
+        Ok(_) => Ok(()),
+        Err(_) => Err(other_player(cursor)),
+    }
 }
 
 /// The end of the line.

@@ -56,7 +56,8 @@ fn words_say<'a>(
 ) -> Result<Option<Line<'a>>, JobKind>
     requires given { 0 < cursor.old.number }
     requires sound { fault_of cursor.old.line ≡ None }
-    ensures says { Agrees (option_map statement_value) result (words_say_of (draft_value draft.now) cursor.old.words (Some word.now)) }
+    ensures says { Agrees (option_map statement_value) result
+        (words_say_of (draft_value draft.now) cursor.old.words (Some word.now)) }
     ensures number { cursor.new.number ≡ cursor.old.number }
     ensures lines { cursor.new.lines ≡ cursor.old.lines }
 {
@@ -119,7 +120,8 @@ fn read_line(
     requires given { 0 < cursor.old.number }
     requires current { cursor.old.line ≡ line.now }
     requires fresh { cursor.old.words ≡ words line.now }
-    ensures says { Reads result cursor.old.number (draft_value draft.new) (said_with cursor.old.number (draft_value draft.old) line.now) }
+    ensures says { Reads result cursor.old.number (draft_value draft.new)
+        (said_with cursor.old.number (draft_value draft.old) line.now) }
     ensures number { cursor.new.number ≡ cursor.old.number }
     ensures lines { cursor.new.lines ≡ cursor.old.lines }
 {
@@ -156,9 +158,9 @@ fn read_job(alloc: Global, bytes: &[u8]) -> Result<Job, ParseRefused>
 }
 
 impl Job {
-    /// Reads a job. Refused is the first line that isn't of the language, or the whole file with line 0 where it has more
-    /// than 134,217,728 bytes. It takes memory for the names alone. A job that is read has one console with its BIOS image,
-    /// and each name has 1 to 200 bytes.
+    /// Reads a job. Refused is the first line that isn't of the language, or the whole file with line 0 where it has
+    /// more than 134,217,728 bytes. It takes memory for the names alone. A job that is read has one console with its
+    /// BIOS image, and each name has 1 to 200 bytes.
     pub fn parse(alloc: Global, bytes: &[u8]) -> Result<Job, ParseRefused>
         ensures said { IsSaid job_value bytes.now result }
         ensures job { Parses job_value result (job_of bytes.now) }

@@ -9,14 +9,11 @@ ghost use Rattle.gba_joblog.specs.Views.{draft_value, statement_value};
 use crate::draft::{DraftJob, Place};
 use crate::job::OutKind;
 use crate::kinds::JobKind;
-use crate::operands::{end_at, name_at, number_at, out_kind_at, version_at};
+use crate::operands::{end_at, name_at, number_at, out_kind_at, player_at, version_at};
 use gba_text::Cursor;
 
 /// The greatest number of cycles.
 const MOST_CYCLES: u64 = 2_147_483_648;
-
-/// The greatest number of a console.
-const LAST_CONSOLE: u64 = 3;
 
 /// What the first word of a line is.
 #[derive(Clone, Copy, Debug, PartialEq, Eq)]
@@ -106,10 +103,7 @@ pub(crate) fn arguments<'a>(
             Ok(Line::Cycles(cycles))
         }
         Keyword::Console => {
-            let player = number_at(cursor, 0, LAST_CONSOLE)?;
-            if player != draft.consoles.len() as u64 {
-                return Err(JobKind::Order);
-            }
+            player_at(cursor, draft.consoles.len() as u64)?;
             end_at(cursor)?;
             Ok(Line::Console)
         }

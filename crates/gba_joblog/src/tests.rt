@@ -238,7 +238,11 @@ static TESTS_IN_ORDER: [(&[u8], u64, JobKind); 42] = [
     (b"gbalink 1\nbios b", 2, JobKind::Order),
     (b"gbalink 1\nout state", 2, JobKind::Order),
     (b"gbalink 1\ncycles 1\nend", 3, JobKind::Order),
-    (b"gbalink 1\ncycles 1\nconsole 1 x", 3, JobKind::Order),
+    (
+        b"gbalink 1\ncycles 1\nconsole 99999999999999999999 x",
+        3,
+        JobKind::Order,
+    ),
     (
         b"gbalink 1\ncycles 1\nconsole 0\ncycles 1",
         4,
@@ -279,7 +283,11 @@ static TESTS_IN_ORDER: [(&[u8], u64, JobKind); 42] = [
         JobKind::Number,
     ),
     (b"gbalink 1\ncycles +1 x", 2, JobKind::Number),
-    (b"gbalink 1\ncycles 1\nconsole 4", 3, JobKind::Number),
+    (
+        b"gbalink 1\ncycles 1\nconsole 000000000000000000000",
+        3,
+        JobKind::Number,
+    ),
     (b"gbalink 1\ncycles 1\nconsole x", 3, JobKind::Number),
     (b"gbalink 1\ncycles 1\nconsole 0\nbios -", 4, JobKind::Name),
     (

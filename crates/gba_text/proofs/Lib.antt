@@ -1,4 +1,3 @@
 pub mod Spans
 pub mod FirstPieces
 pub mod Numerals
-pub mod Readings

@@ -4,8 +4,8 @@ use Rattle.gba_text.specs.Words.{words, fault_of}
 use Rattle.gba_text.specs.declared.kinds.TextKind.{TextKind}
 use Rattle.gba_text.specs.declared.kinds.TextKind.TheVariants.{Missing, Number}
 
--- how far a text is read: the number of the line that was given last (0 before the first) and its bytes, the words of it
--- that aren't taken yet, and the lines after it
+-- how far a text is read: the number of the line that was given last (0 before the first) and its bytes, the words of
+-- it that aren't taken yet, and the lines after it
 pub record Reading : Type 0 where
   pub number : ℕ
   pub line : List ℕ

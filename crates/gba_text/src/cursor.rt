@@ -29,7 +29,12 @@ impl<'a> Model for Cursor<'a> {
 
     ghost Value = { Reading };
 
-    ghost view = { λ c. record { number = c.number; line = c.current.now; words = words c.left.now; lines = lines c.rest.now } };
+    ghost view = { λ c. record {
+      number = c.number;
+      line = c.current.now;
+      words = words c.left.now;
+      lines = lines c.rest.now;
+    } };
 
     ghost invariant = { λ c. (c.fault ≡ fault_of c.current.now) × (c.number + length c.rest.now < 2 ^ 64) };
 }
@@ -129,8 +134,8 @@ impl<'a> Cursor<'a> {
         }
     }
 
-    /// The next word as a number of exactly `digits` hexadecimal digits, in either case. Refused is what `word` refuses,
-    /// and then a word that spells no such number.
+    /// The next word as a number of exactly `digits` hexadecimal digits, in either case. Refused is what `word`
+    /// refuses, and then a word that spells no such number.
     #[tactic(auto, unfolding(crate::specs::Reading::next_hex_number))]
     pub fn hex_number(&mut self, digits: u32) -> Result<u64, TextError>
         requires line { 0 < self.old.number }

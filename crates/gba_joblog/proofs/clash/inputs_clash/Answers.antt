@@ -7,10 +7,14 @@ use Rattle.gba_joblog.proofs.clash.inputs_clash.Goals as goal
 pub loop-console-preserved : goal.loop-console-preserved
 loop-console-preserved c =
     let cs = c.args.consoles.now in
-    let here = clash_at console_value (writes c.args.out.now 0 (map console_value cs)) cs c.loop-console.console-index c.console-item.result c.loop-console.found (omega arith) c.console-item.is in
+    let here = clash_at console_value (writes c.args.out.now 0
+    (map console_value cs)) cs c.loop-console.console-index c.console-item.result c.loop-console.found
+    (omega arith) c.console-item.is in
     rw (c.least-found.ensures, c.console_clash.ensures) (sym here ∙ c.loop-console.invariant)
 
 pub returns : goal.returns
 returns c =
     let cs = c.args.consoles.now in
-    sym (clash_done console_value (writes c.args.out.now 0 (map console_value cs)) cs c.loop-console.console-index c.loop-console.found (omega arith)) ∙ c.loop-console.invariant
+    sym (clash_done console_value (writes c.args.out.now 0
+    (map console_value cs)) cs c.loop-console.console-index c.loop-console.found (omega arith))
+    ∙ c.loop-console.invariant

@@ -5,5 +5,6 @@ use Rattle.gba_joblog.proofs.clash.inputs_clash.Given as goal
 
 abbrev pub invariant-loop-console : goal.invariant-loop-console
 invariant-loop-console l =
-    least l.found (inputs_clash (writes l.out 0 (map console_value l.consoles)) (map console_value (drop l.console-index l.consoles)))
+    least l.found (inputs_clash (writes l.out 0 (map console_value l.consoles)) (map console_value
+    (drop l.console-index l.consoles)))
     ≡ inputs_clash (writes l.out 0 (map console_value l.consoles)) (map console_value l.consoles)

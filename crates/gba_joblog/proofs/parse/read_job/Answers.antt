@@ -5,32 +5,39 @@ use Rattle.gba_joblog.proofs.parse.read_job.Goals as goal
 
 pub loop-line-preserved : goal.loop-line-preserved
 loop-line-preserved c =
-    reads_on c.args.bytes.now c.loop-line.cursor c.line.new.self (draft_value c.loop-line.draft) (draft_value c.read_line.new.draft) c.in-Some.line.now
-    c.read_line.new.cursor.number c.read_line.new.cursor.lines c.loop-line.invariant c.in-Some.ensures.line c.line.ensures.state
+    reads_on c.args.bytes.now c.loop-line.cursor c.line.new.self (draft_value c.loop-line.draft)
+    (draft_value c.read_line.new.draft) c.in-Some.line.now
+    c.read_line.new.cursor.number c.read_line.new.cursor.lines c.loop-line.invariant c.in-Some.ensures.line
+    c.line.ensures.state
     c.in-Ok.ensures.says c.read_line.ensures.number c.read_line.ensures.lines
 
 pub returns-in-Err : goal.returns-in-Err
 returns-in-Err c =
     record {
-      job = refuses job_value c.args.bytes.now c.loop-line.cursor c.line.new.self (draft_value c.loop-line.draft) (draft_value c.read_line.new.draft) c.in-Some.line.now
-          c.in-Err.refusal (omega arith) c.loop-line.invariant c.in-Some.ensures.line c.line.ensures.state c.in-Err.ensures.says;
+      job = refuses job_value c.args.bytes.now c.loop-line.cursor c.line.new.self (draft_value c.loop-line.draft)
+          (draft_value c.read_line.new.draft) c.in-Some.line.now
+          c.in-Err.refusal (omega arith) c.loop-line.invariant c.in-Some.ensures.line c.line.ensures.state
+          c.in-Err.ensures.says;
     }
 
 pub finished-requires : goal.finished-requires
 finished-requires c =
-    let few = reads_few c.args.bytes.now c.loop-line.cursor c.line.new.self (draft_value c.loop-line.draft) (omega arith) c.loop-line.invariant c.in_default.ensures.line c.line.ensures.state in
+    let few = reads_few c.args.bytes.now c.loop-line.cursor c.line.new.self (draft_value c.loop-line.draft)
+    (omega arith) c.loop-line.invariant c.in_default.ensures.line c.line.ensures.state in
     omega (arith, few, c.line_number.ensures)
 
 pub returns-in-Ok-finished : goal.returns-in-Ok-finished
 returns-in-Ok-finished c =
     record {
-      job = finishes c.args.bytes.now c.loop-line.cursor c.line.new.self (draft_value c.loop-line.draft) _ (omega arith) c.loop-line.invariant
+      job = finishes c.args.bytes.now c.loop-line.cursor c.line.new.self (draft_value c.loop-line.draft) _
+          (omega arith) c.loop-line.invariant
           c.in_default.ensures.line c.line.ensures.state (rw (← c.line_number.ensures) c.in-Ok-finished.ensures);
     }
 
 pub returns-in-Err-finished : goal.returns-in-Err-finished
 returns-in-Err-finished c =
     record {
-      job = finishes c.args.bytes.now c.loop-line.cursor c.line.new.self (draft_value c.loop-line.draft) _ (omega arith) c.loop-line.invariant
+      job = finishes c.args.bytes.now c.loop-line.cursor c.line.new.self (draft_value c.loop-line.draft) _
+          (omega arith) c.loop-line.invariant
           c.in_default.ensures.line c.line.ensures.state (rw (← c.line_number.ensures) c.in-Err-finished.ensures);
     }

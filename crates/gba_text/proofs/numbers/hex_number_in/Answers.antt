@@ -12,4 +12,5 @@ returns c =
     let all : all_hex_digits c.args.word.now ≡ true = grind arith in
     let same : (eqb (length c.args.word.now) c.args.digits) ≡ true = eq-eqb _ _ (omega arith) in
     let parsed = rw c.ascii_text.ensures at c.from_str_radix.ensures.value in
-    c.ok.ensures.value ∙ parsed_hex_digits c.args.word.now c.from_str_radix.result parsed all (omega arith) (omega arith) ∙ rw (same, all) refl
+    c.ok.ensures.value ∙ parsed_hex_digits c.args.word.now c.from_str_radix.result parsed all (omega arith)
+    (omega arith) ∙ rw (same, all) refl

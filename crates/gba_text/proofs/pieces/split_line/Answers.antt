@@ -8,13 +8,16 @@ pub returns-then-is_empty-clause-pieces : goal.returns-then-is_empty-clause-piec
 returns-then-is_empty-clause-pieces c =
     let bs = c.args.bytes.now in
     let none : c.split_at.result.1.now ≡ [] = nil_from_length _ (grind arith) in
-    let cut : drop (prefix_len no_feed bs) bs ≡ [] = ap (λ n. drop n bs) (sym c.length_before_feed.ensures.value) ∙ sym c.split_at.ensures.back ∙ none in
+    let cut : drop (prefix_len no_feed bs) bs ≡ [] = ap (λ n. drop n bs) (sym c.length_before_feed.ensures.value)
+    ∙ sym c.split_at.ensures.back ∙ none in
     rw (none, lines_none, c.split_at.ensures.front, c.length_before_feed.ensures.value) (line_alone bs c.requires cut)
 
 pub returns-clause-pieces : goal.returns-clause-pieces
 returns-clause-pieces c =
     let bs = c.args.bytes.now in
-    let cut : c.split_at.result.1.now ≡ drop (prefix_len no_feed bs) bs = c.split_at.ensures.back ∙ ap (λ n. drop n bs) c.length_before_feed.ensures.value in
+    let cut : c.split_at.result.1.now ≡ drop (prefix_len no_feed bs) bs = c.split_at.ensures.back
+    ∙ ap (λ n. drop n bs) c.length_before_feed.ensures.value in
     let long : 0 < length c.split_at.result.1.now = grind arith in
     let some : 0 < length (drop (prefix_len no_feed bs) bs) = rw cut at long in
-    rw (take_rest, c.without_return.ensures, c.split_at.ensures.front, c.length_before_feed.ensures.value, cut) (line_ended bs some)
+    rw (take_rest, c.without_return.ensures, c.split_at.ensures.front, c.length_before_feed.ensures.value, cut)
+    (line_ended bs some)

@@ -17,7 +17,8 @@ returns c =
     let line = c.args.line.now in
     let rest = drop c.blank_count.result line in
     let whole : take (length line - c.blank_count.result) rest ≡ rest = take_rest line c.blank_count.result in
-    let count : c.word_length.result ≡ prefix_len no_blank rest = c.word_length.ensures.value ∙ ap (prefix_len no_blank) whole in
+    let count : c.word_length.result ≡ prefix_len no_blank rest = c.word_length.ensures.value
+    ∙ ap (prefix_len no_blank) whole in
     let some : 0 < length rest = grind (arith, whole) in
     let same : rest ≡ drop (prefix_len is_blank line) line = ap (λ n. drop n line) c.blank_count.ensures.value in
     let long : 0 < length (drop (prefix_len is_blank line) line) = rw same at some in
