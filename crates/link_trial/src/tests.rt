@@ -60,7 +60,8 @@ fn runs_are_those_of_the_plain_program(rt: HostRuntime) -> Result<(), Fail> {
 
 /// A node that tells once, and one that listens.
 fn beats(alloc: Global, first: u64) -> Result<Vec<Beat>, Fail>
-    ensures { IfOk result (λ nodes. (vec_len nodes ≡ 2) × All (λ b. (b.clock ≡ 0) × (b.was ≡ 0) × (b.limit ≡ 4096)) nodes.items) }
+    ensures { IfOk result (λ nodes. (vec_len nodes ≡ 2)
+        × All (λ b. (b.clock ≡ 0) × (b.was ≡ 0) × (b.limit ≡ 4096)) nodes.items) }
 {
     let teller = Beat {
         first: 99,
@@ -115,14 +116,13 @@ fn a_step_is_allowed_below_each_seen_clock_and_the_delay(rt: HostRuntime) {
 fn rejoined(cut: Cut<Mixer>) -> Cut<Mixer>
     ensures { result ≡ cut }
 {
-    let _nodes = cut.nodes();
-    let _sent = cut.sent();
     let (nodes, shell) = cut.part();
     shell.join(nodes)
 }
 
 #[test]
 fn the_laws_hold_of_a_mixer() {
+    laws::start::<Mixer>();
     laws::split::<Mixer>();
     laws::equal::<Mixer>();
     laws::horizon::<Mixer>();
@@ -156,7 +156,7 @@ fn a_cut_is_parted_and_joined(rt: HostRuntime) -> Result<(), Fail> {
     shell.clear();
     assert_eq!(rt; shell.sent().len(), 0);
     for one in sent.iter().rev() {
-        assert!(rt; one.signal.start.is_none_or(|start| start.speed < 4));
+        assert!(rt; one.signal.fits());
         assert!(rt; shell.sent().len() < 16_384);
         shell.add(*one);
         assert!(rt; shell.sent().len() < 16_384);
