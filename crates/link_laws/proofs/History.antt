@@ -249,7 +249,8 @@ goes_move {C = C} kind until m m' n n' e e' i players players' between between' 
     (subst (λ (z : ℕ → ℕ → ℕ). Goes kind until m n e i players z) eb h))))
 
 -- a step takes what is due of all that is ever sent
-due_of_history : {C : Type 0} (kind : NodeKind C) (cut e : Cut C) (i : ℕ) (x : C) → clock_at kind cut i ≡ kind.clock x
+pub due_of_history : {C : Type 0} (kind : NodeKind C) (cut e : Cut C) (i : ℕ) (x : C)
+    → clock_at kind cut i ≡ kind.clock x
     → was_at kind cut i ≡ kind.was x
     → ((j : ℕ) → j < count cut → j ≢ i → Later (clock_at kind cut j) (from j cut.sent) (from j e.sent))
     → Ahead kind cut i
@@ -366,23 +367,28 @@ pub record On {C : Type 0} (kind : NodeKind C) (cut : Cut C) (ps : List ℕ) (d 
   pub within : (i : ℕ) → i < count cut → made i ≤ count_of i ps
   pub same : (i : ℕ) → i < count cut → Same d (moment kind cut ps i (made i)) i
 
--- a console below `until` has steps left, and is where its history goes on
+-- a console below `until` has another step to make
+pub further_step : {C : Type 0} (kind : NodeKind C) → IsLawful kind → (until : ℕ) (ps : List ℕ) (cut : Cut C) (i k : ℕ)
+    → Leads kind until cut ps → IsSound kind cut → i < count cut → clock_at kind (moment kind cut ps i k) i < until
+    → k < count_of i ps
+further_step {C = C} kind law until ps cut i k leads sound below early =
+    elim (cases_lt k (count_of i ps)) [
+      | inl less ↦ less
+      | inr past ↦
+          let all = ap (λ (d : Cut C). clock_at kind d i) (moment_all kind ps cut i k past) in
+          let late = (history_ends kind law until ps cut leads sound).late i below in
+          absurd (omega arith)
+    ]
+
+-- the same of a cut that stands on the history
 pub not_over : {C : Type 0} (kind : NodeKind C) → IsLawful kind
     → (until : ℕ) (cut : Cut C) (ps : List ℕ) (d : Cut C) (made : ℕ → ℕ) (i : ℕ)
     → Leads kind until cut ps → IsSound kind cut → On kind cut ps d made → i < count cut → clock_at kind d i < until
     → made i < count_of i ps
-not_over {C = C} kind law until cut ps d made i leads sound on below early =
-    elim (cases_lt (made i) (count_of i ps)) [
-      | inl less ↦ less
-      | inr past ↦
-          let s = on.same i below in
-          let all = moment_all kind ps cut i (made i) past in
-          let same : clock_at kind d i ≡ clock_at kind (after kind cut ps) i
-          = number_same kind.clock d.consoles (moment kind cut ps i (made i)).consoles i s.console
-          ∙ ap (λ (f : Cut C). clock_at kind f i) all in
-          let late = (history_ends kind law until ps cut leads sound).late i below in
-          absurd (omega arith)
-    ]
+not_over kind law until cut ps d made i leads sound on below early =
+    let s = on.same i below in
+    let same = number_same kind.clock d.consoles (moment kind cut ps i (made i)).consoles i s.console in
+    further_step kind law until ps cut i (made i) leads sound below (omega arith)
 
 -- a step of a console that is ahead of no horizon is the next one of its history
 pub on_step : {C : Type 0} (kind : NodeKind C) → IsLawful kind

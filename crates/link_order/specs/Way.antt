@@ -1,5 +1,5 @@
-use Rattle.std.specs.Prelude.{ℕ, ◌==◌, ◌++◌, if◌then◌else◌, List, [], ◌∷◌, Option, None, Some, slice_get}
-use Rattle.std.specs.Prelude.{option_to_list}
+use Rattle.std.specs.Prelude.{ℕ, ◌==◌, ◌++◌, if◌then◌else◌, List, [], ◌∷◌, length, take, Option, None, Some}
+use Rattle.std.specs.Prelude.{slice_get, option_to_list}
 use Rattle.std.proofs.Common.{zero, suc}
 use Rattle.link_node.specs.declared.signal.Incoming.{Incoming}
 use Rattle.link_node.specs.declared.signal.Signal.{Signal}
@@ -52,3 +52,7 @@ clock_after clock (move ∷ rest) (suc k) = clock_after move.clock rest k
 abbrev pub told_in : List Move → List Signal
 told_in [] = []
 told_in (move ∷ rest) = option_to_list move.tells ++ told_in rest
+
+-- how much the first k moves tell
+abbrev pub told_count : List Move → ℕ → ℕ
+told_count moves k = length (told_in (take k moves))

@@ -11,7 +11,7 @@ use std::process::Abort;
 use std::test::Fail;
 
 /// Whether some node but its sender can still take a signal.
-fn is_live(rt: &impl Abort, nodes: &[Mixer], one: &Sent, delay: u64) -> bool {
+pub fn is_live(rt: &impl Abort, nodes: &[Mixer], one: &Sent, delay: u64) -> bool {
     assert!(rt; one.signal.clock < 1 << 40 && delay <= 1024);
     nodes.iter().enumerate().any(|(i, node)| i as u64 != u64::from(one.sender)
         && node.was < one.signal.clock + delay)
@@ -129,6 +129,11 @@ fn the_laws_hold_of_a_mixer() {
     laws::skew::<Mixer>();
     laws::unread::<Mixer>();
     laws::reached::<Mixer>();
+    link_trace::way::<Mixer>();
+    link_trace::turn::<Mixer>();
+    link_trace::prefix::<Mixer>();
+    link_trace::inbox();
+    link_trace::gathering();
 }
 
 #[test]
@@ -167,7 +172,7 @@ fn a_cut_is_parted_and_joined(rt: HostRuntime) -> Result<(), Fail> {
 }
 
 /// One step of the global order, where the least node is below its limit. It answers the player, and the node after it.
-fn step_once(rt: &impl Abort, cut: &mut Cut<Mixer>) -> (usize, Mixer) {
+pub fn step_once(rt: &impl Abort, cut: &mut Cut<Mixer>) -> (usize, Mixer) {
     let player = cut.least() as usize;
     let node = cut.nodes()[player];
     assert!(rt; node.clock < node.limit);
