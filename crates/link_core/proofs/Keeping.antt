@@ -72,9 +72,8 @@ flight_more flight one sent_room due_room more_room packed room speed more = rec
 }
 
 -- what a step of the least console made of the nodes and of the signals
-pub record Turned {N C : Type 0} (kind : NodeKind C) (plain : N
-    → C) (cut : Cut N) (i : ℕ) (due : List Incoming) (nodes : List N) (signal : Option Signal) (sent : List Sent) : Type
-    0 where
+pub record Turned {N C : Type 0} (kind : NodeKind C) (plain : N → C) (cut : Cut N) (i : ℕ) (due : List Incoming)
+    (nodes : List N) (signal : Option Signal) (sent : List Sent) : Type 0 where
   pub least_is : i ≡ least kind (plain_cut plain cut)
   pub due_is : due ≡ due_at kind (plain_cut plain cut) i
   pub node_is : (x : C) → slice_get (map plain cut.consoles) i ≡ Some x
@@ -117,8 +116,8 @@ turned_live {C = C} kind law plain cut i due nodes signal sent some t =
     } in
     let first : plain_cut plain (record { consoles = nodes; delay = cut.delay; sent = sent })
     ≡ make (map plain nodes) (joined i signal cut.sent)
-    = ap (λ (ss : List Sent). let d : Cut C = record { consoles = map plain nodes; delay = cut.delay; sent = ss } in
-    d) sent_now in
+    = ap (λ (ss : List Sent). let d : Cut C = record { consoles = map plain nodes; delay = cut.delay; sent = ss } in d)
+    sent_now in
     first
     ∙ ap (λ (cs : List C). make cs (joined i signal cut.sent)) consoles
     ∙ ap (make (slice_set p.consoles l (kind.next x (due_at kind p l)).0)) told
@@ -170,12 +169,12 @@ senders_known : {C : Type 0} (kind : NodeKind C) (cut : Cut C) (ss : List Sent) 
     → All (λ (one : Sent). one.sender < count cut) ss
 senders_known kind cut ss sound same =
     subst (λ (t : List Sent). All (λ (one : Sent). one.sender < count cut) t) (sym same)
-    (all_map (IsSoundSignal kind cut) (λ (one : Sent). one.sender
-    < count cut) cut.sent (λ one h. h.from_player) sound.signals)
+    (all_map (IsSoundSignal kind cut)
+    (λ (one : Sent). one.sender < count cut) cut.sent (λ one h. h.from_player) sound.signals)
 
 -- what was gathered is what is due
-pub due_known : {N C : Type 0} (kind : NodeKind C) (plain : N
-    → C) (cut : Cut N) (i was clock : ℕ) (ss : List Sent) (xs ys : List N) (new : List Incoming)
+pub due_known : {N C : Type 0} (kind : NodeKind C)
+    (plain : N → C) (cut : Cut N) (i was clock : ℕ) (ss : List Sent) (xs ys : List N) (new : List Incoming)
     → IsSound kind (plain_cut plain cut) → ss ≡ cut.sent → xs ≡ cut.consoles
     → was ≡ slice_index (map kind.was (map plain xs)) i
     → ys ≡ cut.consoles → clock ≡ slice_index (map kind.clock (map plain ys)) i

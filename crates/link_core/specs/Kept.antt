@@ -3,15 +3,15 @@ use Rattle.link_node.specs.Due.{FitsWidths}
 use Rattle.link_order.specs.declared.sent.Sent.{Sent}
 use Rattle.link_order.specs.NodeKind.{NodeKind}
 use Rattle.link_order.specs.Order.{IsSorted}
-use Rattle.link_order.specs.Cut.{Cut, plain_cut, is_live, IsSound, IsCable}
+use Rattle.link_order.specs.Cut.{Delays, Cut, plain_cut, is_live, IsSound, IsCable}
 
 -- the signals that are on their way, with the cable's delay
 pub record Flight : Type 0 where
-  pub delay : ℕ
+  pub delay : Delays
   pub sent : List Sent
 
 -- the delay that a cut keeps, also of one console alone
-abbrev pub IsDelay : ℕ → Type 0
+abbrev pub IsDelay : Delays → Type 0
 IsDelay delay = (0 < delay) × (delay ≤ 1024)
 
 -- these nodes with the signals that are on their way
@@ -27,8 +27,8 @@ abbrev pub AllFit : List Sent → Type 0
 AllFit sent = All (λ (one : Sent). FitsWidths one.signal) sent
 
 -- what holds of every cut that the program has: it is sound, its signals are live, and there is room
-pub record IsKept {N C : Type 0} (kind : NodeKind C) (plain : N
-    → C) (cut : Cut N) (sent_room due_room : ℕ) : Type 0 where
+pub record IsKept {N C : Type 0} (kind : NodeKind C)
+    (plain : N → C) (cut : Cut N) (sent_room due_room : ℕ) : Type 0 where
   pub cable : IsCable (plain_cut plain cut)
   pub delays : IsDelay cut.delay
   pub sound : IsSound kind (plain_cut plain cut)

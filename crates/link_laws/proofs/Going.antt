@@ -105,8 +105,8 @@ pub same_cuts : {C : Type 0} (kind : NodeKind C) (d e : Cut C) → IsSound kind 
     → ((i : ℕ) → i < count d → Same d e i) → d ≡ e
 same_cuts {C = C} kind d e sd se counts delays same =
     let senders : (f : Cut C) → IsSound kind f → All (λ (one : Sent). one.sender < count f) f.sent
-    = λ f s. all_map (IsSoundSignal kind f) (λ (one : Sent). one.sender
-    < count f) f.sent (λ one h. h.from_player) s.signals in
+    = λ f s. all_map (IsSoundSignal kind f)
+    (λ (one : Sent). one.sender < count f) f.sent (λ one h. h.from_player) s.signals in
     let consoles : d.consoles ≡ e.consoles =
     same_lists d.consoles e.consoles counts (λ i below. (same i below).console) in
     let sents : d.sent ≡ e.sent = same_sent d.sent e.sent sd.ordered se.ordered (λ j.
@@ -171,8 +171,8 @@ goes_on_by {C = C} kind law (suc most) until cut ps d made leads sound some late
       | inr e ↦ goes_over kind law until cut ps d made leads sound on e
       | inl e ↦
           let i : ℕ = least kind d in
-          let below : i < count cut = subst (λ (n : ℕ). i
-          < n) on.count_is (least_is_player (clock_at kind d) (count d) some_d) in
+          let below : i < count cut = subst
+          (λ (n : ℕ). i < n) on.count_is (least_is_player (clock_at kind d) (count d) some_d) in
           let f = falls kind law d until some_d e in
           let less : left kind (step kind d) until < left kind d until = f.fewer in
           let next = on_step kind law until cut ps d made i leads sound on below (ltb-true (clock_at kind d i) until e)

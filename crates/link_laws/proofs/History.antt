@@ -119,8 +119,8 @@ later_sent {C = C} kind law until (p ∷ ps) cut i leads sound =
             rest = new ++ l.rest;
             all_is = is ∙ ap (λ (t : List Signal). t ++ l.rest) own ∙ append_assoc (from i cut.sent) new l.rest;
             late = All-append (λ (s : Signal). clock_at kind cut i ≤ s.clock) new l.rest
-                (all_map (λ (s : Signal). s.clock ≡ clock_at kind cut p) (λ (s : Signal). clock_at kind cut i
-                ≤ s.clock) new (λ s h. omega arith) a.told)
+                (all_map (λ (s : Signal). s.clock ≡ clock_at kind cut p)
+                (λ (s : Signal). clock_at kind cut i ≤ s.clock) new (λ s h. omega arith) a.told)
                 (all_map (λ (s : Signal). clock_at kind (step_of kind cut p) i
                 ≤ s.clock) (λ (s : Signal). clock_at kind cut i ≤ s.clock) l.rest (λ s h. omega arith) l.late);
           }
@@ -227,8 +227,8 @@ moment_all kind (p ∷ ps) cut i (suc k) past =
     ]
 
 -- one step of a console's history: it goes by the signals of the whole history
-pub record Goes {C : Type 0} (kind : NodeKind C) (until : ℕ) (m n e : Cut C) (i players : ℕ) (between : ℕ → ℕ
-    → ℕ) : Type 0 where
+pub record Goes {C : Type 0} (kind : NodeKind C) (until : ℕ) (m n e : Cut C) (i players : ℕ)
+    (between : ℕ → ℕ → ℕ) : Type 0 where
   pub x : C
   pub stands : slice_get m.consoles i ≡ Some x
   pub early : kind.clock x < until

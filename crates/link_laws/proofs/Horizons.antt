@@ -50,8 +50,8 @@ looks_ahead {C = C} kind law cut until actions i j cable sound time may li lj ap
     record {
       added = l.rest;
       adds = adds kind w i j l;
-      later = all_map (λ (s : Signal). w.seen i j
-          ≤ s.clock) (ArrivesLater kind w i j) l.rest (λ s h. omega arith) l.late;
+      later = all_map
+          (λ (s : Signal). w.seen i j ≤ s.clock) (ArrivesLater kind w i j) l.rest (λ s h. omega arith) l.late;
     }
 
 rises_tail : (xs ys : List Signal) → AllPairs (λ (a b : Signal). a.clock < b.clock) (xs ++ ys)
@@ -95,8 +95,8 @@ few_unread {C = C} kind law cut until actions i j cable sound may li lj apart =
     let short' : hop w.cut j i ≤ 1024 = here.short_delay j i (up j lj) (up i li) (λ t. apart (sym t)) in
     let long = rising_length (λ (s : Signal). s.clock) (w.seen i j) (w.seen i j + hop w.cut j i + 511 + hop w.cut i j)
     l.rest rising l.late
-    (all_map (λ (s : Signal). s.clock < clock_at kind w.cut i + hop w.cut i j) (λ (s : Signal). s.clock
-    < w.seen i j + hop w.cut j i + 511 + hop w.cut i j) l.rest
+    (all_map (λ (s : Signal). s.clock < clock_at kind w.cut i + hop w.cut i j)
+    (λ (s : Signal). s.clock < w.seen i j + hop w.cut j i + 511 + hop w.cut i j) l.rest
     (λ s h. omega arith) below) (omega arith) in
     record {
       added = l.rest;

@@ -177,8 +177,8 @@ was_rises kind law until (p ∷ ps) cut i (suc k) leads sound below =
     ]
 
 -- where the plan stands: the trace has made the steps qs, and each console the same ones, up to its k
-record Stands {C : Type 0} (kind : NodeKind C) (start : Cut C) (all qs ps : List ℕ) (k : ℕ
-    → ℕ) (w : Watched C) : Type 0 where
+record Stands {C : Type 0} (kind : NodeKind C) (start : Cut C) (all qs ps : List ℕ)
+    (k : ℕ → ℕ) (w : Watched C) : Type 0 where
   all_is : all ≡ qs ++ ps
   watch : Watching kind start w
   on : On kind start all w.cut (λ i. min (k i) (count_of i qs))
@@ -280,8 +280,8 @@ plan_may {C = C} kind law until start all qs p ps k w leads sound counts delays 
     some_more a b less = (b - a - 1, omega arith)
 
 -- what the plan reaches
-record Planned {C : Type 0} (kind : NodeKind C) (until : ℕ) (start : Cut C) (all : List ℕ) (k : ℕ
-    → ℕ) (actions : List Action) (w : Watched C) : Type 0 where
+record Planned {C : Type 0} (kind : NodeKind C) (until : ℕ) (start : Cut C) (all : List ℕ)
+    (k : ℕ → ℕ) (actions : List Action) (w : Watched C) : Type 0 where
   allowed : IsInterleaving kind until actions w
   on : On kind start all (played kind actions w).cut (λ i. min (k i) (count_of i all))
 

@@ -155,8 +155,8 @@ watching_step {C = C} kind law cut until w i watch may =
                   rest = k.rest ++ new;
                   all_is = sent ∙ ap (λ (z : List Signal). z ++ new) k.all_is ∙ append_assoc (w.got m j) k.rest new;
                   late = All-append (λ (s : Signal). w.seen m j ≤ s.clock) k.rest new k.late
-                      (all_map (λ (s : Signal). s.clock ≡ clock_at kind w.cut i) (λ (s : Signal). w.seen m j
-                      ≤ s.clock) new (λ s h. omega arith) a.told);
+                      (all_map (λ (s : Signal). s.clock ≡ clock_at kind w.cut i)
+                      (λ (s : Signal). w.seen m j ≤ s.clock) new (λ s h. omega arith) a.told);
                 }
             | inr e ↦ record { rest = k.rest; all_is = a.other_sent j e ∙ k.all_is; late = k.late }
           ];

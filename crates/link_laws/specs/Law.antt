@@ -2,7 +2,7 @@ use Rattle.std.specs.Prelude.{ℕ, ◌≡◌, ◌≢◌, ◌+◌, ◌*◌, ◌<�
 use Rattle.link_node.specs.declared.signal.Signal.{Signal}
 use Rattle.link_order.specs.NodeKind.{NodeKind}
 use Rattle.link_order.specs.Order.{from}
-use Rattle.link_order.specs.Cut.{Cut, hop, count, clock_at, was_at, live, IsSound, IsInTime, IsCable, IsFresh}
+use Rattle.link_order.specs.Cut.{Delays, Cut, hop, count, clock_at, was_at, live, IsSound, IsInTime, IsCable, IsFresh}
 use Rattle.link_order.specs.Cut.{HasDelaysWithin, opening}
 use Rattle.link_order.specs.GlobalOrder.{trace, run}
 use Rattle.link_order.specs.Interleaving.{Watched, Action, Look, Step, happens, opened, IsInterleaving, MayStepHere}
@@ -175,5 +175,5 @@ ReachesCuts {C} kind =
 -- consoles that all stand at clock 0 with nothing sent are sound and in time
 abbrev pub StartsInTime : {C : Type 0} → NodeKind C → Type 0
 StartsInTime {C} kind =
-    (consoles : List C) (delay : ℕ) → IsCable (opening consoles delay) → All (IsFresh kind) consoles
+    (consoles : List C) (delay : Delays) → IsCable (opening consoles delay) → All (IsFresh kind) consoles
     → IsStart kind (opening consoles delay)

@@ -23,8 +23,8 @@ filter_all p (x ∷ xs) h =
 pub live_whole : {C : Type 0} (kind : NodeKind C) (cut : Cut C)
     → All (λ (one : Sent). is_live kind cut one ≡ true) cut.sent → live kind cut ≡ cut
 live_whole {C = C} kind cut h =
-    ap (λ (t : List Sent). let d : Cut C = record { consoles = cut.consoles; delay = cut.delay; sent = t } in
-    d) (filter_all (is_live kind cut) cut.sent h)
+    ap (λ (t : List Sent). let d : Cut C = record { consoles = cut.consoles; delay = cut.delay; sent = t } in d)
+    (filter_all (is_live kind cut) cut.sent h)
 
 live_twice : {C : Type 0} (kind : NodeKind C) (cut : Cut C) → live kind (live kind cut) ≡ live kind cut
 live_twice {C = C} kind cut =

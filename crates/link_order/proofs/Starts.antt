@@ -3,7 +3,7 @@ use Rattle.std.specs.Prelude.{List, [], ◌∷◌, length, map, All, slice_index
 use Rattle.std.proofs.Common.{ℕ, zero, suc, ◌≡◌, ◌<◌, arith, refl, sym, get_or}
 use Rattle.link_order.specs.NodeKind.{NodeKind}
 use Rattle.link_order.specs.Order.{sender_of, clock_of}
-use Rattle.link_order.specs.Cut.{Cut, IsSound, IsSoundSignal, IsFresh, IsInTime, HasDelays, opening}
+use Rattle.link_order.specs.Cut.{Delays, Cut, IsSound, IsSoundSignal, IsFresh, IsInTime, HasDelays, opening}
 use Rattle.link_order.proofs.Lists.{all_nil, all_cons, all_head, all_tail, pairs_nil}
 use Rattle.link_order.proofs.Places.{Comes}
 
@@ -14,7 +14,7 @@ fresh_clock kind [] h i = (refl, refl)
 fresh_clock kind (x ∷ xs) h zero = let f = h 0 x (omega arith) in (f.clock_is, f.was_is)
 fresh_clock kind (x ∷ xs) h (suc i) = fresh_clock kind xs (λ k d below. h (suc k) d (omega arith)) i
 
-pub sound_start : {C : Type 0} (kind : NodeKind C) (consoles : List C) (delay : ℕ) → All (IsFresh kind) consoles
+pub sound_start : {C : Type 0} (kind : NodeKind C) (consoles : List C) (delay : Delays) → All (IsFresh kind) consoles
     → IsSound kind (opening consoles delay)
 sound_start {C = C} kind consoles delay fresh =
     let cut : Cut C = opening consoles delay in
@@ -27,7 +27,7 @@ sound_start {C = C} kind consoles delay fresh =
       ordered = pairs_nil (Comes clock_of sender_of);
     }
 
-pub in_time_start : {C : Type 0} (kind : NodeKind C) (consoles : List C) (delay : ℕ)
+pub in_time_start : {C : Type 0} (kind : NodeKind C) (consoles : List C) (delay : Delays)
     → HasDelays (opening consoles delay) → All (IsFresh kind) consoles → IsInTime kind (opening consoles delay)
 in_time_start kind consoles delay later fresh i j a b apart =
     let f = fresh_clock kind consoles fresh in

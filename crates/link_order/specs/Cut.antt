@@ -8,14 +8,18 @@ use Rattle.link_order.specs.Order.{IsOrdered}
 
 -- this project's profile: a cut of a run, and what makes it sound
 
--- the consoles by player, the cable's delay in cycles, and signals that were sent, by clock, then by sender
+-- what a cut keeps of its cable: today one number of cycles, for any two consoles
+abbrev pub Delays : Type 0
+Delays = ℕ
+
+-- the consoles by player, the cable's delays, and signals that were sent, by clock, then by sender
 pub record Cut (C : Type 0) : Type 0 where
   pub consoles : List C
-  pub delay : ℕ
+  pub delay : Delays
   pub sent : List Sent
 
 -- the delay from a sender to a receiver, in cycles, by what a cut keeps of its cable
-unfoldable pub hop_of : ℕ → ℕ → ℕ → ℕ
+unfoldable pub hop_of : Delays → ℕ → ℕ → ℕ
 hop_of delay sender receiver = delay
 
 -- the delay from one console to another. Nothing else looks at the cut's delay
@@ -92,5 +96,5 @@ pub record IsFresh {C : Type 0} (kind : NodeKind C) (x : C) : Type 0 where
   pub was_is : kind.was x ≡ 0
 
 -- consoles with no signal on its way
-abbrev pub opening : {N : Type 0} → List N → ℕ → Cut N
+abbrev pub opening : {N : Type 0} → List N → Delays → Cut N
 opening consoles delay = record { consoles = consoles; delay = delay; sent = [] }

@@ -203,8 +203,8 @@ fn make_play(
     })
 }
 
-/// Plays so many looks and steps in an order that the seed gives, and compares each console after each of its steps with
-/// the one that `Cut` had after as many. It answers how many steps were made.
+/// Plays so many looks and steps in an order that the seed gives, and compares each console after each of its steps
+/// with the one that `Cut` had after as many. It answers how many steps were made.
 fn play_some(
     rt: &impl Abort,
     alloc: Global,
