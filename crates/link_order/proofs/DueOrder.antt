@@ -115,6 +115,18 @@ arriving_apart passes delay j (x ∷ xs) h =
       | inr e ↦ rw (arriving_not passes delay j x xs e) ih
     ]
 
+-- the signals of one player and those of the players before it stand apart
+pub others_apart : (between : ℕ → ℕ → ℕ) (known : ℕ → List Signal) (i : ℕ) (passes : ℕ → Bool) (j : ℕ)
+    → All (λ y. All (λ x. Apart arrival_of player_of x y) (arriving passes (between j i) j (known j)))
+    (arrivals between known i passes j)
+others_apart between known i passes j =
+    let own : List Incoming = arriving passes (between j i) j (known j) in
+    due_all (λ y. All (λ x. Apart arrival_of player_of x y) own) between known i passes j
+    (λ k below apart. arriving_all (λ y. All (λ x. Apart arrival_of player_of x y) own) passes (between k i) k (known k)
+    (λ a d less t. arriving_all (λ x. Apart arrival_of player_of x (incoming (between k i) k (get_or (known k) a d)))
+    passes (between j i) j (known j)
+    (λ b d' less' t'. inr (λ same. absurd (omega (arith, same))))))
+
 pub due_ordered : (between : ℕ → ℕ → ℕ) (known : ℕ → List Signal) (i : ℕ) (passes : ℕ → Bool) (n : ℕ)
     → ((j : ℕ) → AllPairs (λ (a b : Signal). a.clock < b.clock) (known j))
     → AllPairs (Comes arrival_of player_of) (arrivals between known i passes n)
@@ -128,15 +140,7 @@ due_ordered between known i passes (suc j) rising =
           rw own ih
       | inr e ↦ rw (due_other between known i passes j e)
           (place_all_ordered (arriving passes (between j i) j (known j)) (arrivals between known i passes j)
-          (arriving_apart passes (between j i) j (known j) (rising j))
-          (due_all (λ y. All (λ x. Apart arrival_of player_of x y) (arriving passes (between j i) j (known j)))
-          between known i passes j
-          (λ k below apart. arriving_all (λ y. All (λ x. Apart arrival_of player_of x y)
-          (arriving passes (between j i) j (known j))) passes (between k i) k (known k)
-          (λ a d less t. arriving_all (λ x. Apart arrival_of player_of x
-          (incoming (between k i) k (get_or (known k) a d))) passes (between j i) j (known j)
-          (λ b d' less' t'. inr (λ same. absurd (omega (arith, same)))))))
-          ih)
+          (arriving_apart passes (between j i) j (known j) (rising j)) (others_apart between known i passes j) ih)
     ]
 
 pub comes_precedes : (a b : Incoming) → is_before arrival_of player_of a b ≡ true → Precedes a b

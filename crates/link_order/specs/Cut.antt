@@ -1,6 +1,5 @@
 use Rattle.std.specs.Prelude.{ℕ, Bool, false, not, ◌≡◌, ◌≢◌, ◌+◌, ◌<◌, ◌≤◌, ◌&&◌, ◌||◌, ◌==◌, nat_lt, List, [], length}
-use Rattle.std.specs.Prelude.{map}
-use Rattle.std.specs.Prelude.{filter, slice_index, All}
+use Rattle.std.specs.Prelude.{map, filter, slice_index, All}
 use Rattle.std.proofs.Common.{zero, suc}
 use Rattle.link_order.specs.declared.sent.Sent.{Sent}
 use Rattle.link_order.specs.NodeKind.{NodeKind}

@@ -1,6 +1,6 @@
 -- What is due and what waits: dead signals, and the split at a step.
 use Rattle.std.specs.Prelude.{Bool, true, false, ◌&&◌, List, [], ◌∷◌, ◌++◌, All, AllPairs, filter, nat_le, nat_lt}
-use Rattle.std.proofs.Common.{ℕ, zero, suc, ◌≡◌, ◌+◌, ◌<◌, ◌≤◌, inl, inr, arith, refl, sym, ap, ◌∙◌, get_or}
+use Rattle.std.proofs.Common.{ℕ, zero, suc, ◌≡◌, ◌+◌, ◌<◌, ◌≤◌, inl, inr, arith, refl, sym, ap, ◌∙◌}
 use Rattle.std.proofs.lemmas.Bool.{cases_Bool, leb-false, lt-ltb, lt-leb}
 use Rattle.std.proofs.lemmas.Bool.Decides.{nat_tests}
 use Rattle.link_node.specs.declared.signal.Incoming.{Incoming}
@@ -14,7 +14,7 @@ use Rattle.link_order.proofs.Lists.{filter_drops}
 use Rattle.link_order.proofs.Places.{Apart, Comes, All-place, AllPairs-place, filter-place, filter-place_dropped}
 use Rattle.link_order.proofs.DueSignals.{arriving_due, arriving_not, arriving_none, arriving-append}
 use Rattle.link_order.proofs.DueSignals.{due_own, due_other, due_same}
-use Rattle.link_order.proofs.DueOrder.{arriving_all, due_all, arriving_apart, due_ordered}
+use Rattle.link_order.proofs.DueOrder.{arriving_apart, others_apart, due_ordered}
 use Rattle.link_trace.specs.Law.{AreDead, Rise, AddNothing}
 
 -- signals that arrived by the last step's start pass no test for what comes later
@@ -98,20 +98,6 @@ filter-arriving passes more delay j (x ∷ xs) =
     and_false : (a b : Bool) → b ≡ false → (a && b) ≡ false
     and_false true b e = e
     and_false false b e = refl
-
--- the signals of one player and those of the players before it stand apart
-others_apart : (between : ℕ → ℕ → ℕ) (known : ℕ → List Signal) (i : ℕ) (passes : ℕ → Bool) (j : ℕ)
-    → All (λ y. All (λ x. Apart arrival_of player_of x y) (arriving passes (between j i) j (known j)))
-    (arrivals between known i passes j)
-others_apart between known i passes j =
-    due_all (λ y. All (λ x. Apart arrival_of player_of x y) (arriving passes (between j i) j (known j))) between known i
-    passes j
-    (λ k below apart. arriving_all
-    (λ y. All (λ x. Apart arrival_of player_of x y) (arriving passes (between j i) j (known j))) passes (between k i) k
-    (known k)
-    (λ a d less t. arriving_all (λ x. Apart arrival_of player_of x (incoming (between k i) k (get_or (known k) a d)))
-    passes (between j i) j (known j)
-    (λ b d' less' t'. inr (λ same. absurd (omega (arith, same))))))
 
 filter-arrivals : (between : ℕ → ℕ → ℕ) (known : ℕ → List Signal) (i : ℕ) (passes more : ℕ → Bool) (n : ℕ) → Rise known
     → filter (λ (one : Incoming). more one.arrival) (arrivals between known i passes n)
