@@ -1,13 +1,14 @@
 //! A cut of a run, and its steps in the global order.
 
-ghost use Rattle.std.specs.Prelude.{ℕ, ◌≡◌, ◌+◌, ◌<◌, ◌≤◌, List, [], Some, length, map, slice_index, slice_get, slice_set, IfOk, IfErr, All, EachIndex};
+ghost use Rattle.std.specs.Prelude.{ℕ, ◌≡◌, ◌+◌, ◌<◌, ◌≤◌, List, [], Some, length, map, slice_index, slice_get};
+ghost use Rattle.std.specs.Prelude.{slice_set, IfOk, IfErr, All, EachIndex};
 ghost use Rattle.std.specs.Vec.{vec_len, vec_capacity};
 ghost use Rattle.link_node.specs.Due.{IsDue, InOrder};
-ghost use Rattle.link_order.specs.Steps.{kind_of};
+ghost use Rattle.link_order.specs.NodeKind.{kind_of};
 ghost use Rattle.link_order.specs.Order.{IsOrdered};
-ghost use Rattle.link_order.specs.Cut.{plain_cut, live, count, clock_at, IsSound, IsCable};
+ghost use Rattle.link_order.specs.Cut.{plain_cut, opening, live, count, clock_at, IsSound, IsCable};
 ghost use Rattle.link_order.specs.GlobalOrder.{least, least_below, joined, step, run};
-ghost use Rattle.link_core.specs.Kept.{opening, Flight, AllLive, AllHaveSpeed};
+ghost use Rattle.link_core.specs.Kept.{IsDelay, Flight, rejoined, AllLive, AllFit};
 
 use crate::shell::Shell;
 use crate::signals::{drop_dead, gather, put_sent, was_of};
@@ -30,7 +31,7 @@ pub struct Cut<N: Node> {
 
 impl<N: Node> Model for Cut<N> {
     ghost use Rattle.std.specs.Vec.{vec_capacity};
-    ghost use Rattle.link_order.specs.Steps.{kind_of};
+    ghost use Rattle.link_order.specs.NodeKind.{kind_of};
     ghost use Rattle.link_order.specs.Cut as order;
     ghost use Rattle.link_core.specs.Kept.{IsKept};
 
@@ -75,13 +76,15 @@ fn least_of<N: Node>(nodes: &[N]) -> usize
 /// One step of a node, with what is due to it.
 fn turn_of<N: Node>(nodes: &mut Vec<N>, i: usize, due: &[Incoming]) -> Option<Signal>
     requires player { i < vec_len nodes.old }
-    requires below { slice_index (map N.clock (map N.plain nodes.old.items)) i < slice_index (map N.bound nodes.old.items) i }
+    requires below { slice_index (map N.clock (map N.plain nodes.old.items)) i
+        < slice_index (map N.bound nodes.old.items) i }
     requires ordered { InOrder due.now }
     requires taken { All (IsDue (slice_index (map N.was (map N.plain nodes.old.items)) i)
         (slice_index (map N.clock (map N.plain nodes.old.items)) i)) due.now }
     ensures node { (x : N.Record) → slice_get (map N.plain nodes.old.items) i ≡ Some x →
         map N.plain nodes.new.items ≡ slice_set (map N.plain nodes.old.items) i (N.next x due.now).0 }
-    ensures signal { (x : N.Record) → slice_get (map N.plain nodes.old.items) i ≡ Some x → result ≡ (N.next x due.now).1 }
+    ensures signal { (x : N.Record) → slice_get (map N.plain nodes.old.items) i ≡ Some x →
+        result ≡ (N.next x due.now).1 }
     ensures limits { map N.bound nodes.new.items ≡ map N.bound nodes.old.items }
 {
     nodes[i].turn(due)
@@ -108,6 +111,7 @@ impl<N: Node> Cut<N> {
     /// A cut with nothing sent. It takes all the memory that later calls need.
     pub fn new(alloc: Global, nodes: Vec<N>, delay: u64) -> Result<Cut<N>, CutRefused<N>>
         requires cable { IsCable (plain_cut N.plain (opening nodes.items delay)) }
+        requires delay { IsDelay delay }
         requires sound { IsSound (kind_of N.clock N.was N.next) (plain_cut N.plain (opening nodes.items delay)) }
         ensures made { IfOk result (λ cut. cut ≡ opening nodes.items delay) }
         ensures refused { IfErr result (λ refused. refused.nodes ≡ nodes) }
@@ -171,7 +175,7 @@ impl<N: Node> Cut<N> {
         ensures live { AllLive (kind_of N.clock N.was N.next) (plain_cut N.plain self.now) }
         ensures few { length result.now ≤ 10236 }
         ensures ordered { IsOrdered result.now }
-        ensures speeds { AllHaveSpeed result.now }
+        ensures widths { AllFit result.now }
     {
         self.sent.as_slice()
     }
@@ -181,6 +185,9 @@ impl<N: Node> Cut<N> {
         ensures nodes { result.0.items ≡ self.consoles }
         ensures delay { result.1.delay ≡ self.delay }
         ensures sent { result.1.sent ≡ self.sent }
+        ensures cable { IsCable (plain_cut N.plain (rejoined result.0.items result.1)) }
+        ensures sound { IsSound (kind_of N.clock N.was N.next) (plain_cut N.plain (rejoined result.0.items result.1)) }
+        ensures live { AllLive (kind_of N.clock N.was N.next) (plain_cut N.plain (rejoined result.0.items result.1)) }
     {
         let Cut {
             nodes,
@@ -196,8 +203,9 @@ impl<N: Node> Cut<N> {
     /// One step of the global order: the node with the least clock takes what is due to it, and its signal joins the
     /// others.
     pub fn serial_step(&mut self)
-        requires { slice_index (map N.clock (map N.plain self.old.consoles)) (least (kind_of N.clock N.was N.next) (plain_cut N.plain self.old))
-            < slice_index (map N.bound self.old.consoles) (least (kind_of N.clock N.was N.next) (plain_cut N.plain self.old)) }
+        requires { let i = least (kind_of N.clock N.was N.next) (plain_cut N.plain self.old) in
+            slice_index (map N.clock (map N.plain self.old.consoles)) i
+            < slice_index (map N.bound self.old.consoles) i }
         ensures step { plain_cut N.plain self.new
             ≡ live (kind_of N.clock N.was N.next) (step (kind_of N.clock N.was N.next) (plain_cut N.plain self.old)) }
         ensures limits { map N.bound self.new.consoles ≡ map N.bound self.old.consoles }
@@ -213,7 +221,7 @@ impl<N: Node> Cut<N> {
     }
 
     /// The least clock of all nodes.
-    fn least_clock(&self) -> u64
+    pub fn least_clock(&self) -> u64
         ensures value { result ≡ clock_at (kind_of N.clock N.was N.next) (plain_cut N.plain self.now)
             (least (kind_of N.clock N.was N.next) (plain_cut N.plain self.now)) }
         ensures cable { IsCable (plain_cut N.plain self.now) }
@@ -227,7 +235,8 @@ impl<N: Node> Cut<N> {
     pub fn run_serial(&mut self, until: u64)
         requires { All (λ node. until ≤ N.bound node) self.old.consoles }
         ensures run { plain_cut N.plain self.new
-            ≡ live (kind_of N.clock N.was N.next) (run (kind_of N.clock N.was N.next) (plain_cut N.plain self.old) until) }
+            ≡ live (kind_of N.clock N.was N.next)
+            (run (kind_of N.clock N.was N.next) (plain_cut N.plain self.old) until) }
         ensures done { (i : ℕ) → i < length self.new.consoles →
             until ≤ slice_index (map N.clock (map N.plain self.new.consoles)) i }
         ensures limits { map N.bound self.new.consoles ≡ map N.bound self.old.consoles }

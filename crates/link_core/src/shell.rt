@@ -1,11 +1,11 @@
 //! The signals of a cut while its nodes are elsewhere.
 
-ghost use Rattle.std.specs.Prelude.{◌≡◌, ◌<◌, ◌≤◌, ◌^◌, List, [], length, map, Contains};
-ghost use Rattle.link_node.specs.Due.{HasSpeed};
-ghost use Rattle.link_order.specs.Steps.{kind_of};
-ghost use Rattle.link_order.specs.Order.{IsSorted, place_sent};
+ghost use Rattle.std.specs.Prelude.{◌≡◌, ◌<◌, ◌≤◌, ◌^◌, List, [], length, map};
+ghost use Rattle.link_node.specs.Due.{FitsWidths};
+ghost use Rattle.link_order.specs.NodeKind.{kind_of};
+ghost use Rattle.link_order.specs.Order.{IsSorted, IsAdded};
 ghost use Rattle.link_order.specs.Cut.{plain_cut, IsSound, IsCable};
-ghost use Rattle.link_core.specs.Kept.{Flight, rejoined, AllLive, AllHaveSpeed};
+ghost use Rattle.link_core.specs.Kept.{Flight, rejoined, AllLive, AllFit};
 
 use crate::cut::Cut;
 use crate::signals::put_sent;
@@ -23,13 +23,14 @@ pub struct Shell {
 
 impl Model for Shell {
     ghost use Rattle.std.specs.Vec.{vec_capacity};
-    ghost use Rattle.link_core.specs.Kept.{Flight, IsPacked};
+    ghost use Rattle.link_core.specs.Kept.{Flight, IsFlight};
 
     ghost Value = { Flight };
 
     ghost view = { λ s. record { delay = s.delay; sent = s.sent.items } };
 
-    ghost invariant = { λ s. IsPacked (record { delay = s.delay; sent = s.sent.items }) (vec_capacity s.sent) (vec_capacity s.due) };
+    ghost invariant = { λ s. IsFlight (record { delay = s.delay; sent = s.sent.items })
+        (vec_capacity s.sent) (vec_capacity s.due) };
 }
 
 impl Shell {
@@ -47,7 +48,7 @@ impl Shell {
         ensures value { result.now ≡ self.now.sent }
         ensures few { length result.now ≤ 16384 }
         ensures sorted { IsSorted result.now }
-        ensures speeds { AllHaveSpeed result.now }
+        ensures widths { AllFit result.now }
     {
         self.sent.as_slice()
     }
@@ -63,10 +64,9 @@ impl Shell {
     /// Puts a signal in its place among the others, by clock, then by sender. A signal that is there already stays one.
     pub fn add(&mut self, one: Sent)
         requires room { length self.old.sent < 16384 }
-        requires speed { HasSpeed one.signal }
+        requires widths { FitsWidths one.signal }
         ensures delay { self.new.delay ≡ self.old.delay }
-        ensures there { Contains self.old.sent one → self.new.sent ≡ self.old.sent }
-        ensures placed { (Contains self.old.sent one → ⊥) → self.new.sent ≡ place_sent one self.old.sent }
+        ensures either { IsAdded one self.old.sent self.new.sent }
     {
         if !self.sent.contains(&one) {
             put_sent(&mut self.sent, one);

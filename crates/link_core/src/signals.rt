@@ -1,14 +1,15 @@
 //! Lists of signals: a signal in its place, what is due to a player, and what nobody can take any more.
 
-ghost use Rattle.std.specs.Prelude.{ℕ, true, false, ◌≡◌, ◌≢◌, ◌⊎◌, ◌+◌, ◌<◌, ◌≤◌, ◌^◌, List, None, Some, length, map, filter, slice_index, if◌then◌else◌, All};
+ghost use Rattle.std.specs.Prelude.{ℕ, true, false, ◌≡◌, ◌≢◌, ◌⊎◌, ◌+◌, ◌<◌, ◌≤◌, ◌^◌, List, None, Some};
+ghost use Rattle.std.specs.Prelude.{length, map, filter, slice_index, if◌then◌else◌, All};
 ghost use Rattle.std.specs.List.{insert};
 ghost use Rattle.std.specs.Vec.{vec_len, vec_capacity};
 ghost use Rattle.link_order.specs.Order.{is_before, place, place_sent, clock_of, sender_of, from};
 ghost use Rattle.link_order.specs.Due.{is_due, incoming, arrival_of, player_of, place_due, due};
-ghost use Rattle.link_order.specs.Cut.{is_awaited};
+ghost use Rattle.link_order.specs.Cut.{hop_of, is_awaited};
 
 use link_node::{Incoming, Node};
-use link_order::Sent;
+use link_order::{Sent, hop};
 
 /// Whether a sent signal stands before another.
 fn is_sent_before(one: &Sent, other: &Sent) -> bool
@@ -98,9 +99,11 @@ fn taken(one: &Sent, delay: u64, was: u64, clock: u64) -> Option<Incoming>
 /// Puts one sent signal into the list of what is due to a player, where it is.
 fn gather_one(one: &Sent, delay: u64, player: u32, was: u64, clock: u64, list: &mut Vec<Incoming>)
     requires { vec_len list.old < vec_capacity list.old }
-    ensures takes { one.now.sender ≢ player → is_due was clock (one.now.signal.clock + delay) ≡ true →
-        list.new.items ≡ place_due (incoming delay one.now.sender one.now.signal) list.old.items }
-    ensures leaves { (one.now.sender ≡ player) ⊎ (is_due was clock (one.now.signal.clock + delay) ≡ false) →
+    ensures takes { let between = hop_of delay one.now.sender player in
+        one.now.sender ≢ player → is_due was clock (one.now.signal.clock + between) ≡ true →
+        list.new.items ≡ place_due (incoming between one.now.sender one.now.signal) list.old.items }
+    ensures leaves { let between = hop_of delay one.now.sender player in
+        (one.now.sender ≡ player) ⊎ (is_due was clock (one.now.signal.clock + between) ≡ false) →
         list.new.items ≡ list.old.items }
     ensures len { vec_len list.new ≤ vec_len list.old + 1 }
     ensures room { vec_capacity list.old ≤ vec_capacity list.new }
@@ -108,7 +111,8 @@ fn gather_one(one: &Sent, delay: u64, player: u32, was: u64, clock: u64, list: &
     if one.sender == player {
         return;
     }
-    if let Some(incoming) = taken(one, delay, was, clock) {
+    let between = hop(delay, one.sender as usize, player as usize);
+    if let Some(incoming) = taken(one, between, was, clock) {
         put_due(list, incoming);
     }
 }
@@ -124,7 +128,7 @@ pub(crate) fn gather(
 )
     requires { length sent.now ≤ vec_capacity list.old }
     ensures due { (count : ℕ) → All (λ one. one.sender < count) sent.now →
-        list.new.items ≡ due (λ _ _. delay) (λ j. from j sent.now) player was clock count }
+        list.new.items ≡ due (hop_of delay) (λ j. from j sent.now) player was clock count }
     ensures room { vec_capacity list.old ≤ vec_capacity list.new }
 {
     list.clear();
@@ -143,12 +147,14 @@ pub(crate) fn was_of<N: Node>(nodes: &[N], i: usize) -> u64
 
 /// Whether some node but its sender can still take a signal.
 fn is_awaited_by<N: Node>(nodes: &[N], delay: u64, one: &Sent) -> bool
-    ensures { result ≡ is_awaited (λ _ _. delay) (slice_index (map N.was (map N.plain nodes.now))) (length nodes.now) one.now }
+    ensures { result ≡ is_awaited (hop_of delay) (slice_index (map N.was (map N.plain nodes.now)))
+        (length nodes.now) one.now }
 {
     let mut awaited = false;
     for i in 0..nodes.len() {
         let was = was_of(nodes, i);
-        let hears = was < one.signal.clock || was - one.signal.clock < delay;
+        let between = hop(delay, one.sender as usize, i);
+        let hears = was < one.signal.clock || was - one.signal.clock < between;
         awaited = (i as u64 != u64::from(one.sender) && hears) || awaited;
     }
     awaited
@@ -157,7 +163,7 @@ fn is_awaited_by<N: Node>(nodes: &[N], delay: u64, one: &Sent) -> bool
 /// Drops the signals that nobody can take any more.
 pub(crate) fn drop_dead<N: Node>(sent: &mut Vec<Sent>, nodes: &[N], delay: u64)
     ensures items { sent.new.items ≡ filter
-        (is_awaited (λ _ _. delay) (slice_index (map N.was (map N.plain nodes.now))) (length nodes.now))
+        (is_awaited (hop_of delay) (slice_index (map N.was (map N.plain nodes.now))) (length nodes.now))
         sent.old.items }
     ensures room { vec_capacity sent.new ≡ vec_capacity sent.old }
 {

@@ -1,23 +1,25 @@
 -- Some interleaving reaches consoles that have each made some of their steps.
 use Rattle.std.specs.Prelude.{true, false, List, [], ◌∷◌, ◌++◌, min, nat_lt, ◌==◌, ◌&&◌, if◌then◌else◌}
-use Rattle.std.proofs.Common.{ℕ, zero, suc, ◌≡◌, ◌≢◌, ◌+◌, ◌-◌, ◌<◌, ◌≤◌, ◌⊎◌, inl, inr, arith, refl, sym, ap, ◌∙◌, subst, append_assoc}
+use Rattle.std.proofs.Common.{ℕ, zero, suc, ◌≡◌, ◌≢◌, ◌+◌, ◌-◌, ◌<◌, ◌≤◌, inl, inr, arith, refl, sym, ap, ◌∙◌}
+use Rattle.std.proofs.Common.{subst, append_assoc}
 use Rattle.std.proofs.lemmas.Bool.Decides.{nat_tests}
 use Rattle.std.proofs.lemmas.List.{append-nil}
-use Rattle.link_order.specs.Steps.{Steps, IsLawful}
+use Rattle.std.proofs.lemmas.Bool.{cases_Bool, cases_lt, ltb-true, ltb-false}
+use Rattle.link_order.specs.NodeKind.{NodeKind, IsLawful}
 use Rattle.link_order.specs.Cut.{Cut, hop, count, clock_at, was_at, IsSound, IsCable}
 use Rattle.link_order.specs.GlobalOrder.{step_of, trace, after}
-use Rattle.link_order.specs.Interleaving.{Watched, opened, Action, Look, Step, changed, happens, MayStep, IsInterleaving, played, moment, count_of}
+use Rattle.link_order.specs.Interleaving.{Watched, opened, Action, Look, Step, changed, happens, MayStepHere}
+use Rattle.link_order.specs.Interleaving.{IsInterleaving, played, moment, count_of}
 use Rattle.link_order.proofs.Numbers.{same_or_apart, put, put_same, put_other}
-use Rattle.link_order.proofs.Lists.{test_cases}
-use Rattle.link_order.proofs.Stepping.{hop_same}
+use Rattle.link_order.proofs.Hops.{hop_same}
 use Rattle.link_order.proofs.Runs.{after_none, after_one}
-use Rattle.link_laws.specs.Law.{IsReachable, Reaches}
+use Rattle.link_laws.specs.Law.{IsReachable, Reaches, IsReachableCut, ReachesCut}
 use Rattle.link_laws.proofs.Advance.{advance, number_same}
-use Rattle.link_laws.proofs.History.{count_own, count_other, moment_first, moment_own, moment_other, Leads, trace_leads, Same, same_is, same_trans, same_sym, moment_none, moment_all, On, on_step}
+use Rattle.link_laws.proofs.History.{count_own, count_other, moment_first, moment_own, moment_other, Leads, trace_leads}
+use Rattle.link_laws.proofs.History.{Same, same_is, same_trans, same_sym, moment_none, On, on_step}
 use Rattle.link_laws.proofs.Going.{same_lists}
-use Rattle.link_laws.proofs.Watching.{Watching, watching_opened, watching_happens, may_ahead, may_due}
+use Rattle.link_laws.proofs.Watching.{looked, Watching, watching_opened, watching_happens, may_ahead, may_due}
 use Rattle.link_laws.proofs.Equality.{on_made, on_opened, watching_played}
-use Rattle.link_laws.proofs.Horizons.{looked}
 
 -- console i looks at each player below n
 abbrev looks : ℕ → ℕ → List Action
@@ -32,43 +34,51 @@ abbrev plan : ℕ → (ℕ → ℕ) → List ℕ → List ℕ → List Action
 plan n k qs [] = []
 plan n k qs (p ∷ ps) = planned n p (count_of p qs) (k p) (plan n k (qs ++ p ∷ []) ps)
 
-played-append : {C : Type 0} (kind : Steps C) (xs ys : List Action) (w : Watched C) → played kind (xs ++ ys) w ≡ played kind ys (played kind xs w)
+played-append : {C : Type 0} (kind : NodeKind C) (xs ys : List Action) (w : Watched C)
+    → played kind (xs ++ ys) w ≡ played kind ys (played kind xs w)
 played-append kind [] ys w = refl
 played-append kind (x ∷ xs) ys w = played-append kind xs ys (happens kind x w)
 
-allowed-append : {C : Type 0} (kind : Steps C) (until : ℕ) (xs ys : List Action) (w : Watched C) → IsInterleaving kind until xs w
+allowed-append : {C : Type 0} (kind : NodeKind C) (until : ℕ) (xs ys : List Action) (w : Watched C)
+    → IsInterleaving kind until xs w
     → IsInterleaving kind until ys (played kind xs w) → IsInterleaving kind until (xs ++ ys) w
 allowed-append kind until [] ys w h k = k
 allowed-append kind until (x ∷ xs) ys w h k = (h.0, allowed-append kind until xs ys (happens kind x w) h.1 k)
 
-looks_allowed : {C : Type 0} (kind : Steps C) (until i n : ℕ) (w : Watched C) → IsInterleaving kind until (looks i n) w
+looks_allowed : {C : Type 0} (kind : NodeKind C) (until i n : ℕ) (w : Watched C)
+    → IsInterleaving kind until (looks i n) w
 looks_allowed kind until i zero w = tt
 looks_allowed kind until i (suc j) w = (tt, looks_allowed kind until i j (happens kind (Look i j) w))
 
-looks_cut : {C : Type 0} (kind : Steps C) (i n : ℕ) (w : Watched C) → (played kind (looks i n) w).cut ≡ w.cut
+looks_cut : {C : Type 0} (kind : NodeKind C) (i n : ℕ) (w : Watched C) → (played kind (looks i n) w).cut ≡ w.cut
 looks_cut kind i zero w = refl
 looks_cut kind i (suc j) w = looks_cut kind i j (happens kind (Look i j) w)
 
 unlooked : {A : Type 0} (i j k : ℕ) (y : A) (f : ℕ → ℕ → A) → k ≢ j → changed i j y f i k ≡ f i k
-unlooked i j k y f apart = let t : ((i == i) && (k == j)) ≡ false = grind (arith, nat_tests) in ap (λ c. if c then y else f i k) t
+unlooked i j k y f apart = let t : ((i == i) && (k == j)) ≡ false = grind (arith, nat_tests) in
+    ap (λ c. if c then y else f i k) t
 
-looks_past : {C : Type 0} (kind : Steps C) (i n j : ℕ) (w : Watched C) → n ≤ j → (played kind (looks i n) w).seen i j ≡ w.seen i j
+looks_past : {C : Type 0} (kind : NodeKind C) (i n j : ℕ) (w : Watched C) → n ≤ j
+    → (played kind (looks i n) w).seen i j ≡ w.seen i j
 looks_past kind i zero j w past = refl
 looks_past kind i (suc n) j w past =
-    looks_past kind i n j (happens kind (Look i n) w) (omega arith) ∙ unlooked i n j (clock_at kind w.cut n) w.seen (omega arith)
+    looks_past kind i n j (happens kind (Look i n) w) (omega arith)
+    ∙ unlooked i n j (clock_at kind w.cut n) w.seen (omega arith)
 
-looks_seen : {C : Type 0} (kind : Steps C) (i n j : ℕ) (w : Watched C) → j < n → (played kind (looks i n) w).seen i j ≡ clock_at kind w.cut j
+looks_seen : {C : Type 0} (kind : NodeKind C) (i n j : ℕ) (w : Watched C) → j < n
+    → (played kind (looks i n) w).seen i j ≡ clock_at kind w.cut j
 looks_seen kind i zero j w below = absurd (omega arith)
 looks_seen kind i (suc n) j w below =
     elim (same_or_apart j n) [
       | inl e ↦
           looks_past kind i n j (happens kind (Look i n) w) (omega arith)
-          ∙ subst (λ (m : ℕ). changed i n (clock_at kind w.cut n) w.seen i m ≡ clock_at kind w.cut m) (sym e) (looked i n (clock_at kind w.cut n) w.seen)
+          ∙ subst (λ (m : ℕ). changed i n (clock_at kind w.cut n) w.seen i m
+          ≡ clock_at kind w.cut m) (sym e) (looked i n (clock_at kind w.cut n) w.seen)
       | inr e ↦ looks_seen kind i n j (happens kind (Look i n) w) (omega arith)
     ]
 
 -- a moment after the first steps of a list is one of the rest
-moment_prefix : {C : Type 0} (kind : Steps C) (qs ps : List ℕ) (cut : Cut C) (i k m : ℕ) → m ≡ count_of i qs + k
+pub moment_prefix : {C : Type 0} (kind : NodeKind C) (qs ps : List ℕ) (cut : Cut C) (i k m : ℕ) → m ≡ count_of i qs + k
     → moment kind cut (qs ++ ps) i m ≡ moment kind (after kind cut qs) ps i k
 moment_prefix {C = C} kind [] ps cut i k m is =
     let same : m ≡ k = omega arith in
@@ -78,7 +88,8 @@ moment_prefix {C = C} kind (q ∷ qs) ps cut i k zero is =
       | inl e ↦ let c = count_own i q qs e in absurd (omega arith)
       | inr e ↦
           let c = count_other i q qs e in
-          moment_other kind cut q (qs ++ ps) i zero e ∙ moment_prefix kind qs ps (step_of kind cut q) i k zero (omega arith)
+          moment_other kind cut q (qs ++ ps) i zero e
+          ∙ moment_prefix kind qs ps (step_of kind cut q) i k zero (omega arith)
           ∙ ap (λ (d : Cut C). moment kind d ps i k) (sym (after_one kind cut q qs))
     ]
 moment_prefix {C = C} kind (q ∷ qs) ps cut i k (suc m) is =
@@ -89,15 +100,19 @@ moment_prefix {C = C} kind (q ∷ qs) ps cut i k (suc m) is =
           ∙ ap (λ (d : Cut C). moment kind d ps i k) (sym (after_one kind cut q qs))
       | inr e ↦
           let c = count_other i q qs e in
-          moment_other kind cut q (qs ++ ps) i (suc m) e ∙ moment_prefix kind qs ps (step_of kind cut q) i k (suc m) (omega arith)
+          moment_other kind cut q (qs ++ ps) i (suc m) e
+          ∙ moment_prefix kind qs ps (step_of kind cut q) i k (suc m) (omega arith)
           ∙ ap (λ (d : Cut C). moment kind d ps i k) (sym (after_one kind cut q qs))
     ]
 
-after-push : {C : Type 0} (kind : Steps C) (qs : List ℕ) (p : ℕ) (cut : Cut C) → after kind cut (qs ++ p ∷ []) ≡ step_of kind (after kind cut qs) p
+after-push : {C : Type 0} (kind : NodeKind C) (qs : List ℕ) (p : ℕ) (cut : Cut C)
+    → after kind cut (qs ++ p ∷ []) ≡ step_of kind (after kind cut qs) p
 after-push {C = C} kind [] p cut =
-    after_one kind cut p [] ∙ after_none kind (step_of kind cut p) ∙ ap (λ (d : Cut C). step_of kind d p) (sym (after_none kind cut))
+    after_one kind cut p [] ∙ after_none kind (step_of kind cut p)
+    ∙ ap (λ (d : Cut C). step_of kind d p) (sym (after_none kind cut))
 after-push {C = C} kind (q ∷ qs) p cut =
-    after_one kind cut q (qs ++ p ∷ []) ∙ after-push kind qs p (step_of kind cut q) ∙ ap (λ (d : Cut C). step_of kind d p) (sym (after_one kind cut q qs))
+    after_one kind cut q (qs ++ p ∷ []) ∙ after-push kind qs p (step_of kind cut q)
+    ∙ ap (λ (d : Cut C). step_of kind d p) (sym (after_one kind cut q qs))
 
 count_of-push_own : (i p : ℕ) (qs : List ℕ) → p ≡ i → count_of i (qs ++ p ∷ []) ≡ count_of i qs + 1
 count_of-push_own i p [] e = count_own i p [] e
@@ -117,11 +132,12 @@ count_of-push_other i p (q ∷ qs) e =
       | inr f ↦ let a = count_other i q (qs ++ p ∷ []) f in let b = count_other i q qs f in omega arith
     ]
 
-was_same : {C : Type 0} (kind : Steps C) (d e : Cut C) (i : ℕ) → d ≡ e → was_at kind d i ≡ was_at kind e i
+was_same : {C : Type 0} (kind : NodeKind C) (d e : Cut C) (i : ℕ) → d ≡ e → was_at kind d i ≡ was_at kind e i
 was_same {C = C} kind d e i h = ap (λ (f : Cut C). was_at kind f i) h
 
 -- the start of the last step doesn't fall along a history
-was_rises : {C : Type 0} (kind : Steps C) → IsLawful kind → (until : ℕ) (ps : List ℕ) (cut : Cut C) (i k : ℕ) → Leads kind until cut ps → IsSound kind cut
+pub was_rises : {C : Type 0} (kind : NodeKind C) → IsLawful kind → (until : ℕ) (ps : List ℕ) (cut : Cut C) (i k : ℕ)
+    → Leads kind until cut ps → IsSound kind cut
     → i < count cut → was_at kind cut i ≤ was_at kind (moment kind cut ps i k) i
 was_rises kind law until [] cut i k leads sound below = omega arith
 was_rises kind law until (p ∷ ps) cut i zero leads sound below =
@@ -161,64 +177,68 @@ was_rises kind law until (p ∷ ps) cut i (suc k) leads sound below =
     ]
 
 -- where the plan stands: the trace has made the steps qs, and each console the same ones, up to its k
-record Stands {C : Type 0} (kind : Steps C) (start : Cut C) (all qs ps : List ℕ) (k : ℕ → ℕ) (w : Watched C) : Type 0 where
+record Stands {C : Type 0} (kind : NodeKind C) (start : Cut C) (all qs ps : List ℕ)
+    (k : ℕ → ℕ) (w : Watched C) : Type 0 where
   all_is : all ≡ qs ++ ps
   watch : Watching kind start w
   on : On kind start all w.cut (λ i. min (k i) (count_of i qs))
 
-planned_goes : (n p done most : ℕ) (rest : List Action) → nat_lt done most ≡ true → planned n p done most rest ≡ looks p n ++ Step p ∷ rest
+planned_goes : (n p done most : ℕ) (rest : List Action) → nat_lt done most ≡ true
+    → planned n p done most rest ≡ looks p n ++ Step p ∷ rest
 planned_goes n p done most rest e = ap (λ b. if b then looks p n ++ Step p ∷ rest else rest) e
 
 planned_stops : (n p done most : ℕ) (rest : List Action) → nat_lt done most ≡ false → planned n p done most rest ≡ rest
 planned_stops n p done most rest e = ap (λ b. if b then looks p n ++ Step p ∷ rest else rest) e
 
-is_less : (a b : ℕ) → nat_lt a b ≡ true → a < b
-is_less a b e = grind (arith, nat_tests)
-
-is_not_less : (a b : ℕ) → nat_lt a b ≡ false → b ≤ a
-is_not_less a b e = grind (arith, nat_tests)
-
-less_or_past : (a b : ℕ) → (a < b) ⊎ (b ≤ a)
-less_or_past a b = grind (arith, nat_tests)
-
-clock_same : {C : Type 0} (kind : Steps C) (d e : Cut C) (i : ℕ) → Same d e i → clock_at kind d i ≡ clock_at kind e i
+pub clock_same : {C : Type 0} (kind : NodeKind C) (d e : Cut C) (i : ℕ) → Same d e i
+    → clock_at kind d i ≡ clock_at kind e i
 clock_same kind d e i s = number_same kind.clock d.consoles e.consoles i s.console
 
 -- a console with steps left is where the trace is
-follows : {C : Type 0} (kind : Steps C) → IsLawful kind → (until : ℕ) (start : Cut C) (all qs ps : List ℕ) (k : ℕ → ℕ) (w : Watched C) (j : ℕ)
-    → Leads kind until (after kind start qs) ps → IsSound kind (after kind start qs) → Stands kind start all qs ps k w → j < count start → count_of j qs ≤ k j
+follows : {C : Type 0} (kind : NodeKind C) → IsLawful kind
+    → (until : ℕ) (start : Cut C) (all qs ps : List ℕ) (k : ℕ → ℕ) (w : Watched C) (j : ℕ)
+    → Leads kind until (after kind start qs) ps → IsSound kind (after kind start qs) → Stands kind start all qs ps k w
+    → j < count start → count_of j qs ≤ k j
     → Same w.cut (after kind start qs) j
 follows {C = C} kind law until start all qs ps k w j leads sound stands below more =
     let made : min (k j) (count_of j qs) ≡ count_of j qs + 0 = omega arith in
     let m : moment kind start all j (min (k j) (count_of j qs)) ≡ moment kind (after kind start qs) ps j 0
     = ap (λ (l : List ℕ). moment kind start l j (min (k j) (count_of j qs))) stands.all_is
     ∙ moment_prefix kind qs ps start j 0 (min (k j) (count_of j qs)) made in
-    same_trans w.cut (moment kind start all j (min (k j) (count_of j qs))) (after kind start qs) j (stands.on.same j below)
+    same_trans w.cut (moment kind start all j (min (k j) (count_of j qs))) (after kind start qs) j
+    (stands.on.same j below)
     (same_trans _ (moment kind (after kind start qs) ps j 0) (after kind start qs) j (same_is _ _ j m)
     (moment_none kind law until ps (after kind start qs) j leads sound))
 
 -- a console with no steps left is where it is to end
-stopped : {C : Type 0} (kind : Steps C) (start d : Cut C) (all qs ps : List ℕ) (k : ℕ → ℕ) (w : Watched C) (j : ℕ)
-    → Stands kind start all qs ps k w → Same d (moment kind start all j (k j)) j → j < count start → k j < count_of j qs
-    → Same w.cut d j
-stopped kind start d all qs ps k w j stands is below less =
+stopped : {C : Type 0} (kind : NodeKind C) (start : Cut C) (all qs ps : List ℕ) (k : ℕ → ℕ) (w : Watched C) (j : ℕ)
+    → Stands kind start all qs ps k w → j < count start → k j < count_of j qs
+    → Same w.cut (moment kind start all j (k j)) j
+stopped kind start all qs ps k w j stands below less =
     let made : min (k j) (count_of j qs) ≡ k j = omega arith in
-    same_trans w.cut (moment kind start all j (k j)) d j
-    (subst (λ (n : ℕ). Same w.cut (moment kind start all j n) j) made (stands.on.same j below)) (same_sym d _ j is)
+    subst (λ (n : ℕ). Same w.cut (moment kind start all j n) j) made (stands.on.same j below)
+
+-- no console's last step began where a peer's present clock could still have been heard
+abbrev AllHear : {C : Type 0} → NodeKind C → Cut C → List ℕ → (ℕ → ℕ) → Type 0
+AllHear kind start all k =
+    (i j : ℕ) → i < count start → j < count start → i ≢ j → 0 < k i
+    → was_at kind (moment kind start all i (k i)) i < clock_at kind (moment kind start all j (k j)) j + hop start j i
 
 -- the plan's step is allowed once its console has looked at all others
-plan_may : {C : Type 0} (kind : Steps C) → IsLawful kind → (until : ℕ) (start d : Cut C) (all qs : List ℕ) (p : ℕ) (ps : List ℕ) (k : ℕ → ℕ) (w : Watched C)
-    → Leads kind until (after kind start qs) (p ∷ ps) → IsSound kind (after kind start qs) → count (after kind start qs) ≡ count start → (after kind start qs).delay ≡ start.delay
+plan_may : {C : Type 0} (kind : NodeKind C) → IsLawful kind
+    → (until : ℕ) (start : Cut C) (all qs : List ℕ) (p : ℕ) (ps : List ℕ) (k : ℕ → ℕ) (w : Watched C)
+    → Leads kind until (after kind start qs) (p ∷ ps) → IsSound kind (after kind start qs)
+    → count (after kind start qs) ≡ count start → (after kind start qs).delay ≡ start.delay
     → Stands kind start all qs (p ∷ ps) k w
-    → ((i : ℕ) → i < count start → Same d (moment kind start all i (k i)) i)
-    → ((i j : ℕ) → i < count start → j < count start → i ≢ j → 0 < k i → was_at kind d i < clock_at kind d j + hop start j i)
-    → count_of p qs < k p → MayStep kind until (played kind (looks p (count start)) w) p
-plan_may {C = C} kind law until start d all qs p ps k w leads sound counts delays stands is heard more =
+    → AllHear kind start all k
+    → count_of p qs < k p → MayStepHere kind until (played kind (looks p (count start)) w) p
+plan_may {C = C} kind law until start all qs p ps k w leads sound counts delays stands heard more =
     let c : Cut C = after kind start qs in
     let v : Watched C = played kind (looks p (count start)) w in
     let cut_is : v.cut ≡ w.cut = looks_cut kind p (count start) w in
     let below : p < count start = subst (λ (n : ℕ). p < n) counts leads.0 in
-    let own = clock_same kind w.cut c p (follows kind law until start all qs (p ∷ ps) k w p leads sound stands below (omega arith)) in
+    let own = clock_same kind w.cut c p
+    (follows kind law until start all qs (p ∷ ps) k w p leads sound stands below (omega arith)) in
     let own_v : clock_at kind v.cut p ≡ clock_at kind c p = ap (λ (e : Cut C). clock_at kind e p) cut_is ∙ own in
     let count_v : count v.cut ≡ count start = ap count cut_is ∙ stands.watch.count_is in
     record {
@@ -228,11 +248,13 @@ plan_may {C = C} kind law until start d all qs p ps k w leads sound counts delay
           let less_j : j < count start = subst (λ (n : ℕ). j < n) count_v less in
           let seen : v.seen p j ≡ clock_at kind w.cut j = looks_seen kind p (count start) j w less_j in
           let h : hop v.cut j p ≡ hop start j p
-          = ap (λ (e : Cut C). hop e j p) cut_is ∙ ap (λ (f : ℕ → ℕ → ℕ). f j p) (hop_same w.cut start stands.watch.delay_is) in
+          = ap (λ (e : Cut C). hop e j p) cut_is
+          ∙ ap (λ (f : ℕ → ℕ → ℕ). f j p) (hop_same w.cut start stands.watch.delay_is) in
           let g : hop c j p ≡ hop start j p = ap (λ (f : ℕ → ℕ → ℕ). f j p) (hop_same c start delays) in
-          elim (less_or_past (k j) (count_of j qs)) [
+          elim (cases_lt (k j) (count_of j qs)) [
             | inl over ↦
-                let there = clock_same kind w.cut d j (stopped kind start d all qs (p ∷ ps) k w j stands (is j less_j) less_j over) in
+                let there = clock_same kind w.cut (moment kind start all j (k j)) j
+                (stopped kind start all qs (p ∷ ps) k w j stands less_j over) in
                 let far = heard p j below less_j (λ t. apart (sym t)) (omega arith) in
                 let steps : (m : ℕ) × (k p ≡ count_of p qs + suc m) = some_more (count_of p qs) (k p) more in
                 let a = advance kind law c p leads.0 leads.2 sound in
@@ -240,13 +262,15 @@ plan_may {C = C} kind law until start d all qs p ps k w leads sound counts delay
                 = ap (λ (l : List ℕ). moment kind start l p (k p)) stands.all_is
                 ∙ moment_prefix kind qs (p ∷ ps) start p (suc steps.0) (k p) steps.1
                 ∙ moment_own kind c p ps p steps.0 refl in
-                let rises = was_rises kind law until ps (step_of kind c p) p steps.0 leads.3 a.sound (subst (λ (n : ℕ). p < n) (sym a.count_is) leads.0) in
-                let s = is p below in
-                let was_d : was_at kind d p ≡ was_at kind (moment kind (step_of kind c p) ps p steps.0) p
-                = number_same kind.was d.consoles (moment kind start all p (k p)).consoles p s.console ∙ ap (λ (e : Cut C). was_at kind e p) at_d in
+                let rises = was_rises kind law until ps (step_of kind c p) p steps.0 leads.3 a.sound
+                (subst (λ (n : ℕ). p < n) (sym a.count_is) leads.0) in
+                let was_d : was_at kind (moment kind start all p (k p)) p
+                ≡ was_at kind (moment kind (step_of kind c p) ps p steps.0) p
+                = ap (λ (e : Cut C). was_at kind e p) at_d in
                 omega (arith, own_v, seen, there, far, rises, was_d, a.own_was, h)
             | inr along ↦
-                let there = clock_same kind w.cut c j (follows kind law until start all qs (p ∷ ps) k w j leads sound stands less_j along) in
+                let there = clock_same kind w.cut c j
+                (follows kind law until start all qs (p ∷ ps) k w j leads sound stands less_j along) in
                 let far = leads.2 j (subst (λ (n : ℕ). j < n) (sym counts) less_j) apart in
                 omega (arith, own_v, seen, there, far, h, g)
           ];
@@ -256,120 +280,167 @@ plan_may {C = C} kind law until start d all qs p ps k w leads sound counts delay
     some_more a b less = (b - a - 1, omega arith)
 
 -- what the plan reaches
-record Planned {C : Type 0} (kind : Steps C) (until : ℕ) (start : Cut C) (all : List ℕ) (k : ℕ → ℕ) (actions : List Action) (w : Watched C) : Type 0 where
+record Planned {C : Type 0} (kind : NodeKind C) (until : ℕ) (start : Cut C) (all : List ℕ)
+    (k : ℕ → ℕ) (actions : List Action) (w : Watched C) : Type 0 where
   allowed : IsInterleaving kind until actions w
   on : On kind start all (played kind actions w).cut (λ i. min (k i) (count_of i all))
 
-plan_goes : {C : Type 0} (kind : Steps C) → IsLawful kind → (until : ℕ) (start d : Cut C) (all qs ps : List ℕ) (k : ℕ → ℕ) (w : Watched C)
+plan_goes : {C : Type 0} (kind : NodeKind C) → IsLawful kind
+    → (until : ℕ) (start : Cut C) (all qs ps : List ℕ) (k : ℕ → ℕ) (w : Watched C)
     → Leads kind until start all → IsSound kind start
-    → Leads kind until (after kind start qs) ps → IsSound kind (after kind start qs) → count (after kind start qs) ≡ count start → (after kind start qs).delay ≡ start.delay
+    → Leads kind until (after kind start qs) ps → IsSound kind (after kind start qs)
+    → count (after kind start qs) ≡ count start → (after kind start qs).delay ≡ start.delay
     → Stands kind start all qs ps k w
-    → ((i : ℕ) → i < count start → Same d (moment kind start all i (k i)) i)
-    → ((i j : ℕ) → i < count start → j < count start → i ≢ j → 0 < k i → was_at kind d i < clock_at kind d j + hop start j i)
+    → AllHear kind start all k
     → Planned kind until start all k (plan (count start) k qs ps) w
-plan_goes {C = C} kind law until start d all qs [] k w whole begin leads sound counts delays stands is heard =
+plan_goes {C = C} kind law until start all qs [] k w whole begin leads sound counts delays stands heard =
     let same : all ≡ qs = stands.all_is ∙ append-nil qs in
     record {
       allowed = tt;
       on = on_made kind start all w.cut (λ i. min (k i) (count_of i qs)) (λ i. min (k i) (count_of i all))
           (λ i. ap (λ (l : List ℕ). min (k i) (count_of i l)) (sym same)) stands.on;
     }
-plan_goes {C = C} kind law until start d all qs (p ∷ ps) k w whole begin leads sound counts delays stands is heard =
+plan_goes {C = C} kind law until start all qs (p ∷ ps) k w whole begin leads sound counts delays stands heard =
     let c : Cut C = after kind start qs in
     let a = advance kind law c p leads.0 leads.2 sound in
     let rs : List ℕ = qs ++ p ∷ [] in
     let n : ℕ = count start in
     let push : after kind start rs ≡ step_of kind c p = after-push kind qs p start in
-    let leads' : Leads kind until (after kind start rs) ps = subst (λ (e : Cut C). Leads kind until e ps) (sym push) leads.3 in
+    let leads' : Leads kind until (after kind start rs) ps =
+    subst (λ (e : Cut C). Leads kind until e ps) (sym push) leads.3 in
     let sound' : IsSound kind (after kind start rs) = subst (IsSound kind) (sym push) a.sound in
     let counts' : count (after kind start rs) ≡ count start = ap count push ∙ a.count_is ∙ counts in
     let delays' : (after kind start rs).delay ≡ start.delay = ap (λ (e : Cut C). e.delay) push ∙ a.delay_is ∙ delays in
     let all' : all ≡ rs ++ ps = stands.all_is ∙ sym (append_assoc qs (p ∷ []) ps) in
     let below : p < count start = subst (λ (m : ℕ). p < m) counts leads.0 in
     let own = count_of-push_own p p qs refl in
-    elim (test_cases (nat_lt (count_of p qs) (k p))) [
+    elim (cases_Bool (nat_lt (count_of p qs) (k p))) [
       | inl e ↦
-          let more : count_of p qs < k p = is_less (count_of p qs) (k p) e in
+          let more : count_of p qs < k p = ltb-true (count_of p qs) (k p) e in
           let v : Watched C = played kind (looks p n) w in
           let cut_is : v.cut ≡ w.cut = looks_cut kind p n w in
-          let watch : Watching kind start v = watching_played kind law start until (looks p n) w stands.watch (looks_allowed kind until p n w) in
-          let may : MayStep kind until v p = plan_may kind law until start d all qs p ps k w leads sound counts delays stands is heard more in
+          let watch : Watching kind start v =
+          watching_played kind law start until (looks p n) w stands.watch (looks_allowed kind until p n w) in
+          let may : MayStepHere kind until v p =
+          plan_may kind law until start all qs p ps k w leads sound counts delays stands heard more in
           let made : ℕ → ℕ = λ i. min (k i) (count_of i qs) in
-          let on_v : On kind start all v.cut made = subst (λ (f : Cut C). On kind start all f made) (sym cut_is) stands.on in
-          let next = on_step kind law until start all v.cut made p whole begin on_v below may.early (may_ahead kind start until v p watch may) in
+          let on_v : On kind start all v.cut made =
+          subst (λ (f : Cut C). On kind start all f made) (sym cut_is) stands.on in
+          let next = on_step kind law until start all v.cut made p whole begin on_v below may.early
+          (may_ahead kind start until v p watch may) in
           let z : Watched C = happens kind (Step p) v in
           let on_z : On kind start all z.cut (put p (suc (made p)) made)
-          = subst (λ (f : Cut C). On kind start all f (put p (suc (made p)) made)) (sym (may_due kind start until v p watch may)) next in
+          = subst (λ (f : Cut C). On kind start all f (put p (suc (made p)) made))
+          (sym (may_due kind start until v p watch may)) next in
           let stands' : Stands kind start all rs ps k z = record {
             all_is = all';
             watch = watching_happens kind law start until (Step p) v watch may;
             on = on_made kind start all z.cut (put p (suc (made p)) made) (λ i. min (k i) (count_of i rs))
                 (λ i. elim (same_or_apart i p) [
                   | inl t ↦
-                      let f : put p (suc (made p)) made i ≡ suc (made p) = ap (put p (suc (made p)) made) t ∙ put_same p (suc (made p)) made in
-                      let g : min (k i) (count_of i rs) ≡ min (k p) (count_of p rs) = ap (λ (m : ℕ). min (k m) (count_of m rs)) t in
+                      let f : put p (suc (made p)) made i ≡ suc (made p) = ap (put p (suc (made p)) made) t
+                      ∙ put_same p (suc (made p)) made in
+                      let g : min (k i) (count_of i rs) ≡ min (k p) (count_of p rs) =
+                      ap (λ (m : ℕ). min (k m) (count_of m rs)) t in
                       omega (arith, f, g, own, more)
-                  | inr t ↦ omega (arith, put_other p i (suc (made p)) made t, count_of-push_other i p qs (λ u. t (sym u)))
+                  | inr t ↦ omega (
+                    arith,
+                    put_other p i (suc (made p)) made t,
+                    count_of-push_other i p qs
+                        (λ u. t (sym u)),
+                  )
                 ]) on_z;
           } in
-          let ih = plan_goes kind law until start d all rs ps k z whole begin leads' sound' counts' delays' stands' is heard in
+          let ih = plan_goes kind law until start all rs ps k z whole begin leads' sound' counts' delays' stands'
+          heard in
           let rest : List Action = plan n k rs ps in
-          let acts : plan n k qs (p ∷ ps) ≡ looks p n ++ Step p ∷ rest = planned_goes n p (count_of p qs) (k p) rest e in
-          let reached : played kind (looks p n ++ Step p ∷ rest) w ≡ played kind rest z = played-append kind (looks p n) (Step p ∷ rest) w in
+          let acts : plan n k qs (p ∷ ps) ≡ looks p n ++ Step p ∷ rest =
+          planned_goes n p (count_of p qs) (k p) rest e in
+          let reached : played kind (looks p n ++ Step p ∷ rest) w ≡ played kind rest z =
+          played-append kind (looks p n) (Step p ∷ rest) w in
           subst (λ (t : List Action). Planned kind until start all k t w) (sym acts) (record {
-            allowed = allowed-append kind until (looks p n) (Step p ∷ rest) w (looks_allowed kind until p n w) (may, ih.allowed);
-            on = subst (λ (t : Watched C). On kind start all t.cut (λ i. min (k i) (count_of i all))) (sym reached) ih.on;
+            allowed = allowed-append kind until (looks p n) (Step p ∷ rest) w (looks_allowed kind until p n w)
+                (may, ih.allowed);
+            on = subst (λ (t : Watched C). On kind start all t.cut (λ i. min (k i) (count_of i all))) (sym reached)
+                ih.on;
           })
       | inr e ↦
-          let past : k p ≤ count_of p qs = is_not_less (count_of p qs) (k p) e in
+          let past : k p ≤ count_of p qs = ltb-false (count_of p qs) (k p) e in
           let stands' : Stands kind start all rs ps k w = record {
             all_is = all';
             watch = stands.watch;
             on = on_made kind start all w.cut (λ i. min (k i) (count_of i qs)) (λ i. min (k i) (count_of i rs))
                 (λ i. elim (same_or_apart i p) [
                   | inl t ↦
-                      let f : min (k i) (count_of i rs) ≡ min (k p) (count_of p rs) = ap (λ (m : ℕ). min (k m) (count_of m rs)) t in
-                      let g : min (k i) (count_of i qs) ≡ min (k p) (count_of p qs) = ap (λ (m : ℕ). min (k m) (count_of m qs)) t in
+                      let f : min (k i) (count_of i rs) ≡ min (k p) (count_of p rs) =
+                      ap (λ (m : ℕ). min (k m) (count_of m rs)) t in
+                      let g : min (k i) (count_of i qs) ≡ min (k p) (count_of p qs) =
+                      ap (λ (m : ℕ). min (k m) (count_of m qs)) t in
                       omega (arith, f, g, own, past)
                   | inr t ↦ ap (min (k i)) (sym (count_of-push_other i p qs (λ u. t (sym u))))
                 ]) stands.on;
           } in
-          let ih = plan_goes kind law until start d all rs ps k w whole begin leads' sound' counts' delays' stands' is heard in
-          subst (λ (t : List Action). Planned kind until start all k t w) (sym (planned_stops n p (count_of p qs) (k p) (plan n k rs ps) e)) ih
+          let ih = plan_goes kind law until start all rs ps k w whole begin leads' sound' counts' delays' stands'
+          heard in
+          subst (λ (t : List Action). Planned kind until start all k t w)
+          (sym (planned_stops n p (count_of p qs) (k p) (plan n k rs ps) e)) ih
     ]
 
 -- consoles that are no further than a peer can tell them are reached
-pub reaches : {C : Type 0} (kind : Steps C) → IsLawful kind → (cut d : Cut C) (until : ℕ) (k : ℕ → ℕ) → IsCable cut → IsSound kind cut
-    → IsReachable kind cut until d k → Reaches kind cut until d
-reaches {C = C} kind law cut d until k cable sound wanted =
+pub reaches_counts : {C : Type 0} (kind : NodeKind C) → IsLawful kind → (cut : Cut C) (until : ℕ) (k : ℕ → ℕ)
+    → IsCable cut → IsSound kind cut → IsReachable kind cut until k → Reaches kind cut until k
+reaches_counts {C = C} kind law cut until k cable sound wanted =
     let all : List ℕ = trace kind cut until in
     let leads = trace_leads kind law cut until cable.some_console cable.some_delay sound in
     let none : after kind cut [] ≡ cut = after_none kind cut in
     let acts : List Action = plan (count cut) k [] all in
-    let is : (i : ℕ) → i < count cut → Same d (moment kind cut all i (k i)) i
-    = λ i below. record { console = (wanted.each i below).console; signals = (wanted.each i below).signals } in
     let stands : Stands kind cut all [] all k (opened kind cut) = record {
       all_is = refl;
       watch = watching_opened kind cut sound;
-      on = on_made kind cut all cut (λ _. 0) (λ i. min (k i) 0) (λ i. omega arith) (on_opened kind law until cut all leads sound);
+      on = on_made kind cut all cut (λ _. 0) (λ i. min (k i) 0) (λ i. omega arith)
+          (on_opened kind law until cut all leads sound);
     } in
-    let planned = plan_goes kind law until cut d all [] all k (opened kind cut) leads sound
-    (subst (λ (e : Cut C). Leads kind until e all) (sym none) leads) (subst (IsSound kind) (sym none) sound) (ap count none) (ap (λ (e : Cut C). e.delay) none)
-    stands is wanted.heard in
-    let w : Watched C = played kind acts (opened kind cut) in
-    let same : (i : ℕ) → i < count cut → Same w.cut d i
-    = λ i below.
-    let s = planned.on.same i below in
-    let at_k : moment kind cut all i (min (k i) (count_of i all)) ≡ moment kind cut all i (k i)
-    = elim (less_or_past (k i) (count_of i all)) [
-      | inl less ↦ let m : min (k i) (count_of i all) ≡ k i = omega arith in ap (moment kind cut all i) m
-      | inr past ↦ moment_all kind all cut i (min (k i) (count_of i all)) (omega arith) ∙ sym (moment_all kind all cut i (k i) past)
-    ] in
-    same_trans w.cut (moment kind cut all i (k i)) d i (same_trans w.cut _ (moment kind cut all i (k i)) i s (same_is _ _ i at_k)) (same_sym d _ i (is i below)) in
+    let planned = plan_goes kind law until cut all [] all k (opened kind cut) leads sound
+    (subst (λ (e : Cut C). Leads kind until e all) (sym none) leads) (subst (IsSound kind) (sym none) sound)
+    (ap count none) (ap (λ (e : Cut C). e.delay) none) stands wanted.heard in
     record {
       actions = acts;
       allowed = planned.allowed;
-      consoles = same_lists w.cut.consoles d.consoles (planned.on.count_is ∙ sym wanted.count_is)
-          (λ i below. (same i (subst (λ (n : ℕ). i < n) planned.on.count_is below)).console);
+      each = λ i below.
+          let most = wanted.within i below in
+          let made : min (k i) (count_of i all) ≡ k i = omega arith in
+          let s = subst (λ (n : ℕ). Same (played kind acts (opened kind cut)).cut (moment kind cut all i n) i) made
+          (planned.on.same i below) in
+          record { within = most; console = s.console; signals = s.signals };
+    }
+
+-- the same of a cut with these consoles
+pub reaches_cut : {C : Type 0} (kind : NodeKind C) → IsLawful kind → (cut d : Cut C) (until : ℕ) (k : ℕ → ℕ)
+    → IsCable cut → IsSound kind cut → IsReachableCut kind cut until d k → ReachesCut kind cut until d
+reaches_cut {C = C} kind law cut d until k cable sound wanted =
+    let all : List ℕ = trace kind cut until in
+    let is : (i : ℕ) → i < count cut → Same d (moment kind cut all i (k i)) i
+    = λ i below. record { console = (wanted.each i below).console; signals = (wanted.each i below).signals } in
+    let found = reaches_counts kind law cut until k cable sound (record {
+      within = λ i below. (wanted.each i below).within;
+      heard = λ i j li lj apart some.
+          let was_is : was_at kind d i ≡ was_at kind (moment kind cut all i (k i)) i =
+          number_same kind.was d.consoles (moment kind cut all i (k i)).consoles i (is i li).console in
+          let clock_is = clock_same kind d (moment kind cut all j (k j)) j (is j lj) in
+          omega (arith, was_is, clock_is, wanted.heard i j li lj apart some);
+    }) in
+    let w : Watched C = played kind found.actions (opened kind cut) in
+    let watch = watching_played kind law cut until found.actions (opened kind cut) (watching_opened kind cut sound)
+    found.allowed in
+    let same : (i : ℕ) → i < count cut → Same w.cut d i
+    = λ i below.
+    let e = found.each i below in
+    same_trans w.cut (moment kind cut all i (k i)) d i (record { console = e.console; signals = e.signals })
+    (same_sym d _ i (is i below)) in
+    record {
+      actions = found.actions;
+      allowed = found.allowed;
+      consoles = same_lists w.cut.consoles d.consoles (watch.count_is ∙ sym wanted.count_is)
+          (λ i below. (same i (subst (λ (n : ℕ). i < n) watch.count_is below)).console);
       signals = λ i below. (same i below).signals;
     }

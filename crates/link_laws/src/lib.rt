@@ -2,10 +2,16 @@
 //! Laws of the global order and of interleavings, over any node. Each function takes nothing and answers nothing: its
 //! contract is its law. The laws stand in `specs/Law.antt`, in the words of the definitions of `link_order`.
 
-ghost use Rattle.link_order.specs.Steps.{kind_of};
-ghost use Rattle.link_laws.specs.Law.{RunsInParts, EqualsGlobalOrder, BringsNothingPast, LetsTheLastStep, KeepsNear, LeavesFewUnread, HasFewLive, ReachesCounts};
+ghost use Rattle.link_order.specs.NodeKind.{kind_of};
+ghost use Rattle.link_laws.specs.Law.{StartsInTime, RunsInParts, EqualsGlobalOrder, BringsNothingPast, LetsTheLastStep};
+ghost use Rattle.link_laws.specs.Law.{KeepsNear, LeavesFewUnread, HasFewLive, ReachesCounts, ReachesCuts};
 
 use link_node::Node;
+
+/// Consoles that all stand at clock 0, with nothing sent, are a sound cut in time.
+pub fn start<N: Node>()
+    ensures { StartsInTime (kind_of N.clock N.was N.next) }
+{}
 
 /// A run may be made in parts: to one clock, and from there to a later one.
 pub fn split<N: Node>()
@@ -37,7 +43,8 @@ pub fn unread<N: Node>()
 {}
 
 /// Consoles that each have made some of their steps of the global order, none of them begun where a peer's present step
-/// could still be heard, are reached by some interleaving.
+/// could still be heard, are reached by some interleaving: by their counts of steps alone, and by a cut that has them.
 pub fn reached<N: Node>()
-    ensures { ReachesCounts (kind_of N.clock N.was N.next) }
+    ensures counts { ReachesCounts (kind_of N.clock N.was N.next) }
+    ensures cuts { ReachesCuts (kind_of N.clock N.was N.next) }
 {}

@@ -1,4 +1,4 @@
-use Rattle.std.specs.Prelude.{ℕ, ◌≡◌, ◌<◌, ◌≤◌, ◌⊎◌, List, IfSome, AllPairs}
+use Rattle.std.specs.Prelude.{ℕ, ◌≡◌, ◌<◌, ◌≤◌, ◌^◌, ◌⊎◌, List, IfSome, AllPairs}
 use Rattle.link_node.specs.declared.signal.Incoming.{Incoming}
 use Rattle.link_node.specs.declared.signal.Signal.{Signal}
 
@@ -19,6 +19,8 @@ Precedes a b = (a.arrival < b.arrival) ⊎ ((a.arrival ≡ b.arrival) × (a.send
 abbrev pub InOrder : List Incoming → Type 0
 InOrder = AllPairs Precedes
 
--- a start, where a signal has one, has a speed of two bits
-abbrev pub HasSpeed : Signal → Type 0
-HasSpeed signal = IfSome signal.start (λ start. start.speed < 4)
+-- the parts of a signal fit their widths: a start's speed 2 bits, its word and a reply's word 32
+abbrev pub FitsWidths : Signal → Type 0
+FitsWidths signal =
+    IfSome signal.start (λ start. (start.speed < 4) × (start.word < 2 ^ 32))
+    × IfSome signal.reply (λ word. word < 2 ^ 32)

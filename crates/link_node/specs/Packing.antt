@@ -37,7 +37,8 @@ reply_word (Some word) = word
 -- the first number: clock in bits 0 to 39, mode in 40 and 41, start in 42, its speed in 43 and 44, reply in 45
 abbrev pub packed_head : Signal → ℕ
 packed_head s =
-    s.clock + mode_number s.mode * 2 ^ 40 + presence s.start * 2 ^ 42 + start_speed s.start * 2 ^ 43 + presence s.reply * 2 ^ 45
+    s.clock + mode_number s.mode * 2 ^ 40 + presence s.start * 2 ^ 42 + start_speed s.start * 2 ^ 43
+    + presence s.reply * 2 ^ 45
 
 -- the second number: the start's word below, the reply's word above
 abbrev pub packed_words : Signal → ℕ
@@ -51,7 +52,8 @@ is_packed head words =
     && (bit head 45 || (field words 32 32 == 0))
 
 abbrev pub packed_start : ℕ → ℕ → Option Start
-packed_start head words = if bit head 42 then Some (record { speed = field head 43 2; word = field words 0 32 }) else None
+packed_start head words =
+    if bit head 42 then Some (record { speed = field head 43 2; word = field words 0 32 }) else None
 
 abbrev pub packed_reply : ℕ → ℕ → Option ℕ
 packed_reply head words = if bit head 45 then Some (field words 32 32) else None
@@ -60,5 +62,10 @@ packed_reply head words = if bit head 45 then Some (field words 32 32) else None
 abbrev pub unpacked : ℕ → ℕ → Option Signal
 unpacked head words =
     if is_packed head words
-    then Some (record { clock = field head 0 40; mode = numbered_mode (field head 40 2); start = packed_start head words; reply = packed_reply head words })
+    then Some (record {
+      clock = field head 0 40;
+      mode = numbered_mode (field head 40 2);
+      start = packed_start head words;
+      reply = packed_reply head words;
+    })
     else None

@@ -10,7 +10,7 @@ pub trait Node {
     ghost use Rattle.std.specs.Prelude.{ℕ, ◌≡◌, ◌+◌, ◌<◌, ◌≤◌, ◌^◌, List, Option, IfSome, All};
     ghost use Rattle.link_node.specs.declared.signal.Incoming.{Incoming};
     ghost use Rattle.link_node.specs.declared.signal.Signal.{Signal};
-    ghost use Rattle.link_node.specs.Due.{IsDue, InOrder, HasSpeed};
+    ghost use Rattle.link_node.specs.Due.{IsDue, InOrder, FitsWidths};
 
     ghost Record: { Type 0 };
 
@@ -55,8 +55,8 @@ pub trait Node {
     // The step's own start is kept.
     ghost moves: { (r : Record) (due : List Incoming) → was (next r due).0 ≡ clock r };
 
-    // A signal bears the clock at which its step began, and a start in it has a speed of two bits.
+    // A signal bears the clock at which its step began, and its parts fit their widths.
     ghost bears: { (r : Record) (due : List Incoming) → IfSome (next r due).1 (λ s. s.clock ≡ clock r) };
 
-    ghost has_speed: { (r : Record) (due : List Incoming) → IfSome (next r due).1 HasSpeed };
+    ghost fits: { (r : Record) (due : List Incoming) → IfSome (next r due).1 FitsWidths };
 }

@@ -2,8 +2,9 @@
 
 ghost use Rattle.std.specs.Prelude.{◌≡◌, ◌+◌, ◌*◌, ◌<◌, ◌≤◌, ◌^◌, ◌↔◌, IfSome, IsSome, IsTrue};
 ghost use Rattle.gba_terms.specs.Bits.{field, bit};
-ghost use Rattle.link_node.specs.Due.{HasSpeed};
-ghost use Rattle.link_node.specs.Packing.{mode_number, numbered_mode, presence, start_speed, start_word, reply_word, packed_head, packed_words, is_packed, unpacked, packed_start, packed_reply};
+ghost use Rattle.link_node.specs.Due.{FitsWidths};
+ghost use Rattle.link_node.specs.Packing.{mode_number, numbered_mode, presence, start_speed, start_word, reply_word};
+ghost use Rattle.link_node.specs.Packing.{packed_head, packed_words, is_packed, unpacked, packed_start, packed_reply};
 
 use crate::signal::{LinkMode, Signal, Start};
 
@@ -51,7 +52,7 @@ fn mode_of_number(number: u64) -> LinkMode
 
 /// What a start adds to the first number.
 fn start_flags(start: Option<Start>) -> u64
-    requires { IfSome start (λ s. s.speed < 4) }
+    requires { IfSome start (λ s. (s.speed < 4) × (s.word < 2 ^ 32)) }
     ensures value { result ≡ presence start * 2 ^ 42 + start_speed start * 2 ^ 43 }
     ensures small { result < 2 ^ 45 }
 {
@@ -90,7 +91,7 @@ fn reply_parts(reply: Option<u32>) -> (u64, u64)
 /// low half and the reply's in its high half. A part that isn't there is 0.
 pub fn pack(s: &Signal) -> (u64, u64)
     requires clock { s.now.clock < 2 ^ 40 }
-    requires speed { HasSpeed s.now }
+    requires widths { FitsWidths s.now }
     ensures head { result.0 ≡ packed_head s.now }
     ensures words { result.1 ≡ packed_words s.now }
     ensures inverse { unpacked result.0 result.1 ≡ Some s.now }
@@ -141,7 +142,7 @@ pub fn unpack(a: u64, b: u64) -> Option<Signal>
     ensures value { result ≡ unpacked a b }
     ensures accepted { IsSome result ↔ IsTrue (is_packed a b) }
     ensures clock { IfSome result (λ s. s.clock < 2 ^ 40) }
-    ensures speed { IfSome result (λ s. HasSpeed s) }
+    ensures widths { IfSome result FitsWidths }
     ensures head { IfSome result (λ s. packed_head s ≡ a) }
     ensures words { IfSome result (λ s. packed_words s ≡ b) }
 {

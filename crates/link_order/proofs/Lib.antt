@@ -1,4 +1,5 @@
 pub mod Numbers
+pub mod Hops
 pub mod Stepping
 pub mod Runs
 pub mod Lists

@@ -1,10 +1,7 @@
 -- Facts about each element, or each pair of elements, of a list: at its head, in its tail, put together.
 use Rattle.std.specs.Prelude.{Bool, true, false, List, [], ◌∷◌, All, AllPairs, filter}
-use Rattle.std.proofs.Common.{zero, suc, ◌≡◌, ◌⊎◌, inl, inr, arith, refl, sym, ap, ◌∙◌}
-
-pub test_cases : (b : Bool) → (b ≡ true) ⊎ (b ≡ false)
-test_cases true = inl refl
-test_cases false = inr refl
+use Rattle.std.proofs.Common.{zero, suc, ◌≡◌, inl, inr, arith, refl, sym, ap, ◌∙◌}
+use Rattle.std.proofs.lemmas.Bool.{cases_Bool}
 
 pub all_nil : {X : Type 0} (P : X → Type 0) → All P []
 all_nil P k d below = absurd (omega arith)
@@ -25,7 +22,8 @@ all_map P Q xs f h k d below = f _ (h k d below)
 pub pairs_nil : {X : Type 0} (R : X → X → Type 0) → AllPairs R []
 pairs_nil R i j d less below = absurd (omega arith)
 
-pub pairs_cons : {X : Type 0} (R : X → X → Type 0) (x : X) (xs : List X) → All (R x) xs → AllPairs R xs → AllPairs R (x ∷ xs)
+pub pairs_cons : {X : Type 0} (R : X → X → Type 0) (x : X) (xs : List X) → All (R x) xs → AllPairs R xs
+    → AllPairs R (x ∷ xs)
 pairs_cons R x xs here rest zero zero d less below = absurd (omega arith)
 pairs_cons R x xs here rest zero (suc j) d less below = here j d (omega arith)
 pairs_cons R x xs here rest (suc i) zero d less below = absurd (omega arith)
@@ -37,7 +35,8 @@ pairs_head R x xs h k d below = h 0 (suc k) d (omega arith) (omega arith)
 pub pairs_tail : {X : Type 0} (R : X → X → Type 0) (x : X) (xs : List X) → AllPairs R (x ∷ xs) → AllPairs R xs
 pairs_tail R x xs h i j d less below = h (suc i) (suc j) d (omega arith) (omega arith)
 
-pub pairs_map : {X : Type 0} (R S : X → X → Type 0) (xs : List X) → ((x y : X) → R x y → S x y) → AllPairs R xs → AllPairs S xs
+pub pairs_map : {X : Type 0} (R S : X → X → Type 0) (xs : List X) → ((x y : X) → R x y → S x y) → AllPairs R xs
+    → AllPairs S xs
 pairs_map R S xs f h i j d less below = f _ _ (h i j d less below)
 
 pub filter_keeps : {X : Type 0} (p : X → Bool) (x : X) (xs : List X) → p x ≡ true → filter p (x ∷ xs) ≡ x ∷ filter p xs
@@ -47,15 +46,18 @@ pub filter_drops : {X : Type 0} (p : X → Bool) (x : X) (xs : List X) → p x �
 filter_drops p x xs e = rw e refl
 
 -- a second filter that lets through no more than the first
-pub filter_twice : {X : Type 0} (p q : X → Bool) → ((x : X) → q x ≡ true → p x ≡ true) → (xs : List X) → filter q (filter p xs) ≡ filter q xs
+pub filter_twice : {X : Type 0} (p q : X → Bool) → ((x : X) → q x ≡ true → p x ≡ true) → (xs : List X)
+    → filter q (filter p xs) ≡ filter q xs
 filter_twice p q sub [] = refl
 filter_twice p q sub (x ∷ xs) =
-    elim (test_cases (p x)) [
-      | inl e ↦ elim (test_cases (q x)) [
-        | inl f ↦ ap (filter q) (filter_keeps p x xs e) ∙ filter_keeps q x (filter p xs) f ∙ ap (λ (t : List _). x ∷ t) (filter_twice p q sub xs) ∙ sym (filter_keeps q x xs f)
-        | inr f ↦ ap (filter q) (filter_keeps p x xs e) ∙ filter_drops q x (filter p xs) f ∙ filter_twice p q sub xs ∙ sym (filter_drops q x xs f)
+    elim (cases_Bool (p x)) [
+      | inl e ↦ elim (cases_Bool (q x)) [
+        | inl f ↦ ap (filter q) (filter_keeps p x xs e) ∙ filter_keeps q x (filter p xs) f
+            ∙ ap (λ (t : List _). x ∷ t) (filter_twice p q sub xs) ∙ sym (filter_keeps q x xs f)
+        | inr f ↦ ap (filter q) (filter_keeps p x xs e) ∙ filter_drops q x (filter p xs) f ∙ filter_twice p q sub xs
+            ∙ sym (filter_drops q x xs f)
       ]
-      | inr e ↦ elim (test_cases (q x)) [
+      | inr e ↦ elim (cases_Bool (q x)) [
         | inl f ↦ let t : true ≡ false = sym (sub x f) ∙ e in cc
         | inr f ↦ ap (filter q) (filter_drops p x xs e) ∙ filter_twice p q sub xs ∙ sym (filter_drops q x xs f)
       ]

@@ -3,36 +3,42 @@ use Rattle.std.specs.Prelude.{Bool, true, List, [], ◌∷◌, length, All, AllP
 use Rattle.std.proofs.Common.{ℕ, suc, ◌≡◌, ◌+◌, ◌*◌, ◌-◌, ◌<◌, ◌≤◌, inl, inr, arith, sym, ap, ◌∙◌, subst, get_or}
 use Rattle.std.proofs.lemmas.Bool.Decides.{nat_tests}
 use Rattle.std.proofs.lemmas.List.Kept.{AllPairs-filter}
+use Rattle.std.proofs.lemmas.Bool.{cases_Bool}
 use Rattle.link_node.specs.declared.signal.Incoming.{Incoming}
 use Rattle.link_node.specs.declared.signal.Signal.{Signal}
 use Rattle.link_order.specs.declared.sent.Sent.{Sent}
-use Rattle.link_order.specs.Steps.{Steps, IsLawful}
+use Rattle.link_order.specs.NodeKind.{NodeKind, IsLawful}
 use Rattle.link_order.specs.Order.{is_before, place_sent, clock_of, sender_of, IsOrdered}
+use Rattle.link_order.specs.Due.{is_due}
 use Rattle.link_order.specs.Cut.{Cut, hop, count, clock_at, was_at, live, is_live, is_awaited, IsSound, IsSoundSignal}
+use Rattle.link_order.specs.Cut.{HasDelaysWithin}
 use Rattle.link_order.specs.GlobalOrder.{least_below, stepped, joined, step_of, due_at}
 use Rattle.link_order.proofs.Numbers.{same_or_apart, least_is_player, least_is_least}
-use Rattle.link_order.proofs.Lists.{test_cases, all_head, all_tail, pairs_head, pairs_tail, filter_twice}
+use Rattle.link_order.proofs.Lists.{all_head, all_tail, pairs_head, pairs_tail, filter_twice}
 use Rattle.link_order.proofs.Places.{Comes, filter-place, filter-place_dropped}
 use Rattle.link_order.proofs.DueOrder.{due_facts, due_filter}
 use Rattle.link_order.proofs.Awaited.{awaits, is_awaited_by, awaited_before}
 use Rattle.link_order.proofs.Stepping.{IsConsole, console_at, after_step, is_stepped, put_cases}
 
 -- live signals alone give the same due signals
-pub due_live : {C : Type 0} (kind : Steps C) (cut : Cut C) (i : ℕ) → i < count cut → due_at kind (live kind cut) i ≡ due_at kind cut i
+pub due_live : {C : Type 0} (kind : NodeKind C) (cut : Cut C) (i : ℕ) → i < count cut
+    → due_at kind (live kind cut) i ≡ due_at kind cut i
 due_live kind cut i below =
-    due_filter (is_live kind cut) (hop cut) cut.sent i (was_at kind cut i) (clock_at kind cut i) (count cut)
+    due_filter (is_live kind cut) (hop cut) cut.sent i (is_due (was_at kind cut i) (clock_at kind cut i)) (count cut)
     (λ one from_player apart is.
     is_awaited_by (hop cut) (was_at kind cut) (count cut) one i below (λ t. apart (sym t))
     (due_facts (was_at kind cut i) (clock_at kind cut i) (one.signal.clock + hop cut one.sender i) is).0)
 
-filter_joined : (p q : Sent → Bool) → ((one : Sent) → q one ≡ true → p one ≡ true) → (i : ℕ) (o : Option Signal) (sent : List Sent) → IsOrdered sent
+filter_joined : (p q : Sent → Bool) → ((one : Sent) → q one ≡ true → p one ≡ true)
+    → (i : ℕ) (o : Option Signal) (sent : List Sent) → IsOrdered sent
     → filter q (joined i o (filter p sent)) ≡ filter q (joined i o sent)
 filter_joined p q sub i None sent ordered = filter_twice p q sub sent
 filter_joined p q sub i (Some s) sent ordered =
     let new : Sent = record { sender = i; signal = s } in
-    elim (test_cases (q new)) [
+    elim (cases_Bool (q new)) [
       | inl e ↦
-          filter-place clock_of sender_of q new (filter p sent) (AllPairs-filter (Comes clock_of sender_of) p sent ordered) e
+          filter-place clock_of sender_of q new (filter p sent)
+          (AllPairs-filter (Comes clock_of sender_of) p sent ordered) e
           ∙ ap (place_sent new) (filter_twice p q sub sent)
           ∙ sym (filter-place clock_of sender_of q new sent ordered e)
       | inr e ↦
@@ -42,12 +48,14 @@ filter_joined p q sub i (Some s) sent ordered =
     ]
 
 -- a step from the live signals alone leaves the same live signals
-pub live_step : {C : Type 0} (kind : Steps C) → IsLawful kind → (cut : Cut C) (i : ℕ) → i < count cut → IsSound kind cut
+pub live_step : {C : Type 0} (kind : NodeKind C) → IsLawful kind → (cut : Cut C) (i : ℕ) → i < count cut
+    → IsSound kind cut
     → live kind (step_of kind (live kind cut) i) ≡ live kind (step_of kind cut i)
 live_step {C = C} kind law cut i below sound =
     let at = console_at kind cut i below in
     let x : C = at.0 in
-    let at_live : IsConsole kind (live kind cut) i x = record { stands = at.1.stands; clock_is = at.1.clock_is; was_is = at.1.was_is } in
+    let at_live : IsConsole kind (live kind cut) i x =
+    record { stands = at.1.stands; clock_is = at.1.clock_is; was_is = at.1.was_is } in
     let signals : List Incoming = due_at kind cut i in
     let s = is_stepped kind law cut i x signals below at.1 in
     let l = is_stepped kind law (live kind cut) i x signals below at_live in
@@ -80,7 +88,8 @@ rising_length {X = X} f low high (x ∷ xs) rising above below room =
     omega arith
 
 -- a live signal of a sound cut was sent near the start of the last step that began first
-pub live_near : {C : Type 0} (kind : Steps C) (cut : Cut C) (most : ℕ) → 0 < count cut → ((a b : ℕ) → hop cut a b ≤ most)
+pub live_near : {C : Type 0} (kind : NodeKind C) (cut : Cut C) (most : ℕ) → 0 < count cut
+    → HasDelaysWithin most cut
     → IsSound kind cut → (one : Sent) → IsSoundSignal kind cut one → is_live kind cut one ≡ true
     → (was_at kind cut (least_below (was_at kind cut) (count cut)) < one.signal.clock + most)
     × (one.signal.clock < was_at kind cut (least_below (was_at kind cut) (count cut)) + 512 + most)
@@ -89,17 +98,18 @@ live_near kind cut most some few sound one good awaited =
     let below : m < count cut = least_is_player (was_at kind cut) (count cut) some in
     let a = awaits (hop cut) (was_at kind cut) (count cut) one awaited in
     let first = least_is_least (was_at kind cut) (count cut) a.player a.below in (
-      omega (arith, first, a.hears, few one.sender a.player),
+      omega (arith, first, a.hears, few one.sender a.player good.from_player a.below (λ t. a.apart (sym t))),
       elim (same_or_apart m one.sender) [
         | inl e ↦ let f = ap (clock_at kind cut) e in omega (arith, good.sent_before, f, sound.short m below)
-        | inr e ↦ omega (arith, good.allowed m below e, sound.short m below, few m one.sender)
+        | inr e ↦ omega (arith, good.allowed m below e, sound.short m below, few m one.sender below good.from_player e)
       ],
     )
 
 -- all live signals of a sound cut together
-pub few_live : {C : Type 0} (kind : Steps C) (cut : Cut C) (most : ℕ) → 0 < count cut → count cut ≤ 4 → 0 < most → ((a b : ℕ) → hop cut a b ≤ most)
+pub few_live : {C : Type 0} (kind : NodeKind C) (cut : Cut C) (most : ℕ) → 0 < count cut → count cut ≤ 4
+    → HasDelaysWithin most cut
     → IsSound kind cut → All (λ one. is_live kind cut one ≡ true) cut.sent → length cut.sent ≤ 4 * (2 * most + 511)
-few_live kind cut most some four room few sound awaited =
+few_live kind cut most some four few sound awaited =
     let w : ℕ = was_at kind cut (least_below (was_at kind cut) (count cut)) in
     let low : ℕ = 4 * (w + 1 - most) in
     let high : ℕ = 4 * (w + 512 + most) in
@@ -111,7 +121,8 @@ few_live kind cut most some four room few sound awaited =
     (omega (arith, four, (sound.signals j d below).from_player)) (sound.ordered i j d less below) in
     let all = rising_length (λ (a : Sent). 4 * a.signal.clock + a.sender) low high cut.sent rising
     (λ k d below. let h = near k d below in omega (arith, h.0))
-    (λ k d below. let h = near k d below in let s = (sound.signals k d below).from_player in omega (arith, h.1, s, four))
+    (λ k d below. let h = near k d below in let s = (sound.signals k d below).from_player in
+    omega (arith, h.1, s, four))
     (omega arith) in
     omega arith
   where

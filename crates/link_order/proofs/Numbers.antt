@@ -37,7 +37,8 @@ least_is_least clock (suc n) i below =
     ]
 
 -- the cycles left without player i
-pub left_put_past : (clock : ℕ → ℕ) (until i y n : ℕ) → n ≤ i → left_below (put i y clock) until n ≡ left_below clock until n
+pub left_put_past : (clock : ℕ → ℕ) (until i y n : ℕ) → n ≤ i
+    → left_below (put i y clock) until n ≡ left_below clock until n
 left_put_past clock until i y zero past = refl
 left_put_past clock until i y (suc n) past =
     let e = put_other i n y clock (omega arith) in

@@ -6,9 +6,9 @@ use Rattle.std.proofs.lemmas.List.Kept.{AllPairs-filter}
 use Rattle.link_node.specs.declared.signal.Incoming.{Incoming}
 use Rattle.link_node.specs.declared.signal.Signal.{Signal}
 use Rattle.link_order.specs.declared.sent.Sent.{Sent}
-use Rattle.link_order.specs.Steps.{Steps, IsLawful}
+use Rattle.link_order.specs.NodeKind.{NodeKind, IsLawful}
 use Rattle.link_order.specs.Order.{clock_of, sender_of, IsOrdered}
-use Rattle.link_order.specs.Cut.{Cut, hop, count, clock_at, was_at, live, is_live, IsSound, IsSoundSignal}
+use Rattle.link_order.specs.Cut.{Cut, hop, count, clock_at, was_at, live, is_live, HasDelays, IsSound, IsSoundSignal}
 use Rattle.link_order.specs.GlobalOrder.{least, joined, step, due_at}
 use Rattle.link_order.proofs.Numbers.{same_or_apart, least_is_player, least_is_least}
 use Rattle.link_order.proofs.Lists.{all_map}
@@ -18,10 +18,12 @@ use Rattle.link_order.proofs.Stepping.{IsConsole, console_at, after_step, is_ste
 pub joined_all : (P : Sent → Type 0) (i : ℕ) (o : Option Signal) (sent : List Sent)
     → IfSome o (λ s. P (record { sender = i; signal = s })) → All P sent → All P (joined i o sent)
 joined_all P i None sent here rest = rest
-joined_all P i (Some s) sent here rest = All-place clock_of sender_of P (record { sender = i; signal = s }) sent here rest
+joined_all P i (Some s) sent here rest =
+    All-place clock_of sender_of P (record { sender = i; signal = s }) sent here rest
 
 joined_ordered : (i clock : ℕ) (o : Option Signal) (sent : List Sent) → IfSome o (λ s. s.clock ≡ clock)
-    → All (λ (one : Sent). one.sender ≡ i → one.signal.clock < clock) sent → IsOrdered sent → IsOrdered (joined i o sent)
+    → All (λ (one : Sent). one.sender ≡ i → one.signal.clock < clock) sent → IsOrdered sent
+    → IsOrdered (joined i o sent)
 joined_ordered i clock None sent bears own ordered = ordered
 joined_ordered i clock (Some s) sent bears own ordered =
     let new : Sent = record { sender = i; signal = s } in
@@ -38,7 +40,8 @@ some_map None f h = h
 some_map (Some s) f h = f s h
 
 -- a step that begins before a peer's present step can be heard, with any signals
-pub sound_after_step : {C : Type 0} (kind : Steps C) → IsLawful kind → (cut : Cut C) (i : ℕ) (x : C) (signals : List Incoming)
+pub sound_after_step : {C : Type 0} (kind : NodeKind C) → IsLawful kind
+    → (cut : Cut C) (i : ℕ) (x : C) (signals : List Incoming)
     → i < count cut → IsConsole kind cut i x
     → ((j : ℕ) → j < count cut → j ≢ i → clock_at kind cut i < clock_at kind cut j + hop cut j i)
     → IsSound kind cut → IsSound kind (after_step kind cut i x signals)
@@ -73,7 +76,8 @@ sound_after_step {C = C} kind law cut i x signals below at ahead sound =
     record {
       near = λ a b la lb apart. elim (clock_of_d a) [
         | inl e ↦ let f = ahead b (down b lb) (λ t. apart (e.0 ∙ sym t)) in
-            let h : clock_at kind cut b + hop cut b i ≡ clock_at kind cut b + hop cut b a = ap (λ (m : ℕ). clock_at kind cut b + hop cut b m) (sym e.0) in
+            let h : clock_at kind cut b + hop cut b i ≡ clock_at kind cut b + hop cut b a =
+            ap (λ (m : ℕ). clock_at kind cut b + hop cut b m) (sym e.0) in
             omega (arith, e.1, f, later b)
         | inr e ↦ omega (arith, e.1, later b, sound.near a b (down a la) (down b lb) apart)
       ];
@@ -83,7 +87,11 @@ sound_after_step {C = C} kind law cut i x signals below at ahead sound =
       ];
       short = λ k less. elim (was_of_d k) [
         | inl e ↦ elim (clock_of_d k) [ inl f ↦ omega (arith, e.1, f.1) | inr f ↦ absurd (f.0 e.0) ]
-        | inr e ↦ elim (clock_of_d k) [ inl f ↦ absurd (e.0 f.0) | inr f ↦ omega (arith, e.1, f.1, sound.short k (down k less)) ]
+        | inr e ↦ elim (clock_of_d k) [
+          | inl f ↦ absurd (e.0 f.0)
+          | inr f ↦
+              omega (arith, e.1, f.1, sound.short k (down k less))
+        ]
       ];
       signals = joined_all (IsSoundSignal kind d) i (kind.next x signals).1 cut.sent
           (some_map (kind.next x signals).1 new (law.bears x signals))
@@ -95,7 +103,7 @@ sound_after_step {C = C} kind law cut i x signals below at ahead sound =
     }
 
 -- a cut with its live signals alone is sound too
-pub sound_live : {C : Type 0} (kind : Steps C) (cut : Cut C) → IsSound kind cut → IsSound kind (live kind cut)
+pub sound_live : {C : Type 0} (kind : NodeKind C) (cut : Cut C) → IsSound kind cut → IsSound kind (live kind cut)
 sound_live kind cut sound = record {
   near = sound.near;
   begun = sound.begun;
@@ -107,12 +115,18 @@ sound_live kind cut sound = record {
 }
 
 -- the least console may step
-pub least_ahead : {C : Type 0} (kind : Steps C) (cut : Cut C) → ((a b : ℕ) → 0 < hop cut a b)
-    → (j : ℕ) → j < count cut → clock_at kind cut (least kind cut) < clock_at kind cut j + hop cut j (least kind cut)
-least_ahead kind cut some j below =
-    omega (arith, least_is_least (clock_at kind cut) (count cut) j below, some j (least kind cut))
+pub least_ahead : {C : Type 0} (kind : NodeKind C) (cut : Cut C) → 0 < count cut → HasDelays cut
+    → (j : ℕ) → j < count cut → j ≢ least kind cut
+    → clock_at kind cut (least kind cut) < clock_at kind cut j + hop cut j (least kind cut)
+least_ahead kind cut some later j below apart =
+    let own = least_is_player (clock_at kind cut) (count cut) some in
+    omega (
+      arith,
+      least_is_least (clock_at kind cut) (count cut) j below,
+      later j (least kind cut) below own apart,
+    )
 
-pub sound_step : {C : Type 0} (kind : Steps C) → IsLawful kind → (cut : Cut C) → 0 < count cut → ((a b : ℕ) → 0 < hop cut a b)
+pub sound_step : {C : Type 0} (kind : NodeKind C) → IsLawful kind → (cut : Cut C) → 0 < count cut → HasDelays cut
     → IsSound kind cut → IsSound kind (step kind cut)
 sound_step kind law cut some later sound =
     let i : ℕ = least kind cut in
@@ -120,4 +134,4 @@ sound_step kind law cut some later sound =
     let at = console_at kind cut i below in
     let s = is_stepped kind law cut i at.0 (due_at kind cut i) below at.1 in
     subst (IsSound kind) (sym s.cut_is)
-    (sound_after_step kind law cut i at.0 (due_at kind cut i) below at.1 (λ j less apart. least_ahead kind cut later j less) sound)
+    (sound_after_step kind law cut i at.0 (due_at kind cut i) below at.1 (least_ahead kind cut some later) sound)

@@ -4,24 +4,26 @@ use Rattle.std.proofs.Common.{ℕ, zero, suc, ◌≡◌, ◌≢◌, ◌<◌, ◌
 use Rattle.std.proofs.lemmas.List.{get_or-set_same, get_or-set_other, map-set, length-map}
 use Rattle.std.proofs.Math.ListN.{length-set}
 use Rattle.link_node.specs.declared.signal.Incoming.{Incoming}
-use Rattle.link_order.specs.Steps.{Steps, IsLawful}
-use Rattle.link_order.specs.Cut.{Cut, hop, count, clock_at, was_at}
+use Rattle.link_order.specs.NodeKind.{NodeKind, IsLawful}
+use Rattle.link_order.specs.Cut.{Cut, count, clock_at, was_at}
 use Rattle.link_order.specs.GlobalOrder.{stepped, stepped_from, joined}
 use Rattle.link_order.proofs.Numbers.{put, put_same, put_other, same_or_apart}
 
 -- the console of a player below the count, with its clocks
-pub record IsConsole {C : Type 0} (kind : Steps C) (cut : Cut C) (i : ℕ) (x : C) : Type 0 where
+pub record IsConsole {C : Type 0} (kind : NodeKind C) (cut : Cut C) (i : ℕ) (x : C) : Type 0 where
   pub stands : slice_get cut.consoles i ≡ Some x
   pub clock_is : clock_at kind cut i ≡ kind.clock x
   pub was_is : was_at kind cut i ≡ kind.was x
 
-found : {C : Type 0} (kind : Steps C) (xs : List C) (i : ℕ) → i < length xs
-    → (x : C) × (slice_get xs i ≡ Some x) × (slice_index (map kind.clock xs) i ≡ kind.clock x) × (slice_index (map kind.was xs) i ≡ kind.was x)
+found : {C : Type 0} (kind : NodeKind C) (xs : List C) (i : ℕ) → i < length xs
+    → (x : C) × (slice_get xs i ≡ Some x) × (slice_index (map kind.clock xs) i ≡ kind.clock x)
+    × (slice_index (map kind.was xs) i ≡ kind.was x)
 found kind [] i below = absurd (omega arith)
 found kind (x ∷ xs) zero below = (x, refl, refl, refl)
 found kind (x ∷ xs) (suc i) below = found kind xs i (omega arith)
 
-pub console_at : {C : Type 0} (kind : Steps C) (cut : Cut C) (i : ℕ) → i < count cut → (x : C) × IsConsole kind cut i x
+pub console_at : {C : Type 0} (kind : NodeKind C) (cut : Cut C) (i : ℕ) → i < count cut
+    → (x : C) × IsConsole kind cut i x
 console_at kind cut i below =
     let f = found kind cut.consoles i below in
     (f.0, record { stands = f.1; clock_is = f.2; was_is = f.3 })
@@ -33,14 +35,8 @@ get_or-put xs i y k below =
       | inr apart ↦ get_or-set_other xs i k y 0 apart ∙ sym (put_other i k y (λ j. get_or xs j 0) apart)
     ]
 
--- the delays go by the cut's delay alone. No other proof knows what `hop` looks at
-pub hop_same : {C : Type 0} (d e : Cut C) → d.delay ≡ e.delay → hop d ≡ hop e
-hop_same d e same =
-    let make : ℕ → ℕ → ℕ → ℕ = λ n j i. n in
-    ap make same
-
 -- the cut after console x of player i has made a step
-abbrev pub after_step : {C : Type 0} → Steps C → Cut C → ℕ → C → List Incoming → Cut C
+abbrev pub after_step : {C : Type 0} → NodeKind C → Cut C → ℕ → C → List Incoming → Cut C
 after_step kind cut i x signals = record {
   consoles = slice_set cut.consoles i (kind.next x signals).0;
   delay = cut.delay;
@@ -48,17 +44,21 @@ after_step kind cut i x signals = record {
 }
 
 -- a step of player i, seen by the clocks of all
-pub record IsStepped {C : Type 0} (kind : Steps C) (cut : Cut C) (i : ℕ) (x : C) (signals : List Incoming) : Type 0 where
-  pub cut_is : stepped kind cut i signals ≡ after_step kind cut i x signals
-  pub count_is : count (after_step kind cut i x signals) ≡ count cut
-  pub clocks : clock_at kind (after_step kind cut i x signals) ≡ put i (kind.clock (kind.next x signals).0) (clock_at kind cut)
-  pub wases : was_at kind (after_step kind cut i x signals) ≡ put i (kind.clock x) (was_at kind cut)
+pub record IsStepped {C : Type 0} (kind : NodeKind C) (cut : Cut C) (i : ℕ) (x : C) (signals : List Incoming) : Type 0
+  where
+    pub cut_is : stepped kind cut i signals ≡ after_step kind cut i x signals
+    pub count_is : count (after_step kind cut i x signals) ≡ count cut
+    pub clocks : clock_at kind (after_step kind cut i x signals)
+        ≡ put i (kind.clock (kind.next x signals).0) (clock_at kind cut)
+    pub wases : was_at kind (after_step kind cut i x signals) ≡ put i (kind.clock x) (was_at kind cut)
 
-pub is_stepped : {C : Type 0} (kind : Steps C) → IsLawful kind → (cut : Cut C) (i : ℕ) (x : C) (signals : List Incoming)
+pub is_stepped : {C : Type 0} (kind : NodeKind C) → IsLawful kind
+    → (cut : Cut C) (i : ℕ) (x : C) (signals : List Incoming)
     → i < count cut → IsConsole kind cut i x → IsStepped kind cut i x signals
 is_stepped {C = C} kind law cut i x signals below at =
     let y : C = (kind.next x signals).0 in
-    let clocks : (k : ℕ) → get_or (map kind.clock (set cut.consoles i y)) k 0 ≡ put i (kind.clock y) (clock_at kind cut) k
+    let clocks : (k : ℕ) → get_or (map kind.clock (set cut.consoles i y)) k 0
+    ≡ put i (kind.clock y) (clock_at kind cut) k
     = λ k. rw map-set (get_or-put (map kind.clock cut.consoles) i (kind.clock y) k (rw length-map below)) in
     let wases : (k : ℕ) → get_or (map kind.was (set cut.consoles i y)) k 0 ≡ put i (kind.was y) (was_at kind cut) k
     = λ k. rw map-set (get_or-put (map kind.was cut.consoles) i (kind.was y) k (rw length-map below)) in

@@ -1,9 +1,10 @@
-use Rattle.std.specs.Prelude.{ℕ, ◌+◌, ◌-◌, nat_lt, if◌then◌else◌, List, [], ◌∷◌, Option, None, Some, slice_get, slice_set}
+use Rattle.std.specs.Prelude.{ℕ, ◌+◌, ◌-◌, nat_lt, if◌then◌else◌, List, [], ◌∷◌, Option, None, Some, slice_get}
+use Rattle.std.specs.Prelude.{slice_set}
 use Rattle.std.proofs.Common.{zero, suc}
 use Rattle.link_node.specs.declared.signal.Incoming.{Incoming}
 use Rattle.link_node.specs.declared.signal.Signal.{Signal}
 use Rattle.link_order.specs.declared.sent.Sent.{Sent}
-use Rattle.link_order.specs.Steps.{Steps}
+use Rattle.link_order.specs.NodeKind.{NodeKind}
 use Rattle.link_order.specs.Order.{place_sent, from}
 use Rattle.link_order.specs.Due.{due}
 use Rattle.link_order.specs.Cut.{Cut, hop, count, clock_at, was_at}
@@ -16,11 +17,11 @@ least_below clock zero = 0
 least_below clock (suc i) =
     if nat_lt (clock i) (clock (least_below clock i)) then i else least_below clock i
 
-abbrev pub least : {C : Type 0} → Steps C → Cut C → ℕ
+abbrev pub least : {C : Type 0} → NodeKind C → Cut C → ℕ
 least kind cut = least_below (clock_at kind cut) (count cut)
 
 -- what the next step of player i takes, of all that was sent
-abbrev pub due_at : {C : Type 0} → Steps C → Cut C → ℕ → List Incoming
+abbrev pub due_at : {C : Type 0} → NodeKind C → Cut C → ℕ → List Incoming
 due_at kind cut i = due (hop cut) (λ j. from j cut.sent) i (was_at kind cut i) (clock_at kind cut i) (count cut)
 
 -- a step's signal joins those that were sent
@@ -29,7 +30,7 @@ joined player None sent = sent
 joined player (Some signal) sent = place_sent (record { sender = player; signal = signal }) sent
 
 -- the cut after player i's console has made a step with these due signals. With no such player nothing happens
-abbrev pub stepped_from : {C : Type 0} → Steps C → Cut C → ℕ → List Incoming → Option C → Cut C
+abbrev pub stepped_from : {C : Type 0} → NodeKind C → Cut C → ℕ → List Incoming → Option C → Cut C
 stepped_from kind cut i signals None = cut
 stepped_from kind cut i signals (Some x) = record {
   consoles = slice_set cut.consoles i (kind.next x signals).0;
@@ -37,15 +38,15 @@ stepped_from kind cut i signals (Some x) = record {
   sent = joined i (kind.next x signals).1 cut.sent;
 }
 
-abbrev pub stepped : {C : Type 0} → Steps C → Cut C → ℕ → List Incoming → Cut C
+abbrev pub stepped : {C : Type 0} → NodeKind C → Cut C → ℕ → List Incoming → Cut C
 stepped kind cut i signals = stepped_from kind cut i signals (slice_get cut.consoles i)
 
 -- the cut after player i's step with what is due
-abbrev pub step_of : {C : Type 0} → Steps C → Cut C → ℕ → Cut C
+abbrev pub step_of : {C : Type 0} → NodeKind C → Cut C → ℕ → Cut C
 step_of kind cut i = stepped kind cut i (due_at kind cut i)
 
 -- one step of the global order
-abbrev pub step : {C : Type 0} → Steps C → Cut C → Cut C
+abbrev pub step : {C : Type 0} → NodeKind C → Cut C → Cut C
 step kind cut = step_of kind cut (least kind cut)
 
 -- the cycles that the consoles below `count` have left to `until`, all together
@@ -53,26 +54,27 @@ abbrev pub left_below : (ℕ → ℕ) → ℕ → ℕ → ℕ
 left_below clock until zero = 0
 left_below clock until (suc i) = (until - clock i) + left_below clock until i
 
-abbrev pub left : {C : Type 0} → Steps C → Cut C → ℕ → ℕ
+abbrev pub left : {C : Type 0} → NodeKind C → Cut C → ℕ → ℕ
 left kind cut until = left_below (clock_at kind cut) until (count cut)
 
 -- the players that step, in turn, while the least clock is below `until`; at most so many
-unfoldable pub trace_of : {C : Type 0} → Steps C → ℕ → Cut C → ℕ → List ℕ
+unfoldable pub trace_of : {C : Type 0} → NodeKind C → ℕ → Cut C → ℕ → List ℕ
 trace_of kind zero cut until = []
 trace_of kind (suc most) cut until =
     if nat_lt (clock_at kind cut (least kind cut)) until
     then least kind cut ∷ trace_of kind most (step kind cut) until
     else []
 
--- the global order's steps while the least clock is below `until`. Each step leaves fewer cycles, so that is all of them
-abbrev pub trace : {C : Type 0} → Steps C → Cut C → ℕ → List ℕ
+-- the global order's steps while the least clock is below `until`. Each step leaves fewer cycles, so that
+-- is all of them
+abbrev pub trace : {C : Type 0} → NodeKind C → Cut C → ℕ → List ℕ
 trace kind cut until = trace_of kind (left kind cut until) cut until
 
 -- the cut after these players have stepped in turn, each with what is due
-unfoldable pub after : {C : Type 0} → Steps C → Cut C → List ℕ → Cut C
+unfoldable pub after : {C : Type 0} → NodeKind C → Cut C → List ℕ → Cut C
 after kind cut [] = cut
 after kind cut (i ∷ rest) = after kind (step_of kind cut i) rest
 
 -- the cut after the global order's steps to `until`
-abbrev pub run : {C : Type 0} → Steps C → Cut C → ℕ → Cut C
+abbrev pub run : {C : Type 0} → NodeKind C → Cut C → ℕ → Cut C
 run kind cut until = after kind cut (trace kind cut until)

@@ -2,7 +2,7 @@ use Rattle.std.specs.Prelude.{ℕ, ◌≢◌, ◌+◌, ◌<◌, ◌&&◌, ◌==�
 use Rattle.std.proofs.Common.{zero, suc}
 use Rattle.link_node.specs.declared.signal.Incoming.{Incoming}
 use Rattle.link_node.specs.declared.signal.Signal.{Signal}
-use Rattle.link_order.specs.Steps.{Steps}
+use Rattle.link_order.specs.NodeKind.{NodeKind}
 use Rattle.link_order.specs.Order.{from}
 use Rattle.link_order.specs.Due.{due}
 use Rattle.link_order.specs.Cut.{Cut, hop, count, clock_at, was_at}
@@ -10,14 +10,15 @@ use Rattle.link_order.specs.GlobalOrder.{stepped, step_of}
 
 -- this project's profile: consoles that step by what each has seen of the others
 
--- the consoles with all that was sent, and what console i has seen of console j: a clock, and the signals sent till then
+-- the consoles with all that was sent, and what console i has seen of console j: a clock, and the
+-- signals sent till then
 pub record Watched (C : Type 0) : Type 0 where
   pub cut : Cut C
   pub seen : ℕ → ℕ → ℕ
   pub got : ℕ → ℕ → List Signal
 
 -- at first each console has seen the cut's clocks and signals
-abbrev pub opened : {C : Type 0} → Steps C → Cut C → Watched C
+abbrev pub opened : {C : Type 0} → NodeKind C → Cut C → Watched C
 opened kind cut = record { cut = cut; seen = λ i j. clock_at kind cut j; got = λ i j. from j cut.sent }
 
 -- console i looks at console j, or console i steps
@@ -30,11 +31,11 @@ abbrev pub changed : {A : Type 0} → ℕ → ℕ → A → (ℕ → ℕ → A) 
 changed i j y f a b = if (a == i) && (b == j) then y else f a b
 
 -- what a step of console i takes, of what it has seen
-abbrev pub due_seen : {C : Type 0} → Steps C → Watched C → ℕ → List Incoming
+abbrev pub due_seen : {C : Type 0} → NodeKind C → Watched C → ℕ → List Incoming
 due_seen kind w i = due (hop w.cut) (w.got i) i (was_at kind w.cut i) (clock_at kind w.cut i) (count w.cut)
 
 -- what an action makes: a look sees the present clock and all that was sent till then, a step goes by what was seen
-abbrev pub happens : {C : Type 0} → Steps C → Action → Watched C → Watched C
+abbrev pub happens : {C : Type 0} → NodeKind C → Action → Watched C → Watched C
 happens kind (Look i j) w = record {
   cut = w.cut;
   seen = changed i j (clock_at kind w.cut j) w.seen;
@@ -42,23 +43,28 @@ happens kind (Look i j) w = record {
 }
 happens kind (Step i) w = record { cut = stepped kind w.cut i (due_seen kind w i); seen = w.seen; got = w.got }
 
--- a console may step while its clock is below `until`, and below each clock that it has seen, plus the delay from there
-pub record MayStep {C : Type 0} (kind : Steps C) (until : ℕ) (w : Watched C) (i : ℕ) : Type 0 where
-  pub player : i < count w.cut
-  pub early : clock_at kind w.cut i < until
-  pub ahead : (j : ℕ) → j < count w.cut → j ≢ i → clock_at kind w.cut i < w.seen i j + hop w.cut j i
+-- console i of so many may step while its clock is below `until`, and below each peer's clock that it has seen, plus
+-- the delay from there
+pub record MayStep (players i clock until : ℕ) (seen : ℕ → ℕ) (between : ℕ → ℕ → ℕ) : Type 0 where
+  pub player : i < players
+  pub early : clock < until
+  pub ahead : (j : ℕ) → j < players → j ≢ i → clock < seen j + between j i
 
-abbrev pub May : {C : Type 0} → Steps C → ℕ → Watched C → Action → Type 0
+-- the same of a console by what it has seen here
+abbrev pub MayStepHere : {C : Type 0} → NodeKind C → ℕ → Watched C → ℕ → Type 0
+MayStepHere kind until w i = MayStep (count w.cut) i (clock_at kind w.cut i) until (w.seen i) (hop w.cut)
+
+abbrev pub May : {C : Type 0} → NodeKind C → ℕ → Watched C → Action → Type 0
 May kind until w (Look i j) = Unit {0}
-May kind until w (Step i) = MayStep kind until w i
+May kind until w (Step i) = MayStepHere kind until w i
 
 -- an interleaving: each step is allowed when it comes
-abbrev pub IsInterleaving : {C : Type 0} → Steps C → ℕ → List Action → Watched C → Type 0
+abbrev pub IsInterleaving : {C : Type 0} → NodeKind C → ℕ → List Action → Watched C → Type 0
 IsInterleaving kind until [] w = Unit {0}
 IsInterleaving kind until (act ∷ rest) w = May kind until w act × IsInterleaving kind until rest (happens kind act w)
 
 -- what the actions make, one after another
-abbrev pub played : {C : Type 0} → Steps C → List Action → Watched C → Watched C
+abbrev pub played : {C : Type 0} → NodeKind C → List Action → Watched C → Watched C
 played kind [] w = w
 played kind (act ∷ rest) w = played kind rest (happens kind act w)
 
@@ -74,7 +80,7 @@ count_of i [] = 0
 count_of i (p ∷ rest) = if p == i then 1 + count_of i rest else count_of i rest
 
 -- the cut at which console i of these steps has made k of its own and is about to make the next, or has made all
-abbrev pub moment : {C : Type 0} → Steps C → Cut C → List ℕ → ℕ → ℕ → Cut C
+abbrev pub moment : {C : Type 0} → NodeKind C → Cut C → List ℕ → ℕ → ℕ → Cut C
 moment kind cut [] i k = cut
 moment kind cut (p ∷ rest) i zero = if p == i then cut else moment kind (step_of kind cut p) rest i zero
 moment kind cut (p ∷ rest) i (suc k) =

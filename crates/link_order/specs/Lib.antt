@@ -1,6 +1,7 @@
-pub mod Steps
+pub mod NodeKind
 pub mod Order
 pub mod Due
 pub mod Cut
 pub mod GlobalOrder
 pub mod Interleaving
+pub mod Way

@@ -1,4 +1,6 @@
-use Rattle.std.specs.Prelude.{ℕ, Bool, false, ◌≡◌, ◌&&◌, ◌||◌, ◌==◌, nat_lt, if◌then◌else◌, List, [], ◌∷◌, IsTrue, AllPairs}
+use Rattle.std.specs.Prelude.{ℕ, Bool, false, ◌≡◌, ◌⊎◌, Contains, ◌&&◌, ◌||◌, ◌==◌, nat_lt, if◌then◌else◌, List, []}
+use Rattle.std.specs.Prelude.{◌∷◌, IsTrue}
+use Rattle.std.specs.Prelude.{AllPairs}
 use Rattle.link_node.specs.declared.signal.Signal.{Signal}
 use Rattle.link_order.specs.declared.sent.Sent.{Sent}
 
@@ -30,6 +32,11 @@ IsOrdered sent = AllPairs (λ a b. IsTrue (is_before clock_of sender_of a b)) se
 -- in that order, where some may be of one sender with one clock
 abbrev pub IsSorted : List Sent → Type 0
 IsSorted sent = AllPairs (λ a b. is_before clock_of sender_of b a ≡ false) sent
+
+-- a signal given to a list of sent signals: it was there already and nothing changed, or it is new and in its place
+abbrev pub IsAdded : Sent → List Sent → List Sent → Type 0
+IsAdded one old new =
+    ((new ≡ old) × Contains old one) ⊎ ((new ≡ place_sent one old) × (Contains old one → ⊥))
 
 -- the signals of one player, in the same order
 abbrev pub from : ℕ → List Sent → List Signal

@@ -1,9 +1,10 @@
-use Rattle.std.specs.Prelude.{ℕ, Bool, true, false, ◌≡◌, ◌+◌, ◌*◌, ◌/◌, ◌%◌, ◌^◌, ◌<◌, ◌≤◌, ◌==◌, if◌then◌else◌, List, [], ◌∷◌, Option, None, Some, IfSome, refl}
+use Rattle.std.specs.Prelude.{ℕ, Bool, true, false, ◌≡◌, ◌+◌, ◌*◌, ◌/◌, ◌%◌, ◌^◌, ◌<◌, ◌≤◌, ◌==◌, if◌then◌else◌, List}
+use Rattle.std.specs.Prelude.{[], ◌∷◌, Option, None, Some, IfSome, refl}
 use Rattle.std.proofs.Common.{arith}
 use Rattle.link_node.specs.declared.signal.Incoming.{Incoming}
 use Rattle.link_node.specs.declared.signal.LinkMode.TheVariants.{Multi}
 use Rattle.link_node.specs.declared.signal.Signal.{Signal}
-use Rattle.link_node.specs.Due.{HasSpeed}
+use Rattle.link_node.specs.Due.{FitsWidths}
 
 -- a node for tests: a number that mixes into itself each signal that it takes
 
@@ -27,7 +28,13 @@ cycles state = 1 + state / 2 ^ 16 % 300
 abbrev pub told : ℕ → ℕ → Option Signal
 told state clock =
     if state / 2 ^ 32 % 4 == 0
-    then Some (record { clock = clock; mode = Multi; start = Some (record { speed = state / 2 ^ 40 % 4; word = state % 2 ^ 32 }); reply = None })
+    then Some (record {
+      clock = clock;
+      mode = Multi;
+      start =
+          Some (record { speed = state / 2 ^ 40 % 4; word = state % 2 ^ 32 });
+      reply = None;
+    })
     else None
 
 abbrev pub after_state : Mixed → ℕ → Mixed
@@ -42,19 +49,20 @@ mixed_rises r due = omega arith
 pub mixed_short : (r : Mixed) (due : List Incoming) → (mixed_next r due).0.clock ≤ r.clock + 512
 mixed_short r due = omega arith
 
-told_bears : (b : Bool) (s : Signal) (clock : ℕ) → s.clock ≡ clock → IfSome (if b then Some s else None) (λ t. t.clock ≡ clock)
+told_bears : (b : Bool) (s : Signal) (clock : ℕ) → s.clock ≡ clock
+    → IfSome (if b then Some s else None) (λ t. t.clock ≡ clock)
 told_bears true s clock e = e
 told_bears false s clock e = tt
 
-told_speed : (b : Bool) (s : Signal) → HasSpeed s → IfSome (if b then Some s else None) HasSpeed
-told_speed true s h = h
-told_speed false s h = tt
+told_fits : (b : Bool) (s : Signal) → FitsWidths s → IfSome (if b then Some s else None) FitsWidths
+told_fits true s h = h
+told_fits false s h = tt
 
 pub mixed_bears : (r : Mixed) (due : List Incoming) → IfSome (mixed_next r due).1 (λ s. s.clock ≡ r.clock)
 mixed_bears r due = told_bears (mixed r.state due / 2 ^ 32 % 4 == 0) _ r.clock refl
 
-pub mixed_speed : (r : Mixed) (due : List Incoming) → IfSome (mixed_next r due).1 HasSpeed
-mixed_speed r due = told_speed (mixed r.state due / 2 ^ 32 % 4 == 0) _ (omega arith)
+pub mixed_fits : (r : Mixed) (due : List Incoming) → IfSome (mixed_next r due).1 FitsWidths
+mixed_fits r due = told_fits (mixed r.state due / 2 ^ 32 % 4 == 0) _ ((omega arith, omega arith), tt)
 
 -- a node for tests that keeps time: a first step, then steps of one length; it tells at one clock, and keeps the clock
 -- of the first step that took a signal
@@ -102,5 +110,5 @@ beaten_short r due = omega arith
 pub beaten_bears : (r : Beaten) (due : List Incoming) → IfSome (beaten_next r due).1 (λ s. s.clock ≡ r.clock)
 beaten_bears r due = told_bears (r.clock == r.tells) _ r.clock refl
 
-pub beaten_speed : (r : Beaten) (due : List Incoming) → IfSome (beaten_next r due).1 HasSpeed
-beaten_speed r due = told_speed (r.clock == r.tells) _ tt
+pub beaten_fits : (r : Beaten) (due : List Incoming) → IfSome (beaten_next r due).1 FitsWidths
+beaten_fits r due = told_fits (r.clock == r.tells) _ (tt, tt)

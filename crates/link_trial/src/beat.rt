@@ -29,11 +29,19 @@ fn step_length(cycles: u64) -> u64
 
 impl Node for Beat {
     ghost use Rattle.std.specs.Prelude.{refl};
-    ghost use Rattle.link_trial.specs.Mixing.{Beaten, beaten_next, beaten_rises, beaten_short, beaten_bears, beaten_speed};
+    ghost use Rattle.link_trial.specs.Mixing.{Beaten, beaten_next};
+    ghost use Rattle.link_trial.specs.Mixing.{beaten_rises, beaten_short, beaten_bears, beaten_fits};
 
     ghost Record = { Beaten };
 
-    ghost plain = { λ b. record { first = b.first; pace = b.pace; tells = b.tells; heard = b.heard; clock = b.clock; was = b.was } };
+    ghost plain = { λ b. record {
+      first = b.first;
+      pace = b.pace;
+      tells = b.tells;
+      heard = b.heard;
+      clock = b.clock;
+      was = b.was;
+    } };
 
     ghost bound = { λ b. b.limit };
 
@@ -82,5 +90,5 @@ impl Node for Beat {
 
     ghost bears = { beaten_bears };
 
-    ghost has_speed = { beaten_speed };
+    ghost fits = { beaten_fits };
 }

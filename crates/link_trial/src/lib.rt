@@ -2,10 +2,12 @@
 //! Tests of the cable's crates on small nodes: runs in the global order, compared with a plain second program.
 
 mod beat;
+mod checks;
 mod mixer;
 mod start;
 
 pub use beat::Beat;
+pub use checks::may_take;
 pub use mixer::{Mixer, cycles, mixed, told};
 pub use start::{begin, mixers};
 

@@ -65,7 +65,7 @@ pub fn told(state: u64, clock: u64) -> Option<Signal>
 
 impl Node for Mixer {
     ghost use Rattle.std.specs.Prelude.{refl};
-    ghost use Rattle.link_trial.specs.Mixing.{Mixed, mixed_next, mixed_rises, mixed_short, mixed_bears, mixed_speed};
+    ghost use Rattle.link_trial.specs.Mixing.{Mixed, mixed_next, mixed_rises, mixed_short, mixed_bears, mixed_fits};
 
     ghost Record = { Mixed };
 
@@ -108,5 +108,5 @@ impl Node for Mixer {
 
     ghost bears = { mixed_bears };
 
-    ghost has_speed = { mixed_speed };
+    ghost fits = { mixed_fits };
 }

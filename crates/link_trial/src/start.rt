@@ -2,7 +2,7 @@
 
 ghost use Rattle.std.specs.Prelude.{ℕ, ◌≡◌, ◌+◌, ◌<◌, ◌≤◌, ◌^◌, length, All, IfOk};
 ghost use Rattle.std.specs.Vec.{vec_len};
-ghost use Rattle.link_core.specs.Kept.{opening};
+ghost use Rattle.link_order.specs.Cut.{opening};
 
 use crate::mixer::Mixer;
 use link_core::{Cut, CutRefused};

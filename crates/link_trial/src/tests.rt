@@ -11,7 +11,7 @@ use std::process::Abort;
 use std::test::Fail;
 
 /// Whether some node but its sender can still take a signal.
-fn is_live(rt: &impl Abort, nodes: &[Mixer], one: &Sent, delay: u64) -> bool {
+pub fn is_live(rt: &impl Abort, nodes: &[Mixer], one: &Sent, delay: u64) -> bool {
     assert!(rt; one.signal.clock < 1 << 40 && delay <= 1024);
     nodes.iter().enumerate().any(|(i, node)| i as u64 != u64::from(one.sender)
         && node.was < one.signal.clock + delay)
@@ -60,7 +60,8 @@ fn runs_are_those_of_the_plain_program(rt: HostRuntime) -> Result<(), Fail> {
 
 /// A node that tells once, and one that listens.
 fn beats(alloc: Global, first: u64) -> Result<Vec<Beat>, Fail>
-    ensures { IfOk result (λ nodes. (vec_len nodes ≡ 2) × All (λ b. (b.clock ≡ 0) × (b.was ≡ 0) × (b.limit ≡ 4096)) nodes.items) }
+    ensures { IfOk result (λ nodes. (vec_len nodes ≡ 2)
+        × All (λ b. (b.clock ≡ 0) × (b.was ≡ 0) × (b.limit ≡ 4096)) nodes.items) }
 {
     let teller = Beat {
         first: 99,
@@ -115,20 +116,24 @@ fn a_step_is_allowed_below_each_seen_clock_and_the_delay(rt: HostRuntime) {
 fn rejoined(cut: Cut<Mixer>) -> Cut<Mixer>
     ensures { result ≡ cut }
 {
-    let _nodes = cut.nodes();
-    let _sent = cut.sent();
     let (nodes, shell) = cut.part();
     shell.join(nodes)
 }
 
 #[test]
 fn the_laws_hold_of_a_mixer() {
+    laws::start::<Mixer>();
     laws::split::<Mixer>();
     laws::equal::<Mixer>();
     laws::horizon::<Mixer>();
     laws::skew::<Mixer>();
     laws::unread::<Mixer>();
     laws::reached::<Mixer>();
+    link_trace::way::<Mixer>();
+    link_trace::turn::<Mixer>();
+    link_trace::prefix::<Mixer>();
+    link_trace::inbox();
+    link_trace::gathering();
 }
 
 #[test]
@@ -156,7 +161,7 @@ fn a_cut_is_parted_and_joined(rt: HostRuntime) -> Result<(), Fail> {
     shell.clear();
     assert_eq!(rt; shell.sent().len(), 0);
     for one in sent.iter().rev() {
-        assert!(rt; one.signal.start.is_none_or(|start| start.speed < 4));
+        assert!(rt; one.signal.fits());
         assert!(rt; shell.sent().len() < 16_384);
         shell.add(*one);
         assert!(rt; shell.sent().len() < 16_384);
@@ -167,7 +172,7 @@ fn a_cut_is_parted_and_joined(rt: HostRuntime) -> Result<(), Fail> {
 }
 
 /// One step of the global order, where the least node is below its limit. It answers the player, and the node after it.
-fn step_once(rt: &impl Abort, cut: &mut Cut<Mixer>) -> (usize, Mixer) {
+pub fn step_once(rt: &impl Abort, cut: &mut Cut<Mixer>) -> (usize, Mixer) {
     let player = cut.least() as usize;
     let node = cut.nodes()[player];
     assert!(rt; node.clock < node.limit);

@@ -1,4 +1,4 @@
-use Rattle.link_order.specs.Steps.{kind_of}
+use Rattle.link_order.specs.NodeKind.{kind_of}
 use Rattle.link_laws.proofs.Horizons.{looks_ahead, furthest_behind}
 use Rattle.link_laws.proofs.horizon.Goals as goal
 
@@ -9,7 +9,7 @@ returns-clause-no_signal_in_the_past g c =
       short = g.met.N.Node.short;
       moves = g.met.N.Node.moves;
       bears = g.met.N.Node.bears;
-      has_speed = g.met.N.Node.has_speed;
+      fits = g.met.N.Node.fits;
     })
 
 pub returns-clause-furthest_behind_may_step : goal.returns-clause-furthest_behind_may_step
@@ -19,5 +19,5 @@ returns-clause-furthest_behind_may_step g c =
       short = g.met.N.Node.short;
       moves = g.met.N.Node.moves;
       bears = g.met.N.Node.bears;
-      has_speed = g.met.N.Node.has_speed;
+      fits = g.met.N.Node.fits;
     })

@@ -1,4 +1,4 @@
-use Rattle.link_order.specs.Steps.{kind_of}
+use Rattle.link_order.specs.NodeKind.{kind_of}
 use Rattle.link_laws.proofs.Horizons.{clocks_near}
 use Rattle.link_laws.proofs.skew.Goals as goal
 
@@ -9,5 +9,5 @@ returns g c =
       short = g.met.N.Node.short;
       moves = g.met.N.Node.moves;
       bears = g.met.N.Node.bears;
-      has_speed = g.met.N.Node.has_speed;
+      fits = g.met.N.Node.fits;
     })

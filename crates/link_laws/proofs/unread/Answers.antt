@@ -1,4 +1,4 @@
-use Rattle.link_order.specs.Steps.{kind_of}
+use Rattle.link_order.specs.NodeKind.{kind_of}
 use Rattle.link_laws.proofs.Horizons.{few_unread, few_live_of}
 use Rattle.link_laws.proofs.unread.Goals as goal
 
@@ -9,7 +9,7 @@ returns-clause-unseen g c =
       short = g.met.N.Node.short;
       moves = g.met.N.Node.moves;
       bears = g.met.N.Node.bears;
-      has_speed = g.met.N.Node.has_speed;
+      fits = g.met.N.Node.fits;
     })
 
 pub returns-clause-live : goal.returns-clause-live

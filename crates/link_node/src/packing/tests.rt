@@ -56,9 +56,30 @@ fn rows() -> [(Signal, u64, u64); 4] {
 fn signals_pack_and_unpack(rt: HostRuntime) {
     for (signal, a, b) in rows() {
         assert!(rt; signal.clock < 1 << 40);
-        assert!(rt; signal.start.is_none_or(|start| start.speed < 4));
+        assert!(rt; signal.fits());
         assert_eq!(rt; pack(&signal), (a, b));
         assert_eq!(rt; unpack(a, b), Some(signal));
+    }
+}
+
+#[test]
+fn a_speed_of_three_bits_does_not_fit(rt: HostRuntime) {
+    for (speed, fits) in [(0, true), (3, true), (4, false), (255, false)] {
+        let start = Some(Start {
+            speed,
+            word: 0xffff_ffff,
+        });
+        let reply = Some(0xffff_ffff);
+        assert_eq!(rt;
+            Signal {
+                start,
+                reply,
+                ..BARE
+            }
+            .fits(),
+            fits
+        );
+        assert!(rt; Signal { reply, ..BARE }.fits());
     }
 }
 

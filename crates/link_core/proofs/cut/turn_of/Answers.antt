@@ -11,7 +11,8 @@ turn-requires-clause-below g c =
     let n = c.index_mut.result.now in
     let xs = c.args.nodes.now.items in
     let below : c.args.i < length xs = omega (arith, c.args.nodes.now.ok, c.requires.player) in
-    let own = read-node g.N.Node.plain g.N.Node.clock xs c.args.i n below ∙ ap (λ y. g.N.Node.clock (g.N.Node.plain y)) (sym c.index_mut.ensures.value) in
+    let own = read-node g.N.Node.plain g.N.Node.clock xs c.args.i n below
+    ∙ ap (λ y. g.N.Node.clock (g.N.Node.plain y)) (sym c.index_mut.ensures.value) in
     let most = read-bound g.N.Node.bound xs c.args.i n below ∙ ap g.N.Node.bound (sym c.index_mut.ensures.value) in
     omega (arith, own, most, c.requires.below)
 
@@ -20,22 +21,27 @@ turn-requires-clause-taken g c =
     let n = c.index_mut.result.now in
     let xs = c.args.nodes.now.items in
     let below : c.args.i < length xs = omega (arith, c.args.nodes.now.ok, c.requires.player) in
-    let own = read-node g.N.Node.plain g.N.Node.clock xs c.args.i n below ∙ ap (λ y. g.N.Node.clock (g.N.Node.plain y)) (sym c.index_mut.ensures.value) in
-    let last = read-node g.N.Node.plain g.N.Node.was xs c.args.i n below ∙ ap (λ y. g.N.Node.was (g.N.Node.plain y)) (sym c.index_mut.ensures.value) in
+    let own = read-node g.N.Node.plain g.N.Node.clock xs c.args.i n below
+    ∙ ap (λ y. g.N.Node.clock (g.N.Node.plain y)) (sym c.index_mut.ensures.value) in
+    let last = read-node g.N.Node.plain g.N.Node.was xs c.args.i n below
+    ∙ ap (λ y. g.N.Node.was (g.N.Node.plain y)) (sym c.index_mut.ensures.value) in
     subst (λ (k : ℕ). All (IsDue (g.N.Node.was (g.N.Node.plain n)) k) c.args.due.now) own
-    (subst (λ (w : ℕ). All (IsDue w (slice_index (map g.N.Node.clock (map g.N.Node.plain xs)) c.args.i)) c.args.due.now) last c.requires.taken)
+    (subst (λ (w : ℕ). All (IsDue w (slice_index (map g.N.Node.clock (map g.N.Node.plain xs)) c.args.i)) c.args.due.now)
+    last c.requires.taken)
 
 pub returns-clause-node : goal.returns-clause-node
 returns-clause-node g c x stands =
     let is_x = read-record g.N.Node.plain c.args.nodes.now.items c.args.i c.index_mut.result.now x stands in
     map-set g.N.Node.plain c.args.nodes.now.items c.args.i c.turn.new.self
     ∙ ap (set (map g.N.Node.plain c.args.nodes.now.items) c.args.i)
-    (c.turn.ensures.node ∙ ap (λ y. (g.N.Node.next y c.args.due.now).0) (ap g.N.Node.plain c.index_mut.ensures.value ∙ is_x))
+    (c.turn.ensures.node ∙ ap (λ y. (g.N.Node.next y c.args.due.now).0) (ap g.N.Node.plain c.index_mut.ensures.value
+    ∙ is_x))
 
 pub returns-clause-signal : goal.returns-clause-signal
 returns-clause-signal g c x stands =
     let is_x = read-record g.N.Node.plain c.args.nodes.now.items c.args.i c.index_mut.result.now x stands in
-    c.turn.ensures.signal ∙ ap (λ y. (g.N.Node.next y c.args.due.now).1) (ap g.N.Node.plain c.index_mut.ensures.value ∙ is_x)
+    c.turn.ensures.signal ∙ ap (λ y. (g.N.Node.next y c.args.due.now).1) (ap g.N.Node.plain c.index_mut.ensures.value
+    ∙ is_x)
 
 pub returns-clause-limits : goal.returns-clause-limits
 returns-clause-limits g c =

@@ -6,7 +6,8 @@ use Rattle.link_core.proofs.signals.index_of_due.Goals as goal
 
 pub returns-then-is_due_before-clause-placed : goal.returns-then-is_due_before-clause-placed
 returns-then-is_due_before-clause-placed c =
-    insert-place arrival_of player_of c.args.one.now c.args.list.now c.loop-i.i (omega arith) c.loop-i.invariant (inr (_, sym c.is_due_before.ensures ∙ c.if-is_due_before.true))
+    insert-place arrival_of player_of c.args.one.now c.args.list.now c.loop-i.i (omega arith) c.loop-i.invariant
+    (inr (_, sym c.is_due_before.ensures ∙ c.if-is_due_before.true))
 
 pub returns-clause-placed : goal.returns-clause-placed
 returns-clause-placed c =

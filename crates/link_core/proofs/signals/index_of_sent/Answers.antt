@@ -6,7 +6,8 @@ use Rattle.link_core.proofs.signals.index_of_sent.Goals as goal
 
 pub returns-then-is_sent_before-clause-placed : goal.returns-then-is_sent_before-clause-placed
 returns-then-is_sent_before-clause-placed c =
-    insert-place clock_of sender_of c.args.one.now c.args.list.now c.loop-i.i (omega arith) c.loop-i.invariant (inr (_, sym c.is_sent_before.ensures ∙ c.if-is_sent_before.true))
+    insert-place clock_of sender_of c.args.one.now c.args.list.now c.loop-i.i (omega arith) c.loop-i.invariant
+    (inr (_, sym c.is_sent_before.ensures ∙ c.if-is_sent_before.true))
 
 pub returns-clause-placed : goal.returns-clause-placed
 returns-clause-placed c =

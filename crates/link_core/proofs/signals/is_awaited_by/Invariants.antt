@@ -1,7 +1,8 @@
 use Rattle.std.proofs.Common.{◌≡◌}
 use Rattle.std.specs.Prelude.{map, slice_index}
-use Rattle.link_order.specs.Cut.{is_awaited}
+use Rattle.link_order.specs.Cut.{hop_of, is_awaited}
 use Rattle.link_core.proofs.signals.is_awaited_by.Given as goal
 
 abbrev pub invariant-loop-i : goal.invariant-loop-i
-invariant-loop-i g l = l.awaited ≡ is_awaited (λ _ _. l.delay) (slice_index (map g.N.Node.was (map g.N.Node.plain l.nodes))) l.i l.one
+invariant-loop-i g l = l.awaited
+    ≡ is_awaited (hop_of l.delay) (slice_index (map g.N.Node.was (map g.N.Node.plain l.nodes))) l.i l.one

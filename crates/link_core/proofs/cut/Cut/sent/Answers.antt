@@ -1,4 +1,4 @@
-use Rattle.link_order.specs.Steps.{kind_of}
+use Rattle.link_order.specs.NodeKind.{kind_of}
 use Rattle.link_core.proofs.Keeping.{kept_few}
 use Rattle.link_core.proofs.cut.Cut.sent.Goals as goal
 

@@ -1,0 +1,4 @@
+pub mod Ways
+pub mod Prefixes
+pub mod Inboxes
+pub mod Gatherings
