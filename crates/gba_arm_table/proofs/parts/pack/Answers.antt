@@ -1,6 +1,6 @@
 use Rattle.std.proofs.Common.{◌∙◌, ◌+◌, rules, subst, sym, drop}
 use Rattle.gba_arm_table.proofs.Packing.{Packs, Packs-next, Packs-small}
-use Rattle.gba_arm_table.proofs.parts.packed.Goals as goal
+use Rattle.gba_arm_table.proofs.parts.pack.Goals as goal
 
 pub overflow_add-word : goal.overflow_add-word
 overflow_add-word c =
