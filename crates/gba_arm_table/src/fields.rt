@@ -41,7 +41,7 @@ fn nibble(word: u32, low: u32) -> u8
     bits(word, low, 4) as u8
 }
 
-fn condition(word: u32) -> Condition
+pub fn condition(word: u32) -> Condition
     ensures { result ≡ condition (field word) }
 {
     numbered_condition(bits(word, 28, 4))

@@ -4,6 +4,7 @@
 ghost use Rattle.std.specs.Prelude.{◌≡◌, IfSome};
 ghost use Rattle.gba_terms.specs.Bits.{field};
 ghost use Rattle.gba_arm_table.specs.Limits.{Fits};
+ghost use Rattle.gba_arm_table.specs.Numbers.{condition_of};
 ghost use Rattle.gba_arm_table.specs.Table.{operation, operation_of};
 
 mod encoding;
@@ -30,6 +31,13 @@ pub fn decode(word: u32) -> Option<ArmOp>
     ensures fits { IfSome result Fits }
 {
     of_form(form_of(word), word)
+}
+
+/// The condition of a word, bits 31 to 28.
+pub fn condition_of(word: u32) -> Condition
+    ensures { result ≡ condition_of (field word 28 4) }
+{
+    fields::condition(word)
 }
 
 /// The operation of a word of this form.

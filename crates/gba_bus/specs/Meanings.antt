@@ -43,8 +43,8 @@ pub record IsPrice (cycles : ℕ) : Type 0 where
   pub least : 1 ≤ cycles
   pub most : cycles ≤ 18
 
--- What every bus keeps. Each price is one that an access may cost, and a value that is read, as an instruction or as data,
--- has zeros above its width.
+-- What every bus keeps. Each price is one that an access may cost, and a value that is read, as an instruction or as
+-- data, has zeros above its width.
 abbrev pub CodePriced : {State : Type 0} → Price State → Type 0
 CodePriced {State} price =
     (bus : State) (address : ℕ) (width : Width) (sequential : Bool) → IsPrice (price bus address width sequential)

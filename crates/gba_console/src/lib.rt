@@ -57,7 +57,21 @@ impl Model for Console {
 }
 
 impl Console {
-    ghost use Rattle.std.specs.Prelude.{◌≡◌, ◌+◌, ◌≤◌, ◌<◌, ◌^◌, Ok, Err, IfOk, MatchResult, OnOk, OnErr, vec_len, length};
+    ghost use Rattle.std.specs.Prelude.{
+      ◌≡◌,
+      ◌+◌,
+      ◌≤◌,
+      ◌<◌,
+      ◌^◌,
+      Ok,
+      Err,
+      IfOk,
+      MatchResult,
+      OnOk,
+      OnErr,
+      vec_len,
+      length,
+    };
     ghost use Rattle.gba_console.specs.Machine.{reset};
     ghost use Rattle.gba_console.specs.Step.{next};
 
@@ -98,7 +112,7 @@ impl Console {
     }
 
     /// Executes the instruction at r15. A refusal leaves the console unchanged; it comes exactly where the processor is
-    /// in Thumb state.
+    /// in Thumb state. The clock is below 2^40 because a run ends below 2^39 and a step takes at most 512 cycles.
     #[tactic(auto, unfolding(crate::specs::Step::next))]
     pub fn step(&mut self) -> Result<(), NotBuilt>
         requires { self.old.clock < 2 ^ 40 }

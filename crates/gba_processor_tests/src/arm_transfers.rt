@@ -6,7 +6,7 @@ use gba_arm_exec::execute;
 use gba_bus::{Bus, Width};
 use gba_word::{bit, bits};
 
-// A word, r1 and r2, r0 and r1 after it, an address from 02000000h on and the word there after it, and its cycles over
+// A word, r1 and r2, r0 and r1 after it, how far from 02000000h a word stands and that word after it, and its cycles over
 // slow memory. Before it r0 is A1B2C3D4h, and CPSR has C.
 type TransferCase = (u32, u32, u32, u32, u32, u32, u32, u32);
 
@@ -590,7 +590,7 @@ fn single_transfers(rt: HostRuntime) {
             "{word:x} of {r1:x} and {r2:x}"
         );
         assert_eq!(rt;
-            ram.load(0, address, Width::Word, false).0,
+            ram.load(0, 0x0200_0000 + address, Width::Word, false).0,
             stored,
             "{word:x} of {r1:x} and {r2:x}"
         );

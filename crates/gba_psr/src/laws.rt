@@ -5,7 +5,19 @@ ghost use Rattle.gba_psr.specs.declared.condition.Flags.{Flags};
 ghost use Rattle.gba_psr.specs.declared.exceptions.Exception.{Exception};
 ghost use Rattle.gba_psr.specs.Entry.{after_entry, entry_status, after_leave, vector};
 ghost use Rattle.gba_psr.specs.Modes.{bank_distance, first_banked, place};
-ghost use Rattle.gba_psr.specs.RegisterFile.{IsRegisterFile, flags, mode, register, saved_status, status, user_register, with_flags, with_register, with_saved_status, with_status};
+ghost use Rattle.gba_psr.specs.RegisterFile.{
+  IsRegisterFile,
+  flags,
+  mode,
+  register,
+  saved_status,
+  status,
+  user_register,
+  with_flags,
+  with_register,
+  with_saved_status,
+  with_status,
+};
 ghost use Rattle.gba_psr.specs.Status.{kept_status, mode_of, written_status};
 
 /// What was written to a register is read from it in the same mode, and every other register stays.

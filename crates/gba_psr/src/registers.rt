@@ -4,7 +4,20 @@ ghost use Rattle.std.specs.Prelude.{◌≡◌, ◌<◌, slice_index};
 ghost use Rattle.gba_psr.specs.Arrangement.{arrangement};
 ghost use Rattle.gba_psr.specs.Entry.{after_entry, entry_status, after_leave, vector};
 ghost use Rattle.gba_psr.specs.Status.{IsStatus, status_with_flags, kept_status, mode_of, written_status};
-ghost use Rattle.gba_psr.specs.RegisterFile.{IsRegisterFile, flags, with_flags, register, reset_file, saved_status, status, user_register, with_register, with_saved_status, with_status, with_user_register};
+ghost use Rattle.gba_psr.specs.RegisterFile.{
+  IsRegisterFile,
+  flags,
+  register,
+  reset_file,
+  saved_status,
+  status,
+  user_register,
+  with_flags,
+  with_register,
+  with_saved_status,
+  with_status,
+  with_user_register,
+};
 
 use crate::banks::{CPSR, change_bank, exchange, is_mode_number, place_of, saved_place_of};
 use crate::{Exception, Flags};

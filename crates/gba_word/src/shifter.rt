@@ -1,7 +1,14 @@
 //! The barrel shifter.
 
 ghost use Rattle.std.specs.Prelude.{◌≡◌, ◌<◌, ◌≤◌, ◌/◌, ◌^◌};
-ghost use Rattle.gba_word.specs.Shifts.{rotation, register_shift, nonzero_shift, fixed_shift, immediate_value, zero_shift};
+ghost use Rattle.gba_word.specs.Shifts.{
+  fixed_shift,
+  immediate_value,
+  nonzero_shift,
+  register_shift,
+  rotation,
+  zero_shift,
+};
 
 use crate::{Shift, bit};
 
