@@ -19,7 +19,7 @@ pub use multiplying::{
 };
 pub use outcome::Outcome;
 pub use processing::{
-    compare, compare_price, compute_price, flags_of_outcome, make_outcome, operate, sum_outcome,
+    compare, compare_price, compute_op_of, compute_price, flags_of_outcome, make_outcome, operate,
     write_outcome,
 };
 pub use site::Site;

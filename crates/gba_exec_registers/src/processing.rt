@@ -26,7 +26,7 @@ use crate::outcome::Outcome;
 use gba_arm_table::{CompareOp, ComputeOp, Operand};
 use gba_bus::Bus;
 use gba_psr::{Flags, Registers};
-use gba_word::{add_carry, bit, bits, rotate_immediate, shift, shift_fixed};
+use gba_word::{Sum, add_carry, add_plain, bit, bits, rotate_immediate, shift, shift_fixed, subtract};
 
 /// Data processing that writes the flags alone.
 pub fn compare(registers: &mut Registers, site: Site, op: CompareOp, rn: u8, operand: Operand)
@@ -128,15 +128,16 @@ fn low_byte(value: u32) -> u8
 }
 
 /// The twelve operations, of Rn, the operand, its carry and the flags.
+#[inline(always)]
 pub fn operate(op: ComputeOp, a: u32, b: u32, carry: bool, flags: Flags) -> Outcome
     ensures { result ≡ outcome_of op a b carry flags }
 {
     match op {
         ComputeOp::And => logical_outcome(a & b, carry, flags),
         ComputeOp::Eor => logical_outcome(a ^ b, carry, flags),
-        ComputeOp::Sub => sum_outcome(a, !b, true),
-        ComputeOp::Rsb => sum_outcome(b, !a, true),
-        ComputeOp::Add => sum_outcome(a, b, false),
+        ComputeOp::Sub => outcome_of_sum(subtract(a, b)),
+        ComputeOp::Rsb => outcome_of_sum(subtract(b, a)),
+        ComputeOp::Add => outcome_of_sum(add_plain(a, b)),
         ComputeOp::Adc => sum_outcome(a, b, flags.carry),
         ComputeOp::Sbc => sum_outcome(a, !b, flags.carry),
         ComputeOp::Rsc => sum_outcome(b, !a, flags.carry),
@@ -157,11 +158,15 @@ fn logical_outcome(value: u32, carry: bool, flags: Flags) -> Outcome
     }
 }
 
-/// The sum of two words and a carry.
-pub fn sum_outcome(a: u32, b: u32, carry: bool) -> Outcome
+fn sum_outcome(a: u32, b: u32, carry: bool) -> Outcome
     ensures { result ≡ sum_outcome a b carry }
 {
-    let sum = add_carry(a, b, carry);
+    outcome_of_sum(add_carry(a, b, carry))
+}
+
+fn outcome_of_sum(sum: Sum) -> Outcome
+    ensures { result ≡ record { value = sum.value; carry = sum.carry; overflow = sum.overflow } }
+{
     Outcome {
         value: sum.value,
         carry: sum.carry,
@@ -169,7 +174,8 @@ pub fn sum_outcome(a: u32, b: u32, carry: bool) -> Outcome
     }
 }
 
-fn compute_op_of(op: CompareOp) -> ComputeOp
+/// The operation of which a comparison makes the flags.
+pub fn compute_op_of(op: CompareOp) -> ComputeOp
     ensures { result ≡ compute_op_of op }
 {
     match op {
@@ -181,6 +187,7 @@ fn compute_op_of(op: CompareOp) -> ComputeOp
 }
 
 /// The flags of a result.
+#[inline(always)]
 pub fn flags_of_outcome(outcome: Outcome) -> Flags
     ensures { result ≡ flags_after outcome }
 {

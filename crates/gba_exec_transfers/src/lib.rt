@@ -10,5 +10,5 @@ mod units;
 
 pub use blocks::{load_block, store_block};
 pub use performing::{perform, perform_word};
-pub use singles::{load_single, offset_address, store_single, write_back};
+pub use singles::{load_single, offset_address, store_single, unit_load, unit_store, write_back};
 pub use units::{BlockTransfer, LoadUnit, SingleTransfer};

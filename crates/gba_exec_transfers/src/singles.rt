@@ -157,9 +157,9 @@ fn unit_value(kind: LoadUnit, address: u32, read: u32) -> u32
     }
 }
 
-// One non-sequential load: the value and the price.
+/// One non-sequential load: the value and the price.
 #[tactic(auto, unfolding(crate::specs::Singles::unit_load))]
-fn unit_load<B: Bus>(bus: &mut B, site: Site, kind: LoadUnit, address: u32) -> (u32, u32)
+pub fn unit_load<B: Bus>(bus: &mut B, site: Site, kind: LoadUnit, address: u32) -> (u32, u32)
     ensures value { result.0
         ≡ (unit_load B.code_price_of B.load_of B.store_of kind site address (B.state bus.old)).value }
     ensures price { result.1
@@ -173,9 +173,9 @@ fn unit_load<B: Bus>(bus: &mut B, site: Site, kind: LoadUnit, address: u32) -> (
     (unit_value(kind, address, read), price)
 }
 
-// One non-sequential store: the price.
+/// One non-sequential store: the price.
 #[tactic(auto, unfolding(crate::specs::Singles::unit_store))]
-fn unit_store<B: Bus>(bus: &mut B, width: Width, address: u32, value: u32) -> u32
+pub fn unit_store<B: Bus>(bus: &mut B, width: Width, address: u32, value: u32) -> u32
     ensures price { result
         ≡ (unit_store B.code_price_of B.load_of B.store_of width address value (B.state bus.old)).price }
     ensures bus { B.state bus.new
