@@ -15,6 +15,7 @@ use crate::job::{JobText, LONGEST_JOB, job_of};
 use crate::refusal::{Refusal, name_in_report};
 use crate::state::{STATE_ROOM, summary, write_state};
 use crate::words::{RunWords, command_of};
+use gba_console::laws::enough;
 use gba_console::{BIOS_LENGTH, Console, NotBuilt};
 use gba_store::{ReadError, Store};
 use std::alloc::{AllocError, Global};
@@ -73,10 +74,8 @@ fn run_console(mut console: Console, until: u64) -> Result<Console, NotBuilt>
     requires { until ≤ 2 ^ 31 }
     ensures { MatchResult result (λ end. run_to until console ≡ Ok end) (λ refusal. run_to until console ≡ Err refusal) }
 {
-    for _ in 0..until {
-        if console.clock() >= until {
-            break;
-        }
+    enough();
+    while console.clock() < until {
         console.step()?;
     }
     Ok(console)
