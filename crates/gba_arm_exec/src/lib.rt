@@ -76,7 +76,12 @@ pub fn execute_first<B: Bus>(
 
 // Executes a word whose operation is at hand.
 #[tactic(auto, unfolding(crate::specs::Execution::execution))]
-fn execute_operation<B: Bus>(registers: &mut Registers, bus: &mut B, word: u32, op: Option<ArmOp>) -> u32
+fn execute_operation<B: Bus>(
+    registers: &mut Registers,
+    bus: &mut B,
+    word: u32,
+    op: Option<ArmOp>,
+) -> u32
     requires operation { op ≡ operation word }
     requires fits { IfSome op Fits }
     ensures { Leaves (execution B.code_price_of B.load_of B.store_of word registers.old (B.state bus.old))

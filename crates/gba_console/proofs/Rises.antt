@@ -1,5 +1,5 @@
 -- Each step raises the clock, so a run reaches its end.
-use Rattle.std.proofs.Common.{◌≡◌, ℕ, zero, suc, ◌+◌, ◌<◌, ◌≤◌, Bool, true, false, List, Result, Ok, Err, refl, subst, arith}
+use Rattle.std.proofs.Common.{◌≡◌, ℕ, zero, suc, ◌+◌, ◌<◌, ◌≤◌, Bool, true, false, List, Result, Ok, Err, refl, sym, subst, arith}
 use Rattle.std.specs.Prelude.{nat_lt, if◌then◌else◌}
 use Rattle.gba_terms.specs.Bits.{bit}
 use Rattle.gba_bus.specs.declared.width.Width.TheVariants.{Word}
@@ -63,3 +63,33 @@ run-reaches (suc most) until m n lengths bound e =
 
 pub reaches : WordsTakeSteps → (until : ℕ) (start end : Machine) → run_to until start ≡ Ok end → until ≤ end.clock
 reaches lengths until start end e = run-reaches until until start end lengths (omega arith) e
+
+-- two bounds on what follows a step
+enough-after : (a b until : ℕ) (m : Machine) (r : Result Machine NotBuilt) → WordsTakeSteps → next m ≡ r
+    → ((k : Machine) → until ≤ k.clock + a → until ≤ k.clock + b → run a until k ≡ run b until k)
+    → until ≤ m.clock + suc a → until ≤ m.clock + suc b → after r (run a until) ≡ after r (run b until)
+enough-after a b until m (Ok k) lengths is rest one other =
+    let rises : m.clock < k.clock = next-rises m k lengths is in
+    rest k (omega arith) (omega arith)
+enough-after a b until m (Err refusal) lengths is rest one other = refl
+
+enough-test : (a b until : ℕ) (m : Machine) (test : Bool)
+    → after (next m) (run a until) ≡ after (next m) (run b until)
+    → (if test then after (next m) (run a until) else good m) ≡ (if test then after (next m) (run b until) else good m)
+enough-test a b until m true same = same
+enough-test a b until m false same = refl
+
+run-over : (most until : ℕ) (m : Machine) → until ≤ m.clock → good m ≡ run (suc most) until m
+unfolding run
+run-over most until m past =
+    let e : nat_lt m.clock until ≡ false = grind arith in
+    rw e refl
+
+pub enough : (a b until : ℕ) (m : Machine) → WordsTakeSteps → until ≤ m.clock + a → until ≤ m.clock + b → run a until m ≡ run b until m
+unfolding run
+enough zero zero until m lengths one other = refl
+enough zero (suc b) until m lengths one other = run-over b until m (omega arith)
+enough (suc a) zero until m lengths one other = sym (run-over a until m (omega arith))
+enough (suc a) (suc b) until m lengths one other =
+    enough-test a b until m (nat_lt m.clock until)
+    (enough-after a b until m (next m) lengths refl (λ k. enough a b until k lengths) one other)

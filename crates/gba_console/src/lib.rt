@@ -70,7 +70,6 @@ pub struct Console {
 
 impl Model for Console {
     ghost use Rattle.gba_console.specs.Machine.{Machine};
-
     ghost use Rattle.std.specs.Prelude.{◌≡◌, vec_len};
 
     ghost Value = { Machine };
@@ -159,7 +158,13 @@ impl Console {
         let cycles = if one.word == word {
             execute_decoded(&mut self.registers, &mut self.memory, one)
         } else {
-            execute_first(&mut self.registers, &mut self.memory, self.table.as_mut_slice(), place, word)
+            execute_first(
+                &mut self.registers,
+                &mut self.memory,
+                self.table.as_mut_slice(),
+                place,
+                word,
+            )
         };
         self.clock += u64::from(cycles);
         Ok(())

@@ -151,7 +151,7 @@ module _ {State : Type 0} (price : Price State) (load : Load State) (store : Sto
       → second ≡ operand_of (operand.Fixed rm shift amount) (counter site) (flags file).carry file
       → (rn == 15) ≡ false → (rd == 15) ≡ false
       → internal price load store bus (with_register file rd (value_of kind (register file rn) second.0 file))
-        (code_cost price bus site true)
+      (code_cost price bus site true)
       ≡ effect price load store (op.Compute cond kind false rn rd (operand.Fixed rm shift amount)) site file bus
   unfolding effect outcome
   fixed-value cond kind rn rd rm shift amount second site file bus is n d =
@@ -166,7 +166,7 @@ module _ {State : Type 0} (price : Price State) (load : Load State) (store : Sto
       → second ≡ operand_of (operand.Fixed rm shift amount) (counter site) (flags file).carry file
       → (rn == 15) ≡ false → (rd == 15) ≡ false
       → internal price load store bus
-        (with_flags_and rd (outcome_in kind (register file rn) second.0 second.1 file) file) (code_cost price bus site true)
+      (with_flags_and rd (outcome_in kind (register file rn) second.0 second.1 file) file) (code_cost price bus site true)
       ≡ effect price load store (op.Compute cond kind true rn rd (operand.Fixed rm shift amount)) site file bus
   unfolding effect outcome
   fixed-set cond kind rn rd rm shift amount second site file bus is n d =
@@ -186,8 +186,8 @@ module _ {State : Type 0} (price : Price State) (load : Load State) (store : Sto
       (file : List ℕ) (bus : State) → (rn == 15) ≡ false → (rd == 15) ≡ false
       → (m a : Bool) → (rm == 15) ≡ m → (amount == 0) ≡ a
       → effect_of_quick price load store
-        (compute_shifted (op.Compute cond kind set rn rd (operand.Fixed rm shift amount)) kind set rn rd rm shift amount)
-        site file bus
+      (compute_shifted (op.Compute cond kind set rn rd (operand.Fixed rm shift amount)) kind set rn rd rm shift amount)
+      site file bus
       ≡ effect price load store (op.Compute cond kind set rn rd (operand.Fixed rm shift amount)) site file bus
   unfolding effect_of_quick
   shifted-is cond kind set rn rd rm shift amount site file bus n d true a m' a' =
@@ -251,8 +251,8 @@ module _ {State : Type 0} (price : Price State) (load : Load State) (store : Sto
       → second ≡ operand_of (operand.Fixed rm shift amount) (counter site) (flags file).carry file
       → (rn == 15) ≡ false
       → internal price load store bus
-        (with_flags file (flags_after (outcome_in (compute_op_of kind) (register file rn) second.0 second.1 file)))
-        (code_cost price bus site true)
+      (with_flags file (flags_after (outcome_in (compute_op_of kind) (register file rn) second.0 second.1 file)))
+      (code_cost price bus site true)
       ≡ effect price load store (op.Compare cond kind rn (operand.Fixed rm shift amount)) site file bus
   unfolding effect outcome
   fixed-compare cond kind rn rm shift amount second site file bus is n =
@@ -265,7 +265,7 @@ module _ {State : Type 0} (price : Price State) (load : Load State) (store : Sto
   number-compare : (cond : Condition) (kind : CompareOp) (rn value turn : ℕ) (site : Site) (file : List ℕ) (bus : State)
       → (rn == 15) ≡ false
       → effect_of_quick price load store
-        (quick.CompareNumber (compute_op_of kind) rn (rotation value (2 * turn)) (not (turn == 0))) site file bus
+      (quick.CompareNumber (compute_op_of kind) rn (rotation value (2 * turn)) (not (turn == 0))) site file bus
       ≡ effect price load store (op.Compare cond kind rn (operand.Immediate value turn)) site file bus
   unfolding effect_of_quick effect outcome operand_of
   number-compare cond kind rn value turn site file bus n =
@@ -280,8 +280,8 @@ module _ {State : Type 0} (price : Price State) (load : Load State) (store : Sto
       (file : List ℕ) (bus : State) → (rn == 15) ≡ false
       → (m a : Bool) → (rm == 15) ≡ m → (amount == 0) ≡ a
       → effect_of_quick price load store
-        (compare_shifted (op.Compare cond kind rn (operand.Fixed rm shift amount)) (compute_op_of kind) rn rm shift amount)
-        site file bus
+      (compare_shifted (op.Compare cond kind rn (operand.Fixed rm shift amount)) (compute_op_of kind) rn rm shift amount)
+      site file bus
       ≡ effect price load store (op.Compare cond kind rn (operand.Fixed rm shift amount)) site file bus
   unfolding effect_of_quick
   compare_shifted-is cond kind rn rm shift amount site file bus n true a m' a' =
@@ -338,7 +338,7 @@ module _ {State : Type 0} (price : Price State) (load : Load State) (store : Sto
       → (rn == 15) ≡ false → (rd == 15) ≡ false
       → after_quick_load price load store kind rn rd (signed_offset up distance) site file bus
       ≡ after_load price load store kind
-        (record { pre = true; up = up; write = false; rn = rn; rd = rd; distance = distance }) site file bus
+      (record { pre = true; up = up; write = false; rn = rn; rd = rd; distance = distance }) site file bus
   unfolding after_load with_transfer_base transfer_address with_write_back with_result
   load-plain kind up rn rd distance site file bus n d =
       let made : ℕ → Done State = λ address.
@@ -354,7 +354,7 @@ module _ {State : Type 0} (price : Price State) (load : Load State) (store : Sto
       → (rn == 15) ≡ false → (rd == 15) ≡ false
       → after_quick_store price load store kind rn rd (signed_offset up distance) site file bus
       ≡ after_store price load store kind
-        (record { pre = true; up = up; write = false; rn = rn; rd = rd; distance = distance }) site file bus
+      (record { pre = true; up = up; write = false; rn = rn; rd = rd; distance = distance }) site file bus
   unfolding after_store with_transfer_base transfer_address with_write_back
   store-plain kind up rn rd distance site file bus n d =
       let made : ℕ → ℕ → Done State = λ address value.
@@ -376,8 +376,8 @@ module _ {State : Type 0} (price : Price State) (load : Load State) (store : Sto
 
   general-is : (cond : Condition) (load' byte pre up write : Bool) (rn rd distance : ℕ) (site : Site) (file : List ℕ) (bus : State)
       → effect_of_quick price load store
-        (general_transfer load' byte
-        (record { pre = pre; up = up; write = write; rn = rn; rd = rd; distance = distance })) site file bus
+      (general_transfer load' byte
+      (record { pre = pre; up = up; write = write; rn = rn; rd = rd; distance = distance })) site file bus
       ≡ effect price load store (op.Transfer cond load' byte pre up write rn rd (transfer_offset.Number distance)) site file bus
   unfolding effect_of_quick effect transfer_distance
   general-is cond true byte pre up write rn rd distance site file bus = refl
@@ -386,8 +386,8 @@ module _ {State : Type 0} (price : Price State) (load : Load State) (store : Sto
   transfer-tested : (cond : Condition) (load' byte pre up write : Bool) (rn rd distance : ℕ) (site : Site) (file : List ℕ)
       (bus : State) (n d : Bool) → (rn == 15) ≡ n → (rd == 15) ≡ d
       → effect_of_quick price load store
-        (number_transfer load' byte
-        (record { pre = pre; up = up; write = write; rn = rn; rd = rd; distance = distance })) site file bus
+      (number_transfer load' byte
+      (record { pre = pre; up = up; write = write; rn = rn; rd = rd; distance = distance })) site file bus
       ≡ effect price load store (op.Transfer cond load' byte pre up write rn rd (transfer_offset.Number distance)) site file bus
   transfer-tested cond load' byte false up write rn rd distance site file bus n d n' d' =
       general-is cond load' byte false up write rn rd distance site file bus

@@ -40,7 +40,7 @@ abbrev pub compute_shifted : ArmOp → ComputeOp → Bool → ℕ → ℕ → �
 compute_shifted whole kind set rn rd rm shift amount =
     if rm == 15 then quick.Other whole
     else if amount == 0 then
-      (if is_lsl shift then (if set then quick.SetPlain kind rn rd rm else quick.Plain kind rn rd rm) else quick.Other whole)
+    (if is_lsl shift then (if set then quick.SetPlain kind rn rd rm else quick.Plain kind rn rd rm) else quick.Other whole)
     else if set then quick.SetShifted kind rn rd rm shift amount
     else quick.Shifted kind rn rd rm shift amount
 

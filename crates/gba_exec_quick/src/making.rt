@@ -39,37 +39,113 @@ fn quick_of(whole: ArmOp) -> Quick
     ensures { result ≡ quick_of whole }
 {
     match whole {
-        ArmOp::Compute { op, set, rn, rd, operand, .. } => if rn == 15 || rd == 15 {
+        ArmOp::Compute {
+            op,
+            set,
+            rn,
+            rd,
+            operand,
+            ..
+        } => if rn == 15 || rd == 15 {
             Quick::Other { op: whole }
         } else {
             compute_form(whole, op, set, rn, rd, operand)
         },
-        ArmOp::Compare { op, rn, operand, .. } => if rn == 15 {
+        ArmOp::Compare {
+            op,
+            rn,
+            operand,
+            ..
+        } => if rn == 15 {
             Quick::Other { op: whole }
         } else {
             compare_form(whole, compute_op_of(op), rn, operand)
         },
-        ArmOp::Transfer { load, byte, pre, up, write, rn, rd, offset, .. } => match offset {
+        ArmOp::Transfer {
+            load,
+            byte,
+            pre,
+            up,
+            write,
+            rn,
+            rd,
+            offset,
+            ..
+        } => match offset {
             TransferOffset::Number { value } => {
                 let distance = value;
-                number_transfer(load, byte, SingleTransfer { pre, up, write, rn, rd, distance })
+                number_transfer(
+                    load,
+                    byte,
+                    SingleTransfer {
+                        pre,
+                        up,
+                        write,
+                        rn,
+                        rd,
+                        distance,
+                    },
+                )
             }
             TransferOffset::Shifted { .. } => Quick::Other { op: whole },
         },
-        ArmOp::Half { kind, pre, up, write, rn, rd, offset, .. } => match offset {
+        ArmOp::Half {
+            kind,
+            pre,
+            up,
+            write,
+            rn,
+            rd,
+            offset,
+            ..
+        } => match offset {
             HalfOffset::Number { value } => {
                 let distance = value;
-                half_form(kind, SingleTransfer { pre, up, write, rn, rd, distance })
+                half_form(
+                    kind,
+                    SingleTransfer {
+                        pre,
+                        up,
+                        write,
+                        rn,
+                        rd,
+                        distance,
+                    },
+                )
             }
             HalfOffset::Plain { .. } => Quick::Other { op: whole },
         },
-        ArmOp::Block { load, pre, up, user, write, rn, list, .. } => {
-            let block = BlockTransfer { pre, up, user, write, rn, list };
-            if load { Quick::LoadBlock { block } } else { Quick::StoreBlock { block } }
+        ArmOp::Block {
+            load,
+            pre,
+            up,
+            user,
+            write,
+            rn,
+            list,
+            ..
+        } => {
+            let block = BlockTransfer {
+                pre,
+                up,
+                user,
+                write,
+                rn,
+                list,
+            };
+            if load {
+                Quick::LoadBlock { block }
+            } else {
+                Quick::StoreBlock { block }
+            }
         }
         ArmOp::Branch { link, offset, .. } => {
             let distance = offset.cast_unsigned().wrapping_mul(4);
-            if link { Quick::BranchLink { distance } } else { Quick::Branch { distance } }
+            if link {
+                Quick::BranchLink { distance }
+            } else {
+                Quick::Branch { distance }
+            }
         }
         ArmOp::Exchange { .. }
         | ArmOp::Multiply { .. }
@@ -88,12 +164,20 @@ fn compute_form(whole: ArmOp, op: ComputeOp, set: bool, rn: u8, rd: u8, operand:
         Operand::Immediate { value, turn } => {
             let value = rotate(u32::from(value), 2 * u32::from(turn));
             if set {
-                Quick::SetNumber { op, rn, rd, value, turned: turn != 0 }
+                Quick::SetNumber {
+                    op,
+                    rn,
+                    rd,
+                    value,
+                    turned: turn != 0,
+                }
             } else {
                 Quick::Number { op, rn, rd, value }
             }
         }
-        Operand::Fixed { rm, kind, amount } => compute_shifted(whole, op, set, rn, rd, rm, kind, amount),
+        Operand::Fixed { rm, kind, amount } => compute_shifted(
+            whole, op, set, rn, rd, rm, kind, amount,
+        ),
         Operand::ByRegister { .. } => Quick::Other { op: whole },
     }
 }
@@ -121,9 +205,23 @@ fn compute_shifted(
             Quick::Plain { op, rn, rd, rm }
         }
     } else if set {
-        Quick::SetShifted { op, rn, rd, rm, kind, amount }
+        Quick::SetShifted {
+            op,
+            rn,
+            rd,
+            rm,
+            kind,
+            amount,
+        }
     } else {
-        Quick::Shifted { op, rn, rd, rm, kind, amount }
+        Quick::Shifted {
+            op,
+            rn,
+            rd,
+            rm,
+            kind,
+            amount,
+        }
     }
 }
 
@@ -133,7 +231,12 @@ fn compare_form(whole: ArmOp, op: ComputeOp, rn: u8, operand: Operand) -> Quick
     match operand {
         Operand::Immediate { value, turn } => {
             let value = rotate(u32::from(value), 2 * u32::from(turn));
-            Quick::CompareNumber { op, rn, value, turned: turn != 0 }
+            Quick::CompareNumber {
+                op,
+                rn,
+                value,
+                turned: turn != 0,
+            }
         }
         Operand::Fixed { rm, kind, amount } => compare_shifted(whole, op, rn, rm, kind, amount),
         Operand::ByRegister { .. } => Quick::Other { op: whole },
@@ -152,7 +255,13 @@ fn compare_shifted(whole: ArmOp, op: ComputeOp, rn: u8, rm: u8, kind: Shift, amo
             Quick::Other { op: whole }
         }
     } else {
-        Quick::CompareShifted { op, rn, rm, kind, amount }
+        Quick::CompareShifted {
+            op,
+            rn,
+            rm,
+            kind,
+            amount,
+        }
     }
 }
 
@@ -170,7 +279,13 @@ fn number_transfer(load: bool, byte: bool, one: SingleTransfer) -> Quick
     ensures { result ≡ number_transfer load byte one }
 {
     if one.pre && !one.write && one.rn != 15 && one.rd != 15 {
-        plain_transfer(load, byte, one.rn, one.rd, signed_offset(one.up, one.distance))
+        plain_transfer(
+            load,
+            byte,
+            one.rn,
+            one.rd,
+            signed_offset(one.up, one.distance),
+        )
     } else {
         general_transfer(load, byte, one)
     }
@@ -179,7 +294,11 @@ fn number_transfer(load: bool, byte: bool, one: SingleTransfer) -> Quick
 fn signed_offset(up: bool, distance: u32) -> u32
     ensures { result ≡ signed_offset up distance }
 {
-    if up { distance } else { 0u32.wrapping_sub(distance) }
+    if up {
+        distance
+    } else {
+        0u32.wrapping_sub(distance)
+    }
 }
 
 fn plain_transfer(load: bool, byte: bool, rn: u8, rd: u8, offset: u32) -> Quick
@@ -197,9 +316,15 @@ fn general_transfer(load: bool, byte: bool, one: SingleTransfer) -> Quick
     ensures { result ≡ general_transfer load byte one }
 {
     if load {
-        Quick::LoadSingle { unit: if byte { LoadUnit::Byte } else { LoadUnit::Word }, one }
+        Quick::LoadSingle {
+            unit: if byte { LoadUnit::Byte } else { LoadUnit::Word },
+            one,
+        }
     } else {
-        Quick::StoreSingle { width: if byte { Width::Byte } else { Width::Word }, one }
+        Quick::StoreSingle {
+            width: if byte { Width::Byte } else { Width::Word },
+            one,
+        }
     }
 }
 
@@ -207,9 +332,21 @@ fn half_form(kind: HalfKind, one: SingleTransfer) -> Quick
     ensures { result ≡ half_form kind one }
 {
     match kind {
-        HalfKind::StoreHalf => Quick::StoreSingle { width: Width::Half, one },
-        HalfKind::LoadHalf => Quick::LoadSingle { unit: LoadUnit::Half, one },
-        HalfKind::LoadSignedByte => Quick::LoadSingle { unit: LoadUnit::SignedByte, one },
-        HalfKind::LoadSignedHalf => Quick::LoadSingle { unit: LoadUnit::SignedHalf, one },
+        HalfKind::StoreHalf => Quick::StoreSingle {
+            width: Width::Half,
+            one,
+        },
+        HalfKind::LoadHalf => Quick::LoadSingle {
+            unit: LoadUnit::Half,
+            one,
+        },
+        HalfKind::LoadSignedByte => Quick::LoadSingle {
+            unit: LoadUnit::SignedByte,
+            one,
+        },
+        HalfKind::LoadSignedHalf => Quick::LoadSingle {
+            unit: LoadUnit::SignedHalf,
+            one,
+        },
     }
 }

@@ -17,8 +17,12 @@ ghost use Rattle.gba_exec_transfers.specs.Done.{Leaves};
 use crate::Quick;
 use gba_arm_table::ComputeOp;
 use gba_bus::{Bus, Width};
-use gba_exec_registers::{Outcome, Site, code_price, flags_of_outcome, jump, jump_price, operate, trap};
-use gba_exec_transfers::{LoadUnit, load_block, load_single, perform, store_block, store_single, unit_load, unit_store};
+use gba_exec_registers::{
+    Outcome, Site, code_price, flags_of_outcome, jump, jump_price, operate, trap,
+};
+use gba_exec_transfers::{
+    LoadUnit, load_block, load_single, perform, store_block, store_single, unit_load, unit_store,
+};
 use gba_psr::Registers;
 use gba_word::{bit, shift, shift_within};
 
@@ -42,13 +46,26 @@ pub fn perform_quick<B: Bus>(registers: &mut Registers, bus: &mut B, site: Site,
             registers.set(u32::from(rd), value);
             code_price(bus, site, true)
         }
-        Quick::Shifted { op, rn, rd, rm, kind, amount } => {
+        Quick::Shifted {
+            op,
+            rn,
+            rd,
+            rm,
+            kind,
+            amount,
+        } => {
             let second = shift_within(kind, registers.get(u32::from(rm)), amount);
             let value = value_of(registers, op, registers.get(u32::from(rn)), second);
             registers.set(u32::from(rd), value);
             code_price(bus, site, true)
         }
-        Quick::SetNumber { op, rn, rd, value, turned } => {
+        Quick::SetNumber {
+            op,
+            rn,
+            rd,
+            value,
+            turned,
+        } => {
             let carry = number_carry(registers, value, turned);
             let outcome = outcome_in(registers, op, registers.get(u32::from(rn)), value, carry);
             write_flags_and(registers, rd, outcome);
@@ -61,7 +78,12 @@ pub fn perform_quick<B: Bus>(registers: &mut Registers, bus: &mut B, site: Site,
             write_flags_and(registers, rd, outcome);
             code_price(bus, site, true)
         }
-        Quick::CompareNumber { op, rn, value, turned } => {
+        Quick::CompareNumber {
+            op,
+            rn,
+            value,
+            turned,
+        } => {
             let carry = number_carry(registers, value, turned);
             let outcome = outcome_in(registers, op, registers.get(u32::from(rn)), value, carry);
             registers.set_flags(flags_of_outcome(outcome));
@@ -74,10 +96,42 @@ pub fn perform_quick<B: Bus>(registers: &mut Registers, bus: &mut B, site: Site,
             registers.set_flags(flags_of_outcome(outcome));
             code_price(bus, site, true)
         }
-        Quick::LoadWord { rn, rd, offset } => load_quick(registers, bus, site, LoadUnit::Word, rn, rd, offset),
-        Quick::LoadByte { rn, rd, offset } => load_quick(registers, bus, site, LoadUnit::Byte, rn, rd, offset),
-        Quick::StoreWord { rn, rd, offset } => store_quick(registers, bus, site, Width::Word, rn, rd, offset),
-        Quick::StoreByte { rn, rd, offset } => store_quick(registers, bus, site, Width::Byte, rn, rd, offset),
+        Quick::LoadWord { rn, rd, offset } => load_quick(
+            registers,
+            bus,
+            site,
+            LoadUnit::Word,
+            rn,
+            rd,
+            offset,
+        ),
+        Quick::LoadByte { rn, rd, offset } => load_quick(
+            registers,
+            bus,
+            site,
+            LoadUnit::Byte,
+            rn,
+            rd,
+            offset,
+        ),
+        Quick::StoreWord { rn, rd, offset } => store_quick(
+            registers,
+            bus,
+            site,
+            Width::Word,
+            rn,
+            rd,
+            offset,
+        ),
+        Quick::StoreByte { rn, rd, offset } => store_quick(
+            registers,
+            bus,
+            site,
+            Width::Byte,
+            rn,
+            rd,
+            offset,
+        ),
         Quick::Branch { distance } => {
             jump(registers, site.counter().wrapping_add(distance));
             jump_price(bus, site)
@@ -104,13 +158,26 @@ fn perform_rare<B: Bus>(registers: &mut Registers, bus: &mut B, site: Site, one:
         registers.new (B.state bus.new) result }
 {
     match *one {
-        Quick::SetShifted { op, rn, rd, rm, kind, amount } => {
+        Quick::SetShifted {
+            op,
+            rn,
+            rd,
+            rm,
+            kind,
+            amount,
+        } => {
             let (second, carry) = shift(kind, registers.get(u32::from(rm)), amount, false);
             let outcome = outcome_in(registers, op, registers.get(u32::from(rn)), second, carry);
             write_flags_and(registers, rd, outcome);
             code_price(bus, site, true)
         }
-        Quick::CompareShifted { op, rn, rm, kind, amount } => {
+        Quick::CompareShifted {
+            op,
+            rn,
+            rm,
+            kind,
+            amount,
+        } => {
             let (second, carry) = shift(kind, registers.get(u32::from(rm)), amount, false);
             let outcome = outcome_in(registers, op, registers.get(u32::from(rn)), second, carry);
             registers.set_flags(flags_of_outcome(outcome));
@@ -174,7 +241,8 @@ fn value_of(registers: &Registers, op: ComputeOp, a: u32, b: u32) -> u32
 fn add_with_carry(registers: &Registers, a: u32, b: u32) -> u32
     ensures { result ≡ value_of ComputeOp.Adc a b registers.now }
 {
-    a.wrapping_add(b).wrapping_add(u32::from(registers.flags().carry))
+    a.wrapping_add(b)
+        .wrapping_add(u32::from(registers.flags().carry))
 }
 
 // The outcome of an operation with S.
@@ -190,7 +258,11 @@ fn outcome_in(registers: &Registers, op: ComputeOp, a: u32, b: u32, carry: bool)
 fn number_carry(registers: &Registers, value: u32, turned: bool) -> bool
     ensures { result ≡ number_carry value turned registers.now }
 {
-    if turned { bit(value, 31) } else { registers.flags().carry }
+    if turned {
+        bit(value, 31)
+    } else {
+        registers.flags().carry
+    }
 }
 
 // Writes the flags of an outcome, and its value.

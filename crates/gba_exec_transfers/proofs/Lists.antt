@@ -2,7 +2,8 @@ use Rattle.std.proofs.Common.{◌≡◌, ℕ, suc, zero, ◌+◌, ◌-◌, ◌/�
 use Rattle.std.proofs.Math.Nat.{pow-suc}
 use Rattle.std.proofs.lemmas.Bool.{cases_eq}
 use Rattle.std.proofs.lemmas.Bool.Decides.{nat_tests}
-use Rattle.std.proofs.lemmas.Nat.{shr-shr}
+use Rattle.std.proofs.lemmas.List.{nil_from_length}
+use Rattle.std.proofs.lemmas.Nat.{pow_pos, shr-shr}
 use lib.Count.{ones, ones_step}
 use Rattle.gba_terms.specs.Bits.{bit}
 use Rattle.gba_exec_transfers.specs.Blocks.{registers_in}
@@ -78,3 +79,10 @@ length-registers_in list first (suc count) small =
     ∙ later ∙ ap ones halved
     ∙ sym (ones_step (list / 2 ^ first) ∙ rw none (none_more (ones (list / 2 ^ first / 2)))))
     (cases_eq (list / 2 ^ first % 2) 1)
+
+-- no register from `first` on is in the list
+pub registers_in_over : (list first count : ℕ) → list / 2 ^ first ≡ 0 → registers_in list first count ≡ []
+registers_in_over list first count over =
+    let small : list / 2 ^ first < 2 ^ count = rw over (pow_pos count) in
+    nil_from_length (registers_in list first count)
+    (length-registers_in list first count small ∙ ap ones over ∙ ones-zero)

@@ -1,4 +1,4 @@
-use Rattle.std.proofs.Common.{◌≡◌, ℕ, Bool, ◌+◌, ◌-◌, ◌%◌, ◌^◌, ◌<◌, true, false, List, [], ◌∷◌, refl, ap, sym, ◌∙◌, if◌then◌else◌}
+use Rattle.std.proofs.Common.{◌≡◌, ℕ, Bool, ◌+◌, ◌-◌, ◌/◌, ◌%◌, ◌^◌, ◌<◌, true, false, List, [], ◌∷◌, refl, ap, sym, ◌∙◌, if◌then◌else◌}
 use Rattle.gba_terms.specs.Bits.{bit}
 use Rattle.gba_bus.specs.Meanings.{Load, Price, Store}
 use Rattle.gba_bus.specs.declared.width.Width.TheVariants.{Word}
@@ -6,7 +6,7 @@ use Rattle.gba_exec_transfers.specs.Blocks.{block_register, registers_in, loads,
 use Rattle.gba_exec_transfers.specs.Done.{Done}
 use Rattle.gba_exec_transfers.specs.Singles.{with_write_back}
 use Rattle.gba_exec_registers.specs.declared.site.Site.{Site}
-use Rattle.gba_exec_transfers.proofs.Lists.{registers_in_more, registers_in_none, registers_in_skip}
+use Rattle.gba_exec_transfers.proofs.Lists.{registers_in_more, registers_in_none, registers_in_over, registers_in_skip}
 
 abbrev pub done_of : {State : Type 0} → List ℕ → State → ℕ → Done State
 done_of file bus cycles = record { registers = file; bus = bus; cycles = cycles }
@@ -37,6 +37,14 @@ module _ {State : Type 0} (price : Price State) (load : Load State) (store : Sto
   loads_none user site list number address sequential done none =
       ap (λ numbers. loads price load store user site numbers address sequential done) (registers_in_none list number none) ∙ loads-nil user site address sequential done
 
+  -- the list has no register from here on
+  pub loads_over : (user : Bool) (site : Site) (list number address : ℕ) (sequential : Bool) (done : Done State)
+      → list / 2 ^ number ≡ 0
+      → loads price load store user site (registers_in list number (16 - number)) address sequential done ≡ done
+  loads_over user site list number address sequential done over =
+      ap (λ numbers. loads price load store user site numbers address sequential done)
+      (registers_in_over list number (16 - number) over) ∙ loads-nil user site address sequential done
+
   stores-cons : (user : Bool) (site : Site) (write : Bool) (rn base number : ℕ) (rest : List ℕ) (address : ℕ) (sequential : Bool) (file : List ℕ) (bus : State) (cycles : ℕ) → stores price load store user site write rn base (number ∷ rest) address sequential (done_of file bus cycles) ≡ stores price load store user site write rn base rest ((address + 4) % 2 ^ 32) true (done_of (if sequential then file else with_write_back write rn base file) (store bus address Word (block_register user site file number) sequential).after (cycles + (store bus address Word (block_register user site file number) sequential).price))
   unfolding stores
   stores-cons user site write rn base number rest address sequential file bus cycles = refl
@@ -59,3 +67,10 @@ module _ {State : Type 0} (price : Price State) (load : Load State) (store : Sto
   pub stores_none : (user : Bool) (site : Site) (write : Bool) (rn base list number address : ℕ) (sequential : Bool) (done : Done State) → 16 - number ≡ 0 → stores price load store user site write rn base (registers_in list number (16 - number)) address sequential done ≡ done
   stores_none user site write rn base list number address sequential done none =
       ap (λ numbers. stores price load store user site write rn base numbers address sequential done) (registers_in_none list number none) ∙ stores-nil user site write rn base address sequential done
+
+  pub stores_over : (user : Bool) (site : Site) (write : Bool) (rn base list number address : ℕ) (sequential : Bool) (done : Done State)
+      → list / 2 ^ number ≡ 0
+      → stores price load store user site write rn base (registers_in list number (16 - number)) address sequential done ≡ done
+  stores_over user site write rn base list number address sequential done over =
+      ap (λ numbers. stores price load store user site write rn base numbers address sequential done)
+      (registers_in_over list number (16 - number) over) ∙ stores-nil user site write rn base address sequential done

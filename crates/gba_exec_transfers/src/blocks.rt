@@ -46,6 +46,9 @@ fn load_list<B: Bus>(
     let mut address = run.first;
     let mut sequential = false;
     for number in 0..16 {
+        if run.list >> number == 0 {
+            break;
+        }
         if !bit(run.list, number) {
             continue;
         }
@@ -111,6 +114,9 @@ fn store_list<B: Bus>(
     let mut address = run.first;
     let mut sequential = false;
     for number in 0..16 {
+        if run.list >> number == 0 {
+            break;
+        }
         if !bit(run.list, number) {
             continue;
         }

@@ -107,6 +107,22 @@ impl Registers {
         }
     }
 
+    /// CPSR with other flags.
+    pub fn status_with(&self, flags: Flags) -> u32
+        ensures value { result ≡ status (with_flags self.now flags) }
+        ensures file { IsRegisterFile (with_flags self.now flags) }
+    {
+        flagged_status(self.cpsr(), flags)
+    }
+
+    /// The same registers once more.
+    pub fn twin(&self) -> Registers
+        ensures { result ≡ self.now }
+    {
+        let numbers = self.numbers;
+        Registers { numbers }
+    }
+
     /// Writes N, Z, C and V of CPSR.
     pub fn set_flags(&mut self, flags: Flags)
         ensures { self.new ≡ with_flags self.old flags }

@@ -1,5 +1,5 @@
 use Rattle.std.proofs.Common.{ap, sym, ◌∙◌, arith}
-use Rattle.gba_exec_transfers.proofs.Runs.{done_of, loads_more, loads_none, loads_skip}
+use Rattle.gba_exec_transfers.proofs.Runs.{done_of, loads_more, loads_none, loads_over, loads_skip}
 use Rattle.gba_exec_transfers.proofs.blocks.load_list.Goals as goal
 
 pub loop-number-preserved-then-not-bit : goal.loop-number-preserved-then-not-bit
@@ -25,12 +25,26 @@ loop-number-preserved g c = record {
       ∙ c.loop-number.invariant.rest;
 }
 
-pub returns-clause-leaves : goal.returns-clause-leaves
-returns-clause-leaves g c =
+pub returns-after-loop-number-clause-leaves : goal.returns-after-loop-number-clause-leaves
+returns-after-loop-number-clause-leaves g c =
     let whole =
     sym (loads_none g.B.Bus.code_price_of g.B.Bus.load_of g.B.Bus.store_of c.args.user c.args.site c.args.run.list c.loop-number.number
     c.loop-number.address c.loop-number.sequential
     (done_of c.loop-number.registers (g.B.Bus.state c.loop-number.bus) c.loop-number.total) (omega arith))
+    ∙ c.loop-number.invariant.rest
+    in
+    record {
+      registers_left = ap (λ done. done.registers) whole;
+      bus_left = ap (λ done. done.bus) whole;
+      cycles_taken = ap (λ done. done.cycles) whole;
+    }
+
+pub returns-then-run-number-eq0-clause-leaves : goal.returns-then-run-number-eq0-clause-leaves
+returns-then-run-number-eq0-clause-leaves g c =
+    let whole =
+    sym (loads_over g.B.Bus.code_price_of g.B.Bus.load_of g.B.Bus.store_of c.args.user c.args.site c.args.run.list c.loop-number.number
+    c.loop-number.address c.loop-number.sequential
+    (done_of c.loop-number.registers (g.B.Bus.state c.loop-number.bus) c.loop-number.total) c.if-run-number-eq0.true)
     ∙ c.loop-number.invariant.rest
     in
     record {
