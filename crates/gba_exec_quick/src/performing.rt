@@ -96,42 +96,18 @@ pub fn perform_quick<B: Bus>(registers: &mut Registers, bus: &mut B, site: Site,
             registers.set_flags(flags_of_outcome(outcome));
             code_price(bus, site, true)
         }
-        Quick::LoadWord { rn, rd, offset } => load_quick(
-            registers,
-            bus,
-            site,
-            LoadUnit::Word,
-            rn,
-            rd,
-            offset,
-        ),
-        Quick::LoadByte { rn, rd, offset } => load_quick(
-            registers,
-            bus,
-            site,
-            LoadUnit::Byte,
-            rn,
-            rd,
-            offset,
-        ),
-        Quick::StoreWord { rn, rd, offset } => store_quick(
-            registers,
-            bus,
-            site,
-            Width::Word,
-            rn,
-            rd,
-            offset,
-        ),
-        Quick::StoreByte { rn, rd, offset } => store_quick(
-            registers,
-            bus,
-            site,
-            Width::Byte,
-            rn,
-            rd,
-            offset,
-        ),
+        Quick::LoadWord { rn, rd, offset } => {
+            load_quick(registers, bus, site, LoadUnit::Word, rn, rd, offset)
+        }
+        Quick::LoadByte { rn, rd, offset } => {
+            load_quick(registers, bus, site, LoadUnit::Byte, rn, rd, offset)
+        }
+        Quick::StoreWord { rn, rd, offset } => {
+            store_quick(registers, bus, site, Width::Word, rn, rd, offset)
+        }
+        Quick::StoreByte { rn, rd, offset } => {
+            store_quick(registers, bus, site, Width::Byte, rn, rd, offset)
+        }
         Quick::Branch { distance } => {
             jump(registers, site.counter().wrapping_add(distance));
             jump_price(bus, site)

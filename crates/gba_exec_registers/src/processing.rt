@@ -26,7 +26,9 @@ use crate::outcome::Outcome;
 use gba_arm_table::{CompareOp, ComputeOp, Operand};
 use gba_bus::Bus;
 use gba_psr::{Flags, Registers};
-use gba_word::{Sum, add_carry, add_plain, bit, bits, rotate_immediate, shift, shift_fixed, subtract};
+use gba_word::{
+    Sum, add_carry, add_plain, bit, bits, rotate_immediate, shift, shift_fixed, subtract,
+};
 
 /// Data processing that writes the flags alone.
 pub fn compare(registers: &mut Registers, site: Site, op: CompareOp, rn: u8, operand: Operand)

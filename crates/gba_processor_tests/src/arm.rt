@@ -1,7 +1,7 @@
 //! ARM words by hand: the worked ones, r15 in each place, conditions, status registers, banks.
 
 use crate::Ram;
-use gba_arm_exec::execute;
+use gba_arm_exec::{decode_word, execute, execute_first};
 use gba_arm_table::{ArmOp, ComputeOp, Condition, Operand};
 use gba_bus::{Bus, Width};
 use gba_exec_registers::Site;
@@ -188,7 +188,9 @@ fn r15_in_each_place(rt: HostRuntime) {
         (0, 0xe10f_f000, (9, 0, 0x10, 0x10, 7)),
     ] {
         let mut registers = at(0x0800_0100, 0x10, [9, r1, 0, 0]);
-        let cycles = execute(&mut registers, &mut patterned(true), word);
+        let mut table = [decode_word(0)];
+        let cycles = execute_first(&mut registers, &mut patterned(true), &mut table, 0, word);
+        assert_eq!(rt; table[0].word, word);
         let after = (
             registers.get(0),
             registers.get(14),
