@@ -1,97 +1,28 @@
-use Rattle.std.specs.Prelude.{ℕ, Bool, true, false, List, Option, Some, None, ◌+◌, ◌%◌, ◌^◌, if◌then◌else◌}
+use Rattle.std.specs.Prelude.{ℕ, true, false, List, ◌+◌, ◌%◌, ◌^◌, if◌then◌else◌}
 use Rattle.gba_terms.specs.Bits.{field}
 use Rattle.gba_arm_table.specs.Numbers.{condition_of}
 use Rattle.gba_arm_table.specs.Table.{operation}
-use Rattle.gba_arm_table.specs.declared.operation.ArmOp.{ArmOp}
-use Rattle.gba_arm_table.specs.declared.operation.ArmOp.TheVariants as op
-use Rattle.gba_arm_table.specs.declared.operation.HalfKind.{HalfKind}
-use Rattle.gba_arm_table.specs.declared.operation.HalfKind.TheVariants.{StoreHalf, LoadHalf, LoadSignedByte, LoadSignedHalf}
 use Rattle.gba_bus.specs.Meanings.{Load, Price, Store}
-use Rattle.gba_bus.specs.declared.width.Width.TheVariants as width
 use Rattle.gba_psr.specs.RegisterFile.{flags, register, with_register}
-use Rattle.gba_arm_exec.specs.Access.{code_cost, jump_cost}
-use Rattle.gba_arm_exec.specs.Blocks.{after_load_block, after_store_block}
-use Rattle.gba_arm_exec.specs.Branching.{after_branch, after_exchange, after_interrupt, after_undefined, undefined_cost}
-use Rattle.gba_arm_exec.specs.Conditions.{holds}
-use Rattle.gba_arm_exec.specs.Done.{Done}
-use Rattle.gba_arm_exec.specs.Multiplying.{after_multiply, after_multiply_long, multiply_cost, multiply_long_cost}
-use Rattle.gba_arm_exec.specs.Processing.{after_compare, after_compute, compare_cost, compute_cost}
-use Rattle.gba_arm_exec.specs.StatusMoves.{after_read_status, after_write_status, read_status_cost, write_status_cost}
-use Rattle.gba_arm_exec.specs.Transfers.{after_load, after_store, after_swap, half_distance, transfer_distance}
-use Rattle.gba_arm_exec.specs.declared.products.LongProduct.{LongProduct}
-use Rattle.gba_arm_exec.specs.declared.products.Product.{Product}
-use Rattle.gba_arm_exec.specs.declared.site.Site.{Site}
-use Rattle.gba_arm_exec.specs.declared.transfer.BlockTransfer.{BlockTransfer}
-use Rattle.gba_arm_exec.specs.declared.transfer.LoadUnit.TheVariants as unit
-use Rattle.gba_arm_exec.specs.declared.transfer.SingleTransfer.{SingleTransfer}
+use Rattle.gba_exec_registers.specs.Access.{code_cost}
+use Rattle.gba_exec_registers.specs.Conditions.{holds}
+use Rattle.gba_exec_registers.specs.declared.site.Site.{Site}
+use Rattle.gba_exec_transfers.specs.Done.{Done}
+use Rattle.gba_exec_transfers.specs.Effects.{effect_of_word, internal}
 
-module _ {State : Type 0} (price : Price State) (load : Load State) (store : Store State) where
-  -- an operation that leaves the bus
-  abbrev pub internal : State → List ℕ → ℕ → Done State
-  internal bus file cycles = record { registers = file; bus = bus; cycles = cycles }
+-- where a word in ARM state stands: at the address in r15
+abbrev pub site_of : List ℕ → Site
+site_of file = record { address = register file 15; thumb = false }
 
-  -- a halfword or signed transfer
-  abbrev pub after_half : HalfKind → SingleTransfer → Site → List ℕ → State → Done State
-  after_half StoreHalf one site file bus = after_store price load store width.Half one site file bus
-  after_half LoadHalf one site file bus = after_load price load store unit.Half one site file bus
-  after_half LoadSignedByte one site file bus = after_load price load store unit.SignedByte one site file bus
-  after_half LoadSignedHalf one site file bus = after_load price load store unit.SignedHalf one site file bus
+-- the registers while a word executes: r15 is the address of the next instruction
+abbrev pub with_next : List ℕ → List ℕ
+with_next file = with_register file 15 ((register file 15 + 4) % 2 ^ 32)
 
-  -- a word or byte transfer
-  abbrev pub after_transfer : Bool → Bool → SingleTransfer → Site → List ℕ → State → Done State
-  after_transfer is_load byte one site file bus =
-      if is_load then after_load price load store (if byte then unit.Byte else unit.Word) one site file bus
-      else after_store price load store (if byte then width.Byte else width.Word) one site file bus
-
-  abbrev pub after_block : Bool → BlockTransfer → Site → List ℕ → State → Done State
-  after_block is_load block site file bus =
-      if is_load then after_load_block price load store block site file bus
-      else after_store_block price load store block site file bus
-
-  -- What an operation whose condition holds leaves. In the file, r15 is the address of the next instruction.
-  unfoldable pub performed : ArmOp → Site → List ℕ → State → Done State
-  performed (op.Exchange cond rm) site file bus =
-      internal bus (after_exchange rm site file) (jump_cost (code_cost price bus site))
-  performed (op.Multiply cond accumulate set rd rn rs rm) site file bus =
-      let one : Product = record { accumulate = accumulate; set = set; rd = rd; rn = rn; rs = rs; rm = rm } in
-      internal bus (after_multiply one site file) (multiply_cost one site file (code_cost price bus site))
-  performed (op.MultiplyLong cond signed accumulate set hi lo rs rm) site file bus =
-      let one : LongProduct =
-      record { signed = signed; accumulate = accumulate; set = set; hi = hi; lo = lo; rs = rs; rm = rm } in
-      internal bus (after_multiply_long one site file) (multiply_long_cost one site file (code_cost price bus site))
-  performed (op.Swap cond byte rn rd rm) site file bus = after_swap price load store byte rn rd rm site file bus
-  performed (op.Half cond kind pre up write rn rd offset) site file bus =
-      after_half kind
-      (record { pre = pre; up = up; write = write; rn = rn; rd = rd; distance = half_distance offset site file }) site file bus
-  performed (op.ReadStatus cond saved rd) site file bus =
-      internal bus (after_read_status saved rd file) (read_status_cost rd (code_cost price bus site))
-  performed (op.WriteStatus cond saved fields source) site file bus =
-      internal bus (after_write_status saved fields source site file) (write_status_cost (code_cost price bus site))
-  performed (op.Compute cond kind set rn rd operand) site file bus =
-      internal bus (after_compute kind set rn rd operand site file) (compute_cost rd operand (code_cost price bus site))
-  performed (op.Compare cond kind rn operand) site file bus =
-      internal bus (after_compare kind rn operand site file) (compare_cost operand (code_cost price bus site))
-  performed (op.Transfer cond is_load byte pre up write rn rd offset) site file bus =
-      after_transfer is_load byte
-      (record { pre = pre; up = up; write = write; rn = rn; rd = rd; distance = transfer_distance offset site file }) site file bus
-  performed (op.Block cond is_load pre up user write rn list) site file bus =
-      after_block is_load (record { pre = pre; up = up; user = user; write = write; rn = rn; list = list }) site file bus
-  performed (op.Branch cond link offset) site file bus =
-      internal bus (after_branch link offset site file) (jump_cost (code_cost price bus site))
-  performed (op.Interrupt cond comment) site file bus =
-      internal bus (after_interrupt file) (jump_cost (code_cost price bus site))
-
-  -- what a word whose condition holds leaves; one without an operation takes the Undefined trap
-  unfoldable pub performed_word : Option ArmOp → Site → List ℕ → State → Done State
-  performed_word None site file bus = internal bus (after_undefined file) (undefined_cost (code_cost price bus site))
-  performed_word (Some operation) site file bus = performed operation site file bus
-
-  -- A word executed in ARM state. r15 is first the word's own address, and then that of the next instruction. The
-  -- condition, bits 31 to 28, is tested before all else; where it doesn't hold, the word costs 1S
-  -- (ARM Architecture Reference Manual, A3.2; ARM7TDMI Technical Reference Manual, unexecuted instructions).
-  unfoldable pub executed : ℕ → List ℕ → State → Done State
-  executed word file bus =
-      let site : Site = record { address = register file 15; thumb = false } in
-      let next = with_register file 15 ((register file 15 + 4) % 2 ^ 32) in
-      if holds (condition_of (field word 28 4)) (flags next) then performed_word (operation word) site next bus
-      else internal bus next (code_cost price bus site true)
+-- A word executed in ARM state. r15 is first the word's own address, and then that of the next instruction. The
+-- condition, bits 31 to 28, is tested before all else; where it doesn't hold, the word costs 1S
+-- (ARM Architecture Reference Manual, A3.2; ARM7TDMI Technical Reference Manual, unexecuted instructions).
+unfoldable pub execution : {State : Type 0} → Price State → Load State → Store State → ℕ → List ℕ → State → Done State
+execution price load store word file bus =
+    if holds (condition_of (field word 28 4)) (flags (with_next file))
+    then effect_of_word price load store (operation word) (site_of file) (with_next file) bus
+    else internal price load store bus (with_next file) (code_cost price bus (site_of file) true)

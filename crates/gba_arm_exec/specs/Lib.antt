@@ -1,11 +1,1 @@
-pub mod Access
-pub mod Blocks
-pub mod Branching
-pub mod Conditions
-pub mod Done
 pub mod Execution
-pub mod Lengths
-pub mod Multiplying
-pub mod Processing
-pub mod StatusMoves
-pub mod Transfers

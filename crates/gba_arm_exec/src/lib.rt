@@ -1,40 +1,90 @@
 #![tactic(auto)]
 //! What each ARM instruction does to registers and memory, over any bus, and what it costs.
 
-ghost use Rattle.std.specs.Prelude.{◌≡◌};
-ghost use Rattle.gba_arm_exec.specs.Done.{Leaves};
-ghost use Rattle.gba_arm_exec.specs.Execution.{executed};
+ghost use Rattle.std.specs.Prelude.{◌≡◌, ◌<◌, IfSome, length};
+ghost use Rattle.gba_arm_exec.specs.Execution.{execution};
+ghost use Rattle.gba_arm_table.specs.Limits.{Fits};
+ghost use Rattle.gba_arm_table.specs.Table.{operation};
+ghost use Rattle.gba_exec_registers.specs.Conditions.{holds};
+ghost use Rattle.gba_exec_transfers.specs.Done.{Leaves};
+ghost use Rattle.gba_psr.specs.RegisterFile.{flags};
 
-mod access;
-mod blocks;
-mod branching;
-mod conditions;
+mod decoded;
+mod decoding;
 pub mod laws;
-mod multiplying;
-mod outcome;
-mod performing;
-mod processing;
-mod products;
-mod site;
-mod status_moves;
-mod transfer;
-mod transfers;
 
-pub use access::{code_price, jump, jump_price};
-pub use conditions::condition_holds;
-use gba_arm_table::decode;
+pub use decoded::Decoded;
+pub use decoding::decode_word;
+use decoding::make_decoded;
+use gba_arm_table::laws::operations_fit;
+use gba_arm_table::{ArmOp, Condition, condition_of, decode};
 use gba_bus::{Bus, Width};
+use gba_exec_quick::laws::{quick_forms_fit, quick_forms_have_their_effect};
+use gba_exec_quick::perform_quick;
+use gba_exec_registers::{Site, condition_holds};
+use gba_exec_transfers::perform_word;
 use gba_psr::Registers;
-use gba_word::bits;
-pub use performing::perform;
-use performing::perform_word;
-pub use site::Site;
 
 /// Executes an ARM word that stands at the address in r15, and answers the cycles. Afterwards r15 is the address of the
 /// next instruction (ARM Architecture Reference Manual, version 4T; cycles by the ARM7TDMI Technical Reference Manual).
-#[tactic(auto, unfolding(crate::specs::Execution::executed))]
 pub fn execute<B: Bus>(registers: &mut Registers, bus: &mut B, word: u32) -> u32
-    ensures { Leaves (executed B.code_price_of B.load_of B.store_of word registers.old (B.state bus.old))
+    ensures { Leaves (execution B.code_price_of B.load_of B.store_of word registers.old (B.state bus.old))
+        registers.new (B.state bus.new) result }
+{
+    execute_operation(registers, bus, word, decode(word))
+}
+
+/// Executes a word that was decoded before, as `execute` does.
+#[inline(always)]
+#[tactic(auto, unfolding(crate::specs::Execution::execution))]
+pub fn execute_decoded<B: Bus>(registers: &mut Registers, bus: &mut B, one: &Decoded) -> u32
+    ensures { Leaves (execution B.code_price_of B.load_of B.store_of one.now.word registers.old (B.state bus.old))
+        registers.new (B.state bus.new) result }
+{
+    operations_fit();
+    quick_forms_fit();
+    quick_forms_have_their_effect::<B>();
+    let site = Site {
+        address: registers.get(15),
+        thumb: false,
+    };
+    registers.set(15, site.address.wrapping_add(4));
+    if one.always || holds_now(registers, one.condition) {
+        perform_quick(registers, bus, site, &one.quick)
+    } else {
+        bus.code_price(site.address, Width::Word, true)
+    }
+}
+
+/// Executes a word as `execute` does, and keeps it decoded at a place of the table.
+#[inline(never)]
+pub fn execute_first<B: Bus>(
+    registers: &mut Registers,
+    bus: &mut B,
+    table: &mut [Decoded],
+    place: usize,
+    word: u32,
+) -> u32
+    requires { place < length table.old }
+    ensures { Leaves (execution B.code_price_of B.load_of B.store_of word registers.old (B.state bus.old))
+        registers.new (B.state bus.new) result }
+{
+    let op = decode(word);
+    table[place] = make_decoded(word, op);
+    execute_operation(registers, bus, word, op)
+}
+
+// Executes a word whose operation is at hand.
+#[tactic(auto, unfolding(crate::specs::Execution::execution))]
+fn execute_operation<B: Bus>(
+    registers: &mut Registers,
+    bus: &mut B,
+    word: u32,
+    op: Option<ArmOp>,
+) -> u32
+    requires operation { op ≡ operation word }
+    requires fits { IfSome op Fits }
+    ensures { Leaves (execution B.code_price_of B.load_of B.store_of word registers.old (B.state bus.old))
         registers.new (B.state bus.new) result }
 {
     let site = Site {
@@ -42,9 +92,17 @@ pub fn execute<B: Bus>(registers: &mut Registers, bus: &mut B, word: u32) -> u32
         thumb: false,
     };
     registers.set(15, site.address.wrapping_add(4));
-    if condition_holds(bits(word, 28, 4), registers.flags()) {
-        perform_word(registers, bus, site, decode(word))
+    if holds_now(registers, condition_of(word)) {
+        perform_word(registers, bus, site, op)
     } else {
         bus.code_price(site.address, Width::Word, true)
     }
+}
+
+// Whether a condition holds by the flags as they are.
+#[inline(never)]
+fn holds_now(registers: &Registers, condition: Condition) -> bool
+    ensures { result ≡ holds condition (flags registers.now) }
+{
+    condition_holds(condition, registers.flags())
 }

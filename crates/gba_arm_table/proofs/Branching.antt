@@ -10,7 +10,7 @@ use Rattle.gba_arm_table.specs.declared.form.Form.{Form}
 use Rattle.gba_arm_table.specs.declared.form.Form.TheVariants as form
 use Rattle.gba_arm_table.specs.Fields.{Bits}
 use Rattle.gba_arm_table.specs.Table.{Row, rows, form_in}
-use Rattle.gba_arm_table.specs.Branches.{branched}
+use Rattle.gba_arm_table.specs.Branches.{branch_form}
 
 -- The masks look at bits 27 to 20 and 7 to 4 alone. So a word has the row that these bits have with all others 0, and
 -- for those the checker compares the rows with the decision by bits, 4,096 times.
@@ -46,8 +46,8 @@ form_in-kept (row ∷ rest) all word =
 -- a number for each form, and back
 form_at : ℕ → Form
 form_at n = get_or (form.Exchange ∷ form.Multiply ∷ form.MultiplyLong ∷ form.Swap ∷ form.HalfTransfer ∷ form.SignedByteLoad
-    ∷ form.SignedHalfLoad ∷ form.StatusRead ∷ form.StatusWriteRegister ∷ form.StatusWriteTurned ∷ form.ProcessingByRegister
-    ∷ form.ProcessingFixed ∷ form.ProcessingTurned ∷ form.TransferNumber ∷ form.TransferShifted ∷ form.Block ∷ form.Branch
+    ∷ form.SignedHalfLoad ∷ form.StatusRead ∷ form.StatusWriteRegister ∷ form.StatusWriteImmediate ∷ form.ProcessingByRegister
+    ∷ form.ProcessingFixed ∷ form.ProcessingImmediate ∷ form.TransferNumber ∷ form.TransferShifted ∷ form.Block ∷ form.Branch
     ∷ form.Interrupt ∷ []) n form.Undefined
 
 abbrev number : Form → ℕ
@@ -60,10 +60,10 @@ number form.SignedByteLoad = 5
 number form.SignedHalfLoad = 6
 number form.StatusRead = 7
 number form.StatusWriteRegister = 8
-number form.StatusWriteTurned = 9
+number form.StatusWriteImmediate = 9
 number form.ProcessingByRegister = 10
 number form.ProcessingFixed = 11
-number form.ProcessingTurned = 12
+number form.ProcessingImmediate = 12
 number form.TransferNumber = 13
 number form.TransferShifted = 14
 number form.Block = 15
@@ -77,7 +77,7 @@ all_below test zero = true
 all_below test (suc n) = test n && all_below test n
 
 abbrev same_at : ℕ → ℕ → Bool
-same_at high low = nat_eq (number (form_in rows (kept high low))) (number (branched (field (kept high low))))
+same_at high low = nat_eq (number (form_in rows (kept high low))) (number (branch_form (field (kept high low))))
 
 all_same : all_below (λ high. all_below (same_at high) 16) 256 ≡ true
 unfolding rows all_below
@@ -94,10 +94,10 @@ form_at-number form.SignedByteLoad = refl
 form_at-number form.SignedHalfLoad = refl
 form_at-number form.StatusRead = refl
 form_at-number form.StatusWriteRegister = refl
-form_at-number form.StatusWriteTurned = refl
+form_at-number form.StatusWriteImmediate = refl
 form_at-number form.ProcessingByRegister = refl
 form_at-number form.ProcessingFixed = refl
-form_at-number form.ProcessingTurned = refl
+form_at-number form.ProcessingImmediate = refl
 form_at-number form.TransferNumber = refl
 form_at-number form.TransferShifted = refl
 form_at-number form.Block = refl
@@ -113,21 +113,21 @@ all_below-at test (suc n) all k small =
     let later : all_below test n ≡ true = grind arith in
     elim (cases_lt k n) [ inl below ↦ all_below-at test n later k below | inr above ↦ ap test (omega arith) ∙ here ]
 
-same_form : (high low : ℕ) → high < 256 → low < 16 → form_in rows (kept high low) ≡ branched (field (kept high low))
+same_form : (high low : ℕ) → high < 256 → low < 16 → form_in rows (kept high low) ≡ branch_form (field (kept high low))
 same_form high low high_small low_small =
     let row : all_below (same_at high) 16 ≡ true = all_below-at _ 256 all_same high high_small in
     let cell : same_at high low ≡ true = all_below-at (same_at high) 16 row low low_small in
-    let numbers : number (form_in rows (kept high low)) ≡ number (branched (field (kept high low))) = eqb-true _ _ cell in
+    let numbers : number (form_in rows (kept high low)) ≡ number (branch_form (field (kept high low))) = eqb-true _ _ cell in
     sym (form_at-number _) ∙ ap form_at numbers ∙ form_at-number _
 
 -- the decision reads these twelve fields alone
 branched_agrees : (f g : Bits) → f 25 3 ≡ g 25 3 → f 4 1 ≡ g 4 1 → f 7 1 ≡ g 7 1 → f 5 2 ≡ g 5 2 → f 23 2 ≡ g 23 2
     → f 22 1 ≡ g 22 1 → f 20 2 ≡ g 20 2 → f 20 1 ≡ g 20 1 → f 21 4 ≡ g 21 4 → f 21 1 ≡ g 21 1 → f 4 4 ≡ g 4 4
-    → f 24 1 ≡ g 24 1 → branched f ≡ branched g
+    → f 24 1 ≡ g 24 1 → branch_form f ≡ branch_form g
 branched_agrees f g a b c d e h i j k l m n = rw (a, b, c, d, e, h, i, j, k, l, m, n) refl
 
-branched-kept : (word : ℕ) → branched (field (kept (field word 20 8) (field word 4 4))) ≡ branched (field word)
-branched-kept word =
+branch_form-kept : (word : ℕ) → branch_form (field (kept (field word 20 8) (field word 4 4))) ≡ branch_form (field word)
+branch_form-kept word =
     branched_agrees (field (kept (field word 20 8) (field word 4 4))) (field word) (omega arith) (omega arith) (omega arith) (omega arith) (omega arith) (omega arith)
     (omega arith) (omega arith) (omega arith) (omega arith) (omega arith) (omega arith)
 
@@ -138,8 +138,8 @@ form_in-key word =
     form_in-kept rows all word ∙ ap (form_in rows) (and_looked word)
 
 -- the first row that fits is found by the decision by bits
-pub form_in-rows : (word : ℕ) → form_in rows word ≡ branched (field word)
+pub form_in-rows : (word : ℕ) → form_in rows word ≡ branch_form (field word)
 form_in-rows word =
     form_in-key word
     ∙ same_form (field word 20 8) (field word 4 4) (omega arith) (omega arith)
-    ∙ branched-kept word
+    ∙ branch_form-kept word

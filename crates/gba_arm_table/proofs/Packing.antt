@@ -8,7 +8,7 @@ use Rattle.std.proofs.lemmas.Nat.{pow-add, pow_pos, shr-shr, shr_high, shr_below
 use Rattle.std.specs.Prelude.{nat_le, ◌==◌}
 use Rattle.gba_terms.specs.Bits.{field}
 use Rattle.gba_arm_table.specs.declared.parts.Part.{Part}
-use Rattle.gba_arm_table.specs.Diagrams.{widths, packed, part, operand_parts, source_parts, transfer_parts}
+use Rattle.gba_arm_table.specs.Diagrams.{widths, pack, part, operand_parts, source_parts, transfer_parts}
 use Rattle.gba_arm_table.specs.declared.operation.Operand.{Operand}
 use Rattle.gba_arm_table.specs.declared.operation.Operand.TheVariants as operand
 use Rattle.gba_arm_table.specs.declared.operation.Source.{Source}
@@ -44,11 +44,11 @@ field-across v r low m k small =
 
 -- ---- a field of parts
 
-pub packed-small : (parts : List Part) → packed parts < 2 ^ widths parts
-packed-small [] = lit< tt
-packed-small (one ∷ rest) =
+pub pack-small : (parts : List Part) → pack parts < 2 ^ widths parts
+pack-small [] = lit< tt
+pack-small (one ∷ rest) =
     let head : one.value % 2 ^ one.width < 2 ^ one.width = mod_below _ _ (pow_pos _) in
-    let sum : one.value % 2 ^ one.width * 2 ^ widths rest + packed rest < 2 ^ widths rest * 2 ^ one.width = mul-add-lt _ _ _ _ head (packed-small rest) in
+    let sum : one.value % 2 ^ one.width * 2 ^ widths rest + pack rest < 2 ^ widths rest * 2 ^ one.width = mul-add-lt _ _ _ _ head (pack-small rest) in
     rw (pow-add 2 one.width (widths rest)) (grind arith)
 
 -- what a field of parts is, computed from how wide they are
@@ -100,24 +100,24 @@ field-step v w r W low width here later v_small r_small h l false false b3 e1 e2
     ∙ field-across v r low (W - low) (low + width - W) small
     ∙ ap (λ n. v % 2 ^ (low + width - W) * 2 ^ (W - low) + n) l
 
-pub field-packed : (parts : List Part) (low width : ℕ) → field (packed parts) low width ≡ read parts low width
-field-packed [] low width = grind arith
-field-packed (one ∷ rest) low width =
-    field-step (one.value % 2 ^ one.width) one.width (packed rest) (widths rest) low width
+pub field-pack : (parts : List Part) (low width : ℕ) → field (pack parts) low width ≡ read parts low width
+field-pack [] low width = grind arith
+field-pack (one ∷ rest) low width =
+    field-step (one.value % 2 ^ one.width) one.width (pack rest) (widths rest) low width
     (read rest low width) (read rest low (widths rest - low))
-    (mod_below _ _ (pow_pos one.width)) (packed-small rest) (field-packed rest low width) (field-packed rest low (widths rest - low))
+    (mod_below _ _ (pow_pos one.width)) (pack-small rest) (field-pack rest low width) (field-pack rest low (widths rest - low))
     _ _ _ refl refl refl
 
 -- ---- how the parts are put together one by one
 
 -- the word so far and the rest are all parts
 abbrev pub Packs : List Part → ℕ → List Part → Type 0
-Packs all word rest = (word * 2 ^ widths rest + packed rest ≡ packed all) × (widths rest ≤ 32) × (widths all ≤ 32)
+Packs all word rest = (word * 2 ^ widths rest + pack rest ≡ pack all) × (widths rest ≤ 32) × (widths all ≤ 32)
 
 -- the word so far is no larger than the whole
 pub Packs-small : (all : List Part) (word : ℕ) (rest : List Part) → Packs all word rest → word < 2 ^ 32
 Packs-small all word rest h =
-    let whole : packed all < 2 ^ widths all = packed-small all in
+    let whole : pack all < 2 ^ widths all = pack-small all in
     let bound : 2 ^ widths all ≤ 2 ^ 32 = pow_mono h.2 in
     let grown : word ≤ word * 2 ^ widths rest = le-mul_of_pos_right word (pow_pos (widths rest)) in
     omega (arith, h.0)
@@ -149,25 +149,31 @@ widths-nested : (upper lower : List Part) (width value : ℕ) → widths lower �
 widths-nested [] lower width value e = omega (arith, e)
 widths-nested (one ∷ rest) lower width value e = ap (λ n. one.width + n) (widths-nested rest lower width value e)
 
-pub packed-nested : (upper lower : List Part) (width : ℕ) → widths lower ≡ width
-    → packed (upper ++ part width (packed lower) ∷ []) ≡ packed (upper ++ lower)
-packed-nested [] lower width e =
-    let small : packed lower < 2 ^ width = subst (λ n. packed lower < 2 ^ n) e (packed-small lower) in
-    let whole : packed lower % 2 ^ width ≡ packed lower = mod-eq_of_lt small in
+pub pack-nested : (upper lower : List Part) (width : ℕ) → widths lower ≡ width
+    → pack (upper ++ part width (pack lower) ∷ []) ≡ pack (upper ++ lower)
+pack-nested [] lower width e =
+    let small : pack lower < 2 ^ width = subst (λ n. pack lower < 2 ^ n) e (pack-small lower) in
+    let whole : pack lower % 2 ^ width ≡ pack lower = mod-eq_of_lt small in
     omega (arith, whole)
-packed-nested (one ∷ rest) lower width e =
-    ap₂ (λ n m. one.value % 2 ^ one.width * 2 ^ n + m) (widths-nested rest lower width (packed lower) e) (packed-nested rest lower width e)
+pack-nested (one ∷ rest) lower width e =
+    ap₂ (λ n m. one.value % 2 ^ one.width * 2 ^ n + m) (widths-nested rest lower width (pack lower) e) (pack-nested rest lower width e)
 
 -- what stands at the low end of data processing, of MSR and of a transfer has twelve bits
 pub widths-operand : (operand : Operand) → widths (operand_parts operand) ≡ 12
-widths-operand (operand.Turned value turn) = refl
+widths-operand (operand.Immediate value turn) = refl
 widths-operand (operand.Fixed rm kind amount) = refl
 widths-operand (operand.ByRegister rm kind rs) = refl
 
 pub widths-source : (source : Source) → widths (source_parts source) ≡ 12
-widths-source (source.Turned value turn) = refl
+widths-source (source.Immediate value turn) = refl
 widths-source (source.Plain rm) = refl
 
 pub widths-transfer : (offset : TransferOffset) → widths (transfer_parts offset) ≡ 12
 widths-transfer (transfer_offset.Number value) = refl
 widths-transfer (transfer_offset.Shifted rm kind amount) = refl
+
+-- a word whose low end was put together first
+pub pack-transfer : (whole upper : List Part) (offset : TransferOffset) (word : ℕ) → whole ≡ upper ++ transfer_parts offset
+    → word ≡ pack (upper ++ part 12 (pack (transfer_parts offset)) ∷ []) → word ≡ pack whole
+pack-transfer whole upper offset word is nested =
+    nested ∙ pack-nested upper (transfer_parts offset) 12 (widths-transfer offset) ∙ sym (ap pack is)

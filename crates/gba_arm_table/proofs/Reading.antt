@@ -43,7 +43,7 @@ operation_of-fits form.SignedByteLoad word = half-fits _ word
 operation_of-fits form.SignedHalfLoad word = half-fits _ word
 operation_of-fits form.ProcessingByRegister word = processing-fits _ (search rules) tt word
 operation_of-fits form.ProcessingFixed word = processing-fits _ (search rules) (search rules) word
-operation_of-fits form.ProcessingTurned word = processing-fits _ tt (search rules) word
+operation_of-fits form.ProcessingImmediate word = processing-fits _ tt (search rules) word
 operation_of-fits form.Branch word = record { registers = tt; immediates = tt; offsets = (distance-signed (field word 0 24) (omega arith), tt) }
 operation_of-fits form.Undefined word = tt
 operation_of-fits _ word = record { registers = search rules; immediates = search rules; offsets = search rules }

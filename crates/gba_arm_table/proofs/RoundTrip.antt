@@ -31,14 +31,14 @@ use Rattle.std.specs.Prelude.{ℤ, pos, negsuc}
 use Rattle.gba_word.specs.Sums.{flag_number}
 use Rattle.gba_arm_table.specs.Numbers.{condition_of, condition_number, compute_of, compute_number, compare_of, compare_number, shift_of, shift_number, signed_of}
 use Rattle.gba_arm_table.specs.Table.{operation, operation_of}
-use Rattle.gba_arm_table.specs.Branches.{branched}
-use Rattle.gba_arm_table.specs.Diagrams.{packed, diagram, has_manual_bits}
+use Rattle.gba_arm_table.specs.Branches.{branch_form}
+use Rattle.gba_arm_table.specs.Diagrams.{pack, diagram, has_manual_bits}
 use Rattle.gba_arm_table.specs.Encoding.{encoding}
 use Rattle.gba_arm_table.specs.declared.encoding.EncodeError.{EncodeError}
 use Rattle.gba_arm_table.proofs.Reading.{operation-Fits}
 use Rattle.std.proofs.lemmas.Option.{IfSome_then}
 use Rattle.gba_arm_table.proofs.Branching.{form_in-rows}
-use Rattle.gba_arm_table.proofs.Packing.{read, field-packed}
+use Rattle.gba_arm_table.proofs.Packing.{read, field-pack}
 
 -- ---- numbers and back
 
@@ -64,15 +64,15 @@ flag-back : (set : Bool) → (flag_number set % 2 == 1) ≡ set
 flag-back true = refl
 flag-back false = refl
 
-field-read : (parts : List Part) → field (packed parts) ≡ read parts
-field-read parts = fun_ext (λ low. fun_ext (λ width. field-packed parts low width))
+field-read : (parts : List Part) → field (pack parts) ≡ read parts
+field-read parts = fun_ext (λ low. fun_ext (λ width. field-pack parts low width))
 
 -- the operation of a word is computed from its parts
-operation-packed : (parts : List Part) → operation (packed parts) ≡ operation_of (branched (read parts)) (read parts)
+operation-pack : (parts : List Part) → operation (pack parts) ≡ operation_of (branch_form (read parts)) (read parts)
 unfolding operation
-operation-packed parts =
-    ap (λ form. operation_of form (field (packed parts))) (form_in-rows (packed parts))
-    ∙ ap (λ bits. operation_of (branched bits) bits) (field-read parts)
+operation-pack parts =
+    ap (λ form. operation_of form (field (pack parts))) (form_in-rows (pack parts))
+    ∙ ap (λ bits. operation_of (branch_form bits) bits) (field-read parts)
 
 compute-apart : (o : ComputeOp) → (compute_number o % 16 / 4 == 2) ≡ false
 compute-apart And = refl
@@ -133,7 +133,7 @@ halves-back n small = omega arith
 
 -- what the parts of a diagram say is the operation that was drawn
 abbrev Back : ArmOp → Type 0
-Back o = operation_of (branched (read (diagram o))) (read (diagram o)) ≡ Some o
+Back o = operation_of (branch_form (read (diagram o))) (read (diagram o)) ≡ Some o
 
 exchange-back : (cond : Condition) (rm : ℕ) → rm < 16 → Back (op.Exchange cond rm)
 exchange-back cond rm h1 = simp (condition-back, mod-eq_of_lt)
@@ -169,14 +169,14 @@ read_status-back cond false rd h1 = simp (condition-back, mod-eq_of_lt)
 
 write_status-back : (cond : Condition) (saved : Bool) (fields : ℕ) (source : Source) → fields < 16
     → Within (source_registers source) → Within (source_immediates source) → Back (op.WriteStatus cond saved fields source)
-write_status-back cond true fields (source.Turned value turn) h1 r i = simp (condition-back, mod-eq_of_lt h1, mod-eq_of_lt i.0, mod-eq_of_lt i.1.0)
+write_status-back cond true fields (source.Immediate value turn) h1 r i = simp (condition-back, mod-eq_of_lt h1, mod-eq_of_lt i.0, mod-eq_of_lt i.1.0)
 write_status-back cond true fields (source.Plain rm) h1 r i = simp (condition-back, mod-eq_of_lt h1, mod-eq_of_lt r.0)
-write_status-back cond false fields (source.Turned value turn) h1 r i = simp (condition-back, mod-eq_of_lt h1, mod-eq_of_lt i.0, mod-eq_of_lt i.1.0)
+write_status-back cond false fields (source.Immediate value turn) h1 r i = simp (condition-back, mod-eq_of_lt h1, mod-eq_of_lt i.0, mod-eq_of_lt i.1.0)
 write_status-back cond false fields (source.Plain rm) h1 r i = simp (condition-back, mod-eq_of_lt h1, mod-eq_of_lt r.0)
 
 processing-back : (cond : Condition) (o : ComputeOp) (set : Bool) (rn rd : ℕ) (operand : Operand) → rn < 16 → rd < 16
     → Within (operand_registers operand) → Within (operand_immediates operand) → Back (op.Compute cond o set rn rd operand)
-processing-back cond o set rn rd (operand.Turned value turn) h1 h2 r i =
+processing-back cond o set rn rd (operand.Immediate value turn) h1 h2 r i =
     simp (compute-apart, compute-back, condition-back, flag-back, mod-eq_of_lt h1, mod-eq_of_lt h2, mod-eq_of_lt i.0, mod-eq_of_lt i.1.0)
 processing-back cond o set rn rd (operand.Fixed rm kind amount) h1 h2 r i =
     simp (compute-apart, compute-back, condition-back, flag-back, shift-back, mod-eq_of_lt h1, mod-eq_of_lt h2, mod-eq_of_lt r.0, mod-eq_of_lt i.0)
@@ -185,7 +185,7 @@ processing-back cond o set rn rd (operand.ByRegister rm kind rs) h1 h2 r i =
 
 compare_operand-back : (cond : Condition) (o : CompareOp) (rn : ℕ) (operand : Operand) → rn < 16
     → Within (operand_registers operand) → Within (operand_immediates operand) → Back (op.Compare cond o rn operand)
-compare_operand-back cond o rn (operand.Turned value turn) h1 r i =
+compare_operand-back cond o rn (operand.Immediate value turn) h1 r i =
     simp (compare-together, compare-back, condition-back, mod-eq_of_lt h1, mod-eq_of_lt i.0, mod-eq_of_lt i.1.0)
 compare_operand-back cond o rn (operand.Fixed rm kind amount) h1 r i =
     simp (compare-together, compare-back, condition-back, shift-back, mod-eq_of_lt h1, mod-eq_of_lt r.0, mod-eq_of_lt i.0)
@@ -237,8 +237,8 @@ diagram-back (op.Branch cond link offset) h = branch-back _ _ offset h.offsets.0
 diagram-back (op.Interrupt cond comment) h = interrupt-back _ _ h.immediates.0
 
 -- an operation whose fields fit comes back from its word
-pub operation-diagram : (o : ArmOp) → Fits o → operation (packed (diagram o)) ≡ Some o
-operation-diagram o h = operation-packed (diagram o) ∙ diagram-back o h
+pub operation-diagram : (o : ArmOp) → Fits o → operation (pack (diagram o)) ≡ Some o
+operation-diagram o h = operation-pack (diagram o) ∙ diagram-back o h
 
 Within-within : (limits : List Limit) → within limits ≡ true → Within limits
 Within-within [] all = tt
@@ -258,7 +258,7 @@ pub fitting : (o : ArmOp) → within (registers_of o) ≡ true → within (immed
 fitting o r i f = record { registers = Within-within _ r; immediates = Within-within _ i; offsets = Within-within _ f }
 
 -- an operation whose fields fit is encoded
-pub encoding-Fits : (o : ArmOp) → Fits o → encoding o ≡ Ok (packed (diagram o))
+pub encoding-Fits : (o : ArmOp) → Fits o → encoding o ≡ Ok (pack (diagram o))
 unfolding encoding
 encoding-Fits o h =
     let r : within (registers_of o) ≡ true = within-Within _ h.registers in
@@ -284,12 +284,12 @@ manual-read (op.Swap cond byte rn rd rm) = refl
 manual-read (op.Half cond kind pre up write rn rd (half_offset.Number value)) = refl
 manual-read (op.Half cond kind pre up write rn rd (half_offset.Plain rm)) = refl
 manual-read (op.ReadStatus cond saved rd) = refl
-manual-read (op.WriteStatus cond saved fields (source.Turned value turn)) = refl
+manual-read (op.WriteStatus cond saved fields (source.Immediate value turn)) = refl
 manual-read (op.WriteStatus cond saved fields (source.Plain rm)) = refl
-manual-read (op.Compare cond o rn (operand.Turned value turn)) = refl
+manual-read (op.Compare cond o rn (operand.Immediate value turn)) = refl
 manual-read (op.Compare cond o rn (operand.Fixed rm kind amount)) = refl
 manual-read (op.Compare cond o rn (operand.ByRegister rm kind rs)) = refl
 manual-read _ = refl
 
-pub manual-diagram : (o : ArmOp) → has_manual_bits o (field (packed (diagram o))) ≡ true
+pub manual-diagram : (o : ArmOp) → has_manual_bits o (field (pack (diagram o))) ≡ true
 manual-diagram o = ap (has_manual_bits o) (field-read (diagram o)) ∙ manual-read o

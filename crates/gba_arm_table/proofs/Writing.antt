@@ -14,9 +14,9 @@ use Rattle.gba_arm_table.specs.declared.operation.HalfOffset.TheVariants as half
 use Rattle.std.specs.Int.{cast_unsigned, w32}
 use Rattle.gba_word.specs.Sums.{flag_number}
 use Rattle.gba_arm_table.specs.Numbers.{signed_of, condition_of, condition_number, compute_of, compute_number, compare_of, compare_number, shift_of, shift_number}
-use Rattle.gba_arm_table.specs.Fields.{flag, condition, exchange, multiply, multiply_long, swap, half, read_status, write_status, plain_source, turned_source, is_compare, compare, compute, processing, by_register, fixed, turned, transfer, number_offset, shifted_offset, block, branch, interrupt}
+use Rattle.gba_arm_table.specs.Fields.{flag, condition, exchange, multiply, multiply_long, swap, half, read_status, write_status, plain_source, immediate_source, is_compare, compare, compute, processing, by_register, fixed, immediate, transfer, number_offset, shifted_offset, block, branch, interrupt}
 use Rattle.gba_arm_table.specs.Table.{rows, form_in, operation, operation_of}
-use Rattle.gba_arm_table.specs.Diagrams.{packed, diagram, processing_parts, has_manual_bits, has_manual_half, is_load, half_code}
+use Rattle.gba_arm_table.specs.Diagrams.{pack, diagram, processing_parts, has_manual_bits, has_manual_half, is_load, half_code}
 use Rattle.gba_arm_table.specs.Encoding.{encoding}
 use Rattle.gba_arm_table.specs.Limits.{Fits}
 use Rattle.gba_arm_table.proofs.Reading.{operation-Fits}
@@ -75,10 +75,10 @@ settled form.SignedByteLoad high low = high / 32 == 0 && high % 2 == 1 && low ==
 settled form.SignedHalfLoad high low = high / 32 == 0 && high % 2 == 1 && low == 15
 settled form.StatusRead high low = high / 8 == 2 && high % 4 == 0 && low == 0
 settled form.StatusWriteRegister high low = high / 8 == 2 && high % 4 == 2 && low == 0
-settled form.StatusWriteTurned high low = high / 8 == 6 && high % 4 == 2
+settled form.StatusWriteImmediate high low = high / 8 == 6 && high % 4 == 2
 settled form.ProcessingByRegister high low = high / 32 == 0 && low % 2 == 1 && low / 8 == 0 && sets high
 settled form.ProcessingFixed high low = high / 32 == 0 && low % 2 == 0 && sets high
-settled form.ProcessingTurned high low = high / 32 == 1 && sets high
+settled form.ProcessingImmediate high low = high / 32 == 1 && sets high
 settled form.TransferNumber high low = high / 32 == 2
 settled form.TransferShifted high low = high / 32 == 3 && low % 2 == 0
 settled form.Block high low = high / 32 == 4
@@ -103,7 +103,7 @@ settled-rows word =
 
 -- the operation's own encoding is the word
 abbrev Writes : ℕ → ArmOp → Type 0
-Writes word o = has_manual_bits o (field word) ≡ true → packed (diagram o) ≡ word
+Writes word o = has_manual_bits o (field word) ≡ true → pack (diagram o) ≡ word
 
 abbrev Settled : Form → ℕ → Type 0
 Settled f word = settled f (field word 20 8) (field word 4 4) ≡ true
@@ -149,7 +149,7 @@ swap-there word small s m =
 
 half_number-there : (kind : HalfKind) (word : ℕ) → word < 2 ^ 32 → field word 25 3 ≡ 0 → field word 7 1 ≡ 1 → field word 4 1 ≡ 1
     → flag_number (is_load kind) ≡ field word 20 1 → half_code kind ≡ field word 5 2 → field word 22 1 ≡ 1
-    → packed (diagram (op.Half (condition (field word)) kind (flag (field word) 24) (flag (field word) 23) (flag (field word) 21)
+    → pack (diagram (op.Half (condition (field word)) kind (flag (field word) 24) (flag (field word) 23) (flag (field word) 21)
     (field word 16 4) (field word 12 4) (half_offset.Number (field word 8 4 * 16 + field word 0 4)))) ≡ word
 half_number-there kind word small h25 h7 h4 load code number =
     rw (
@@ -164,7 +164,7 @@ half_number-there kind word small h25 h7 h4 load code number =
 
 half_plain-there : (kind : HalfKind) (word : ℕ) → word < 2 ^ 32 → field word 25 3 ≡ 0 → field word 7 1 ≡ 1 → field word 4 1 ≡ 1
     → flag_number (is_load kind) ≡ field word 20 1 → half_code kind ≡ field word 5 2 → field word 22 1 ≡ 0 → field word 8 4 ≡ 0
-    → packed (diagram (op.Half (condition (field word)) kind (flag (field word) 24) (flag (field word) 23) (flag (field word) 21)
+    → pack (diagram (op.Half (condition (field word)) kind (flag (field word) 24) (flag (field word) 23) (flag (field word) 21)
     (field word 16 4) (field word 12 4) (half_offset.Plain (field word 0 4)))) ≡ word
 half_plain-there kind word small h25 h7 h4 load code plain zeros =
     rw (
@@ -181,7 +181,7 @@ half-cases : (kind : HalfKind) (word : ℕ) → word < 2 ^ 32 → field word 25 
     → flag_number (is_load kind) ≡ field word 20 1 → half_code kind ≡ field word 5 2 → (b : Bool) → flag (field word) 22 ≡ b
     → (let offset = if b then half_offset.Number (field word 8 4 * 16 + field word 0 4) else half_offset.Plain (field word 0 4) in
     has_manual_half offset (field word) ≡ true
-    → packed (diagram (op.Half (condition (field word)) kind (flag (field word) 24) (flag (field word) 23) (flag (field word) 21)
+    → pack (diagram (op.Half (condition (field word)) kind (flag (field word) 24) (flag (field word) 23) (flag (field word) 21)
     (field word 16 4) (field word 12 4) offset)) ≡ word)
 half-cases kind word small h25 h7 h4 load code true b m = half_number-there kind word small h25 h7 h4 load code (eqb-true _ _ b)
 half-cases kind word small h25 h7 h4 load code false b m =
@@ -237,9 +237,9 @@ write_plain-there word small s m =
     let zeros : field word 8 4 ≡ 0 = grind (arith, nat_tests) in
     rw (condition-there (field word 28 4) (omega arith), flag-there (field word 22 1) (omega arith)) (omega arith)
 
-write_turned-there : (word : ℕ) → word < 2 ^ 32 → Settled form.StatusWriteTurned word
-    → Writes word (write_status (turned_source (field word)) (field word))
-write_turned-there word small s m =
+write_immediate-there : (word : ℕ) → word < 2 ^ 32 → Settled form.StatusWriteImmediate word
+    → Writes word (write_status (immediate_source (field word)) (field word))
+write_immediate-there word small s m =
     let high : field word 20 8 / 8 ≡ 6 = grind (arith, nat_tests) in
     let middle : field word 20 8 % 4 ≡ 2 = grind (arith, nat_tests) in
     let ones : field word 12 4 ≡ 15 = grind (arith, nat_tests) in
@@ -308,7 +308,7 @@ interrupt-there word small s m =
 -- the parts of data processing are the word's, whichever operation it is
 abbrev Processes : ℕ → Operand → Type 0
 Processes word operand = (number rd : ℕ) (set : Bool) → number ≡ field word 21 4 → flag_number set ≡ field word 20 1 → rd ≡ field word 12 4
-    → packed (processing_parts (condition (field word)) number set (field word 16 4) rd operand) ≡ word
+    → pack (processing_parts (condition (field word)) number set (field word 16 4) rd operand) ≡ word
 
 by_register-there : (word : ℕ) → word < 2 ^ 32 → Settled form.ProcessingByRegister word → Processes word (by_register (field word))
 by_register-there word small s number rd set n f r =
@@ -323,8 +323,8 @@ fixed-there word small s number rd set n f r =
     let low : field word 4 4 % 2 ≡ 0 = grind (arith, nat_tests) in
     rw (condition-there (field word 28 4) (omega arith), shift-there (field word 5 2) (omega arith), n, f, r) (omega arith)
 
-turned-there : (word : ℕ) → word < 2 ^ 32 → Settled form.ProcessingTurned word → Processes word (turned (field word))
-turned-there word small s number rd set n f r =
+immediate-there : (word : ℕ) → word < 2 ^ 32 → Settled form.ProcessingImmediate word → Processes word (immediate (field word))
+immediate-there word small s number rd set n f r =
     let high : field word 20 8 / 32 ≡ 1 = grind (arith, nat_tests) in
     rw (condition-there (field word 28 4) (omega arith), n, f, r) (omega arith)
 
@@ -356,10 +356,10 @@ form-there form.SignedByteLoad word small s = signed_byte-there word small s
 form-there form.SignedHalfLoad word small s = signed_half-there word small s
 form-there form.StatusRead word small s = read_status-there word small s
 form-there form.StatusWriteRegister word small s = write_plain-there word small s
-form-there form.StatusWriteTurned word small s = write_turned-there word small s
+form-there form.StatusWriteImmediate word small s = write_immediate-there word small s
 form-there form.ProcessingByRegister word small s = processing-there word _ (by_register-there word small s) (grind arith)
 form-there form.ProcessingFixed word small s = processing-there word _ (fixed-there word small s) (grind arith)
-form-there form.ProcessingTurned word small s = processing-there word _ (turned-there word small s) (grind arith)
+form-there form.ProcessingImmediate word small s = processing-there word _ (immediate-there word small s) (grind arith)
 form-there form.TransferNumber word small s = number-there word small s
 form-there form.TransferShifted word small s = shifted-there word small s
 form-there form.Block word small s = block-there word small s

@@ -7,8 +7,8 @@ use Rattle.gba_arm_table.specs.Fields.{Bits, flag, is_compare}
 -- the table is proved.
 
 -- with bits 7 and 4 set: multiplies, SWP and halfword transfers
-abbrev pub extended : Bits → Form
-extended bits =
+abbrev pub extension_form : Bits → Form
+extension_form bits =
     if bits 5 2 == 0 then
     (if bits 23 2 == 0 then (if flag bits 22 then form.Undefined else form.Multiply)
     else if bits 23 2 == 1 then form.MultiplyLong
@@ -29,7 +29,7 @@ status bits =
 abbrev pub registers : Bits → Form
 registers bits =
     if flag bits 4 then
-    (if flag bits 7 then extended bits
+    (if flag bits 7 then extension_form bits
     else if is_compare bits then (if flag bits 20 then form.ProcessingByRegister else status bits)
     else form.ProcessingByRegister)
     else if is_compare bits then (if flag bits 20 then form.ProcessingFixed else status bits)
@@ -39,13 +39,13 @@ registers bits =
 abbrev pub immediates : Bits → Form
 immediates bits =
     if is_compare bits then
-    (if flag bits 20 then form.ProcessingTurned
-    else if flag bits 21 then form.StatusWriteTurned
+    (if flag bits 20 then form.ProcessingImmediate
+    else if flag bits 21 then form.StatusWriteImmediate
     else form.Undefined)
-    else form.ProcessingTurned
+    else form.ProcessingImmediate
 
-abbrev pub branched : Bits → Form
-branched bits =
+abbrev pub branch_form : Bits → Form
+branch_form bits =
     if bits 25 3 == 0 then registers bits
     else if bits 25 3 == 1 then immediates bits
     else if bits 25 3 == 2 then form.TransferNumber

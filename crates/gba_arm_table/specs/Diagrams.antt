@@ -37,30 +37,30 @@ widths [] = 0
 widths (one ∷ rest) = one.width + widths rest
 
 -- the parts side by side: the first one stands above the others
-abbrev pub packed : List Part → ℕ
-packed [] = 0
-packed (one ∷ rest) = one.value % 2 ^ one.width * 2 ^ widths rest + packed rest
+abbrev pub pack : List Part → ℕ
+pack [] = 0
+pack (one ∷ rest) = one.value % 2 ^ one.width * 2 ^ widths rest + pack rest
 
 -- bits 11 to 0 of data processing (A5.1), and bit 25: whether they are a turned number
 abbrev pub operand_parts : Operand → List Part
-operand_parts (operand.Turned value turn) = part 4 turn ∷ part 8 value ∷ []
+operand_parts (operand.Immediate value turn) = part 4 turn ∷ part 8 value ∷ []
 operand_parts (operand.Fixed rm kind amount) = part 5 amount ∷ part 2 (shift_number kind) ∷ part 1 0 ∷ part 4 rm ∷ []
 operand_parts (operand.ByRegister rm kind rs) =
     part 4 rs ∷ part 1 0 ∷ part 2 (shift_number kind) ∷ part 1 1 ∷ part 4 rm ∷ []
 
-abbrev pub is_turned : Operand → Bool
-is_turned (operand.Turned value turn) = true
-is_turned (operand.Fixed rm kind amount) = false
-is_turned (operand.ByRegister rm kind rs) = false
+abbrev pub is_immediate : Operand → Bool
+is_immediate (operand.Immediate value turn) = true
+is_immediate (operand.Fixed rm kind amount) = false
+is_immediate (operand.ByRegister rm kind rs) = false
 
 -- bits 11 to 0 of MSR (A4.1), and bit 25
 abbrev pub source_parts : Source → List Part
-source_parts (source.Turned value turn) = part 4 turn ∷ part 8 value ∷ []
+source_parts (source.Immediate value turn) = part 4 turn ∷ part 8 value ∷ []
 source_parts (source.Plain rm) = part 8 0 ∷ part 4 rm ∷ []
 
-abbrev pub is_turned_source : Source → Bool
-is_turned_source (source.Turned value turn) = true
-is_turned_source (source.Plain rm) = false
+abbrev pub is_immediate_source : Source → Bool
+is_immediate_source (source.Immediate value turn) = true
+is_immediate_source (source.Plain rm) = false
 
 -- bits 11 to 0 of a word or byte transfer (A5.2), and bit 25: whether they are a register
 abbrev pub transfer_parts : TransferOffset → List Part
@@ -101,7 +101,7 @@ half_code LoadSignedHalf = 3
 -- data processing (A3.4): the number of the operation in bits 24 to 21
 abbrev pub processing_parts : Condition → ℕ → Bool → ℕ → ℕ → Operand → List Part
 processing_parts cond number set rn rd operand =
-    condition_part cond ∷ part 2 0 ∷ flag_part (is_turned operand) ∷ part 4 number ∷ flag_part set ∷ part 4 rn ∷ part 4 rd
+    condition_part cond ∷ part 2 0 ∷ flag_part (is_immediate operand) ∷ part 4 number ∷ flag_part set ∷ part 4 rn ∷ part 4 rd
     ∷ operand_parts operand
 
 -- the word of an operation, from bit 31 down
@@ -123,7 +123,7 @@ diagram (op.Half cond kind pre up write rn rd offset) =
 diagram (op.ReadStatus cond saved rd) =
     condition_part cond ∷ part 5 2 ∷ flag_part saved ∷ part 2 0 ∷ part 4 15 ∷ part 4 rd ∷ part 12 0 ∷ []
 diagram (op.WriteStatus cond saved fields source) =
-    condition_part cond ∷ part 2 0 ∷ flag_part (is_turned_source source) ∷ part 2 2 ∷ flag_part saved ∷ part 2 2
+    condition_part cond ∷ part 2 0 ∷ flag_part (is_immediate_source source) ∷ part 2 2 ∷ flag_part saved ∷ part 2 2
     ∷ part 4 fields ∷ part 4 15 ∷ source_parts source
 diagram (op.Compute cond op set rn rd operand) = processing_parts cond (compute_number op) set rn rd operand
 diagram (op.Compare cond op rn operand) = processing_parts cond (compare_number op) true rn 0 operand
@@ -142,7 +142,7 @@ has_manual_half (half_offset.Number value) bits = true
 has_manual_half (half_offset.Plain rm) bits = bits 8 4 == 0
 
 abbrev pub has_manual_source : Source → Bits → Bool
-has_manual_source (source.Turned value turn) bits = true
+has_manual_source (source.Immediate value turn) bits = true
 has_manual_source (source.Plain rm) bits = bits 8 4 == 0
 
 abbrev pub has_manual_bits : ArmOp → Bits → Bool

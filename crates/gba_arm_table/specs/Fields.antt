@@ -70,8 +70,8 @@ write_status source bits = op.WriteStatus (condition bits) (flag bits 22) (bits 
 abbrev pub plain_source : Bits → Source
 plain_source bits = source.Plain (bits 0 4)
 
-abbrev pub turned_source : Bits → Source
-turned_source bits = source.Turned (bits 0 8) (bits 8 4)
+abbrev pub immediate_source : Bits → Source
+immediate_source bits = source.Immediate (bits 0 8) (bits 8 4)
 
 -- whether bits 24 to 21 are one of 8 to 11, TST to CMN
 abbrev pub is_compare : Bits → Bool
@@ -97,8 +97,8 @@ by_register bits = operand.ByRegister (bits 0 4) (shift_of (bits 5 2)) (bits 8 4
 abbrev pub fixed : Bits → Operand
 fixed bits = operand.Fixed (bits 0 4) (shift_of (bits 5 2)) (bits 7 5)
 
-abbrev pub turned : Bits → Operand
-turned bits = operand.Turned (bits 0 8) (bits 8 4)
+abbrev pub immediate : Bits → Operand
+immediate bits = operand.Immediate (bits 0 8) (bits 8 4)
 
 -- LDR, STR, LDRB, STRB (A5.2): P in bit 24, U in bit 23, B in bit 22, W in bit 21, L in bit 20, Rn in bits 19 to
 -- 16, Rd in 15 to 12

@@ -34,12 +34,12 @@ abbrev pub register : ℕ → Limit
 register number = limit number 16
 
 abbrev pub operand_registers : Operand → List Limit
-operand_registers (operand.Turned value turn) = []
+operand_registers (operand.Immediate value turn) = []
 operand_registers (operand.Fixed rm kind amount) = register rm ∷ []
 operand_registers (operand.ByRegister rm kind rs) = register rm ∷ register rs ∷ []
 
 abbrev pub source_registers : Source → List Limit
-source_registers (source.Turned value turn) = []
+source_registers (source.Immediate value turn) = []
 source_registers (source.Plain rm) = register rm ∷ []
 
 abbrev pub transfer_registers : TransferOffset → List Limit
@@ -69,12 +69,12 @@ registers_of (op.Interrupt cond comment) = []
 
 -- an immediate has eight bits and is turned by four, an amount of shift has five
 abbrev pub operand_immediates : Operand → List Limit
-operand_immediates (operand.Turned value turn) = limit turn 16 ∷ limit value 256 ∷ []
+operand_immediates (operand.Immediate value turn) = limit turn 16 ∷ limit value 256 ∷ []
 operand_immediates (operand.Fixed rm kind amount) = limit amount 32 ∷ []
 operand_immediates (operand.ByRegister rm kind rs) = []
 
 abbrev pub source_immediates : Source → List Limit
-source_immediates (source.Turned value turn) = limit turn 16 ∷ limit value 256 ∷ []
+source_immediates (source.Immediate value turn) = limit turn 16 ∷ limit value 256 ∷ []
 source_immediates (source.Plain rm) = []
 
 abbrev pub transfer_immediates : TransferOffset → List Limit

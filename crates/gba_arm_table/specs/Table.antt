@@ -4,7 +4,7 @@ use Rattle.gba_arm_table.specs.declared.operation.ArmOp.{ArmOp}
 use Rattle.gba_arm_table.specs.declared.operation.HalfKind.TheVariants.{LoadSignedByte, LoadSignedHalf}
 use Rattle.gba_arm_table.specs.declared.form.Form.{Form}
 use Rattle.gba_arm_table.specs.declared.form.Form.TheVariants as form
-use Rattle.gba_arm_table.specs.Fields.{Bits, exchange, multiply, multiply_long, swap, half, unsigned_half_kind, read_status, write_status, plain_source, turned_source, processing, by_register, fixed, turned, transfer, number_offset, shifted_offset, block, branch, interrupt}
+use Rattle.gba_arm_table.specs.Fields.{Bits, exchange, multiply, multiply_long, swap, half, unsigned_half_kind, read_status, write_status, plain_source, immediate_source, processing, by_register, fixed, immediate, transfer, number_offset, shifted_offset, block, branch, interrupt}
 
 -- a row of the table: the words that its mask and value fit, and their form
 pub record Row : Type 0 where
@@ -16,7 +16,8 @@ abbrev pub row : ℕ → ℕ → Form → Row
 row mask value form = record { mask = mask; value = value; form = form }
 
 -- The twenty rows, in the order in which they are tried (ARM Architecture Reference Manual, A3.1, for version 4T).
--- The masks leave out the condition, bits 31 to 28, and the bits that should be zero or one.
+-- No mask has the condition, bits 31 to 28. Of bits that should be zero or one, BX, MRS and MSR by a register have bits 7
+-- to 4 in their masks, which part them from each other; the other masks leave such bits out.
 unfoldable pub rows : List Row
 rows =
     row 0x0FF000F0 0x01200010 form.Exchange
@@ -29,11 +30,11 @@ rows =
     ∷ row 0x0E000090 0x00000090 form.Undefined
     ∷ row 0x0FB000F0 0x01000000 form.StatusRead
     ∷ row 0x0FB000F0 0x01200000 form.StatusWriteRegister
-    ∷ row 0x0FB00000 0x03200000 form.StatusWriteTurned
+    ∷ row 0x0FB00000 0x03200000 form.StatusWriteImmediate
     ∷ row 0x0D900000 0x01000000 form.Undefined
     ∷ row 0x0E000090 0x00000010 form.ProcessingByRegister
     ∷ row 0x0E000010 0x00000000 form.ProcessingFixed
-    ∷ row 0x0E000000 0x02000000 form.ProcessingTurned
+    ∷ row 0x0E000000 0x02000000 form.ProcessingImmediate
     ∷ row 0x0E000000 0x04000000 form.TransferNumber
     ∷ row 0x0E000010 0x06000000 form.TransferShifted
     ∷ row 0x0E000000 0x08000000 form.Block
@@ -57,10 +58,10 @@ operation_of form.SignedByteLoad bits = Some (half LoadSignedByte bits)
 operation_of form.SignedHalfLoad bits = Some (half LoadSignedHalf bits)
 operation_of form.StatusRead bits = Some (read_status bits)
 operation_of form.StatusWriteRegister bits = Some (write_status (plain_source bits) bits)
-operation_of form.StatusWriteTurned bits = Some (write_status (turned_source bits) bits)
+operation_of form.StatusWriteImmediate bits = Some (write_status (immediate_source bits) bits)
 operation_of form.ProcessingByRegister bits = Some (processing (by_register bits) bits)
 operation_of form.ProcessingFixed bits = Some (processing (fixed bits) bits)
-operation_of form.ProcessingTurned bits = Some (processing (turned bits) bits)
+operation_of form.ProcessingImmediate bits = Some (processing (immediate bits) bits)
 operation_of form.TransferNumber bits = Some (transfer (number_offset bits) bits)
 operation_of form.TransferShifted bits = Some (transfer (shifted_offset bits) bits)
 operation_of form.Block bits = Some (block bits)

@@ -2,6 +2,15 @@
 
 ghost use Rattle.std.specs.Prelude.{◌≡◌, IfOk, IsTrue, Some};
 ghost use Rattle.gba_terms.specs.Bits.{field};
+ghost use Rattle.gba_arm_table.specs.Classes.{
+  is_block,
+  is_half,
+  is_long_multiply,
+  is_multiply,
+  is_processing,
+  is_swap,
+  is_transfer,
+};
 ghost use Rattle.gba_arm_table.specs.Diagrams.{
   condition_part,
   diagram,
@@ -13,10 +22,10 @@ ghost use Rattle.gba_arm_table.specs.Diagrams.{
   is_load,
   is_number,
   is_shifted,
-  is_turned,
-  is_turned_source,
+  is_immediate,
+  is_immediate_source,
   operand_parts,
-  packed,
+  pack,
   part,
   processing_parts,
   source_parts,
@@ -34,7 +43,7 @@ ghost use Rattle.gba_word.specs.Sums.{flag_number};
 
 use crate::limits::{immediates_fit, offsets_fit, registers_fit};
 use crate::operation::{ArmOp, Condition, HalfKind, HalfOffset, Operand, Source, TransferOffset};
-use crate::parts::{Part, packed};
+use crate::parts::{Part, pack};
 use gba_word::Shift;
 
 /// Why an operation has no word.
@@ -70,46 +79,14 @@ pub fn encode(op: &ArmOp) -> Result<u32, EncodeError>
 }
 
 fn word_of(op: ArmOp) -> u32
-    ensures { result ≡ packed (diagram op) }
+    ensures { result ≡ pack (diagram op) }
 {
     match op {
         ArmOp::Exchange { cond, rm } => exchange(cond, rm),
-        ArmOp::Multiply {
-            cond,
-            accumulate,
-            set,
-            rd,
-            rn,
-            rs,
-            rm,
-        } => { multiply(cond, accumulate, set, rd, rn, rs, rm) },
-        ArmOp::MultiplyLong {
-            cond,
-            signed,
-            accumulate,
-            set,
-            hi,
-            lo,
-            rs,
-            rm,
-        } => { multiply_long(cond, signed, accumulate, set, hi, lo, rs, rm) },
-        ArmOp::Swap {
-            cond,
-            byte,
-            rn,
-            rd,
-            rm,
-        } => swap(cond, byte, rn, rd, rm),
-        ArmOp::Half {
-            cond,
-            kind,
-            pre,
-            up,
-            write,
-            rn,
-            rd,
-            offset,
-        } => { half(cond, kind, pre, up, write, rn, rd, offset) },
+        ArmOp::Multiply { .. } => multiply(op),
+        ArmOp::MultiplyLong { .. } => multiply_long(op),
+        ArmOp::Swap { .. } => swap(op),
+        ArmOp::Half { .. } => half(op),
         ArmOp::ReadStatus { cond, saved, rd } => read_status(cond, saved, rd),
         ArmOp::WriteStatus {
             cond,
@@ -117,41 +94,9 @@ fn word_of(op: ArmOp) -> u32
             fields,
             source,
         } => write_status(cond, saved, fields, source),
-        ArmOp::Compute {
-            cond,
-            op,
-            set,
-            rn,
-            rd,
-            operand,
-        } => processing(cond, op as u32, set, rn, rd, operand),
-        ArmOp::Compare {
-            cond,
-            op,
-            rn,
-            operand,
-        } => processing(cond, op as u32, true, rn, 0, operand),
-        ArmOp::Transfer {
-            cond,
-            load,
-            byte,
-            pre,
-            up,
-            write,
-            rn,
-            rd,
-            offset,
-        } => { transfer(cond, load, byte, pre, up, write, rn, rd, offset) },
-        ArmOp::Block {
-            cond,
-            load,
-            pre,
-            up,
-            user,
-            write,
-            rn,
-            list,
-        } => { block(cond, load, pre, up, user, write, rn, list) },
+        ArmOp::Compute { .. } | ArmOp::Compare { .. } => processing(op),
+        ArmOp::Transfer { .. } => transfer(op),
+        ArmOp::Block { .. } => block(op),
         ArmOp::Branch { cond, link, offset } => branch(cond, link, offset),
         ArmOp::Interrupt { cond, comment } => interrupt(cond, comment),
     }
@@ -188,9 +133,9 @@ fn shift_kind(kind: Shift) -> Part
 }
 
 fn exchange(cond: Condition, rm: u8) -> u32
-    ensures { result ≡ packed (diagram (ArmOp.Exchange cond rm)) }
+    ensures { result ≡ pack (diagram (ArmOp.Exchange cond rm)) }
 {
-    packed(&[
+    pack(&[
         condition(cond),
         part(8, 0x12),
         part(12, 0xFFF),
@@ -199,10 +144,23 @@ fn exchange(cond: Condition, rm: u8) -> u32
     ])
 }
 
-fn multiply(cond: Condition, accumulate: bool, set: bool, rd: u8, rn: u8, rs: u8, rm: u8) -> u32
-    ensures { result ≡ packed (diagram (ArmOp.Multiply cond accumulate set rd rn rs rm)) }
+fn multiply(op: ArmOp) -> u32
+    requires { IsTrue (is_multiply op) }
+    ensures { result ≡ pack (diagram op) }
 {
-    packed(&[
+    let ArmOp::Multiply {
+        cond,
+        accumulate,
+        set,
+        rd,
+        rn,
+        rs,
+        rm,
+    } = op
+    else {
+        unreachable!()
+    };
+    pack(&[
         condition(cond),
         part(6, 0),
         flag(accumulate),
@@ -215,19 +173,24 @@ fn multiply(cond: Condition, accumulate: bool, set: bool, rd: u8, rn: u8, rs: u8
     ])
 }
 
-fn multiply_long(
-    cond: Condition,
-    signed: bool,
-    accumulate: bool,
-    set: bool,
-    hi: u8,
-    lo: u8,
-    rs: u8,
-    rm: u8,
-) -> u32
-    ensures { result ≡ packed (diagram (ArmOp.MultiplyLong cond signed accumulate set hi lo rs rm)) }
+fn multiply_long(op: ArmOp) -> u32
+    requires { IsTrue (is_long_multiply op) }
+    ensures { result ≡ pack (diagram op) }
 {
-    packed(&[
+    let ArmOp::MultiplyLong {
+        cond,
+        signed,
+        accumulate,
+        set,
+        hi,
+        lo,
+        rs,
+        rm,
+    } = op
+    else {
+        unreachable!()
+    };
+    pack(&[
         condition(cond),
         part(5, 1),
         flag(signed),
@@ -241,10 +204,21 @@ fn multiply_long(
     ])
 }
 
-fn swap(cond: Condition, byte: bool, rn: u8, rd: u8, rm: u8) -> u32
-    ensures { result ≡ packed (diagram (ArmOp.Swap cond byte rn rd rm)) }
+fn swap(op: ArmOp) -> u32
+    requires { IsTrue (is_swap op) }
+    ensures { result ≡ pack (diagram op) }
 {
-    packed(&[
+    let ArmOp::Swap {
+        cond,
+        byte,
+        rn,
+        rd,
+        rm,
+    } = op
+    else {
+        unreachable!()
+    };
+    pack(&[
         condition(cond),
         part(5, 2),
         flag(byte),
@@ -257,23 +231,28 @@ fn swap(cond: Condition, byte: bool, rn: u8, rd: u8, rm: u8) -> u32
     ])
 }
 
-fn half(
-    cond: Condition,
-    kind: HalfKind,
-    pre: bool,
-    up: bool,
-    write: bool,
-    rn: u8,
-    rd: u8,
-    offset: HalfOffset,
-) -> u32
-    ensures { result ≡ packed (diagram (ArmOp.Half cond kind pre up write rn rd offset)) }
+fn half(op: ArmOp) -> u32
+    requires { IsTrue (is_half op) }
+    ensures { result ≡ pack (diagram op) }
 {
+    let ArmOp::Half {
+        cond,
+        kind,
+        pre,
+        up,
+        write,
+        rn,
+        rd,
+        offset,
+    } = op
+    else {
+        unreachable!()
+    };
     let (number, high, low) = match offset {
         HalfOffset::Number { value } => (true, value / 16, value),
         HalfOffset::Plain { rm } => (false, 0, u32::from(rm)),
     };
-    packed(&[
+    pack(&[
         condition(cond),
         part(3, 0),
         flag(pre),
@@ -303,9 +282,9 @@ fn half_code(kind: HalfKind) -> u32
 }
 
 fn read_status(cond: Condition, saved: bool, rd: u8) -> u32
-    ensures { result ≡ packed (diagram (ArmOp.ReadStatus cond saved rd)) }
+    ensures { result ≡ pack (diagram (ArmOp.ReadStatus cond saved rd)) }
 {
-    packed(&[
+    pack(&[
         condition(cond),
         part(5, 2),
         flag(saved),
@@ -317,12 +296,12 @@ fn read_status(cond: Condition, saved: bool, rd: u8) -> u32
 }
 
 fn write_status(cond: Condition, saved: bool, fields: u8, source: Source) -> u32
-    ensures { result ≡ packed (diagram (ArmOp.WriteStatus cond saved fields source)) }
+    ensures { result ≡ pack (diagram (ArmOp.WriteStatus cond saved fields source)) }
 {
-    packed(&[
+    pack(&[
         condition(cond),
         part(2, 0),
-        flag(is_turned_source(source)),
+        flag(is_immediate_source(source)),
         part(2, 2),
         flag(saved),
         part(2, 2),
@@ -332,31 +311,54 @@ fn write_status(cond: Condition, saved: bool, fields: u8, source: Source) -> u32
     ])
 }
 
-fn is_turned_source(source: Source) -> bool
-    ensures { result ≡ is_turned_source source }
+fn is_immediate_source(source: Source) -> bool
+    ensures { result ≡ is_immediate_source source }
 {
     match source {
-        Source::Turned { .. } => true,
+        Source::Immediate { .. } => true,
         Source::Plain { .. } => false,
     }
 }
 
 fn source_bits(source: Source) -> u32
-    ensures { result ≡ packed (source_parts source) }
+    ensures { result ≡ pack (source_parts source) }
 {
     match source {
-        Source::Turned { value, turn } => packed(&[nibble(turn), part(8, u32::from(value))]),
-        Source::Plain { rm } => packed(&[part(8, 0), nibble(rm)]),
+        Source::Immediate { value, turn } => pack(&[nibble(turn), part(8, u32::from(value))]),
+        Source::Plain { rm } => pack(&[part(8, 0), nibble(rm)]),
     }
 }
 
-fn processing(cond: Condition, number: u32, set: bool, rn: u8, rd: u8, operand: Operand) -> u32
-    ensures { result ≡ packed (processing_parts cond number set rn rd operand) }
+fn processing(op: ArmOp) -> u32
+    requires { IsTrue (is_processing op) }
+    ensures { result ≡ pack (diagram op) }
 {
-    packed(&[
+    match op {
+        ArmOp::Compute {
+            cond,
+            op,
+            set,
+            rn,
+            rd,
+            operand,
+        } => { processing_word(cond, op as u32, set, rn, rd, operand) }
+        ArmOp::Compare {
+            cond,
+            op,
+            rn,
+            operand,
+        } => processing_word(cond, op as u32, true, rn, 0, operand),
+        _ => unreachable!(),
+    }
+}
+
+fn processing_word(cond: Condition, number: u32, set: bool, rn: u8, rd: u8, operand: Operand) -> u32
+    ensures { result ≡ pack (processing_parts cond number set rn rd operand) }
+{
+    pack(&[
         condition(cond),
         part(2, 0),
-        flag(is_turned(operand)),
+        flag(is_immediate(operand)),
         part(4, number),
         flag(set),
         nibble(rn),
@@ -365,22 +367,22 @@ fn processing(cond: Condition, number: u32, set: bool, rn: u8, rd: u8, operand: 
     ])
 }
 
-fn is_turned(operand: Operand) -> bool
-    ensures { result ≡ is_turned operand }
+fn is_immediate(operand: Operand) -> bool
+    ensures { result ≡ is_immediate operand }
 {
     match operand {
-        Operand::Turned { .. } => true,
+        Operand::Immediate { .. } => true,
         Operand::Fixed { .. } | Operand::ByRegister { .. } => false,
     }
 }
 
 fn operand_bits(operand: Operand) -> u32
-    ensures { result ≡ packed (operand_parts operand) }
+    ensures { result ≡ pack (operand_parts operand) }
 {
     match operand {
-        Operand::Turned { value, turn } => packed(&[nibble(turn), part(8, u32::from(value))]),
+        Operand::Immediate { value, turn } => pack(&[nibble(turn), part(8, u32::from(value))]),
         Operand::Fixed { rm, kind, amount } => {
-            packed(&[
+            pack(&[
                 part(5, u32::from(amount)),
                 shift_kind(kind),
                 part(1, 0),
@@ -388,7 +390,7 @@ fn operand_bits(operand: Operand) -> u32
             ])
         },
         Operand::ByRegister { rm, kind, rs } => {
-            packed(&[
+            pack(&[
                 nibble(rs),
                 part(1, 0),
                 shift_kind(kind),
@@ -399,20 +401,25 @@ fn operand_bits(operand: Operand) -> u32
     }
 }
 
-fn transfer(
-    cond: Condition,
-    load: bool,
-    byte: bool,
-    pre: bool,
-    up: bool,
-    write: bool,
-    rn: u8,
-    rd: u8,
-    offset: TransferOffset,
-) -> u32
-    ensures { result ≡ packed (diagram (ArmOp.Transfer cond load byte pre up write rn rd offset)) }
+fn transfer(op: ArmOp) -> u32
+    requires { IsTrue (is_transfer op) }
+    ensures { result ≡ pack (diagram op) }
 {
-    packed(&[
+    let ArmOp::Transfer {
+        cond,
+        load,
+        byte,
+        pre,
+        up,
+        write,
+        rn,
+        rd,
+        offset,
+    } = op
+    else {
+        unreachable!()
+    };
+    pack(&[
         condition(cond),
         part(2, 1),
         flag(is_shifted(offset)),
@@ -437,12 +444,12 @@ fn is_shifted(offset: TransferOffset) -> bool
 }
 
 fn offset_bits(offset: TransferOffset) -> u32
-    ensures { result ≡ packed (transfer_parts offset) }
+    ensures { result ≡ pack (transfer_parts offset) }
 {
     match offset {
-        TransferOffset::Number { value } => packed(&[part(12, value)]),
+        TransferOffset::Number { value } => pack(&[part(12, value)]),
         TransferOffset::Shifted { rm, kind, amount } => {
-            packed(&[
+            pack(&[
                 part(5, u32::from(amount)),
                 shift_kind(kind),
                 part(1, 0),
@@ -452,19 +459,24 @@ fn offset_bits(offset: TransferOffset) -> u32
     }
 }
 
-fn block(
-    cond: Condition,
-    load: bool,
-    pre: bool,
-    up: bool,
-    user: bool,
-    write: bool,
-    rn: u8,
-    list: u16,
-) -> u32
-    ensures { result ≡ packed (diagram (ArmOp.Block cond load pre up user write rn list)) }
+fn block(op: ArmOp) -> u32
+    requires { IsTrue (is_block op) }
+    ensures { result ≡ pack (diagram op) }
 {
-    packed(&[
+    let ArmOp::Block {
+        cond,
+        load,
+        pre,
+        up,
+        user,
+        write,
+        rn,
+        list,
+    } = op
+    else {
+        unreachable!()
+    };
+    pack(&[
         condition(cond),
         part(3, 4),
         flag(pre),
@@ -478,9 +490,9 @@ fn block(
 }
 
 fn branch(cond: Condition, link: bool, offset: i32) -> u32
-    ensures { result ≡ packed (diagram (ArmOp.Branch cond link offset)) }
+    ensures { result ≡ pack (diagram (ArmOp.Branch cond link offset)) }
 {
-    packed(&[
+    pack(&[
         condition(cond),
         part(3, 5),
         flag(link),
@@ -489,7 +501,7 @@ fn branch(cond: Condition, link: bool, offset: i32) -> u32
 }
 
 fn interrupt(cond: Condition, comment: u32) -> u32
-    ensures { result ≡ packed (diagram (ArmOp.Interrupt cond comment)) }
+    ensures { result ≡ pack (diagram (ArmOp.Interrupt cond comment)) }
 {
-    packed(&[condition(cond), part(4, 15), part(24, comment)])
+    pack(&[condition(cond), part(4, 15), part(24, comment)])
 }

@@ -21,8 +21,8 @@ ghost use Rattle.gba_arm_table.specs.Fields.{
   shifted_offset,
   swap,
   transfer,
-  turned,
-  turned_source,
+  immediate,
+  immediate_source,
   unsigned_half_kind,
   write_status,
 };
@@ -41,7 +41,7 @@ fn nibble(word: u32, low: u32) -> u8
     bits(word, low, 4) as u8
 }
 
-fn condition(word: u32) -> Condition
+pub fn condition(word: u32) -> Condition
     ensures { result ≡ condition (field word) }
 {
     numbered_condition(bits(word, 28, 4))
@@ -241,10 +241,10 @@ pub fn plain_source(word: u32) -> Source
     }
 }
 
-pub fn turned_source(word: u32) -> Source
-    ensures { result ≡ turned_source (field word) }
+pub fn immediate_source(word: u32) -> Source
+    ensures { result ≡ immediate_source (field word) }
 {
-    Source::Turned {
+    Source::Immediate {
         value: bits(word, 0, 8) as u8,
         turn: nibble(word, 8),
     }
@@ -293,10 +293,10 @@ pub fn fixed(word: u32) -> Operand
     }
 }
 
-pub fn turned(word: u32) -> Operand
-    ensures { result ≡ turned (field word) }
+pub fn immediate(word: u32) -> Operand
+    ensures { result ≡ immediate (field word) }
 {
-    Operand::Turned {
+    Operand::Immediate {
         value: bits(word, 0, 8) as u8,
         turn: nibble(word, 8),
     }

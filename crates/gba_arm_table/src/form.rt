@@ -2,7 +2,7 @@
 
 ghost use Rattle.std.specs.Prelude.{◌≡◌};
 ghost use Rattle.gba_terms.specs.Bits.{field};
-ghost use Rattle.gba_arm_table.specs.Branches.{branched, registers, immediates, extended, status};
+ghost use Rattle.gba_arm_table.specs.Branches.{branch_form, registers, immediates, extension_form, status};
 ghost use Rattle.gba_arm_table.specs.Fields.{is_compare};
 
 use gba_word::{bit, bits};
@@ -19,10 +19,10 @@ pub enum Form {
     SignedHalfLoad,
     StatusRead,
     StatusWriteRegister,
-    StatusWriteTurned,
+    StatusWriteImmediate,
     ProcessingByRegister,
     ProcessingFixed,
-    ProcessingTurned,
+    ProcessingImmediate,
     TransferNumber,
     TransferShifted,
     Block,
@@ -34,7 +34,7 @@ pub enum Form {
 
 /// The form of a word, by bits 27 to 25 and then by those that part its class.
 pub fn form_of(word: u32) -> Form
-    ensures { result ≡ branched (field word) }
+    ensures { result ≡ branch_form (field word) }
 {
     match bits(word, 25, 3) {
         0 => register_form(word),
@@ -80,9 +80,9 @@ fn immediate_form(word: u32) -> Form
     ensures { result ≡ immediates (field word) }
 {
     if !is_compare(word) || bit(word, 20) {
-        Form::ProcessingTurned
+        Form::ProcessingImmediate
     } else if bit(word, 21) {
-        Form::StatusWriteTurned
+        Form::StatusWriteImmediate
     } else {
         Form::Undefined
     }
@@ -90,7 +90,7 @@ fn immediate_form(word: u32) -> Form
 
 /// Bits 7 and 4 are set: multiplies, SWP, and transfers of halfwords and signed bytes.
 fn extended_form(word: u32) -> Form
-    ensures { result ≡ extended (field word) }
+    ensures { result ≡ extension_form (field word) }
 {
     match bits(word, 5, 2) {
         0 => match bits(word, 23, 2) {

@@ -49,7 +49,7 @@ fn operand_registers_fit(operand: Operand) -> bool
     ensures { result ≡ within (operand_registers operand) }
 {
     match operand {
-        Operand::Turned { .. } => true,
+        Operand::Immediate { .. } => true,
         Operand::Fixed { rm, .. } => rm < 16,
         Operand::ByRegister { rm, rs, .. } => rm < 16 && rs < 16,
     }
@@ -59,7 +59,7 @@ fn source_registers_fit(source: Source) -> bool
     ensures { result ≡ within (source_registers source) }
 {
     match source {
-        Source::Turned { .. } => true,
+        Source::Immediate { .. } => true,
         Source::Plain { rm } => rm < 16,
     }
 }
@@ -100,7 +100,7 @@ fn operand_immediates_fit(operand: Operand) -> bool
     ensures { result ≡ within (operand_immediates operand) }
 {
     match operand {
-        Operand::Turned { turn, .. } => turn < 16,
+        Operand::Immediate { turn, .. } => turn < 16,
         Operand::Fixed { amount, .. } => amount < 32,
         Operand::ByRegister { .. } => true,
     }
@@ -110,7 +110,7 @@ fn source_immediates_fit(source: Source) -> bool
     ensures { result ≡ within (source_immediates source) }
 {
     match source {
-        Source::Turned { turn, .. } => turn < 16,
+        Source::Immediate { turn, .. } => turn < 16,
         Source::Plain { .. } => true,
     }
 }

@@ -57,7 +57,7 @@ pub enum CompareOp {
 #[derive(Clone, Copy, Debug, PartialEq, Eq)]
 pub enum Operand {
     /// `value` rotated right by twice `turn`, which is 0 to 15.
-    Turned { value: u8, turn: u8 },
+    Immediate { value: u8, turn: u8 },
     /// The register `rm` shifted by a constant. `amount` is the five bits as they stand, 0 to 31.
     Fixed { rm: u8, kind: Shift, amount: u8 },
     /// The register `rm` shifted by the low byte of the register `rs`.
@@ -68,7 +68,7 @@ pub enum Operand {
 #[derive(Clone, Copy, Debug, PartialEq, Eq)]
 pub enum Source {
     /// `value` rotated right by twice `turn`, which is 0 to 15.
-    Turned { value: u8, turn: u8 },
+    Immediate { value: u8, turn: u8 },
     /// The register `rm`.
     Plain { rm: u8 },
 }

@@ -1,7 +1,7 @@
 //! A word put together from its parts.
 
 ghost use Rattle.std.specs.Prelude.{◌≡◌, ◌≤◌};
-ghost use Rattle.gba_arm_table.specs.Diagrams.{packed, widths};
+ghost use Rattle.gba_arm_table.specs.Diagrams.{pack, widths};
 
 use gba_word::bits;
 
@@ -13,9 +13,9 @@ pub struct Part {
 }
 
 /// The parts side by side, the first one highest.
-pub fn packed(parts: &[Part]) -> u32
+pub fn pack(parts: &[Part]) -> u32
     requires { widths parts.now ≤ 32 }
-    ensures { result ≡ packed parts.now }
+    ensures { result ≡ pack parts.now }
 {
     let mut word = 0u64;
     for part in parts {

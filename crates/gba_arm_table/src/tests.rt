@@ -141,7 +141,7 @@ fn multiplies_swaps_and_status_words_agree(rt: HostRuntime) {
                     cond,
                     saved: false,
                     fields: 1,
-                    source: Source::Turned {
+                    source: Source::Immediate {
                         value: 0x1F,
                         turn: 0,
                     },
@@ -154,7 +154,7 @@ fn multiplies_swaps_and_status_words_agree(rt: HostRuntime) {
                     cond,
                     saved: false,
                     fields: 8,
-                    source: Source::Turned {
+                    source: Source::Immediate {
                         value: 0x0F,
                         turn: 2,
                     },
@@ -305,7 +305,7 @@ fn data_processing_agrees(rt: HostRuntime) {
                     set: false,
                     rn: 0,
                     rd: 0,
-                    operand: Operand::Turned { value: 5, turn: 0 },
+                    operand: Operand::Immediate { value: 5, turn: 0 },
                 },
             ),
             // cmn r1, #0xFF000000
@@ -315,7 +315,7 @@ fn data_processing_agrees(rt: HostRuntime) {
                     cond,
                     op: CompareOp::Cmn,
                     rn: 1,
-                    operand: Operand::Turned {
+                    operand: Operand::Immediate {
                         value: 0xFF,
                         turn: 4,
                     },
@@ -547,7 +547,7 @@ fn bits_that_should_be_one_or_zero_are_encoded_as_the_manual_has_them(rt: HostRu
 #[test]
 fn fields_out_of_their_bits_are_refused(rt: HostRuntime) {
     let cond = Condition::Always;
-    let turned = Operand::Turned { value: 1, turn: 16 };
+    let turned = Operand::Immediate { value: 1, turn: 16 };
     let shifted = Operand::Fixed {
         rm: 1,
         kind: Shift::Lsl,
@@ -710,7 +710,7 @@ fn should_be(op: &Op) -> (u32, u32) {
             ..
         } => (0x0000_FF00, 0x0000_F000),
         Op::WriteStatus {
-            source: Source::Turned { .. },
+            source: Source::Immediate { .. },
             ..
         } => (0x0000_F000, 0x0000_F000),
         Op::Compare { .. } => (0x0000_F000, 0),

@@ -1,4 +1,5 @@
 use Rattle.std.specs.Prelude.{ℕ, ◌≤◌, Bool}
+use Rattle.gba_bus.specs.Widths.{FitsWidth}
 use Rattle.gba_bus.specs.declared.width.Width.{Width}
 
 -- The meanings of a bus: what its calls answer and leave, as functions of its state. An access that is sequential
@@ -41,3 +42,27 @@ Store State = State → ℕ → Width → ℕ → Bool → Stored State
 pub record IsPrice (cycles : ℕ) : Type 0 where
   pub least : 1 ≤ cycles
   pub most : cycles ≤ 18
+
+-- What every bus keeps. Each price is one that an access may cost, and a value that is read, as an instruction or as
+-- data, has zeros above its width.
+abbrev pub CodePriced : {State : Type 0} → Price State → Type 0
+CodePriced {State} price =
+    (bus : State) (address : ℕ) (width : Width) (sequential : Bool) → IsPrice (price bus address width sequential)
+
+abbrev pub LoadsPriced : {State : Type 0} → Load State → Type 0
+LoadsPriced {State} load =
+    (bus : State) (from address : ℕ) (width : Width) (sequential : Bool)
+    → IsPrice (load bus from address width sequential).price
+
+abbrev pub StoresPriced : {State : Type 0} → Store State → Type 0
+StoresPriced {State} store =
+    (bus : State) (address : ℕ) (width : Width) (value : ℕ) (sequential : Bool)
+    → IsPrice (store bus address width value sequential).price
+
+abbrev pub CodeFits : {State : Type 0} → Code State → Type 0
+CodeFits {State} code = (bus : State) (address : ℕ) (width : Width) → FitsWidth width (code bus address width).value
+
+abbrev pub LoadsFit : {State : Type 0} → Load State → Type 0
+LoadsFit {State} load =
+    (bus : State) (from address : ℕ) (width : Width) (sequential : Bool)
+    → FitsWidth width (load bus from address width sequential).value

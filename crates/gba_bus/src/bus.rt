@@ -1,13 +1,22 @@
 //! What an instruction asks of memory and devices.
 
-ghost use Rattle.std.specs.Prelude.{◌≡◌, ℕ, Bool};
-ghost use Rattle.gba_bus.specs.Meanings.{Code, IsPrice, Load, Price, Store};
-ghost use Rattle.gba_bus.specs.declared.width.Width.{Width};
+ghost use Rattle.std.specs.Prelude.{◌≡◌};
+ghost use Rattle.gba_bus.specs.Meanings.{
+  Code,
+  CodeFits,
+  CodePriced,
+  Load,
+  LoadsFit,
+  LoadsPriced,
+  Price,
+  Store,
+  StoresPriced,
+};
 
 use crate::Width;
 
-/// Memory and devices as a processor sees them. What a bus answers and leaves is a function of its state; prices are in
-/// cycles, and each is from 1 to 18.
+/// Memory and devices as a processor sees them. What a bus answers and leaves is a function of its state. Prices are in
+/// cycles, each from 1 to 18. A value that is read has zeros above its width.
 pub trait Bus {
     ghost State: { Type 0 };
 
@@ -21,7 +30,7 @@ pub trait Bus {
 
     ghost store_of: { Store State };
 
-    /// Reads the instruction at `address`, a word or a halfword.
+    /// Reads the instruction at `address`, a word or a halfword, with zeros above its width.
     fn code(&mut self, address: u32, width: Width) -> u32
         ensures value { result ≡ (code_of (state self.old) address width).value }
         ensures after { state self.new ≡ (code_of (state self.old) address width).after };
@@ -41,9 +50,13 @@ pub trait Bus {
         ensures price { result ≡ (store_of (state self.old) address width value sequential).price }
         ensures after { state self.new ≡ (store_of (state self.old) address width value sequential).after };
 
-    ghost code_prices: { (s : State) (address : ℕ) (width : Width) (sequential : Bool) → IsPrice (code_price_of s address width sequential) };
+    ghost code_prices: { CodePriced code_price_of };
 
-    ghost load_prices: { (s : State) (from address : ℕ) (width : Width) (sequential : Bool) → IsPrice (load_of s from address width sequential).price };
+    ghost load_prices: { LoadsPriced load_of };
 
-    ghost store_prices: { (s : State) (address : ℕ) (width : Width) (value : ℕ) (sequential : Bool) → IsPrice (store_of s address width value sequential).price };
+    ghost store_prices: { StoresPriced store_of };
+
+    ghost code_fits: { CodeFits code_of };
+
+    ghost loads_fit: { LoadsFit load_of };
 }

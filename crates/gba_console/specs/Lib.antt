@@ -1,4 +1,5 @@
-pub mod Memory
+pub mod BusLaws
 pub mod Machine
-pub mod Step
+pub mod Memory
 pub mod Run
+pub mod Step

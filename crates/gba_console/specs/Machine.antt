@@ -14,4 +14,5 @@ inner_length = 0x8000
 
 -- a console at reset: the inner RAM is 0 (this project's profile)
 unfoldable pub reset : List ℕ → Machine
-reset bios = record { registers = reset_file; memory = record { bios = bios; inner = replicate inner_length 0 }; clock = 0 }
+reset bios =
+    record { registers = reset_file; memory = record { bios = bios; inner = replicate inner_length 0 }; clock = 0 }

@@ -1,8 +1,7 @@
-use Rattle.std.proofs.Common.{arith}
 use Rattle.std.specs.Int.{w16, w32, from_le_bytes}
 use Rattle.std.specs.Prelude.{ℕ, Bool, true, ◌+◌, ◌-◌, ◌/◌, ◌%◌, ◌^◌, ◌==◌, nat_lt, List, [], ◌∷◌, slice_index, slice_set, if◌then◌else◌}
 use Rattle.gba_terms.specs.Bits.{field}
-use Rattle.gba_bus.specs.Meanings.{Code, Price, Load, Store, IsPrice}
+use Rattle.gba_bus.specs.Meanings.{Code, Load, Price, Store}
 use Rattle.gba_bus.specs.Widths.{aligned}
 use Rattle.gba_bus.specs.declared.width.Width.{Width}
 use Rattle.gba_bus.specs.declared.width.Width.TheVariants.{Byte, Half, Word}
@@ -22,20 +21,22 @@ is_inner address = address / 2 ^ 24 == 3
 abbrev pub inner_place : ℕ → ℕ
 inner_place address = address % 0x8000
 
--- the number that stands at a place, its lowest byte first
+-- the number that stands at a place, its lowest byte first, as many bits as the width has
 abbrev pub number_at : List ℕ → ℕ → Width → ℕ
-number_at bytes place Byte = slice_index bytes place
-number_at bytes place Half = from_le_bytes w16 (slice_index bytes place ∷ slice_index bytes (place + 1) ∷ [])
+number_at bytes place Byte = slice_index bytes place % 2 ^ 8
+number_at bytes place Half = from_le_bytes w16 (slice_index bytes place ∷ slice_index bytes (place + 1) ∷ []) % 2 ^ 16
 number_at bytes place Word =
     from_le_bytes w32
     (slice_index bytes place ∷ slice_index bytes (place + 1) ∷ slice_index bytes (place + 2) ∷ slice_index bytes (place + 3) ∷ [])
+    % 2 ^ 32
 
 -- the bytes once the low bits of a number were written at a place
 abbrev pub with_number_at : List ℕ → ℕ → Width → ℕ → List ℕ
 with_number_at bytes place Byte value = slice_set bytes place (field value 0 8)
 with_number_at bytes place Half value = slice_set (slice_set bytes place (field value 0 8)) (place + 1) (field value 8 8)
 with_number_at bytes place Word value =
-    slice_set (slice_set (slice_set (slice_set bytes place (field value 0 8)) (place + 1) (field value 8 8)) (place + 2) (field value 16 8))
+    slice_set
+    (slice_set (slice_set (slice_set bytes place (field value 0 8)) (place + 1) (field value 8 8)) (place + 2) (field value 16 8))
     (place + 3) (field value 24 8)
 
 -- What is read at an address. The BIOS is read by instructions that stand in it, and is 0 to all others; an address
@@ -47,9 +48,10 @@ read in_bios memory address width =
     else 0
 
 -- A write to the BIOS, or to an address without memory, is dropped.
-unfoldable pub written : Memory → ℕ → Width → ℕ → Memory
-written memory address width value =
-    if is_inner address then record { bios = memory.bios; inner = with_number_at memory.inner (inner_place (aligned width address)) width value }
+unfoldable pub after_write : Memory → ℕ → Width → ℕ → Memory
+after_write memory address width value =
+    if is_inner address
+    then record { bios = memory.bios; inner = with_number_at memory.inner (inner_place (aligned width address)) width value }
     else memory
 
 -- These memories as a bus. So far each access costs 1 cycle.
@@ -60,20 +62,9 @@ abbrev pub memory_code_price : Price Memory
 memory_code_price memory address width sequential = 1
 
 abbrev pub memory_load : Load Memory
-memory_load memory from address width sequential = record { value = read (is_bios from) memory address width; price = 1; after = memory }
+memory_load memory from address width sequential =
+    record { value = read (is_bios from) memory address width; price = 1; after = memory }
 
 abbrev pub memory_store : Store Memory
-memory_store memory address width value sequential = record { price = 1; after = written memory address width value }
-
--- each price is one that a bus may have
-pub one_is_price : IsPrice 1
-one_is_price = record { least = omega arith; most = omega arith }
-
-pub memory_code_prices : (memory : Memory) (address : ℕ) (width : Width) (sequential : Bool) → IsPrice (memory_code_price memory address width sequential)
-memory_code_prices memory address width sequential = one_is_price
-
-pub memory_load_prices : (memory : Memory) (from address : ℕ) (width : Width) (sequential : Bool) → IsPrice (memory_load memory from address width sequential).price
-memory_load_prices memory from address width sequential = one_is_price
-
-pub memory_store_prices : (memory : Memory) (address : ℕ) (width : Width) (value : ℕ) (sequential : Bool) → IsPrice (memory_store memory address width value sequential).price
-memory_store_prices memory address width value sequential = one_is_price
+memory_store memory address width value sequential =
+    record { price = 1; after = after_write memory address width value }

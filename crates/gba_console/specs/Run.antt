@@ -1,4 +1,4 @@
-use Rattle.std.specs.Prelude.{◌≡◌, ◌≤◌, ℕ, zero, suc, Result, Ok, Err, nat_lt, if◌then◌else◌}
+use Rattle.std.specs.Prelude.{◌≡◌, ◌≤◌, ◌+◌, ℕ, zero, suc, Result, Ok, Err, nat_lt, if◌then◌else◌}
 use Rattle.gba_console.specs.declared.NotBuilt.{NotBuilt}
 use Rattle.gba_console.specs.Machine.{Machine}
 use Rattle.gba_console.specs.Step.{next}
@@ -21,3 +21,9 @@ run_to until m = run until until m
 -- A run that isn't refused ends with a clock of at least `until`.
 abbrev pub Reaches : Type 0
 Reaches = (until : ℕ) (start end : Machine) → run_to until start ≡ Ok end → until ≤ end.clock
+
+-- More steps than are wanted change nothing: any two bounds that are enough give the same run.
+abbrev pub IsEnough : Type 0
+IsEnough =
+    (until a b : ℕ) (start : Machine) → until ≤ start.clock + a → until ≤ start.clock + b
+    → run a until start ≡ run b until start

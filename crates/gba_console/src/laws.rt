@@ -1,6 +1,6 @@
 //! Laws over the definitions. Each is the contract of a function that takes no value.
 
-ghost use Rattle.gba_console.specs.Run.{Reaches};
+ghost use Rattle.gba_console.specs.Run.{IsEnough, Reaches};
 
 use crate::memory::Memory;
 use gba_arm_exec::laws::cycles_of_a_word;
@@ -8,6 +8,13 @@ use gba_arm_exec::laws::cycles_of_a_word;
 /// A run that isn't refused ends with a clock at or past its end: the bound on its steps cuts none off.
 pub fn reaches()
     ensures { Reaches }
+{
+    cycles_of_a_word::<Memory>();
+}
+
+/// Any two bounds on the steps of a run that are enough give the same run.
+pub fn enough()
+    ensures { IsEnough }
 {
     cycles_of_a_word::<Memory>();
 }

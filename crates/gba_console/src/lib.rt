@@ -1,14 +1,14 @@
 #![tactic(auto)]
 //! A console: registers, memories and a clock, and one step of it.
 
-ghost use Rattle.std.specs.Prelude.{◌≡◌, IfOk, replicate};
+ghost use Rattle.std.specs.Prelude.{◌≡◌, ◌<◌, IfOk, replicate, vec_len};
 ghost use Rattle.gba_console.specs.Machine.{inner_length};
 
 pub mod laws;
 mod memory;
 
-use gba_arm_exec::execute;
 use gba_arm_exec::laws::cycles_of_a_word;
+use gba_arm_exec::{Decoded, decode_word, execute_decoded, execute_first};
 use gba_bus::{Bus, Width};
 use gba_psr::Registers;
 use gba_terms::NoMemory;
@@ -34,6 +34,24 @@ fn length_of_inner() -> usize
     INNER_LENGTH
 }
 
+/// How many decoded words a console keeps: 128 KiB of them.
+const DECODED_WORDS: usize = 4096;
+
+/// Where the table has the word at this address. Words 16 KiB apart share a place.
+fn place_of(address: u32) -> usize
+    ensures { result < 4096 }
+{
+    (address / 4) as usize % DECODED_WORDS
+}
+
+/// A table of the word 0, decoded.
+fn table_of(alloc: Global, length: usize) -> Result<Vec<Decoded>, AllocError>
+    ensures { IfOk result (λ table. vec_len table ≡ length) }
+{
+    let first = decode_word(0);
+    vec![in alloc; first; length]
+}
+
 fn zeros(alloc: Global, length: usize) -> Result<Vec<u8>, AllocError>
     ensures { IfOk result (λ zeros. zeros.items ≡ replicate length 0) }
 {
@@ -46,22 +64,42 @@ pub struct Console {
     registers: Registers,
     memory: Memory,
     clock: u64,
+    // Words that were decoded at their addresses. An entry counts only where its word is the one that is read.
+    table: Vec<Decoded>,
 }
 
 impl Model for Console {
     ghost use Rattle.gba_console.specs.Machine.{Machine};
+    ghost use Rattle.std.specs.Prelude.{◌≡◌, vec_len};
 
     ghost Value = { Machine };
 
     ghost view = { λ c. record { registers = c.registers; memory = c.memory; clock = c.clock } };
+
+    ghost invariant = { λ c. vec_len c.table ≡ 4096 };
 }
 
 impl Console {
-    ghost use Rattle.std.specs.Prelude.{◌≡◌, ◌+◌, ◌≤◌, ◌<◌, ◌^◌, Ok, Err, IfOk, MatchResult, OnOk, OnErr, vec_len, length};
+    ghost use Rattle.std.specs.Prelude.{
+      ◌≡◌,
+      ◌+◌,
+      ◌≤◌,
+      ◌<◌,
+      ◌^◌,
+      Ok,
+      Err,
+      IfOk,
+      MatchResult,
+      OnOk,
+      OnErr,
+      vec_len,
+      length,
+    };
     ghost use Rattle.gba_console.specs.Machine.{reset};
     ghost use Rattle.gba_console.specs.Step.{next};
 
-    /// A console at reset, at clock 0. It takes the memory of the inner RAM.
+    /// A console at reset, at clock 0. It takes the memory of the inner RAM and of
+    /// the decoded words, and no more later.
     #[tactic(auto, unfolding(crate::specs::Machine::reset))]
     pub fn new(alloc: Global, bios: Vec<u8>) -> Result<Console, NoMemory>
         requires { vec_len bios ≡ 16384 }
@@ -72,6 +110,7 @@ impl Console {
             registers: Registers::reset(),
             memory: Memory::new(bios, inner),
             clock: 0,
+            table: table_of(alloc, DECODED_WORDS)?,
         })
     }
 
@@ -98,7 +137,7 @@ impl Console {
     }
 
     /// Executes the instruction at r15. A refusal leaves the console unchanged; it comes exactly where the processor is
-    /// in Thumb state.
+    /// in Thumb state. The clock is below 2^40 because a run ends below 2^39 and a step takes at most 512 cycles.
     #[tactic(auto, unfolding(crate::specs::Step::next))]
     pub fn step(&mut self) -> Result<(), NotBuilt>
         requires { self.old.clock < 2 ^ 40 }
@@ -114,7 +153,19 @@ impl Console {
             return Err(NotBuilt { address, word });
         }
         let word = self.memory.code(address, Width::Word);
-        let cycles = execute(&mut self.registers, &mut self.memory, word);
+        let place = place_of(address);
+        let one = &self.table[place];
+        let cycles = if one.word == word {
+            execute_decoded(&mut self.registers, &mut self.memory, one)
+        } else {
+            execute_first(
+                &mut self.registers,
+                &mut self.memory,
+                self.table.as_mut_slice(),
+                place,
+                word,
+            )
+        };
         self.clock += u64::from(cycles);
         Ok(())
     }

@@ -3,7 +3,15 @@
 ghost use Rattle.std.specs.Prelude.{◌≡◌, ◌+◌, ◌<◌, ◌≤◌, ◌^◌, length, replicate, IfOk, vec_len};
 ghost use Rattle.gba_bus.specs.Widths.{aligned, size};
 ghost use Rattle.gba_console.specs.Machine.{inner_length};
-ghost use Rattle.gba_console.specs.Memory.{is_bios, is_inner, inner_place, number_at, with_number_at, read, written};
+ghost use Rattle.gba_console.specs.Memory.{
+  after_write,
+  inner_place,
+  is_bios,
+  is_inner,
+  number_at,
+  read,
+  with_number_at,
+};
 
 use gba_bus::{Bus, Width};
 use gba_word::bits;
@@ -106,7 +114,7 @@ fn place_in_inner(address: u32, width: Width) -> usize
 
 impl Memory {
     ghost use Rattle.std.specs.Prelude.{◌≡◌, vec_len, length};
-    ghost use Rattle.gba_console.specs.Memory.{read, written};
+    ghost use Rattle.gba_console.specs.Memory.{read, after_write};
 
     /// The BIOS and an inner RAM, of their lengths.
     pub fn new(bios: Vec<u8>, inner: Vec<u8>) -> Memory
@@ -144,9 +152,9 @@ impl Memory {
     }
 
     /// Writes where there is memory that can be written.
-    #[tactic(auto, unfolding(crate::specs::Memory::written))]
+    #[tactic(auto, unfolding(crate::specs::Memory::after_write))]
     fn write(&mut self, address: u32, width: Width, value: u32)
-        ensures { self.new ≡ written self.old address width value }
+        ensures { self.new ≡ after_write self.old address width value }
     {
         if in_inner(address) {
             put_number(
@@ -160,7 +168,14 @@ impl Memory {
 }
 
 impl Bus for Memory {
-    ghost use Rattle.gba_console.specs.Memory.{Memory, memory_code, memory_code_price, memory_load, memory_store, memory_code_prices, memory_load_prices, memory_store_prices};
+    ghost use Rattle.gba_console.specs.BusLaws.{
+      memory_code_fits,
+      memory_code_prices,
+      memory_load_prices,
+      memory_loads_fit,
+      memory_store_prices,
+    };
+    ghost use Rattle.gba_console.specs.Memory.{Memory, memory_code, memory_code_price, memory_load, memory_store};
 
     ghost State = { Memory };
 
@@ -179,6 +194,10 @@ impl Bus for Memory {
     ghost load_prices = { memory_load_prices };
 
     ghost store_prices = { memory_store_prices };
+
+    ghost code_fits = { memory_code_fits };
+
+    ghost loads_fit = { memory_loads_fit };
 
     fn code(&mut self, address: u32, width: Width) -> u32 {
         self.read(true, address, width)

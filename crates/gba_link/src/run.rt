@@ -13,6 +13,7 @@ ghost use Rattle.gba_link.specs.Views.{command_value};
 use crate::state::{STATE_ROOM, summary, write_state};
 use crate::words::{RunWords, command_of};
 use gba_command::{Cause, OutputFile, Outputs, Refusal, name_in_report, read_file};
+use gba_console::laws::enough;
 use gba_console::{BIOS_LENGTH, Console, NotBuilt};
 use gba_joblog::{
     FileLine, Job, JobConsole, JobError, JobKind, LONGEST_JOB, OutKind, ParseRefused,
@@ -93,10 +94,8 @@ fn run_console(mut console: Console, until: u64) -> Result<Console, NotBuilt>
     requires { until ≤ 2 ^ 31 }
     ensures { MatchResult result (λ end. run_to until console ≡ Ok end) (λ refusal. run_to until console ≡ Err refusal) }
 {
-    for _ in 0..until {
-        if console.clock() >= until {
-            break;
-        }
+    enough();
+    while console.clock() < until {
         console.step()?;
     }
     Ok(console)

@@ -1,13 +1,15 @@
 //! ARM words by hand: the worked ones, r15 in each place, conditions, status registers, banks.
 
 use crate::Ram;
-use gba_arm_exec::{Site, execute, perform};
+use gba_arm_exec::{decode_word, execute, execute_first};
 use gba_arm_table::{ArmOp, ComputeOp, Condition, Operand};
 use gba_bus::{Bus, Width};
+use gba_exec_registers::Site;
+use gba_exec_transfers::perform;
 use gba_psr::Registers;
 use gba_word::Shift;
 
-/// Registers with r15, CPSR and r0 to r3 as told.
+/// Registers with this r15, CPSR and r0 to r3.
 pub fn at(address: u32, status: u32, low: [u32; 4]) -> Registers {
     let mut registers = Registers::reset();
     registers.set_cpsr(status);
@@ -29,11 +31,13 @@ pub fn low_registers(registers: &Registers) -> [u32; 4] {
     ]
 }
 
-/// Memory whose first 64 bytes are 11h, 22h, 33h and so on, modulo 256.
+/// Memory where the first 64 bytes at 02000000h, 03000000h and 08000000h are 11h, 22h, 33h and so on, modulo 256.
 pub fn patterned(slow: bool) -> Ram {
     let mut ram = Ram::new(slow);
-    for address in 0..64 {
-        let _ = ram.store(address, Width::Byte, 0x11 * (address + 1), false);
+    for number in 0..64 {
+        for first in [0x0200_0000, 0x0300_0000, 0x0800_0000] {
+            let _ = ram.store(first + number, Width::Byte, 0x11 * (number + 1), false);
+        }
     }
     ram
 }
@@ -184,7 +188,9 @@ fn r15_in_each_place(rt: HostRuntime) {
         (0, 0xe10f_f000, (9, 0, 0x10, 0x10, 7)),
     ] {
         let mut registers = at(0x0800_0100, 0x10, [9, r1, 0, 0]);
-        let cycles = execute(&mut registers, &mut patterned(true), word);
+        let mut table = [decode_word(0)];
+        let cycles = execute_first(&mut registers, &mut patterned(true), &mut table, 0, word);
+        assert_eq!(rt; table[0].word, word);
         let after = (
             registers.get(0),
             registers.get(14),

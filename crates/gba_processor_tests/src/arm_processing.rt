@@ -2,7 +2,7 @@
 
 use crate::Ram;
 use crate::arm::{at, low_registers};
-use gba_arm_exec::execute;
+use gba_arm_exec::{decode_word, execute_decoded};
 
 // A word, r1, r2 and CPSR before it, r0 and CPSR after it, and its cycles over slow memory.
 type Case = (u32, u32, u32, u32, u32, u32, u32);
@@ -309,7 +309,7 @@ const PRODUCTS: [ProductCase; 26] = [
 fn operations_and_operands(rt: HostRuntime) {
     for (word, r1, r2, status, r0, new_status, cycles) in OPERATIONS {
         let mut registers = at(0x0800_0100, status, [9, r1, r2, 7]);
-        let took = execute(&mut registers, &mut Ram::new(true), word);
+        let took = execute_decoded(&mut registers, &mut Ram::new(true), &decode_word(word));
         let after = (registers.cpsr(), registers.get(15), took);
         assert_eq!(rt;
             low_registers(&registers),
@@ -328,7 +328,7 @@ fn operations_and_operands(rt: HostRuntime) {
 fn products(rt: HostRuntime) {
     for (word, r1, r2, r0, r3, status, cycles) in PRODUCTS {
         let mut registers = at(0x0800_0100, 0x3000_0010, [1, r1, r2, 0xffff_fff0]);
-        let took = execute(&mut registers, &mut Ram::new(true), word);
+        let took = execute_decoded(&mut registers, &mut Ram::new(true), &decode_word(word));
         let after = (registers.cpsr(), registers.get(15), took);
         assert_eq!(rt;
             low_registers(&registers),

@@ -2,11 +2,11 @@
 
 use crate::Ram;
 use crate::arm::{at, low_registers, patterned};
-use gba_arm_exec::execute;
+use gba_arm_exec::{decode_word, execute_decoded};
 use gba_bus::{Bus, Width};
 use gba_word::{bit, bits};
 
-// A word, r1 and r2, r0 and r1 after it, an address from 02000000h on and the word there after it, and its cycles over
+// A word, r1 and r2, r0 and r1 after it, how far from 02000000h a word stands and that word after it, and its cycles over
 // slow memory. Before it r0 is A1B2C3D4h, and CPSR has C.
 type TransferCase = (u32, u32, u32, u32, u32, u32, u32, u32);
 
@@ -582,7 +582,7 @@ fn single_transfers(rt: HostRuntime) {
     for (word, r1, r2, r0, new_r1, address, stored, cycles) in TRANSFERS {
         let mut registers = at(0x0800_0100, 0x2000_0010, [0xa1b2_c3d4, r1, r2, 2]);
         let mut ram = patterned(true);
-        let took = execute(&mut registers, &mut ram, word);
+        let took = execute_decoded(&mut registers, &mut ram, &decode_word(word));
         let after = (registers.cpsr(), registers.get(15), took);
         assert_eq!(rt;
             low_registers(&registers),
@@ -590,7 +590,7 @@ fn single_transfers(rt: HostRuntime) {
             "{word:x} of {r1:x} and {r2:x}"
         );
         assert_eq!(rt;
-            ram.load(0, address, Width::Word, false).0,
+            ram.load(0, 0x0200_0000 | address, Width::Word, false).0,
             stored,
             "{word:x} of {r1:x} and {r2:x}"
         );
@@ -608,7 +608,7 @@ fn block_transfers(rt: HostRuntime) {
         let mut registers = at(0x0800_0100, 0x10, [0xa, 0xb, 0xc, 0xd]);
         registers.set(bits(word, 16, 4), 0x0200_0010 + low % 4);
         let mut ram = patterned(true);
-        let took = execute(&mut registers, &mut ram, word);
+        let took = execute_decoded(&mut registers, &mut ram, &decode_word(word));
         let from = if bit(word, 23) {
             0x0200_0010
         } else {

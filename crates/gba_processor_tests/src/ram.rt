@@ -1,13 +1,30 @@
 //! A small memory as a bus.
 
+ghost use Rattle.std.specs.Prelude.{◌≡◌, ◌≤◌};
+ghost use Rattle.gba_processor_tests.specs.Places.{place};
+
 use gba_bus::{Bus, Width};
 
-/// A kibibyte of memory that repeats over all addresses. Each access costs 1, but where the memory is slow: then a
-/// code access costs 2 if it is sequential, else 3, and a data access 5 or 7.
+/// Three kibibytes of memory, at 02000000h, 03000000h and 08000000h; every other address reads 0 and drops writes. Each
+/// access costs 1, but where the memory is slow: then a code access costs 2 if it is sequential, else 3, and a data
+/// access 5 or 7.
 #[derive(Clone, Copy)]
 pub struct Ram {
-    bytes: [u8; 1024],
+    bytes: [u8; 3072],
     slow: bool,
+}
+
+// Which byte of the memory an address has; 3072 is none.
+fn place(address: u64) -> usize
+    ensures place { result ≡ place address }
+    ensures most { result ≤ 3072 }
+{
+    match address / 1024 {
+        0x8000 => (address % 1024) as usize,
+        0xc000 => 1024 + (address % 1024) as usize,
+        0x2_0000 => 2048 + (address % 1024) as usize,
+        _ => 3072,
+    }
 }
 
 impl Ram {
@@ -17,7 +34,7 @@ impl Ram {
     /// Memory full of zeros.
     pub fn new(slow: bool) -> Ram {
         Ram {
-            bytes: [0; 1024],
+            bytes: [0; 3072],
             slow,
         }
     }
@@ -27,14 +44,22 @@ impl Ram {
         ensures value { result ≡ byte_at self.now (address + further) }
         ensures most { result < 256 }
     {
-        u32::from(self.bytes[(address as usize + further as usize) % 1024])
+        let place = place(u64::from(address) + u64::from(further));
+        if place < 3072 {
+            u32::from(self.bytes[place])
+        } else {
+            0
+        }
     }
 
     fn set_byte(&mut self, address: u32, further: u32, value: u32)
         requires { further < 4 }
         ensures { self.new ≡ with_byte (address + further) value self.old }
     {
-        self.bytes[(address as usize + further as usize) % 1024] = (value % 256) as u8;
+        let place = place(u64::from(address) + u64::from(further));
+        if place < 3072 {
+            self.bytes[place] = (value % 256) as u8;
+        }
     }
 
     fn number(&self, address: u32, width: Width) -> u32
@@ -78,7 +103,14 @@ impl Ram {
 
 impl Bus for Ram {
     ghost use Rattle.gba_processor_tests.specs.declared.ram.Ram.{Ram};
-    ghost use Rattle.gba_processor_tests.specs.RamBus.{ram_code, ram_code_price, ram_code_prices, ram_load, ram_load_prices, ram_store, ram_store_prices};
+    ghost use Rattle.gba_processor_tests.specs.RamBus.{ram_code, ram_code_price, ram_load, ram_store};
+    ghost use Rattle.gba_processor_tests.specs.RamLaws.{
+      ram_code_fits,
+      ram_code_prices,
+      ram_load_prices,
+      ram_loads_fit,
+      ram_store_prices,
+    };
 
     ghost State = { Ram };
 
@@ -97,6 +129,10 @@ impl Bus for Ram {
     ghost load_prices = { ram_load_prices };
 
     ghost store_prices = { ram_store_prices };
+
+    ghost code_fits = { ram_code_fits };
+
+    ghost loads_fit = { ram_loads_fit };
 
     fn code(&mut self, address: u32, width: Width) -> u32 {
         self.number(address, width)

@@ -1,10 +1,10 @@
 use Rattle.std.proofs.Common.{◌≡◌, ◌≢◌, ℕ, ◌<◌, false, eqb, List, length, get_or, set, refl, ap, sym, ◌∙◌, arith}
 use Rattle.std.proofs.lemmas.Bool.Decides.{nat_tests}
 use Rattle.std.proofs.lemmas.List.{length-set, get_or-set_same, get_or-set_other}
-use Rattle.gba_psr.specs.Entry.{entered, left, entry_status, mode_entered, vector}
+use Rattle.gba_psr.specs.Entry.{after_entry, after_leave, entry_status, mode_entered, vector}
 use Rattle.gba_psr.specs.Modes.{place, saved_place}
 use Rattle.gba_psr.specs.RegisterFile.{status, flags, with_flags, mode, register, with_register, with_status, saved_status, with_saved_status, IsRegisterFile}
-use Rattle.gba_psr.specs.Status.{mode_of, kept_status, written_status, flags_of, flagged, IsStatus}
+use Rattle.gba_psr.specs.Status.{mode_of, kept_status, written_status, flags_of, status_with_flags, IsStatus}
 use Rattle.gba_psr.specs.declared.condition.Flags.{Flags}
 use Rattle.gba_psr.specs.declared.exceptions.Exception.{Exception}
 use Rattle.gba_psr.specs.declared.exceptions.Exception.TheVariants.{Undefined, Software, Interrupt}
@@ -161,67 +161,67 @@ file-with_entry kind file is = record {
   status_kept = rw (status-with_entry kind file is.count, ← entry_written kind (status file)) (written_IsStatus (status file) (entry_status kind (status file)) is.status_kept);
 }
 
-pub file-entered : (kind : Exception) (link : ℕ) (file : List ℕ) → IsRegisterFile file → IsRegisterFile (entered kind link file)
-unfolding entered
-file-entered kind link file is =
+pub file-after_entry : (kind : Exception) (link : ℕ) (file : List ℕ) → IsRegisterFile file → IsRegisterFile (after_entry kind link file)
+unfolding after_entry
+file-after_entry kind link file is =
     file-with_register (with_register (with_entry kind file) 14 link) 15 (vector kind)
     (file-with_register (with_entry kind file) 14 link (file-with_entry kind file is) (omega arith)) (omega arith)
 
-pub status-entered : (kind : Exception) (link : ℕ) (file : List ℕ) → length file ≡ 37 → status (entered kind link file) ≡ entry_status kind (status file)
-unfolding entered
-status-entered kind link file count =
+pub status-after_entry : (kind : Exception) (link : ℕ) (file : List ℕ) → length file ≡ 37 → status (after_entry kind link file) ≡ entry_status kind (status file)
+unfolding after_entry
+status-after_entry kind link file count =
     status-with_register (with_register (with_entry kind file) 14 link) 15 (vector kind) (omega arith)
     ∙ status-with_register (with_entry kind file) 14 link (omega arith) ∙ status-with_entry kind file count
 
-pub saved_status-entered : (kind : Exception) (link : ℕ) (file : List ℕ) → IsRegisterFile file → saved_status (entered kind link file) ≡ status file
-unfolding entered
-saved_status-entered kind link file is =
+pub saved_status-after_entry : (kind : Exception) (link : ℕ) (file : List ℕ) → IsRegisterFile file → saved_status (after_entry kind link file) ≡ status file
+unfolding after_entry
+saved_status-after_entry kind link file is =
     saved_status-with_register (with_register (with_entry kind file) 14 link) 15 (vector kind) (omega arith)
     ∙ saved_status-with_register (with_entry kind file) 14 link (omega arith) ∙ saved_status-with_entry kind file is
 
-pub link-entered : (kind : Exception) (link : ℕ) (file : List ℕ) → IsRegisterFile file → register (entered kind link file) 14 ≡ link
-unfolding entered
-link-entered kind link file is =
+pub link-after_entry : (kind : Exception) (link : ℕ) (file : List ℕ) → IsRegisterFile file → register (after_entry kind link file) 14 ≡ link
+unfolding after_entry
+link-after_entry kind link file is =
     register-with_register_other (with_register (with_entry kind file) 14 link) 15 14 (vector kind) (omega arith) (omega arith) (omega arith)
     ∙ register-with_register_same (with_entry kind file) 14 link (file-with_entry kind file is).count (omega arith)
 
-pub counter-entered : (kind : Exception) (link : ℕ) (file : List ℕ) → IsRegisterFile file → register (entered kind link file) 15 ≡ vector kind
-unfolding entered
-counter-entered kind link file is =
+pub counter-after_entry : (kind : Exception) (link : ℕ) (file : List ℕ) → IsRegisterFile file → register (after_entry kind link file) 15 ≡ vector kind
+unfolding after_entry
+counter-after_entry kind link file is =
     register-with_register_same (with_register (with_entry kind file) 14 link) 15 (vector kind)
     (file-with_register (with_entry kind file) 14 link (file-with_entry kind file is) (omega arith)).count (omega arith)
 
-pub status-left : (file : List ℕ) → length file ≡ 37 → saved_place (mode file) ≢ 31 → IsStatus (saved_status file) → status (left file) ≡ saved_status file
-unfolding left
-status-left file count own is =
+pub status-after_leave : (file : List ℕ) → length file ≡ 37 → saved_place (mode file) ≢ 31 → IsStatus (saved_status file) → status (after_leave file) ≡ saved_status file
+unfolding after_leave
+status-after_leave file count own is =
     let some : eqb (saved_place (mode file)) 31 ≡ false = grind (arith, nat_tests) in
     rw some (status-with_status file (saved_status file) count ∙ written_back (status file) (saved_status file) is)
 
-pub entered_then_left : (kind : Exception) (link : ℕ) (file : List ℕ) → IsRegisterFile file → status (left (entered kind link file)) ≡ status file
+pub entered_then_left : (kind : Exception) (link : ℕ) (file : List ℕ) → IsRegisterFile file → status (after_leave (after_entry kind link file)) ≡ status file
 unfolding mode
 entered_then_left kind link file is =
-    let inside : mode (entered kind link file) ≡ mode_entered kind = ap mode_of (status-entered kind link file is.count) ∙ entry_mode kind (status file) in
-    let saved = saved_status-entered kind link file is in
-    status-left (entered kind link file) (file-entered kind link file is).count
+    let inside : mode (after_entry kind link file) ≡ mode_entered kind = ap mode_of (status-after_entry kind link file is.count) ∙ entry_mode kind (status file) in
+    let saved = saved_status-after_entry kind link file is in
+    status-after_leave (after_entry kind link file) (file-after_entry kind link file is).count
     (λ none. entry_saved kind (ap saved_place (sym inside) ∙ none)) (rw saved is.status_kept)
     ∙ saved
 
-pub status-with_flags : (file : List ℕ) (new : Flags) → length file ≡ 37 → status (with_flags file new) ≡ flagged (status file) new
+pub status-with_flags : (file : List ℕ) (new : Flags) → length file ≡ 37 → status (with_flags file new) ≡ status_with_flags (status file) new
 unfolding with_flags status
 status-with_flags file new count =
     let some : 31 < length file = omega arith in
-    get_or-set_same file 31 (flagged (status file) new) 0 some
+    get_or-set_same file 31 (status_with_flags (status file) new) 0 some
 
-mode_of-flagged : (old : ℕ) (new : Flags) → mode_of (flagged old new) ≡ mode_of old
-mode_of-flagged old new = grind (arith, nat_tests)
+mode_of-status_with_flags : (old : ℕ) (new : Flags) → mode_of (status_with_flags old new) ≡ mode_of old
+mode_of-status_with_flags old new = grind (arith, nat_tests)
 
 pub mode-with_flags : (file : List ℕ) (new : Flags) → length file ≡ 37 → mode (with_flags file new) ≡ mode file
 unfolding mode
-mode-with_flags file new count = ap mode_of (status-with_flags file new count) ∙ mode_of-flagged (status file) new
+mode-with_flags file new count = ap mode_of (status-with_flags file new count) ∙ mode_of-status_with_flags (status file) new
 
-flags_of-flagged : (old : ℕ) (new : Flags) → flags_of (flagged old new) ≡ new
-flags_of-flagged old new = grind (arith, nat_tests)
+flags_of-status_with_flags : (old : ℕ) (new : Flags) → flags_of (status_with_flags old new) ≡ new
+flags_of-status_with_flags old new = grind (arith, nat_tests)
 
 pub flags-with_flags : (file : List ℕ) (new : Flags) → length file ≡ 37 → flags (with_flags file new) ≡ new
 unfolding flags
-flags-with_flags file new count = ap flags_of (status-with_flags file new count) ∙ flags_of-flagged (status file) new
+flags-with_flags file new count = ap flags_of (status-with_flags file new count) ∙ flags_of-status_with_flags (status file) new

@@ -1,3 +1,4 @@
+pub mod FlagsApart
 pub mod FileLaws
 pub mod Kept
 pub mod Seats

@@ -2,7 +2,7 @@ use Rattle.std.proofs.Common.{◌≡◌, ℕ, ◌+◌, ◌<◌, ◌≤◌, ◌�
 use Rattle.std.proofs.lemmas.Bool.{cases_eq}
 use Rattle.std.proofs.lemmas.Bool.Decides.{nat_tests}
 use Rattle.std.proofs.lemmas.List.Edits.{Swapped}
-use Rattle.gba_psr.specs.Arrangement.{crossed, seat}
+use Rattle.gba_psr.specs.Arrangement.{crossing, seat}
 use Rattle.gba_psr.specs.Modes.{place, saved_place, first_banked, bank_distance}
 
 -- a seat is one of the 37
@@ -40,20 +40,20 @@ pub banks_apart : (mode : ℕ) → (bank_distance mode ≡ 0) ⊎ (15 ≤ first_
 banks_apart mode = grind (arith, nat_tests)
 
 -- one more place exchanged
-pub crossed_more : (old now new : List ℕ) (first end distance : ℕ) → (distance ≡ 0) ⊎ (15 ≤ first + distance) → first ≤ end → end < 15 → end + distance < 37 → ((p : ℕ) → p < 37 → get_or now p 0 ≡ get_or old (crossed first end distance p) 0) → Swapped (λ i. get_or now i 0) (λ i. get_or new i 0) end (end + distance) → (p : ℕ) → p < 37 → get_or new p 0 ≡ get_or old (crossed first (end + 1) distance p) 0
+pub crossed_more : (old now new : List ℕ) (first end distance : ℕ) → (distance ≡ 0) ⊎ (15 ≤ first + distance) → first ≤ end → end < 15 → end + distance < 37 → ((p : ℕ) → p < 37 → get_or now p 0 ≡ get_or old (crossing first end distance p) 0) → Swapped (λ i. get_or now i 0) (λ i. get_or new i 0) end (end + distance) → (p : ℕ) → p < 37 → get_or new p 0 ≡ get_or old (crossing first (end + 1) distance p) 0
 crossed_more old now new first end distance apart from below fits before swapped p within =
     let read : ℕ → ℕ = λ q. get_or old q 0 in
     ⊎_elim
     (λ (here : p ≡ end).
-    let same : crossed first end distance (end + distance) ≡ crossed first (end + 1) distance p = grind (arith, nat_tests) in
+    let same : crossing first end distance (end + distance) ≡ crossing first (end + 1) distance p = grind (arith, nat_tests) in
     ap (λ (q : ℕ). get_or new q 0) here ∙ swapped.0 ∙ before (end + distance) fits ∙ ap read same)
     (λ (not_here : p ≡ end → ⊥).
     ⊎_elim
     (λ (there : p ≡ end + distance).
-    let same : crossed first end distance end ≡ crossed first (end + 1) distance p = grind (arith, nat_tests) in
+    let same : crossing first end distance end ≡ crossing first (end + 1) distance p = grind (arith, nat_tests) in
     ap (λ (q : ℕ). get_or new q 0) there ∙ swapped.1 ∙ before end (omega arith) ∙ ap read same)
     (λ (not_there : p ≡ end + distance → ⊥).
-    let same : crossed first end distance p ≡ crossed first (end + 1) distance p = grind (arith, nat_tests) in
+    let same : crossing first end distance p ≡ crossing first (end + 1) distance p = grind (arith, nat_tests) in
     swapped.2 p not_here not_there ∙ before p within ∙ ap read same)
     (cases_eq p (end + distance)))
     (cases_eq p end)

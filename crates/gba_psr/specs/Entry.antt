@@ -23,12 +23,12 @@ entry_status kind old = field old 28 4 * 2 ^ 28 + 2 ^ 7 + field old 6 1 * 2 ^ 6 
 
 -- Exception entry: in the new mode, the SPSR is the old CPSR, r14 the link and r15 the vector
 -- (ARM Architecture Reference Manual, A2.6).
-unfoldable pub entered : Exception → ℕ → List ℕ → List ℕ
-entered kind link file =
+unfoldable pub after_entry : Exception → ℕ → List ℕ → List ℕ
+after_entry kind link file =
     let in_mode = with_status file (entry_status kind (status file)) in
     with_register (with_register (with_saved_status in_mode (status file)) 14 link) 15 (vector kind)
 
 -- CPSR taken from the SPSR: what a data operation with the S bit and r15 as its result does. In USR and SYS, which
 -- have no SPSR, CPSR stays (this project's profile).
-unfoldable pub left : List ℕ → List ℕ
-left file = if saved_place (mode file) == 31 then file else with_status file (saved_status file)
+unfoldable pub after_leave : List ℕ → List ℕ
+after_leave file = if saved_place (mode file) == 31 then file else with_status file (saved_status file)

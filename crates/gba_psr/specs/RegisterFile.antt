@@ -1,6 +1,6 @@
 use Rattle.std.specs.Prelude.{◌≡◌, ℕ, List, ◌==◌, length, replicate, slice_index, slice_set, if◌then◌else◌}
 use Rattle.gba_psr.specs.Modes.{place, saved_place}
-use Rattle.gba_psr.specs.Status.{mode_of, kept_status, written_status, flags_of, flagged, IsStatus}
+use Rattle.gba_psr.specs.Status.{mode_of, kept_status, written_status, flags_of, status_with_flags, IsStatus}
 use Rattle.gba_psr.specs.declared.condition.Flags.{Flags}
 
 -- The register file is the list of the 37 numbers in the order of the register names: r0 to r15 of USR, the banked
@@ -40,7 +40,7 @@ with_status file value = slice_set file 31 (written_status (status file) value)
 
 -- the file once CPSR has other flags
 unfoldable pub with_flags : List ℕ → Flags → List ℕ
-with_flags file new = slice_set file 31 (flagged (status file) new)
+with_flags file new = slice_set file 31 (status_with_flags (status file) new)
 
 -- the present mode's SPSR, and CPSR in USR and SYS
 unfoldable pub saved_status : List ℕ → ℕ

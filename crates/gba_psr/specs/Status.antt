@@ -24,8 +24,8 @@ abbrev pub flags_of : ℕ → Flags
 flags_of status = record { negative = bit status 31; zero = bit status 30; carry = bit status 29; overflow = bit status 28 }
 
 -- a status register with other flags
-abbrev pub flagged : ℕ → Flags → ℕ
-flagged status flags =
+abbrev pub status_with_flags : ℕ → Flags → ℕ
+status_with_flags status flags =
     flag_number flags.negative * 2 ^ 31 + flag_number flags.zero * 2 ^ 30 + flag_number flags.carry * 2 ^ 29
     + flag_number flags.overflow * 2 ^ 28 + field status 0 28
 

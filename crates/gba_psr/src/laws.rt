@@ -3,9 +3,21 @@
 ghost use Rattle.std.specs.Prelude.{◌≡◌, ◌≢◌, ℕ, ◌<◌, List};
 ghost use Rattle.gba_psr.specs.declared.condition.Flags.{Flags};
 ghost use Rattle.gba_psr.specs.declared.exceptions.Exception.{Exception};
-ghost use Rattle.gba_psr.specs.Entry.{entered, entry_status, left, vector};
+ghost use Rattle.gba_psr.specs.Entry.{after_entry, entry_status, after_leave, vector};
 ghost use Rattle.gba_psr.specs.Modes.{bank_distance, first_banked, place};
-ghost use Rattle.gba_psr.specs.RegisterFile.{IsRegisterFile, flags, mode, register, saved_status, status, user_register, with_flags, with_register, with_saved_status, with_status};
+ghost use Rattle.gba_psr.specs.RegisterFile.{
+  IsRegisterFile,
+  flags,
+  mode,
+  register,
+  saved_status,
+  status,
+  user_register,
+  with_flags,
+  with_register,
+  with_saved_status,
+  with_status,
+};
 ghost use Rattle.gba_psr.specs.Status.{kept_status, mode_of, written_status};
 
 /// What was written to a register is read from it in the same mode, and every other register stays.
@@ -62,19 +74,19 @@ pub fn status_written()
 /// An exception entered and left again gives back CPSR, and so the mode.
 pub fn enter_then_leave()
     ensures { (kind : Exception) (link : ℕ) (file : List ℕ) → IsRegisterFile file →
-        status (left (entered kind link file)) ≡ status file }
+        status (after_leave (after_entry kind link file)) ≡ status file }
 {}
 
 /// What an exception's entry leaves.
 pub fn entry()
     ensures link { (kind : Exception) (link : ℕ) (file : List ℕ) → IsRegisterFile file →
-        register (entered kind link file) 14 ≡ link }
+        register (after_entry kind link file) 14 ≡ link }
     ensures counter { (kind : Exception) (link : ℕ) (file : List ℕ) → IsRegisterFile file →
-        register (entered kind link file) 15 ≡ vector kind }
+        register (after_entry kind link file) 15 ≡ vector kind }
     ensures status { (kind : Exception) (link : ℕ) (file : List ℕ) → IsRegisterFile file →
-        status (entered kind link file) ≡ entry_status kind (status file) }
+        status (after_entry kind link file) ≡ entry_status kind (status file) }
     ensures saved { (kind : Exception) (link : ℕ) (file : List ℕ) → IsRegisterFile file →
-        saved_status (entered kind link file) ≡ status file }
+        saved_status (after_entry kind link file) ≡ status file }
     ensures file { (kind : Exception) (link : ℕ) (file : List ℕ) → IsRegisterFile file →
-        IsRegisterFile (entered kind link file) }
+        IsRegisterFile (after_entry kind link file) }
 {}

@@ -3,6 +3,7 @@
 //!
 //! Contracts see [`Registers`] as the list of the 37 numbers in the order of the register names.
 
+mod apart;
 mod banks;
 mod condition;
 mod exceptions;
@@ -11,6 +12,6 @@ mod registers;
 #[cfg(test)]
 mod tests;
 
+pub use apart::RegisterFile as Registers;
 pub use condition::Flags;
 pub use exceptions::Exception;
-pub use registers::Registers;

@@ -1,10 +1,23 @@
 //! The register file.
 
 ghost use Rattle.std.specs.Prelude.{◌≡◌, ◌<◌, slice_index};
-ghost use Rattle.gba_psr.specs.Arrangement.{arranged};
-ghost use Rattle.gba_psr.specs.Entry.{entered, entry_status, left, vector};
-ghost use Rattle.gba_psr.specs.Status.{IsStatus, flagged, kept_status, mode_of, written_status};
-ghost use Rattle.gba_psr.specs.RegisterFile.{IsRegisterFile, flags, with_flags, register, reset_file, saved_status, status, user_register, with_register, with_saved_status, with_status, with_user_register};
+ghost use Rattle.gba_psr.specs.Arrangement.{arrangement};
+ghost use Rattle.gba_psr.specs.Entry.{after_entry, entry_status, after_leave, vector};
+ghost use Rattle.gba_psr.specs.Status.{IsStatus, status_with_flags, kept_status, mode_of, written_status};
+ghost use Rattle.gba_psr.specs.RegisterFile.{
+  IsRegisterFile,
+  flags,
+  register,
+  reset_file,
+  saved_status,
+  status,
+  user_register,
+  with_flags,
+  with_register,
+  with_saved_status,
+  with_status,
+  with_user_register,
+};
 
 use crate::banks::{CPSR, change_bank, exchange, is_mode_number, place_of, saved_place_of};
 use crate::{Exception, Flags};
@@ -20,12 +33,12 @@ pub struct Registers {
 
 impl Model for Registers {
     ghost use Rattle.std.specs.Prelude.{List, ℕ, slice_index};
-    ghost use Rattle.gba_psr.specs.Arrangement.{arranged};
+    ghost use Rattle.gba_psr.specs.Arrangement.{arrangement};
     ghost use Rattle.gba_psr.specs.Status.{IsStatus};
 
     ghost Value = { List ℕ };
 
-    ghost view = { λ r. arranged r.numbers };
+    ghost view = { λ r. arrangement r.numbers };
 
     ghost invariant = { λ r. IsStatus (slice_index r.numbers 31) };
 }
@@ -94,6 +107,22 @@ impl Registers {
         }
     }
 
+    /// CPSR with other flags.
+    pub fn status_with(&self, flags: Flags) -> u32
+        ensures value { result ≡ status (with_flags self.now flags) }
+        ensures file { IsRegisterFile (with_flags self.now flags) }
+    {
+        flagged_status(self.cpsr(), flags)
+    }
+
+    /// The same registers once more.
+    pub fn twin(&self) -> Registers
+        ensures { result ≡ self.now }
+    {
+        let numbers = self.numbers;
+        Registers { numbers }
+    }
+
     /// Writes N, Z, C and V of CPSR.
     pub fn set_flags(&mut self, flags: Flags)
         ensures { self.new ≡ with_flags self.old flags }
@@ -126,9 +155,9 @@ impl Registers {
     }
 
     /// Enters an exception: CPSR goes into the new mode's SPSR, `link` into its r14, and r15 goes to the vector.
-    #[tactic(auto, unfolding(crate::specs::Entry::entered))]
+    #[tactic(auto, unfolding(crate::specs::Entry::after_entry))]
     pub fn enter(&mut self, kind: Exception, link: u32)
-        ensures { self.new ≡ entered kind link self.old }
+        ensures { self.new ≡ after_entry kind link self.old }
     {
         let old = self.cpsr();
         self.set_cpsr(status_of_entry(kind, old));
@@ -138,9 +167,9 @@ impl Registers {
     }
 
     /// Takes CPSR from the present mode's SPSR. In USR and SYS, which have none, nothing changes.
-    #[tactic(auto, unfolding(crate::specs::Entry::left, crate::specs::RegisterFile::mode))]
+    #[tactic(auto, unfolding(crate::specs::Entry::after_leave, crate::specs::RegisterFile::mode))]
     pub fn leave(&mut self)
-        ensures { self.new ≡ left self.old }
+        ensures { self.new ≡ after_leave self.old }
     {
         let mode = bits(self.cpsr(), 0, 5);
         if saved_place_of(mode) != CPSR {
@@ -169,7 +198,7 @@ fn keep_status(value: u32) -> u32
 
 // A status register with other flags.
 fn flagged_status(status: u32, flags: Flags) -> u32
-    ensures value { result ≡ flagged status flags }
+    ensures value { result ≡ status_with_flags status flags }
     ensures status { IsStatus status → IsStatus result }
     ensures mode { mode_of result ≡ mode_of status }
 {
@@ -219,7 +248,7 @@ fn vector_of(kind: Exception) -> u32
 // Writes CPSR and exchanges the banks of the two modes.
 fn write_status(numbers: &mut [u32; 37], value: u32)
     requires { IsStatus (slice_index numbers.old 31) }
-    ensures file { arranged numbers.new ≡ with_status (arranged numbers.old) value }
+    ensures file { arrangement numbers.new ≡ with_status (arrangement numbers.old) value }
     ensures status { IsStatus (slice_index numbers.new 31) }
 {
     let old = numbers[CPSR];

@@ -23,8 +23,8 @@ turned_parts n k word some below =
     mod-pow-add (n * 2 ^ (32 - k)) k (32 - k) in
     let high : n * 2 ^ (32 - k) % 2 ^ 32 ≡ n % 2 ^ k * 2 ^ (32 - k) =
     ap (λ (j : ℕ). n * 2 ^ (32 - k) % 2 ^ j) (sym whole) ∙ cut ∙ rw (shl-shr n (32 - k), mul-mod_left n (2 ^ (32 - k))) (omega arith) in
-    let turned : 32 ≡ (32 - k) + k = omega arith in
-    let low : n / 2 ^ k < 2 ^ (32 - k) = shr_below n (32 - k) k (subst (λ (j : ℕ). n < 2 ^ j) turned word) in
+    let immediate_value : 32 ≡ (32 - k) + k = omega arith in
+    let low : n / 2 ^ k < 2 ^ (32 - k) = shr_below n (32 - k) k (subst (λ (j : ℕ). n < 2 ^ j) immediate_value word) in
     ap (bit_or (n / 2 ^ k)) high ∙ or_comm (n / 2 ^ k) (n % 2 ^ k * 2 ^ (32 - k)) ∙ or_shifted (n % 2 ^ k) (32 - k) (n / 2 ^ k) low ∙ omega arith
 
 -- a word turned as std turns it

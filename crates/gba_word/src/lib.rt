@@ -3,7 +3,7 @@
 
 ghost use Rattle.std.specs.Prelude.{◌≡◌, ◌+◌, ◌<◌, ◌≤◌};
 ghost use Rattle.gba_terms.specs.Bits.{field, bit};
-ghost use Rattle.gba_word.specs.Extension.{sign_extended};
+ghost use Rattle.gba_word.specs.Extension.{sign_extension};
 
 mod kinds;
 mod shifter;
@@ -12,8 +12,8 @@ mod sums;
 mod tests;
 
 pub use kinds::Shift;
-pub use shifter::{rotate, rotate_immediate, shift, shift_fixed};
-pub use sums::{Sum, add_carry};
+pub use shifter::{rotate, rotate_immediate, shift, shift_fixed, shift_within};
+pub use sums::{Sum, add_carry, add_plain, subtract};
 
 /// The number in the `width` bits of `value` from bit `low` up.
 pub fn bits(value: u32, low: u32, width: u32) -> u32
@@ -36,7 +36,7 @@ pub fn bit(value: u32, place: u32) -> bool
 pub fn sign_extend(value: u32, width: u32) -> u32
     requires positive { 0 < width }
     requires most { width ≤ 32 }
-    ensures { result ≡ sign_extended value width }
+    ensures { result ≡ sign_extension value width }
 {
     let low = bits(value, 0, width);
     if bit(value, width - 1) {

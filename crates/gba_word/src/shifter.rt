@@ -1,20 +1,27 @@
 //! The barrel shifter.
 
 ghost use Rattle.std.specs.Prelude.{◌≡◌, ◌<◌, ◌≤◌, ◌/◌, ◌^◌};
-ghost use Rattle.gba_word.specs.Shifts.{rotated, shifted, shifted_by, shifted_fixed, turned, unshifted};
+ghost use Rattle.gba_word.specs.Shifts.{
+  fixed_shift,
+  immediate_value,
+  nonzero_shift,
+  register_shift,
+  rotation,
+  zero_shift,
+};
 
 use crate::{Shift, bit};
 
 /// `value` turned to the right by `turn` places: what leaves at bit 0 enters at bit 31. A turn of 32 or more counts modulo 32.
 pub fn rotate(value: u32, turn: u32) -> u32
-    ensures { result ≡ rotated value turn }
+    ensures { result ≡ rotation value turn }
 {
     value.rotate_right(turn)
 }
 
 /// A shift whose amount is the low byte of a register: the word and the carry out. An amount of 0 keeps both.
 pub fn shift(kind: Shift, value: u32, amount: u8, carry: bool) -> (u32, bool)
-    ensures { result ≡ shifted kind value amount carry }
+    ensures { result ≡ register_shift kind value amount carry }
 {
     let amount = u32::from(amount);
     if amount == 0 {
@@ -28,7 +35,7 @@ pub fn shift(kind: Shift, value: u32, amount: u8, carry: bool) -> (u32, bool)
 /// `ASR #0` mean 32, and `ROR #0` turns by one place through the carry (RRX).
 pub fn shift_fixed(kind: Shift, value: u32, amount: u8, carry: bool) -> (u32, bool)
     requires { amount ≤ 31 }
-    ensures { result ≡ shifted_fixed kind value amount carry }
+    ensures { result ≡ fixed_shift kind value amount carry }
 {
     let amount = u32::from(amount);
     if amount == 0 {
@@ -40,7 +47,7 @@ pub fn shift_fixed(kind: Shift, value: u32, amount: u8, carry: bool) -> (u32, bo
 
 /// A byte turned to the right by twice `turn`, and the carry out: bit 31 of the word, or `carry` as it was where `turn` is 0.
 pub fn rotate_immediate(value: u8, turn: u8, carry: bool) -> (u32, bool)
-    ensures { result ≡ turned value turn carry }
+    ensures { result ≡ immediate_value value turn carry }
 {
     let word = rotate(u32::from(value), 2 * u32::from(turn));
     if turn == 0 {
@@ -50,25 +57,44 @@ pub fn rotate_immediate(value: u8, turn: u8, carry: bool) -> (u32, bool)
     }
 }
 
+/// The word of a shift by 1 to 31 places, without its carry.
+pub fn shift_within(kind: Shift, value: u32, amount: u8) -> u32
+    requires positive { 0 < amount }
+    requires most { amount ≤ 31 }
+    ensures { result ≡ (nonzero_shift kind value amount).0 }
+{
+    let amount = u32::from(amount);
+    match kind {
+        Shift::Lsl => value << amount,
+        Shift::Lsr => value >> amount,
+        Shift::Asr => if bit(value, 31) {
+            !(!value >> amount)
+        } else {
+            value >> amount
+        },
+        Shift::Ror => rotate(value, amount),
+    }
+}
+
 // A shift by an amount that isn't 0.
 fn shift_by(kind: Shift, value: u32, amount: u32) -> (u32, bool)
     requires { 0 < amount }
-    ensures { result ≡ shifted_by kind value amount }
+    ensures { result ≡ nonzero_shift kind value amount }
 {
     match kind {
         Shift::Lsl => shift_left(value, amount),
         Shift::Lsr => shift_right(value, amount),
         Shift::Asr => shift_signed(value, amount),
         Shift::Ror => {
-            let turned = rotate(value, amount);
-            (turned, bit(turned, 31))
+            let rotation = rotate(value, amount);
+            (rotation, bit(rotation, 31))
         }
     }
 }
 
 // What an amount of 0 in an instruction means.
 fn shift_by_none(kind: Shift, value: u32, carry: bool) -> (u32, bool)
-    ensures { result ≡ unshifted kind value carry }
+    ensures { result ≡ zero_shift kind value carry }
 {
     match kind {
         Shift::Lsl => (value, carry),
@@ -78,7 +104,7 @@ fn shift_by_none(kind: Shift, value: u32, carry: bool) -> (u32, bool)
 }
 
 fn shift_left(value: u32, amount: u32) -> (u32, bool)
-    ensures { result ≡ shifted_by Shift.Lsl value amount }
+    ensures { result ≡ nonzero_shift Shift.Lsl value amount }
 {
     if amount > 32 {
         return (0, false);
@@ -89,7 +115,7 @@ fn shift_left(value: u32, amount: u32) -> (u32, bool)
 
 fn shift_right(value: u32, amount: u32) -> (u32, bool)
     requires { 0 < amount }
-    ensures { result ≡ shifted_by Shift.Lsr value amount }
+    ensures { result ≡ nonzero_shift Shift.Lsr value amount }
 {
     if amount > 32 {
         return (0, false);
@@ -99,7 +125,7 @@ fn shift_right(value: u32, amount: u32) -> (u32, bool)
 
 fn shift_signed(value: u32, amount: u32) -> (u32, bool)
     requires { 0 < amount }
-    ensures { result ≡ shifted_by Shift.Asr value amount }
+    ensures { result ≡ nonzero_shift Shift.Asr value amount }
 {
     let carry = bit(value, (amount - 1).min(31));
     if bit(value, 31) {

@@ -83,10 +83,15 @@ fn shifts_by_registers_and_numbers(rt: HostRuntime) {
                 (shifted, out),
                 "{kind:?} {word:x} {amount}"
             );
-            if amount < 32 {
+            if 0 < amount && amount < 32 {
                 assert_eq!(rt;
                     shift_fixed(kind, word, amount, carry),
                     (shifted, out),
+                    "{kind:?} {word:x} {amount}"
+                );
+                assert_eq!(rt;
+                    shift_within(kind, word, amount),
+                    shifted,
                     "{kind:?} {word:x} {amount}"
                 );
             }
@@ -136,6 +141,11 @@ fn sums_at_the_edges(rt: HostRuntime) {
             overflow,
         };
         assert_eq!(rt; add_carry(a, b, carry), want, "{a:x} + {b:x} + {carry}");
+        if carry {
+            assert_eq!(rt; subtract(a, !b), want, "{a:x} - {:x}", !b);
+        } else {
+            assert_eq!(rt; add_plain(a, b), want, "{a:x} + {b:x}");
+        }
     }
 }
 

@@ -1,5 +1,5 @@
 use Rattle.std.proofs.Common.{sym, ◌∙◌, arith}
-use Rattle.gba_psr.proofs.Kept.{arranged_is, length-arranged}
+use Rattle.gba_psr.proofs.Kept.{arranged_is, length-arrangement}
 use Rattle.gba_psr.proofs.Views.{status_kept}
 use Rattle.gba_psr.proofs.registers.Registers.all.Goals as goal
 
@@ -8,4 +8,4 @@ returns-clause-value c =
     sym (arranged_is c.self.inside.numbers c.exchange.new.numbers (omega arith) (rw c.bits.ensures at c.exchange.ensures)) ∙ c.self.view_is
 
 pub returns-clause-file : goal.returns-clause-file
-returns-clause-file c = rw (← c.self.view_is) (record { count = length-arranged c.self.inside.numbers; status_kept = rw (status_kept c.self.inside.numbers) c.self.invariant })
+returns-clause-file c = rw (← c.self.view_is) (record { count = length-arrangement c.self.inside.numbers; status_kept = rw (status_kept c.self.inside.numbers) c.self.invariant })

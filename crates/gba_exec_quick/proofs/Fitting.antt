@@ -1,0 +1,127 @@
+-- Quick forms of operations that fit, fit.
+use Rattle.std.proofs.Common.{◌≡◌, ℕ, Bool, true, false, ◌<◌, ◌≤◌, ◌==◌, ◌||◌, ◌&&◌, not, ◌*◌, refl, arith, if◌then◌else◌}
+use Rattle.std.proofs.lemmas.Bool.Decides.{nat_tests}
+use Rattle.std.specs.Prelude.{Option, Some, None, IfSome}
+use Rattle.gba_word.specs.declared.kinds.Shift.{Shift}
+use Rattle.gba_arm_table.specs.Limits.{Fits, Within, operand_immediates, operand_registers}
+use Rattle.gba_arm_table.specs.declared.operation.ArmOp.{ArmOp}
+use Rattle.gba_arm_table.specs.declared.operation.ArmOp.TheVariants as op
+use Rattle.gba_arm_table.specs.declared.operation.ComputeOp.{ComputeOp}
+use Rattle.gba_arm_table.specs.declared.operation.HalfKind.{HalfKind}
+use Rattle.gba_arm_table.specs.declared.operation.HalfKind.TheVariants.{StoreHalf, LoadHalf, LoadSignedByte, LoadSignedHalf}
+use Rattle.gba_arm_table.specs.declared.operation.HalfOffset.TheVariants as half_offset
+use Rattle.gba_arm_table.specs.declared.operation.Operand.{Operand}
+use Rattle.gba_arm_table.specs.declared.operation.Operand.TheVariants as operand
+use Rattle.gba_arm_table.specs.declared.operation.TransferOffset.TheVariants as transfer_offset
+use Rattle.gba_exec_registers.specs.Processing.{compute_op_of}
+use Rattle.gba_exec_transfers.specs.declared.units.SingleTransfer.{SingleTransfer}
+use Rattle.gba_exec_quick.specs.Making.{QuickFits, compare_form, compare_shifted, compute_form, compute_shifted, general_transfer, half_form, is_lsl, number_transfer, plain_transfer, quick_of, quick_of_word, signed_offset}
+use Rattle.gba_exec_quick.specs.declared.quick.Quick.{Quick}
+use Rattle.gba_exec_quick.specs.declared.quick.Quick.TheVariants as quick
+
+either-fits : (test : Bool) (one other : Quick) → QuickFits one → QuickFits other → QuickFits (if test then one else other)
+either-fits true one other here there = here
+either-fits false one other here there = there
+
+-- an amount that isn't 0
+tested-fits : (test : Bool) (amount : ℕ) (one other : Quick) → (amount == 0) ≡ test → QuickFits one
+    → (0 < amount → QuickFits other) → QuickFits (if test then one else other)
+tested-fits true amount one other is here there = here
+tested-fits false amount one other is here there = there (grind (arith, nat_tests))
+
+compute_shifted-fits : (whole : ArmOp) (kind : ComputeOp) (set : Bool) (rn rd rm : ℕ) (shift : Shift) (amount : ℕ) → Fits whole
+    → rn < 16 → rd < 16 → rm < 16 → amount < 32 → QuickFits (compute_shifted whole kind set rn rd rm shift amount)
+compute_shifted-fits whole kind set rn rd rm shift amount fits n d m a =
+    let other = quick.Other whole in
+    let plain = if set then quick.SetPlain kind rn rd rm else quick.Plain kind rn rd rm in
+    let shifts = if set then quick.SetShifted kind rn rd rm shift amount else quick.Shifted kind rn rd rm shift amount in
+    either-fits (rm == 15) other (if amount == 0 then (if is_lsl shift then plain else other) else shifts) fits
+    (tested-fits (amount == 0) amount (if is_lsl shift then plain else other) shifts refl
+    (either-fits (is_lsl shift) plain other
+    (either-fits set (quick.SetPlain kind rn rd rm) (quick.Plain kind rn rd rm) (n, d, m) (n, d, m)) fits)
+    (λ positive. let most : amount ≤ 31 = omega arith in
+    either-fits set (quick.SetShifted kind rn rd rm shift amount) (quick.Shifted kind rn rd rm shift amount)
+    (n, d, m, positive, most) (n, d, m, positive, most)))
+
+compute_form-fits : (whole : ArmOp) (kind : ComputeOp) (set : Bool) (rn rd : ℕ) (second : Operand) → Fits whole → rn < 16 → rd < 16
+    → Within (operand_registers second) → Within (operand_immediates second) → QuickFits (compute_form whole kind set rn rd second)
+compute_form-fits whole kind set rn rd (operand.Immediate value turn) fits n d r i =
+    either-fits set (quick.SetNumber kind rn rd _ (not (turn == 0))) (quick.Number kind rn rd _) (n, d) (n, d)
+compute_form-fits whole kind set rn rd (operand.Fixed rm shift amount) fits n d r i =
+    compute_shifted-fits whole kind set rn rd rm shift amount fits n d r.0 i.0
+compute_form-fits whole kind set rn rd (operand.ByRegister rm shift rs) fits n d r i = fits
+
+compare_shifted-fits : (whole : ArmOp) (kind : ComputeOp) (rn rm : ℕ) (shift : Shift) (amount : ℕ) → Fits whole
+    → rn < 16 → rm < 16 → amount < 32 → QuickFits (compare_shifted whole kind rn rm shift amount)
+compare_shifted-fits whole kind rn rm shift amount fits n m a =
+    let other = quick.Other whole in
+    let plain = quick.ComparePlain kind rn rm in
+    let shifts = quick.CompareShifted kind rn rm shift amount in
+    either-fits (rm == 15) other (if amount == 0 then (if is_lsl shift then plain else other) else shifts) fits
+    (tested-fits (amount == 0) amount (if is_lsl shift then plain else other) shifts refl
+    (either-fits (is_lsl shift) plain other (n, m) fits)
+    (λ positive. (n, m, positive, omega arith)))
+
+compare_form-fits : (whole : ArmOp) (kind : ComputeOp) (rn : ℕ) (second : Operand) → Fits whole → rn < 16
+    → Within (operand_registers second) → Within (operand_immediates second) → QuickFits (compare_form whole kind rn second)
+compare_form-fits whole kind rn (operand.Immediate value turn) fits n r i = n
+compare_form-fits whole kind rn (operand.Fixed rm shift amount) fits n r i =
+    compare_shifted-fits whole kind rn rm shift amount fits n r.0 i.0
+compare_form-fits whole kind rn (operand.ByRegister rm shift rs) fits n r i = fits
+
+plain_transfer-fits : (load byte : Bool) (rn rd offset : ℕ) → rn < 16 → rd < 16 → QuickFits (plain_transfer load byte rn rd offset)
+plain_transfer-fits true true rn rd offset n d = (n, d)
+plain_transfer-fits true false rn rd offset n d = (n, d)
+plain_transfer-fits false true rn rd offset n d = (n, d)
+plain_transfer-fits false false rn rd offset n d = (n, d)
+
+general_transfer-fits : (load byte : Bool) (one : SingleTransfer) → one.rn < 16 → one.rd < 16 → QuickFits (general_transfer load byte one)
+general_transfer-fits true byte one n d = (n, d)
+general_transfer-fits false byte one n d = (n, d)
+
+number_transfer-fits : (load byte : Bool) (one : SingleTransfer) → one.rn < 16 → one.rd < 16 → QuickFits (number_transfer load byte one)
+number_transfer-fits load byte one n d =
+    let offset = signed_offset one.up one.distance in
+    either-fits (one.pre && not one.write && not (one.rn == 15) && not (one.rd == 15))
+    (plain_transfer load byte one.rn one.rd offset) (general_transfer load byte one)
+    (plain_transfer-fits load byte one.rn one.rd offset n d) (general_transfer-fits load byte one n d)
+
+half_form-fits : (kind : HalfKind) (one : SingleTransfer) → one.rn < 16 → one.rd < 16 → QuickFits (half_form kind one)
+half_form-fits StoreHalf one n d = (n, d)
+half_form-fits LoadHalf one n d = (n, d)
+half_form-fits LoadSignedByte one n d = (n, d)
+half_form-fits LoadSignedHalf one n d = (n, d)
+
+quick_of-fits : (whole : ArmOp) → Fits whole → QuickFits (quick_of whole)
+unfolding quick_of
+quick_of-fits (op.Compute cond kind set rn rd second) fits =
+    let whole = op.Compute cond kind set rn rd second in
+    either-fits (rn == 15 || rd == 15) (quick.Other whole) (compute_form whole kind set rn rd second) fits
+    (compute_form-fits whole kind set rn rd second fits fits.registers.0 fits.registers.1.0 fits.registers.1.1 fits.immediates)
+quick_of-fits (op.Compare cond kind rn second) fits =
+    let whole = op.Compare cond kind rn second in
+    either-fits (rn == 15) (quick.Other whole) (compare_form whole (compute_op_of kind) rn second) fits
+    (compare_form-fits whole (compute_op_of kind) rn second fits fits.registers.0 fits.registers.1 fits.immediates)
+quick_of-fits (op.Transfer cond load byte pre up write rn rd (transfer_offset.Number distance)) fits =
+    number_transfer-fits load byte (record { pre = pre; up = up; write = write; rn = rn; rd = rd; distance = distance })
+    fits.registers.0 fits.registers.1.0
+quick_of-fits (op.Transfer cond load byte pre up write rn rd (transfer_offset.Shifted rm kind amount)) fits = fits
+quick_of-fits (op.Half cond kind pre up write rn rd (half_offset.Number distance)) fits =
+    half_form-fits kind (record { pre = pre; up = up; write = write; rn = rn; rd = rd; distance = distance })
+    fits.registers.0 fits.registers.1.0
+quick_of-fits (op.Half cond kind pre up write rn rd (half_offset.Plain rm)) fits = fits
+quick_of-fits (op.Block cond true pre up user write rn list) fits = fits.registers.0
+quick_of-fits (op.Block cond false pre up user write rn list) fits = fits.registers.0
+quick_of-fits (op.Branch cond true offset) fits = tt
+quick_of-fits (op.Branch cond false offset) fits = tt
+quick_of-fits (op.Exchange cond rm) fits = fits
+quick_of-fits (op.Multiply cond accumulate set rd rn rs rm) fits = fits
+quick_of-fits (op.MultiplyLong cond signed accumulate set hi lo rs rm) fits = fits
+quick_of-fits (op.Swap cond byte rn rd rm) fits = fits
+quick_of-fits (op.ReadStatus cond saved rd) fits = fits
+quick_of-fits (op.WriteStatus cond saved fields source) fits = fits
+quick_of-fits (op.Interrupt cond comment) fits = fits
+
+pub quick_of_word-fits : (one : Option ArmOp) → IfSome one Fits → QuickFits (quick_of_word one)
+quick_of_word-fits None fits = tt
+quick_of_word-fits (Some whole) fits = quick_of-fits whole fits

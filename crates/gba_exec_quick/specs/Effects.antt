@@ -1,0 +1,111 @@
+use Rattle.std.specs.Prelude.{ℕ, Bool, true, false, List, ◌+◌, ◌%◌, ◌^◌, if◌then◌else◌}
+use Rattle.gba_terms.specs.Bits.{bit}
+use Rattle.gba_word.specs.Shifts.{nonzero_shift}
+use Rattle.gba_arm_table.specs.declared.operation.ComputeOp.{ComputeOp}
+use Rattle.gba_bus.specs.Meanings.{Load, Price, Store}
+use Rattle.gba_bus.specs.declared.width.Width.{Width}
+use Rattle.gba_bus.specs.declared.width.Width.TheVariants as width
+use Rattle.gba_psr.specs.RegisterFile.{flags, register, with_flags, with_register}
+use Rattle.gba_exec_registers.specs.Access.{after_jump, code_cost, counter, jump_cost}
+use Rattle.gba_exec_registers.specs.Branching.{after_undefined, undefined_cost}
+use Rattle.gba_exec_registers.specs.Processing.{flags_after, outcome_of}
+use Rattle.gba_exec_registers.specs.declared.outcome.Outcome.{Outcome}
+use Rattle.gba_exec_registers.specs.declared.site.Site.{Site}
+use Rattle.gba_exec_transfers.specs.Blocks.{after_load_block, after_store_block}
+use Rattle.gba_exec_transfers.specs.Done.{Done}
+use Rattle.gba_exec_transfers.specs.Effects.{effect, internal}
+use Rattle.gba_exec_transfers.specs.Singles.{after_load, after_store, unit_load, unit_store}
+use Rattle.gba_exec_transfers.specs.declared.units.LoadUnit.{LoadUnit}
+use Rattle.gba_exec_transfers.specs.declared.units.LoadUnit.TheVariants as unit
+use Rattle.gba_exec_quick.specs.declared.quick.Quick.{Quick}
+use Rattle.gba_exec_quick.specs.declared.quick.Quick.TheVariants as quick
+
+-- What a quick form leaves. The law `quick_forms_have_their_effect` says that it is the effect of the operation.
+
+-- the value alone that an operation without S gives
+abbrev pub value_of : ComputeOp → ℕ → ℕ → List ℕ → ℕ
+value_of kind a b file = (outcome_of kind a b false (flags file)).value
+
+-- the carry of a number that stands in the instruction: its bit 31 where it was turned
+abbrev pub number_carry : ℕ → Bool → List ℕ → Bool
+number_carry value turned file = if turned then bit value 31 else (flags file).carry
+
+-- what an operation with S gives
+abbrev pub outcome_in : ComputeOp → ℕ → ℕ → Bool → List ℕ → Outcome
+outcome_in kind a b carry file = outcome_of kind a b carry (flags file)
+
+-- the flags of an outcome, and its value in a register
+abbrev pub with_flags_and : ℕ → Outcome → List ℕ → List ℕ
+with_flags_and rd outcome file = with_register (with_flags file (flags_after outcome)) rd outcome.value
+
+module _ {State : Type 0} (price : Price State) (load : Load State) (store : Store State) where
+  -- a load at a base plus an offset that keeps the base
+  abbrev pub after_quick_load : LoadUnit → ℕ → ℕ → ℕ → Site → List ℕ → State → Done State
+  after_quick_load kind rn rd offset site file bus =
+      let got = unit_load price load store kind site ((register file rn + offset) % 2 ^ 32) bus in
+      record {
+        registers = with_register file rd got.value;
+        bus = got.after;
+        cycles = code_cost price bus site true + got.price + 1;
+      }
+
+  abbrev pub after_quick_store : Width → ℕ → ℕ → ℕ → Site → List ℕ → State → Done State
+  after_quick_store kind rn rd offset site file bus =
+      let stored = unit_store price load store kind ((register file rn + offset) % 2 ^ 32) (register file rd) bus in
+      record { registers = file; bus = stored.after; cycles = code_cost price bus site false + stored.price }
+
+  unfoldable pub effect_of_quick : Quick → Site → List ℕ → State → Done State
+  effect_of_quick (quick.Number kind rn rd value) site file bus =
+      internal price load store bus (with_register file rd (value_of kind (register file rn) value file))
+      (code_cost price bus site true)
+  effect_of_quick (quick.Plain kind rn rd rm) site file bus =
+      internal price load store bus
+      (with_register file rd (value_of kind (register file rn) (register file rm) file)) (code_cost price bus site true)
+  effect_of_quick (quick.Shifted kind rn rd rm shift amount) site file bus =
+      internal price load store bus
+      (with_register file rd
+      (value_of kind (register file rn) (nonzero_shift shift (register file rm) amount).0 file))
+      (code_cost price bus site true)
+  effect_of_quick (quick.SetNumber kind rn rd value turned) site file bus =
+      internal price load store bus
+      (with_flags_and rd (outcome_in kind (register file rn) value (number_carry value turned file) file) file)
+      (code_cost price bus site true)
+  effect_of_quick (quick.SetPlain kind rn rd rm) site file bus =
+      internal price load store bus
+      (with_flags_and rd (outcome_in kind (register file rn) (register file rm) (flags file).carry file) file)
+      (code_cost price bus site true)
+  effect_of_quick (quick.SetShifted kind rn rd rm shift amount) site file bus =
+      let second = nonzero_shift shift (register file rm) amount in
+      internal price load store bus
+      (with_flags_and rd (outcome_in kind (register file rn) second.0 second.1 file) file) (code_cost price bus site true)
+  effect_of_quick (quick.CompareNumber kind rn value turned) site file bus =
+      internal price load store bus
+      (with_flags file (flags_after (outcome_in kind (register file rn) value (number_carry value turned file) file)))
+      (code_cost price bus site true)
+  effect_of_quick (quick.ComparePlain kind rn rm) site file bus =
+      internal price load store bus
+      (with_flags file (flags_after (outcome_in kind (register file rn) (register file rm) (flags file).carry file)))
+      (code_cost price bus site true)
+  effect_of_quick (quick.CompareShifted kind rn rm shift amount) site file bus =
+      let second = nonzero_shift shift (register file rm) amount in
+      internal price load store bus
+      (with_flags file (flags_after (outcome_in kind (register file rn) second.0 second.1 file)))
+      (code_cost price bus site true)
+  effect_of_quick (quick.LoadWord rn rd offset) site file bus = after_quick_load unit.Word rn rd offset site file bus
+  effect_of_quick (quick.LoadByte rn rd offset) site file bus = after_quick_load unit.Byte rn rd offset site file bus
+  effect_of_quick (quick.StoreWord rn rd offset) site file bus = after_quick_store width.Word rn rd offset site file bus
+  effect_of_quick (quick.StoreByte rn rd offset) site file bus = after_quick_store width.Byte rn rd offset site file bus
+  effect_of_quick (quick.LoadSingle kind one) site file bus = after_load price load store kind one site file bus
+  effect_of_quick (quick.StoreSingle kind one) site file bus = after_store price load store kind one site file bus
+  effect_of_quick (quick.LoadBlock block) site file bus = after_load_block price load store block site file bus
+  effect_of_quick (quick.StoreBlock block) site file bus = after_store_block price load store block site file bus
+  effect_of_quick (quick.Branch distance) site file bus =
+      internal price load store bus (after_jump file ((counter site + distance) % 2 ^ 32))
+      (jump_cost (code_cost price bus site))
+  effect_of_quick (quick.BranchLink distance) site file bus =
+      internal price load store bus
+      (after_jump (with_register file 14 (register file 15)) ((counter site + distance) % 2 ^ 32))
+      (jump_cost (code_cost price bus site))
+  effect_of_quick (quick.Other whole) site file bus = effect price load store whole site file bus
+  effect_of_quick quick.Trap site file bus =
+      internal price load store bus (after_undefined file) (undefined_cost (code_cost price bus site))

@@ -1,0 +1,156 @@
+use Rattle.std.specs.Int.{cast_unsigned, w32}
+use Rattle.std.specs.Prelude.{ℕ, Bool, true, false, not, ◌&&◌, ◌||◌, ◌+◌, ◌-◌, ◌*◌, ◌%◌, ◌^◌, ◌<◌, ◌≤◌, ◌==◌, Option, Some, None, if◌then◌else◌}
+use Rattle.gba_word.specs.Shifts.{rotation}
+use Rattle.gba_word.specs.declared.kinds.Shift.{Shift}
+use Rattle.gba_word.specs.declared.kinds.Shift.TheVariants.{Lsl, Lsr, Asr, Ror}
+use Rattle.gba_arm_table.specs.Limits.{Fits}
+use Rattle.gba_arm_table.specs.declared.operation.ArmOp.{ArmOp}
+use Rattle.gba_arm_table.specs.declared.operation.ArmOp.TheVariants as op
+use Rattle.gba_arm_table.specs.declared.operation.CompareOp.{CompareOp}
+use Rattle.gba_arm_table.specs.declared.operation.ComputeOp.{ComputeOp}
+use Rattle.gba_arm_table.specs.declared.operation.HalfKind.{HalfKind}
+use Rattle.gba_arm_table.specs.declared.operation.HalfKind.TheVariants.{StoreHalf, LoadHalf, LoadSignedByte, LoadSignedHalf}
+use Rattle.gba_arm_table.specs.declared.operation.HalfOffset.{HalfOffset}
+use Rattle.gba_arm_table.specs.declared.operation.HalfOffset.TheVariants as half_offset
+use Rattle.gba_arm_table.specs.declared.operation.Operand.{Operand}
+use Rattle.gba_arm_table.specs.declared.operation.Operand.TheVariants as operand
+use Rattle.gba_arm_table.specs.declared.operation.TransferOffset.{TransferOffset}
+use Rattle.gba_arm_table.specs.declared.operation.TransferOffset.TheVariants as transfer_offset
+use Rattle.gba_bus.specs.declared.width.Width.TheVariants as width
+use Rattle.gba_exec_registers.specs.Processing.{compute_op_of}
+use Rattle.gba_exec_transfers.specs.declared.units.LoadUnit.TheVariants as unit
+use Rattle.gba_exec_transfers.specs.declared.units.SingleTransfer.{SingleTransfer}
+use Rattle.gba_exec_quick.specs.declared.quick.Quick.{Quick}
+use Rattle.gba_exec_quick.specs.declared.quick.Quick.TheVariants as quick
+
+-- The quick form of each operation. `whole` is the operation itself, for the shapes without one.
+
+abbrev pub is_lsl : Shift → Bool
+is_lsl Lsl = true
+is_lsl Lsr = false
+is_lsl Asr = false
+is_lsl Ror = false
+
+-- whether an offset counts up: as a number modulo 2 ^ 32 that is added
+abbrev pub signed_offset : Bool → ℕ → ℕ
+signed_offset up distance = if up then distance else (2 ^ 32 - distance) % 2 ^ 32
+
+-- data processing that writes Rd, where neither Rn nor Rd is r15
+abbrev pub compute_shifted : ArmOp → ComputeOp → Bool → ℕ → ℕ → ℕ → Shift → ℕ → Quick
+compute_shifted whole kind set rn rd rm shift amount =
+    if rm == 15 then quick.Other whole
+    else if amount == 0 then
+    (if is_lsl shift then (if set then quick.SetPlain kind rn rd rm else quick.Plain kind rn rd rm) else quick.Other whole)
+    else if set then quick.SetShifted kind rn rd rm shift amount
+    else quick.Shifted kind rn rd rm shift amount
+
+abbrev pub compute_form : ArmOp → ComputeOp → Bool → ℕ → ℕ → Operand → Quick
+compute_form whole kind set rn rd (operand.Immediate value turn) =
+    if set then quick.SetNumber kind rn rd (rotation value (2 * turn)) (not (turn == 0))
+    else quick.Number kind rn rd (rotation value (2 * turn))
+compute_form whole kind set rn rd (operand.Fixed rm shift amount) = compute_shifted whole kind set rn rd rm shift amount
+compute_form whole kind set rn rd (operand.ByRegister rm shift rs) = quick.Other whole
+
+-- data processing that writes the flags alone, where Rn isn't r15
+abbrev pub compare_shifted : ArmOp → ComputeOp → ℕ → ℕ → Shift → ℕ → Quick
+compare_shifted whole kind rn rm shift amount =
+    if rm == 15 then quick.Other whole
+    else if amount == 0 then (if is_lsl shift then quick.ComparePlain kind rn rm else quick.Other whole)
+    else quick.CompareShifted kind rn rm shift amount
+
+abbrev pub compare_form : ArmOp → ComputeOp → ℕ → Operand → Quick
+compare_form whole kind rn (operand.Immediate value turn) =
+    quick.CompareNumber kind rn (rotation value (2 * turn)) (not (turn == 0))
+compare_form whole kind rn (operand.Fixed rm shift amount) = compare_shifted whole kind rn rm shift amount
+compare_form whole kind rn (operand.ByRegister rm shift rs) = quick.Other whole
+
+-- a word or byte transfer by a number; the plainest shape keeps the base and has no r15
+abbrev pub plain_transfer : Bool → Bool → ℕ → ℕ → ℕ → Quick
+plain_transfer load byte rn rd offset =
+    if load then (if byte then quick.LoadByte rn rd offset else quick.LoadWord rn rd offset)
+    else if byte then quick.StoreByte rn rd offset
+    else quick.StoreWord rn rd offset
+
+abbrev pub general_transfer : Bool → Bool → SingleTransfer → Quick
+general_transfer load byte one =
+    if load then quick.LoadSingle (if byte then unit.Byte else unit.Word) one
+    else quick.StoreSingle (if byte then width.Byte else width.Word) one
+
+abbrev pub number_transfer : Bool → Bool → SingleTransfer → Quick
+number_transfer load byte one =
+    if one.pre && not one.write && not (one.rn == 15) && not (one.rd == 15)
+    then plain_transfer load byte one.rn one.rd (signed_offset one.up one.distance)
+    else general_transfer load byte one
+
+abbrev pub half_form : HalfKind → SingleTransfer → Quick
+half_form StoreHalf one = quick.StoreSingle width.Half one
+half_form LoadHalf one = quick.LoadSingle unit.Half one
+half_form LoadSignedByte one = quick.LoadSingle unit.SignedByte one
+half_form LoadSignedHalf one = quick.LoadSingle unit.SignedHalf one
+
+-- the quick form of an operation
+unfoldable pub quick_of : ArmOp → Quick
+quick_of (op.Compute cond kind set rn rd second) =
+    if rn == 15 || rd == 15 then quick.Other (op.Compute cond kind set rn rd second)
+    else compute_form (op.Compute cond kind set rn rd second) kind set rn rd second
+quick_of (op.Compare cond kind rn second) =
+    if rn == 15 then quick.Other (op.Compare cond kind rn second)
+    else compare_form (op.Compare cond kind rn second) (compute_op_of kind) rn second
+quick_of (op.Transfer cond load byte pre up write rn rd (transfer_offset.Number distance)) =
+    number_transfer load byte (record { pre = pre; up = up; write = write; rn = rn; rd = rd; distance = distance })
+quick_of (op.Half cond kind pre up write rn rd (half_offset.Number distance)) =
+    half_form kind (record { pre = pre; up = up; write = write; rn = rn; rd = rd; distance = distance })
+quick_of (op.Block cond load pre up user write rn list) =
+    if load then quick.LoadBlock (record { pre = pre; up = up; user = user; write = write; rn = rn; list = list })
+    else quick.StoreBlock (record { pre = pre; up = up; user = user; write = write; rn = rn; list = list })
+quick_of (op.Branch cond link offset) =
+    if link then quick.BranchLink (4 * cast_unsigned w32 offset % 2 ^ 32)
+    else quick.Branch (4 * cast_unsigned w32 offset % 2 ^ 32)
+quick_of whole = quick.Other whole
+
+-- the quick form of a word's operation
+abbrev pub quick_of_word : Option ArmOp → Quick
+quick_of_word None = quick.Trap
+quick_of_word (Some operation) = quick_of operation
+
+-- a quick form whose registers and amounts fit
+abbrev pub QuickFits : Quick → Type 0
+QuickFits (quick.Number kind rn rd value) = (rn < 16) × (rd < 16)
+QuickFits (quick.Plain kind rn rd rm) = (rn < 16) × (rd < 16) × (rm < 16)
+QuickFits (quick.Shifted kind rn rd rm shift amount) = (rn < 16) × (rd < 16) × (rm < 16) × (0 < amount) × (amount ≤ 31)
+QuickFits (quick.SetNumber kind rn rd value turned) = (rn < 16) × (rd < 16)
+QuickFits (quick.SetPlain kind rn rd rm) = (rn < 16) × (rd < 16) × (rm < 16)
+QuickFits (quick.SetShifted kind rn rd rm shift amount) = (rn < 16) × (rd < 16) × (rm < 16) × (0 < amount) × (amount ≤ 31)
+QuickFits (quick.CompareNumber kind rn value turned) = rn < 16
+QuickFits (quick.ComparePlain kind rn rm) = (rn < 16) × (rm < 16)
+QuickFits (quick.CompareShifted kind rn rm shift amount) = (rn < 16) × (rm < 16) × (0 < amount) × (amount ≤ 31)
+QuickFits (quick.LoadWord rn rd offset) = (rn < 16) × (rd < 16)
+QuickFits (quick.LoadByte rn rd offset) = (rn < 16) × (rd < 16)
+QuickFits (quick.StoreWord rn rd offset) = (rn < 16) × (rd < 16)
+QuickFits (quick.StoreByte rn rd offset) = (rn < 16) × (rd < 16)
+QuickFits (quick.LoadSingle unit one) = (one.rn < 16) × (one.rd < 16)
+QuickFits (quick.StoreSingle width one) = (one.rn < 16) × (one.rd < 16)
+QuickFits (quick.LoadBlock block) = block.rn < 16
+QuickFits (quick.StoreBlock block) = block.rn < 16
+QuickFits (quick.Branch distance) = Unit {0}
+QuickFits (quick.BranchLink distance) = Unit {0}
+QuickFits (quick.Other whole) = Fits whole
+QuickFits quick.Trap = Unit {0}
+
+-- the forms without a quick shape, and those with one that is rarer
+abbrev pub is_whole : Quick → Bool
+is_whole (quick.Other whole) = true
+is_whole quick.Trap = true
+is_whole _ = false
+
+abbrev pub is_rare : Quick → Bool
+is_rare (quick.SetShifted kind rn rd rm shift amount) = true
+is_rare (quick.CompareShifted kind rn rm shift amount) = true
+is_rare (quick.LoadSingle unit one) = true
+is_rare (quick.StoreSingle width one) = true
+is_rare (quick.LoadBlock block) = true
+is_rare (quick.StoreBlock block) = true
+is_rare (quick.BranchLink distance) = true
+is_rare (quick.Other whole) = true
+is_rare quick.Trap = true
+is_rare _ = false

@@ -1,0 +1,352 @@
+//! Which quick form an operation has.
+
+ghost use Rattle.std.specs.Prelude.{◌≡◌, ◌<◌};
+ghost use Rattle.gba_exec_quick.specs.Making.{
+  compare_form,
+  compare_shifted,
+  compute_form,
+  compute_shifted,
+  general_transfer,
+  half_form,
+  is_lsl,
+  number_transfer,
+  plain_transfer,
+  quick_of,
+  quick_of_word,
+  signed_offset,
+};
+
+use crate::Quick;
+use gba_arm_table::{ArmOp, ComputeOp, HalfKind, HalfOffset, Operand, TransferOffset};
+use gba_bus::Width;
+use gba_exec_registers::compute_op_of;
+use gba_exec_transfers::{BlockTransfer, LoadUnit, SingleTransfer};
+use gba_word::{Shift, rotate};
+
+/// The quick form of a word's operation.
+pub fn quick_of_word(op: Option<ArmOp>) -> Quick
+    ensures { result ≡ quick_of_word op }
+{
+    match op {
+        Some(op) => quick_of(op),
+        None => Quick::Trap,
+    }
+}
+
+// The quick form of an operation.
+#[tactic(auto, unfolding(crate::specs::Making::quick_of))]
+fn quick_of(whole: ArmOp) -> Quick
+    ensures { result ≡ quick_of whole }
+{
+    match whole {
+        ArmOp::Compute {
+            op,
+            set,
+            rn,
+            rd,
+            operand,
+            ..
+        } => if rn == 15 || rd == 15 {
+            Quick::Other { op: whole }
+        } else {
+            compute_form(whole, op, set, rn, rd, operand)
+        },
+        ArmOp::Compare {
+            op,
+            rn,
+            operand,
+            ..
+        } => if rn == 15 {
+            Quick::Other { op: whole }
+        } else {
+            compare_form(whole, compute_op_of(op), rn, operand)
+        },
+        ArmOp::Transfer {
+            load,
+            byte,
+            pre,
+            up,
+            write,
+            rn,
+            rd,
+            offset,
+            ..
+        } => match offset {
+            TransferOffset::Number { value } => {
+                let distance = value;
+                number_transfer(
+                    load,
+                    byte,
+                    SingleTransfer {
+                        pre,
+                        up,
+                        write,
+                        rn,
+                        rd,
+                        distance,
+                    },
+                )
+            }
+            TransferOffset::Shifted { .. } => Quick::Other { op: whole },
+        },
+        ArmOp::Half {
+            kind,
+            pre,
+            up,
+            write,
+            rn,
+            rd,
+            offset,
+            ..
+        } => match offset {
+            HalfOffset::Number { value } => {
+                let distance = value;
+                half_form(
+                    kind,
+                    SingleTransfer {
+                        pre,
+                        up,
+                        write,
+                        rn,
+                        rd,
+                        distance,
+                    },
+                )
+            }
+            HalfOffset::Plain { .. } => Quick::Other { op: whole },
+        },
+        ArmOp::Block {
+            load,
+            pre,
+            up,
+            user,
+            write,
+            rn,
+            list,
+            ..
+        } => {
+            let block = BlockTransfer {
+                pre,
+                up,
+                user,
+                write,
+                rn,
+                list,
+            };
+            if load {
+                Quick::LoadBlock { block }
+            } else {
+                Quick::StoreBlock { block }
+            }
+        }
+        ArmOp::Branch { link, offset, .. } => {
+            let distance = offset.cast_unsigned().wrapping_mul(4);
+            if link {
+                Quick::BranchLink { distance }
+            } else {
+                Quick::Branch { distance }
+            }
+        }
+        ArmOp::Exchange { .. }
+        | ArmOp::Multiply { .. }
+        | ArmOp::MultiplyLong { .. }
+        | ArmOp::Swap { .. }
+        | ArmOp::ReadStatus { .. }
+        | ArmOp::WriteStatus { .. }
+        | ArmOp::Interrupt { .. } => Quick::Other { op: whole },
+    }
+}
+
+fn compute_form(whole: ArmOp, op: ComputeOp, set: bool, rn: u8, rd: u8, operand: Operand) -> Quick
+    ensures { result ≡ compute_form whole op set rn rd operand }
+{
+    match operand {
+        Operand::Immediate { value, turn } => {
+            let value = rotate(u32::from(value), 2 * u32::from(turn));
+            if set {
+                Quick::SetNumber {
+                    op,
+                    rn,
+                    rd,
+                    value,
+                    turned: turn != 0,
+                }
+            } else {
+                Quick::Number { op, rn, rd, value }
+            }
+        }
+        Operand::Fixed { rm, kind, amount } => compute_shifted(
+            whole, op, set, rn, rd, rm, kind, amount,
+        ),
+        Operand::ByRegister { .. } => Quick::Other { op: whole },
+    }
+}
+
+fn compute_shifted(
+    whole: ArmOp,
+    op: ComputeOp,
+    set: bool,
+    rn: u8,
+    rd: u8,
+    rm: u8,
+    kind: Shift,
+    amount: u8,
+) -> Quick
+    ensures { result ≡ compute_shifted whole op set rn rd rm kind amount }
+{
+    if rm == 15 {
+        Quick::Other { op: whole }
+    } else if amount == 0 {
+        if !is_lsl(kind) {
+            Quick::Other { op: whole }
+        } else if set {
+            Quick::SetPlain { op, rn, rd, rm }
+        } else {
+            Quick::Plain { op, rn, rd, rm }
+        }
+    } else if set {
+        Quick::SetShifted {
+            op,
+            rn,
+            rd,
+            rm,
+            kind,
+            amount,
+        }
+    } else {
+        Quick::Shifted {
+            op,
+            rn,
+            rd,
+            rm,
+            kind,
+            amount,
+        }
+    }
+}
+
+fn compare_form(whole: ArmOp, op: ComputeOp, rn: u8, operand: Operand) -> Quick
+    ensures { result ≡ compare_form whole op rn operand }
+{
+    match operand {
+        Operand::Immediate { value, turn } => {
+            let value = rotate(u32::from(value), 2 * u32::from(turn));
+            Quick::CompareNumber {
+                op,
+                rn,
+                value,
+                turned: turn != 0,
+            }
+        }
+        Operand::Fixed { rm, kind, amount } => compare_shifted(whole, op, rn, rm, kind, amount),
+        Operand::ByRegister { .. } => Quick::Other { op: whole },
+    }
+}
+
+fn compare_shifted(whole: ArmOp, op: ComputeOp, rn: u8, rm: u8, kind: Shift, amount: u8) -> Quick
+    ensures { result ≡ compare_shifted whole op rn rm kind amount }
+{
+    if rm == 15 {
+        Quick::Other { op: whole }
+    } else if amount == 0 {
+        if is_lsl(kind) {
+            Quick::ComparePlain { op, rn, rm }
+        } else {
+            Quick::Other { op: whole }
+        }
+    } else {
+        Quick::CompareShifted {
+            op,
+            rn,
+            rm,
+            kind,
+            amount,
+        }
+    }
+}
+
+fn is_lsl(kind: Shift) -> bool
+    ensures { result ≡ is_lsl kind }
+{
+    match kind {
+        Shift::Lsl => true,
+        Shift::Lsr | Shift::Asr | Shift::Ror => false,
+    }
+}
+
+// LDR, STR, LDRB and STRB by a number.
+fn number_transfer(load: bool, byte: bool, one: SingleTransfer) -> Quick
+    ensures { result ≡ number_transfer load byte one }
+{
+    if one.pre && !one.write && one.rn != 15 && one.rd != 15 {
+        plain_transfer(
+            load,
+            byte,
+            one.rn,
+            one.rd,
+            signed_offset(one.up, one.distance),
+        )
+    } else {
+        general_transfer(load, byte, one)
+    }
+}
+
+fn signed_offset(up: bool, distance: u32) -> u32
+    ensures { result ≡ signed_offset up distance }
+{
+    if up {
+        distance
+    } else {
+        0u32.wrapping_sub(distance)
+    }
+}
+
+fn plain_transfer(load: bool, byte: bool, rn: u8, rd: u8, offset: u32) -> Quick
+    ensures { result ≡ plain_transfer load byte rn rd offset }
+{
+    match (load, byte) {
+        (true, true) => Quick::LoadByte { rn, rd, offset },
+        (true, false) => Quick::LoadWord { rn, rd, offset },
+        (false, true) => Quick::StoreByte { rn, rd, offset },
+        (false, false) => Quick::StoreWord { rn, rd, offset },
+    }
+}
+
+fn general_transfer(load: bool, byte: bool, one: SingleTransfer) -> Quick
+    ensures { result ≡ general_transfer load byte one }
+{
+    if load {
+        Quick::LoadSingle {
+            unit: if byte { LoadUnit::Byte } else { LoadUnit::Word },
+            one,
+        }
+    } else {
+        Quick::StoreSingle {
+            width: if byte { Width::Byte } else { Width::Word },
+            one,
+        }
+    }
+}
+
+fn half_form(kind: HalfKind, one: SingleTransfer) -> Quick
+    ensures { result ≡ half_form kind one }
+{
+    match kind {
+        HalfKind::StoreHalf => Quick::StoreSingle {
+            width: Width::Half,
+            one,
+        },
+        HalfKind::LoadHalf => Quick::LoadSingle {
+            unit: LoadUnit::Half,
+            one,
+        },
+        HalfKind::LoadSignedByte => Quick::LoadSingle {
+            unit: LoadUnit::SignedByte,
+            one,
+        },
+        HalfKind::LoadSignedHalf => Quick::LoadSingle {
+            unit: LoadUnit::SignedHalf,
+            one,
+        },
+    }
+}

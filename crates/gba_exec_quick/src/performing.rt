@@ -1,0 +1,296 @@
+//! What each quick form does. The commonest stand in `perform_quick`, which is to be inlined where it is called, the
+//! others in functions of their own.
+
+ghost use Rattle.std.specs.Prelude.{◌≡◌, ◌<◌, IsTrue};
+ghost use Rattle.gba_exec_quick.specs.Effects.{
+  after_quick_load,
+  after_quick_store,
+  effect_of_quick,
+  number_carry,
+  outcome_in,
+  value_of,
+  with_flags_and,
+};
+ghost use Rattle.gba_exec_quick.specs.Making.{QuickFits, is_rare, is_whole};
+ghost use Rattle.gba_exec_transfers.specs.Done.{Leaves};
+
+use crate::Quick;
+use gba_arm_table::ComputeOp;
+use gba_bus::{Bus, Width};
+use gba_exec_registers::{
+    Outcome, Site, code_price, flags_of_outcome, jump, jump_price, operate, trap,
+};
+use gba_exec_transfers::{
+    LoadUnit, load_block, load_single, perform, store_block, store_single, unit_load, unit_store,
+};
+use gba_psr::Registers;
+use gba_word::{bit, shift, shift_within};
+
+/// Performs a quick form and answers the cycles. r15 is the address of the next instruction.
+#[inline(always)]
+#[tactic(auto, unfolding(crate::specs::Effects::effect_of_quick))]
+pub fn perform_quick<B: Bus>(registers: &mut Registers, bus: &mut B, site: Site, one: &Quick) -> u32
+    requires { QuickFits one.now }
+    ensures { Leaves (effect_of_quick B.code_price_of B.load_of B.store_of one.now site registers.old (B.state bus.old))
+        registers.new (B.state bus.new) result }
+{
+    match *one {
+        Quick::Number { op, rn, rd, value } => {
+            let value = value_of(registers, op, registers.get(u32::from(rn)), value);
+            registers.set(u32::from(rd), value);
+            code_price(bus, site, true)
+        }
+        Quick::Plain { op, rn, rd, rm } => {
+            let second = registers.get(u32::from(rm));
+            let value = value_of(registers, op, registers.get(u32::from(rn)), second);
+            registers.set(u32::from(rd), value);
+            code_price(bus, site, true)
+        }
+        Quick::Shifted {
+            op,
+            rn,
+            rd,
+            rm,
+            kind,
+            amount,
+        } => {
+            let second = shift_within(kind, registers.get(u32::from(rm)), amount);
+            let value = value_of(registers, op, registers.get(u32::from(rn)), second);
+            registers.set(u32::from(rd), value);
+            code_price(bus, site, true)
+        }
+        Quick::SetNumber {
+            op,
+            rn,
+            rd,
+            value,
+            turned,
+        } => {
+            let carry = number_carry(registers, value, turned);
+            let outcome = outcome_in(registers, op, registers.get(u32::from(rn)), value, carry);
+            write_flags_and(registers, rd, outcome);
+            code_price(bus, site, true)
+        }
+        Quick::SetPlain { op, rn, rd, rm } => {
+            let second = registers.get(u32::from(rm));
+            let carry = registers.flags().carry;
+            let outcome = outcome_in(registers, op, registers.get(u32::from(rn)), second, carry);
+            write_flags_and(registers, rd, outcome);
+            code_price(bus, site, true)
+        }
+        Quick::CompareNumber {
+            op,
+            rn,
+            value,
+            turned,
+        } => {
+            let carry = number_carry(registers, value, turned);
+            let outcome = outcome_in(registers, op, registers.get(u32::from(rn)), value, carry);
+            registers.set_flags(flags_of_outcome(outcome));
+            code_price(bus, site, true)
+        }
+        Quick::ComparePlain { op, rn, rm } => {
+            let second = registers.get(u32::from(rm));
+            let carry = registers.flags().carry;
+            let outcome = outcome_in(registers, op, registers.get(u32::from(rn)), second, carry);
+            registers.set_flags(flags_of_outcome(outcome));
+            code_price(bus, site, true)
+        }
+        Quick::LoadWord { rn, rd, offset } => {
+            load_quick(registers, bus, site, LoadUnit::Word, rn, rd, offset)
+        }
+        Quick::LoadByte { rn, rd, offset } => {
+            load_quick(registers, bus, site, LoadUnit::Byte, rn, rd, offset)
+        }
+        Quick::StoreWord { rn, rd, offset } => {
+            store_quick(registers, bus, site, Width::Word, rn, rd, offset)
+        }
+        Quick::StoreByte { rn, rd, offset } => {
+            store_quick(registers, bus, site, Width::Byte, rn, rd, offset)
+        }
+        Quick::Branch { distance } => {
+            jump(registers, site.counter().wrapping_add(distance));
+            jump_price(bus, site)
+        }
+        Quick::SetShifted { .. }
+        | Quick::CompareShifted { .. }
+        | Quick::LoadSingle { .. }
+        | Quick::StoreSingle { .. }
+        | Quick::LoadBlock { .. }
+        | Quick::StoreBlock { .. }
+        | Quick::BranchLink { .. }
+        | Quick::Other { .. }
+        | Quick::Trap => perform_rare(registers, bus, site, one),
+    }
+}
+
+// The rarer forms.
+#[inline(never)]
+#[tactic(auto, unfolding(crate::specs::Effects::effect_of_quick))]
+fn perform_rare<B: Bus>(registers: &mut Registers, bus: &mut B, site: Site, one: &Quick) -> u32
+    requires fits { QuickFits one.now }
+    requires class { IsTrue (is_rare one.now) }
+    ensures { Leaves (effect_of_quick B.code_price_of B.load_of B.store_of one.now site registers.old (B.state bus.old))
+        registers.new (B.state bus.new) result }
+{
+    match *one {
+        Quick::SetShifted {
+            op,
+            rn,
+            rd,
+            rm,
+            kind,
+            amount,
+        } => {
+            let (second, carry) = shift(kind, registers.get(u32::from(rm)), amount, false);
+            let outcome = outcome_in(registers, op, registers.get(u32::from(rn)), second, carry);
+            write_flags_and(registers, rd, outcome);
+            code_price(bus, site, true)
+        }
+        Quick::CompareShifted {
+            op,
+            rn,
+            rm,
+            kind,
+            amount,
+        } => {
+            let (second, carry) = shift(kind, registers.get(u32::from(rm)), amount, false);
+            let outcome = outcome_in(registers, op, registers.get(u32::from(rn)), second, carry);
+            registers.set_flags(flags_of_outcome(outcome));
+            code_price(bus, site, true)
+        }
+        Quick::LoadSingle { unit, one } => load_single(registers, bus, site, unit, one),
+        Quick::StoreSingle { width, one } => store_single(registers, bus, site, width, one),
+        Quick::LoadBlock { block } => load_block(registers, bus, site, block),
+        Quick::StoreBlock { block } => store_block(registers, bus, site, block),
+        Quick::BranchLink { distance } => {
+            registers.set(14, registers.get(15));
+            jump(registers, site.counter().wrapping_add(distance));
+            jump_price(bus, site)
+        }
+        Quick::Other { .. } | Quick::Trap => perform_whole(registers, bus, site, one),
+        _ => unreachable!(),
+    }
+}
+
+// The forms without a quick shape.
+#[inline(never)]
+#[tactic(auto, unfolding(crate::specs::Effects::effect_of_quick))]
+fn perform_whole<B: Bus>(registers: &mut Registers, bus: &mut B, site: Site, one: &Quick) -> u32
+    requires fits { QuickFits one.now }
+    requires class { IsTrue (is_whole one.now) }
+    ensures { Leaves (effect_of_quick B.code_price_of B.load_of B.store_of one.now site registers.old (B.state bus.old))
+        registers.new (B.state bus.new) result }
+{
+    match *one {
+        Quick::Other { op } => perform(registers, bus, site, op),
+        Quick::Trap => {
+            trap(registers);
+            jump_price(bus, site) + 1
+        }
+        _ => unreachable!(),
+    }
+}
+
+// The value of an operation without S; of the flags it reads the carry alone, and that only where it counts.
+#[inline(always)]
+fn value_of(registers: &Registers, op: ComputeOp, a: u32, b: u32) -> u32
+    ensures { result ≡ value_of op a b registers.now }
+{
+    match op {
+        ComputeOp::And => a & b,
+        ComputeOp::Eor => a ^ b,
+        ComputeOp::Sub => a.wrapping_sub(b),
+        ComputeOp::Rsb => b.wrapping_sub(a),
+        ComputeOp::Add => a.wrapping_add(b),
+        ComputeOp::Adc => add_with_carry(registers, a, b),
+        ComputeOp::Sbc => add_with_carry(registers, a, !b),
+        ComputeOp::Rsc => add_with_carry(registers, b, !a),
+        ComputeOp::Orr => a | b,
+        ComputeOp::Mov => b,
+        ComputeOp::Bic => a & !b,
+        ComputeOp::Mvn => !b,
+    }
+}
+
+#[inline(always)]
+fn add_with_carry(registers: &Registers, a: u32, b: u32) -> u32
+    ensures { result ≡ value_of ComputeOp.Adc a b registers.now }
+{
+    a.wrapping_add(b)
+        .wrapping_add(u32::from(registers.flags().carry))
+}
+
+// The outcome of an operation with S.
+#[inline(always)]
+fn outcome_in(registers: &Registers, op: ComputeOp, a: u32, b: u32, carry: bool) -> Outcome
+    ensures { result ≡ outcome_in op a b carry registers.now }
+{
+    operate(op, a, b, carry, registers.flags())
+}
+
+// The carry of a number in the instruction.
+#[inline(always)]
+fn number_carry(registers: &Registers, value: u32, turned: bool) -> bool
+    ensures { result ≡ number_carry value turned registers.now }
+{
+    if turned {
+        bit(value, 31)
+    } else {
+        registers.flags().carry
+    }
+}
+
+// Writes the flags of an outcome, and its value.
+#[inline(always)]
+fn write_flags_and(registers: &mut Registers, rd: u8, outcome: Outcome)
+    requires { rd < 16 }
+    ensures { registers.new ≡ with_flags_and rd outcome registers.old }
+{
+    registers.set_flags(flags_of_outcome(outcome));
+    registers.set(u32::from(rd), outcome.value);
+}
+
+// A load that keeps the base.
+#[inline(always)]
+fn load_quick<B: Bus>(
+    registers: &mut Registers,
+    bus: &mut B,
+    site: Site,
+    unit: LoadUnit,
+    rn: u8,
+    rd: u8,
+    offset: u32,
+) -> u32
+    requires rn { rn < 16 }
+    requires rd { rd < 16 }
+    ensures { Leaves (after_quick_load B.code_price_of B.load_of B.store_of unit rn rd offset site registers.old
+        (B.state bus.old)) registers.new (B.state bus.new) result }
+{
+    let code = code_price(bus, site, true);
+    let address = registers.get(u32::from(rn)).wrapping_add(offset);
+    let (value, price) = unit_load(bus, site, unit, address);
+    registers.set(u32::from(rd), value);
+    code + price + 1
+}
+
+// A store that keeps the base.
+#[inline(always)]
+fn store_quick<B: Bus>(
+    registers: &Registers,
+    bus: &mut B,
+    site: Site,
+    width: Width,
+    rn: u8,
+    rd: u8,
+    offset: u32,
+) -> u32
+    requires rn { rn < 16 }
+    requires rd { rd < 16 }
+    ensures { Leaves (after_quick_store B.code_price_of B.load_of B.store_of width rn rd offset site registers.now
+        (B.state bus.old)) registers.now (B.state bus.new) result }
+{
+    let code = code_price(bus, site, false);
+    let address = registers.get(u32::from(rn)).wrapping_add(offset);
+    code + unit_store(bus, width, address, registers.get(u32::from(rd)))
+}

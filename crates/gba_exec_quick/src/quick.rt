@@ -1,0 +1,125 @@
+//! The quick forms.
+
+use gba_arm_table::{ArmOp, ComputeOp};
+use gba_bus::Width;
+use gba_exec_transfers::{BlockTransfer, LoadUnit, SingleTransfer};
+use gba_word::Shift;
+
+/// An operation in the form in which it is performed. But for the forms that hold a transfer or the operation itself, no
+/// register is r15, a number is already turned, and a shift is by 1 to 31 places.
+#[derive(Clone, Copy)]
+pub enum Quick {
+    /// `rd` takes `op` of `rn` and a number.
+    Number {
+        op: ComputeOp,
+        rn: u8,
+        rd: u8,
+        value: u32,
+    },
+    /// `rd` takes `op` of `rn` and `rm`.
+    Plain {
+        op: ComputeOp,
+        rn: u8,
+        rd: u8,
+        rm: u8,
+    },
+    /// `rd` takes `op` of `rn` and `rm` shifted.
+    Shifted {
+        op: ComputeOp,
+        rn: u8,
+        rd: u8,
+        rm: u8,
+        kind: Shift,
+        amount: u8,
+    },
+    /// The same with S. `turned` says that the number's bit 31 is the carry.
+    SetNumber {
+        op: ComputeOp,
+        rn: u8,
+        rd: u8,
+        value: u32,
+        turned: bool,
+    },
+    SetPlain {
+        op: ComputeOp,
+        rn: u8,
+        rd: u8,
+        rm: u8,
+    },
+    SetShifted {
+        op: ComputeOp,
+        rn: u8,
+        rd: u8,
+        rm: u8,
+        kind: Shift,
+        amount: u8,
+    },
+    /// The flags alone.
+    CompareNumber {
+        op: ComputeOp,
+        rn: u8,
+        value: u32,
+        turned: bool,
+    },
+    ComparePlain {
+        op: ComputeOp,
+        rn: u8,
+        rm: u8,
+    },
+    CompareShifted {
+        op: ComputeOp,
+        rn: u8,
+        rm: u8,
+        kind: Shift,
+        amount: u8,
+    },
+    /// LDR, LDRB, STR and STRB at `rn` plus `offset` modulo 2^32, where the base stays.
+    LoadWord {
+        rn: u8,
+        rd: u8,
+        offset: u32,
+    },
+    LoadByte {
+        rn: u8,
+        rd: u8,
+        offset: u32,
+    },
+    StoreWord {
+        rn: u8,
+        rd: u8,
+        offset: u32,
+    },
+    StoreByte {
+        rn: u8,
+        rd: u8,
+        offset: u32,
+    },
+    /// Every other transfer whose distance is a number.
+    LoadSingle {
+        unit: LoadUnit,
+        one: SingleTransfer,
+    },
+    StoreSingle {
+        width: Width,
+        one: SingleTransfer,
+    },
+    LoadBlock {
+        block: BlockTransfer,
+    },
+    StoreBlock {
+        block: BlockTransfer,
+    },
+    /// B and BL to r15 as an operand plus `distance` modulo 2^32.
+    Branch {
+        distance: u32,
+    },
+    BranchLink {
+        distance: u32,
+    },
+    /// No quick form.
+    Other {
+        op: ArmOp,
+    },
+    /// A word without an operation: the Undefined trap.
+    Trap,
+}

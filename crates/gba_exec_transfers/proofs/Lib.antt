@@ -1,0 +1,5 @@
+pub mod Accesses
+pub mod Lengths
+pub mod Lists
+pub mod Runs
+pub mod Words

@@ -1,0 +1,5 @@
+pub mod Accesses
+pub mod Blocks
+pub mod Done
+pub mod Effects
+pub mod Singles

@@ -1,0 +1,11 @@
+use Rattle.std.proofs.Common.{sym, ◌∙◌}
+use Rattle.gba_psr.specs.declared.condition.Flags.{Flags}
+use Rattle.gba_psr.proofs.FlagsApart.{register-with_flags}
+use Rattle.gba_psr.proofs.apart.RegisterFile.get.Goals as goal
+
+pub returns : goal.returns
+returns c =
+    let inside = c.self.inside in
+    let now : Flags = record { negative = inside.negative; zero = inside.zero; carry = inside.carry; overflow = inside.overflow } in
+    rw (← c.self.view_is)
+    (c.get.ensures ∙ sym (register-with_flags inside.file now c.args.number c.cpsr.ensures.file.count c.requires))

@@ -1,0 +1,214 @@
+//! The register file with its flags kept apart, so that an operation with S writes no more than four booleans.
+
+ghost use Rattle.std.specs.Prelude.{◌≡◌, ◌<◌};
+ghost use Rattle.gba_psr.specs.Entry.{after_entry, after_leave};
+ghost use Rattle.gba_psr.specs.RegisterFile.{
+  IsRegisterFile,
+  flags,
+  register,
+  reset_file,
+  saved_status,
+  status,
+  user_register,
+  with_flags,
+  with_register,
+  with_saved_status,
+  with_status,
+  with_user_register,
+};
+
+use crate::registers::Registers;
+use crate::{Exception, Flags};
+use std::marker::Model;
+
+/// The 31 general and 6 status registers. r15 holds the address of the next instruction; `get` and `set` give and take
+/// it as it is.
+#[derive(Clone, Debug, Drop)]
+pub struct RegisterFile {
+    // Its N, Z, C and V don't count: they are the four below.
+    file: Registers,
+    negative: bool,
+    zero: bool,
+    carry: bool,
+    overflow: bool,
+}
+
+impl Model for RegisterFile {
+    ghost use Rattle.std.specs.Prelude.{List, ℕ};
+    ghost use Rattle.gba_psr.specs.RegisterFile.{with_flags};
+
+    ghost Value = { List ℕ };
+
+    ghost view = { λ r. with_flags r.file
+        (record { negative = r.negative; zero = r.zero; carry = r.carry; overflow = r.overflow }) };
+}
+
+impl RegisterFile {
+    /// The registers at power on.
+    pub fn reset() -> RegisterFile
+        ensures { result ≡ reset_file }
+    {
+        part(Registers::reset())
+    }
+
+    /// Register `number` in the present mode.
+    #[inline(always)]
+    pub fn get(&self, number: u32) -> u32
+        requires { number < 16 }
+        ensures { result ≡ register self.now number }
+    {
+        let _ = self.file.cpsr();
+        self.file.get(number)
+    }
+
+    /// Writes register `number` in the present mode.
+    #[inline(always)]
+    pub fn set(&mut self, number: u32, value: u32)
+        requires { number < 16 }
+        ensures { self.new ≡ with_register self.old number value }
+    {
+        let _ = self.file.cpsr();
+        self.file.set(number, value);
+    }
+
+    /// Register `number` of the user's sixteen.
+    pub fn user_get(&self, number: u32) -> u32
+        requires { number < 16 }
+        ensures { result ≡ user_register self.now number }
+    {
+        let _ = self.file.cpsr();
+        self.file.user_get(number)
+    }
+
+    /// Writes register `number` of the user's sixteen.
+    pub fn user_set(&mut self, number: u32, value: u32)
+        requires { number < 16 }
+        ensures { self.new ≡ with_user_register self.old number value }
+    {
+        let _ = self.file.cpsr();
+        self.file.user_set(number, value);
+    }
+
+    /// The current program status register.
+    #[inline(always)]
+    pub fn cpsr(&self) -> u32
+        ensures value { result ≡ status self.now }
+        ensures file { IsRegisterFile self.now }
+    {
+        self.file.status_with(Flags {
+            negative: self.negative,
+            zero: self.zero,
+            carry: self.carry,
+            overflow: self.overflow,
+        })
+    }
+
+    /// N, Z, C and V of CPSR.
+    #[inline(always)]
+    pub fn flags(&self) -> Flags
+        ensures { result ≡ flags self.now }
+    {
+        let _ = self.file.cpsr();
+        Flags {
+            negative: self.negative,
+            zero: self.zero,
+            carry: self.carry,
+            overflow: self.overflow,
+        }
+    }
+
+    /// Writes N, Z, C and V of CPSR.
+    #[inline(always)]
+    pub fn set_flags(&mut self, flags: Flags)
+        ensures { self.new ≡ with_flags self.old flags }
+    {
+        let _ = self.file.cpsr();
+        self.negative = flags.negative;
+        self.zero = flags.zero;
+        self.carry = flags.carry;
+        self.overflow = flags.overflow;
+    }
+
+    /// The present mode's SPSR. USR and SYS have none and read CPSR.
+    pub fn spsr(&self) -> u32
+        ensures { result ≡ saved_status self.now }
+    {
+        self.joined().spsr()
+    }
+
+    /// Writes CPSR. The mode stays where the number's isn't one of the seven.
+    pub fn set_cpsr(&mut self, value: u32)
+        ensures { self.new ≡ with_status self.old value }
+    {
+        let mut file = self.joined();
+        file.set_cpsr(value);
+        *self = part(file);
+    }
+
+    /// Writes the present mode's SPSR. In USR and SYS, which have none, nothing changes.
+    pub fn set_spsr(&mut self, value: u32)
+        ensures { self.new ≡ with_saved_status self.old value }
+    {
+        let mut file = self.joined();
+        file.set_spsr(value);
+        *self = part(file);
+    }
+
+    /// Enters an exception: CPSR goes into the new mode's SPSR, `link` into its r14, and r15 goes to the vector.
+    pub fn enter(&mut self, kind: Exception, link: u32)
+        ensures { self.new ≡ after_entry kind link self.old }
+    {
+        let mut file = self.joined();
+        file.enter(kind, link);
+        *self = part(file);
+    }
+
+    /// Takes CPSR from the present mode's SPSR. In USR and SYS, which have none, nothing changes.
+    pub fn leave(&mut self)
+        ensures { self.new ≡ after_leave self.old }
+    {
+        let mut file = self.joined();
+        file.leave();
+        *self = part(file);
+    }
+
+    /// The 37 numbers: r0 to r15 of USR, r8 to r14 of FIQ, r13 and r14 of IRQ, SVC, ABT and UND, CPSR, and the SPSRs of
+    /// FIQ, IRQ, SVC, ABT and UND.
+    pub fn all(&self) -> [u32; 37]
+        ensures value { result ≡ self.now }
+        ensures file { IsRegisterFile self.now }
+    {
+        self.joined().all()
+    }
+
+    // The registers with the flags in CPSR.
+    #[inline(never)]
+    fn joined(&self) -> Registers
+        ensures { result ≡ self.now }
+    {
+        let mut file = self.file.twin();
+        file.set_flags(Flags {
+            negative: self.negative,
+            zero: self.zero,
+            carry: self.carry,
+            overflow: self.overflow,
+        });
+        file
+    }
+}
+
+// The registers with the flags apart.
+#[inline(never)]
+fn part(file: Registers) -> RegisterFile
+    ensures { result ≡ file }
+{
+    let _ = file.cpsr();
+    let flags = file.flags();
+    RegisterFile {
+        file,
+        negative: flags.negative,
+        zero: flags.zero,
+        carry: flags.carry,
+        overflow: flags.overflow,
+    }
+}
