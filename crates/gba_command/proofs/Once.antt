@@ -3,16 +3,13 @@ use Rattle.std.proofs.Common.{◌≡◌, ◌≢◌, ℕ, ◌+◌, true, false, L
 use Rattle.std.specs.Prelude.{nat_lt}
 use Rattle.gba_store.specs.Chosen.{IsRead, but_memory}
 use Rattle.gba_store.specs.Files.{IsFront}
-use Rattle.gba_store.specs.Memory.{Memory, held}
+use Rattle.gba_store.specs.Memory.{Memory, content_in}
 use Rattle.gba_store.specs.declared.outside.ReadError.{ReadError}
 use Rattle.gba_store.specs.declared.outside.ReadError.TheVariants as reading
 use Rattle.gba_command.specs.Cause.{Stop, LacksMemory}
+use Rattle.gba_command.specs.Law.{GivesInMemory}
 use Rattle.gba_command.specs.Plan.{Plan, Done, Refuse, Read}
-use Rattle.gba_command.specs.Reading.{Gives, GoesTo, stop_at}
-
--- one read of a store in memory
-abbrev pub M : List ℕ → ℕ → Result (List ℕ) ReadError → Memory → Memory → Type 0
-M = Gives (Unit {0}) (λ store. held store.files) (λ name _. IsRead name) (λ store. store.absences) (λ store. store.faults)
+use Rattle.gba_command.specs.Reading.{GoesTo, stop_at}
 
 -- two reads that were given left the same store
 same-store : (name : List ℕ) (old one other : Memory) → IsRead name None old one → IsRead name None old other → one ≡ other
@@ -25,7 +22,7 @@ same-store name old one other h k =
     λ i. record { files = files i; failing = failing i; reads = reads i; faults = faults i; absences = absences i }
 
 -- and gave the same bytes
-same-bytes : (old : Memory) (name : List ℕ) (most : ℕ) (one other : List ℕ) → IsFront (held old.files) name most one → IsFront (held old.files) name most other
+same-bytes : (old : Memory) (name : List ℕ) (most : ℕ) (one other : List ℕ) → IsFront (content_in old.files) name most one → IsFront (content_in old.files) name most other
     → one ≡ other
 same-bytes old name most one other h k =
     let all : h.0 ≡ k.0 = cc in
@@ -48,7 +45,7 @@ not-both name reading.Absent end h due apart = cc
 not-both name reading.Failed end h due apart = cc
 not-both name reading.NoMemory end h due apart = apart h
 
-pub once : {X : Type 0} (plan : Plan X) (old new newer : Memory) (end other : Result X Stop) → GoesTo M plan old new end → GoesTo M plan old newer other
+pub once : {X : Type 0} (plan : Plan X) (old new newer : Memory) (end other : Result X Stop) → GoesTo GivesInMemory plan old new end → GoesTo GivesInMemory plan old newer other
     → end ≢ Err LacksMemory → other ≢ Err LacksMemory → end ≡ other
 unfolding GoesTo
 once (Done x) old new newer end other (inl h) k apart apart' = absurd (apart h.1)
@@ -82,4 +79,4 @@ once {X} (Read name most long next) old new newer end other (inr (inr (inr h))) 
     let bytes : k.1 ≡ h.1 = same-bytes old name (most + 1) k.1 h.1 (k.2.front tt) (h.2.front tt) in
     let store : k.0 ≡ h.0 = same-store name old k.0 h.0 k.2.read h.2.read in
     once (next h.1) h.0 new newer end other h.4
-    (subst (λ (b : List ℕ). GoesTo M (next b) h.0 newer other) bytes (subst (λ (s : Memory). GoesTo M (next k.1) s newer other) store k.4)) apart apart'
+    (subst (λ (b : List ℕ). GoesTo GivesInMemory (next b) h.0 newer other) bytes (subst (λ (s : Memory). GoesTo GivesInMemory (next k.1) s newer other) store k.4)) apart apart'

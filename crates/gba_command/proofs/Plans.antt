@@ -7,7 +7,7 @@ use Rattle.gba_command.specs.declared.refusal.Refusal.TheVariants as refusal
 use Rattle.gba_command.specs.Cause.{Cause, Stop, Refused, Absent, StoreFails, LacksMemory}
 use Rattle.gba_command.specs.Plan.{Plan, Done, Refuse, Read, bind, judgement}
 use Rattle.gba_command.specs.Reading.{GoesTo, stop_at}
-use Rattle.gba_command.specs.Views.{Agrees, ended}
+use Rattle.gba_command.specs.Views.{Agrees, end_of}
 
 abbrev pub stop_in : {X : Type 0} → Result X Stop → Stop
 stop_in (Ok x) = LacksMemory
@@ -66,12 +66,12 @@ goes-stop gives (Read name most long next) following old new stop (inr (inr (inr
 
 -- a judgement reads nothing
 pub goes-judged : {Store X Y : Type 0} (gives : List ℕ → ℕ → Result (List ℕ) ReadError → Store → Store → Type 0) (view : X → Y) (due : Result Y Cause)
-    (result : Result X Refusal) (old : Store) → Agrees view due result → GoesTo gives (judgement due) old old (ended view result)
+    (result : Result X Refusal) (old : Store) → Agrees view due result → GoesTo gives (judgement due) old old (end_of view result)
 unfolding GoesTo
 goes-judged {Store} {X} {Y} gives view due (Ok x) old is =
     subst (λ (d : Result Y Cause). GoesTo gives (judgement d) old old (Ok (view x))) (sym is) (inr (refl, refl))
 goes-judged {Store} {X} {Y} gives view due (Err (refusal.Refused of)) old is =
-    subst (λ (d : Result Y Cause). GoesTo gives (judgement d) old old (ended view (Err (refusal.Refused of)))) (sym is) (inr (refl, refl))
+    subst (λ (d : Result Y Cause). GoesTo gives (judgement d) old old (end_of view (Err (refusal.Refused of)))) (sym is) (inr (refl, refl))
 goes-judged gives view due (Err (refusal.Absent name)) old is = absurd is
 goes-judged gives view due (Err (refusal.StoreFault name)) old is = absurd is
 goes-judged gives view due (Err refusal.NoMemory) old is = goes-lacks gives (judgement due) old

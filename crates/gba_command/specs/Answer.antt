@@ -32,7 +32,8 @@ module _ (Tells : Type 0) (status : ℕ) where
 
   -- the calls of a run, and how they ended
   abbrev pub Finishes : Run → SinkState → SinkState → Type 0
-  Finishes run old new = (mid : SinkState) × (end : WriteEnd) × PerformsAll Tells (calls_of run) old mid end × Closes end mid new
+  Finishes run old new =
+      (mid : SinkState) × (end : WriteEnd) × PerformsAll Tells (calls_of run) old mid end × Closes end mid new
 
   -- refused before anything was written, or the run is written
   abbrev pub Answers : Result Run Stop → SinkState → SinkState → Type 0
@@ -43,13 +44,15 @@ module _ (Tells : Type 0) (status : ℕ) where
   abbrev pub Completed : Run → SinkState → SinkState → Type 0
   Completed run old new =
       (PerformsAll Tells (calls_of run) old new Wrote × (status ≡ 0))
-      ⊎ ((mid : SinkState) × PerformsAll Tells (calls_of run) old mid SinkLacks × Refuses 10 (stop_report LacksMemory) mid new)
+      ⊎ ((mid : SinkState) × PerformsAll Tells (calls_of run) old mid SinkLacks
+      × Refuses 10 (stop_report LacksMemory) mid new)
 
   -- What is left to answer where no count of faults or absences rose: what the words and the files come to, or memory
   -- was wanting, before anything was written or in a call of the sink.
   abbrev pub Completes : Result Run Stop → SinkState → SinkState → Type 0
   Completes (Ok run) old new = Completed run old new ⊎ Refuses 10 (stop_report LacksMemory) old new
-  Completes (Err (Refused cause)) old new = Answers (Err (Refused cause)) old new ⊎ Refuses 10 (stop_report LacksMemory) old new
+  Completes (Err (Refused cause)) old new =
+      Answers (Err (Refused cause)) old new ⊎ Refuses 10 (stop_report LacksMemory) old new
   Completes (Err (Absent name)) old new = Refuses 10 (stop_report LacksMemory) old new
   Completes (Err (StoreFails name)) old new = Refuses 10 (stop_report LacksMemory) old new
   Completes (Err LacksMemory) old new = Refuses 10 (stop_report LacksMemory) old new

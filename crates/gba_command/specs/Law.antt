@@ -2,7 +2,7 @@ use Rattle.std.specs.Prelude.{◌≡◌, ◌≢◌, ◌⊎◌, ℕ, List, Option
 use Rattle.gba_store.specs.Chosen.{IsRead}
 use Rattle.gba_store.specs.Counts.{CountsExactly}
 use Rattle.gba_store.specs.Files.{Files, Rose}
-use Rattle.gba_store.specs.Memory.{Memory, held}
+use Rattle.gba_store.specs.Memory.{Memory, content_in}
 use Rattle.gba_store.specs.declared.outside.ReadError.{ReadError}
 use Rattle.gba_command.specs.Answer.{Answers}
 use Rattle.gba_command.specs.Cause.{Stop, Refused, Absent, StoreFails, LacksMemory}
@@ -23,15 +23,18 @@ module _ {Store : Type 0} (Tells : Type 0) (files : Store → Files) (Reads : Li
   -- Where the store tells its files, a plan that isn't stopped by the store or for memory ends in its outcome.
   abbrev pub EndsInItsOutcome : Type 0
   EndsInItsOutcome =
-      (plan : Plan Run) (old new : Store) (end : Result Run Stop) → Tells → GoesTo (Gives Tells files Reads absences faults) plan old new end
+      (plan : Plan Run) (old new : Store) (end : Result Run Stop) → Tells
+      → GoesTo (Gives Tells files Reads absences faults) plan old new end
       → IsOfFiles end → outcome (files old) plan ≡ end
 
   -- A count of the store rose where a file was absent, or a read failed.
   abbrev pub CountsItsStops : Type 0
   CountsItsStops =
       (plan : Plan Run) (old new : Store) (name : List ℕ) →
-      (GoesTo (Gives Tells files Reads absences faults) plan old new (Err (Absent name)) → Rose (absences old) (absences new))
-      × (GoesTo (Gives Tells files Reads absences faults) plan old new (Err (StoreFails name)) → Rose (faults old) (faults new))
+      (GoesTo (Gives Tells files Reads absences faults) plan old new (Err (Absent name))
+      → Rose (absences old) (absences new))
+      × (GoesTo (Gives Tells files Reads absences faults) plan old new (Err (StoreFails name))
+      → Rose (faults old) (faults new))
 
   -- Where a store counts exactly, no count rose if memory was wanting: an absence or a fault isn't hidden behind it.
   abbrev pub HidesNothing : Type 0
@@ -40,12 +43,17 @@ module _ {Store : Type 0} (Tells : Type 0) (files : Store → Files) (Reads : Li
       → GoesTo (Gives Tells files Reads absences faults) plan old new (Err LacksMemory)
       → (absences new ≡ absences old) × (faults new ≡ faults old)
 
+-- one read of a store in memory
+abbrev pub GivesInMemory : List ℕ → ℕ → Result (List ℕ) ReadError → Memory → Memory → Type 0
+GivesInMemory =
+    Gives (Unit {0}) (λ store. content_in store.files) (λ name _. IsRead name) (λ store. store.absences)
+    (λ store. store.faults)
+
 -- Over a store in memory a plan has one end, but for want of memory.
 abbrev pub EndsOnce : Type 0
 EndsOnce =
     (plan : Plan Run) (old new newer : Memory) (end other : Result Run Stop)
-    → GoesTo (Gives (Unit {0}) (λ store. held store.files) (λ name _. IsRead name) (λ store. store.absences) (λ store. store.faults)) plan old new end
-    → GoesTo (Gives (Unit {0}) (λ store. held store.files) (λ name _. IsRead name) (λ store. store.absences) (λ store. store.faults)) plan old newer other
+    → GoesTo GivesInMemory plan old new end → GoesTo GivesInMemory plan old newer other
     → end ≢ Err LacksMemory → other ≢ Err LacksMemory → end ≡ other
 
 -- A count of the sink rose where writing failed, or memory was wanting in it.

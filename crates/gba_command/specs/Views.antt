@@ -25,9 +25,9 @@ stop_value (refusal.StoreFault name) = StoreFails name.items
 stop_value refusal.NoMemory = LacksMemory
 
 -- how the reads of a function ended that returned this, whose value is seen by `view`
-abbrev pub ended : {X Y : Type 0} → (X → Y) → Result X Refusal → Result Y Stop
-ended view (Ok x) = Ok (view x)
-ended view (Err refusal) = Err (stop_value refusal)
+abbrev pub end_of : {X Y : Type 0} → (X → Y) → Result X Refusal → Result Y Stop
+end_of view (Ok x) = Ok (view x)
+end_of view (Err refusal) = Err (stop_value refusal)
 
 -- what a function returned that reads nothing is this judgement, unless memory was wanting
 abbrev pub Agrees : {X Y : Type 0} → (X → Y) → Result Y Cause → Result X Refusal → Type 0

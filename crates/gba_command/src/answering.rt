@@ -1,7 +1,7 @@
 //! What a command answers.
 
 ghost use Rattle.gba_command.specs.Answer.{Answers, Finishes};
-ghost use Rattle.gba_command.specs.Views.{ended, run_value};
+ghost use Rattle.gba_command.specs.Views.{end_of, run_value};
 ghost use Rattle.gba_command.specs.Writing.{sink_state};
 
 use crate::outputs::Outputs;
@@ -11,7 +11,8 @@ use gba_store::Sink;
 
 /// Writes a run and answers the exit status.
 fn finish<O: Sink>(out: &mut O, run: &Outputs) -> u8
-    ensures { Finishes O.Tells result (run_value run.now) (sink_state (O.files out.old) (O.faults out.old) (O.wants out.old))
+    ensures { Finishes O.Tells result (run_value run.now)
+        (sink_state (O.files out.old) (O.faults out.old) (O.wants out.old))
         (sink_state (O.files out.new) (O.faults out.new) (O.wants out.new)) }
 {
     match write_run(out, run) {
@@ -26,8 +27,9 @@ fn finish<O: Sink>(out: &mut O, run: &Outputs) -> u8
 /// Writes what a command came to, or its report, and answers the exit status. Where a report is refused, the status
 /// stays.
 pub fn answer<O: Sink>(out: &mut O, prepared: &Result<Outputs, Refusal>) -> u8
-    ensures { Answers O.Tells result (ended run_value prepared.now)
-        (sink_state (O.files out.old) (O.faults out.old) (O.wants out.old)) (sink_state (O.files out.new) (O.faults out.new) (O.wants out.new)) }
+    ensures { Answers O.Tells result (end_of run_value prepared.now)
+        (sink_state (O.files out.old) (O.faults out.old) (O.wants out.old))
+        (sink_state (O.files out.new) (O.faults out.new) (O.wants out.new)) }
 {
     match prepared {
         Ok(run) => finish(out, run),

@@ -5,7 +5,7 @@ ghost use Rattle.gba_terms.specs.Hexadecimal.{hex};
 ghost use Rattle.gba_joblog.specs.Kinds.{kind_name};
 
 use crate::hexadecimal::hex_word;
-use crate::line::{Line, line_of, put};
+use crate::line::{Line, add_text, line_of};
 use crate::refusal::{Name, line_about};
 use gba_joblog::{JobError, JobKind};
 use itoa::Buffer;
@@ -27,11 +27,11 @@ fn unbuilt_line(address: u32, word: u32) -> Line
     ensures { result.items ≡ codes "notbuilt " ++ hex 8 address ++ codes " " ++ hex 8 word ++ codes "\n" }
 {
     let mut line = Line::new();
-    put(&mut line, b"notbuilt ");
-    put(&mut line, &hex_word(address));
-    put(&mut line, b" ");
-    put(&mut line, &hex_word(word));
-    put(&mut line, b"\n");
+    add_text(&mut line, b"notbuilt ");
+    add_text(&mut line, &hex_word(address));
+    add_text(&mut line, b" ");
+    add_text(&mut line, &hex_word(word));
+    add_text(&mut line, b"\n");
     line
 }
 
@@ -44,14 +44,16 @@ fn kind_text(kind: JobKind) -> &'static [u8]
 }
 
 fn job_line(name: &Name, error: &JobError) -> Line
-    ensures { result.items ≡ codes "job " ++ name.now.items ++ codes " line " ++ decimal error.now.line ++ codes " " ++ kind_name error.now.kind ++ codes "\n" }
+    ensures { result.items
+        ≡ codes "job " ++ name.now.items ++ codes " line " ++ decimal error.now.line ++ codes " "
+        ++ kind_name error.now.kind ++ codes "\n" }
 {
     let mut buffer = Buffer::new();
     let mut line = line_about(b"job ", name, b" line ");
-    put(&mut line, buffer.format(error.line).as_bytes());
-    put(&mut line, b" ");
-    put(&mut line, kind_text(error.kind));
-    put(&mut line, b"\n");
+    add_text(&mut line, buffer.format(error.line).as_bytes());
+    add_text(&mut line, b" ");
+    add_text(&mut line, kind_text(error.kind));
+    add_text(&mut line, b"\n");
     line
 }
 

@@ -14,7 +14,7 @@ mod writing;
 
 pub use answering::answer;
 pub use cause::Cause;
-pub use line::{Line, put};
+pub use line::{Line, add_text};
 pub use outputs::{OutputFile, Outputs};
 pub use reading::read_file;
 pub use refusal::{Name, Refusal, name_in_report};

@@ -9,7 +9,7 @@ use arrayvec::ArrayVec;
 pub type Line = ArrayVec<u8, 256>;
 
 /// Adds bytes to a line that has room for them.
-pub fn put(line: &mut Line, bytes: &[u8])
+pub fn add_text(line: &mut Line, bytes: &[u8])
     requires { array_vec_len line.old + length bytes.now ≤ 256 }
     ensures items { line.new.items ≡ line.old.items ++ bytes.now }
     ensures len { array_vec_len line.new ≡ array_vec_len line.old + length bytes.now }
@@ -25,6 +25,6 @@ pub(crate) fn line_of(text: &[u8]) -> Line
     ensures { result.items ≡ text.now }
 {
     let mut line = Line::new();
-    put(&mut line, text);
+    add_text(&mut line, text);
     line
 }

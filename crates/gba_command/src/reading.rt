@@ -3,7 +3,7 @@
 ghost use Rattle.std.specs.Prelude.{◌+◌, ◌^◌, ◌≤◌, ◌<◌, length};
 ghost use Rattle.gba_command.specs.Plan.{file};
 ghost use Rattle.gba_command.specs.Reading.{Gives, GoesTo};
-ghost use Rattle.gba_command.specs.Views.{bytes_value, cause_value, ended};
+ghost use Rattle.gba_command.specs.Views.{bytes_value, cause_value, end_of};
 
 use crate::cause::Cause;
 use crate::refusal::{Refusal, name_in_report};
@@ -23,7 +23,7 @@ pub fn read_file<S: Store>(
     requires named { length name.now ≤ 200 }
     requires bounded { most + 1 < 2 ^ 64 }
     ensures goes { GoesTo (Gives S.Tells S.files S.Reads S.absences S.faults) (file name.now most (cause_value long))
-        store.old store.new (ended bytes_value result) }
+        store.old store.new (end_of bytes_value result) }
 {
     match store.read(alloc, name, most + 1) {
         Ok(bytes) if bytes.len() as u64 > most => Err(Refusal::Refused(long)),

@@ -4,7 +4,7 @@ ghost use Rattle.std.specs.Prelude.{◌≡◌, ◌+◌, ◌≤◌, ◌++◌, len
 ghost use Rattle.arrayvec.specs.ArrayVec.{array_vec_len};
 
 use crate::cause::Cause;
-use crate::line::{Line, line_of, put};
+use crate::line::{Line, add_text, line_of};
 use arrayvec::ArrayVec;
 
 /// A file's name in a report: at most 200 bytes.
@@ -42,9 +42,9 @@ pub(crate) fn line_about(before: &[u8], name: &Name, after: &[u8]) -> Line
     ensures short { array_vec_len result ≤ length before.now + length after.now + 200 }
 {
     let mut line = Line::new();
-    put(&mut line, before);
-    put(&mut line, name.as_slice());
-    put(&mut line, after);
+    add_text(&mut line, before);
+    add_text(&mut line, name.as_slice());
+    add_text(&mut line, after);
     line
 }
 

@@ -49,7 +49,8 @@ impl WriteStop {
 #[tactic(auto, unfolding(crate::specs::Writing::Performs))]
 fn create<O: Sink>(out: &mut O, name: &str) -> Result<(), WriteStop>
     requires { length name.now ≤ 200 }
-    ensures { Performs O.Tells (Create name.now) (sink_state (O.files out.old) (O.faults out.old) (O.wants out.old))
+    ensures { Performs O.Tells (Create name.now)
+        (sink_state (O.files out.old) (O.faults out.old) (O.wants out.old))
         (sink_state (O.files out.new) (O.faults out.new) (O.wants out.new)) (write_end result) }
 {
     match out.create(name) {
@@ -63,7 +64,8 @@ fn create<O: Sink>(out: &mut O, name: &str) -> Result<(), WriteStop>
 #[tactic(auto, unfolding(crate::specs::Writing::Performs))]
 fn append<O: Sink>(out: &mut O, name: &str, piece: &[u8]) -> Result<(), WriteStop>
     requires { length name.now ≤ 200 }
-    ensures { Performs O.Tells (Append name.now piece.now) (sink_state (O.files out.old) (O.faults out.old) (O.wants out.old))
+    ensures { Performs O.Tells (Append name.now piece.now)
+        (sink_state (O.files out.old) (O.faults out.old) (O.wants out.old))
         (sink_state (O.files out.new) (O.faults out.new) (O.wants out.new)) (write_end result) }
 {
     match out.append(name, piece) {
@@ -75,7 +77,8 @@ fn append<O: Sink>(out: &mut O, name: &str, piece: &[u8]) -> Result<(), WriteSto
 
 /// Makes the files empty, one after another.
 fn create_all<O: Sink>(out: &mut O, files: &[OutputFile]) -> Result<(), WriteStop>
-    ensures { PerformsAll O.Tells (map creation (map output_value files.now)) (sink_state (O.files out.old) (O.faults out.old) (O.wants out.old))
+    ensures { PerformsAll O.Tells (map creation (map output_value files.now))
+        (sink_state (O.files out.old) (O.faults out.old) (O.wants out.old))
         (sink_state (O.files out.new) (O.faults out.new) (O.wants out.new)) (write_end result) }
 {
     for file in files {
@@ -86,7 +89,8 @@ fn create_all<O: Sink>(out: &mut O, files: &[OutputFile]) -> Result<(), WriteSto
 
 /// Adds the bytes of the files, one after another.
 fn append_all<O: Sink>(out: &mut O, files: &[OutputFile]) -> Result<(), WriteStop>
-    ensures { PerformsAll O.Tells (map addition (map output_value files.now)) (sink_state (O.files out.old) (O.faults out.old) (O.wants out.old))
+    ensures { PerformsAll O.Tells (map addition (map output_value files.now))
+        (sink_state (O.files out.old) (O.faults out.old) (O.wants out.old))
         (sink_state (O.files out.new) (O.faults out.new) (O.wants out.new)) (write_end result) }
 {
     for file in files {
@@ -97,7 +101,8 @@ fn append_all<O: Sink>(out: &mut O, files: &[OutputFile]) -> Result<(), WriteSto
 
 /// Writes a run: its files are made empty, their bytes are added, and the summary goes to standard output.
 pub(crate) fn write_run<O: Sink>(out: &mut O, run: &Outputs) -> Result<(), WriteStop>
-    ensures { PerformsAll O.Tells (calls_of (run_value run.now)) (sink_state (O.files out.old) (O.faults out.old) (O.wants out.old))
+    ensures { PerformsAll O.Tells (calls_of (run_value run.now))
+        (sink_state (O.files out.old) (O.faults out.old) (O.wants out.old))
         (sink_state (O.files out.new) (O.faults out.new) (O.wants out.new)) (write_end result) }
 {
     create_all(out, run.files.as_slice())?;
@@ -107,7 +112,8 @@ pub(crate) fn write_run<O: Sink>(out: &mut O, run: &Outputs) -> Result<(), Write
 
 /// Reports a line on standard output. Where that is refused, nothing more is done.
 pub(crate) fn report<O: Sink>(out: &mut O, line: &Line)
-    ensures { Reported O.Tells line.now.items (sink_state (O.files out.old) (O.faults out.old) (O.wants out.old))
+    ensures { Reported O.Tells line.now.items
+        (sink_state (O.files out.old) (O.faults out.old) (O.wants out.old))
         (sink_state (O.files out.new) (O.faults out.new) (O.wants out.new)) }
 {
     let _ = append(out, "-", line.as_slice());

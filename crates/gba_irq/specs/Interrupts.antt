@@ -25,7 +25,10 @@ truth_number set = if set then 1 else 0
 -- what stands at a halfword, and what a byte write keeps of its other byte: nothing of IF, where a 0 clears nothing
 abbrev pub interrupt_shown : ℕ → Interrupts → ℕ
 interrupt_shown offset i =
-    if offset == 0x200 then i.enabled else if offset == 0x202 then i.raised else if offset == 0x208 then truth_number i.master else 0
+    if offset == 0x200 then i.enabled
+    else if offset == 0x202 then i.raised
+    else if offset == 0x208 then truth_number i.master
+    else 0
 
 abbrev pub interrupt_kept : ℕ → Interrupts → ℕ
 interrupt_kept offset i = if offset == 0x202 then 0 else interrupt_shown offset i

@@ -20,7 +20,9 @@ chosen_keys k = field k.control 0 10
 abbrev pub condition : Keys → Bool
 condition k =
     bit k.control 14 && not (chosen_keys k == 0)
-    && (if bit k.control 15 then bit_and k.pressed (chosen_keys k) == chosen_keys k else not (bit_and k.pressed (chosen_keys k) == 0))
+    && (if bit k.control 15
+    then bit_and k.pressed (chosen_keys k) == chosen_keys k
+    else not (bit_and k.pressed (chosen_keys k) == 0))
 
 -- the condition went from false to true
 abbrev pub becomes_true : Keys → Keys → Bool

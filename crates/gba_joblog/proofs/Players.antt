@@ -7,7 +7,7 @@ use Rattle.gba_text.specs.Reading.{Reading, next_number, next_word, number_in, o
 use Rattle.gba_text.specs.Words.{fault_of}
 use Rattle.gba_text.specs.declared.kinds.TextKind.{TextKind}
 use Rattle.gba_joblog.specs.Kinds.{◌>>=◌}
-use Rattle.gba_joblog.specs.Operands.{Words, taken, player_at, only, or_refused, other_player}
+use Rattle.gba_joblog.specs.Operands.{Words, operand, player_at, only, or_refused, other_player}
 use Rattle.gba_joblog.specs.declared.kinds.JobKind.TheVariants.{Order, Number}
 
 found_word : (next n v : ℕ) (ws : Words) (s t : Bool) → (t ≡ is_within next next v) → or_number (cond (s && t) (Some v) None) ≡ Ok n
@@ -18,7 +18,7 @@ found_word next n v ws true false within h = absurd cc
 found_word next n v ws false t within h = absurd cc
 
 found_in : (next n : ℕ) (ws : Words) → number_in (number_of next next) (word_or None ws) ≡ Ok n
-    → player_at next ws ≡ Ok (taken next (rest_of ws))
+    → player_at next ws ≡ Ok (operand next (rest_of ws))
 unfolding player_at number_of
 found_in next n [] h = absurd cc
 found_in next n (w ∷ ws) h =
@@ -26,7 +26,7 @@ found_in next n (w ∷ ws) h =
     rw (f.0, f.1, eq-eqb next next refl) refl
 
 pub player-found : (next n : ℕ) (r : Reading) → fault_of r.line ≡ None → next_number next next r ≡ Ok n
-    → player_at next r.words ≡ Ok (taken next (rest_of r.words))
+    → player_at next r.words ≡ Ok (operand next (rest_of r.words))
 unfolding next_number next_word
 player-found next n r sound h = found_in next n r.words (rw sound at h)
 

@@ -4,10 +4,10 @@ use Rattle.std.proofs.lemmas.Bool.{lt-ltb, le-ltb, cases_lt}
 use Rattle.std.proofs.lemmas.List.{length-take, take_all}
 use Rattle.gba_joblog.specs.declared.kinds.JobKind.TheVariants.{Long}
 use Rattle.gba_text.specs.Lines.{lines, begins_with_feed, onto_front}
-use Rattle.gba_text.specs.Reading.{Reading as Place, first_of, opened, next_line}
+use Rattle.gba_text.specs.Reading.{Reading as Place, first_of, with_line, next_line}
 use Rattle.gba_joblog.specs.Draft.{Draft, nothing_said}
 use Rattle.gba_joblog.specs.Job.{WholeJob}
-use Rattle.gba_joblog.specs.Language.{lines_say, finished, said_with, refused, job_of, longest_job}
+use Rattle.gba_joblog.specs.Language.{lines_say, job_at_end, said_with, error_at, job_of, longest_job}
 use Rattle.gba_joblog.specs.Answers.{Parses, Reads}
 use Rattle.gba_joblog.specs.declared.kinds.ParseRefused.{ParseRefused}
 use Rattle.gba_joblog.specs.declared.kinds.ParseRefused.TheVariants as refusal
@@ -25,13 +25,13 @@ pub lines_say-more : (number : ℕ) (d : Draft) (line : List ℕ) (rest : List (
 unfolding lines_say
 lines_say-more number d line rest e h = rw h refl
 
-pub lines_say-refused : (number : ℕ) (d : Draft) (line : List ℕ) (rest : List (List ℕ)) (kind : JobKind)
+pub lines_say-error_at : (number : ℕ) (d : Draft) (line : List ℕ) (rest : List (List ℕ)) (kind : JobKind)
     → said_with (number + 1) d line ≡ Err kind
-    → lines_say number d (line ∷ rest) ≡ Err (refused (number + 1) kind)
+    → lines_say number d (line ∷ rest) ≡ Err (error_at (number + 1) kind)
 unfolding lines_say
-lines_say-refused number d line rest kind h = rw h refl
+lines_say-error_at number d line rest kind h = rw h refl
 
-pub lines_say-end : (number : ℕ) (d : Draft) → lines_say number d [] ≡ finished number d
+pub lines_say-end : (number : ℕ) (d : Draft) → lines_say number d [] ≡ job_at_end number d
 unfolding lines_say
 lines_say-end number d = refl
 
@@ -47,12 +47,12 @@ went_on bytes number d line rest e h s =
 pub stopped : (bytes : List ℕ) (number : ℕ) (d : Draft) (line : List ℕ) (rest : List (List ℕ)) (kind : JobKind)
     → IsReading bytes number d (line ∷ rest)
     → said_with (number + 1) d line ≡ Err kind
-    → lines_say 0 nothing_said (lines bytes) ≡ Err (refused (number + 1) kind)
-stopped bytes number d line rest kind h s = sym h.said ∙ lines_say-refused number d line rest kind s
+    → lines_say 0 nothing_said (lines bytes) ≡ Err (error_at (number + 1) kind)
+stopped bytes number d line rest kind h s = sym h.said ∙ lines_say-error_at number d line rest kind s
 
 -- no line is left
 pub ended : (bytes : List ℕ) (number : ℕ) (d : Draft) → IsReading bytes number d []
-    → lines_say 0 nothing_said (lines bytes) ≡ finished number d
+    → lines_say 0 nothing_said (lines bytes) ≡ job_at_end number d
 ended bytes number d h = sym h.said ∙ lines_say-end number d
 
 onto-few : (b : ℕ) (pieces : List (List ℕ)) → length (onto_front b pieces) ≤ length pieces + 1
@@ -74,7 +74,7 @@ lines-few (b ∷ bs) =
 
 -- the next line, and what it leaves
 opens : (ls : List (List ℕ)) (r : Place) (line : List ℕ) → Some line ≡ first_of ls
-    → (ls ≡ line ∷ (opened ls r).lines) × ((opened ls r).number ≡ r.number + 1)
+    → (ls ≡ line ∷ (with_line ls r).lines) × ((with_line ls r).number ≡ r.number + 1)
 opens [] r line e = absurd cc
 opens (l ∷ ls) r line e = (cc, refl)
 
@@ -96,7 +96,7 @@ reads_on bytes old new d e line number rest h first state said same left =
 pub reads_refused : (bytes : List ℕ) (old new : Place) (d : Draft) (line : List ℕ) (kind : JobKind)
     → IsReading bytes old.number d old.lines
     → Some line ≡ first_of old.lines → new ≡ next_line old → said_with new.number d line ≡ Err kind
-    → lines_say 0 nothing_said (lines bytes) ≡ Err (refused new.number kind)
+    → lines_say 0 nothing_said (lines bytes) ≡ Err (error_at new.number kind)
 reads_refused bytes old new d line kind h first state said =
     let o = opens old.lines old line first in
     let count : new.number ≡ old.number + 1 = ap (λ (r : Place). r.number) state ∙ o.1 in
@@ -106,10 +106,10 @@ reads_refused bytes old new d line kind h first state said =
 
 pub reads_end : (bytes : List ℕ) (old new : Place) (d : Draft) → IsReading bytes old.number d old.lines
     → None ≡ first_of old.lines → new ≡ next_line old
-    → (lines_say 0 nothing_said (lines bytes) ≡ finished new.number d) × (new.number ≡ length (lines bytes))
+    → (lines_say 0 nothing_said (lines bytes) ≡ job_at_end new.number d) × (new.number ≡ length (lines bytes))
 reads_end bytes old new d h first state =
     let none : old.lines ≡ [] = closes old.lines first in
-    let same : new ≡ old = state ∙ ap (λ ls. opened ls old) none in
+    let same : new ≡ old = state ∙ ap (λ ls. with_line ls old) none in
     let here : IsReading bytes old.number d [] = rw none at h in
     rw same (ended bytes old.number d here, omega (arith, here.count))
 
@@ -118,7 +118,7 @@ pub job_of-lines : (bytes : List ℕ) (answer : Result WholeJob JobError) → le
 unfolding job_of
 job_of-lines bytes answer short h = rw (le-ltb _ _ short) h
 
-pub job_of-long : (bytes : List ℕ) → longest_job < length bytes → job_of bytes ≡ Err (refused 0 Long)
+pub job_of-long : (bytes : List ℕ) → longest_job < length bytes → job_of bytes ≡ Err (error_at 0 Long)
 unfolding job_of
 job_of-long bytes long = rw (lt-ltb _ _ long) refl
 
@@ -128,15 +128,15 @@ pub refuses : {X : Type 0} (view : X → WholeJob) (bytes : List ℕ) (old new :
     → IsReading bytes old.number d old.lines → Some line ≡ first_of old.lines → new ≡ next_line old
     → Reads {T = Unit {0}} (Err r) new.number said (said_with new.number d line) → Parses view (Err r) (job_of bytes)
 refuses view bytes old new d said line (refusal.Job e) short h first state reads =
-    let all = job_of-lines bytes (Err (refused new.number e.kind)) short
+    let all = job_of-lines bytes (Err (error_at new.number e.kind)) short
     (reads_refused bytes old new d line e.kind h first state reads.0) in
-    all ∙ ap (λ number. Err (refused number e.kind)) (sym reads.1)
+    all ∙ ap (λ number. Err (error_at number e.kind)) (sym reads.1)
 refuses view bytes old new d said line refusal.NoMemory short h first state reads = tt
 
 -- the whole file is read
 pub finishes : (bytes : List ℕ) (old new : Place) (d : Draft) (answer : Result WholeJob JobError)
     → length bytes ≤ longest_job → IsReading bytes old.number d old.lines
-    → None ≡ first_of old.lines → new ≡ next_line old → finished new.number d ≡ answer → job_of bytes ≡ answer
+    → None ≡ first_of old.lines → new ≡ next_line old → job_at_end new.number d ≡ answer → job_of bytes ≡ answer
 finishes bytes old new d answer short h first state end =
     job_of-lines bytes answer short ((reads_end bytes old new d h first state).0 ∙ end)
 

@@ -12,11 +12,11 @@ use Rattle.gba_joblog.specs.Answers.{IsSaid, Parses}
 use Rattle.gba_joblog.specs.Draft.{Draft, nothing_said, silent_console}
 use Rattle.gba_joblog.specs.Job.{ConsoleJob, WholeJob}
 use Rattle.gba_joblog.specs.Kinds.{◌>>=◌, holds}
-use Rattle.gba_joblog.specs.Language.{Leads, EndsIn, line_says, said_with, first_word, words_say, keyword_says, statement_of, unless_ended, is_comment, added_if, finished, finished_at, job_with, job_of, usual_delay}
+use Rattle.gba_joblog.specs.Language.{Leads, EndsIn, line_says, said_with, first_word, words_say, keyword_says, statement_of, unless_ended, is_comment, plus_statement_if, job_at_end, job_at_place, job_with, job_of, usual_delay}
 use Rattle.gba_joblog.specs.Names.{is_name}
-use Rattle.gba_joblog.specs.Operands.{Words, Taken, word_at, number_in, number_at, name_in, name_of, name_at, player_at, version_at, out_kind_at, end_at, or_refused, taken}
+use Rattle.gba_joblog.specs.Operands.{Words, Taken, word_at, number_in, number_at, name_in, name_of, name_at, player_at, version_at, out_kind_at, end_at, or_refused, operand}
 use Rattle.gba_joblog.specs.Soundness.{IsFile, IsPartOfConsole, IsConsole, IsJob}
-use Rattle.gba_joblog.specs.Statements.{Statement, Version, Cycles, Console, Bios, Out, End, keyword_of, refusal_at, arguments, added, at_start, in_console, before_console, plain_file, plain_output, place_of, asks_for}
+use Rattle.gba_joblog.specs.Statements.{Statement, Version, Cycles, Console, Bios, Out, End, keyword_of, refusal_at, arguments, plus_statement, at_start, in_console, before_console, plain_file, plain_output, place_of, asks_for}
 use Rattle.gba_joblog.specs.declared.draft.Place.{Place}
 use Rattle.gba_joblog.specs.declared.draft.Place.TheVariants.{Start, Head, Inside, Ended}
 use Rattle.gba_joblog.specs.declared.kinds.ParseRefused.{ParseRefused}
@@ -94,17 +94,17 @@ number-range least most n word h = by_test (is_number word && is_within least mo
       (omega arith, omega arith)
   by_test false e s = absurd cc
 
-refused-some : {T : Type 0} (kind : JobKind) (words : Words) (o : Option T) (t : Taken T)
+error_at-some : {T : Type 0} (kind : JobKind) (words : Words) (o : Option T) (t : Taken T)
     → or_refused kind words o ≡ Ok t → o ≡ Some t.value
-refused-some kind words (Some x) t h = let same : taken x words ≡ t = cc in ap (λ t. Some t.value) same
-refused-some kind words None t h = absurd cc
+error_at-some kind words (Some x) t h = let same : operand x words ≡ t = cc in ap (λ t. Some t.value) same
+error_at-some kind words None t h = absurd cc
 
 number_at-range : (least most : ℕ) (ws : Words) (t : Taken ℕ) → number_at least most ws ≡ Ok t
     → (least ≤ t.value) × (t.value ≤ most)
 unfolding number_at
 number_at-range least most ws t h =
     let b = bind-ok (word_at ws) (number_in least most) t h in
-    number-range least most t.value b.0.value (refused-some _ _ (number_of least most b.0.value) t b.2)
+    number-range least most t.value b.0.value (error_at-some _ _ (number_of least most b.0.value) t b.2)
 
 name-is : (word name : List ℕ) → name_of word ≡ Some name → is_name name ≡ true
 name-is word name h = by_test (is_name word) refl h where
@@ -116,12 +116,12 @@ name_at-is : (ws : Words) (t : Taken (List ℕ)) → name_at ws ≡ Ok t → is_
 unfolding name_at
 name_at-is ws t h =
     let b = bind-ok (word_at ws) name_in t h in
-    name-is b.0.value t.value (refused-some _ _ (name_of b.0.value) t b.2)
+    name-is b.0.value t.value (error_at-some _ _ (name_of b.0.value) t b.2)
 
 -- each keyword with its operands keeps what is said sound
 keeps : (n : ℕ) (d : Draft) (k : Keyword) (ws : Words) (s : Statement) → IsDraft d → refusal_at d k ≡ None
-    → arguments d k ws ≡ Ok s → IsDraft (added n s d)
-unfolding refusal_at arguments added
+    → arguments d k ws ≡ Ok s → IsDraft (plus_statement n s d)
+unfolding refusal_at arguments plus_statement
 keeps n d keyword.Version ws s h place e =
     let b = bind-ok (version_at ws) (λ version. end_at version.words >>= (λ _. Ok Version)) s e in
     let c = bind-ok (end_at b.0.words) (λ _. Ok Version) s b.2 in
@@ -242,7 +242,7 @@ unfolding line_says
 says-statement d line s h = by_text d line s (nat_lt longest_line (length line)) (is_comment line) h
 
 with_statement : (n : ℕ) (d : Draft) (line : List ℕ) (o : Option Statement) → IsDraft d → line_says d line ≡ Ok o
-    → IsDraft (added_if n d o)
+    → IsDraft (plus_statement_if n d o)
 with_statement n d line None h said = h
 with_statement n d line (Some s) h said =
     let is = says-statement d line s said in
@@ -251,8 +251,8 @@ with_statement n d line (Some s) h said =
 line-keeps : (n : ℕ) (d e : Draft) (line : List ℕ) → IsDraft d → said_with n d line ≡ Ok e → IsDraft e
 unfolding said_with
 line-keeps n d e line h said =
-    let b = bind-ok (line_says d line) (λ statement. Ok (added_if n d statement)) e said in
-    subst IsDraft (ok-is (added_if n d b.0) e b.2) (with_statement n d line b.0 h b.1)
+    let b = bind-ok (line_says d line) (λ statement. Ok (plus_statement_if n d statement)) e said in
+    subst IsDraft (ok-is (plus_statement_if n d b.0) e b.2) (with_statement n d line b.0 h b.1)
 
 lines-keep : (n : ℕ) (d e : Draft) (ls : List (List ℕ)) → IsDraft d → Leads n d ls e → IsDraft e
 unfolding Leads
@@ -275,14 +275,14 @@ by_cycles d (Some cycles) n job range consoles h =
     })
 
 by_end : (d : Draft) (place : Place) (n : ℕ) (job : WholeJob) → IfSome d.cycles InRange
-    → AreConsoles place d.consoles → finished_at d place n ≡ Ok job → IsJob job
+    → AreConsoles place d.consoles → job_at_place d place n ≡ Ok job → IsJob job
 by_end d Start n job range consoles h = absurd cc
 by_end d Head n job range consoles h = absurd cc
 by_end d Inside n job range consoles h = absurd cc
 by_end d Ended n job range consoles h = by_cycles d d.cycles n job range consoles h
 
-at-end : (n : ℕ) (d : Draft) (job : WholeJob) → IsDraft d → finished n d ≡ Ok job → IsJob job
-unfolding finished
+at-end : (n : ℕ) (d : Draft) (job : WholeJob) → IsDraft d → job_at_end n d ≡ Ok job → IsJob job
+unfolding job_at_end
 at-end n d job h end = by_end d d.place n job h.cycles h.consoles end
 
 -- each job that is read is sound

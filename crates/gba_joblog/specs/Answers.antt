@@ -3,7 +3,7 @@ use Rattle.std.specs.Prelude.{◌≡◌, ℕ, List, Result, Ok, Err}
 use Rattle.gba_joblog.specs.Draft.{Draft}
 use Rattle.gba_joblog.specs.Job.{WholeJob}
 use Rattle.gba_joblog.specs.Language.{Says}
-use Rattle.gba_joblog.specs.Operands.{Words, Taken, taken}
+use Rattle.gba_joblog.specs.Operands.{Words, Taken, operand}
 use Rattle.gba_joblog.specs.declared.kinds.ParseRefused.{ParseRefused}
 use Rattle.gba_joblog.specs.declared.kinds.ParseRefused.TheVariants as refusal
 use Rattle.gba_joblog.specs.declared.kinds.JobError.{JobError}
@@ -11,7 +11,7 @@ use Rattle.gba_joblog.specs.declared.kinds.JobKind.{JobKind}
 
 -- an operand and the words left after it, or the refusal, are the defined ones
 abbrev pub Takes : {X T : Type 0} → (X → T) → Result X JobKind → Words → Result (Taken T) JobKind → Type 0
-Takes view (Ok x) words defined = defined ≡ Ok (taken (view x) words)
+Takes view (Ok x) words defined = defined ≡ Ok (operand (view x) words)
 Takes view (Err kind) words defined = defined ≡ Err kind
 
 -- an answer without an operand

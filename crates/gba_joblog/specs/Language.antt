@@ -7,7 +7,7 @@ use Rattle.gba_joblog.specs.Draft.{Draft, nothing_said}
 use Rattle.gba_joblog.specs.Job.{WholeJob}
 use Rattle.gba_joblog.specs.Kinds.{◌>>=◌}
 use Rattle.gba_joblog.specs.Operands.{Words}
-use Rattle.gba_joblog.specs.Statements.{Statement, keyword_of, refusal_at, arguments, added}
+use Rattle.gba_joblog.specs.Statements.{Statement, keyword_of, refusal_at, arguments, plus_statement}
 use Rattle.gba_joblog.specs.declared.draft.Place.{Place}
 use Rattle.gba_joblog.specs.declared.draft.Place.TheVariants.{Start, Head, Inside, Ended}
 use Rattle.gba_joblog.specs.declared.kinds.JobError.{JobError}
@@ -54,16 +54,16 @@ line_says d line =
     else if is_comment line then Ok None
     else first_word line (words line) >>= words_say d (rest_of (words line))
 
-abbrev pub added_if : ℕ → Draft → Option Statement → Draft
-added_if line d (Some statement) = added line statement d
-added_if line d None = d
+abbrev pub plus_statement_if : ℕ → Draft → Option Statement → Draft
+plus_statement_if line d (Some statement) = plus_statement line statement d
+plus_statement_if line d None = d
 
 -- what is said once the line of this number is read as well
 unfoldable pub said_with : ℕ → Draft → List ℕ → Result Draft JobKind
-said_with number d line = line_says d line >>= (λ statement. Ok (added_if number d statement))
+said_with number d line = line_says d line >>= (λ statement. Ok (plus_statement_if number d statement))
 
-abbrev pub refused : ℕ → JobKind → JobError
-refused line kind = record { line = line; kind = kind }
+abbrev pub error_at : ℕ → JobKind → JobError
+error_at line kind = record { line = line; kind = kind }
 
 -- the delay of the cable in cycles, where no line says it
 abbrev pub usual_delay : ℕ
@@ -71,17 +71,17 @@ usual_delay = 512
 
 abbrev pub job_with : Draft → Option ℕ → ℕ → Result WholeJob JobError
 job_with d (Some cycles) lines = Ok (record { cycles = cycles; delay = usual_delay; consoles = d.consoles })
-job_with d None lines = Err (refused (lines + 1) kind.Missing)
+job_with d None lines = Err (error_at (lines + 1) kind.Missing)
 
 -- the job, once all the lines are read: the last statement is `end`
-abbrev pub finished_at : Draft → Place → ℕ → Result WholeJob JobError
-finished_at d Ended lines = job_with d d.cycles lines
-finished_at d Start lines = Err (refused (lines + 1) kind.Missing)
-finished_at d Head lines = Err (refused (lines + 1) kind.Missing)
-finished_at d Inside lines = Err (refused (lines + 1) kind.Missing)
+abbrev pub job_at_place : Draft → Place → ℕ → Result WholeJob JobError
+job_at_place d Ended lines = job_with d d.cycles lines
+job_at_place d Start lines = Err (error_at (lines + 1) kind.Missing)
+job_at_place d Head lines = Err (error_at (lines + 1) kind.Missing)
+job_at_place d Inside lines = Err (error_at (lines + 1) kind.Missing)
 
-unfoldable pub finished : ℕ → Draft → Result WholeJob JobError
-finished lines d = finished_at d d.place lines
+unfoldable pub job_at_end : ℕ → Draft → Result WholeJob JobError
+job_at_end lines d = job_at_place d d.place lines
 
 -- the most bytes of a job
 abbrev pub longest_job : ℕ
@@ -115,28 +115,28 @@ pub record EndsIn (bytes : List ℕ) (answer : Result WholeJob JobError) : Type 
   pub short : length bytes ≤ longest_job
   pub said : Draft
   pub leads : Leads 0 nothing_said (lines bytes) said
-  pub end : finished (length (lines bytes)) said ≡ answer
+  pub end : job_at_end (length (lines bytes)) said ≡ answer
 
 -- The job that a file says, or its refusal. A file is refused with line 0 where it is too long; else at its first
 -- refused line; else past its last line, where it ends too early.
 abbrev pub Says : List ℕ → Result WholeJob JobError → Type 0
 Says bytes (Ok job) = EndsIn bytes (Ok job)
 Says bytes (Err e) =
-    ((longest_job < length bytes) × (e ≡ refused 0 kind.Long)) ⊎ IsRefusedAt bytes e ⊎ EndsIn bytes (Err e)
+    ((longest_job < length bytes) × (e ≡ error_at 0 kind.Long)) ⊎ IsRefusedAt bytes e ⊎ EndsIn bytes (Err e)
 
 -- the same as a function: what lines say, one after another, that stand after so many others
 abbrev pub go_on : ℕ → (Draft → Result WholeJob JobError) → Result Draft JobKind → Result WholeJob JobError
 go_on number rest (Ok d) = rest d
-go_on number rest (Err kind) = Err (refused number kind)
+go_on number rest (Err kind) = Err (error_at number kind)
 
 unfoldable pub lines_say : ℕ → Draft → List (List ℕ) → Result WholeJob JobError
-lines_say number d [] = finished number d
+lines_say number d [] = job_at_end number d
 lines_say number d (line ∷ rest) =
     go_on (number + 1) (λ mid. lines_say (number + 1) mid rest) (said_with (number + 1) d line)
 
 unfoldable pub job_of : List ℕ → Result WholeJob JobError
 job_of bytes =
-    if nat_lt longest_job (length bytes) then Err (refused 0 kind.Long) else lines_say 0 nothing_said (lines bytes)
+    if nat_lt longest_job (length bytes) then Err (error_at 0 kind.Long) else lines_say 0 nothing_said (lines bytes)
 
 -- the relation and the function are one
 abbrev pub IsAnswered : Type 0

@@ -19,15 +19,15 @@ pub record Taken (T : Type 0) : Type 0 where
   pub value : T
   pub words : Words
 
-abbrev pub taken : {T : Type 0} → T → Words → Taken T
-taken value words = record { value = value; words = words }
+abbrev pub operand : {T : Type 0} → T → Words → Taken T
+operand value words = record { value = value; words = words }
 
 abbrev pub word_at : Words → Result (Taken (List ℕ)) JobKind
 word_at [] = Err Missing
-word_at (word ∷ words) = Ok (taken word words)
+word_at (word ∷ words) = Ok (operand word words)
 
 abbrev pub or_refused : {T : Type 0} → JobKind → Words → Option T → Result (Taken T) JobKind
-or_refused kind words (Some value) = Ok (taken value words)
+or_refused kind words (Some value) = Ok (operand value words)
 or_refused kind words None = Err kind
 
 abbrev pub number_in : ℕ → ℕ → Taken (List ℕ) → Result (Taken ℕ) JobKind

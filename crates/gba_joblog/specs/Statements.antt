@@ -131,11 +131,11 @@ abbrev pub plain_output : OutLine
 plain_output = record { digest = None }
 
 -- what is said once a line, with its number, is said as well
-unfoldable pub added : ℕ → Statement → Draft → Draft
-added line Version d = record d { place = Head }
-added line (Cycles cycles) d = record d { cycles = Some cycles }
-added line Console d = record d { place = Inside }
-added line (Bios name) d = record d { last = record d.last { bios = Some (plain_file name line) } }
-added line (Out out) d =
+unfoldable pub plus_statement : ℕ → Statement → Draft → Draft
+plus_statement line Version d = record d { place = Head }
+plus_statement line (Cycles cycles) d = record d { cycles = Some cycles }
+plus_statement line Console d = record d { place = Inside }
+plus_statement line (Bios name) d = record d { last = record d.last { bios = Some (plain_file name line) } }
+plus_statement line (Out out) d =
     record d { last = record d.last { outs = slice_set d.last.outs (place_of out) (Some plain_output) } }
-added line End d = record d { place = Ended; consoles = d.consoles ++ d.last ∷ []; last = silent_console }
+plus_statement line End d = record d { place = Ended; consoles = d.consoles ++ d.last ∷ []; last = silent_console }

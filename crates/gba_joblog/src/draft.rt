@@ -3,8 +3,8 @@
 ghost use Rattle.std.specs.Prelude.{◌≡◌, ◌+◌, ◌<◌, ◌^◌, OnOk, IfOk};
 ghost use Rattle.gba_joblog.specs.Answers.{Finishes};
 ghost use Rattle.gba_joblog.specs.Draft.{nothing_said};
-ghost use Rattle.gba_joblog.specs.Language.{finished as finished_of};
-ghost use Rattle.gba_joblog.specs.Statements.{End, added, plain_file as plain_file_of};
+ghost use Rattle.gba_joblog.specs.Language.{job_at_end as job_at_end_of};
+ghost use Rattle.gba_joblog.specs.Statements.{End, plus_statement, plain_file as plain_file_of};
 ghost use Rattle.gba_joblog.specs.Views.{draft_value, file_value, job_value, statement_value};
 
 use crate::job::{FileLine, Job, JobConsole, OutLine};
@@ -64,9 +64,9 @@ impl DraftJob {
     }
 
     /// Ends the job: the last console is whole.
-    #[tactic(auto, unfolding(crate::specs::Statements::added))]
+    #[tactic(auto, unfolding(crate::specs::Statements::plus_statement))]
     fn end(&mut self, alloc: Global) -> Result<(), AllocError>
-        ensures { OnOk result (draft_value self.new ≡ added 0 End (draft_value self.old)) }
+        ensures { OnOk result (draft_value self.new ≡ plus_statement 0 End (draft_value self.old)) }
     {
         let last = mem::replace(&mut self.last, JobConsole::silent(alloc));
         self.consoles.push(last)?;
@@ -75,7 +75,7 @@ impl DraftJob {
     }
 
     /// Says what a line says.
-    #[tactic(auto, unfolding(crate::specs::Statements::added))]
+    #[tactic(auto, unfolding(crate::specs::Statements::plus_statement))]
     pub(crate) fn add(
         &mut self,
         alloc: Global,
@@ -83,7 +83,7 @@ impl DraftJob {
         number: u64,
     ) -> Result<(), AllocError>
         ensures { OnOk result
-            (draft_value self.new ≡ added number (statement_value line.entry) (draft_value self.old)) }
+            (draft_value self.new ≡ plus_statement number (statement_value line.entry) (draft_value self.old)) }
     {
         match line {
             Line::Version => {
@@ -112,10 +112,10 @@ impl DraftJob {
     }
 
     /// The job, once all lines are read, of which there are so many.
-    #[tactic(auto, unfolding(crate::specs::Language::finished))]
-    pub(crate) fn finished(self, lines: u64) -> Result<Job, JobError>
+    #[tactic(auto, unfolding(crate::specs::Language::job_at_end))]
+    pub(crate) fn finish(self, lines: u64) -> Result<Job, JobError>
         requires { lines + 1 < 2 ^ 64 }
-        ensures { Finishes job_value result (finished_of lines (draft_value self)) }
+        ensures { Finishes job_value result (job_at_end_of lines (draft_value self)) }
     {
         let missing = JobError {
             line: lines + 1,

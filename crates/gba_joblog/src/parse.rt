@@ -21,7 +21,7 @@ pub const LONGEST_JOB: usize = 134_217_728;
 /// The most bytes of a line.
 const LONGEST_LINE: usize = 400;
 
-fn refused(line: u64, kind: JobKind) -> ParseRefused
+fn make_refusal(line: u64, kind: JobKind) -> ParseRefused
     ensures { result ≡ ParseRefused.Job (record { line = line; kind = kind }) }
 {
     ParseRefused::Job(JobError { line, kind })
@@ -131,7 +131,7 @@ fn read_line(
             Ok(())
         }
         Ok(None) => Ok(()),
-        Err(kind) => Err(refused(cursor.line_number(), kind)),
+        Err(kind) => Err(make_refusal(cursor.line_number(), kind)),
     }
 }
 
@@ -141,7 +141,7 @@ fn read_job(alloc: Global, bytes: &[u8]) -> Result<Job, ParseRefused>
     ensures job { Parses job_value result (job_of bytes.now) }
 {
     if bytes.len() > LONGEST_JOB {
-        return Err(refused(0, JobKind::Long));
+        return Err(make_refusal(0, JobKind::Long));
     }
     let mut cursor = Cursor::new(bytes);
     let mut draft = DraftJob::new(alloc);
@@ -151,7 +151,7 @@ fn read_job(alloc: Global, bytes: &[u8]) -> Result<Job, ParseRefused>
             Err(refusal) => return Err(refusal),
         }
     }
-    match draft.finished(cursor.line_number()) {
+    match draft.finish(cursor.line_number()) {
         Ok(job) => Ok(job),
         Err(refusal) => Err(ParseRefused::Job(refusal)),
     }

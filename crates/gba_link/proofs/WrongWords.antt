@@ -15,7 +15,7 @@ use Rattle.gba_joblog.specs.Clash.{clash_of}
 use Rattle.gba_joblog.specs.Job.{WholeJob}
 use Rattle.gba_joblog.specs.Language.{job_of}
 use Rattle.gba_joblog.specs.declared.kinds.JobError.{JobError}
-use Rattle.gba_link.specs.CommandPlan.{accepted, after_image, command_plan, from_end, image_plan, unless_clash, without_clash}
+use Rattle.gba_link.specs.CommandPlan.{job_or_refusal, after_image, command_plan, from_end, image_plan, unless_clash, without_clash}
 use Rattle.gba_link.specs.Words.{Command}
 
 end-named : (command : Command) (job : WholeJob) (end : Result Machine NotBuilt) → Names Words (judgement (from_end command job end)) → ⊥
@@ -53,7 +53,7 @@ not-words command (Err error) h = cc
 read-named : (command : Command) → Names Words (command_plan (Some command)) → ⊥
 unfolding Names
 read-named command (inl h) = cc
-read-named command (inr h) = judged-named command (accepted command h.0) (not-words command (job_of h.0)) h.1
+read-named command (inr h) = judged-named command (job_or_refusal command h.0) (not-words command (job_of h.0)) h.1
 
 module _ {Store : Type 0} (Tells : Type 0) (files : Store → Files) (Reads : List ℕ → ℕ → Option ReadError → Store → Store → Type 0)
     (absences faults : Store → ℕ) where

@@ -8,7 +8,7 @@ use Rattle.gba_console.specs.Run.{run_to}
 use Rattle.gba_joblog.specs.Clash.{clash_of, output_file}
 use Rattle.gba_joblog.specs.Draft.{silent_console}
 use Rattle.gba_joblog.specs.Job.{ConsoleJob, NamedFile, WholeJob}
-use Rattle.gba_joblog.specs.Language.{job_of, longest_job, refused}
+use Rattle.gba_joblog.specs.Language.{job_of, longest_job, error_at}
 use Rattle.gba_joblog.specs.Statements.{asks_for}
 use Rattle.gba_joblog.specs.declared.job.OutKind.TheVariants.{State}
 use Rattle.gba_joblog.specs.declared.kinds.JobError.{JobError}
@@ -23,15 +23,15 @@ job_refusal command error = Job command.job error
 -- an output file may not be JOB or one of the job's inputs
 abbrev pub unless_clash : Command → WholeJob → Option ℕ → Result WholeJob Cause
 unless_clash command job None = Ok job
-unless_clash command job (Some line) = Err (job_refusal command (refused line Clash))
+unless_clash command job (Some line) = Err (job_refusal command (error_at line Clash))
 
 abbrev pub without_clash : Command → Result WholeJob JobError → Result WholeJob Cause
 without_clash command (Ok job) = unless_clash command job (clash_of job command.job command.out)
 without_clash command (Err error) = Err (job_refusal command error)
 
 -- the job that the bytes of JOB say, or why it is refused
-abbrev pub accepted : Command → List ℕ → Result WholeJob Cause
-accepted command bytes = without_clash command (job_of bytes)
+abbrev pub job_or_refusal : Command → List ℕ → Result WholeJob Cause
+job_or_refusal command bytes = without_clash command (job_of bytes)
 
 -- the first of consoles, and the console of a job: every job that is read has just one
 abbrev pub first_console : List ConsoleJob → ConsoleJob
@@ -56,7 +56,10 @@ state_name out = output_file out 0 State
 -- what a run writes: its state file where the job asks for it, and its summary
 abbrev pub written : Command → WholeJob → Machine → Run
 written command job m = record {
-  outputs = if asks_for (console_of job) State then record { name = state_name command.out; bytes = state_file m } ∷ [] else [];
+  outputs =
+      if asks_for (console_of job) State
+      then record { name = state_name command.out; bytes = state_file m } ∷ []
+      else [];
   summary = summary m;
 }
 
@@ -67,17 +70,19 @@ from_end command job (Err refusal) = Err (Unbuilt refusal.address refusal.word)
 -- the run of a job with this image: a console from its reset to the first step boundary at or past the job's cycles
 abbrev pub result_of_run : Command → WholeJob → List ℕ → Result Run Cause
 result_of_run command job bios =
-    if length bios == 16384 then from_end command job (run_to job.cycles (reset bios)) else Err (BiosLength (image_name job))
+    if length bios == 16384
+    then from_end command job (run_to job.cycles (reset bios))
+    else Err (BiosLength (image_name job))
 
 -- what follows the bytes of JOB, and those of the image
 abbrev pub after_job : Command → List ℕ → Plan WholeJob
-after_job command bytes = judgement (accepted command bytes)
+after_job command bytes = judgement (job_or_refusal command bytes)
 
 abbrev pub after_image : Command → WholeJob → List ℕ → Plan Run
 after_image command job bios = judgement (result_of_run command job bios)
 
 abbrev pub job_plan : Command → Plan WholeJob
-job_plan command = bind (file command.job longest_job (job_refusal command (refused 0 Long))) (after_job command)
+job_plan command = bind (file command.job longest_job (job_refusal command (error_at 0 Long))) (after_job command)
 
 abbrev pub image_plan : Command → WholeJob → Plan Run
 image_plan command job = bind (file (image_name job) 16384 (BiosLength (image_name job))) (after_image command job)

@@ -7,9 +7,10 @@ use Rattle.gba_command.specs.Writing.{Run}
 use Rattle.gba_link.specs.CommandPlan.{plan_of}
 use Rattle.gba_link.specs.Words.{command_of}
 
--- Words are refused just where they say no command: then nothing is read, and the end is that refusal or want of memory.
-abbrev pub RefusesWrongWords : {Store : Type 0} → Type 0 → (Store → Files) → (List ℕ → ℕ → Option ReadError → Store → Store → Type 0)
-    → (Store → ℕ) → (Store → ℕ) → Type 0
+-- Words are refused just where they say no command: then nothing is read, and the end is that refusal or want of
+-- memory.
+abbrev pub RefusesWrongWords : {Store : Type 0} → Type 0 → (Store → Files)
+    → (List ℕ → ℕ → Option ReadError → Store → Store → Type 0) → (Store → ℕ) → (Store → ℕ) → Type 0
 RefusesWrongWords {Store} Tells files Reads absences faults =
     (words : List (List ℕ)) (old new : Store) (end : Result Run Stop)
     → GoesTo (Gives Tells files Reads absences faults) (plan_of words) old new end

@@ -37,7 +37,8 @@ memory_line offset bytes = if list_all (λ byte. byte == 0) bytes then [] else m
 -- so many of these lines, from an offset on
 unfoldable pub memory_lines : ℕ → ℕ → List ℕ → List ℕ
 memory_lines zero offset bytes = []
-memory_lines (suc count) offset bytes = memory_line offset (take 32 (drop offset bytes)) ++ memory_lines count (offset + 32) bytes
+memory_lines (suc count) offset bytes =
+    memory_line offset (take 32 (drop offset bytes)) ++ memory_lines count (offset + 32) bytes
 
 -- the state file of the console with the number 0
 abbrev pub state_file : Machine → List ℕ

@@ -29,14 +29,14 @@ use std::thread::Threads;
 /// | 2 | `words` | the words aren't `run JOB OUT` |
 /// | 3 | `absent NAME` | JOB or the BIOS image, the next file to read, isn't there |
 /// | 4 | `store NAME` | the store failed in the read of the next file |
-/// | 5 | `job NAME line L KIND` | JOB isn't of the job language, at this line, or an output file would be JOB or an input |
+/// | 5 | `job NAME line L KIND` | JOB isn't of the job language, or an output file would be JOB or an input |
 /// | 6 | `image NAME BiosLength` | the BIOS image hasn't 16,384 bytes |
 /// | 9 | `sink NAME` | the sink failed |
 /// | 10 | `memory` | memory was wanting; it may come in place of any other, and hides no absence and no fault |
 /// | 11 | `notbuilt ADDRESS WORD` | the run came to an instruction that isn't built |
 ///
 /// Two clauses say all of it, over every store and sink: `answer`, that the reads made are those of the plan of the
-/// words, how they ended, and what is written and answered for that end; and `complete`, that where no count of absences
+/// words, how they end_of, and what is written and answered for that end; and `complete`, that where no count of absences
 /// or faults rose, it is what the words and the files come to, or memory was wanting. This project's profile.
 pub fn gba_link<R: Threads + Sync, S: Store, O: Sink, G: Gate + Sync>(
     _rt: &R,
@@ -47,14 +47,18 @@ pub fn gba_link<R: Threads + Sync, S: Store, O: Sink, G: Gate + Sync>(
     _gate: &G,
 ) -> u8
     ensures answer { (end : Result Run Stop)
-        × GoesTo (Gives S.Tells S.files S.Reads S.absences S.faults) (plan_of (map string_bytes words.now)) store.old store.new end
+        × GoesTo (Gives S.Tells S.files S.Reads S.absences S.faults) (plan_of (map string_bytes words.now))
+        store.old store.new end
         × Answers O.Tells result end
-        (sink_state (O.files out.old) (O.faults out.old) (O.wants out.old)) (sink_state (O.files out.new) (O.faults out.new) (O.wants out.new)) }
+        (sink_state (O.files out.old) (O.faults out.old) (O.wants out.old))
+        (sink_state (O.files out.new) (O.faults out.new) (O.wants out.new)) }
     ensures complete { S.Tells
-        → (Rose (S.absences store.old) (S.absences store.new) → ⊥) → (Rose (S.faults store.old) (S.faults store.new) → ⊥)
+        → (Rose (S.absences store.old) (S.absences store.new) → ⊥)
+        → (Rose (S.faults store.old) (S.faults store.new) → ⊥)
         → (Rose (O.faults out.old) (O.faults out.new) → ⊥)
         → Completes O.Tells result (outcome (S.files store.old) (plan_of (map string_bytes words.now)))
-        (sink_state (O.files out.old) (O.faults out.old) (O.wants out.old)) (sink_state (O.files out.new) (O.faults out.new) (O.wants out.new)) }
+        (sink_state (O.files out.old) (O.faults out.old) (O.wants out.old))
+        (sink_state (O.files out.new) (O.faults out.new) (O.wants out.new)) }
 {
     answer(out, &run_words(alloc, store, words))
 }

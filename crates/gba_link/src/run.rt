@@ -3,10 +3,10 @@
 ghost use Rattle.std.specs.Prelude.{◌≡◌, ◌≤◌, ◌^◌, ◌<◌, ◌++◌, [], ◌∷◌, Ok, Err, Some, IsSome, map, MatchResult, IfOk, IfSome, length, option_map, vec_len, vec_capacity, string_bytes, string_len};
 ghost use Rattle.gba_console.specs.Run.{run_to};
 ghost use Rattle.gba_command.specs.Reading.{Gives, GoesTo};
-ghost use Rattle.gba_command.specs.Views.{Agrees, ended, run_value};
+ghost use Rattle.gba_command.specs.Views.{Agrees, end_of, run_value};
 ghost use Rattle.gba_joblog.specs.Soundness.{IsFile, IsJob};
 ghost use Rattle.gba_joblog.specs.Views.{console_value, file_value, job_value};
-ghost use Rattle.gba_link.specs.CommandPlan.{accepted, written, command_plan, console_of as console_said, image_name as image_said, image_plan, name_in, plan_of, result_of_run, state_name as state_name_of};
+ghost use Rattle.gba_link.specs.CommandPlan.{job_or_refusal, written, command_plan, console_of as console_said, image_name as image_said, image_plan, name_in, plan_of, result_of_run, state_name as state_name_of};
 ghost use Rattle.gba_link.specs.Words.{Command};
 ghost use Rattle.gba_link.specs.Views.{command_value};
 
@@ -24,7 +24,7 @@ use std::alloc::{AllocError, Global};
 /// The job that the bytes say, where no output file is JOB or one of the job's inputs.
 fn accepted_job(alloc: Global, command: &RunWords<'_>, bytes: &[u8]) -> Result<Job, Refusal>
     requires { length command.now.job.now ≤ 200 }
-    ensures agrees { Agrees job_value (accepted (command_value command.now) bytes.now) result }
+    ensures agrees { Agrees job_value (job_or_refusal (command_value command.now) bytes.now) result }
     ensures sound { IfOk result (λ job. IsJob (job_value job)) }
 {
     let job = match Job::parse(alloc, bytes) {
@@ -92,7 +92,8 @@ fn image_name(job: &Job) -> &str
 /// Steps a console until its clock is at least `until`.
 fn run_console(mut console: Console, until: u64) -> Result<Console, NotBuilt>
     requires { until ≤ 2 ^ 31 }
-    ensures { MatchResult result (λ end. run_to until console ≡ Ok end) (λ refusal. run_to until console ≡ Err refusal) }
+    ensures { MatchResult result (λ end. run_to until console ≡ Ok end)
+        (λ refusal. run_to until console ≡ Err refusal) }
 {
     enough();
     while console.clock() < until {
@@ -111,7 +112,7 @@ fn add_file(files: &mut Vec<OutputFile>, file: OutputFile)
     }
 }
 
-/// What a run of a job writes that ended with this console, into a list and a buffer with room for it.
+/// What a run of a job writes that end_of with this console, into a list and a buffer with room for it.
 fn outputs_of(
     mut files: Vec<OutputFile>,
     mut state: Vec<u8>,
@@ -182,7 +183,8 @@ fn run_job<S: Store>(
     requires named { string_len state_name ≤ 200 }
     requires sound { IsJob (job_value job.now) }
     ensures { (command : Command) → string_bytes state_name ≡ state_name_of command.out
-        → GoesTo (Gives S.Tells S.files S.Reads S.absences S.faults) (image_plan command (job_value job.now)) store.old store.new (ended run_value result) }
+        → GoesTo (Gives S.Tells S.files S.Reads S.absences S.faults) (image_plan command (job_value job.now))
+        store.old store.new (end_of run_value result) }
 {
     let name = image_name(job);
     let long = Cause::BiosLength(name_in_report(name));
@@ -197,8 +199,8 @@ fn run_command<S: Store>(
     command: &RunWords<'_>,
 ) -> Result<Outputs, Refusal>
     requires { (length command.now.job.now ≤ 200) × (length command.now.out.now ≤ 180) }
-    ensures { GoesTo (Gives S.Tells S.files S.Reads S.absences S.faults) (command_plan (Some (command_value command.now))) store.old store.new
-        (ended run_value result) }
+    ensures { GoesTo (Gives S.Tells S.files S.Reads S.absences S.faults)
+        (command_plan (Some (command_value command.now))) store.old store.new (end_of run_value result) }
 {
     let Ok(state_name) = make_state_name(alloc, command.out) else {
         return Err(Refusal::NoMemory);
@@ -221,8 +223,8 @@ pub(crate) fn run_words<S: Store>(
     store: &mut S,
     words: &[String],
 ) -> Result<Outputs, Refusal>
-    ensures { GoesTo (Gives S.Tells S.files S.Reads S.absences S.faults) (plan_of (map string_bytes words.now)) store.old store.new
-        (ended run_value result) }
+    ensures { GoesTo (Gives S.Tells S.files S.Reads S.absences S.faults) (plan_of (map string_bytes words.now))
+        store.old store.new (end_of run_value result) }
 {
     match command_of(words) {
         Some(command) => run_command(alloc, store, &command),

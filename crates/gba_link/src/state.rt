@@ -6,7 +6,7 @@ ghost use Rattle.gba_terms.specs.RegisterNames.{register_names};
 ghost use Rattle.gba_link.specs.StateFile.{hex_bytes, memory_line, memory_name, memory_row, memory_lines, register_line, register_lines, heading, state_file, summary as summary_of};
 
 use gba_command::hexadecimal::{hex_byte, hex_offset, hex_word};
-use gba_command::{Line, put};
+use gba_command::{Line, add_text};
 use gba_console::Console;
 use itoa::Buffer;
 
@@ -200,8 +200,8 @@ pub(crate) fn summary(console: &Console) -> Line
 {
     let mut buffer = Buffer::new();
     let mut line = Line::new();
-    put(&mut line, b"console 0 clock ");
-    put(&mut line, buffer.format(console.clock()).as_bytes());
-    put(&mut line, b" frames 0 samples 0 words 0\n");
+    add_text(&mut line, b"console 0 clock ");
+    add_text(&mut line, buffer.format(console.clock()).as_bytes());
+    add_text(&mut line, b" frames 0 samples 0 words 0\n");
     line
 }

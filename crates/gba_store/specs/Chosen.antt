@@ -2,7 +2,7 @@ use Rattle.std.specs.List.{list_any}
 use Rattle.std.specs.Prelude.{◌≡◌, ℕ, ◌==◌, Bool, List, Option, Some, None, length, take, ◌/◌, if◌then◌else◌}
 use Rattle.gba_store.specs.Counts.{absences_after, read_faults_after, write_faults_after, wants_after}
 use Rattle.gba_store.specs.Files.{Files, one_more}
-use Rattle.gba_store.specs.Memory.{Memory, held, told}
+use Rattle.gba_store.specs.Memory.{Memory, content_in, files_of}
 use Rattle.gba_store.specs.declared.memory.MemorySink.{MemorySink}
 use Rattle.gba_store.specs.declared.outside.ReadError.{ReadError}
 use Rattle.gba_store.specs.declared.outside.ReadError.TheVariants.{Absent, Failed, NoMemory}
@@ -19,7 +19,8 @@ refusal_where (Some all) = None
 
 -- why the next read of a name is to be refused, if it is
 abbrev pub refusal_due : Memory → List ℕ → Option ReadError
-refusal_due store name = if is_chosen store.failing store.reads then Some Failed else refusal_where (held store.files name)
+refusal_due store name =
+    if is_chosen store.failing store.reads then Some Failed else refusal_where (content_in store.files name)
 
 -- a refusal but for want of memory, which may come in any read that isn't to be refused
 abbrev pub but_memory : Option ReadError → Option ReadError
@@ -39,7 +40,7 @@ pub record IsRead (name : List ℕ) (refusal : Option ReadError) (old new : Memo
 
 -- the files in a sink in memory
 abbrev pub files_in : MemorySink → Files
-files_in sink = told sink.files
+files_in sink = files_of sink.files
 
 -- a sink with no file, of which these creates and appends are to fail
 pub record IsNewSink (creates appends : List ℕ) (sink : MemorySink) : Type 0 where

@@ -33,7 +33,8 @@ wants_after (Some writing.Failed) count = count
 wants_after (Some writing.NoMemory) count = one_more count
 
 -- What a store says of its reads (`Reads`) fixes its counts: each read leaves them as its refusal says.
-abbrev pub CountsExactly : {Store : Type 0} → (List ℕ → ℕ → Option ReadError → Store → Store → Type 0) → (Store → ℕ) → (Store → ℕ) → Type 0
+abbrev pub CountsExactly : {Store : Type 0} → (List ℕ → ℕ → Option ReadError → Store → Store → Type 0) → (Store → ℕ)
+    → (Store → ℕ) → Type 0
 CountsExactly {Store} Reads absences faults =
     (name : List ℕ) (most : ℕ) (refusal : Option ReadError) (old new : Store) → Reads name most refusal old new
     → (absences new ≡ absences_after refusal (absences old)) × (faults new ≡ read_faults_after refusal (faults old))

@@ -9,9 +9,9 @@ pub record Stored : Type 0 where
   pub bytes : List ℕ
 
 -- the content of the first file of that name
-abbrev pub held : List Stored → Files
-held [] name = None
-held (file ∷ files) name = if bytes_eq file.name name then Some file.bytes else held files name
+abbrev pub content_in : List Stored → Files
+content_in [] name = None
+content_in (file ∷ files) name = if bytes_eq file.name name then Some file.bytes else content_in files name
 
 -- what a store in memory knows: its files, the numbers of the reads that fail, how many reads were made, and its counts
 pub record Memory : Type 0 where
@@ -22,5 +22,5 @@ pub record Memory : Type 0 where
   pub absences : ℕ
 
 -- the files that a map from names to contents holds
-abbrev pub told : {Y Z : Type 0} → BTreeMap (String Y) (Vec ℕ Z) → Files
-told files name = option_map (λ content. content.items) (get_by_text files name)
+abbrev pub files_of : {Y Z : Type 0} → BTreeMap (String Y) (Vec ℕ Z) → Files
+files_of files name = option_map (λ content. content.items) (get_by_text files name)

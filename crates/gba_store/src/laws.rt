@@ -15,5 +15,6 @@ pub fn memory_counts_exactly()
 
 /// And so does what the real store says of its reads.
 pub fn real_files_count_exactly<R: Files + Drop>()
-    ensures { CountsExactly ⟦<FileStore<R> as Store>⟧.Reads ⟦<FileStore<R> as Store>⟧.absences ⟦<FileStore<R> as Store>⟧.faults }
+    ensures { CountsExactly ⟦<FileStore<R> as Store>⟧.Reads
+        ⟦<FileStore<R> as Store>⟧.absences ⟦<FileStore<R> as Store>⟧.faults }
 {}

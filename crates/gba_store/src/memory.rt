@@ -5,7 +5,7 @@ ghost use Rattle.std.specs.Result.{result_err};
 ghost use Rattle.gba_store.specs.Chosen.{Counts, IsNewSink, IsRead, append_is_chosen, create_is_chosen, files_in, half};
 ghost use Rattle.gba_store.specs.Counts.{wants_after};
 ghost use Rattle.gba_store.specs.Files.{Written, Created, Appended, CreateFailed, AppendFailed, IsFront, Rose, one_more};
-ghost use Rattle.gba_store.specs.Memory.{held, told};
+ghost use Rattle.gba_store.specs.Memory.{content_in, files_of};
 
 use crate::outside::{ReadError, Sink, Store, WriteError};
 use std::alloc::{AllocError, AllocFailed, Global};
@@ -56,7 +56,8 @@ impl Model for MemoryStore {
 impl MemoryStore {
     /// A store of these files, with no read made yet.
     pub fn new(files: Vec<StoredFile>, failing: Vec<u64>) -> MemoryStore
-        ensures { result ≡ record { files = files.items; failing = failing.items; reads = 0; faults = 0; absences = 0 } }
+        ensures { result
+            ≡ record { files = files.items; failing = failing.items; reads = 0; faults = 0; absences = 0 } }
     {
         MemoryStore {
             files,
@@ -69,7 +70,7 @@ impl MemoryStore {
 }
 
 fn content_of<'a>(files: &'a [StoredFile], name: &str) -> Option<&'a [u8]>
-    ensures { option_map (λ bytes. bytes.now) result ≡ held files.now name.now }
+    ensures { option_map (λ bytes. bytes.now) result ≡ content_in files.now name.now }
 {
     for file in files {
         if file.name.as_str() == name {
@@ -89,7 +90,7 @@ fn copy_of_front(alloc: Global, bytes: &[u8], most: u64) -> Result<Vec<u8>, Allo
 impl Store for MemoryStore {
     ghost Tells = { Unit {0} };
 
-    ghost files = { λ store. held store.files };
+    ghost files = { λ store. content_in store.files };
 
     ghost faults = { λ store. store.faults };
 
@@ -100,9 +101,9 @@ impl Store for MemoryStore {
     /// The chosen reads fail, and the others give what the files have, unless memory is wanting.
     fn read(&mut self, alloc: Global, name: &str, most: u64) -> Result<Vec<u8>, ReadError>
         ensures read { IsRead name.now (result_err result) self.old self.new }
-        ensures files { Unit {0} → held self.new.files ≡ held self.old.files }
-        ensures bytes { Unit {0} → IfOk result (λ bytes. IsFront (held self.old.files) name.now most bytes.items) }
-        ensures missing { Unit {0} → IsErrOf result ReadError.Absent → held self.old.files name.now ≡ None }
+        ensures files { Unit {0} → content_in self.new.files ≡ content_in self.old.files }
+        ensures bytes { Unit {0} → IfOk result (λ bytes. IsFront (content_in self.old.files) name.now most bytes.items) }
+        ensures missing { Unit {0} → IsErrOf result ReadError.Absent → content_in self.old.files name.now ≡ None }
         ensures absent { IsErrOf result ReadError.Absent → Rose self.old.absences self.new.absences }
         ensures failed { IsErrOf result ReadError.Failed → Rose self.old.faults self.new.faults }
         ensures later_absences { self.old.absences ≤ self.new.absences }
@@ -190,26 +191,26 @@ fn extend(
     name: &str,
     bytes: &[u8],
 ) -> Result<(), AllocError>
-    ensures ok { OnOk result (Appended name.now bytes.now (told files.old) (told files.new)) }
-    ensures err { OnErr result (told files.new ≡ told files.old) }
+    ensures ok { OnOk result (Appended name.now bytes.now (files_of files.old) (files_of files.new)) }
+    ensures err { OnErr result (files_of files.new ≡ files_of files.old) }
 {
     match files.get_mut(name) {
         Some(content) => {
             content.extend_from_slice(bytes)?;
             Ok(())
         }
-        None => put(alloc, files, name, Vec::from_slice(alloc, bytes)?),
+        None => insert_file(alloc, files, name, Vec::from_slice(alloc, bytes)?),
     }
 }
 
-fn put(
+fn insert_file(
     alloc: Global,
     files: &mut BTreeMap<String, Vec<u8>>,
     name: &str,
     bytes: Vec<u8>,
 ) -> Result<(), AllocError>
-    ensures ok { OnOk result (Written name.now bytes.items (told files.old) (told files.new)) }
-    ensures err { OnErr result (told files.new ≡ told files.old) }
+    ensures ok { OnOk result (Written name.now bytes.items (files_of files.old) (files_of files.new)) }
+    ensures err { OnErr result (files_of files.new ≡ files_of files.old) }
 {
     let key = String::from_str(alloc, name)?;
     files.insert(key, bytes)?;
@@ -219,7 +220,7 @@ fn put(
 impl Sink for MemorySink {
     ghost Tells = { Unit {0} };
 
-    ghost files = { λ sink. told sink.files };
+    ghost files = { λ sink. files_of sink.files };
 
     ghost faults = { λ sink. sink.faults };
 
@@ -228,7 +229,8 @@ impl Sink for MemorySink {
     /// The chosen creates fail and change no file, whether or not there is memory.
     fn create(&mut self, name: &str) -> Result<(), WriteError>
         ensures created { Unit {0} → OnOk result (Created name.now (files_in self.old) (files_in self.new)) }
-        ensures left { Unit {0} → IsErrOf result WriteError.Failed → CreateFailed name.now (files_in self.old) (files_in self.new) }
+        ensures left { Unit {0} → IsErrOf result WriteError.Failed
+            → CreateFailed name.now (files_in self.old) (files_in self.new) }
         ensures unchanged { Unit {0} → IsErrOf result WriteError.NoMemory → files_in self.new ≡ files_in self.old }
         ensures failed { IsErrOf result WriteError.Failed → Rose self.old.faults self.new.faults }
         ensures wanting { IsErrOf result WriteError.NoMemory → Rose self.old.wants self.new.wants }
@@ -245,14 +247,16 @@ impl Sink for MemorySink {
             self.faults = self.faults.saturating_add(1);
             return Err(WriteError::Failed);
         }
-        let written = put(self.alloc, &mut self.files, name, Vec::new(self.alloc));
+        let written = insert_file(self.alloc, &mut self.files, name, Vec::new(self.alloc));
         self.answer(written)
     }
 
     /// The chosen appends add half of their piece and fail, unless memory is wanting.
     fn append(&mut self, name: &str, bytes: &[u8]) -> Result<(), WriteError>
-        ensures appended { Unit {0} → OnOk result (Appended name.now bytes.now (files_in self.old) (files_in self.new)) }
-        ensures left { Unit {0} → IsErrOf result WriteError.Failed → AppendFailed name.now bytes.now (files_in self.old) (files_in self.new) }
+        ensures appended { Unit {0}
+            → OnOk result (Appended name.now bytes.now (files_in self.old) (files_in self.new)) }
+        ensures left { Unit {0} → IsErrOf result WriteError.Failed
+            → AppendFailed name.now bytes.now (files_in self.old) (files_in self.new) }
         ensures unchanged { Unit {0} → IsErrOf result WriteError.NoMemory → files_in self.new ≡ files_in self.old }
         ensures failed { IsErrOf result WriteError.Failed → Rose self.old.faults self.new.faults }
         ensures wanting { IsErrOf result WriteError.NoMemory → Rose self.old.wants self.new.wants }
@@ -260,7 +264,8 @@ impl Sink for MemorySink {
         ensures later_wants { self.old.wants ≤ self.new.wants }
         ensures chosen { IsErrOf result WriteError.Failed → IsTrue (append_is_chosen self.old) }
         ensures not_chosen { OnOk result (append_is_chosen self.old ≡ false) }
-        ensures halved { IsErrOf result WriteError.Failed → Appended name.now (half bytes.now) (files_in self.old) (files_in self.new) }
+        ensures halved { IsErrOf result WriteError.Failed
+            → Appended name.now (half bytes.now) (files_in self.old) (files_in self.new) }
         ensures counts { Counts (result_err result) self.old self.new self.old.creates (one_more self.old.appends) }
     {
         self.appends = self.appends.saturating_add(1);

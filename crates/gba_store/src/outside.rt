@@ -72,7 +72,8 @@ pub trait Sink {
     /// Makes the file empty.
     fn create(&mut self, name: &str) -> Result<(), WriteError>
         ensures created { Tells → OnOk result (Created name.now (files self.old) (files self.new)) }
-        ensures left { Tells → IsErrOf result WriteError.Failed → CreateFailed name.now (files self.old) (files self.new) }
+        ensures left { Tells → IsErrOf result WriteError.Failed
+            → CreateFailed name.now (files self.old) (files self.new) }
         ensures unchanged { Tells → IsErrOf result WriteError.NoMemory → files self.new ≡ files self.old }
         ensures failed { IsErrOf result WriteError.Failed → Rose (faults self.old) (faults self.new) }
         ensures wanting { IsErrOf result WriteError.NoMemory → Rose (wants self.old) (wants self.new) }
@@ -82,7 +83,8 @@ pub trait Sink {
     /// Adds the bytes at the file's end, and makes the file first where it isn't there.
     fn append(&mut self, name: &str, bytes: &[u8]) -> Result<(), WriteError>
         ensures appended { Tells → OnOk result (Appended name.now bytes.now (files self.old) (files self.new)) }
-        ensures left { Tells → IsErrOf result WriteError.Failed → AppendFailed name.now bytes.now (files self.old) (files self.new) }
+        ensures left { Tells → IsErrOf result WriteError.Failed
+            → AppendFailed name.now bytes.now (files self.old) (files self.new) }
         ensures unchanged { Tells → IsErrOf result WriteError.NoMemory → files self.new ≡ files self.old }
         ensures failed { IsErrOf result WriteError.Failed → Rose (faults self.old) (faults self.new) }
         ensures wanting { IsErrOf result WriteError.NoMemory → Rose (wants self.old) (wants self.new) }

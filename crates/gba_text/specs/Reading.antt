@@ -24,13 +24,13 @@ abbrev pub rest_of : List (List ℕ) → List (List ℕ)
 rest_of [] = []
 rest_of (_ ∷ pieces) = pieces
 
-abbrev pub opened : List (List ℕ) → Reading → Reading
-opened [] r = r
-opened (line ∷ lines) r = record { number = r.number + 1; line = line; words = words line; lines = lines }
+abbrev pub with_line : List (List ℕ) → Reading → Reading
+with_line [] r = r
+with_line (line ∷ lines) r = record { number = r.number + 1; line = line; words = words line; lines = lines }
 
 -- with the next line given, if there is one
 abbrev pub next_line : Reading → Reading
-next_line r = opened r.lines r
+next_line r = with_line r.lines r
 
 -- the next word, or why there is none
 abbrev pub word_or : Option TextKind → List (List ℕ) → Result (List ℕ) TextKind
@@ -58,6 +58,6 @@ unfoldable pub next_hex_number : ℕ → Reading → Result ℕ TextKind
 next_hex_number digits r = number_in (hex_number_of digits) (next_word r)
 
 -- what an answer leaves: without the word that it took, or as it was
-abbrev pub moved : {T : Type 0} → Result T TextKind → Reading → Reading
-moved (Ok _) r = record r { words = rest_of r.words }
-moved (Err _) r = r
+abbrev pub after_answer : {T : Type 0} → Result T TextKind → Reading → Reading
+after_answer (Ok _) r = record r { words = rest_of r.words }
+after_answer (Err _) r = r

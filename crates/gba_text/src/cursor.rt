@@ -4,7 +4,7 @@ ghost use Rattle.std.specs.Prelude.{◌≡◌, ◌<◌, ◌≤◌, ◌^◌, IfOk
 ghost use Rattle.gba_text.specs.Answers.{Gives};
 ghost use Rattle.gba_text.specs.Lines.{lines};
 ghost use Rattle.gba_text.specs.Words.{words};
-ghost use Rattle.gba_text.specs.Reading.{before_first_line, first_of, moved, next_hex_number, next_line, next_number, next_word, rest_of};
+ghost use Rattle.gba_text.specs.Reading.{before_first_line, first_of, after_answer, next_hex_number, next_line, next_number, next_word, rest_of};
 
 use crate::kinds::{TextError, TextKind};
 use crate::numbers::{hex_number_in, number_in};
@@ -109,7 +109,7 @@ impl<'a> Cursor<'a> {
     pub fn word(&mut self) -> Result<&'a [u8], TextError>
         requires { 0 < self.old.number }
         ensures answer { Gives (λ w. w.now) self.old.number result (next_word self.old) }
-        ensures state { self.new ≡ moved (next_word self.old) self.old }
+        ensures state { self.new ≡ after_answer (next_word self.old) self.old }
     {
         let (word, left) = self.piece()?;
         self.left = left;
@@ -122,7 +122,7 @@ impl<'a> Cursor<'a> {
     pub fn number(&mut self, least: u64, most: u64) -> Result<u64, TextError>
         requires { 0 < self.old.number }
         ensures answer { Gives (λ n. n) self.old.number result (next_number least most self.old) }
-        ensures state { self.new ≡ moved (next_number least most self.old) self.old }
+        ensures state { self.new ≡ after_answer (next_number least most self.old) self.old }
     {
         let (word, left) = self.piece()?;
         match number_in(word, least, most) {
@@ -142,7 +142,7 @@ impl<'a> Cursor<'a> {
         requires some { 1 ≤ digits }
         requires few { digits ≤ 16 }
         ensures answer { Gives (λ n. n) self.old.number result (next_hex_number digits self.old) }
-        ensures state { self.new ≡ moved (next_hex_number digits self.old) self.old }
+        ensures state { self.new ≡ after_answer (next_hex_number digits self.old) self.old }
     {
         let (word, left) = self.piece()?;
         match hex_number_in(word, digits) {

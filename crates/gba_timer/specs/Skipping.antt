@@ -11,7 +11,10 @@ phase_within t = min t.phase (prescaler t - 1)
 
 -- for how many cycles, 512 at most, a timer surely doesn't overflow by itself
 abbrev pub quiet_of : Timer → ℕ
-quiet_of t = if has_phase t then min ((0xffff - t.counter) * prescaler t + (prescaler t - phase_within t - 1)) 512 else 512
+quiet_of t =
+    if has_phase t
+    then min ((0xffff - t.counter) * prescaler t + (prescaler t - phase_within t - 1)) 512
+    else 512
 
 unfoldable pub quiet : FourTimers → ℕ
 quiet ts = min (min (quiet_of ts.timer0) (quiet_of ts.timer1)) (min (quiet_of ts.timer2) (quiet_of ts.timer3))
@@ -41,5 +44,6 @@ after_skip count ts = record {
 -- timer overflows.
 pub record SkipsCycles : Type 0 where
   pub none : (ts : FourTimers) → after_skip 0 ts ≡ ts
-  pub next : (count : ℕ) (ts : FourTimers) → count + 1 ≤ quiet ts → cycle (after_skip count ts) ≡ after_skip (count + 1) ts
+  pub next : (count : ℕ) (ts : FourTimers) → count + 1 ≤ quiet ts
+      → cycle (after_skip count ts) ≡ after_skip (count + 1) ts
   pub silent : (count : ℕ) (ts : FourTimers) → count + 1 ≤ quiet ts → overflow_mark (after_skip count ts) ≡ 0

@@ -111,11 +111,20 @@ timer_written offset value ts = timer_stored offset (bit_and value (row_at timer
 
 -- a timer by its number, 3 for any above
 abbrev pub timer_at : ℕ → FourTimers → Timer
-timer_at number ts = if number == 0 then ts.timer0 else if number == 1 then ts.timer1 else if number == 2 then ts.timer2 else ts.timer3
+timer_at number ts =
+    if number == 0 then ts.timer0
+    else if number == 1 then ts.timer1
+    else if number == 2 then ts.timer2
+    else ts.timer3
 
 -- the timers at reset: all numbers are 0
 abbrev pub timer_at_reset : Timer
 timer_at_reset = record { counter = 0; reload = 0; control = 0; phase = 0 }
 
 abbrev pub timers_at_reset : FourTimers
-timers_at_reset = record { timer0 = timer_at_reset; timer1 = timer_at_reset; timer2 = timer_at_reset; timer3 = timer_at_reset }
+timers_at_reset = record {
+  timer0 = timer_at_reset;
+  timer1 = timer_at_reset;
+  timer2 = timer_at_reset;
+  timer3 = timer_at_reset;
+}

@@ -13,7 +13,7 @@ use Rattle.link_node.specs.declared.signal.Signal.{Signal}
 use Rattle.link_order.specs.Cut.{hop_of, Cut, plain_cut, count, clock_at, was_at, hop, live, is_live, is_awaited}
 use Rattle.link_order.specs.Cut.{HasDelays, IsSound}
 use Rattle.link_order.specs.Cut.{IsSoundSignal, IsCable}
-use Rattle.link_order.specs.GlobalOrder.{least, least_below, step, due_at, joined, run, left}
+use Rattle.link_order.specs.GlobalOrder.{least, least_below, step, due_at, with_signal, run, cycles_left}
 use Rattle.link_order.proofs.Numbers.{least_is_player, least_is_least}
 use Rattle.link_order.proofs.Runs.{falls, run_unrolls, run_ends}
 use Rattle.link_order.proofs.LiveRuns.{run_live, live_whole}
@@ -80,7 +80,7 @@ pub record Turned {N C : Type 0} (kind : NodeKind C) (plain : N → C) (cut : Cu
       → map plain nodes ≡ slice_set (map plain cut.consoles) i (kind.next x due).0
   pub signal_is : (x : C) → slice_get (map plain cut.consoles) i ≡ Some x → signal ≡ (kind.next x due).1
   pub sent_is : sent ≡ filter (is_awaited (hop_of cut.delay) (slice_index (map kind.was (map plain nodes)))
-      (length nodes)) (joined i signal cut.sent)
+      (length nodes)) (with_signal i signal cut.sent)
 
 pub turned_live : {N C : Type 0} (kind : NodeKind C) → IsLawful kind
     → (plain : N → C) (cut : Cut N) (i : ℕ) (due : List Incoming) (nodes : List N) (signal : Option Signal)
@@ -100,12 +100,12 @@ turned_live {C = C} kind law plain cut i due nodes signal sent some t =
     let consoles : map plain nodes ≡ slice_set p.consoles l (kind.next x (due_at kind p l)).0
     = t.node_is x stands ∙ ap (λ (m : ℕ). slice_set p.consoles m (kind.next x due).0) t.least_is
     ∙ ap (λ (d : List Incoming). slice_set p.consoles l (kind.next x d).0) due_l in
-    let told : joined i signal cut.sent ≡ joined l (kind.next x (due_at kind p l)).1 cut.sent
-    = ap (λ (o : Option Signal). joined i o cut.sent) (t.signal_is x stands
+    let signal_of : with_signal i signal cut.sent ≡ with_signal l (kind.next x (due_at kind p l)).1 cut.sent
+    = ap (λ (o : Option Signal). with_signal i o cut.sent) (t.signal_is x stands
     ∙ ap (λ (d : List Incoming). (kind.next x d).1) due_l)
-    ∙ ap (λ (m : ℕ). joined m (kind.next x (due_at kind p l)).1 cut.sent) t.least_is in
+    ∙ ap (λ (m : ℕ). with_signal m (kind.next x (due_at kind p l)).1 cut.sent) t.least_is in
     let sent_now : sent ≡ filter (is_awaited (hop_of cut.delay) (slice_index (map kind.was (map plain nodes)))
-    (length (map plain nodes))) (joined i signal cut.sent)
+    (length (map plain nodes))) (with_signal i signal cut.sent)
     = rw length-map t.sent_is in
     let make : List C → List Sent → Cut C = λ (cs : List C) (ss : List Sent).
     record {
@@ -115,12 +115,12 @@ turned_live {C = C} kind law plain cut i due nodes signal sent some t =
           filter (is_awaited (hop_of cut.delay) (slice_index (map kind.was cs)) (length cs)) ss;
     } in
     let first : plain_cut plain (record { consoles = nodes; delay = cut.delay; sent = sent })
-    ≡ make (map plain nodes) (joined i signal cut.sent)
+    ≡ make (map plain nodes) (with_signal i signal cut.sent)
     = ap (λ (ss : List Sent). let d : Cut C = record { consoles = map plain nodes; delay = cut.delay; sent = ss } in d)
     sent_now in
     first
-    ∙ ap (λ (cs : List C). make cs (joined i signal cut.sent)) consoles
-    ∙ ap (make (slice_set p.consoles l (kind.next x (due_at kind p l)).0)) told
+    ∙ ap (λ (cs : List C). make cs (with_signal i signal cut.sent)) consoles
+    ∙ ap (make (slice_set p.consoles l (kind.next x (due_at kind p l)).0)) signal_of
     ∙ ap (live kind) (sym s.cut_is)
 
 -- a cut keeps all of this in a step
@@ -142,7 +142,7 @@ turned_kept {C = C} kind law plain cut i due nodes signal sent sent_room due_roo
     let count_is : count (live kind (step kind p)) ≡ count p = ap count s.cut_is ∙ s.count_is in
     let same_count : length (map plain nodes) ≡ count p = ap count e ∙ count_is in
     let sent_is : sent ≡ filter (is_live kind (step kind p)) (step kind p).sent = ap (λ (d : Cut C). d.sent) e in
-    let told : All (λ (one : Sent). FitsWidths one.signal) (step kind p).sent
+    let signal_of : All (λ (one : Sent). FitsWidths one.signal) (step kind p).sent
     = subst (λ (d : Cut C). All (λ (one : Sent). FitsWidths one.signal) d.sent) (sym s.cut_is)
     (joined_all (λ (one : Sent). FitsWidths one.signal) l (kind.next at.0 (due_at kind p l)).1 cut.sent
     (law.fits at.0 (due_at kind p l)) kept.widths) in
@@ -153,7 +153,7 @@ turned_kept {C = C} kind law plain cut i due nodes signal sent sent_room due_roo
           (sound_live kind (step kind p) (sound_step kind law p some kept.cable.some_delay kept.sound));
       awaited = subst (AllLive kind) (sym e) (filter_passes (is_live kind (step kind p)) (step kind p).sent);
       widths = subst (λ (ss : List Sent). AllFit ss) (sym sent_is)
-          (All-filter (is_live kind (step kind p)) (λ (one : Sent). FitsWidths one.signal) (step kind p).sent told);
+          (All-filter (is_live kind (step kind p)) (λ (one : Sent). FitsWidths one.signal) (step kind p).sent signal_of);
       room_of_sent = omega (arith, kept.room_of_sent);
       room_of_due = omega (arith, kept.room_of_due);
     }
@@ -211,7 +211,7 @@ due_may_go {C = C} kind plain cut i signals sent_room due_room kept least_is is 
 pub stepped_run : {C : Type 0} (kind : NodeKind C) → IsLawful kind → (p q : Cut C) (until : ℕ) → IsCable p
     → IsSound kind p
     → clock_at kind p (least kind p) < until → q ≡ live kind (step kind p)
-    → (live kind (run kind q until) ≡ live kind (run kind p until)) × (left kind q until < left kind p until)
+    → (live kind (run kind q until) ≡ live kind (run kind p until)) × (cycles_left kind q until < cycles_left kind p until)
 stepped_run {C = C} kind law p q until cable sound early is =
     let goes = lt-ltb (clock_at kind p (least kind p)) until early in
     let f = falls kind law p until cable.some_console goes in
@@ -221,7 +221,7 @@ stepped_run {C = C} kind law p q until cable sound early is =
           ∙ run_live kind law (step kind p) until some later
           (sound_step kind law p cable.some_console cable.some_delay sound)
           ∙ ap (live kind) (sym (run_unrolls kind law p until cable.some_console goes)),
-      subst (λ (d : Cut C). left kind d until < left kind p until) (sym is) f.fewer,
+      subst (λ (d : Cut C). cycles_left kind d until < cycles_left kind p until) (sym is) f.fewer,
     )
 
 -- where the least clock has come to the end, all have, and the run is over

@@ -15,8 +15,8 @@ abbrev pub IsDelay : Delays → Type 0
 IsDelay delay = (0 < delay) × (delay ≤ 1024)
 
 -- these nodes with the signals that are on their way
-abbrev pub rejoined : {N : Type 0} → List N → Flight → Cut N
-rejoined nodes flight = record { consoles = nodes; delay = flight.delay; sent = flight.sent }
+abbrev pub cut_of : {N : Type 0} → List N → Flight → Cut N
+cut_of nodes flight = record { consoles = nodes; delay = flight.delay; sent = flight.sent }
 
 -- each signal can still be taken by some other console
 abbrev pub AllLive : {C : Type 0} → NodeKind C → Cut C → Type 0

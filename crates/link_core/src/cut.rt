@@ -7,8 +7,8 @@ ghost use Rattle.link_node.specs.Due.{IsDue, InOrder};
 ghost use Rattle.link_order.specs.NodeKind.{kind_of};
 ghost use Rattle.link_order.specs.Order.{IsOrdered};
 ghost use Rattle.link_order.specs.Cut.{plain_cut, opening, live, count, clock_at, IsSound, IsCable};
-ghost use Rattle.link_order.specs.GlobalOrder.{least, least_below, joined, step, run};
-ghost use Rattle.link_core.specs.Kept.{IsDelay, Flight, rejoined, AllLive, AllFit};
+ghost use Rattle.link_order.specs.GlobalOrder.{least, least_below, with_signal, step, run};
+ghost use Rattle.link_core.specs.Kept.{IsDelay, Flight, cut_of, AllLive, AllFit};
 
 use crate::shell::Shell;
 use crate::signals::{drop_dead, gather, put_sent, was_of};
@@ -93,7 +93,7 @@ fn turn_of<N: Node>(nodes: &mut Vec<N>, i: usize, due: &[Incoming]) -> Option<Si
 /// Puts the signal of a player's step, if there is one, among the others.
 fn join_signal(sent: &mut Vec<Sent>, player: u32, signal: Option<Signal>)
     requires { vec_len sent.old < vec_capacity sent.old }
-    ensures items { sent.new.items ≡ joined player signal sent.old.items }
+    ensures items { sent.new.items ≡ with_signal player signal sent.old.items }
     ensures room { vec_capacity sent.old ≤ vec_capacity sent.new }
 {
     if let Some(signal) = signal {
@@ -185,9 +185,9 @@ impl<N: Node> Cut<N> {
         ensures nodes { result.0.items ≡ self.consoles }
         ensures delay { result.1.delay ≡ self.delay }
         ensures sent { result.1.sent ≡ self.sent }
-        ensures cable { IsCable (plain_cut N.plain (rejoined result.0.items result.1)) }
-        ensures sound { IsSound (kind_of N.clock N.was N.next) (plain_cut N.plain (rejoined result.0.items result.1)) }
-        ensures live { AllLive (kind_of N.clock N.was N.next) (plain_cut N.plain (rejoined result.0.items result.1)) }
+        ensures cable { IsCable (plain_cut N.plain (cut_of result.0.items result.1)) }
+        ensures sound { IsSound (kind_of N.clock N.was N.next) (plain_cut N.plain (cut_of result.0.items result.1)) }
+        ensures live { AllLive (kind_of N.clock N.was N.next) (plain_cut N.plain (cut_of result.0.items result.1)) }
     {
         let Cut {
             nodes,

@@ -5,7 +5,7 @@ ghost use Rattle.link_node.specs.Due.{FitsWidths};
 ghost use Rattle.link_order.specs.NodeKind.{kind_of};
 ghost use Rattle.link_order.specs.Order.{IsSorted, IsAdded};
 ghost use Rattle.link_order.specs.Cut.{plain_cut, IsSound, IsCable};
-ghost use Rattle.link_core.specs.Kept.{Flight, rejoined, AllLive, AllFit};
+ghost use Rattle.link_core.specs.Kept.{Flight, cut_of, AllLive, AllFit};
 
 use crate::cut::Cut;
 use crate::signals::put_sent;
@@ -75,10 +75,10 @@ impl Shell {
 
     /// The cut of these signals and their nodes.
     pub fn join<N: Node>(self, nodes: Vec<N>) -> Cut<N>
-        requires cable { IsCable (plain_cut N.plain (rejoined nodes.items self)) }
-        requires sound { IsSound (kind_of N.clock N.was N.next) (plain_cut N.plain (rejoined nodes.items self)) }
-        requires live { AllLive (kind_of N.clock N.was N.next) (plain_cut N.plain (rejoined nodes.items self)) }
-        ensures { result ≡ rejoined nodes.items self }
+        requires cable { IsCable (plain_cut N.plain (cut_of nodes.items self)) }
+        requires sound { IsSound (kind_of N.clock N.was N.next) (plain_cut N.plain (cut_of nodes.items self)) }
+        requires live { AllLive (kind_of N.clock N.was N.next) (plain_cut N.plain (cut_of nodes.items self)) }
+        ensures { result ≡ cut_of nodes.items self }
     {
         let Shell { delay, sent, due } = self;
         Cut {

@@ -11,7 +11,7 @@ use Rattle.link_order.specs.NodeKind.{NodeKind, IsLawful}
 use Rattle.link_order.specs.Order.{from, IsOrdered}
 use Rattle.link_order.specs.Due.{is_due, arriving, due}
 use Rattle.link_order.specs.Cut.{Cut, hop, count, clock_at, was_at, IsSound, IsSoundSignal}
-use Rattle.link_order.specs.GlobalOrder.{joined, step_of, due_at}
+use Rattle.link_order.specs.GlobalOrder.{with_signal, step_of, due_at}
 use Rattle.link_order.proofs.Lists.{all_nil, all_cons, all_map}
 use Rattle.link_order.proofs.Senders.{OwnBelow, from-place_own, from-place_other}
 use Rattle.link_order.proofs.DueSignals.{arriving_none, arriving-append, due_same}
@@ -55,7 +55,7 @@ number_found f (y ∷ ys) zero x e = let g : Some y ≡ Some x = e in let h : y 
 number_found f (y ∷ ys) (suc i) x e = number_found f ys i x e
 
 joined_own : (i clock : ℕ) (o : Option Signal) (sent : List Sent) → IfSome o (λ s. s.clock ≡ clock)
-    → All (OwnBelow i clock) sent → IsOrdered sent → from i (joined i o sent) ≡ from i sent ++ option_to_list o
+    → All (OwnBelow i clock) sent → IsOrdered sent → from i (with_signal i o sent) ≡ from i sent ++ option_to_list o
 joined_own i clock None sent bears own ordered = sym (append-nil (from i sent))
 joined_own i clock (Some s) sent bears own ordered =
     from-place_own (record {
@@ -64,7 +64,7 @@ joined_own i clock (Some s) sent bears own ordered =
           s;
     }) sent ordered (subst (λ (m : ℕ). All (OwnBelow i m) sent) (sym bears) own)
 
-joined_other : (i j : ℕ) (o : Option Signal) (sent : List Sent) → j ≢ i → from j (joined i o sent) ≡ from j sent
+joined_other : (i j : ℕ) (o : Option Signal) (sent : List Sent) → j ≢ i → from j (with_signal i o sent) ≡ from j sent
 joined_other i j None sent apart = refl
 joined_other i j (Some s) sent apart = from-place_other j (record { sender = i; signal = s }) sent (λ e. apart (sym e))
 
@@ -88,7 +88,7 @@ pub record Advanced {C : Type 0} (kind : NodeKind C) (cut : Cut C) (i : ℕ) : T
   pub own_sent : from i (step_of kind cut i).sent ≡ from i cut.sent
       ++ option_to_list (kind.next x (due_at kind cut i)).1
   pub other_sent : (j : ℕ) → j ≢ i → from j (step_of kind cut i).sent ≡ from j cut.sent
-  pub told : All (λ (s : Signal). s.clock ≡ clock_at kind cut i) (option_to_list (kind.next x (due_at kind cut i)).1)
+  pub signal_of : All (λ (s : Signal). s.clock ≡ clock_at kind cut i) (option_to_list (kind.next x (due_at kind cut i)).1)
   pub own_clock : clock_at kind cut i < clock_at kind (step_of kind cut i) i
   pub short : clock_at kind (step_of kind cut i) i ≤ clock_at kind cut i + 512
   pub other_clock : (j : ℕ) → j ≢ i → clock_at kind (step_of kind cut i) j ≡ clock_at kind cut j
@@ -135,7 +135,7 @@ advance {C = C} kind law cut i below ahead sound =
           ∙ joined_own i (clock_at kind cut i) (kind.next x signals).1 cut.sent bears own_below sound.ordered;
       other_sent = λ j apart. ap (λ (e : Cut C). from j e.sent) is
           ∙ joined_other i j (kind.next x signals).1 cut.sent apart;
-      told = told_clock (clock_at kind cut i) (kind.next x signals).1 bears;
+      signal_of = told_clock (clock_at kind cut i) (kind.next x signals).1 bears;
       own_clock = elim (clock_cases i)
           [ inl f ↦ omega (arith, f.1, to_clock i, own, rises) | inr f ↦ absurd (f.0 refl) ];
       short = elim (clock_cases i) [ inl f ↦ omega (arith, f.1, to_clock i, own, short) | inr f ↦ absurd (f.0 refl) ];

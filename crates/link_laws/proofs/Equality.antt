@@ -6,9 +6,9 @@ use Rattle.std.proofs.lemmas.Bool.{le-ltb}
 use Rattle.link_order.specs.NodeKind.{NodeKind, IsLawful}
 use Rattle.link_order.specs.Cut.{Cut, hop, count, clock_at, was_at, IsSound, IsCable}
 use Rattle.link_order.specs.GlobalOrder.{least, step_of, trace, run}
-use Rattle.link_order.specs.Interleaving.{Watched, opened, Action, Look, Step, happens, MayStepHere, May}
+use Rattle.link_order.specs.Interleaving.{Watched, first_watch, Action, Look, Step, happens, MayStepHere, May}
 use Rattle.link_order.specs.Interleaving.{IsInterleaving}
-use Rattle.link_order.specs.Interleaving.{played, steps_of, moment}
+use Rattle.link_order.specs.Interleaving.{after_actions, steps_of, moment}
 use Rattle.link_order.proofs.Numbers.{same_or_apart, put, put_same, put_other, least_is_player}
 use Rattle.link_order.proofs.Hops.{hop_same, cable_same}
 use Rattle.link_order.proofs.Runs.{run_ends}
@@ -39,7 +39,7 @@ pub on_played : {C : Type 0} (kind : NodeKind C) → IsLawful kind
     → (until : ℕ) (cut : Cut C) (ps : List ℕ) (actions : List Action) (w : Watched C) (made : ℕ → ℕ)
     → Leads kind until cut ps → IsSound kind cut → Watching kind cut w → On kind cut ps w.cut made
     → IsInterleaving kind until actions w
-    → On kind cut ps (played kind actions w).cut (λ i. steps_of i actions + made i)
+    → On kind cut ps (after_actions kind actions w).cut (λ i. steps_of i actions + made i)
 on_played kind law until cut ps [] w made leads sound watch on may =
     on_made kind cut ps w.cut made (λ i. steps_of i [] + made i) (λ i. omega arith) on
 on_played kind law until cut ps (Look a b ∷ rest) w made leads sound watch on may =
@@ -55,7 +55,7 @@ on_played {C = C} kind law until cut ps (Step a ∷ rest) w made leads sound wat
     next in
     let ih = on_played kind law until cut ps rest (happens kind (Step a) w) (put a (suc (made a)) made) leads sound
     (watching_happens kind law cut until (Step a) w watch may.0) here may.1 in
-    on_made kind cut ps (played kind rest (happens kind (Step a) w)).cut
+    on_made kind cut ps (after_actions kind rest (happens kind (Step a) w)).cut
     (λ i. steps_of i rest + put a (suc (made a)) made i) (λ i. steps_of i (Step a ∷ rest) + made i)
     (λ i. elim (same_or_apart i a) [
       | inl e ↦
@@ -114,7 +114,7 @@ hears_happens {C = C} kind law cut until (Step i) w watch may hears =
 pub hears_played : {C : Type 0} (kind : NodeKind C) → IsLawful kind
     → (cut : Cut C) (until : ℕ) (actions : List Action) (w : Watched C)
     → Watching kind cut w → HearsInTime kind w → IsInterleaving kind until actions w
-    → HearsInTime kind (played kind actions w)
+    → HearsInTime kind (after_actions kind actions w)
 hears_played kind law cut until [] w watch hears may = hears
 hears_played kind law cut until (act ∷ rest) w watch hears may =
     hears_played kind law cut until rest (happens kind act w) (watching_happens kind law cut until act w watch may.0)
@@ -122,7 +122,7 @@ hears_played kind law cut until (act ∷ rest) w watch hears may =
 
 pub watching_played : {C : Type 0} (kind : NodeKind C) → IsLawful kind
     → (cut : Cut C) (until : ℕ) (actions : List Action) (w : Watched C)
-    → Watching kind cut w → IsInterleaving kind until actions w → Watching kind cut (played kind actions w)
+    → Watching kind cut w → IsInterleaving kind until actions w → Watching kind cut (after_actions kind actions w)
 watching_played kind law cut until [] w watch may = watch
 watching_played kind law cut until (act ∷ rest) w watch may =
     watching_played kind law cut until rest (happens kind act w) (watching_happens kind law cut until act w watch may.0)
@@ -131,15 +131,15 @@ watching_played kind law cut until (act ∷ rest) w watch may =
 -- every interleaving equals the global order
 pub equality : {C : Type 0} (kind : NodeKind C) → IsLawful kind → (cut : Cut C) (until : ℕ) (actions : List Action)
     → IsCable cut → IsSound kind cut
-    → IsInterleaving kind until actions (opened kind cut)
-    → IsEqual kind cut until actions (played kind actions (opened kind cut)).cut
+    → IsInterleaving kind until actions (first_watch kind cut)
+    → IsEqual kind cut until actions (after_actions kind actions (first_watch kind cut)).cut
 equality {C = C} kind law cut until actions cable sound may =
     let ps : List ℕ = trace kind cut until in
     let leads = trace_leads kind law cut until cable.some_console cable.some_delay sound in
     let start = watching_opened kind cut sound in
-    let w : Watched C = played kind actions (opened kind cut) in
-    let watch = watching_played kind law cut until actions (opened kind cut) start may in
-    let on = on_played kind law until cut ps actions (opened kind cut) (λ _. 0) leads sound start
+    let w : Watched C = after_actions kind actions (first_watch kind cut) in
+    let watch = watching_played kind law cut until actions (first_watch kind cut) start may in
+    let on = on_played kind law until cut ps actions (first_watch kind cut) (λ _. 0) leads sound start
     (on_opened kind law until cut ps leads sound) may in
     let exact = on_made kind cut ps w.cut (λ i. steps_of i actions + 0) (λ i. steps_of i actions) (λ i. omega arith)
     on in
@@ -155,7 +155,7 @@ equality {C = C} kind law cut until actions cable sound may =
         cable = cable_same w.cut cut exact.count_is exact.delay_is cable;
         sound = exact.sound;
         in_time = λ time a b la lb apart.
-            let hears = hears_played kind law cut until actions (opened kind cut) start
+            let hears = hears_played kind law cut until actions (first_watch kind cut) start
             (λ i j li lj e. time i j li lj e) may in
             omega (arith, hears a b la lb apart, watch.behind a b lb);
         same_end = same_end;

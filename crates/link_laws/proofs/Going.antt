@@ -8,7 +8,7 @@ use Rattle.link_order.specs.declared.sent.Sent.{Sent}
 use Rattle.link_order.specs.NodeKind.{NodeKind, IsLawful}
 use Rattle.link_order.specs.Order.{is_before, clock_of, sender_of, IsOrdered, from}
 use Rattle.link_order.specs.Cut.{HasDelays, Cut, count, clock_at, IsSound, IsSoundSignal}
-use Rattle.link_order.specs.GlobalOrder.{least, step, left, after, run}
+use Rattle.link_order.specs.GlobalOrder.{least, step, cycles_left, after_turns, run}
 use Rattle.link_order.specs.Interleaving.{moment, count_of}
 use Rattle.link_order.proofs.Numbers.{same_or_apart, put, least_is_player, least_is_least}
 use Rattle.link_order.proofs.Lists.{all_head, all_tail, all_map, pairs_head, pairs_tail}
@@ -122,10 +122,10 @@ on_end : {C : Type 0} (kind : NodeKind C) → IsLawful kind
     → (until : ℕ) (cut : Cut C) (ps : List ℕ) (d : Cut C) (made : ℕ → ℕ)
     → Leads kind until cut ps → IsSound kind cut → On kind cut ps d made
     → ((i : ℕ) → i < count cut → until ≤ clock_at kind d i)
-    → d ≡ after kind cut ps
+    → d ≡ after_turns kind cut ps
 on_end {C = C} kind law until cut ps d made leads sound on late =
     let e = history_ends kind law until ps cut leads sound in
-    same_cuts kind d (after kind cut ps) on.sound e.sound (on.count_is ∙ sym e.count_is) (on.delay_is ∙ sym e.delay_is)
+    same_cuts kind d (after_turns kind cut ps) on.sound e.sound (on.count_is ∙ sym e.count_is) (on.delay_is ∙ sym e.delay_is)
     (λ i below.
     let less : i < count cut = subst (λ (n : ℕ). i < n) on.count_is below in
     let s = on.same i less in
@@ -137,15 +137,15 @@ on_end {C = C} kind law until cut ps d made leads sound on late =
           number_found kind.clock d.consoles i g.x (s.console ∙ g.stands) in
           let early = g.early in
           let l = late i less in absurd (omega arith)
-      | inr past ↦ same_trans d m (after kind cut ps) i s
-          (same_is m (after kind cut ps) i (moment_all kind ps cut i (made i) past))
+      | inr past ↦ same_trans d m (after_turns kind cut ps) i s
+          (same_is m (after_turns kind cut ps) i (moment_all kind ps cut i (made i) past))
     ])
 
 goes_over : {C : Type 0} (kind : NodeKind C) → IsLawful kind
     → (until : ℕ) (cut : Cut C) (ps : List ℕ) (d : Cut C) (made : ℕ → ℕ)
     → Leads kind until cut ps → IsSound kind cut → On kind cut ps d made
     → nat_lt (clock_at kind d (least kind d)) until ≡ false
-    → run kind d until ≡ after kind cut ps
+    → run kind d until ≡ after_turns kind cut ps
 goes_over kind law until cut ps d made leads sound on e =
     let late : until ≤ clock_at kind d (least kind d) = ltb-false (clock_at kind d (least kind d)) until e in
     run_ends kind d until e
@@ -160,7 +160,7 @@ goes_over kind law until cut ps d made leads sound on e =
 goes_on_by : {C : Type 0} (kind : NodeKind C) → IsLawful kind
     → (most until : ℕ) (cut : Cut C) (ps : List ℕ) (d : Cut C) (made : ℕ → ℕ)
     → Leads kind until cut ps → IsSound kind cut → 0 < count cut → HasDelays cut
-    → On kind cut ps d made → left kind d until ≤ most → run kind d until ≡ after kind cut ps
+    → On kind cut ps d made → cycles_left kind d until ≤ most → run kind d until ≡ after_turns kind cut ps
 goes_on_by kind law zero until cut ps d made leads sound some later on few =
     let some_d : 0 < count d = subst (λ (n : ℕ). 0 < n) (sym on.count_is) some in
     goes_over kind law until cut ps d made leads sound on (ends kind d until some_d (omega arith))
@@ -174,7 +174,7 @@ goes_on_by {C = C} kind law (suc most) until cut ps d made leads sound some late
           let below : i < count cut = subst
           (λ (n : ℕ). i < n) on.count_is (least_is_player (clock_at kind d) (count d) some_d) in
           let f = falls kind law d until some_d e in
-          let less : left kind (step kind d) until < left kind d until = f.fewer in
+          let less : cycles_left kind (step kind d) until < cycles_left kind d until = f.fewer in
           let next = on_step kind law until cut ps d made i leads sound on below (ltb-true (clock_at kind d i) until e)
           (least_ahead kind d some_d later_d) in
           run_unrolls kind law d until some_d e
@@ -186,6 +186,6 @@ goes_on_by {C = C} kind law (suc most) until cut ps d made leads sound some late
 pub goes_on : {C : Type 0} (kind : NodeKind C) → IsLawful kind
     → (until : ℕ) (cut : Cut C) (ps : List ℕ) (d : Cut C) (made : ℕ → ℕ)
     → Leads kind until cut ps → IsSound kind cut → 0 < count cut → HasDelays cut
-    → On kind cut ps d made → run kind d until ≡ after kind cut ps
+    → On kind cut ps d made → run kind d until ≡ after_turns kind cut ps
 goes_on kind law until cut ps d made leads sound some later on =
-    goes_on_by kind law (left kind d until) until cut ps d made leads sound some later on (omega arith)
+    goes_on_by kind law (cycles_left kind d until) until cut ps d made leads sound some later on (omega arith)

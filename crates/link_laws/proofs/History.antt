@@ -13,7 +13,7 @@ use Rattle.link_order.specs.NodeKind.{NodeKind, IsLawful}
 use Rattle.link_order.specs.Order.{from}
 use Rattle.link_order.specs.Due.{due}
 use Rattle.link_order.specs.Cut.{HasDelays, Cut, hop, count, clock_at, was_at, IsSound}
-use Rattle.link_order.specs.GlobalOrder.{least, step_of, due_at, after, trace_of, trace, left}
+use Rattle.link_order.specs.GlobalOrder.{least, step_of, due_at, after_turns, trace_of, trace, cycles_left}
 use Rattle.link_order.specs.Interleaving.{moment, count_of}
 use Rattle.link_order.proofs.Numbers.{same_or_apart, put, put_same, put_other, least_is_player, least_is_least}
 use Rattle.link_order.proofs.Lists.{all_nil, all_map}
@@ -58,7 +58,7 @@ Leads kind until cut (p ∷ rest) =
 
 leads_by : {C : Type 0} (kind : NodeKind C) → IsLawful kind → (most : ℕ) (cut : Cut C) (until : ℕ) → 0 < count cut
     → HasDelays cut
-    → left kind cut until ≤ most → IsSound kind cut → Leads kind until cut (trace_of kind most cut until)
+    → cycles_left kind cut until ≤ most → IsSound kind cut → Leads kind until cut (trace_of kind most cut until)
 leads_by kind law zero cut until some later few sound =
     let e = ends kind cut until some (omega arith) in
     let late : until ≤ clock_at kind cut (least kind cut) = ltb-false (clock_at kind cut (least kind cut)) until e in
@@ -68,7 +68,7 @@ leads_by kind law (suc most) cut until some later few sound =
     elim (cases_Bool (nat_lt (clock_at kind cut (least kind cut)) until)) [
       | inl e ↦
           let f = falls kind law cut until some e in
-          let less : left kind (step_of kind cut (least kind cut)) until < left kind cut until = f.fewer in
+          let less : cycles_left kind (step_of kind cut (least kind cut)) until < cycles_left kind cut until = f.fewer in
           let some' : 0 < count (step_of kind cut (least kind cut)) = subst (λ (n : ℕ). 0 < n) (sym f.count_is) some in
           let later' : HasDelays (step_of kind cut (least kind cut)) =
           delays_same (step_of kind cut (least kind cut)) cut f.count_is f.delay_is later in
@@ -91,12 +91,12 @@ pub trace_leads : {C : Type 0} (kind : NodeKind C) → IsLawful kind → (cut : 
     → HasDelays cut
     → IsSound kind cut → Leads kind until cut (trace kind cut until)
 trace_leads kind law cut until some later sound =
-    leads_by kind law (left kind cut until) cut until some later (omega arith) sound
+    leads_by kind law (cycles_left kind cut until) cut until some later (omega arith) sound
 
 -- what is sent along these steps
 pub later_sent : {C : Type 0} (kind : NodeKind C) → IsLawful kind → (until : ℕ) (ps : List ℕ) (cut : Cut C) (i : ℕ)
     → Leads kind until cut ps → IsSound kind cut
-    → Later (clock_at kind cut i) (from i cut.sent) (from i (after kind cut ps).sent)
+    → Later (clock_at kind cut i) (from i cut.sent) (from i (after_turns kind cut ps).sent)
 later_sent {C = C} kind law until [] cut i leads sound = record {
   rest = [];
   all_is = ap (λ (d : Cut C). from i d.sent) (after_none kind cut) ∙ sym (append-nil (from i cut.sent));
@@ -105,7 +105,7 @@ later_sent {C = C} kind law until [] cut i leads sound = record {
 later_sent {C = C} kind law until (p ∷ ps) cut i leads sound =
     let a = advance kind law cut p leads.0 leads.2 sound in
     let l = later_sent kind law until ps (step_of kind cut p) i leads.3 a.sound in
-    let is : from i (after kind cut (p ∷ ps)).sent ≡ from i (step_of kind cut p).sent ++ l.rest =
+    let is : from i (after_turns kind cut (p ∷ ps)).sent ≡ from i (step_of kind cut p).sent ++ l.rest =
     ap (λ (d : Cut C). from i d.sent) (after_one kind cut p ps) ∙ l.all_is in
     elim (same_or_apart i p) [
       | inl e ↦
@@ -137,16 +137,16 @@ later_sent {C = C} kind law until (p ∷ ps) cut i leads sound =
 pub later_moment : {C : Type 0} (kind : NodeKind C) → IsLawful kind → (until : ℕ) (ps : List ℕ) (cut : Cut C) (i k : ℕ)
     → Leads kind until cut ps → IsSound kind cut
     → Later (clock_at kind (moment kind cut ps i k) i) (from i (moment kind cut ps i k).sent)
-    (from i (after kind cut ps).sent)
+    (from i (after_turns kind cut ps).sent)
 later_moment kind law until [] cut i k leads sound = later_sent kind law until [] cut i leads sound
 later_moment {C = C} kind law until (p ∷ ps) cut i zero leads sound =
     elim (same_or_apart p i) [
-      | inl e ↦ subst (λ (d : Cut C). Later (clock_at kind d i) (from i d.sent) (from i (after kind cut (p ∷ ps)).sent))
+      | inl e ↦ subst (λ (d : Cut C). Later (clock_at kind d i) (from i d.sent) (from i (after_turns kind cut (p ∷ ps)).sent))
           (sym (moment_first kind cut p ps i e))
           (later_sent kind law until (p ∷ ps) cut i leads sound)
       | inr e ↦
           let a = advance kind law cut p leads.0 leads.2 sound in
-          subst (λ (d : Cut C). Later (clock_at kind d i) (from i d.sent) (from i (after kind cut (p ∷ ps)).sent))
+          subst (λ (d : Cut C). Later (clock_at kind d i) (from i d.sent) (from i (after_turns kind cut (p ∷ ps)).sent))
           (sym (moment_other kind cut p ps i zero e))
           (subst (λ (d : Cut C). Later (clock_at kind (moment kind (step_of kind cut p) ps i zero) i)
           (from i (moment kind (step_of kind cut p) ps i zero).sent) (from i d.sent))
@@ -156,13 +156,13 @@ later_moment {C = C} kind law until (p ∷ ps) cut i (suc k) leads sound =
     let a = advance kind law cut p leads.0 leads.2 sound in
     elim (same_or_apart p i) [
       | inl e ↦
-          subst (λ (d : Cut C). Later (clock_at kind d i) (from i d.sent) (from i (after kind cut (p ∷ ps)).sent))
+          subst (λ (d : Cut C). Later (clock_at kind d i) (from i d.sent) (from i (after_turns kind cut (p ∷ ps)).sent))
           (sym (moment_own kind cut p ps i k e))
           (subst (λ (d : Cut C). Later (clock_at kind (moment kind (step_of kind cut p) ps i k) i)
           (from i (moment kind (step_of kind cut p) ps i k).sent) (from i d.sent))
           (sym (after_one kind cut p ps)) (later_moment kind law until ps (step_of kind cut p) i k leads.3 a.sound))
       | inr e ↦
-          subst (λ (d : Cut C). Later (clock_at kind d i) (from i d.sent) (from i (after kind cut (p ∷ ps)).sent))
+          subst (λ (d : Cut C). Later (clock_at kind d i) (from i d.sent) (from i (after_turns kind cut (p ∷ ps)).sent))
           (sym (moment_other kind cut p ps i (suc k) e))
           (subst (λ (d : Cut C). Later (clock_at kind (moment kind (step_of kind cut p) ps i (suc k)) i)
           (from i (moment kind (step_of kind cut p) ps i (suc k)).sent) (from i d.sent))
@@ -207,7 +207,7 @@ moment_none kind law until (p ∷ ps) cut i leads sound =
 
 -- after all its steps a console is at the end
 pub moment_all : {C : Type 0} (kind : NodeKind C) (ps : List ℕ) (cut : Cut C) (i k : ℕ) → count_of i ps ≤ k
-    → moment kind cut ps i k ≡ after kind cut ps
+    → moment kind cut ps i k ≡ after_turns kind cut ps
 moment_all kind [] cut i k past = sym (after_none kind cut)
 moment_all kind (p ∷ ps) cut i zero past =
     elim (same_or_apart p i) [
@@ -263,10 +263,10 @@ due_of_history kind cut e i x clock_is was_is later ahead =
 
 goes_first : {C : Type 0} (kind : NodeKind C) → IsLawful kind → (until : ℕ) (ps : List ℕ) (cut : Cut C) (i : ℕ)
     → Leads kind until cut (i ∷ ps) → IsSound kind cut
-    → Goes kind until cut (moment kind (step_of kind cut i) ps i zero) (after kind cut (i ∷ ps)) i (count cut) (hop cut)
+    → Goes kind until cut (moment kind (step_of kind cut i) ps i zero) (after_turns kind cut (i ∷ ps)) i (count cut) (hop cut)
 goes_first {C = C} kind law until ps cut i leads sound =
     let a = advance kind law cut i leads.0 leads.2 sound in
-    let e : Cut C = after kind cut (i ∷ ps) in
+    let e : Cut C = after_turns kind cut (i ∷ ps) in
     let whole = due_of_history kind cut e i a.x a.clock_is a.was_is
     (λ j below apart. later_sent kind law until (i ∷ ps) cut j leads sound) leads.2 in
     let stay = moment_none kind law until ps (step_of kind cut i) i leads.3 a.sound in
@@ -281,7 +281,7 @@ goes_first {C = C} kind law until ps cut i leads sound =
 
 pub goes : {C : Type 0} (kind : NodeKind C) → IsLawful kind → (until : ℕ) (ps : List ℕ) (cut : Cut C) (i k : ℕ)
     → Leads kind until cut ps → IsSound kind cut
-    → k < count_of i ps → Goes kind until (moment kind cut ps i k) (moment kind cut ps i (suc k)) (after kind cut ps) i
+    → k < count_of i ps → Goes kind until (moment kind cut ps i k) (moment kind cut ps i (suc k)) (after_turns kind cut ps) i
     (count cut) (hop cut)
 goes kind law until [] cut i k leads sound below = absurd (omega arith)
 goes {C = C} kind law until (p ∷ ps) cut i zero leads sound below =
@@ -289,10 +289,10 @@ goes {C = C} kind law until (p ∷ ps) cut i zero leads sound below =
       | inl e ↦
           goes_move kind until cut (moment kind cut (p ∷ ps) i zero) (moment kind (step_of kind cut p) ps i zero)
           (moment kind cut (p ∷ ps) i (suc zero))
-          (after kind cut (p ∷ ps)) (after kind cut (p ∷ ps)) i (count cut) (count cut) (hop cut) (hop cut)
+          (after_turns kind cut (p ∷ ps)) (after_turns kind cut (p ∷ ps)) i (count cut) (count cut) (hop cut) (hop cut)
           (sym (moment_first kind cut p ps i e)) (sym (moment_own kind cut p ps i zero e)) refl refl refl
           (subst (λ (q : ℕ). Leads kind until cut (q ∷ ps)
-          → Goes kind until cut (moment kind (step_of kind cut q) ps i zero) (after kind cut (q ∷ ps)) i (count cut)
+          → Goes kind until cut (moment kind (step_of kind cut q) ps i zero) (after_turns kind cut (q ∷ ps)) i (count cut)
           (hop cut))
           (sym e) (λ l. goes_first kind law until ps cut i l sound) leads)
       | inr e ↦
@@ -300,7 +300,7 @@ goes {C = C} kind law until (p ∷ ps) cut i zero leads sound below =
           let c = count_other i p ps e in
           goes_move kind until (moment kind (step_of kind cut p) ps i zero) (moment kind cut (p ∷ ps) i zero)
           (moment kind (step_of kind cut p) ps i (suc zero)) (moment kind cut (p ∷ ps) i (suc zero))
-          (after kind (step_of kind cut p) ps) (after kind cut (p ∷ ps)) i (count (step_of kind cut p)) (count cut)
+          (after_turns kind (step_of kind cut p) ps) (after_turns kind cut (p ∷ ps)) i (count (step_of kind cut p)) (count cut)
           (hop (step_of kind cut p)) (hop cut)
           (sym (moment_other kind cut p ps i zero e)) (sym (moment_other kind cut p ps i (suc zero) e))
           (sym (after_one kind cut p ps)) a.count_is
@@ -314,7 +314,7 @@ goes {C = C} kind law until (p ∷ ps) cut i (suc k) leads sound below =
           let c = count_own i p ps e in
           goes_move kind until (moment kind (step_of kind cut p) ps i k) (moment kind cut (p ∷ ps) i (suc k))
           (moment kind (step_of kind cut p) ps i (suc k)) (moment kind cut (p ∷ ps) i (suc (suc k)))
-          (after kind (step_of kind cut p) ps) (after kind cut (p ∷ ps)) i (count (step_of kind cut p)) (count cut)
+          (after_turns kind (step_of kind cut p) ps) (after_turns kind cut (p ∷ ps)) i (count (step_of kind cut p)) (count cut)
           (hop (step_of kind cut p)) (hop cut)
           (sym (moment_own kind cut p ps i k e)) (sym (moment_own kind cut p ps i (suc k) e))
           (sym (after_one kind cut p ps)) a.count_is
@@ -324,7 +324,7 @@ goes {C = C} kind law until (p ∷ ps) cut i (suc k) leads sound below =
           let c = count_other i p ps e in
           goes_move kind until (moment kind (step_of kind cut p) ps i (suc k)) (moment kind cut (p ∷ ps) i (suc k))
           (moment kind (step_of kind cut p) ps i (suc (suc k))) (moment kind cut (p ∷ ps) i (suc (suc k)))
-          (after kind (step_of kind cut p) ps) (after kind cut (p ∷ ps)) i (count (step_of kind cut p)) (count cut)
+          (after_turns kind (step_of kind cut p) ps) (after_turns kind cut (p ∷ ps)) i (count (step_of kind cut p)) (count cut)
           (hop (step_of kind cut p)) (hop cut)
           (sym (moment_other kind cut p ps i (suc k) e)) (sym (moment_other kind cut p ps i (suc (suc k)) e))
           (sym (after_one kind cut p ps)) a.count_is
@@ -341,7 +341,7 @@ pub record Ends {C : Type 0} (kind : NodeKind C) (until : ℕ) (cut e : Cut C) :
 
 pub history_ends : {C : Type 0} (kind : NodeKind C) → IsLawful kind → (until : ℕ) (ps : List ℕ) (cut : Cut C)
     → Leads kind until cut ps → IsSound kind cut
-    → Ends kind until cut (after kind cut ps)
+    → Ends kind until cut (after_turns kind cut ps)
 history_ends {C = C} kind law until [] cut leads sound =
     subst (Ends kind until cut) (sym (after_none kind cut)) (record {
       count_is = refl;
@@ -397,9 +397,9 @@ pub on_step : {C : Type 0} (kind : NodeKind C) → IsLawful kind
     → Ahead kind d i
     → On kind cut ps (step_of kind d i) (put i (suc (made i)) made)
 on_step {C = C} kind law until cut ps d made i leads sound on below early ahead =
-    let left = not_over kind law until cut ps d made i leads sound on below early in
-    let e : Cut C = after kind cut ps in
-    let g = goes kind law until ps cut i (made i) leads sound left in
+    let cycles_left = not_over kind law until cut ps d made i leads sound on below early in
+    let e : Cut C = after_turns kind cut ps in
+    let g = goes kind law until ps cut i (made i) leads sound cycles_left in
     let s = on.same i below in
     let below_d : i < count d = subst (λ (n : ℕ). i < n) (sym on.count_is) below in
     let a = advance kind law d i below_d ahead on.sound in
@@ -419,7 +419,7 @@ on_step {C = C} kind law until cut ps d made i leads sound on below early ahead 
     } in
     let whole : due (hop d) (λ j. from j e.sent) i (kind.was a.x) (kind.clock a.x) (count d) ≡ due_at kind d i
     = due_of_history kind d e i a.x a.clock_is a.was_is later ahead in
-    let told : due (hop cut) (λ j. from j e.sent) i (kind.was g.x) (kind.clock g.x) (count cut) ≡ due_at kind d i
+    let signal_of : due (hop cut) (λ j. from j e.sent) i (kind.was g.x) (kind.clock g.x) (count cut) ≡ due_at kind d i
     = ap (λ (y : C). due (hop cut) (λ j. from j e.sent) i (kind.was y) (kind.clock y) (count cut)) (sym x)
     ∙ ap (λ (b : ℕ → ℕ → ℕ). due b (λ j. from j e.sent) i (kind.was a.x) (kind.clock a.x) (count cut))
     (hop_same cut d (sym on.delay_is))
@@ -427,7 +427,7 @@ on_step {C = C} kind law until cut ps d made i leads sound on below early ahead 
     ∙ whole in
     let moved : (kind.next g.x (due (hop cut) (λ j. from j e.sent) i (kind.was g.x) (kind.clock g.x) (count cut)))
     ≡ kind.next a.x (due_at kind d i)
-    = ap (kind.next g.x) told ∙ ap (λ (y : C). kind.next y (due_at kind d i)) (sym x) in
+    = ap (kind.next g.x) signal_of ∙ ap (λ (y : C). kind.next y (due_at kind d i)) (sym x) in
     let own : Same (step_of kind d i) (moment kind cut ps i (suc (made i))) i = record {
       console = a.own_console ∙ sym (g.next_console ∙ ap (λ (o : C × Option Signal). Some o.0) moved);
       signals = a.own_sent ∙ sym (g.next_sent
@@ -443,7 +443,7 @@ on_step {C = C} kind law until cut ps d made i leads sound on below early ahead 
             let at_j : put i (suc (made i)) made j ≡ suc (made i) = ap (put i (suc (made i)) made) t
             ∙ put_same i (suc (made i)) made in
             let c : count_of j ps ≡ count_of i ps = ap (λ (q : ℕ). count_of q ps) t in
-            omega (arith, left, at_j, c)
+            omega (arith, cycles_left, at_j, c)
         | inr apart ↦ omega (arith, put_other i j (suc (made i)) made apart, on.within j less)
       ];
       same = λ j less. elim (same_or_apart j i) [

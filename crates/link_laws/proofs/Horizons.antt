@@ -12,8 +12,8 @@ use Rattle.link_order.specs.Cut.{HasDelaysWithin, Cut, hop, count, clock_at, was
 use Rattle.link_order.specs.Cut.{IsSoundSignal, IsInTime}
 use Rattle.link_order.specs.Cut.{IsCable}
 use Rattle.link_order.specs.GlobalOrder.{least_below, step_of}
-use Rattle.link_order.specs.Interleaving.{Watched, opened, Action, Look, Step, changed, happens, MayStepHere, May}
-use Rattle.link_order.specs.Interleaving.{IsInterleaving, played}
+use Rattle.link_order.specs.Interleaving.{Watched, first_watch, Action, Look, Step, update, happens, MayStepHere, May}
+use Rattle.link_order.specs.Interleaving.{IsInterleaving, after_actions}
 use Rattle.link_order.proofs.Numbers.{same_or_apart}
 use Rattle.link_order.proofs.Lists.{all_tail, all_map, pairs_tail}
 use Rattle.link_order.proofs.Places.{Comes}
@@ -37,13 +37,13 @@ adds kind w i j l = record {
 -- what a look adds arrives after the last step began
 pub looks_ahead : {C : Type 0} (kind : NodeKind C) → IsLawful kind
     → (cut : Cut C) (until : ℕ) (actions : List Action) (i j : ℕ) → IsCable cut → IsSound kind cut → IsInTime kind cut
-    → IsInterleaving kind until actions (opened kind cut) → i < count cut → j < count cut → i ≢ j
-    → LooksAhead kind (played kind actions (opened kind cut)) i j
+    → IsInterleaving kind until actions (first_watch kind cut) → i < count cut → j < count cut → i ≢ j
+    → LooksAhead kind (after_actions kind actions (first_watch kind cut)) i j
 looks_ahead {C = C} kind law cut until actions i j cable sound time may li lj apart =
     let start = watching_opened kind cut sound in
-    let w : Watched C = played kind actions (opened kind cut) in
-    let watch = watching_played kind law cut until actions (opened kind cut) start may in
-    let hears = hears_played kind law cut until actions (opened kind cut) start (λ a b la lb e. time a b la lb e) may in
+    let w : Watched C = after_actions kind actions (first_watch kind cut) in
+    let watch = watching_played kind law cut until actions (first_watch kind cut) start may in
+    let hears = hears_played kind law cut until actions (first_watch kind cut) start (λ a b la lb e. time a b la lb e) may in
     let up : (k : ℕ) → k < count cut → k < count w.cut = λ k h. subst (λ (n : ℕ). k < n) (sym watch.count_is) h in
     let l = watch.known i j (up j lj) in
     let heard = hears i j (up i li) (up j lj) apart in
@@ -65,12 +65,12 @@ all_drop P (x ∷ xs) ys h = all_drop P xs ys (all_tail P x (xs ++ ys) h)
 
 pub few_unread : {C : Type 0} (kind : NodeKind C) → IsLawful kind
     → (cut : Cut C) (until : ℕ) (actions : List Action) (i j : ℕ) → IsCable cut → IsSound kind cut
-    → IsInterleaving kind until actions (opened kind cut) → i < count cut → j < count cut → i ≢ j
-    → FewUnread kind (played kind actions (opened kind cut)) i j
+    → IsInterleaving kind until actions (first_watch kind cut) → i < count cut → j < count cut → i ≢ j
+    → FewUnread kind (after_actions kind actions (first_watch kind cut)) i j
 few_unread {C = C} kind law cut until actions i j cable sound may li lj apart =
     let start = watching_opened kind cut sound in
-    let w : Watched C = played kind actions (opened kind cut) in
-    let watch = watching_played kind law cut until actions (opened kind cut) start may in
+    let w : Watched C = after_actions kind actions (first_watch kind cut) in
+    let watch = watching_played kind law cut until actions (first_watch kind cut) start may in
     let up : (k : ℕ) → k < count cut → k < count w.cut = λ k h. subst (λ (n : ℕ). k < n) (sym watch.count_is) h in
     let l = watch.known i j (up j lj) in
     let close = watch.close i j (up i li) (up j lj) apart in
@@ -171,21 +171,21 @@ seen_stays : {C : Type 0} (kind : NodeKind C) → IsLawful kind
     → (cut : Cut C) (until : ℕ) (i j clock : ℕ) (actions : List Action) (w : Watched C) → j < count cut
     → Waits kind cut until i clock w → IsInterleaving kind until actions w → StaysAside i actions
     → (LooksAt i j actions ⊎ (clock ≤ w.seen i j))
-    → clock ≤ (played kind actions w).seen i j
+    → clock ≤ (after_actions kind actions w).seen i j
 seen_stays kind law cut until i j clock [] w below waits may aside (inl looks) = absurd looks
 seen_stays kind law cut until i j clock [] w below waits may aside (inr seen) = seen
 seen_stays kind law cut until i j clock (Look a b ∷ rest) w below waits may aside has =
     let next = waits_happens kind law cut until i clock (Look a b) rest w waits may.0 aside in
     let less : j < count w.cut = subst (λ (n : ℕ). j < n) (sym waits.watch.count_is) below in
     let l = waits.least j less in
-    let now : (LooksAt i j rest ⊎ (clock ≤ changed a b (clock_at kind w.cut b) w.seen i j))
+    let now : (LooksAt i j rest ⊎ (clock ≤ update a b (clock_at kind w.cut b) w.seen i j))
     = elim has [
       | inl looks ↦ elim looks [
         | inl here ↦
             let f : clock_at kind w.cut b ≡ clock_at kind w.cut j = ap (clock_at kind w.cut) here.1 in
-            let g : changed a b (clock_at kind w.cut b) w.seen i j ≡ clock_at kind w.cut b
-            = subst (λ (m : ℕ). changed a b (clock_at kind w.cut b) w.seen m j ≡ clock_at kind w.cut b) here.0
-            (subst (λ (n : ℕ). changed a b (clock_at kind w.cut b) w.seen a n
+            let g : update a b (clock_at kind w.cut b) w.seen i j ≡ clock_at kind w.cut b
+            = subst (λ (m : ℕ). update a b (clock_at kind w.cut b) w.seen m j ≡ clock_at kind w.cut b) here.0
+            (subst (λ (n : ℕ). update a b (clock_at kind w.cut b) w.seen a n
             ≡ clock_at kind w.cut b) here.1 (looked a b (clock_at kind w.cut b) w.seen)) in
             inr (omega (arith, f, g, l))
         | inr later ↦ inl later
@@ -205,7 +205,7 @@ seen_stays kind law cut until i j clock (Step a ∷ rest) w below waits may asid
 waits_played : {C : Type 0} (kind : NodeKind C) → IsLawful kind
     → (cut : Cut C) (until : ℕ) (i clock : ℕ) (actions : List Action) (w : Watched C)
     → Waits kind cut until i clock w → IsInterleaving kind until actions w → StaysAside i actions
-    → Waits kind cut until i clock (played kind actions w)
+    → Waits kind cut until i clock (after_actions kind actions w)
 waits_played kind law cut until i clock [] w waits may aside = waits
 waits_played kind law cut until i clock (act ∷ rest) w waits may aside =
     waits_played kind law cut until i clock rest (happens kind act w)
@@ -215,41 +215,41 @@ waits_played kind law cut until i clock (act ∷ rest) w waits may aside =
 -- the console that is furthest behind may step once it has looked at each peer
 pub furthest_behind : {C : Type 0} (kind : NodeKind C) → IsLawful kind
     → (cut : Cut C) (until : ℕ) (actions more : List Action) (i : ℕ) → IsCable cut → IsSound kind cut
-    → IsInterleaving kind until actions (opened kind cut)
-    → IsFurthestBehind kind until (played kind actions (opened kind cut)).cut i
-    → IsInterleaving kind until more (played kind actions (opened kind cut)) → StaysAside i more
+    → IsInterleaving kind until actions (first_watch kind cut)
+    → IsFurthestBehind kind until (after_actions kind actions (first_watch kind cut)).cut i
+    → IsInterleaving kind until more (after_actions kind actions (first_watch kind cut)) → StaysAside i more
     → ((j : ℕ) → j < count cut → j ≢ i → LooksAt i j more)
-    → MayStepHere kind until (played kind more (played kind actions (opened kind cut))) i
+    → MayStepHere kind until (after_actions kind more (after_actions kind actions (first_watch kind cut))) i
 furthest_behind {C = C} kind law cut until actions more i cable sound may last may_more aside looks =
-    let w : Watched C = played kind actions (opened kind cut) in
-    let watch = watching_played kind law cut until actions (opened kind cut) (watching_opened kind cut sound) may in
+    let w : Watched C = after_actions kind actions (first_watch kind cut) in
+    let watch = watching_played kind law cut until actions (first_watch kind cut) (watching_opened kind cut sound) may in
     let clock : ℕ = clock_at kind w.cut i in
     let waits : Waits kind cut until i clock w = record { watch = watch; stays = refl; least = last.least } in
-    let v : Watched C = played kind more w in
-    let after = waits_played kind law cut until i clock more w waits may_more aside in
+    let v : Watched C = after_actions kind more w in
+    let after_turns = waits_played kind law cut until i clock more w waits may_more aside in
     record {
-      player = subst (λ (n : ℕ). i < n) (watch.count_is ∙ sym after.watch.count_is) last.player;
-      early = omega (arith, after.stays, last.early);
+      player = subst (λ (n : ℕ). i < n) (watch.count_is ∙ sym after_turns.watch.count_is) last.player;
+      early = omega (arith, after_turns.stays, last.early);
       ahead = λ j below apart.
-          let less : j < count cut = subst (λ (n : ℕ). j < n) after.watch.count_is below in
+          let less : j < count cut = subst (λ (n : ℕ). j < n) after_turns.watch.count_is below in
           let seen = seen_stays kind law cut until i j clock more w less waits may_more aside
           (inl (looks j less apart)) in
-          let here = cable_same v.cut cut after.watch.count_is after.watch.delay_is cable in
+          let here = cable_same v.cut cut after_turns.watch.count_is after_turns.watch.delay_is cable in
           let own : i < count v.cut =
-          subst (λ (n : ℕ). i < n) (watch.count_is ∙ sym after.watch.count_is) last.player in
+          subst (λ (n : ℕ). i < n) (watch.count_is ∙ sym after_turns.watch.count_is) last.player in
           let some : 0 < hop v.cut j i = here.some_delay j i below own apart in
-          omega (arith, after.stays, seen, some);
+          omega (arith, after_turns.stays, seen, some);
     }
 
 -- no two clocks are further from each other than the delay and a step
 pub clocks_near : {C : Type 0} (kind : NodeKind C) → IsLawful kind
     → (cut : Cut C) (until : ℕ) (actions : List Action) (i j : ℕ) → IsCable cut → IsSound kind cut
-    → IsInterleaving kind until actions (opened kind cut) → i < count cut → j < count cut
-    → clock_at kind (played kind actions (opened kind cut)).cut i
-    < clock_at kind (played kind actions (opened kind cut)).cut j + hop cut j i + 512
+    → IsInterleaving kind until actions (first_watch kind cut) → i < count cut → j < count cut
+    → clock_at kind (after_actions kind actions (first_watch kind cut)).cut i
+    < clock_at kind (after_actions kind actions (first_watch kind cut)).cut j + hop cut j i + 512
 clocks_near {C = C} kind law cut until actions i j cable sound may li lj =
-    let w : Watched C = played kind actions (opened kind cut) in
-    let watch = watching_played kind law cut until actions (opened kind cut) (watching_opened kind cut sound) may in
+    let w : Watched C = after_actions kind actions (first_watch kind cut) in
+    let watch = watching_played kind law cut until actions (first_watch kind cut) (watching_opened kind cut sound) may in
     let up : (k : ℕ) → k < count cut → k < count w.cut = λ k h. subst (λ (n : ℕ). k < n) (sym watch.count_is) h in
     elim (same_or_apart i j) [
       | inl e ↦ let f = ap (clock_at kind w.cut) e in omega (arith, f)

@@ -7,9 +7,9 @@ use Rattle.std.proofs.lemmas.List.{append-nil}
 use Rattle.std.proofs.lemmas.Bool.{cases_Bool, cases_lt, ltb-true, ltb-false}
 use Rattle.link_order.specs.NodeKind.{NodeKind, IsLawful}
 use Rattle.link_order.specs.Cut.{Cut, hop, count, clock_at, was_at, IsSound, IsCable}
-use Rattle.link_order.specs.GlobalOrder.{step_of, trace, after}
-use Rattle.link_order.specs.Interleaving.{Watched, opened, Action, Look, Step, changed, happens, MayStepHere}
-use Rattle.link_order.specs.Interleaving.{IsInterleaving, played, moment, count_of}
+use Rattle.link_order.specs.GlobalOrder.{step_of, trace, after_turns}
+use Rattle.link_order.specs.Interleaving.{Watched, first_watch, Action, Look, Step, update, happens, MayStepHere}
+use Rattle.link_order.specs.Interleaving.{IsInterleaving, after_actions, moment, count_of}
 use Rattle.link_order.proofs.Numbers.{same_or_apart, put, put_same, put_other}
 use Rattle.link_order.proofs.Hops.{hop_same}
 use Rattle.link_order.proofs.Runs.{after_none, after_one}
@@ -34,14 +34,14 @@ abbrev plan : ℕ → (ℕ → ℕ) → List ℕ → List ℕ → List Action
 plan n k qs [] = []
 plan n k qs (p ∷ ps) = planned n p (count_of p qs) (k p) (plan n k (qs ++ p ∷ []) ps)
 
-played-append : {C : Type 0} (kind : NodeKind C) (xs ys : List Action) (w : Watched C)
-    → played kind (xs ++ ys) w ≡ played kind ys (played kind xs w)
-played-append kind [] ys w = refl
-played-append kind (x ∷ xs) ys w = played-append kind xs ys (happens kind x w)
+after_actions-append : {C : Type 0} (kind : NodeKind C) (xs ys : List Action) (w : Watched C)
+    → after_actions kind (xs ++ ys) w ≡ after_actions kind ys (after_actions kind xs w)
+after_actions-append kind [] ys w = refl
+after_actions-append kind (x ∷ xs) ys w = after_actions-append kind xs ys (happens kind x w)
 
 allowed-append : {C : Type 0} (kind : NodeKind C) (until : ℕ) (xs ys : List Action) (w : Watched C)
     → IsInterleaving kind until xs w
-    → IsInterleaving kind until ys (played kind xs w) → IsInterleaving kind until (xs ++ ys) w
+    → IsInterleaving kind until ys (after_actions kind xs w) → IsInterleaving kind until (xs ++ ys) w
 allowed-append kind until [] ys w h k = k
 allowed-append kind until (x ∷ xs) ys w h k = (h.0, allowed-append kind until xs ys (happens kind x w) h.1 k)
 
@@ -50,36 +50,36 @@ looks_allowed : {C : Type 0} (kind : NodeKind C) (until i n : ℕ) (w : Watched 
 looks_allowed kind until i zero w = tt
 looks_allowed kind until i (suc j) w = (tt, looks_allowed kind until i j (happens kind (Look i j) w))
 
-looks_cut : {C : Type 0} (kind : NodeKind C) (i n : ℕ) (w : Watched C) → (played kind (looks i n) w).cut ≡ w.cut
+looks_cut : {C : Type 0} (kind : NodeKind C) (i n : ℕ) (w : Watched C) → (after_actions kind (looks i n) w).cut ≡ w.cut
 looks_cut kind i zero w = refl
 looks_cut kind i (suc j) w = looks_cut kind i j (happens kind (Look i j) w)
 
-unlooked : {A : Type 0} (i j k : ℕ) (y : A) (f : ℕ → ℕ → A) → k ≢ j → changed i j y f i k ≡ f i k
+unlooked : {A : Type 0} (i j k : ℕ) (y : A) (f : ℕ → ℕ → A) → k ≢ j → update i j y f i k ≡ f i k
 unlooked i j k y f apart = let t : ((i == i) && (k == j)) ≡ false = grind (arith, nat_tests) in
     ap (λ c. if c then y else f i k) t
 
 looks_past : {C : Type 0} (kind : NodeKind C) (i n j : ℕ) (w : Watched C) → n ≤ j
-    → (played kind (looks i n) w).seen i j ≡ w.seen i j
+    → (after_actions kind (looks i n) w).seen i j ≡ w.seen i j
 looks_past kind i zero j w past = refl
 looks_past kind i (suc n) j w past =
     looks_past kind i n j (happens kind (Look i n) w) (omega arith)
     ∙ unlooked i n j (clock_at kind w.cut n) w.seen (omega arith)
 
 looks_seen : {C : Type 0} (kind : NodeKind C) (i n j : ℕ) (w : Watched C) → j < n
-    → (played kind (looks i n) w).seen i j ≡ clock_at kind w.cut j
+    → (after_actions kind (looks i n) w).seen i j ≡ clock_at kind w.cut j
 looks_seen kind i zero j w below = absurd (omega arith)
 looks_seen kind i (suc n) j w below =
     elim (same_or_apart j n) [
       | inl e ↦
           looks_past kind i n j (happens kind (Look i n) w) (omega arith)
-          ∙ subst (λ (m : ℕ). changed i n (clock_at kind w.cut n) w.seen i m
+          ∙ subst (λ (m : ℕ). update i n (clock_at kind w.cut n) w.seen i m
           ≡ clock_at kind w.cut m) (sym e) (looked i n (clock_at kind w.cut n) w.seen)
       | inr e ↦ looks_seen kind i n j (happens kind (Look i n) w) (omega arith)
     ]
 
 -- a moment after the first steps of a list is one of the rest
 pub moment_prefix : {C : Type 0} (kind : NodeKind C) (qs ps : List ℕ) (cut : Cut C) (i k m : ℕ) → m ≡ count_of i qs + k
-    → moment kind cut (qs ++ ps) i m ≡ moment kind (after kind cut qs) ps i k
+    → moment kind cut (qs ++ ps) i m ≡ moment kind (after_turns kind cut qs) ps i k
 moment_prefix {C = C} kind [] ps cut i k m is =
     let same : m ≡ k = omega arith in
     ap (moment kind cut ps i) same ∙ ap (λ (d : Cut C). moment kind d ps i k) (sym (after_none kind cut))
@@ -105,13 +105,13 @@ moment_prefix {C = C} kind (q ∷ qs) ps cut i k (suc m) is =
           ∙ ap (λ (d : Cut C). moment kind d ps i k) (sym (after_one kind cut q qs))
     ]
 
-after-push : {C : Type 0} (kind : NodeKind C) (qs : List ℕ) (p : ℕ) (cut : Cut C)
-    → after kind cut (qs ++ p ∷ []) ≡ step_of kind (after kind cut qs) p
-after-push {C = C} kind [] p cut =
+after_turns-push : {C : Type 0} (kind : NodeKind C) (qs : List ℕ) (p : ℕ) (cut : Cut C)
+    → after_turns kind cut (qs ++ p ∷ []) ≡ step_of kind (after_turns kind cut qs) p
+after_turns-push {C = C} kind [] p cut =
     after_one kind cut p [] ∙ after_none kind (step_of kind cut p)
     ∙ ap (λ (d : Cut C). step_of kind d p) (sym (after_none kind cut))
-after-push {C = C} kind (q ∷ qs) p cut =
-    after_one kind cut q (qs ++ p ∷ []) ∙ after-push kind qs p (step_of kind cut q)
+after_turns-push {C = C} kind (q ∷ qs) p cut =
+    after_one kind cut q (qs ++ p ∷ []) ∙ after_turns-push kind qs p (step_of kind cut q)
     ∙ ap (λ (d : Cut C). step_of kind d p) (sym (after_one kind cut q qs))
 
 count_of-push_own : (i p : ℕ) (qs : List ℕ) → p ≡ i → count_of i (qs ++ p ∷ []) ≡ count_of i qs + 1
@@ -197,18 +197,18 @@ clock_same kind d e i s = number_same kind.clock d.consoles e.consoles i s.conso
 -- a console with steps left is where the trace is
 follows : {C : Type 0} (kind : NodeKind C) → IsLawful kind
     → (until : ℕ) (start : Cut C) (all qs ps : List ℕ) (k : ℕ → ℕ) (w : Watched C) (j : ℕ)
-    → Leads kind until (after kind start qs) ps → IsSound kind (after kind start qs) → Stands kind start all qs ps k w
+    → Leads kind until (after_turns kind start qs) ps → IsSound kind (after_turns kind start qs) → Stands kind start all qs ps k w
     → j < count start → count_of j qs ≤ k j
-    → Same w.cut (after kind start qs) j
+    → Same w.cut (after_turns kind start qs) j
 follows {C = C} kind law until start all qs ps k w j leads sound stands below more =
     let made : min (k j) (count_of j qs) ≡ count_of j qs + 0 = omega arith in
-    let m : moment kind start all j (min (k j) (count_of j qs)) ≡ moment kind (after kind start qs) ps j 0
+    let m : moment kind start all j (min (k j) (count_of j qs)) ≡ moment kind (after_turns kind start qs) ps j 0
     = ap (λ (l : List ℕ). moment kind start l j (min (k j) (count_of j qs))) stands.all_is
     ∙ moment_prefix kind qs ps start j 0 (min (k j) (count_of j qs)) made in
-    same_trans w.cut (moment kind start all j (min (k j) (count_of j qs))) (after kind start qs) j
+    same_trans w.cut (moment kind start all j (min (k j) (count_of j qs))) (after_turns kind start qs) j
     (stands.on.same j below)
-    (same_trans _ (moment kind (after kind start qs) ps j 0) (after kind start qs) j (same_is _ _ j m)
-    (moment_none kind law until ps (after kind start qs) j leads sound))
+    (same_trans _ (moment kind (after_turns kind start qs) ps j 0) (after_turns kind start qs) j (same_is _ _ j m)
+    (moment_none kind law until ps (after_turns kind start qs) j leads sound))
 
 -- a console with no steps left is where it is to end
 stopped : {C : Type 0} (kind : NodeKind C) (start : Cut C) (all qs ps : List ℕ) (k : ℕ → ℕ) (w : Watched C) (j : ℕ)
@@ -227,14 +227,14 @@ AllHear kind start all k =
 -- the plan's step is allowed once its console has looked at all others
 plan_may : {C : Type 0} (kind : NodeKind C) → IsLawful kind
     → (until : ℕ) (start : Cut C) (all qs : List ℕ) (p : ℕ) (ps : List ℕ) (k : ℕ → ℕ) (w : Watched C)
-    → Leads kind until (after kind start qs) (p ∷ ps) → IsSound kind (after kind start qs)
-    → count (after kind start qs) ≡ count start → (after kind start qs).delay ≡ start.delay
+    → Leads kind until (after_turns kind start qs) (p ∷ ps) → IsSound kind (after_turns kind start qs)
+    → count (after_turns kind start qs) ≡ count start → (after_turns kind start qs).delay ≡ start.delay
     → Stands kind start all qs (p ∷ ps) k w
     → AllHear kind start all k
-    → count_of p qs < k p → MayStepHere kind until (played kind (looks p (count start)) w) p
+    → count_of p qs < k p → MayStepHere kind until (after_actions kind (looks p (count start)) w) p
 plan_may {C = C} kind law until start all qs p ps k w leads sound counts delays stands heard more =
-    let c : Cut C = after kind start qs in
-    let v : Watched C = played kind (looks p (count start)) w in
+    let c : Cut C = after_turns kind start qs in
+    let v : Watched C = after_actions kind (looks p (count start)) w in
     let cut_is : v.cut ≡ w.cut = looks_cut kind p (count start) w in
     let below : p < count start = subst (λ (n : ℕ). p < n) counts leads.0 in
     let own = clock_same kind w.cut c p
@@ -283,13 +283,13 @@ plan_may {C = C} kind law until start all qs p ps k w leads sound counts delays 
 record Planned {C : Type 0} (kind : NodeKind C) (until : ℕ) (start : Cut C) (all : List ℕ)
     (k : ℕ → ℕ) (actions : List Action) (w : Watched C) : Type 0 where
   allowed : IsInterleaving kind until actions w
-  on : On kind start all (played kind actions w).cut (λ i. min (k i) (count_of i all))
+  on : On kind start all (after_actions kind actions w).cut (λ i. min (k i) (count_of i all))
 
 plan_goes : {C : Type 0} (kind : NodeKind C) → IsLawful kind
     → (until : ℕ) (start : Cut C) (all qs ps : List ℕ) (k : ℕ → ℕ) (w : Watched C)
     → Leads kind until start all → IsSound kind start
-    → Leads kind until (after kind start qs) ps → IsSound kind (after kind start qs)
-    → count (after kind start qs) ≡ count start → (after kind start qs).delay ≡ start.delay
+    → Leads kind until (after_turns kind start qs) ps → IsSound kind (after_turns kind start qs)
+    → count (after_turns kind start qs) ≡ count start → (after_turns kind start qs).delay ≡ start.delay
     → Stands kind start all qs ps k w
     → AllHear kind start all k
     → Planned kind until start all k (plan (count start) k qs ps) w
@@ -301,23 +301,23 @@ plan_goes {C = C} kind law until start all qs [] k w whole begin leads sound cou
           (λ i. ap (λ (l : List ℕ). min (k i) (count_of i l)) (sym same)) stands.on;
     }
 plan_goes {C = C} kind law until start all qs (p ∷ ps) k w whole begin leads sound counts delays stands heard =
-    let c : Cut C = after kind start qs in
+    let c : Cut C = after_turns kind start qs in
     let a = advance kind law c p leads.0 leads.2 sound in
     let rs : List ℕ = qs ++ p ∷ [] in
     let n : ℕ = count start in
-    let push : after kind start rs ≡ step_of kind c p = after-push kind qs p start in
-    let leads' : Leads kind until (after kind start rs) ps =
+    let push : after_turns kind start rs ≡ step_of kind c p = after_turns-push kind qs p start in
+    let leads' : Leads kind until (after_turns kind start rs) ps =
     subst (λ (e : Cut C). Leads kind until e ps) (sym push) leads.3 in
-    let sound' : IsSound kind (after kind start rs) = subst (IsSound kind) (sym push) a.sound in
-    let counts' : count (after kind start rs) ≡ count start = ap count push ∙ a.count_is ∙ counts in
-    let delays' : (after kind start rs).delay ≡ start.delay = ap (λ (e : Cut C). e.delay) push ∙ a.delay_is ∙ delays in
+    let sound' : IsSound kind (after_turns kind start rs) = subst (IsSound kind) (sym push) a.sound in
+    let counts' : count (after_turns kind start rs) ≡ count start = ap count push ∙ a.count_is ∙ counts in
+    let delays' : (after_turns kind start rs).delay ≡ start.delay = ap (λ (e : Cut C). e.delay) push ∙ a.delay_is ∙ delays in
     let all' : all ≡ rs ++ ps = stands.all_is ∙ sym (append_assoc qs (p ∷ []) ps) in
     let below : p < count start = subst (λ (m : ℕ). p < m) counts leads.0 in
     let own = count_of-push_own p p qs refl in
     elim (cases_Bool (nat_lt (count_of p qs) (k p))) [
       | inl e ↦
           let more : count_of p qs < k p = ltb-true (count_of p qs) (k p) e in
-          let v : Watched C = played kind (looks p n) w in
+          let v : Watched C = after_actions kind (looks p n) w in
           let cut_is : v.cut ≡ w.cut = looks_cut kind p n w in
           let watch : Watching kind start v =
           watching_played kind law start until (looks p n) w stands.watch (looks_allowed kind until p n w) in
@@ -356,8 +356,8 @@ plan_goes {C = C} kind law until start all qs (p ∷ ps) k w whole begin leads s
           let rest : List Action = plan n k rs ps in
           let acts : plan n k qs (p ∷ ps) ≡ looks p n ++ Step p ∷ rest =
           planned_goes n p (count_of p qs) (k p) rest e in
-          let reached : played kind (looks p n ++ Step p ∷ rest) w ≡ played kind rest z =
-          played-append kind (looks p n) (Step p ∷ rest) w in
+          let reached : after_actions kind (looks p n ++ Step p ∷ rest) w ≡ after_actions kind rest z =
+          after_actions-append kind (looks p n) (Step p ∷ rest) w in
           subst (λ (t : List Action). Planned kind until start all k t w) (sym acts) (record {
             allowed = allowed-append kind until (looks p n) (Step p ∷ rest) w (looks_allowed kind until p n w)
                 (may, ih.allowed);
@@ -392,15 +392,15 @@ pub reaches_counts : {C : Type 0} (kind : NodeKind C) → IsLawful kind → (cut
 reaches_counts {C = C} kind law cut until k cable sound wanted =
     let all : List ℕ = trace kind cut until in
     let leads = trace_leads kind law cut until cable.some_console cable.some_delay sound in
-    let none : after kind cut [] ≡ cut = after_none kind cut in
+    let none : after_turns kind cut [] ≡ cut = after_none kind cut in
     let acts : List Action = plan (count cut) k [] all in
-    let stands : Stands kind cut all [] all k (opened kind cut) = record {
+    let stands : Stands kind cut all [] all k (first_watch kind cut) = record {
       all_is = refl;
       watch = watching_opened kind cut sound;
       on = on_made kind cut all cut (λ _. 0) (λ i. min (k i) 0) (λ i. omega arith)
           (on_opened kind law until cut all leads sound);
     } in
-    let planned = plan_goes kind law until cut all [] all k (opened kind cut) leads sound
+    let planned = plan_goes kind law until cut all [] all k (first_watch kind cut) leads sound
     (subst (λ (e : Cut C). Leads kind until e all) (sym none) leads) (subst (IsSound kind) (sym none) sound)
     (ap count none) (ap (λ (e : Cut C). e.delay) none) stands wanted.heard in
     record {
@@ -409,7 +409,7 @@ reaches_counts {C = C} kind law cut until k cable sound wanted =
       each = λ i below.
           let most = wanted.within i below in
           let made : min (k i) (count_of i all) ≡ k i = omega arith in
-          let s = subst (λ (n : ℕ). Same (played kind acts (opened kind cut)).cut (moment kind cut all i n) i) made
+          let s = subst (λ (n : ℕ). Same (after_actions kind acts (first_watch kind cut)).cut (moment kind cut all i n) i) made
           (planned.on.same i below) in
           record { within = most; console = s.console; signals = s.signals };
     }
@@ -429,8 +429,8 @@ reaches_cut {C = C} kind law cut d until k cable sound wanted =
           let clock_is = clock_same kind d (moment kind cut all j (k j)) j (is j lj) in
           omega (arith, was_is, clock_is, wanted.heard i j li lj apart some);
     }) in
-    let w : Watched C = played kind found.actions (opened kind cut) in
-    let watch = watching_played kind law cut until found.actions (opened kind cut) (watching_opened kind cut sound)
+    let w : Watched C = after_actions kind found.actions (first_watch kind cut) in
+    let watch = watching_played kind law cut until found.actions (first_watch kind cut) (watching_opened kind cut sound)
     found.allowed in
     let same : (i : ℕ) → i < count cut → Same w.cut d i
     = λ i below.

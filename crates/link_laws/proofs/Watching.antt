@@ -8,8 +8,8 @@ use Rattle.link_node.specs.declared.signal.Signal.{Signal}
 use Rattle.link_order.specs.NodeKind.{NodeKind, IsLawful}
 use Rattle.link_order.specs.Order.{from}
 use Rattle.link_order.specs.Cut.{Cut, hop, count, clock_at, was_at, IsSound}
-use Rattle.link_order.specs.GlobalOrder.{stepped, step_of, due_at}
-use Rattle.link_order.specs.Interleaving.{Watched, opened, Action, Look, Step, changed, due_seen, happens, MayStepHere}
+use Rattle.link_order.specs.GlobalOrder.{step_with, step_of, due_at}
+use Rattle.link_order.specs.Interleaving.{Watched, first_watch, Action, Look, Step, update, due_seen, happens, MayStepHere}
 use Rattle.link_order.specs.Interleaving.{May}
 use Rattle.link_order.proofs.Numbers.{same_or_apart}
 use Rattle.link_order.proofs.Lists.{all_nil, all_map}
@@ -18,7 +18,7 @@ use Rattle.link_laws.proofs.Advance.{Ahead, advance, Later, due_of_all}
 
 -- a place that a look changed, or didn't
 pub changed_cases : {A : Type 0} (i j : ℕ) (y : A) (f : ℕ → ℕ → A) (a b : ℕ)
-    → ((a ≡ i) × (b ≡ j) × (changed i j y f a b ≡ y)) ⊎ (changed i j y f a b ≡ f a b)
+    → ((a ≡ i) × (b ≡ j) × (update i j y f a b ≡ y)) ⊎ (update i j y f a b ≡ f a b)
 changed_cases i j y f a b =
     elim (same_or_apart a i) [
       | inl p ↦ elim (same_or_apart b j) [
@@ -34,7 +34,7 @@ changed_cases i j y f a b =
           inr (ap (λ c. if c then y else f a b) t)
     ]
 
-pub looked : {A : Type 0} (a b : ℕ) (y : A) (f : ℕ → ℕ → A) → changed a b y f a b ≡ y
+pub looked : {A : Type 0} (a b : ℕ) (y : A) (f : ℕ → ℕ → A) → update a b y f a b ≡ y
 looked a b y f =
     let t : ((a == a) && (b == b)) ≡ true = grind (arith, nat_tests) in ap (λ c. if c then y else f a b) t
 
@@ -62,7 +62,7 @@ all_known clock xs = record {
 }
 
 pub watching_opened : {C : Type 0} (kind : NodeKind C) (cut : Cut C) → IsSound kind cut
-    → Watching kind cut (opened kind cut)
+    → Watching kind cut (first_watch kind cut)
 watching_opened kind cut sound = record {
   count_is = refl;
   delay_is = refl;
@@ -80,9 +80,9 @@ may_ahead kind cut until w i watch may j below apart = omega (arith, may.ahead j
 -- and what it has seen is all that is due to it
 pub may_due : {C : Type 0} (kind : NodeKind C) (cut : Cut C) (until : ℕ) (w : Watched C) (i : ℕ) → Watching kind cut w
     → MayStepHere kind until w i
-    → stepped kind w.cut i (due_seen kind w i) ≡ step_of kind w.cut i
+    → step_with kind w.cut i (due_seen kind w i) ≡ step_of kind w.cut i
 may_due kind cut until w i watch may =
-    ap (stepped kind w.cut i) (sym (due_of_all (hop w.cut) (w.got i) (λ j. from j w.cut.sent) (w.seen i) i
+    ap (step_with kind w.cut i) (sym (due_of_all (hop w.cut) (w.got i) (λ j. from j w.cut.sent) (w.seen i) i
     (was_at kind w.cut i) (clock_at kind w.cut i) (count w.cut)
     (λ j below apart. watch.known i j below) may.ahead))
 
@@ -98,20 +98,20 @@ watching_look kind cut w i j watch = record {
   ];
   known = λ a b below. elim (changed_cases i j (clock_at kind w.cut j) w.seen a b) [
     | inl e ↦
-        let got : changed i j (from j w.cut.sent) w.got a b ≡ from b w.cut.sent
+        let got : update i j (from j w.cut.sent) w.got a b ≡ from b w.cut.sent
         = rw (e.0, e.1) (looked i j (from j w.cut.sent) w.got) in
-        subst (λ (z : List Signal). Later (changed i j (clock_at kind w.cut j) w.seen a b) z (from b w.cut.sent))
+        subst (λ (z : List Signal). Later (update i j (clock_at kind w.cut j) w.seen a b) z (from b w.cut.sent))
         (sym got)
-        (all_known (changed i j (clock_at kind w.cut j) w.seen a b) (from b w.cut.sent))
+        (all_known (update i j (clock_at kind w.cut j) w.seen a b) (from b w.cut.sent))
     | inr e ↦ elim (changed_cases i j (from j w.cut.sent) w.got a b) [
       | inl g ↦
-          let got : changed i j (from j w.cut.sent) w.got a b ≡ from b w.cut.sent = g.2
+          let got : update i j (from j w.cut.sent) w.got a b ≡ from b w.cut.sent = g.2
           ∙ ap (λ (k : ℕ). from k w.cut.sent) (sym g.1) in
-          subst (λ (z : List Signal). Later (changed i j (clock_at kind w.cut j) w.seen a b) z (from b w.cut.sent))
+          subst (λ (z : List Signal). Later (update i j (clock_at kind w.cut j) w.seen a b) z (from b w.cut.sent))
           (sym got)
-          (all_known (changed i j (clock_at kind w.cut j) w.seen a b) (from b w.cut.sent))
+          (all_known (update i j (clock_at kind w.cut j) w.seen a b) (from b w.cut.sent))
       | inr g ↦
-          subst (λ (n : ℕ). Later n (changed i j (from j w.cut.sent) w.got a b) (from b w.cut.sent)) (sym e)
+          subst (λ (n : ℕ). Later n (update i j (from j w.cut.sent) w.got a b) (from b w.cut.sent)) (sym e)
           (subst (λ (z : List Signal). Later (w.seen a b) z (from b w.cut.sent)) (sym g) (watch.known a b below))
     ]
   ];

@@ -5,8 +5,8 @@ use Rattle.link_order.specs.Order.{from}
 use Rattle.link_order.specs.Cut.{Delays, Cut, hop, count, clock_at, was_at, live, IsSound, IsInTime, IsCable, IsFresh}
 use Rattle.link_order.specs.Cut.{HasDelaysWithin, opening}
 use Rattle.link_order.specs.GlobalOrder.{trace, run}
-use Rattle.link_order.specs.Interleaving.{Watched, Action, Look, Step, happens, opened, IsInterleaving, MayStepHere}
-use Rattle.link_order.specs.Interleaving.{played}
+use Rattle.link_order.specs.Interleaving.{Watched, Action, Look, Step, happens, first_watch, IsInterleaving, MayStepHere}
+use Rattle.link_order.specs.Interleaving.{after_actions}
 use Rattle.link_order.specs.Interleaving.{steps_of, moment, count_of}
 use Rattle.link_order.specs.Way.{console_after, signals_after}
 
@@ -85,8 +85,8 @@ pub record IsReachable {C : Type 0} (kind : NodeKind C) (cut : Cut C) (until : �
 -- an interleaving that reaches these counts
 pub record Reaches {C : Type 0} (kind : NodeKind C) (cut : Cut C) (until : ℕ) (k : ℕ → ℕ) : Type 0 where
   pub actions : List Action
-  pub allowed : IsInterleaving kind until actions (opened kind cut)
-  pub each : (i : ℕ) → i < count cut → IsAfter kind cut until (played kind actions (opened kind cut)).cut i (k i)
+  pub allowed : IsInterleaving kind until actions (first_watch kind cut)
+  pub each : (i : ℕ) → i < count cut → IsAfter kind cut until (after_actions kind actions (first_watch kind cut)).cut i (k i)
 
 -- a cut whose consoles have each made k of their steps, with the same bounds
 pub record IsReachableCut {C : Type 0} (kind : NodeKind C) (cut : Cut C) (until : ℕ) (d : Cut C) (k : ℕ → ℕ) : Type 0
@@ -99,9 +99,9 @@ pub record IsReachableCut {C : Type 0} (kind : NodeKind C) (cut : Cut C) (until 
 -- an interleaving that reaches this cut's consoles, with the signals of these steps
 pub record ReachesCut {C : Type 0} (kind : NodeKind C) (cut : Cut C) (until : ℕ) (d : Cut C) : Type 0 where
   pub actions : List Action
-  pub allowed : IsInterleaving kind until actions (opened kind cut)
-  pub consoles : (played kind actions (opened kind cut)).cut.consoles ≡ d.consoles
-  pub signals : (i : ℕ) → i < count cut → from i (played kind actions (opened kind cut)).cut.sent ≡ from i d.sent
+  pub allowed : IsInterleaving kind until actions (first_watch kind cut)
+  pub consoles : (after_actions kind actions (first_watch kind cut)).cut.consoles ≡ d.consoles
+  pub signals : (i : ℕ) → i < count cut → from i (after_actions kind actions (first_watch kind cut)).cut.sent ≡ from i d.sent
 
 -- a cut that is sound and in time
 pub record IsStart {C : Type 0} (kind : NodeKind C) (cut : Cut C) : Type 0 where
@@ -119,40 +119,40 @@ RunsInParts {C} kind =
 abbrev pub EqualsGlobalOrder : {C : Type 0} → NodeKind C → Type 0
 EqualsGlobalOrder {C} kind =
     (cut : Cut C) (until : ℕ) (actions : List Action) → IsCable cut → IsSound kind cut
-    → IsInterleaving kind until actions (opened kind cut)
-    → IsEqual kind cut until actions (played kind actions (opened kind cut)).cut
+    → IsInterleaving kind until actions (first_watch kind cut)
+    → IsEqual kind cut until actions (after_actions kind actions (first_watch kind cut)).cut
 
 -- from a cut in time no look brings a signal that should have been taken
 abbrev pub BringsNothingPast : {C : Type 0} → NodeKind C → Type 0
 BringsNothingPast {C} kind =
     (cut : Cut C) (until : ℕ) (actions : List Action) (i j : ℕ) → IsCable cut → IsSound kind cut → IsInTime kind cut
-    → IsInterleaving kind until actions (opened kind cut) → i < count cut → j < count cut → i ≢ j
-    → LooksAhead kind (played kind actions (opened kind cut)) i j
+    → IsInterleaving kind until actions (first_watch kind cut) → i < count cut → j < count cut → i ≢ j
+    → LooksAhead kind (after_actions kind actions (first_watch kind cut)) i j
 
 -- the console that is furthest behind may step once it has looked at each peer, with any actions of the others between
 abbrev pub LetsTheLastStep : {C : Type 0} → NodeKind C → Type 0
 LetsTheLastStep {C} kind =
     (cut : Cut C) (until : ℕ) (actions more : List Action) (i : ℕ) → IsCable cut → IsSound kind cut
-    → IsInterleaving kind until actions (opened kind cut)
-    → IsFurthestBehind kind until (played kind actions (opened kind cut)).cut i
-    → IsInterleaving kind until more (played kind actions (opened kind cut))
+    → IsInterleaving kind until actions (first_watch kind cut)
+    → IsFurthestBehind kind until (after_actions kind actions (first_watch kind cut)).cut i
+    → IsInterleaving kind until more (after_actions kind actions (first_watch kind cut))
     → StaysAside i more → ((j : ℕ) → j < count cut → j ≢ i → LooksAt i j more)
-    → MayStepHere kind until (played kind more (played kind actions (opened kind cut))) i
+    → MayStepHere kind until (after_actions kind more (after_actions kind actions (first_watch kind cut))) i
 
 -- no clock gets further ahead of another than the delay and a step
 abbrev pub KeepsNear : {C : Type 0} → NodeKind C → Type 0
 KeepsNear {C} kind =
     (cut : Cut C) (until : ℕ) (actions : List Action) (i j : ℕ) → IsCable cut → IsSound kind cut
-    → IsInterleaving kind until actions (opened kind cut) → i < count cut → j < count cut
-    → clock_at kind (played kind actions (opened kind cut)).cut i
-    < clock_at kind (played kind actions (opened kind cut)).cut j + hop cut j i + 512
+    → IsInterleaving kind until actions (first_watch kind cut) → i < count cut → j < count cut
+    → clock_at kind (after_actions kind actions (first_watch kind cut)).cut i
+    < clock_at kind (after_actions kind actions (first_watch kind cut)).cut j + hop cut j i + 512
 
 -- few signals of one console are unseen by a peer
 abbrev pub LeavesFewUnread : {C : Type 0} → NodeKind C → Type 0
 LeavesFewUnread {C} kind =
     (cut : Cut C) (until : ℕ) (actions : List Action) (i j : ℕ) → IsCable cut → IsSound kind cut
-    → IsInterleaving kind until actions (opened kind cut) → i < count cut → j < count cut → i ≢ j
-    → FewUnread kind (played kind actions (opened kind cut)) i j
+    → IsInterleaving kind until actions (first_watch kind cut) → i < count cut → j < count cut → i ≢ j
+    → FewUnread kind (after_actions kind actions (first_watch kind cut)) i j
 
 -- few signals of one sender are live, `most` being at least each delay
 abbrev pub HasFewLive : {C : Type 0} → NodeKind C → Type 0

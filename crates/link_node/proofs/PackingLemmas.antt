@@ -7,7 +7,7 @@ use Rattle.link_node.specs.declared.signal.Signal.{Signal}
 use Rattle.link_node.specs.declared.signal.Start.{Start}
 use Rattle.link_node.specs.Due.{FitsWidths}
 use Rattle.link_node.specs.Packing.{mode_number, numbered_mode, presence, start_speed, start_word, reply_word}
-use Rattle.link_node.specs.Packing.{packed_head, packed_words, unpacked}
+use Rattle.link_node.specs.Packing.{packed_head, packed_words, signal_in}
 
 pub numbered : (mode : LinkMode) → numbered_mode (mode_number mode) ≡ mode
 numbered Normal8 = refl
@@ -53,7 +53,7 @@ pub unpacked_of_packed : (clock : ℕ) (mode : LinkMode) (start : Option Start) 
     → (head words : ℕ) → head ≡ clock + mode_number mode * 2 ^ 40 + presence start * 2 ^ 42 + start_speed start * 2 ^
     43 + presence reply * 2 ^ 45
     → words ≡ start_word start + reply_word reply * 2 ^ 32
-    → unpacked head words ≡ Some (record { clock = clock; mode = mode; start = start; reply = reply })
+    → signal_in head words ≡ Some (record { clock = clock; mode = mode; start = start; reply = reply })
 unpacked_of_packed clock mode None None small speed low high head words is are =
     let p = parts head clock (mode_number mode) 0 0 0 small (small_mode mode) (omega arith) speed (omega arith) is in
     let l : words / 2 ^ 0 % 2 ^ 32 ≡ 0 = omega arith in
@@ -92,7 +92,7 @@ reply_word_small None h = omega arith
 reply_word_small (Some word) h = h
 
 -- the two numbers of any signal whose parts fit are ones that unpack to it
-pub packs : (s : Signal) → s.clock < 2 ^ 40 → FitsWidths s → unpacked (packed_head s) (packed_words s) ≡ Some s
+pub packs : (s : Signal) → s.clock < 2 ^ 40 → FitsWidths s → signal_in (packed_head s) (packed_words s) ≡ Some s
 packs s small fits =
     unpacked_of_packed s.clock s.mode s.start s.reply small (start_speed_small s.start fits.0)
     (start_word_small s.start fits.0) (reply_word_small s.reply fits.1) (packed_head s) (packed_words s) refl refl

@@ -59,8 +59,8 @@ abbrev pub packed_reply : ℕ → ℕ → Option ℕ
 packed_reply head words = if bit head 45 then Some (field words 32 32) else None
 
 -- the signal of two numbers
-abbrev pub unpacked : ℕ → ℕ → Option Signal
-unpacked head words =
+abbrev pub signal_in : ℕ → ℕ → Option Signal
+signal_in head words =
     if is_packed head words
     then Some (record {
       clock = field head 0 40;

@@ -4,7 +4,7 @@ ghost use Rattle.std.specs.Prelude.{◌≡◌, ◌+◌, ◌*◌, ◌<◌, ◌≤
 ghost use Rattle.gba_terms.specs.Bits.{field, bit};
 ghost use Rattle.link_node.specs.Due.{FitsWidths};
 ghost use Rattle.link_node.specs.Packing.{mode_number, numbered_mode, presence, start_speed, start_word, reply_word};
-ghost use Rattle.link_node.specs.Packing.{packed_head, packed_words, is_packed, unpacked, packed_start, packed_reply};
+ghost use Rattle.link_node.specs.Packing.{packed_head, packed_words, is_packed, signal_in, packed_start, packed_reply};
 
 use crate::signal::{LinkMode, Signal, Start};
 
@@ -94,7 +94,7 @@ pub fn pack(s: &Signal) -> (u64, u64)
     requires widths { FitsWidths s.now }
     ensures head { result.0 ≡ packed_head s.now }
     ensures words { result.1 ≡ packed_words s.now }
-    ensures inverse { unpacked result.0 result.1 ≡ Some s.now }
+    ensures inverse { signal_in result.0 result.1 ≡ Some s.now }
 {
     let mode = number_of_mode(s.mode) * (1 << 40);
     let start = start_flags(s.start);
@@ -139,7 +139,7 @@ fn is_signal(a: u64, b: u64) -> bool
 /// The one signal that packs to these two numbers. None where the first number has a bit above 45, where bit 42 is 0
 /// and the speed or the start's word isn't, or where bit 45 is 0 and the reply's word isn't.
 pub fn unpack(a: u64, b: u64) -> Option<Signal>
-    ensures value { result ≡ unpacked a b }
+    ensures value { result ≡ signal_in a b }
     ensures accepted { IsSome result ↔ IsTrue (is_packed a b) }
     ensures clock { IfSome result (λ s. s.clock < 2 ^ 40) }
     ensures widths { IfSome result FitsWidths }

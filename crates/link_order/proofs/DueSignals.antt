@@ -94,11 +94,11 @@ due_same between known other i passes (suc j) h =
     let ih = due_same between known other i passes j (λ k below apart. h k (omega arith) apart) in
     elim (same_or_apart j i) [
       | inl e ↦
-          let left : arrivals between known i passes (suc j) ≡ arrivals between known i passes j =
+          let cycles_left : arrivals between known i passes (suc j) ≡ arrivals between known i passes j =
           rw e (due_own between known i passes) in
           let right : arrivals between other i passes (suc j) ≡ arrivals between other i passes j =
           rw e (due_own between other i passes) in
-          left ∙ ih ∙ sym right
+          cycles_left ∙ ih ∙ sym right
       | inr e ↦
           due_other between known i passes j e
           ∙ ap (λ (t : List Incoming). place_all t (arrivals between known i passes j)) (h j (omega arith) e)
@@ -154,12 +154,12 @@ due_more between known i passes k s (suc j) below apart is =
           let ih = due_more between known i passes k s j (omega arith) apart is in
           elim (same_or_apart j i) [
             | inl own ↦
-                let left : arrivals between (more known k s) i passes (suc j)
+                let cycles_left : arrivals between (more known k s) i passes (suc j)
                 ≡ arrivals between (more known k s) i passes j
                 = rw own (due_own between (more known k s) i passes) in
                 let right : arrivals between known i passes (suc j) ≡ arrivals between known i passes j =
                 rw own (due_own between known i passes) in
-                left ∙ ih ∙ ap (place_due one) (sym right)
+                cycles_left ∙ ih ∙ ap (place_due one) (sym right)
             | inr other ↦
                 let apart_all : All (λ (x : Incoming). Apart arrival_of player_of x one)
                 (arriving passes (between j i) j (known j))

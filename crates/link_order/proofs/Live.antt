@@ -12,7 +12,7 @@ use Rattle.link_order.specs.Order.{is_before, place_sent, clock_of, sender_of, I
 use Rattle.link_order.specs.Due.{is_due}
 use Rattle.link_order.specs.Cut.{Cut, hop, count, clock_at, was_at, live, is_live, is_awaited, IsSound, IsSoundSignal}
 use Rattle.link_order.specs.Cut.{HasDelaysWithin}
-use Rattle.link_order.specs.GlobalOrder.{least_below, stepped, joined, step_of, due_at}
+use Rattle.link_order.specs.GlobalOrder.{least_below, step_with, with_signal, step_of, due_at}
 use Rattle.link_order.proofs.Numbers.{same_or_apart, least_is_player, least_is_least}
 use Rattle.link_order.proofs.Lists.{all_head, all_tail, pairs_head, pairs_tail, filter_twice}
 use Rattle.link_order.proofs.Places.{Comes, filter-place, filter-place_dropped}
@@ -31,7 +31,7 @@ due_live kind cut i below =
 
 filter_joined : (p q : Sent → Bool) → ((one : Sent) → q one ≡ true → p one ≡ true)
     → (i : ℕ) (o : Option Signal) (sent : List Sent) → IsOrdered sent
-    → filter q (joined i o (filter p sent)) ≡ filter q (joined i o sent)
+    → filter q (with_signal i o (filter p sent)) ≡ filter q (with_signal i o sent)
 filter_joined p q sub i None sent ordered = filter_twice p q sub sent
 filter_joined p q sub i (Some s) sent ordered =
     let new : Sent = record { sender = i; signal = s } in
@@ -70,7 +70,7 @@ live_step {C = C} kind law cut i below sound =
     let sub : (one : Sent) → is_live kind d one ≡ true → is_live kind cut one ≡ true
     = λ one e. subst (λ (n : ℕ). is_awaited (hop cut) (was_at kind cut) n one ≡ true) s.count_is
     (awaited_before (hop cut) (was_at kind cut) (was_at kind d) (count d) rises one e) in
-    ap (live kind) (ap (stepped kind (live kind cut) i) (due_live kind cut i below) ∙ l.cut_is)
+    ap (live kind) (ap (step_with kind (live kind cut) i) (due_live kind cut i below) ∙ l.cut_is)
     ∙ ap (λ (t : List Sent). let e : Cut C = record { consoles = d.consoles; delay = d.delay; sent = t } in e)
     (filter_joined (is_live kind cut) (is_live kind d) sub i (kind.next x signals).1 cut.sent sound.ordered)
     ∙ ap (live kind) (sym s.cut_is)

@@ -5,7 +5,7 @@ use Rattle.std.proofs.lemmas.Bool.{cases_Bool}
 use Rattle.link_order.specs.declared.sent.Sent.{Sent}
 use Rattle.link_order.specs.NodeKind.{NodeKind, IsLawful}
 use Rattle.link_order.specs.Cut.{Cut, count, clock_at, live, is_live, HasDelays, IsSound}
-use Rattle.link_order.specs.GlobalOrder.{least, step, left, run}
+use Rattle.link_order.specs.GlobalOrder.{least, step, cycles_left, run}
 use Rattle.link_order.proofs.Numbers.{least_is_player}
 use Rattle.link_order.proofs.Lists.{all_head, all_tail, filter_keeps, filter_twice}
 use Rattle.link_order.proofs.Runs.{falls, ends, run_unrolls, run_ends}
@@ -32,7 +32,7 @@ live_twice {C = C} kind cut =
     (filter_twice (is_live kind cut) (is_live kind cut) (λ one e. e) cut.sent)
 
 run_live_by : {C : Type 0} (kind : NodeKind C) → IsLawful kind → (most : ℕ) (cut : Cut C) (until : ℕ)
-    → left kind cut until ≤ most
+    → cycles_left kind cut until ≤ most
     → 0 < count cut → HasDelays cut → IsSound kind cut
     → live kind (run kind (live kind cut) until) ≡ live kind (run kind cut until)
 run_live_by kind law zero cut until few some later sound =
@@ -48,8 +48,8 @@ run_live_by {C = C} kind law (suc most) cut until few some later sound =
           let b : Cut C = step kind cut in
           let fa = falls kind law (live kind cut) until some e in
           let fb = falls kind law cut until some e in
-          let less_a : left kind a until < left kind cut until = fa.fewer in
-          let less_b : left kind b until < left kind cut until = fb.fewer in
+          let less_a : cycles_left kind a until < cycles_left kind cut until = fa.fewer in
+          let less_b : cycles_left kind b until < cycles_left kind cut until = fb.fewer in
           let some_a : 0 < count a = subst (λ (n : ℕ). 0 < n) (sym fa.count_is) some in
           let some_b : 0 < count b = subst (λ (n : ℕ). 0 < n) (sym fb.count_is) some in
           let same : live kind a ≡ live kind b =
@@ -69,4 +69,4 @@ run_live_by {C = C} kind law (suc most) cut until few some later sound =
 pub run_live : {C : Type 0} (kind : NodeKind C) → IsLawful kind → (cut : Cut C) (until : ℕ)
     → 0 < count cut → HasDelays cut → IsSound kind cut
     → live kind (run kind (live kind cut) until) ≡ live kind (run kind cut until)
-run_live kind law cut until = run_live_by kind law (left kind cut until) cut until (omega arith)
+run_live kind law cut until = run_live_by kind law (cycles_left kind cut until) cut until (omega arith)

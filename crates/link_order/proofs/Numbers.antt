@@ -2,7 +2,7 @@
 use Rattle.std.specs.Prelude.{nat_lt, if◌then◌else◌, ◌==◌}
 use Rattle.std.proofs.Common.{ℕ, zero, suc, ◌≡◌, ◌≢◌, ◌-◌, ◌<◌, ◌≤◌, ◌⊎◌, inl, inr, arith, refl, ap}
 use Rattle.std.proofs.lemmas.Bool.Decides.{nat_tests}
-use Rattle.link_order.specs.GlobalOrder.{least_below, left_below}
+use Rattle.link_order.specs.GlobalOrder.{least_below, cycles_left_below}
 
 -- f with y in the place of player i
 abbrev pub put : {A : Type 0} → ℕ → A → (ℕ → A) → ℕ → A
@@ -38,7 +38,7 @@ least_is_least clock (suc n) i below =
 
 -- the cycles left without player i
 pub left_put_past : (clock : ℕ → ℕ) (until i y n : ℕ) → n ≤ i
-    → left_below (put i y clock) until n ≡ left_below clock until n
+    → cycles_left_below (put i y clock) until n ≡ cycles_left_below clock until n
 left_put_past clock until i y zero past = refl
 left_put_past clock until i y (suc n) past =
     let e = put_other i n y clock (omega arith) in
@@ -47,7 +47,7 @@ left_put_past clock until i y (suc n) past =
 
 -- a step of a player leaves fewer cycles
 pub left_falls : (clock : ℕ → ℕ) (until i y n : ℕ) → i < n → clock i < until → clock i < y
-    → left_below (put i y clock) until n < left_below clock until n
+    → cycles_left_below (put i y clock) until n < cycles_left_below clock until n
 left_falls clock until i y zero below early later = absurd (omega arith)
 left_falls clock until i y (suc n) below early later =
     elim (same_or_apart n i) [

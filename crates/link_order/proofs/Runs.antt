@@ -5,7 +5,7 @@ use Rattle.std.proofs.lemmas.Bool.Decides.{nat_tests}
 use Rattle.std.proofs.lemmas.Bool.{ltb-true, lt-ltb, cases_Bool}
 use Rattle.link_order.specs.NodeKind.{NodeKind, IsLawful}
 use Rattle.link_order.specs.Cut.{Cut, count, clock_at}
-use Rattle.link_order.specs.GlobalOrder.{least, left_below, left, step, step_of, due_at, trace_of, trace, after, run}
+use Rattle.link_order.specs.GlobalOrder.{least, cycles_left_below, cycles_left, step, step_of, due_at, trace_of, trace, after_turns, run}
 use Rattle.link_order.proofs.Numbers.{same_or_apart, least_is_player, left_falls}
 use Rattle.link_order.proofs.Stepping.{console_at, is_stepped}
 
@@ -30,20 +30,20 @@ pub trace_zero : {C : Type 0} (kind : NodeKind C) (cut : Cut C) (until : ℕ) �
 unfolding trace_of
 trace_zero kind cut until = refl
 
-pub after_none : {C : Type 0} (kind : NodeKind C) (cut : Cut C) → after kind cut [] ≡ cut
-unfolding after
+pub after_none : {C : Type 0} (kind : NodeKind C) (cut : Cut C) → after_turns kind cut [] ≡ cut
+unfolding after_turns
 after_none kind cut = refl
 
 pub after_one : {C : Type 0} (kind : NodeKind C) (cut : Cut C) (i : ℕ) (rest : List ℕ)
-    → after kind cut (i ∷ rest) ≡ after kind (step_of kind cut i) rest
-unfolding after
+    → after_turns kind cut (i ∷ rest) ≡ after_turns kind (step_of kind cut i) rest
+unfolding after_turns
 after_one kind cut i rest = refl
 
 -- a step of the least console: the count stays, and fewer cycles are left
 pub record Falls {C : Type 0} (kind : NodeKind C) (cut : Cut C) (until : ℕ) : Type 0 where
   pub count_is : count (step kind cut) ≡ count cut
   pub delay_is : (step kind cut).delay ≡ cut.delay
-  pub fewer : left kind (step kind cut) until < left kind cut until
+  pub fewer : cycles_left kind (step kind cut) until < cycles_left kind cut until
 
 pub falls : {C : Type 0} (kind : NodeKind C) → IsLawful kind → (cut : Cut C) (until : ℕ) → 0 < count cut
     → nat_lt (clock_at kind cut (least kind cut)) until ≡ true → Falls kind cut until
@@ -65,7 +65,7 @@ falls kind law cut until some e =
     }
 
 -- where some cycles are left no more, the order ends
-none_left : (clock : ℕ → ℕ) (until n i : ℕ) → i < n → left_below clock until n ≡ 0 → until ≤ clock i
+none_left : (clock : ℕ → ℕ) (until n i : ℕ) → i < n → cycles_left_below clock until n ≡ 0 → until ≤ clock i
 none_left clock until zero i below e = absurd (omega arith)
 none_left clock until (suc n) i below e =
     elim (same_or_apart i n) [
@@ -73,7 +73,7 @@ none_left clock until (suc n) i below e =
       | inr apart ↦ none_left clock until n i (omega arith) (omega arith)
     ]
 
-pub ends : {C : Type 0} (kind : NodeKind C) (cut : Cut C) (until : ℕ) → 0 < count cut → left kind cut until ≡ 0
+pub ends : {C : Type 0} (kind : NodeKind C) (cut : Cut C) (until : ℕ) → 0 < count cut → cycles_left kind cut until ≡ 0
     → nat_lt (clock_at kind cut (least kind cut)) until ≡ false
 ends kind cut until some e =
     let h : until ≤ clock_at kind cut (least kind cut)
@@ -84,7 +84,7 @@ ends kind cut until some e =
 -- any number of steps that is enough makes the same trace
 pub enough : {C : Type 0} (kind : NodeKind C) → IsLawful kind → (most : ℕ) (cut : Cut C) (until more : ℕ)
     → 0 < count cut
-    → left kind cut until ≤ most → left kind cut until ≤ more
+    → cycles_left kind cut until ≤ most → cycles_left kind cut until ≤ more
     → trace_of kind most cut until ≡ trace_of kind more cut until
 enough kind law zero cut until more some le less =
     let e = ends kind cut until some (omega arith) in
@@ -97,7 +97,7 @@ enough kind law (suc most) cut until (suc more) some le less =
       | inl e ↦
           let f = falls kind law cut until some e in
           let some' : 0 < count (step kind cut) = subst (λ (n : ℕ). 0 < n) (sym f.count_is) some in
-          let low : left kind (step kind cut) until < left kind cut until = f.fewer in
+          let low : cycles_left kind (step kind cut) until < cycles_left kind cut until = f.fewer in
           let h = enough kind law most (step kind cut) until more some' (omega arith) (omega arith) in
           trace_goes kind most cut until e ∙ ap (λ (t : List ℕ). least kind cut ∷ t) h
           ∙ sym (trace_goes kind more cut until e)
@@ -111,36 +111,36 @@ pub trace_unrolls : {C : Type 0} (kind : NodeKind C) → IsLawful kind → (cut 
 trace_unrolls kind law cut until some e =
     let f = falls kind law cut until some e in
     let some' : 0 < count (step kind cut) = subst (λ (n : ℕ). 0 < n) (sym f.count_is) some in
-    let low : left kind (step kind cut) until < left kind cut until = f.fewer in
-    enough kind law (left kind cut until) cut until (suc (left kind cut until)) some (omega arith) (omega arith)
-    ∙ trace_goes kind (left kind cut until) cut until e
+    let low : cycles_left kind (step kind cut) until < cycles_left kind cut until = f.fewer in
+    enough kind law (cycles_left kind cut until) cut until (suc (cycles_left kind cut until)) some (omega arith) (omega arith)
+    ∙ trace_goes kind (cycles_left kind cut until) cut until e
     ∙ ap (λ (t : List ℕ). least kind cut ∷ t)
-    (enough kind law (left kind cut until) (step kind cut) until (left kind (step kind cut) until) some' (omega arith)
+    (enough kind law (cycles_left kind cut until) (step kind cut) until (cycles_left kind (step kind cut) until) some' (omega arith)
     (omega arith))
 
 pub run_unrolls : {C : Type 0} (kind : NodeKind C) → IsLawful kind → (cut : Cut C) (until : ℕ) → 0 < count cut
     → nat_lt (clock_at kind cut (least kind cut)) until ≡ true → run kind cut until ≡ run kind (step kind cut) until
 run_unrolls kind law cut until some e =
-    ap (after kind cut) (trace_unrolls kind law cut until some e)
+    ap (after_turns kind cut) (trace_unrolls kind law cut until some e)
     ∙ after_one kind cut (least kind cut) (trace kind (step kind cut) until)
 
 pub run_ends : {C : Type 0} (kind : NodeKind C) (cut : Cut C) (until : ℕ)
     → nat_lt (clock_at kind cut (least kind cut)) until ≡ false → run kind cut until ≡ cut
 run_ends kind cut until e =
-    ap (after kind cut) (trace_ends kind (left kind cut until) cut until e) ∙ after_none kind cut
+    ap (after_turns kind cut) (trace_ends kind (cycles_left kind cut until) cut until e) ∙ after_none kind cut
 
 -- with no console nothing happens
 run_empty : {C : Type 0} (kind : NodeKind C) (cut : Cut C) (until : ℕ) → count cut ≡ 0 → run kind cut until ≡ cut
 run_empty kind cut until none =
-    let e : left kind cut until ≡ 0 = ap (left_below (clock_at kind cut) until) none in
-    ap (λ (m : ℕ). after kind cut (trace_of kind m cut until)) e ∙ ap (after kind cut) (trace_zero kind cut until)
+    let e : cycles_left kind cut until ≡ 0 = ap (cycles_left_below (clock_at kind cut) until) none in
+    ap (λ (m : ℕ). after_turns kind cut (trace_of kind m cut until)) e ∙ ap (after_turns kind cut) (trace_zero kind cut until)
     ∙ after_none kind cut
 
 parts : {C : Type 0} (kind : NodeKind C) → IsLawful kind → (most : ℕ) (cut : Cut C) (first until : ℕ) → 0 < count cut
     → first ≤ until
-    → run kind (after kind cut (trace_of kind most cut first)) until ≡ run kind cut until
+    → run kind (after_turns kind cut (trace_of kind most cut first)) until ≡ run kind cut until
 parts kind law zero cut first until some le =
-    ap (λ d. run kind d until) (ap (after kind cut) (trace_zero kind cut first) ∙ after_none kind cut)
+    ap (λ d. run kind d until) (ap (after_turns kind cut) (trace_zero kind cut first) ∙ after_none kind cut)
 parts kind law (suc most) cut first until some le =
     elim (cases_Bool (nat_lt (clock_at kind cut (least kind cut)) first)) [
       | inl e ↦
@@ -148,11 +148,11 @@ parts kind law (suc most) cut first until some le =
           let some' : 0 < count (step kind cut) = subst (λ (n : ℕ). 0 < n) (sym f.count_is) some in
           let early : clock_at kind cut (least kind cut) < first = ltb-true _ first e in
           let goes : nat_lt (clock_at kind cut (least kind cut)) until ≡ true = lt-ltb _ until (omega arith) in
-          ap (λ d. run kind d until) (ap (after kind cut) (trace_goes kind most cut first e)
+          ap (λ d. run kind d until) (ap (after_turns kind cut) (trace_goes kind most cut first e)
           ∙ after_one kind cut (least kind cut) _)
           ∙ parts kind law most (step kind cut) first until some' le
           ∙ sym (run_unrolls kind law cut until some goes)
-      | inr e ↦ ap (λ d. run kind d until) (ap (after kind cut) (trace_ends kind (suc most) cut first e)
+      | inr e ↦ ap (λ d. run kind d until) (ap (after_turns kind cut) (trace_ends kind (suc most) cut first e)
           ∙ after_none kind cut)
     ]
 
@@ -161,5 +161,5 @@ pub splits : {C : Type 0} (kind : NodeKind C) → IsLawful kind → (cut : Cut C
 splits kind law cut first until le =
     elim (same_or_apart (count cut) 0) [
       | inl none ↦ ap (λ d. run kind d until) (run_empty kind cut first none)
-      | inr some ↦ parts kind law (left kind cut first) cut first until (omega arith) le
+      | inr some ↦ parts kind law (cycles_left kind cut first) cut first until (omega arith) le
     ]

@@ -9,21 +9,21 @@ use Rattle.link_order.specs.declared.sent.Sent.{Sent}
 use Rattle.link_order.specs.NodeKind.{NodeKind, IsLawful}
 use Rattle.link_order.specs.Order.{clock_of, sender_of, IsOrdered}
 use Rattle.link_order.specs.Cut.{Cut, hop, count, clock_at, was_at, live, is_live, HasDelays, IsSound, IsSoundSignal}
-use Rattle.link_order.specs.GlobalOrder.{least, joined, step, due_at}
+use Rattle.link_order.specs.GlobalOrder.{least, with_signal, step, due_at}
 use Rattle.link_order.proofs.Numbers.{same_or_apart, least_is_player, least_is_least}
 use Rattle.link_order.proofs.Lists.{all_map}
 use Rattle.link_order.proofs.Places.{Apart, Comes, All-place, AllPairs-place}
 use Rattle.link_order.proofs.Stepping.{IsConsole, console_at, after_step, is_stepped, put_cases}
 
 pub joined_all : (P : Sent → Type 0) (i : ℕ) (o : Option Signal) (sent : List Sent)
-    → IfSome o (λ s. P (record { sender = i; signal = s })) → All P sent → All P (joined i o sent)
+    → IfSome o (λ s. P (record { sender = i; signal = s })) → All P sent → All P (with_signal i o sent)
 joined_all P i None sent here rest = rest
 joined_all P i (Some s) sent here rest =
     All-place clock_of sender_of P (record { sender = i; signal = s }) sent here rest
 
 joined_ordered : (i clock : ℕ) (o : Option Signal) (sent : List Sent) → IfSome o (λ s. s.clock ≡ clock)
     → All (λ (one : Sent). one.sender ≡ i → one.signal.clock < clock) sent → IsOrdered sent
-    → IsOrdered (joined i o sent)
+    → IsOrdered (with_signal i o sent)
 joined_ordered i clock None sent bears own ordered = ordered
 joined_ordered i clock (Some s) sent bears own ordered =
     let new : Sent = record { sender = i; signal = s } in

@@ -6,7 +6,7 @@ use Rattle.std.proofs.Math.ListN.{length-set}
 use Rattle.link_node.specs.declared.signal.Incoming.{Incoming}
 use Rattle.link_order.specs.NodeKind.{NodeKind, IsLawful}
 use Rattle.link_order.specs.Cut.{Cut, count, clock_at, was_at}
-use Rattle.link_order.specs.GlobalOrder.{stepped, stepped_from, joined}
+use Rattle.link_order.specs.GlobalOrder.{step_with, step_from, with_signal}
 use Rattle.link_order.proofs.Numbers.{put, put_same, put_other, same_or_apart}
 
 -- the console of a player below the count, with its clocks
@@ -40,13 +40,13 @@ abbrev pub after_step : {C : Type 0} → NodeKind C → Cut C → ℕ → C → 
 after_step kind cut i x signals = record {
   consoles = slice_set cut.consoles i (kind.next x signals).0;
   delay = cut.delay;
-  sent = joined i (kind.next x signals).1 cut.sent;
+  sent = with_signal i (kind.next x signals).1 cut.sent;
 }
 
 -- a step of player i, seen by the clocks of all
 pub record IsStepped {C : Type 0} (kind : NodeKind C) (cut : Cut C) (i : ℕ) (x : C) (signals : List Incoming) : Type 0
   where
-    pub cut_is : stepped kind cut i signals ≡ after_step kind cut i x signals
+    pub cut_is : step_with kind cut i signals ≡ after_step kind cut i x signals
     pub count_is : count (after_step kind cut i x signals) ≡ count cut
     pub clocks : clock_at kind (after_step kind cut i x signals)
         ≡ put i (kind.clock (kind.next x signals).0) (clock_at kind cut)
@@ -63,7 +63,7 @@ is_stepped {C = C} kind law cut i x signals below at =
     let wases : (k : ℕ) → get_or (map kind.was (set cut.consoles i y)) k 0 ≡ put i (kind.was y) (was_at kind cut) k
     = λ k. rw map-set (get_or-put (map kind.was cut.consoles) i (kind.was y) k (rw length-map below)) in
     record {
-      cut_is = ap (stepped_from kind cut i signals) at.stands;
+      cut_is = ap (step_from kind cut i signals) at.stands;
       count_is = length-set cut.consoles i y;
       clocks = λ t k. (clocks k) t;
       wases = (λ t k. (wases k) t) ∙ ap (λ (w : ℕ). put i w (was_at kind cut)) (law.moves x signals);

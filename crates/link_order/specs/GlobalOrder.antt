@@ -25,37 +25,37 @@ abbrev pub due_at : {C : Type 0} → NodeKind C → Cut C → ℕ → List Incom
 due_at kind cut i = due (hop cut) (λ j. from j cut.sent) i (was_at kind cut i) (clock_at kind cut i) (count cut)
 
 -- a step's signal joins those that were sent
-abbrev pub joined : ℕ → Option Signal → List Sent → List Sent
-joined player None sent = sent
-joined player (Some signal) sent = place_sent (record { sender = player; signal = signal }) sent
+abbrev pub with_signal : ℕ → Option Signal → List Sent → List Sent
+with_signal player None sent = sent
+with_signal player (Some signal) sent = place_sent (record { sender = player; signal = signal }) sent
 
 -- the cut after player i's console has made a step with these due signals. With no such player nothing happens
-abbrev pub stepped_from : {C : Type 0} → NodeKind C → Cut C → ℕ → List Incoming → Option C → Cut C
-stepped_from kind cut i signals None = cut
-stepped_from kind cut i signals (Some x) = record {
+abbrev pub step_from : {C : Type 0} → NodeKind C → Cut C → ℕ → List Incoming → Option C → Cut C
+step_from kind cut i signals None = cut
+step_from kind cut i signals (Some x) = record {
   consoles = slice_set cut.consoles i (kind.next x signals).0;
   delay = cut.delay;
-  sent = joined i (kind.next x signals).1 cut.sent;
+  sent = with_signal i (kind.next x signals).1 cut.sent;
 }
 
-abbrev pub stepped : {C : Type 0} → NodeKind C → Cut C → ℕ → List Incoming → Cut C
-stepped kind cut i signals = stepped_from kind cut i signals (slice_get cut.consoles i)
+abbrev pub step_with : {C : Type 0} → NodeKind C → Cut C → ℕ → List Incoming → Cut C
+step_with kind cut i signals = step_from kind cut i signals (slice_get cut.consoles i)
 
 -- the cut after player i's step with what is due
 abbrev pub step_of : {C : Type 0} → NodeKind C → Cut C → ℕ → Cut C
-step_of kind cut i = stepped kind cut i (due_at kind cut i)
+step_of kind cut i = step_with kind cut i (due_at kind cut i)
 
 -- one step of the global order
 abbrev pub step : {C : Type 0} → NodeKind C → Cut C → Cut C
 step kind cut = step_of kind cut (least kind cut)
 
 -- the cycles that the consoles below `count` have left to `until`, all together
-abbrev pub left_below : (ℕ → ℕ) → ℕ → ℕ → ℕ
-left_below clock until zero = 0
-left_below clock until (suc i) = (until - clock i) + left_below clock until i
+abbrev pub cycles_left_below : (ℕ → ℕ) → ℕ → ℕ → ℕ
+cycles_left_below clock until zero = 0
+cycles_left_below clock until (suc i) = (until - clock i) + cycles_left_below clock until i
 
-abbrev pub left : {C : Type 0} → NodeKind C → Cut C → ℕ → ℕ
-left kind cut until = left_below (clock_at kind cut) until (count cut)
+abbrev pub cycles_left : {C : Type 0} → NodeKind C → Cut C → ℕ → ℕ
+cycles_left kind cut until = cycles_left_below (clock_at kind cut) until (count cut)
 
 -- the players that step, in turn, while the least clock is below `until`; at most so many
 unfoldable pub trace_of : {C : Type 0} → NodeKind C → ℕ → Cut C → ℕ → List ℕ
@@ -68,13 +68,13 @@ trace_of kind (suc most) cut until =
 -- the global order's steps while the least clock is below `until`. Each step leaves fewer cycles, so that
 -- is all of them
 abbrev pub trace : {C : Type 0} → NodeKind C → Cut C → ℕ → List ℕ
-trace kind cut until = trace_of kind (left kind cut until) cut until
+trace kind cut until = trace_of kind (cycles_left kind cut until) cut until
 
 -- the cut after these players have stepped in turn, each with what is due
-unfoldable pub after : {C : Type 0} → NodeKind C → Cut C → List ℕ → Cut C
-after kind cut [] = cut
-after kind cut (i ∷ rest) = after kind (step_of kind cut i) rest
+unfoldable pub after_turns : {C : Type 0} → NodeKind C → Cut C → List ℕ → Cut C
+after_turns kind cut [] = cut
+after_turns kind cut (i ∷ rest) = after_turns kind (step_of kind cut i) rest
 
 -- the cut after the global order's steps to `until`
 abbrev pub run : {C : Type 0} → NodeKind C → Cut C → ℕ → Cut C
-run kind cut until = after kind cut (trace kind cut until)
+run kind cut until = after_turns kind cut (trace kind cut until)

@@ -6,7 +6,7 @@ use Rattle.link_order.specs.NodeKind.{NodeKind}
 use Rattle.link_order.specs.Order.{from}
 use Rattle.link_order.specs.Due.{due}
 use Rattle.link_order.specs.Cut.{Cut, hop, count, clock_at, was_at}
-use Rattle.link_order.specs.GlobalOrder.{stepped, step_of}
+use Rattle.link_order.specs.GlobalOrder.{step_with, step_of}
 
 -- this project's profile: consoles that step by what each has seen of the others
 
@@ -18,8 +18,8 @@ pub record Watched (C : Type 0) : Type 0 where
   pub got : ℕ → ℕ → List Signal
 
 -- at first each console has seen the cut's clocks and signals
-abbrev pub opened : {C : Type 0} → NodeKind C → Cut C → Watched C
-opened kind cut = record { cut = cut; seen = λ i j. clock_at kind cut j; got = λ i j. from j cut.sent }
+abbrev pub first_watch : {C : Type 0} → NodeKind C → Cut C → Watched C
+first_watch kind cut = record { cut = cut; seen = λ i j. clock_at kind cut j; got = λ i j. from j cut.sent }
 
 -- console i looks at console j, or console i steps
 pub data Action : Type 0 where
@@ -27,8 +27,8 @@ pub data Action : Type 0 where
   Step : ℕ → Action
 
 -- a function of two players with one place changed
-abbrev pub changed : {A : Type 0} → ℕ → ℕ → A → (ℕ → ℕ → A) → ℕ → ℕ → A
-changed i j y f a b = if (a == i) && (b == j) then y else f a b
+abbrev pub update : {A : Type 0} → ℕ → ℕ → A → (ℕ → ℕ → A) → ℕ → ℕ → A
+update i j y f a b = if (a == i) && (b == j) then y else f a b
 
 -- what a step of console i takes, of what it has seen
 abbrev pub due_seen : {C : Type 0} → NodeKind C → Watched C → ℕ → List Incoming
@@ -38,10 +38,10 @@ due_seen kind w i = due (hop w.cut) (w.got i) i (was_at kind w.cut i) (clock_at 
 abbrev pub happens : {C : Type 0} → NodeKind C → Action → Watched C → Watched C
 happens kind (Look i j) w = record {
   cut = w.cut;
-  seen = changed i j (clock_at kind w.cut j) w.seen;
-  got = changed i j (from j w.cut.sent) w.got;
+  seen = update i j (clock_at kind w.cut j) w.seen;
+  got = update i j (from j w.cut.sent) w.got;
 }
-happens kind (Step i) w = record { cut = stepped kind w.cut i (due_seen kind w i); seen = w.seen; got = w.got }
+happens kind (Step i) w = record { cut = step_with kind w.cut i (due_seen kind w i); seen = w.seen; got = w.got }
 
 -- console i of so many may step while its clock is below `until`, and below each peer's clock that it has seen, plus
 -- the delay from there
@@ -64,9 +64,9 @@ IsInterleaving kind until [] w = Unit {0}
 IsInterleaving kind until (act ∷ rest) w = May kind until w act × IsInterleaving kind until rest (happens kind act w)
 
 -- what the actions make, one after another
-abbrev pub played : {C : Type 0} → NodeKind C → List Action → Watched C → Watched C
-played kind [] w = w
-played kind (act ∷ rest) w = played kind rest (happens kind act w)
+abbrev pub after_actions : {C : Type 0} → NodeKind C → List Action → Watched C → Watched C
+after_actions kind [] w = w
+after_actions kind (act ∷ rest) w = after_actions kind rest (happens kind act w)
 
 -- how often player i steps
 abbrev pub steps_of : ℕ → List Action → ℕ

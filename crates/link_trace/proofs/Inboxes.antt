@@ -109,11 +109,11 @@ filter-arrivals between known i passes more (suc j) rising =
     let ih = filter-arrivals between known i passes more j rising in
     elim (same_or_apart j i) [
       | inl e ↦
-          let left : arrivals between known i passes (suc j) ≡ arrivals between known i passes j =
+          let cycles_left : arrivals between known i passes (suc j) ≡ arrivals between known i passes j =
           rw e (due_own between known i passes) in
           let right : arrivals between known i both (suc j) ≡ arrivals between known i both j =
           rw e (due_own between known i both) in
-          ap (filter p) left ∙ ih ∙ sym right
+          ap (filter p) cycles_left ∙ ih ∙ sym right
       | inr e ↦
           ap (filter p) (due_other between known i passes j e)
           ∙ filter-place_all p (arriving passes (between j i) j (known j)) (arrivals between known i passes j)

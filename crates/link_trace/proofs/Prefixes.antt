@@ -4,7 +4,7 @@ use Rattle.std.proofs.Common.{ℕ, zero, suc, ◌≡◌, ◌-◌, ◌<◌, ◌�
 use Rattle.std.proofs.lemmas.Bool.{cases_Bool, cases_lt, ltb-true, lt-ltb}
 use Rattle.link_order.specs.NodeKind.{NodeKind, IsLawful}
 use Rattle.link_order.specs.Cut.{Cut, count, clock_at, IsSound, IsCable}
-use Rattle.link_order.specs.GlobalOrder.{least, step, step_of, trace, trace_of, after, run}
+use Rattle.link_order.specs.GlobalOrder.{least, step, step_of, trace, trace_of, after_turns, run}
 use Rattle.link_order.specs.Interleaving.{moment, count_of}
 use Rattle.link_order.proofs.Numbers.{same_or_apart}
 use Rattle.link_order.proofs.Hops.{cable_same}
@@ -18,10 +18,10 @@ use Rattle.link_trace.specs.Law.{IsPrefix}
 trace_parts : {C : Type 0} (kind : NodeKind C) → IsLawful kind → (most : ℕ) (cut : Cut C) (first until : ℕ)
     → 0 < count cut → first ≤ until
     → trace kind cut until
-    ≡ trace_of kind most cut first ++ trace kind (after kind cut (trace_of kind most cut first)) until
+    ≡ trace_of kind most cut first ++ trace kind (after_turns kind cut (trace_of kind most cut first)) until
 trace_parts {C = C} kind law zero cut first until some le =
     ap (λ (d : Cut C). trace kind d until) (sym (after_none kind cut))
-    ∙ ap (λ (l : List ℕ). l ++ trace kind (after kind cut l) until) (sym (trace_zero kind cut first))
+    ∙ ap (λ (l : List ℕ). l ++ trace kind (after_turns kind cut l) until) (sym (trace_zero kind cut first))
 trace_parts {C = C} kind law (suc most) cut first until some le =
     elim (cases_Bool (nat_lt (clock_at kind cut (least kind cut)) first)) [
       | inl e ↦
@@ -34,10 +34,10 @@ trace_parts {C = C} kind law (suc most) cut first until some le =
           ∙ ap (λ (l : List ℕ). least kind cut ∷ l) (trace_parts kind law most (step kind cut) first until some' le)
           ∙ ap (λ (d : Cut C). least kind cut ∷ (part ++ trace kind d until))
           (sym (after_one kind cut (least kind cut) part))
-          ∙ ap (λ (l : List ℕ). l ++ trace kind (after kind cut l) until) (sym (trace_goes kind most cut first e))
+          ∙ ap (λ (l : List ℕ). l ++ trace kind (after_turns kind cut l) until) (sym (trace_goes kind most cut first e))
       | inr e ↦
           ap (λ (d : Cut C). trace kind d until) (sym (after_none kind cut))
-          ∙ ap (λ (l : List ℕ). l ++ trace kind (after kind cut l) until) (sym (trace_ends kind (suc most) cut first e))
+          ∙ ap (λ (l : List ℕ). l ++ trace kind (after_turns kind cut l) until) (sym (trace_ends kind (suc most) cut first e))
     ]
 
 -- moments before the last step of the first part

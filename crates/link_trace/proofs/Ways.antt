@@ -13,7 +13,7 @@ use Rattle.link_order.specs.NodeKind.{NodeKind, IsLawful}
 use Rattle.link_order.specs.Order.{from}
 use Rattle.link_order.specs.Due.{due}
 use Rattle.link_order.specs.Cut.{Cut, hop, count, clock_at, was_at, IsSound, IsCable}
-use Rattle.link_order.specs.GlobalOrder.{step_of, due_at, trace, after}
+use Rattle.link_order.specs.GlobalOrder.{step_of, due_at, trace, after_turns}
 use Rattle.link_order.specs.Interleaving.{moment, count_of}
 use Rattle.link_order.specs.Way.{signals_after, told_by, Move, move_of, moves_of, clock_after, told_in, told_count}
 use Rattle.link_order.proofs.Numbers.{same_or_apart}
@@ -59,7 +59,7 @@ record StandsAt {C : Type 0} (kind : NodeKind C) (until i : ℕ) (start now next
     count_is : count now ≡ count start
     delay_is : now.delay ≡ start.delay
     next_is : next ≡ moment kind (step_of kind now i) rest i zero
-    end_is : after kind now (i ∷ rest) ≡ end
+    end_is : after_turns kind now (i ∷ rest) ≡ end
     move_is : move ≡ Some (move_of kind now i)
 
 stands_move : {C : Type 0} (kind : NodeKind C) (until i : ℕ) (start now now' next next' end end' : Cut C)
@@ -87,7 +87,7 @@ stands_from kind until i start other now next end move counts delays h = record 
 
 stands : {C : Type 0} (kind : NodeKind C) → IsLawful kind → (until : ℕ) (ps : List ℕ) (cut : Cut C) (i k : ℕ)
     → Leads kind until cut ps → IsSound kind cut → k < count_of i ps
-    → StandsAt kind until i cut (moment kind cut ps i k) (moment kind cut ps i (suc k)) (after kind cut ps)
+    → StandsAt kind until i cut (moment kind cut ps i k) (moment kind cut ps i (suc k)) (after_turns kind cut ps)
     (slice_get (moves_of kind cut ps i) k)
 stands kind law until [] cut i k leads sound below = absurd (omega arith)
 stands {C = C} kind law until (p ∷ ps) cut i zero leads sound below =
@@ -95,7 +95,7 @@ stands {C = C} kind law until (p ∷ ps) cut i zero leads sound below =
       | inl e ↦
           stands_move kind until i cut cut (moment kind cut (p ∷ ps) i zero)
           (moment kind (step_of kind cut p) ps i zero) (moment kind cut (p ∷ ps) i (suc zero))
-          (after kind cut (p ∷ ps)) (after kind cut (p ∷ ps))
+          (after_turns kind cut (p ∷ ps)) (after_turns kind cut (p ∷ ps))
           (Some (move_of kind cut i)) (slice_get (moves_of kind cut (p ∷ ps) i) zero)
           (sym (moment_first kind cut p ps i e)) (sym (moment_own kind cut p ps i zero e)) refl
           (ap (λ (l : List Move). slice_get l zero) (sym (moves_own kind cut p ps i e)))
@@ -106,7 +106,7 @@ stands {C = C} kind law until (p ∷ ps) cut i zero leads sound below =
             count_is = refl;
             delay_is = refl;
             next_is = ap (λ (q : ℕ). moment kind (step_of kind cut q) ps i zero) e;
-            end_is = ap (λ (q : ℕ). after kind cut (q ∷ ps)) (sym e);
+            end_is = ap (λ (q : ℕ). after_turns kind cut (q ∷ ps)) (sym e);
             move_is = refl;
           })
       | inr e ↦
@@ -114,7 +114,7 @@ stands {C = C} kind law until (p ∷ ps) cut i zero leads sound below =
           let c = count_other i p ps e in
           stands_move kind until i cut (moment kind (step_of kind cut p) ps i zero) (moment kind cut (p ∷ ps) i zero)
           (moment kind (step_of kind cut p) ps i (suc zero)) (moment kind cut (p ∷ ps) i (suc zero))
-          (after kind (step_of kind cut p) ps) (after kind cut (p ∷ ps))
+          (after_turns kind (step_of kind cut p) ps) (after_turns kind cut (p ∷ ps))
           (slice_get (moves_of kind (step_of kind cut p) ps i) zero) (slice_get (moves_of kind cut (p ∷ ps) i) zero)
           (sym (moment_other kind cut p ps i zero e)) (sym (moment_other kind cut p ps i (suc zero) e))
           (sym (after_one kind cut p ps))
@@ -129,7 +129,7 @@ stands {C = C} kind law until (p ∷ ps) cut i (suc k) leads sound below =
           let c = count_own i p ps e in
           stands_move kind until i cut (moment kind (step_of kind cut p) ps i k) (moment kind cut (p ∷ ps) i (suc k))
           (moment kind (step_of kind cut p) ps i (suc k)) (moment kind cut (p ∷ ps) i (suc (suc k)))
-          (after kind (step_of kind cut p) ps) (after kind cut (p ∷ ps))
+          (after_turns kind (step_of kind cut p) ps) (after_turns kind cut (p ∷ ps))
           (slice_get (moves_of kind (step_of kind cut p) ps i) k) (slice_get (moves_of kind cut (p ∷ ps) i) (suc k))
           (sym (moment_own kind cut p ps i k e)) (sym (moment_own kind cut p ps i (suc k) e))
           (sym (after_one kind cut p ps))
@@ -141,7 +141,7 @@ stands {C = C} kind law until (p ∷ ps) cut i (suc k) leads sound below =
           stands_move kind until i cut (moment kind (step_of kind cut p) ps i (suc k))
           (moment kind cut (p ∷ ps) i (suc k))
           (moment kind (step_of kind cut p) ps i (suc (suc k))) (moment kind cut (p ∷ ps) i (suc (suc k)))
-          (after kind (step_of kind cut p) ps) (after kind cut (p ∷ ps))
+          (after_turns kind (step_of kind cut p) ps) (after_turns kind cut (p ∷ ps))
           (slice_get (moves_of kind (step_of kind cut p) ps i) (suc k))
           (slice_get (moves_of kind cut (p ∷ ps) i) (suc k))
           (sym (moment_other kind cut p ps i (suc k) e)) (sym (moment_other kind cut p ps i (suc (suc k)) e))
@@ -220,7 +220,7 @@ way_signals {C = C} kind law until (p ∷ ps) cut i (suc k) leads sound =
 
 -- a step in its place, by what stands there
 way_step : {C : Type 0} (kind : NodeKind C) → IsLawful kind → (until : ℕ) (ps : List ℕ) (cut : Cut C) (i k : ℕ)
-    → StandsAt kind until i cut (moment kind cut ps i k) (moment kind cut ps i (suc k)) (after kind cut ps)
+    → StandsAt kind until i cut (moment kind cut ps i k) (moment kind cut ps i (suc k)) (after_turns kind cut ps)
     (slice_get (moves_of kind cut ps i) k)
     → IsStep kind cut ps until i k
 way_step {C = C} kind law until ps cut i k at =
@@ -293,7 +293,7 @@ turns {C = C} kind law cut until i k x known base cable sound knows =
     let at = stands kind law until ps cut i k leads sound less in
     let x_is : Some g.x ≡ Some x = sym g.stands ∙ knows.stands in
     let x_same : g.x ≡ x = cc in
-    let all : ℕ → List Signal = λ j. from j (after kind cut ps).sent in
+    let all : ℕ → List Signal = λ j. from j (after_turns kind cut ps).sent in
     let whole : due (hop cut) all i (kind.was x) (kind.clock x) (count cut)
     ≡ due (hop cut) known i (kind.was x) (kind.clock x) (count cut)
     = due_of_all (hop cut) known all base i (kind.was x) (kind.clock x) (count cut)
@@ -305,7 +305,7 @@ turns {C = C} kind law cut until i k x known base cable sound knows =
     ∙ ap (kind.next x) whole in
     let was_is : was_at kind m i ≡ kind.was x = number_found kind.was m.consoles i x knows.stands in
     let due_is : due_at kind m i ≡ due (hop cut) all i (kind.was x) (kind.clock x) (count cut)
-    = sym (due_of_history kind m (after kind m (i ∷ at.rest)) i x clock_is was_is
+    = sym (due_of_history kind m (after_turns kind m (i ∷ at.rest)) i x clock_is was_is
     (λ j below apart. later_sent kind law until (i ∷ at.rest) m j at.leads at.sound) at.leads.2)
     ∙ ap (λ (d : Cut C). due (hop m) (λ j. from j d.sent) i (kind.was x) (kind.clock x) (count m)) at.end_is
     ∙ ap (λ (h : ℕ → ℕ → ℕ). due h all i (kind.was x) (kind.clock x) (count m)) (hop_same m cut at.delay_is)

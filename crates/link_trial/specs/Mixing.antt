@@ -17,16 +17,16 @@ pub record Mixed : Type 0 where
 abbrev pub mix : ℕ → Incoming → ℕ
 mix state one = ((state * 31 % 2 ^ 64 + one.arrival) % 2 ^ 64 * 5 % 2 ^ 64 + one.sender) % 2 ^ 64
 
-abbrev pub mixed : ℕ → List Incoming → ℕ
-mixed state [] = (state * 69069 % 2 ^ 64 + 12345) % 2 ^ 64
-mixed state (one ∷ rest) = mixed (mix state one) rest
+abbrev pub mix_of : ℕ → List Incoming → ℕ
+mix_of state [] = (state * 69069 % 2 ^ 64 + 12345) % 2 ^ 64
+mix_of state (one ∷ rest) = mix_of (mix state one) rest
 
 -- how long the step is, and what it tells
 abbrev pub cycles : ℕ → ℕ
 cycles state = 1 + state / 2 ^ 16 % 300
 
-abbrev pub told : ℕ → ℕ → Option Signal
-told state clock =
+abbrev pub signal_of : ℕ → ℕ → Option Signal
+signal_of state clock =
     if state / 2 ^ 32 % 4 == 0
     then Some (record {
       clock = clock;
@@ -41,7 +41,7 @@ abbrev pub after_state : Mixed → ℕ → Mixed
 after_state r state = record { state = state; clock = r.clock + cycles state; was = r.clock }
 
 abbrev pub mixed_next : Mixed → List Incoming → Mixed × Option Signal
-mixed_next r due = (after_state r (mixed r.state due), told (mixed r.state due) r.clock)
+mixed_next r due = (after_state r (mix_of r.state due), signal_of (mix_of r.state due) r.clock)
 
 pub mixed_rises : (r : Mixed) (due : List Incoming) → r.clock < (mixed_next r due).0.clock
 mixed_rises r due = omega arith
@@ -59,10 +59,10 @@ told_fits true s h = h
 told_fits false s h = tt
 
 pub mixed_bears : (r : Mixed) (due : List Incoming) → IfSome (mixed_next r due).1 (λ s. s.clock ≡ r.clock)
-mixed_bears r due = told_bears (mixed r.state due / 2 ^ 32 % 4 == 0) _ r.clock refl
+mixed_bears r due = told_bears (mix_of r.state due / 2 ^ 32 % 4 == 0) _ r.clock refl
 
 pub mixed_fits : (r : Mixed) (due : List Incoming) → IfSome (mixed_next r due).1 FitsWidths
-mixed_fits r due = told_fits (mixed r.state due / 2 ^ 32 % 4 == 0) _ ((omega arith, omega arith), tt)
+mixed_fits r due = told_fits (mix_of r.state due / 2 ^ 32 % 4 == 0) _ ((omega arith, omega arith), tt)
 
 -- a node for tests that keeps time: a first step, then steps of one length; it tells at one clock, and keeps the clock
 -- of the first step that took a signal

@@ -8,7 +8,7 @@ mod start;
 
 pub use beat::Beat;
 pub use checks::may_take;
-pub use mixer::{Mixer, cycles, mixed, told};
+pub use mixer::{Mixer, cycles, mix_of, signal_of};
 pub use start::{begin, mixers};
 
 #[cfg(test)]

@@ -2,7 +2,7 @@
 //! and what it tells.
 
 ghost use Rattle.std.specs.Prelude.{ℕ, ◌≡◌, ◌+◌, ◌<◌, ◌≤◌, ◌^◌, IfSome};
-ghost use Rattle.link_trial.specs.Mixing.{mix, mixed, cycles, told};
+ghost use Rattle.link_trial.specs.Mixing.{mix, mix_of, cycles, signal_of};
 
 use link_node::{Incoming, LinkMode, Node, Signal, Start};
 
@@ -27,8 +27,8 @@ fn mix(state: u64, one: &Incoming) -> u64
 }
 
 /// The number after a step that takes these signals.
-pub fn mixed(state: u64, due: &[Incoming]) -> u64
-    ensures { result ≡ mixed state due.now }
+pub fn mix_of(state: u64, due: &[Incoming]) -> u64
+    ensures { result ≡ mix_of state due.now }
 {
     let mut now = state;
     for one in due {
@@ -46,8 +46,8 @@ pub fn cycles(state: u64) -> u64
 }
 
 /// What a step that ends with this number tells.
-pub fn told(state: u64, clock: u64) -> Option<Signal>
-    ensures { result ≡ told state clock }
+pub fn signal_of(state: u64, clock: u64) -> Option<Signal>
+    ensures { result ≡ signal_of state clock }
 {
     if (state >> 32) % 4 != 0 {
         return None;
@@ -92,8 +92,8 @@ impl Node for Mixer {
     }
 
     fn turn(&mut self, due: &[Incoming]) -> Option<Signal> {
-        let state = mixed(self.state, due);
-        let signal = told(state, self.clock);
+        let state = mix_of(self.state, due);
+        let signal = signal_of(state, self.clock);
         self.state = state;
         self.was = self.clock;
         self.clock += cycles(state);

@@ -1,6 +1,6 @@
 //! A plain program for runs in the global order: it keeps every signal ever sent and scans them all in each step.
 
-use crate::{Mixer, cycles, mixed, told};
+use crate::{Mixer, cycles, mix_of, signal_of};
 use link_core::Sent;
 use link_node::Incoming;
 use std::alloc::Global;
@@ -78,8 +78,8 @@ pub fn plain_run(
             return Ok(Plain { sent, steps });
         }
         let due = plain_due(rt, alloc, &sent, least as u32, &nodes[least], delay)?;
-        let state = mixed(state, &due);
-        if let Some(signal) = told(state, clock) {
+        let state = mix_of(state, &due);
+        if let Some(signal) = signal_of(state, clock) {
             sent.push(Sent {
                 sender: least as u32,
                 signal,

@@ -113,7 +113,7 @@ fn a_step_is_allowed_below_each_seen_clock_and_the_delay(rt: HostRuntime) {
 }
 
 /// A cut that is taken apart and put together again is as it was.
-fn rejoined(cut: Cut<Mixer>) -> Cut<Mixer>
+fn cut_of(cut: Cut<Mixer>) -> Cut<Mixer>
     ensures { result ≡ cut }
 {
     let (nodes, shell) = cut.part();
@@ -151,7 +151,7 @@ fn a_cut_is_parted_and_joined(rt: HostRuntime) -> Result<(), Fail> {
     );
     let sent = cut.sent().to_vec(rt.alloc())?;
     assert!(rt; !sent.is_empty());
-    let cut = rejoined(cut);
+    let cut = cut_of(cut);
     assert_eq!(rt; cut.sent(), sent.as_slice());
     assert_eq!(rt; cut.nodes().len(), 3);
     let (nodes, mut shell) = cut.part();

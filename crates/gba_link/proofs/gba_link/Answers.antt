@@ -1,5 +1,5 @@
 use Rattle.std.specs.Prelude.{map, string_bytes}
-use Rattle.gba_command.specs.Views.{ended, run_value}
+use Rattle.gba_command.specs.Views.{end_of, run_value}
 use Rattle.gba_command.proofs.Completing.{completes}
 use Rattle.gba_link.specs.CommandPlan.{plan_of}
 use Rattle.gba_link.proofs.gba_link.Goals as goal
@@ -7,5 +7,5 @@ use Rattle.gba_link.proofs.gba_link.Goals as goal
 pub returns-clause-complete : goal.returns-clause-complete
 returns-clause-complete g c = λ tells present whole unrisen.
     completes g.S.Store.Tells g.S.Store.files g.S.Store.Reads g.S.Store.absences g.S.Store.faults g.O.Sink.Tells c.answer.result
-    (plan_of (map string_bytes c.args.words.now)) c.args.store.now c.run_words.new.store (ended run_value c.run_words.result) _ _
+    (plan_of (map string_bytes c.args.words.now)) c.args.store.now c.run_words.new.store (end_of run_value c.run_words.result) _ _
     tells present whole unrisen c.run_words.ensures c.answer.ensures

@@ -20,24 +20,24 @@ returns-in-Err c =
           c.in-Err.ensures.says;
     }
 
-pub finished-requires : goal.finished-requires
-finished-requires c =
+pub finish-requires : goal.finish-requires
+finish-requires c =
     let few = reads_few c.args.bytes.now c.loop-line.cursor c.line.new.self (draft_value c.loop-line.draft)
     (omega arith) c.loop-line.invariant c.in_default.ensures.line c.line.ensures.state in
     omega (arith, few, c.line_number.ensures)
 
-pub returns-in-Ok-finished : goal.returns-in-Ok-finished
-returns-in-Ok-finished c =
+pub returns-in-Ok-finish : goal.returns-in-Ok-finish
+returns-in-Ok-finish c =
     record {
       job = finishes c.args.bytes.now c.loop-line.cursor c.line.new.self (draft_value c.loop-line.draft) _
           (omega arith) c.loop-line.invariant
-          c.in_default.ensures.line c.line.ensures.state (rw (← c.line_number.ensures) c.in-Ok-finished.ensures);
+          c.in_default.ensures.line c.line.ensures.state (rw (← c.line_number.ensures) c.in-Ok-finish.ensures);
     }
 
-pub returns-in-Err-finished : goal.returns-in-Err-finished
-returns-in-Err-finished c =
+pub returns-in-Err-finish : goal.returns-in-Err-finish
+returns-in-Err-finish c =
     record {
       job = finishes c.args.bytes.now c.loop-line.cursor c.line.new.self (draft_value c.loop-line.draft) _
           (omega arith) c.loop-line.invariant
-          c.in_default.ensures.line c.line.ensures.state (rw (← c.line_number.ensures) c.in-Err-finished.ensures);
+          c.in_default.ensures.line c.line.ensures.state (rw (← c.line_number.ensures) c.in-Err-finish.ensures);
     }

@@ -1,6 +1,6 @@
 use Rattle.std.proofs.Common.{◌≡◌, drop}
-use Rattle.link_trial.specs.Mixing.{mixed}
+use Rattle.link_trial.specs.Mixing.{mix_of}
 use Rattle.link_trial.proofs.mixer.mixed.Given as goal
 
 abbrev pub invariant-loop-one : goal.invariant-loop-one
-invariant-loop-one l = mixed l.now (drop l.one-index l.due) ≡ mixed l.state l.due
+invariant-loop-one l = mix_of l.now (drop l.one-index l.due) ≡ mix_of l.state l.due

@@ -2,7 +2,7 @@ use Rattle.std.proofs.Common.{◌≡◌}
 use Rattle.std.specs.Prelude.{map}
 use Rattle.link_order.specs.NodeKind.{kind_of}
 use Rattle.link_order.specs.Cut.{plain_cut, live}
-use Rattle.link_order.specs.GlobalOrder.{run, left}
+use Rattle.link_order.specs.GlobalOrder.{run, cycles_left}
 use Rattle.link_core.proofs.cut.Cut.run_serial.Given as goal
 
 abbrev pub invariant-loop-self : goal.invariant-loop-self
@@ -15,5 +15,5 @@ invariant-loop-self g l = record {
 }
 
 abbrev pub decreases-loop-self : goal.decreases-loop-self
-decreases-loop-self g l = left (kind_of g.N.Node.clock g.N.Node.was g.N.Node.next) (plain_cut g.N.Node.plain l.self)
+decreases-loop-self g l = cycles_left (kind_of g.N.Node.clock g.N.Node.was g.N.Node.next) (plain_cut g.N.Node.plain l.self)
     l.until
