@@ -2,7 +2,7 @@ use Rattle.std.specs.Prelude.{ℕ, Bool, true, false, List, ◌+◌, ◌%◌, �
 use Rattle.gba_terms.specs.Bits.{bit}
 use Rattle.gba_word.specs.Shifts.{nonzero_shift}
 use Rattle.gba_arm_table.specs.declared.operation.ComputeOp.{ComputeOp}
-use Rattle.gba_arm_table.specs.declared.operation.ComputeOp.TheVariants.{And, Eor, Sub, Add, Orr, Mov, Bic}
+use Rattle.gba_arm_table.specs.declared.operation.ComputeOp.TheVariants.{And, Eor, Sub, Rsb, Add, Orr, Mov, Bic, Mvn}
 use Rattle.gba_bus.specs.Meanings.{Load, Price, Store}
 use Rattle.gba_bus.specs.declared.width.Width.{Width}
 use Rattle.gba_bus.specs.declared.width.Width.TheVariants as width
@@ -81,6 +81,8 @@ module _ {State : Type 0} (price : Price State) (load : Load State) (store : Sto
   effect_of_quick (quick.OrrPlain rn rd rm) site file bus = after_plain Orr rn rd rm site file bus
   effect_of_quick (quick.EorPlain rn rd rm) site file bus = after_plain Eor rn rd rm site file bus
   effect_of_quick (quick.MovPlain rn rd rm) site file bus = after_plain Mov rn rd rm site file bus
+  effect_of_quick (quick.RsbPlain rn rd rm) site file bus = after_plain Rsb rn rd rm site file bus
+  effect_of_quick (quick.MvnPlain rn rd rm) site file bus = after_plain Mvn rn rd rm site file bus
   effect_of_quick (quick.Shifted kind rn rd rm shift amount) site file bus =
       internal price load store bus
       (with_register file rd

@@ -8,7 +8,7 @@ use Rattle.gba_arm_table.specs.declared.operation.ArmOp.{ArmOp}
 use Rattle.gba_arm_table.specs.declared.operation.ArmOp.TheVariants as op
 use Rattle.gba_arm_table.specs.declared.operation.CompareOp.{CompareOp}
 use Rattle.gba_arm_table.specs.declared.operation.ComputeOp.{ComputeOp}
-use Rattle.gba_arm_table.specs.declared.operation.ComputeOp.TheVariants.{And, Eor, Sub, Add, Orr, Mov, Bic}
+use Rattle.gba_arm_table.specs.declared.operation.ComputeOp.TheVariants.{And, Eor, Sub, Rsb, Add, Orr, Mov, Bic, Mvn}
 use Rattle.gba_arm_table.specs.declared.operation.HalfKind.{HalfKind}
 use Rattle.gba_arm_table.specs.declared.operation.HalfKind.TheVariants.{StoreHalf, LoadHalf, LoadSignedByte, LoadSignedHalf}
 use Rattle.gba_arm_table.specs.declared.operation.HalfOffset.{HalfOffset}
@@ -53,6 +53,8 @@ plain_form And rn rd rm = quick.AndPlain rn rd rm
 plain_form Orr rn rd rm = quick.OrrPlain rn rd rm
 plain_form Eor rn rd rm = quick.EorPlain rn rd rm
 plain_form Mov rn rd rm = quick.MovPlain rn rd rm
+plain_form Rsb rn rd rm = quick.RsbPlain rn rd rm
+plain_form Mvn rn rd rm = quick.MvnPlain rn rd rm
 plain_form kind rn rd rm = quick.Plain kind rn rd rm
 
 -- data processing that writes Rd, where neither Rn nor Rd is r15
@@ -150,6 +152,8 @@ QuickFits (quick.AndPlain rn rd rm) = (rn < 16) × (rd < 16) × (rm < 16)
 QuickFits (quick.OrrPlain rn rd rm) = (rn < 16) × (rd < 16) × (rm < 16)
 QuickFits (quick.EorPlain rn rd rm) = (rn < 16) × (rd < 16) × (rm < 16)
 QuickFits (quick.MovPlain rn rd rm) = (rn < 16) × (rd < 16) × (rm < 16)
+QuickFits (quick.RsbPlain rn rd rm) = (rn < 16) × (rd < 16) × (rm < 16)
+QuickFits (quick.MvnPlain rn rd rm) = (rn < 16) × (rd < 16) × (rm < 16)
 QuickFits (quick.SetNumber kind rn rd value turned) = (rn < 16) × (rd < 16)
 QuickFits (quick.SetPlain kind rn rd rm) = (rn < 16) × (rd < 16) × (rm < 16)
 QuickFits (quick.SetShifted kind rn rd rm shift amount) = (rn < 16) × (rd < 16) × (rm < 16) × (0 < amount) × (amount ≤ 31)
@@ -176,7 +180,6 @@ is_whole quick.Trap = true
 is_whole _ = false
 
 abbrev pub is_rare : Quick → Bool
-is_rare (quick.SetShifted kind rn rd rm shift amount) = true
 is_rare (quick.CompareShifted kind rn rm shift amount) = true
 is_rare (quick.LoadSingle unit one) = true
 is_rare (quick.StoreSingle width one) = true

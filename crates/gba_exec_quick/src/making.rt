@@ -379,6 +379,8 @@ fn plain_form(op: ComputeOp, rn: u8, rd: u8, rm: u8) -> Quick
         ComputeOp::Orr => Quick::OrrPlain { rn, rd, rm },
         ComputeOp::Eor => Quick::EorPlain { rn, rd, rm },
         ComputeOp::Mov => Quick::MovPlain { rn, rd, rm },
+        ComputeOp::Rsb => Quick::RsbPlain { rn, rd, rm },
+        ComputeOp::Mvn => Quick::MvnPlain { rn, rd, rm },
         _ => Quick::Plain { op, rn, rd, rm },
     }
 }

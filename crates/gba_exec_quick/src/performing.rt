@@ -77,6 +77,12 @@ pub fn perform_quick<B: Bus>(registers: &mut Registers, bus: &mut B, site: Site,
         Quick::MovPlain { rn, rd, rm } => {
             write_plain(registers, bus, site, ComputeOp::Mov, rn, rd, rm)
         }
+        Quick::RsbPlain { rn, rd, rm } => {
+            write_plain(registers, bus, site, ComputeOp::Rsb, rn, rd, rm)
+        }
+        Quick::MvnPlain { rn, rd, rm } => {
+            write_plain(registers, bus, site, ComputeOp::Mvn, rn, rd, rm)
+        }
         Quick::Shifted {
             op,
             rn,
@@ -105,6 +111,19 @@ pub fn perform_quick<B: Bus>(registers: &mut Registers, bus: &mut B, site: Site,
         Quick::SetPlain { op, rn, rd, rm } => {
             let second = registers.get(u32::from(rm));
             let carry = registers.flags().carry;
+            let outcome = outcome_in(registers, op, registers.get(u32::from(rn)), second, carry);
+            write_flags_and(registers, rd, outcome);
+            code_price(bus, site, true)
+        }
+        Quick::SetShifted {
+            op,
+            rn,
+            rd,
+            rm,
+            kind,
+            amount,
+        } => {
+            let (second, carry) = shift(kind, registers.get(u32::from(rm)), amount, false);
             let outcome = outcome_in(registers, op, registers.get(u32::from(rn)), second, carry);
             write_flags_and(registers, rd, outcome);
             code_price(bus, site, true)
@@ -143,8 +162,7 @@ pub fn perform_quick<B: Bus>(registers: &mut Registers, bus: &mut B, site: Site,
             jump(registers, site.counter().wrapping_add(distance));
             jump_price(bus, site)
         }
-        Quick::SetShifted { .. }
-        | Quick::CompareShifted { .. }
+        Quick::CompareShifted { .. }
         | Quick::LoadSingle { .. }
         | Quick::StoreSingle { .. }
         | Quick::LoadBlock { .. }
@@ -165,19 +183,6 @@ fn perform_rare<B: Bus>(registers: &mut Registers, bus: &mut B, site: Site, one:
         registers.new (B.state bus.new) result }
 {
     match *one {
-        Quick::SetShifted {
-            op,
-            rn,
-            rd,
-            rm,
-            kind,
-            amount,
-        } => {
-            let (second, carry) = shift(kind, registers.get(u32::from(rm)), amount, false);
-            let outcome = outcome_in(registers, op, registers.get(u32::from(rn)), second, carry);
-            write_flags_and(registers, rd, outcome);
-            code_price(bus, site, true)
-        }
         Quick::CompareShifted {
             op,
             rn,

@@ -93,6 +93,16 @@ pub enum Quick {
         rd: u8,
         rm: u8,
     },
+    RsbPlain {
+        rn: u8,
+        rd: u8,
+        rm: u8,
+    },
+    MvnPlain {
+        rn: u8,
+        rd: u8,
+        rm: u8,
+    },
     /// Data processing with S. `turned` says that the number's bit 31 is the carry.
     SetNumber {
         op: ComputeOp,
