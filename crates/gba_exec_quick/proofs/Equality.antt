@@ -33,7 +33,7 @@ use Rattle.gba_exec_transfers.specs.declared.units.LoadUnit.{LoadUnit}
 use Rattle.gba_exec_transfers.specs.declared.units.LoadUnit.TheVariants as unit
 use Rattle.gba_exec_transfers.specs.declared.units.SingleTransfer.{SingleTransfer}
 use Rattle.gba_exec_quick.specs.Effects.{after_quick_load, after_quick_store, effect_of_quick, number_carry, outcome_in, value_of, with_flags_and}
-use Rattle.gba_exec_quick.specs.Making.{compare_form, compare_shifted, compute_form, compute_shifted, general_transfer, is_lsl, number_transfer, plain_transfer, quick_of, quick_of_word, signed_offset}
+use Rattle.gba_exec_quick.specs.Making.{compare_form, compare_shifted, compute_form, compute_shifted, general_transfer, is_lsl, number_form, number_transfer, plain_form, plain_transfer, quick_of, quick_of_word, signed_offset}
 use Rattle.gba_exec_quick.specs.declared.quick.Quick.{Quick}
 use Rattle.gba_exec_quick.specs.declared.quick.Quick.TheVariants as quick
 
@@ -133,6 +133,40 @@ module _ {State : Type 0} (price : Price State) (load : Load State) (store : Sto
       (compute-value kind rn rd file (counter site) (immediate_value value turn (flags file).carry) n d)
       (cost-plain rd (code_cost price bus site) d)
 
+  number_form-is : (kind : ComputeOp) (rn rd value : ℕ) (site : Site) (file : List ℕ) (bus : State)
+      → effect_of_quick price load store (number_form kind rn rd value) site file bus
+      ≡ effect_of_quick price load store (quick.Number kind rn rd value) site file bus
+  unfolding effect_of_quick
+  number_form-is And rn rd value site file bus = refl
+  number_form-is Eor rn rd value site file bus = refl
+  number_form-is Sub rn rd value site file bus = refl
+  number_form-is Rsb rn rd value site file bus = refl
+  number_form-is Add rn rd value site file bus = refl
+  number_form-is Adc rn rd value site file bus = refl
+  number_form-is Sbc rn rd value site file bus = refl
+  number_form-is Rsc rn rd value site file bus = refl
+  number_form-is Orr rn rd value site file bus = refl
+  number_form-is Mov rn rd value site file bus = refl
+  number_form-is Bic rn rd value site file bus = refl
+  number_form-is Mvn rn rd value site file bus = refl
+
+  plain_form-is : (kind : ComputeOp) (rn rd rm : ℕ) (site : Site) (file : List ℕ) (bus : State)
+      → effect_of_quick price load store (plain_form kind rn rd rm) site file bus
+      ≡ effect_of_quick price load store (quick.Plain kind rn rd rm) site file bus
+  unfolding effect_of_quick
+  plain_form-is And rn rd rm site file bus = refl
+  plain_form-is Eor rn rd rm site file bus = refl
+  plain_form-is Sub rn rd rm site file bus = refl
+  plain_form-is Rsb rn rd rm site file bus = refl
+  plain_form-is Add rn rd rm site file bus = refl
+  plain_form-is Adc rn rd rm site file bus = refl
+  plain_form-is Sbc rn rd rm site file bus = refl
+  plain_form-is Rsc rn rd rm site file bus = refl
+  plain_form-is Orr rn rd rm site file bus = refl
+  plain_form-is Mov rn rd rm site file bus = refl
+  plain_form-is Bic rn rd rm site file bus = refl
+  plain_form-is Mvn rn rd rm site file bus = refl
+
   number-set : (cond : Condition) (kind : ComputeOp) (rn rd value turn : ℕ) (site : Site) (file : List ℕ) (bus : State)
       → (rn == 15) ≡ false → (rd == 15) ≡ false
       → effect_of_quick price load store (quick.SetNumber kind rn rd (rotation value (2 * turn)) (not (turn == 0))) site file bus
@@ -197,8 +231,9 @@ module _ {State : Type 0} (price : Price State) (load : Load State) (store : Sto
       (fixed-set cond kind rn rd rm Lsl amount (register file rm, (flags file).carry) site file bus
       (plain-operand rm amount (counter site) (flags file).carry file m a) n d)
   shifted-is cond kind false rn rd rm Lsl amount site file bus n d false true m a =
-      form-effect (quick.Plain kind rn rd rm) _ _ site file bus (rw (m, a) refl)
-      (fixed-value cond kind rn rd rm Lsl amount (register file rm, (flags file).carry) site file bus
+      form-effect (plain_form kind rn rd rm) _ _ site file bus (rw (m, a) refl)
+      (plain_form-is kind rn rd rm site file bus
+      ∙ fixed-value cond kind rn rd rm Lsl amount (register file rm, (flags file).carry) site file bus
       (plain-operand rm amount (counter site) (flags file).carry file m a) n d)
   shifted-is cond kind set rn rd rm Lsr amount site file bus n d false true m a =
       other-is _ (op.Compute cond kind set rn rd (operand.Fixed rm Lsr amount)) site file bus (rw (m, a) refl)
@@ -222,7 +257,8 @@ module _ {State : Type 0} (price : Price State) (load : Load State) (store : Sto
   compute-is cond kind true rn rd (operand.Immediate value turn) site file bus n d =
       number-set cond kind rn rd value turn site file bus n d
   compute-is cond kind false rn rd (operand.Immediate value turn) site file bus n d =
-      number-value cond kind rn rd value turn site file bus n d
+      number_form-is kind rn rd (rotation value (2 * turn)) site file bus
+      ∙ number-value cond kind rn rd value turn site file bus n d
   compute-is cond kind set rn rd (operand.Fixed rm shift amount) site file bus n d =
       shifted-is cond kind set rn rd rm shift amount site file bus n d (rm == 15) (amount == 0) refl refl
   compute-is cond kind set rn rd (operand.ByRegister rm shift rs) site file bus n d =

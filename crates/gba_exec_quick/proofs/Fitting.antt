@@ -2,11 +2,13 @@
 use Rattle.std.proofs.Common.{◌≡◌, ℕ, Bool, true, false, ◌<◌, ◌≤◌, ◌==◌, ◌||◌, ◌&&◌, not, ◌*◌, refl, arith, if◌then◌else◌}
 use Rattle.std.proofs.lemmas.Bool.Decides.{nat_tests}
 use Rattle.std.specs.Prelude.{Option, Some, None, IfSome}
+use Rattle.gba_word.specs.Shifts.{rotation}
 use Rattle.gba_word.specs.declared.kinds.Shift.{Shift}
 use Rattle.gba_arm_table.specs.Limits.{Fits, Within, operand_immediates, operand_registers}
 use Rattle.gba_arm_table.specs.declared.operation.ArmOp.{ArmOp}
 use Rattle.gba_arm_table.specs.declared.operation.ArmOp.TheVariants as op
 use Rattle.gba_arm_table.specs.declared.operation.ComputeOp.{ComputeOp}
+use Rattle.gba_arm_table.specs.declared.operation.ComputeOp.TheVariants.{And, Eor, Sub, Rsb, Add, Adc, Sbc, Rsc, Orr, Mov, Bic, Mvn}
 use Rattle.gba_arm_table.specs.declared.operation.HalfKind.{HalfKind}
 use Rattle.gba_arm_table.specs.declared.operation.HalfKind.TheVariants.{StoreHalf, LoadHalf, LoadSignedByte, LoadSignedHalf}
 use Rattle.gba_arm_table.specs.declared.operation.HalfOffset.TheVariants as half_offset
@@ -15,7 +17,7 @@ use Rattle.gba_arm_table.specs.declared.operation.Operand.TheVariants as operand
 use Rattle.gba_arm_table.specs.declared.operation.TransferOffset.TheVariants as transfer_offset
 use Rattle.gba_exec_registers.specs.Processing.{compute_op_of}
 use Rattle.gba_exec_transfers.specs.declared.units.SingleTransfer.{SingleTransfer}
-use Rattle.gba_exec_quick.specs.Making.{QuickFits, compare_form, compare_shifted, compute_form, compute_shifted, general_transfer, half_form, is_lsl, number_transfer, plain_transfer, quick_of, quick_of_word, signed_offset}
+use Rattle.gba_exec_quick.specs.Making.{QuickFits, compare_form, compare_shifted, compute_form, compute_shifted, general_transfer, half_form, is_lsl, number_form, number_transfer, plain_form, plain_transfer, quick_of, quick_of_word, signed_offset}
 use Rattle.gba_exec_quick.specs.declared.quick.Quick.{Quick}
 use Rattle.gba_exec_quick.specs.declared.quick.Quick.TheVariants as quick
 
@@ -29,16 +31,44 @@ tested-fits : (test : Bool) (amount : ℕ) (one other : Quick) → (amount == 0)
 tested-fits true amount one other is here there = here
 tested-fits false amount one other is here there = there (grind (arith, nat_tests))
 
+number_form-fits : (kind : ComputeOp) (rn rd value : ℕ) → rn < 16 → rd < 16 → QuickFits (number_form kind rn rd value)
+number_form-fits And rn rd value n d = (n, d)
+number_form-fits Eor rn rd value n d = (n, d)
+number_form-fits Sub rn rd value n d = (n, d)
+number_form-fits Rsb rn rd value n d = (n, d)
+number_form-fits Add rn rd value n d = (n, d)
+number_form-fits Adc rn rd value n d = (n, d)
+number_form-fits Sbc rn rd value n d = (n, d)
+number_form-fits Rsc rn rd value n d = (n, d)
+number_form-fits Orr rn rd value n d = (n, d)
+number_form-fits Mov rn rd value n d = (n, d)
+number_form-fits Bic rn rd value n d = (n, d)
+number_form-fits Mvn rn rd value n d = (n, d)
+
+plain_form-fits : (kind : ComputeOp) (rn rd rm : ℕ) → rn < 16 → rd < 16 → rm < 16 → QuickFits (plain_form kind rn rd rm)
+plain_form-fits And rn rd rm n d m = (n, d, m)
+plain_form-fits Eor rn rd rm n d m = (n, d, m)
+plain_form-fits Sub rn rd rm n d m = (n, d, m)
+plain_form-fits Rsb rn rd rm n d m = (n, d, m)
+plain_form-fits Add rn rd rm n d m = (n, d, m)
+plain_form-fits Adc rn rd rm n d m = (n, d, m)
+plain_form-fits Sbc rn rd rm n d m = (n, d, m)
+plain_form-fits Rsc rn rd rm n d m = (n, d, m)
+plain_form-fits Orr rn rd rm n d m = (n, d, m)
+plain_form-fits Mov rn rd rm n d m = (n, d, m)
+plain_form-fits Bic rn rd rm n d m = (n, d, m)
+plain_form-fits Mvn rn rd rm n d m = (n, d, m)
+
 compute_shifted-fits : (whole : ArmOp) (kind : ComputeOp) (set : Bool) (rn rd rm : ℕ) (shift : Shift) (amount : ℕ) → Fits whole
     → rn < 16 → rd < 16 → rm < 16 → amount < 32 → QuickFits (compute_shifted whole kind set rn rd rm shift amount)
 compute_shifted-fits whole kind set rn rd rm shift amount fits n d m a =
     let other = quick.Other whole in
-    let plain = if set then quick.SetPlain kind rn rd rm else quick.Plain kind rn rd rm in
+    let plain = if set then quick.SetPlain kind rn rd rm else plain_form kind rn rd rm in
     let shifts = if set then quick.SetShifted kind rn rd rm shift amount else quick.Shifted kind rn rd rm shift amount in
     either-fits (rm == 15) other (if amount == 0 then (if is_lsl shift then plain else other) else shifts) fits
     (tested-fits (amount == 0) amount (if is_lsl shift then plain else other) shifts refl
     (either-fits (is_lsl shift) plain other
-    (either-fits set (quick.SetPlain kind rn rd rm) (quick.Plain kind rn rd rm) (n, d, m) (n, d, m)) fits)
+    (either-fits set (quick.SetPlain kind rn rd rm) (plain_form kind rn rd rm) (n, d, m) (plain_form-fits kind rn rd rm n d m)) fits)
     (λ positive. let most : amount ≤ 31 = omega arith in
     either-fits set (quick.SetShifted kind rn rd rm shift amount) (quick.Shifted kind rn rd rm shift amount)
     (n, d, m, positive, most) (n, d, m, positive, most)))
@@ -46,7 +76,9 @@ compute_shifted-fits whole kind set rn rd rm shift amount fits n d m a =
 compute_form-fits : (whole : ArmOp) (kind : ComputeOp) (set : Bool) (rn rd : ℕ) (second : Operand) → Fits whole → rn < 16 → rd < 16
     → Within (operand_registers second) → Within (operand_immediates second) → QuickFits (compute_form whole kind set rn rd second)
 compute_form-fits whole kind set rn rd (operand.Immediate value turn) fits n d r i =
-    either-fits set (quick.SetNumber kind rn rd _ (not (turn == 0))) (quick.Number kind rn rd _) (n, d) (n, d)
+    let word = rotation value (2 * turn) in
+    either-fits set (quick.SetNumber kind rn rd word (not (turn == 0))) (number_form kind rn rd word) (n, d)
+    (number_form-fits kind rn rd word n d)
 compute_form-fits whole kind set rn rd (operand.Fixed rm shift amount) fits n d r i =
     compute_shifted-fits whole kind set rn rd rm shift amount fits n d r.0 i.0
 compute_form-fits whole kind set rn rd (operand.ByRegister rm shift rs) fits n d r i = fits

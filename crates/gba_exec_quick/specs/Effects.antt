@@ -2,6 +2,7 @@ use Rattle.std.specs.Prelude.{ℕ, Bool, true, false, List, ◌+◌, ◌%◌, �
 use Rattle.gba_terms.specs.Bits.{bit}
 use Rattle.gba_word.specs.Shifts.{nonzero_shift}
 use Rattle.gba_arm_table.specs.declared.operation.ComputeOp.{ComputeOp}
+use Rattle.gba_arm_table.specs.declared.operation.ComputeOp.TheVariants.{And, Eor, Sub, Rsb, Add, Orr, Mov, Bic, Mvn}
 use Rattle.gba_bus.specs.Meanings.{Load, Price, Store}
 use Rattle.gba_bus.specs.declared.width.Width.{Width}
 use Rattle.gba_bus.specs.declared.width.Width.TheVariants as width
@@ -39,6 +40,17 @@ abbrev pub with_flags_and : ℕ → Outcome → List ℕ → List ℕ
 with_flags_and rd outcome file = with_register (with_flags file (flags_after outcome)) rd outcome.value
 
 module _ {State : Type 0} (price : Price State) (load : Load State) (store : Store State) where
+  -- an operation of a register and a number, and one of two registers, without S
+  abbrev pub after_number : ComputeOp → ℕ → ℕ → ℕ → Site → List ℕ → State → Done State
+  after_number kind rn rd value site file bus =
+      internal price load store bus (with_register file rd (value_of kind (register file rn) value file))
+      (code_cost price bus site true)
+
+  abbrev pub after_plain : ComputeOp → ℕ → ℕ → ℕ → Site → List ℕ → State → Done State
+  after_plain kind rn rd rm site file bus =
+      internal price load store bus
+      (with_register file rd (value_of kind (register file rn) (register file rm) file)) (code_cost price bus site true)
+
   -- a load at a base plus an offset that keeps the base
   abbrev pub after_quick_load : LoadUnit → ℕ → ℕ → ℕ → Site → List ℕ → State → Done State
   after_quick_load kind rn rd offset site file bus =
@@ -55,12 +67,22 @@ module _ {State : Type 0} (price : Price State) (load : Load State) (store : Sto
       record { registers = file; bus = stored.after; cycles = code_cost price bus site false + stored.price }
 
   unfoldable pub effect_of_quick : Quick → Site → List ℕ → State → Done State
-  effect_of_quick (quick.Number kind rn rd value) site file bus =
-      internal price load store bus (with_register file rd (value_of kind (register file rn) value file))
-      (code_cost price bus site true)
-  effect_of_quick (quick.Plain kind rn rd rm) site file bus =
-      internal price load store bus
-      (with_register file rd (value_of kind (register file rn) (register file rm) file)) (code_cost price bus site true)
+  effect_of_quick (quick.Number kind rn rd value) site file bus = after_number kind rn rd value site file bus
+  effect_of_quick (quick.Plain kind rn rd rm) site file bus = after_plain kind rn rd rm site file bus
+  effect_of_quick (quick.AddNumber rn rd value) site file bus = after_number Add rn rd value site file bus
+  effect_of_quick (quick.SubNumber rn rd value) site file bus = after_number Sub rn rd value site file bus
+  effect_of_quick (quick.AndNumber rn rd value) site file bus = after_number And rn rd value site file bus
+  effect_of_quick (quick.OrrNumber rn rd value) site file bus = after_number Orr rn rd value site file bus
+  effect_of_quick (quick.BicNumber rn rd value) site file bus = after_number Bic rn rd value site file bus
+  effect_of_quick (quick.MovNumber rn rd value) site file bus = after_number Mov rn rd value site file bus
+  effect_of_quick (quick.AddPlain rn rd rm) site file bus = after_plain Add rn rd rm site file bus
+  effect_of_quick (quick.SubPlain rn rd rm) site file bus = after_plain Sub rn rd rm site file bus
+  effect_of_quick (quick.AndPlain rn rd rm) site file bus = after_plain And rn rd rm site file bus
+  effect_of_quick (quick.OrrPlain rn rd rm) site file bus = after_plain Orr rn rd rm site file bus
+  effect_of_quick (quick.EorPlain rn rd rm) site file bus = after_plain Eor rn rd rm site file bus
+  effect_of_quick (quick.MovPlain rn rd rm) site file bus = after_plain Mov rn rd rm site file bus
+  effect_of_quick (quick.RsbPlain rn rd rm) site file bus = after_plain Rsb rn rd rm site file bus
+  effect_of_quick (quick.MvnPlain rn rd rm) site file bus = after_plain Mvn rn rd rm site file bus
   effect_of_quick (quick.Shifted kind rn rd rm shift amount) site file bus =
       internal price load store bus
       (with_register file rd

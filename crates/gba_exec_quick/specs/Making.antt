@@ -8,6 +8,7 @@ use Rattle.gba_arm_table.specs.declared.operation.ArmOp.{ArmOp}
 use Rattle.gba_arm_table.specs.declared.operation.ArmOp.TheVariants as op
 use Rattle.gba_arm_table.specs.declared.operation.CompareOp.{CompareOp}
 use Rattle.gba_arm_table.specs.declared.operation.ComputeOp.{ComputeOp}
+use Rattle.gba_arm_table.specs.declared.operation.ComputeOp.TheVariants.{And, Eor, Sub, Rsb, Add, Orr, Mov, Bic, Mvn}
 use Rattle.gba_arm_table.specs.declared.operation.HalfKind.{HalfKind}
 use Rattle.gba_arm_table.specs.declared.operation.HalfKind.TheVariants.{StoreHalf, LoadHalf, LoadSignedByte, LoadSignedHalf}
 use Rattle.gba_arm_table.specs.declared.operation.HalfOffset.{HalfOffset}
@@ -35,19 +36,40 @@ is_lsl Ror = false
 abbrev pub signed_offset : Bool → ℕ → ℕ
 signed_offset up distance = if up then distance else (2 ^ 32 - distance) % 2 ^ 32
 
+-- the commonest operations have a form of their own
+abbrev pub number_form : ComputeOp → ℕ → ℕ → ℕ → Quick
+number_form Add rn rd value = quick.AddNumber rn rd value
+number_form Sub rn rd value = quick.SubNumber rn rd value
+number_form And rn rd value = quick.AndNumber rn rd value
+number_form Orr rn rd value = quick.OrrNumber rn rd value
+number_form Bic rn rd value = quick.BicNumber rn rd value
+number_form Mov rn rd value = quick.MovNumber rn rd value
+number_form kind rn rd value = quick.Number kind rn rd value
+
+abbrev pub plain_form : ComputeOp → ℕ → ℕ → ℕ → Quick
+plain_form Add rn rd rm = quick.AddPlain rn rd rm
+plain_form Sub rn rd rm = quick.SubPlain rn rd rm
+plain_form And rn rd rm = quick.AndPlain rn rd rm
+plain_form Orr rn rd rm = quick.OrrPlain rn rd rm
+plain_form Eor rn rd rm = quick.EorPlain rn rd rm
+plain_form Mov rn rd rm = quick.MovPlain rn rd rm
+plain_form Rsb rn rd rm = quick.RsbPlain rn rd rm
+plain_form Mvn rn rd rm = quick.MvnPlain rn rd rm
+plain_form kind rn rd rm = quick.Plain kind rn rd rm
+
 -- data processing that writes Rd, where neither Rn nor Rd is r15
 abbrev pub compute_shifted : ArmOp → ComputeOp → Bool → ℕ → ℕ → ℕ → Shift → ℕ → Quick
 compute_shifted whole kind set rn rd rm shift amount =
     if rm == 15 then quick.Other whole
     else if amount == 0 then
-    (if is_lsl shift then (if set then quick.SetPlain kind rn rd rm else quick.Plain kind rn rd rm) else quick.Other whole)
+    (if is_lsl shift then (if set then quick.SetPlain kind rn rd rm else plain_form kind rn rd rm) else quick.Other whole)
     else if set then quick.SetShifted kind rn rd rm shift amount
     else quick.Shifted kind rn rd rm shift amount
 
 abbrev pub compute_form : ArmOp → ComputeOp → Bool → ℕ → ℕ → Operand → Quick
 compute_form whole kind set rn rd (operand.Immediate value turn) =
     if set then quick.SetNumber kind rn rd (rotation value (2 * turn)) (not (turn == 0))
-    else quick.Number kind rn rd (rotation value (2 * turn))
+    else number_form kind rn rd (rotation value (2 * turn))
 compute_form whole kind set rn rd (operand.Fixed rm shift amount) = compute_shifted whole kind set rn rd rm shift amount
 compute_form whole kind set rn rd (operand.ByRegister rm shift rs) = quick.Other whole
 
@@ -118,6 +140,20 @@ abbrev pub QuickFits : Quick → Type 0
 QuickFits (quick.Number kind rn rd value) = (rn < 16) × (rd < 16)
 QuickFits (quick.Plain kind rn rd rm) = (rn < 16) × (rd < 16) × (rm < 16)
 QuickFits (quick.Shifted kind rn rd rm shift amount) = (rn < 16) × (rd < 16) × (rm < 16) × (0 < amount) × (amount ≤ 31)
+QuickFits (quick.AddNumber rn rd value) = (rn < 16) × (rd < 16)
+QuickFits (quick.SubNumber rn rd value) = (rn < 16) × (rd < 16)
+QuickFits (quick.AndNumber rn rd value) = (rn < 16) × (rd < 16)
+QuickFits (quick.OrrNumber rn rd value) = (rn < 16) × (rd < 16)
+QuickFits (quick.BicNumber rn rd value) = (rn < 16) × (rd < 16)
+QuickFits (quick.MovNumber rn rd value) = (rn < 16) × (rd < 16)
+QuickFits (quick.AddPlain rn rd rm) = (rn < 16) × (rd < 16) × (rm < 16)
+QuickFits (quick.SubPlain rn rd rm) = (rn < 16) × (rd < 16) × (rm < 16)
+QuickFits (quick.AndPlain rn rd rm) = (rn < 16) × (rd < 16) × (rm < 16)
+QuickFits (quick.OrrPlain rn rd rm) = (rn < 16) × (rd < 16) × (rm < 16)
+QuickFits (quick.EorPlain rn rd rm) = (rn < 16) × (rd < 16) × (rm < 16)
+QuickFits (quick.MovPlain rn rd rm) = (rn < 16) × (rd < 16) × (rm < 16)
+QuickFits (quick.RsbPlain rn rd rm) = (rn < 16) × (rd < 16) × (rm < 16)
+QuickFits (quick.MvnPlain rn rd rm) = (rn < 16) × (rd < 16) × (rm < 16)
 QuickFits (quick.SetNumber kind rn rd value turned) = (rn < 16) × (rd < 16)
 QuickFits (quick.SetPlain kind rn rd rm) = (rn < 16) × (rd < 16) × (rm < 16)
 QuickFits (quick.SetShifted kind rn rd rm shift amount) = (rn < 16) × (rd < 16) × (rm < 16) × (0 < amount) × (amount ≤ 31)
@@ -144,7 +180,6 @@ is_whole quick.Trap = true
 is_whole _ = false
 
 abbrev pub is_rare : Quick → Bool
-is_rare (quick.SetShifted kind rn rd rm shift amount) = true
 is_rare (quick.CompareShifted kind rn rm shift amount) = true
 is_rare (quick.LoadSingle unit one) = true
 is_rare (quick.StoreSingle width one) = true

@@ -9,7 +9,9 @@ ghost use Rattle.gba_exec_quick.specs.Making.{
   general_transfer,
   half_form,
   is_lsl,
+  number_form,
   number_transfer,
+  plain_form,
   plain_transfer,
   quick_of,
   quick_of_word,
@@ -172,7 +174,7 @@ fn compute_form(whole: ArmOp, op: ComputeOp, set: bool, rn: u8, rd: u8, operand:
                     turned: turn != 0,
                 }
             } else {
-                Quick::Number { op, rn, rd, value }
+                number_form(op, rn, rd, value)
             }
         }
         Operand::Fixed { rm, kind, amount } => compute_shifted(
@@ -202,7 +204,7 @@ fn compute_shifted(
         } else if set {
             Quick::SetPlain { op, rn, rd, rm }
         } else {
-            Quick::Plain { op, rn, rd, rm }
+            plain_form(op, rn, rd, rm)
         }
     } else if set {
         Quick::SetShifted {
@@ -348,5 +350,37 @@ fn half_form(kind: HalfKind, one: SingleTransfer) -> Quick
             unit: LoadUnit::SignedHalf,
             one,
         },
+    }
+}
+
+// Data processing of a register and a number, without S.
+fn number_form(op: ComputeOp, rn: u8, rd: u8, value: u32) -> Quick
+    ensures { result ≡ number_form op rn rd value }
+{
+    match op {
+        ComputeOp::Add => Quick::AddNumber { rn, rd, value },
+        ComputeOp::Sub => Quick::SubNumber { rn, rd, value },
+        ComputeOp::And => Quick::AndNumber { rn, rd, value },
+        ComputeOp::Orr => Quick::OrrNumber { rn, rd, value },
+        ComputeOp::Bic => Quick::BicNumber { rn, rd, value },
+        ComputeOp::Mov => Quick::MovNumber { rn, rd, value },
+        _ => Quick::Number { op, rn, rd, value },
+    }
+}
+
+// Data processing of two registers, without S.
+fn plain_form(op: ComputeOp, rn: u8, rd: u8, rm: u8) -> Quick
+    ensures { result ≡ plain_form op rn rd rm }
+{
+    match op {
+        ComputeOp::Add => Quick::AddPlain { rn, rd, rm },
+        ComputeOp::Sub => Quick::SubPlain { rn, rd, rm },
+        ComputeOp::And => Quick::AndPlain { rn, rd, rm },
+        ComputeOp::Orr => Quick::OrrPlain { rn, rd, rm },
+        ComputeOp::Eor => Quick::EorPlain { rn, rd, rm },
+        ComputeOp::Mov => Quick::MovPlain { rn, rd, rm },
+        ComputeOp::Rsb => Quick::RsbPlain { rn, rd, rm },
+        ComputeOp::Mvn => Quick::MvnPlain { rn, rd, rm },
+        _ => Quick::Plain { op, rn, rd, rm },
     }
 }

@@ -3,6 +3,8 @@
 
 ghost use Rattle.std.specs.Prelude.{◌≡◌, ◌<◌, IsTrue};
 ghost use Rattle.gba_exec_quick.specs.Effects.{
+  after_number,
+  after_plain,
   after_quick_load,
   after_quick_store,
   effect_of_quick,
@@ -35,16 +37,51 @@ pub fn perform_quick<B: Bus>(registers: &mut Registers, bus: &mut B, site: Site,
         registers.new (B.state bus.new) result }
 {
     match *one {
-        Quick::Number { op, rn, rd, value } => {
-            let value = value_of(registers, op, registers.get(u32::from(rn)), value);
-            registers.set(u32::from(rd), value);
-            code_price(bus, site, true)
+        Quick::Number { op, rn, rd, value } => write_number(
+            registers, bus, site, op, rn, rd, value,
+        ),
+        Quick::Plain { op, rn, rd, rm } => write_plain(registers, bus, site, op, rn, rd, rm),
+        Quick::AddNumber { rn, rd, value } => {
+            write_number(registers, bus, site, ComputeOp::Add, rn, rd, value)
         }
-        Quick::Plain { op, rn, rd, rm } => {
-            let second = registers.get(u32::from(rm));
-            let value = value_of(registers, op, registers.get(u32::from(rn)), second);
-            registers.set(u32::from(rd), value);
-            code_price(bus, site, true)
+        Quick::SubNumber { rn, rd, value } => {
+            write_number(registers, bus, site, ComputeOp::Sub, rn, rd, value)
+        }
+        Quick::AndNumber { rn, rd, value } => {
+            write_number(registers, bus, site, ComputeOp::And, rn, rd, value)
+        }
+        Quick::OrrNumber { rn, rd, value } => {
+            write_number(registers, bus, site, ComputeOp::Orr, rn, rd, value)
+        }
+        Quick::BicNumber { rn, rd, value } => {
+            write_number(registers, bus, site, ComputeOp::Bic, rn, rd, value)
+        }
+        Quick::MovNumber { rn, rd, value } => {
+            write_number(registers, bus, site, ComputeOp::Mov, rn, rd, value)
+        }
+        Quick::AddPlain { rn, rd, rm } => {
+            write_plain(registers, bus, site, ComputeOp::Add, rn, rd, rm)
+        }
+        Quick::SubPlain { rn, rd, rm } => {
+            write_plain(registers, bus, site, ComputeOp::Sub, rn, rd, rm)
+        }
+        Quick::AndPlain { rn, rd, rm } => {
+            write_plain(registers, bus, site, ComputeOp::And, rn, rd, rm)
+        }
+        Quick::OrrPlain { rn, rd, rm } => {
+            write_plain(registers, bus, site, ComputeOp::Orr, rn, rd, rm)
+        }
+        Quick::EorPlain { rn, rd, rm } => {
+            write_plain(registers, bus, site, ComputeOp::Eor, rn, rd, rm)
+        }
+        Quick::MovPlain { rn, rd, rm } => {
+            write_plain(registers, bus, site, ComputeOp::Mov, rn, rd, rm)
+        }
+        Quick::RsbPlain { rn, rd, rm } => {
+            write_plain(registers, bus, site, ComputeOp::Rsb, rn, rd, rm)
+        }
+        Quick::MvnPlain { rn, rd, rm } => {
+            write_plain(registers, bus, site, ComputeOp::Mvn, rn, rd, rm)
         }
         Quick::Shifted {
             op,
@@ -74,6 +111,19 @@ pub fn perform_quick<B: Bus>(registers: &mut Registers, bus: &mut B, site: Site,
         Quick::SetPlain { op, rn, rd, rm } => {
             let second = registers.get(u32::from(rm));
             let carry = registers.flags().carry;
+            let outcome = outcome_in(registers, op, registers.get(u32::from(rn)), second, carry);
+            write_flags_and(registers, rd, outcome);
+            code_price(bus, site, true)
+        }
+        Quick::SetShifted {
+            op,
+            rn,
+            rd,
+            rm,
+            kind,
+            amount,
+        } => {
+            let (second, carry) = shift(kind, registers.get(u32::from(rm)), amount, false);
             let outcome = outcome_in(registers, op, registers.get(u32::from(rn)), second, carry);
             write_flags_and(registers, rd, outcome);
             code_price(bus, site, true)
@@ -112,8 +162,7 @@ pub fn perform_quick<B: Bus>(registers: &mut Registers, bus: &mut B, site: Site,
             jump(registers, site.counter().wrapping_add(distance));
             jump_price(bus, site)
         }
-        Quick::SetShifted { .. }
-        | Quick::CompareShifted { .. }
+        Quick::CompareShifted { .. }
         | Quick::LoadSingle { .. }
         | Quick::StoreSingle { .. }
         | Quick::LoadBlock { .. }
@@ -134,19 +183,6 @@ fn perform_rare<B: Bus>(registers: &mut Registers, bus: &mut B, site: Site, one:
         registers.new (B.state bus.new) result }
 {
     match *one {
-        Quick::SetShifted {
-            op,
-            rn,
-            rd,
-            rm,
-            kind,
-            amount,
-        } => {
-            let (second, carry) = shift(kind, registers.get(u32::from(rm)), amount, false);
-            let outcome = outcome_in(registers, op, registers.get(u32::from(rn)), second, carry);
-            write_flags_and(registers, rd, outcome);
-            code_price(bus, site, true)
-        }
         Quick::CompareShifted {
             op,
             rn,
@@ -249,6 +285,50 @@ fn write_flags_and(registers: &mut Registers, rd: u8, outcome: Outcome)
 {
     registers.set_flags(flags_of_outcome(outcome));
     registers.set(u32::from(rd), outcome.value);
+}
+
+// Data processing of a register and a number.
+#[inline(always)]
+fn write_number<B: Bus>(
+    registers: &mut Registers,
+    bus: &B,
+    site: Site,
+    op: ComputeOp,
+    rn: u8,
+    rd: u8,
+    value: u32,
+) -> u32
+    requires rn { rn < 16 }
+    requires rd { rd < 16 }
+    ensures { Leaves (after_number B.code_price_of B.load_of B.store_of op rn rd value site registers.old
+        (B.state bus.now)) registers.new (B.state bus.now) result }
+{
+    let value = value_of(registers, op, registers.get(u32::from(rn)), value);
+    registers.set(u32::from(rd), value);
+    code_price(bus, site, true)
+}
+
+// Data processing of two registers.
+#[inline(always)]
+fn write_plain<B: Bus>(
+    registers: &mut Registers,
+    bus: &B,
+    site: Site,
+    op: ComputeOp,
+    rn: u8,
+    rd: u8,
+    rm: u8,
+) -> u32
+    requires rn { rn < 16 }
+    requires rd { rd < 16 }
+    requires rm { rm < 16 }
+    ensures { Leaves (after_plain B.code_price_of B.load_of B.store_of op rn rd rm site registers.old
+        (B.state bus.now)) registers.new (B.state bus.now) result }
+{
+    let second = registers.get(u32::from(rm));
+    let value = value_of(registers, op, registers.get(u32::from(rn)), second);
+    registers.set(u32::from(rd), value);
+    code_price(bus, site, true)
 }
 
 // A load that keeps the base.

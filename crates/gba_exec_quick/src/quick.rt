@@ -32,7 +32,78 @@ pub enum Quick {
         kind: Shift,
         amount: u8,
     },
-    /// The same with S. `turned` says that the number's bit 31 is the carry.
+    /// The commonest operations of a number, and of two registers, each a form of its own.
+    AddNumber {
+        rn: u8,
+        rd: u8,
+        value: u32,
+    },
+    SubNumber {
+        rn: u8,
+        rd: u8,
+        value: u32,
+    },
+    AndNumber {
+        rn: u8,
+        rd: u8,
+        value: u32,
+    },
+    OrrNumber {
+        rn: u8,
+        rd: u8,
+        value: u32,
+    },
+    BicNumber {
+        rn: u8,
+        rd: u8,
+        value: u32,
+    },
+    MovNumber {
+        rn: u8,
+        rd: u8,
+        value: u32,
+    },
+    AddPlain {
+        rn: u8,
+        rd: u8,
+        rm: u8,
+    },
+    SubPlain {
+        rn: u8,
+        rd: u8,
+        rm: u8,
+    },
+    AndPlain {
+        rn: u8,
+        rd: u8,
+        rm: u8,
+    },
+    OrrPlain {
+        rn: u8,
+        rd: u8,
+        rm: u8,
+    },
+    EorPlain {
+        rn: u8,
+        rd: u8,
+        rm: u8,
+    },
+    MovPlain {
+        rn: u8,
+        rd: u8,
+        rm: u8,
+    },
+    RsbPlain {
+        rn: u8,
+        rd: u8,
+        rm: u8,
+    },
+    MvnPlain {
+        rn: u8,
+        rd: u8,
+        rm: u8,
+    },
+    /// Data processing with S. `turned` says that the number's bit 31 is the carry.
     SetNumber {
         op: ComputeOp,
         rn: u8,
