@@ -100,7 +100,7 @@ turned_live {C = C} kind law plain cut i due nodes signal sent some t =
     let consoles : map plain nodes ≡ slice_set p.consoles l (kind.next x (due_at kind p l)).0
     = t.node_is x stands ∙ ap (λ (m : ℕ). slice_set p.consoles m (kind.next x due).0) t.least_is
     ∙ ap (λ (d : List Incoming). slice_set p.consoles l (kind.next x d).0) due_l in
-    let signal_of : with_signal i signal cut.sent ≡ with_signal l (kind.next x (due_at kind p l)).1 cut.sent
+    let told : with_signal i signal cut.sent ≡ with_signal l (kind.next x (due_at kind p l)).1 cut.sent
     = ap (λ (o : Option Signal). with_signal i o cut.sent) (t.signal_is x stands
     ∙ ap (λ (d : List Incoming). (kind.next x d).1) due_l)
     ∙ ap (λ (m : ℕ). with_signal m (kind.next x (due_at kind p l)).1 cut.sent) t.least_is in
@@ -120,7 +120,7 @@ turned_live {C = C} kind law plain cut i due nodes signal sent some t =
     sent_now in
     first
     ∙ ap (λ (cs : List C). make cs (with_signal i signal cut.sent)) consoles
-    ∙ ap (make (slice_set p.consoles l (kind.next x (due_at kind p l)).0)) signal_of
+    ∙ ap (make (slice_set p.consoles l (kind.next x (due_at kind p l)).0)) told
     ∙ ap (live kind) (sym s.cut_is)
 
 -- a cut keeps all of this in a step
@@ -142,7 +142,7 @@ turned_kept {C = C} kind law plain cut i due nodes signal sent sent_room due_roo
     let count_is : count (live kind (step kind p)) ≡ count p = ap count s.cut_is ∙ s.count_is in
     let same_count : length (map plain nodes) ≡ count p = ap count e ∙ count_is in
     let sent_is : sent ≡ filter (is_live kind (step kind p)) (step kind p).sent = ap (λ (d : Cut C). d.sent) e in
-    let signal_of : All (λ (one : Sent). FitsWidths one.signal) (step kind p).sent
+    let told : All (λ (one : Sent). FitsWidths one.signal) (step kind p).sent
     = subst (λ (d : Cut C). All (λ (one : Sent). FitsWidths one.signal) d.sent) (sym s.cut_is)
     (joined_all (λ (one : Sent). FitsWidths one.signal) l (kind.next at.0 (due_at kind p l)).1 cut.sent
     (law.fits at.0 (due_at kind p l)) kept.widths) in
@@ -153,7 +153,7 @@ turned_kept {C = C} kind law plain cut i due nodes signal sent sent_room due_roo
           (sound_live kind (step kind p) (sound_step kind law p some kept.cable.some_delay kept.sound));
       awaited = subst (AllLive kind) (sym e) (filter_passes (is_live kind (step kind p)) (step kind p).sent);
       widths = subst (λ (ss : List Sent). AllFit ss) (sym sent_is)
-          (All-filter (is_live kind (step kind p)) (λ (one : Sent). FitsWidths one.signal) (step kind p).sent signal_of);
+          (All-filter (is_live kind (step kind p)) (λ (one : Sent). FitsWidths one.signal) (step kind p).sent told);
       room_of_sent = omega (arith, kept.room_of_sent);
       room_of_due = omega (arith, kept.room_of_due);
     }

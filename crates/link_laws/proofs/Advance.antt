@@ -88,7 +88,7 @@ pub record Advanced {C : Type 0} (kind : NodeKind C) (cut : Cut C) (i : ℕ) : T
   pub own_sent : from i (step_of kind cut i).sent ≡ from i cut.sent
       ++ option_to_list (kind.next x (due_at kind cut i)).1
   pub other_sent : (j : ℕ) → j ≢ i → from j (step_of kind cut i).sent ≡ from j cut.sent
-  pub signal_of : All (λ (s : Signal). s.clock ≡ clock_at kind cut i) (option_to_list (kind.next x (due_at kind cut i)).1)
+  pub told : All (λ (s : Signal). s.clock ≡ clock_at kind cut i) (option_to_list (kind.next x (due_at kind cut i)).1)
   pub own_clock : clock_at kind cut i < clock_at kind (step_of kind cut i) i
   pub short : clock_at kind (step_of kind cut i) i ≤ clock_at kind cut i + 512
   pub other_clock : (j : ℕ) → j ≢ i → clock_at kind (step_of kind cut i) j ≡ clock_at kind cut j
@@ -135,7 +135,7 @@ advance {C = C} kind law cut i below ahead sound =
           ∙ joined_own i (clock_at kind cut i) (kind.next x signals).1 cut.sent bears own_below sound.ordered;
       other_sent = λ j apart. ap (λ (e : Cut C). from j e.sent) is
           ∙ joined_other i j (kind.next x signals).1 cut.sent apart;
-      signal_of = told_clock (clock_at kind cut i) (kind.next x signals).1 bears;
+      told = told_clock (clock_at kind cut i) (kind.next x signals).1 bears;
       own_clock = elim (clock_cases i)
           [ inl f ↦ omega (arith, f.1, to_clock i, own, rises) | inr f ↦ absurd (f.0 refl) ];
       short = elim (clock_cases i) [ inl f ↦ omega (arith, f.1, to_clock i, own, short) | inr f ↦ absurd (f.0 refl) ];

@@ -419,7 +419,7 @@ on_step {C = C} kind law until cut ps d made i leads sound on below early ahead 
     } in
     let whole : due (hop d) (λ j. from j e.sent) i (kind.was a.x) (kind.clock a.x) (count d) ≡ due_at kind d i
     = due_of_history kind d e i a.x a.clock_is a.was_is later ahead in
-    let signal_of : due (hop cut) (λ j. from j e.sent) i (kind.was g.x) (kind.clock g.x) (count cut) ≡ due_at kind d i
+    let told : due (hop cut) (λ j. from j e.sent) i (kind.was g.x) (kind.clock g.x) (count cut) ≡ due_at kind d i
     = ap (λ (y : C). due (hop cut) (λ j. from j e.sent) i (kind.was y) (kind.clock y) (count cut)) (sym x)
     ∙ ap (λ (b : ℕ → ℕ → ℕ). due b (λ j. from j e.sent) i (kind.was a.x) (kind.clock a.x) (count cut))
     (hop_same cut d (sym on.delay_is))
@@ -427,7 +427,7 @@ on_step {C = C} kind law until cut ps d made i leads sound on below early ahead 
     ∙ whole in
     let moved : (kind.next g.x (due (hop cut) (λ j. from j e.sent) i (kind.was g.x) (kind.clock g.x) (count cut)))
     ≡ kind.next a.x (due_at kind d i)
-    = ap (kind.next g.x) signal_of ∙ ap (λ (y : C). kind.next y (due_at kind d i)) (sym x) in
+    = ap (kind.next g.x) told ∙ ap (λ (y : C). kind.next y (due_at kind d i)) (sym x) in
     let own : Same (step_of kind d i) (moment kind cut ps i (suc (made i))) i = record {
       console = a.own_console ∙ sym (g.next_console ∙ ap (λ (o : C × Option Signal). Some o.0) moved);
       signals = a.own_sent ∙ sym (g.next_sent

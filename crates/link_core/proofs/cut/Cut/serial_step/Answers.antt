@@ -46,9 +46,9 @@ turn_of-signal-requires-clause-ordered g c =
     _ _ _ c.gather.new.list.items c.self.invariant.sound c.deref-4.ensures.value c.deref-2.ensures.value
     c.was_of-was.ensures
     c.deref-3.ensures.value c.clock_of-clock.ensures c.gather.ensures.due in
-    let signal_of : c.deref-5.result.now ≡ due_at kind (plain_cut g.N.Node.plain now) c.least_of-i.result =
+    let told : c.deref-5.result.now ≡ due_at kind (plain_cut g.N.Node.plain now) c.least_of-i.result =
     c.deref-5.ensures.value ∙ due_is in
-    (due_may_go kind g.N.Node.plain now c.least_of-i.result c.deref-5.result.now _ _ c.self.invariant least_is signal_of).0
+    (due_may_go kind g.N.Node.plain now c.least_of-i.result c.deref-5.result.now _ _ c.self.invariant least_is told).0
 
 pub turn_of-signal-requires-clause-taken : goal.turn_of-signal-requires-clause-taken
 turn_of-signal-requires-clause-taken g c =
@@ -66,9 +66,9 @@ turn_of-signal-requires-clause-taken g c =
     _ _ _ c.gather.new.list.items c.self.invariant.sound c.deref-4.ensures.value c.deref-2.ensures.value
     c.was_of-was.ensures
     c.deref-3.ensures.value c.clock_of-clock.ensures c.gather.ensures.due in
-    let signal_of : c.deref-5.result.now ≡ due_at kind (plain_cut g.N.Node.plain now) c.least_of-i.result =
+    let told : c.deref-5.result.now ≡ due_at kind (plain_cut g.N.Node.plain now) c.least_of-i.result =
     c.deref-5.ensures.value ∙ due_is in
-    (due_may_go kind g.N.Node.plain now c.least_of-i.result c.deref-5.result.now _ _ c.self.invariant least_is signal_of).1
+    (due_may_go kind g.N.Node.plain now c.least_of-i.result c.deref-5.result.now _ _ c.self.invariant least_is told).1
 
 pub join_signal-requires : goal.join_signal-requires
 join_signal-requires g c =
@@ -91,7 +91,7 @@ invariant_of-self g c =
     _ _ _ c.gather.new.list.items c.self.invariant.sound c.deref-4.ensures.value c.deref-2.ensures.value
     c.was_of-was.ensures
     c.deref-3.ensures.value c.clock_of-clock.ensures c.gather.ensures.due in
-    let signal_of : c.deref-5.result.now ≡ due_at kind (plain_cut g.N.Node.plain now) c.least_of-i.result =
+    let told : c.deref-5.result.now ≡ due_at kind (plain_cut g.N.Node.plain now) c.least_of-i.result =
     c.deref-5.ensures.value ∙ due_is in
     let law : IsLawful kind = record {
       rises = g.met.N.Node.rises;
@@ -104,7 +104,7 @@ invariant_of-self g c =
     c.turn_of-signal.new.nodes.items c.turn_of-signal.result c.drop_dead.new.sent.items
     = record {
       least_is = least_is;
-      due_is = signal_of;
+      due_is = told;
       node_is = c.turn_of-signal.ensures.node;
       signal_is = c.turn_of-signal.ensures.signal;
       sent_is = c.drop_dead.ensures.items
@@ -137,7 +137,7 @@ returns-clause-step g c =
     _ _ _ c.gather.new.list.items c.self.invariant.sound c.deref-4.ensures.value c.deref-2.ensures.value
     c.was_of-was.ensures
     c.deref-3.ensures.value c.clock_of-clock.ensures c.gather.ensures.due in
-    let signal_of : c.deref-5.result.now ≡ due_at kind (plain_cut g.N.Node.plain now) c.least_of-i.result =
+    let told : c.deref-5.result.now ≡ due_at kind (plain_cut g.N.Node.plain now) c.least_of-i.result =
     c.deref-5.ensures.value ∙ due_is in
     let law : IsLawful kind = record {
       rises = g.met.N.Node.rises;
@@ -150,7 +150,7 @@ returns-clause-step g c =
     c.turn_of-signal.new.nodes.items c.turn_of-signal.result c.drop_dead.new.sent.items
     = record {
       least_is = least_is;
-      due_is = signal_of;
+      due_is = told;
       node_is = c.turn_of-signal.ensures.node;
       signal_is = c.turn_of-signal.ensures.signal;
       sent_is = c.drop_dead.ensures.items
