@@ -1,4 +1,4 @@
-use Rattle.std.proofs.Common.{ℕ, ◌%◌, ◌<◌, ◌≡◌, Bool, true, false, arith, rules}
+use Rattle.std.proofs.Common.{ℕ, ◌%◌, ◌<◌, Bool, true, false, arith, rules}
 use Rattle.std.proofs.lemmas.Bool.Decides.{nat_tests}
 use Rattle.std.specs.Prelude.{IfSome}
 use Rattle.gba_terms.specs.Bits.{field}

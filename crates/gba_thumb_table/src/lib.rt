@@ -6,10 +6,14 @@ ghost use Rattle.gba_terms.specs.Bits.{field};
 ghost use Rattle.gba_thumb_table.specs.Limits.{Fits};
 ghost use Rattle.gba_thumb_table.specs.Table.{operation, operation_of};
 
+mod encoding;
 mod fields;
 mod form;
+pub mod laws;
+mod limits;
 mod operation;
 
+pub use encoding::encode;
 use form::{Form, form_of};
 pub use operation::ThumbOp;
 
