@@ -55,3 +55,6 @@ fn of_form(form: Form, half: u32) -> Option<ThumbOp>
         Form::Undefined => None,
     }
 }
+
+#[cfg(test)]
+mod tests;
