@@ -22,13 +22,15 @@ kept high = high * 2 ^ 8
 abbrev looks : Row → Bool
 looks row = nat_eq (bit_and 0xFF00 row.mask) row.mask
 
-form_in-kept : (rows : List Row) → list_all looks rows ≡ true → (half : ℕ) → form_in rows half ≡ form_in rows (bit_and half 0xFF00)
+form_in-kept : (rows : List Row) → list_all looks rows ≡ true → (half : ℕ)
+    → form_in rows half ≡ form_in rows (bit_and half 0xFF00)
 form_in-kept [] all half = refl
 form_in-kept (row ∷ rest) all half =
     let here : looks row ≡ true = grind arith in
     let later : list_all looks rest ≡ true = grind arith in
     let mask : bit_and 0xFF00 row.mask ≡ row.mask = eqb-true _ _ here in
-    let read : bit_and (bit_and half 0xFF00) row.mask ≡ bit_and half row.mask = and_assoc row.mask half 0xFF00 ∙ ap (bit_and half) mask in
+    let read : bit_and (bit_and half 0xFF00) row.mask ≡ bit_and half row.mask =
+    and_assoc row.mask half 0xFF00 ∙ ap (bit_and half) mask in
     rw (read, form_in-kept rest later half) refl
 
 -- a halfword has the row of its bits 15 to 8 alone
@@ -39,7 +41,8 @@ form_in-key half =
 
 -- a number for each form, and back
 unfoldable pub form_at : ℕ → Form
-form_at n = get_or (form.Format1 ∷ form.Format2 ∷ form.Format3 ∷ form.Format4 ∷ form.Format5 ∷ form.Format6 ∷ form.Format7
+form_at n =
+    get_or (form.Format1 ∷ form.Format2 ∷ form.Format3 ∷ form.Format4 ∷ form.Format5 ∷ form.Format6 ∷ form.Format7
     ∷ form.Format8 ∷ form.Format9 ∷ form.Format10 ∷ form.Format11 ∷ form.Format12 ∷ form.Format13 ∷ form.Format14
     ∷ form.Format15 ∷ form.Format16 ∷ form.Format17 ∷ form.Format18 ∷ form.Format19 ∷ []) n form.Undefined
 
@@ -115,13 +118,14 @@ same_form high small =
     sym (form_at-number _) ∙ ap form_at numbers ∙ form_at-number _
 
 -- the decision reads these six fields alone
-branched_agrees : (f g : Bits) → f 12 4 ≡ g 12 4 → f 11 1 ≡ g 11 1 → f 10 1 ≡ g 10 1 → f 9 1 ≡ g 9 1 → f 9 2 ≡ g 9 2 → f 8 4 ≡ g 8 4
-    → branch_form f ≡ branch_form g
+branched_agrees : (f g : Bits) → f 12 4 ≡ g 12 4 → f 11 1 ≡ g 11 1 → f 10 1 ≡ g 10 1 → f 9 1 ≡ g 9 1 → f 9 2 ≡ g 9 2
+    → f 8 4 ≡ g 8 4 → branch_form f ≡ branch_form g
 branched_agrees f g a b c d e h = rw (a, b, c, d, e, h) refl
 
 branch_form-kept : (half : ℕ) → branch_form (field (kept (field half 8 8))) ≡ branch_form (field half)
 branch_form-kept half =
-    branched_agrees (field (kept (field half 8 8))) (field half) (omega arith) (omega arith) (omega arith) (omega arith) (omega arith)
+    branched_agrees (field (kept (field half 8 8))) (field half)
+    (omega arith) (omega arith) (omega arith) (omega arith) (omega arith)
     (omega arith)
 
 -- the first row that fits is found by the decision by bits

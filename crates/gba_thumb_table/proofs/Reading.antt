@@ -19,8 +19,10 @@ format1-fits half s =
     record { registers = search rules; immediates = (three, (omega arith, tt)); offsets = tt }
 
 format2-fits : (i subtracts : Bool) (x3 rs rd : ℕ) → x3 < 8 → rs < 8 → rd < 8 → Fits (op.Format2 i subtracts x3 rs rd)
-format2-fits true subtracts x3 rs rd h1 h2 h3 = record { registers = (h2, (h3, tt)); immediates = (h1, tt); offsets = tt }
-format2-fits false subtracts x3 rs rd h1 h2 h3 = record { registers = (h1, (h2, (h3, tt))); immediates = tt; offsets = tt }
+format2-fits true subtracts x3 rs rd h1 h2 h3 =
+    record { registers = (h2, (h3, tt)); immediates = (h1, tt); offsets = tt }
+format2-fits false subtracts x3 rs rd h1 h2 h3 =
+    record { registers = (h1, (h2, (h3, tt))); immediates = tt; offsets = tt }
 
 format16-fits : (half : ℕ) → Settled form.Format16 half → Fits (format16 (field half))
 format16-fits half s =

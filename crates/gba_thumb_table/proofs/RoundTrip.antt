@@ -59,7 +59,8 @@ format2-back half i kind x3 rs rd e b1 b2 b3 =
     let read_x3 : field half 6 3 ≡ x3 = omega arith in
     let read_rs : field half 3 3 ≡ rs = omega arith in
     let read_rd : field half 0 3 ≡ rd = omega arith in
-    reads form.Format2 (omega arith) half _ (grind (arith, nat_tests)) (rw (read_i, read_kind, read_x3, read_rs, read_rd) refl)
+    reads form.Format2 (omega arith) half _ (grind (arith, nat_tests))
+    (rw (read_i, read_kind, read_x3, read_rs, read_rd) refl)
 
 format3-back : (half : ℕ) (kind rd n8 : ℕ) → half ≡ pack (diagram (op.Format3 kind rd n8))
     → kind < 4 → rd < 8 → n8 < 256 → operation half ≡ Some (op.Format3 kind rd n8)
@@ -90,7 +91,8 @@ format5-back half kind h1 h2 rs rd e b1 b2 b3 =
     let read_h2 : (field half 6 1 == 1) ≡ h2 = flag-at _ h2 (omega arith) in
     let read_rs : field half 3 3 ≡ rs = omega arith in
     let read_rd : field half 0 3 ≡ rd = omega arith in
-    reads form.Format5 (omega arith) half _ (grind (arith, nat_tests)) (rw (read_kind, read_h1, read_h2, read_rs, read_rd) refl)
+    reads form.Format5 (omega arith) half _ (grind (arith, nat_tests))
+    (rw (read_kind, read_h1, read_h2, read_rs, read_rd) refl)
 
 format6-back : (half : ℕ) (rd n8 : ℕ) → half ≡ pack (diagram (op.Format6 rd n8))
     → rd < 8 → n8 < 256 → operation half ≡ Some (op.Format6 rd n8)
@@ -112,7 +114,8 @@ format7-back half l b ro rb rd e b1 b2 b3 =
     let read_ro : field half 6 3 ≡ ro = omega arith in
     let read_rb : field half 3 3 ≡ rb = omega arith in
     let read_rd : field half 0 3 ≡ rd = omega arith in
-    reads form.Format7 (omega arith) half _ (grind (arith, nat_tests)) (rw (read_l, read_b, read_ro, read_rb, read_rd) refl)
+    reads form.Format7 (omega arith) half _ (grind (arith, nat_tests))
+    (rw (read_l, read_b, read_ro, read_rb, read_rd) refl)
 
 format8-back : (half : ℕ) (h s : Bool) (ro rb rd : ℕ) → half ≡ pack (diagram (op.Format8 h s ro rb rd))
     → ro < 8 → rb < 8 → rd < 8 → operation half ≡ Some (op.Format8 h s ro rb rd)
@@ -126,7 +129,8 @@ format8-back half h s ro rb rd e b1 b2 b3 =
     let read_ro : field half 6 3 ≡ ro = omega arith in
     let read_rb : field half 3 3 ≡ rb = omega arith in
     let read_rd : field half 0 3 ≡ rd = omega arith in
-    reads form.Format8 (omega arith) half _ (grind (arith, nat_tests)) (rw (read_h, read_s, read_ro, read_rb, read_rd) refl)
+    reads form.Format8 (omega arith) half _ (grind (arith, nat_tests))
+    (rw (read_h, read_s, read_ro, read_rb, read_rd) refl)
 
 format9-back : (half : ℕ) (b l : Bool) (o5 rb rd : ℕ) → half ≡ pack (diagram (op.Format9 b l o5 rb rd))
     → o5 < 32 → rb < 8 → rd < 8 → operation half ≡ Some (op.Format9 b l o5 rb rd)
@@ -139,7 +143,8 @@ format9-back half b l o5 rb rd e b1 b2 b3 =
     let read_o5 : field half 6 5 ≡ o5 = omega arith in
     let read_rb : field half 3 3 ≡ rb = omega arith in
     let read_rd : field half 0 3 ≡ rd = omega arith in
-    reads form.Format9 (omega arith) half _ (grind (arith, nat_tests)) (rw (read_b, read_l, read_o5, read_rb, read_rd) refl)
+    reads form.Format9 (omega arith) half _ (grind (arith, nat_tests))
+    (rw (read_b, read_l, read_o5, read_rb, read_rd) refl)
 
 format10-back : (half : ℕ) (l : Bool) (o5 rb rd : ℕ) → half ≡ pack (diagram (op.Format10 l o5 rb rd))
     → o5 < 32 → rb < 8 → rd < 8 → operation half ≡ Some (op.Format10 l o5 rb rd)
@@ -238,19 +243,27 @@ format19-back half second n11 e b1 =
 -- ---- every format
 
 pub operation-diagram : (o : ThumbOp) → Fits o → operation (pack (diagram o)) ≡ Some o
-operation-diagram (op.Format1 kind o5 rs rd) fits = format1-back _ _ _ _ _ refl fits.immediates.0 fits.immediates.1.0 fits.registers.0 fits.registers.1.0
+operation-diagram (op.Format1 kind o5 rs rd) fits =
+    format1-back _ _ _ _ _ refl fits.immediates.0 fits.immediates.1.0 fits.registers.0 fits.registers.1.0
 operation-diagram (op.Format2 true kind x3 rs rd) fits =
     format2-back _ true kind _ _ _ refl fits.immediates.0 fits.registers.0 fits.registers.1.0
 operation-diagram (op.Format2 false kind x3 rs rd) fits =
     format2-back _ false kind _ _ _ refl fits.registers.0 fits.registers.1.0 fits.registers.1.1.0
-operation-diagram (op.Format3 kind rd n8) fits = format3-back _ _ _ _ refl fits.immediates.0 fits.registers.0 fits.immediates.1.0
-operation-diagram (op.Format4 kind rs rd) fits = format4-back _ _ _ _ refl fits.immediates.0 fits.registers.0 fits.registers.1.0
-operation-diagram (op.Format5 kind h1 h2 rs rd) fits = format5-back _ _ h1 h2 _ _ refl fits.immediates.0 fits.registers.0 fits.registers.1.0
+operation-diagram (op.Format3 kind rd n8) fits =
+    format3-back _ _ _ _ refl fits.immediates.0 fits.registers.0 fits.immediates.1.0
+operation-diagram (op.Format4 kind rs rd) fits =
+    format4-back _ _ _ _ refl fits.immediates.0 fits.registers.0 fits.registers.1.0
+operation-diagram (op.Format5 kind h1 h2 rs rd) fits =
+    format5-back _ _ h1 h2 _ _ refl fits.immediates.0 fits.registers.0 fits.registers.1.0
 operation-diagram (op.Format6 rd n8) fits = format6-back _ _ _ refl fits.registers.0 fits.offsets.0
-operation-diagram (op.Format7 l b ro rb rd) fits = format7-back _ l b _ _ _ refl fits.registers.0 fits.registers.1.0 fits.registers.1.1.0
-operation-diagram (op.Format8 h s ro rb rd) fits = format8-back _ h s _ _ _ refl fits.registers.0 fits.registers.1.0 fits.registers.1.1.0
-operation-diagram (op.Format9 b l o5 rb rd) fits = format9-back _ b l _ _ _ refl fits.offsets.0 fits.registers.0 fits.registers.1.0
-operation-diagram (op.Format10 l o5 rb rd) fits = format10-back _ l _ _ _ refl fits.offsets.0 fits.registers.0 fits.registers.1.0
+operation-diagram (op.Format7 l b ro rb rd) fits =
+    format7-back _ l b _ _ _ refl fits.registers.0 fits.registers.1.0 fits.registers.1.1.0
+operation-diagram (op.Format8 h s ro rb rd) fits =
+    format8-back _ h s _ _ _ refl fits.registers.0 fits.registers.1.0 fits.registers.1.1.0
+operation-diagram (op.Format9 b l o5 rb rd) fits =
+    format9-back _ b l _ _ _ refl fits.offsets.0 fits.registers.0 fits.registers.1.0
+operation-diagram (op.Format10 l o5 rb rd) fits =
+    format10-back _ l _ _ _ refl fits.offsets.0 fits.registers.0 fits.registers.1.0
 operation-diagram (op.Format11 l rd n8) fits = format11-back _ l _ _ refl fits.registers.0 fits.offsets.0
 operation-diagram (op.Format12 p rd n8) fits = format12-back _ p _ _ refl fits.registers.0 fits.immediates.0
 operation-diagram (op.Format13 s n7) fits = format13-back _ s _ refl fits.immediates.0
@@ -275,7 +288,8 @@ within-Within (one ∷ rest) all =
     let later : within rest ≡ true = within-Within rest all.1 in
     grind (arith, nat_tests)
 
-pub fitting : (o : ThumbOp) → within (registers_of o) ≡ true → within (immediates_of o) ≡ true → within (offsets_of o) ≡ true → Fits o
+pub fitting : (o : ThumbOp) → within (registers_of o) ≡ true → within (immediates_of o) ≡ true
+    → within (offsets_of o) ≡ true → Fits o
 fitting o r i f = record { registers = Within-within _ r; immediates = Within-within _ i; offsets = Within-within _ f }
 
 -- an operation whose fields fit is encoded
@@ -294,5 +308,6 @@ encoding-back o h =
     subst P (sym (encoding-Fits o h)) (operation-diagram o h)
 
 -- the operation of a halfword is encoded as a halfword that decodes to it
-pub operation-again : (half : ℕ) → IfSome (operation half) (λ o. IsOkAnd (encoding o) (λ again. operation again ≡ Some o))
+pub operation-again : (half : ℕ)
+    → IfSome (operation half) (λ o. IsOkAnd (encoding o) (λ again. operation again ≡ Some o))
 operation-again half = IfSome_then (operation half) (operation-Fits half) encoding-back

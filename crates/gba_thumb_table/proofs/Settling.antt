@@ -44,7 +44,8 @@ all_settled = refl
 -- the first row that a halfword fits says so of it
 pub settled-rows : (half : ℕ) → Settled (form_in rows half) half
 settled-rows half =
-    ap (λ f. settled f (field half 8 8)) (form_in-key half) ∙ all_below-at settled_at 256 all_settled (field half 8 8) (omega arith)
+    ap (λ f. settled f (field half 8 8)) (form_in-key half)
+    ∙ all_below-at settled_at 256 all_settled (field half 8 8) (omega arith)
 
 -- and no other form does
 abbrev found_at : ℕ → ℕ → Bool
@@ -58,8 +59,11 @@ all_found = refl
 pub form_in-settled : (f : Form) → number f < 19 → (half : ℕ) → Settled f half → form_in rows half ≡ f
 form_in-settled f there half s =
     let row : all_below (found_at (number f)) 256 ≡ true = all_below-at _ 19 all_found (number f) there in
-    let cell : found_at (number f) (field half 8 8) ≡ true = all_below-at (found_at (number f)) 256 row (field half 8 8) (omega arith) in
-    let known : settled (form_at (number f)) (field half 8 8) ≡ true = ap (λ g. settled g (field half 8 8)) (form_at-number f) ∙ s in
-    let same : nat_eq (number (form_in rows (kept (field half 8 8)))) (number (form_at (number f))) ≡ true = rw known at cell in
+    let cell : found_at (number f) (field half 8 8) ≡ true =
+    all_below-at (found_at (number f)) 256 row (field half 8 8) (omega arith) in
+    let known : settled (form_at (number f)) (field half 8 8) ≡ true =
+    ap (λ g. settled g (field half 8 8)) (form_at-number f) ∙ s in
+    let same : nat_eq (number (form_in rows (kept (field half 8 8)))) (number (form_at (number f))) ≡ true =
+    rw known at cell in
     let numbers : number (form_in rows (kept (field half 8 8))) ≡ number (form_at (number f)) = eqb-true _ _ same in
     form_in-key half ∙ sym (form_at-number _) ∙ ap form_at numbers ∙ form_at-number _ ∙ form_at-number f

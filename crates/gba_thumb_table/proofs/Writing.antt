@@ -126,7 +126,8 @@ format19-there half small s =
 abbrev Writes : ℕ → ThumbOp → Type 0
 Writes half o = pack (diagram o) ≡ half
 
-operation_of-there : (f : Form) (half : ℕ) → half < 2 ^ 16 → Settled f half → IfSome (operation_of f (field half)) (Writes half)
+operation_of-there : (f : Form) (half : ℕ) → half < 2 ^ 16 → Settled f half
+    → IfSome (operation_of f (field half)) (Writes half)
 operation_of-there form.Format1 half small s = format1-there half small s
 operation_of-there form.Format2 half small s = format2-there half small s
 operation_of-there form.Format3 half small s = format3-there half small s

@@ -4,7 +4,7 @@ use Rattle.gba_arm_table.specs.Diagrams.{part, flag_part}
 use Rattle.gba_thumb_table.specs.declared.operation.ThumbOp.{ThumbOp}
 use Rattle.gba_thumb_table.specs.declared.operation.ThumbOp.TheVariants as op
 
--- The halfword of each operation as the manual draws it (ARM7TDMI manual, Thumb formats 1 to 19): its parts from bit 15
+-- The halfword of each operation as it is drawn (GBATEK, THUMB.1 to THUMB.19): its parts from bit 15
 -- down, with how many bits each has.
 
 -- a register

@@ -3,8 +3,8 @@ use Rattle.gba_arm_table.specs.Limits.{Limit, limit, Within}
 use Rattle.gba_thumb_table.specs.declared.operation.ThumbOp.{ThumbOp}
 use Rattle.gba_thumb_table.specs.declared.operation.ThumbOp.TheVariants as op
 
--- The fields of an operation that could be out of their bits, each with the bound that its bits give, or a lower one where
--- the numbers above it stand for other operations (ARM7TDMI manual, Thumb formats 1 to 19).
+-- The fields of an operation that could be out of their bits, each with the bound that its bits give, or a lower one
+-- where the numbers above it stand for other operations (GBATEK, THUMB.1 to THUMB.19).
 
 -- a register has three bits
 abbrev pub low_register : ℕ → Limit
@@ -28,8 +28,8 @@ registers_of (op.Format12 p rd n8) = low_register rd ∷ []
 registers_of (op.Format15 l rb list8) = low_register rb ∷ []
 registers_of _ = []
 
--- the numbers that are neither registers nor offsets: shift by a constant has three operations, since its fourth is add and
--- subtract, and the branch has fourteen conditions
+-- the numbers that are neither registers nor offsets: shift by a constant has three operations, since its fourth is add
+-- and subtract, and the branch has fourteen conditions
 abbrev pub immediates_of : ThumbOp → List Limit
 immediates_of (op.Format1 op o5 rs rd) = limit op 3 ∷ limit o5 32 ∷ []
 immediates_of (op.Format2 true op x3 rs rd) = limit x3 8 ∷ []

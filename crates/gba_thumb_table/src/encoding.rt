@@ -14,8 +14,8 @@ use gba_word::bits;
 
 /// The halfword of an operation. A register that is none of 0 to 7 is refused first, then a number that is neither a
 /// register nor an offset, then an offset. `x3` of format 2 is a register where `i` isn't set. An `op` of 3 in format 1
-/// and a `cond` of 14 or 15 in format 16 are refused as numbers: their bits are those of other operations (ARM7TDMI
-/// manual, Thumb formats 1 to 19).
+/// and a `cond` of 14 or 15 in format 16 are refused as numbers: their bits are those of other operations (GBATEK,
+/// THUMB.1 to THUMB.19).
 #[tactic(auto, unfolding(crate::specs::Encoding::encoding))]
 pub fn encode(op: &ThumbOp) -> Result<u16, EncodeError>
     ensures encoding { result ≡ encoding op.now }

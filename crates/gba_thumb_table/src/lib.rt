@@ -15,11 +15,12 @@ mod operation;
 
 pub use encoding::encode;
 use form::{Form, form_of};
+pub use gba_arm_table::EncodeError;
 pub use operation::ThumbOp;
 
 /// The operation of a halfword, by the first row of the table that fits it. None is a halfword without an operation: it
-/// takes the Undefined trap. Every field of the operation fits its bits, a register is below 8 (ARM7TDMI manual, Thumb
-/// formats 1 to 19).
+/// takes the Undefined trap. Every field of the operation fits its bits, a register is below 8 (GBATEK, THUMB.1 to
+/// THUMB.19).
 pub fn decode(half: u16) -> Option<ThumbOp>
     ensures operation { result ≡ operation half }
     ensures fits { IfSome result Fits }

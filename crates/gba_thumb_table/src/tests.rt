@@ -3,7 +3,7 @@ use crate::operation::ThumbOp as Op;
 use gba_arm_table::EncodeError;
 use std::process::Abort;
 
-// The formats once more, each as the manual draws it from bit 15 down, in the order in which they are tried. A run of one
+// The formats once more, each drawn from bit 15 down, in the order in which they are tried. A run of one
 // letter is a field; `.` is any bit.
 const PATTERNS: [(u32, &[u8; 16]); 20] = [
     (2, b"00011ioxxxsssddd"),
@@ -143,7 +143,8 @@ fn operation_by_letters(format: u32, half: u16, pattern: &[u8; 16]) -> Option<Op
     })
 }
 
-// 5,120 halfwords have no operation: those with one of the twenty high bytes B1 to B3, B6 to BB, BE, BF, DE and E8 to EF.
+// 5,120 halfwords have no operation: those with one of the twenty high bytes B1 to B3, B6 to BB, BE, BF, DE and E8 to
+// EF.
 #[test]
 fn every_halfword_agrees_with_the_plain_reading(rt: HostRuntime) {
     let mut undefined = 0u32;
@@ -159,7 +160,7 @@ fn every_halfword_agrees_with_the_plain_reading(rt: HostRuntime) {
     assert_eq!(rt; undefined, 5_120);
 }
 
-// The halfwords are put together by hand from the manual's formats.
+// The halfwords are put together by hand from the formats.
 #[test]
 fn worked_halfwords_agree(rt: HostRuntime) {
     let cases = [

@@ -11,8 +11,10 @@ pub returns-clause-operation : goal.returns-clause-operation
 unfolding operation
 returns-clause-operation c =
     c.of_form.ensures
-    ∙ ap (λ form. operation_of form (field c.from-half.result)) (c.form_of.ensures ∙ sym (form_in-rows c.from-half.result))
+    ∙ ap (λ form. operation_of form (field c.from-half.result))
+    (c.form_of.ensures ∙ sym (form_in-rows c.from-half.result))
     ∙ ap operation c.from-half.ensures
 
 pub returns-clause-fits : goal.returns-clause-fits
-returns-clause-fits c = subst (λ result. IfSome result Fits) (sym (returns-clause-operation c)) (operation-Fits c.args.half)
+returns-clause-fits c =
+    subst (λ result. IfSome result Fits) (sym (returns-clause-operation c)) (operation-Fits c.args.half)

@@ -10,4 +10,5 @@ returns-clause-round_trip c =
     let registers : within (registers_of c.args.op.now) ≡ true = grind arith in
     let immediates : within (immediates_of c.args.op.now) ≡ true = grind arith in
     let offsets : within (offsets_of c.args.op.now) ≡ true = grind arith in
-    ap operation c.half_of.ensures ∙ operation-diagram c.args.op.now (fitting c.args.op.now registers immediates offsets)
+    ap operation c.half_of.ensures
+    ∙ operation-diagram c.args.op.now (fitting c.args.op.now registers immediates offsets)
