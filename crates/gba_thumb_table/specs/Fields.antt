@@ -2,7 +2,7 @@ use Rattle.gba_arm_table.specs.Fields.{Bits, flag}
 use Rattle.gba_thumb_table.specs.declared.operation.ThumbOp.{ThumbOp}
 use Rattle.gba_thumb_table.specs.declared.operation.ThumbOp.TheVariants as op
 
--- How the halfword of each format is read (ARM7TDMI manual, Thumb formats 1 to 19): `bits low width` is the number in the
+-- How the halfword of each format is read (GBATEK, THUMB.1 to THUMB.19): `bits low width` is the number in the
 -- `width` bits from bit `low` up.
 
 -- move shifted register: Op in bits 12 and 11, Offset5 in 10 to 6, Rs in 5 to 3, Rd in 2 to 0

@@ -15,7 +15,7 @@ pub record Row : Type 0 where
 abbrev pub row : ℕ → ℕ → Form → Row
 row mask value form = record { mask = mask; value = value; form = form }
 
--- The rows in the order in which they are tried (ARM7TDMI manual, Thumb instruction set formats). Add and subtract stand
+-- The rows in the order in which they are tried (GBATEK, THUMB.1 to THUMB.19). Add and subtract stand
 -- in what is left of the shifts; SWI, and the halfwords that have no operation, stand in two conditions of the branch.
 unfoldable pub rows : List Row
 rows =

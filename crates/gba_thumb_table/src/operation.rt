@@ -1,9 +1,8 @@
 //! The operations of the Thumb instruction set, as version 4T has it, with the fields of their halfwords.
 //!
-//! The formats and their fields are the ARM7TDMI manual's (its chapter on the Thumb instruction set, formats 1 to 19).
-//! A field of one bit is a `bool`, and any other field is a `u16` with its bits as they stand: no halfword has a larger
-//! number in it than its bits hold. `o5`, `x3`, `n7`, `n8` and `n11` are numbers of so many bits; those that are
-//! signed are so read by the operation alone.
+//! The formats have GBATEK's numbers, THUMB.1 to THUMB.19. A field of one bit is a `bool`, and any other field is a
+//! `u16` with its bits as they stand: no halfword has a larger number in it than its bits hold. `x3`, `o5`, `n7`, `n8`
+//! and `n11` are numbers of 3, 5, 7, 8 and 11 bits. A branch reads its number as a signed one.
 
 /// An operation of the Thumb set. `rs`, `rd`, `rb` and `ro` are registers from 0 to 7, `l` is the bit L (it loads), and
 /// `b` the bit B (it moves a byte).
