@@ -18,9 +18,8 @@ use Rattle.gba_arm_table.specs.declared.operation.TransferOffset.TheVariants as 
 use Rattle.gba_word.specs.declared.kinds.Shift.{Shift}
 use Rattle.gba_word.specs.declared.kinds.Shift.TheVariants.{Lsl, Lsr, Asr, Ror}
 
--- The ARM operation that each Thumb format stands for (GBATEK, THUMB.1 to THUMB.19; ARM
--- Architecture Reference Manual, A6.4). Registers of the low eight and numbers come as the halfword has them. MOV and MVN
--- read no Rn, and MUL no Rn: it is 0.
+-- The ARM operation that each Thumb format stands for (GBATEK, THUMB.1 to THUMB.19; ARM Architecture Reference Manual,
+-- A7.1). Fields come as the halfword has them. MOV and MVN read no Rn, and MUL neither: it is 0.
 
 -- a register, unshifted
 abbrev pub plain : ℕ → Operand

@@ -134,7 +134,7 @@ fn shift(op: u16) -> Shift
 }
 
 /// Format 1.
-pub fn shift_by_constant(op: u16, o5: u8, rs: u8, rd: u8) -> ArmOp
+pub fn shift_by_constant(op: u16, o5: u16, rs: u16, rd: u16) -> ArmOp
     requires o5 { o5 < 32 }
     requires rs { rs < 8 }
     requires rd { rd < 8 }
@@ -142,15 +142,15 @@ pub fn shift_by_constant(op: u16, o5: u8, rs: u8, rd: u8) -> ArmOp
     ensures fits { Fits result }
 {
     let operand = Operand::Fixed {
-        rm: rs,
+        rm: rs as u8,
         kind: shift(op),
-        amount: o5,
+        amount: o5 as u8,
     };
-    processing(ComputeOp::Mov, 0, rd, operand)
+    processing(ComputeOp::Mov, 0, rd as u8, operand)
 }
 
 /// Format 2.
-pub fn add_or_subtract(i: bool, op: bool, x3: u8, rs: u8, rd: u8) -> ArmOp
+pub fn add_or_subtract(i: bool, op: bool, x3: u16, rs: u16, rd: u16) -> ArmOp
     requires x3 { x3 < 8 }
     requires rs { rs < 8 }
     requires rd { rd < 8 }
@@ -159,33 +159,38 @@ pub fn add_or_subtract(i: bool, op: bool, x3: u8, rs: u8, rd: u8) -> ArmOp
 {
     let kind = if op { ComputeOp::Sub } else { ComputeOp::Add };
     if i {
-        processing(kind, rs, rd, small_number(x3))
+        processing(kind, rs as u8, rd as u8, small_number(x3 as u8))
     } else {
-        processing(kind, rs, rd, plain(x3))
+        processing(kind, rs as u8, rd as u8, plain(x3 as u8))
     }
 }
 
 /// Format 3.
-pub fn process_number(op: u16, rd: u8, n8: u8) -> ArmOp
-    requires { rd < 8 }
+pub fn process_number(op: u16, rd: u16, n8: u16) -> ArmOp
+    requires rd { rd < 8 }
+    requires n8 { n8 < 256 }
     ensures operation { result ≡ process_number op rd n8 }
     ensures fits { Fits result }
 {
+    let rd = rd as u8;
+    let number = small_number(n8 as u8);
     match op {
-        0 => processing(ComputeOp::Mov, 0, rd, small_number(n8)),
-        1 => comparison(CompareOp::Cmp, rd, small_number(n8)),
-        2 => processing(ComputeOp::Add, rd, rd, small_number(n8)),
-        _ => processing(ComputeOp::Sub, rd, rd, small_number(n8)),
+        0 => processing(ComputeOp::Mov, 0, rd, number),
+        1 => comparison(CompareOp::Cmp, rd, number),
+        2 => processing(ComputeOp::Add, rd, rd, number),
+        _ => processing(ComputeOp::Sub, rd, rd, number),
     }
 }
 
 /// Format 4.
-pub fn process_register(op: u16, rs: u8, rd: u8) -> ArmOp
+pub fn process_register(op: u16, rs: u16, rd: u16) -> ArmOp
     requires rs { rs < 8 }
     requires rd { rd < 8 }
     ensures operation { result ≡ process_register op rs rd }
     ensures fits { Fits result }
 {
+    let rs = rs as u8;
+    let rd = rd as u8;
     match op {
         0 => processing(ComputeOp::And, rd, rd, plain(rs)),
         1 => processing(ComputeOp::Eor, rd, rd, plain(rs)),
@@ -215,7 +220,7 @@ pub fn process_register(op: u16, rs: u8, rd: u8) -> ArmOp
 }
 
 /// One of the sixteen registers: `h` adds 8.
-pub fn full_register(h: bool, number: u8) -> u8
+pub fn full_register(h: bool, number: u16) -> u16
     requires { number < 8 }
     ensures number { result ≡ full_register h number }
     ensures most { result < 16 }
@@ -224,12 +229,14 @@ pub fn full_register(h: bool, number: u8) -> u8
 }
 
 /// Format 5, with `rs` and `rd` of all sixteen registers.
-pub fn process_full_register(op: u16, rs: u8, rd: u8) -> ArmOp
+pub fn process_full_register(op: u16, rs: u16, rd: u16) -> ArmOp
     requires rs { rs < 16 }
     requires rd { rd < 16 }
     ensures operation { result ≡ process_full_register op rs rd }
     ensures fits { Fits result }
 {
+    let rs = rs as u8;
+    let rd = rd as u8;
     match op {
         0 => quiet_processing(ComputeOp::Add, rd, rd, plain(rs)),
         1 => comparison(CompareOp::Cmp, rd, plain(rs)),
@@ -242,7 +249,7 @@ pub fn process_full_register(op: u16, rs: u8, rd: u8) -> ArmOp
 }
 
 /// Format 7.
-pub fn transfer_by_register(load: bool, byte: bool, ro: u8, rb: u8, rd: u8) -> ArmOp
+pub fn transfer_by_register(load: bool, byte: bool, ro: u16, rb: u16, rd: u16) -> ArmOp
     requires ro { ro < 8 }
     requires rb { rb < 8 }
     requires rd { rd < 8 }
@@ -256,10 +263,10 @@ pub fn transfer_by_register(load: bool, byte: bool, ro: u8, rb: u8, rd: u8) -> A
         pre: true,
         up: true,
         write: false,
-        rn: rb,
-        rd,
+        rn: rb as u8,
+        rd: rd as u8,
         offset: TransferOffset::Shifted {
-            rm: ro,
+            rm: ro as u8,
             kind: Shift::Lsl,
             amount: 0,
         },
@@ -278,7 +285,7 @@ fn half_kind(h: bool, s: bool) -> HalfKind
 }
 
 /// Format 8.
-pub fn half_by_register(h: bool, s: bool, ro: u8, rb: u8, rd: u8) -> ArmOp
+pub fn half_by_register(h: bool, s: bool, ro: u16, rb: u16, rd: u16) -> ArmOp
     requires ro { ro < 8 }
     requires rb { rb < 8 }
     requires rd { rd < 8 }
@@ -291,21 +298,21 @@ pub fn half_by_register(h: bool, s: bool, ro: u8, rb: u8, rd: u8) -> ArmOp
         pre: true,
         up: true,
         write: false,
-        rn: rb,
-        rd,
-        offset: HalfOffset::Plain { rm: ro },
+        rn: rb as u8,
+        rd: rd as u8,
+        offset: HalfOffset::Plain { rm: ro as u8 },
     }
 }
 
 /// Format 9.
-pub fn transfer_by_number(byte: bool, load: bool, o5: u32, rb: u8, rd: u8) -> ArmOp
+pub fn transfer_by_number(byte: bool, load: bool, o5: u16, rb: u16, rd: u16) -> ArmOp
     requires o5 { o5 < 32 }
     requires rb { rb < 8 }
     requires rd { rd < 8 }
     ensures operation { result ≡ transfer_by_number byte load o5 rb rd }
     ensures fits { Fits result }
 {
-    let value = if byte { o5 } else { 4 * o5 };
+    let value = u32::from(if byte { o5 } else { 4 * o5 });
     ArmOp::Transfer {
         cond: Condition::Always,
         load,
@@ -313,14 +320,14 @@ pub fn transfer_by_number(byte: bool, load: bool, o5: u32, rb: u8, rd: u8) -> Ar
         pre: true,
         up: true,
         write: false,
-        rn: rb,
-        rd,
+        rn: rb as u8,
+        rd: rd as u8,
         offset: TransferOffset::Number { value },
     }
 }
 
 /// Format 10.
-pub fn half_by_number(load: bool, o5: u32, rb: u8, rd: u8) -> ArmOp
+pub fn half_by_number(load: bool, o5: u16, rb: u16, rd: u16) -> ArmOp
     requires o5 { o5 < 32 }
     requires rb { rb < 8 }
     requires rd { rd < 8 }
@@ -337,14 +344,16 @@ pub fn half_by_number(load: bool, o5: u32, rb: u8, rd: u8) -> ArmOp
         pre: true,
         up: true,
         write: false,
-        rn: rb,
-        rd,
-        offset: HalfOffset::Number { value: 2 * o5 },
+        rn: rb as u8,
+        rd: rd as u8,
+        offset: HalfOffset::Number {
+            value: 2 * u32::from(o5),
+        },
     }
 }
 
 /// Format 11.
-pub fn stack_transfer(load: bool, rd: u8, n8: u32) -> ArmOp
+pub fn stack_transfer(load: bool, rd: u16, n8: u16) -> ArmOp
     requires rd { rd < 8 }
     requires n8 { n8 < 256 }
     ensures operation { result ≡ stack_transfer load rd n8 }
@@ -358,27 +367,31 @@ pub fn stack_transfer(load: bool, rd: u8, n8: u32) -> ArmOp
         up: true,
         write: false,
         rn: 13,
-        rd,
-        offset: TransferOffset::Number { value: 4 * n8 },
+        rd: rd as u8,
+        offset: TransferOffset::Number {
+            value: 4 * u32::from(n8),
+        },
     }
 }
 
 /// Format 12 with P.
-pub fn stack_address(rd: u8, n8: u8) -> ArmOp
-    requires { rd < 8 }
+pub fn stack_address(rd: u16, n8: u16) -> ArmOp
+    requires rd { rd < 8 }
+    requires n8 { n8 < 256 }
     ensures operation { result ≡ stack_address rd n8 }
     ensures fits { Fits result }
 {
-    quiet_processing(ComputeOp::Add, 13, rd, words_number(n8))
+    quiet_processing(ComputeOp::Add, 13, rd as u8, words_number(n8 as u8))
 }
 
 /// Format 13.
-pub fn stack_move(s: bool, n7: u8) -> ArmOp
+pub fn stack_move(s: bool, n7: u16) -> ArmOp
+    requires { n7 < 128 }
     ensures operation { result ≡ stack_move s n7 }
     ensures fits { Fits result }
 {
     let kind = if s { ComputeOp::Sub } else { ComputeOp::Add };
-    quiet_processing(kind, 13, 13, words_number(n7))
+    quiet_processing(kind, 13, 13, words_number(n7 as u8))
 }
 
 /// Format 14.
@@ -401,7 +414,7 @@ pub fn push_or_pop(load: bool, r: bool, list8: u16) -> ArmOp
 }
 
 /// Format 15.
-pub fn block(load: bool, rb: u8, list8: u16) -> ArmOp
+pub fn block(load: bool, rb: u16, list8: u16) -> ArmOp
     requires { rb < 8 }
     ensures operation { result ≡ block load rb list8 }
     ensures fits { Fits result }
@@ -413,7 +426,7 @@ pub fn block(load: bool, rb: u8, list8: u16) -> ArmOp
         up: true,
         user: false,
         write: true,
-        rn: rb,
+        rn: rb as u8,
         list: list8,
     }
 }

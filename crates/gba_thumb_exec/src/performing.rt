@@ -33,17 +33,17 @@ use gba_word::sign_extend;
 
 // So many words above the PC with its low two bits cleared.
 #[tactic(auto, unfolding(crate::specs::Effects::near_address))]
-fn near_address(site: Site, words: u32) -> u32
+fn near_address(site: Site, words: u16) -> u32
     requires { words < 256 }
     ensures { result ≡ near_address words site }
 {
     let counter = site.counter();
-    (counter - counter % 4).wrapping_add(4 * words)
+    (counter - counter % 4).wrapping_add(4 * u32::from(words))
 }
 
 // LDR from near the PC.
 #[tactic(auto, unfolding(crate::specs::Effects::after_near_load))]
-fn load_near<B: Bus>(registers: &mut Registers, bus: &mut B, site: Site, rd: u32, words: u32) -> u32
+fn load_near<B: Bus>(registers: &mut Registers, bus: &mut B, site: Site, rd: u16, words: u16) -> u32
     requires rd { rd < 8 }
     requires words { words < 256 }
     ensures { Leaves (after_near_load B.code_price_of B.load_of B.store_of rd words site registers.old
@@ -51,7 +51,7 @@ fn load_near<B: Bus>(registers: &mut Registers, bus: &mut B, site: Site, rd: u32
 {
     let code = code_price(bus, site, true);
     let (value, price) = unit_load(bus, site, LoadUnit::Word, near_address(site, words));
-    registers.set(rd, value);
+    registers.set(u32::from(rd), value);
     code + price + 1
 }
 
@@ -61,17 +61,18 @@ fn make_address<B: Bus>(
     bus: &mut B,
     site: Site,
     from_stack: bool,
-    rd: u8,
-    words: u8,
+    rd: u16,
+    words: u16,
 ) -> u32
-    requires { rd < 8 }
+    requires rd { rd < 8 }
+    requires words { words < 256 }
     ensures { Leaves (after_address B.code_price_of B.load_of B.store_of from_stack rd words site registers.old
         (B.state bus.old)) registers.new (B.state bus.new) result }
 {
     if from_stack {
         perform(registers, bus, site, stack_address(rd, words))
     } else {
-        registers.set(u32::from(rd), near_address(site, u32::from(words)));
+        registers.set(u32::from(rd), near_address(site, words));
         code_price(bus, site, true)
     }
 }
@@ -98,13 +99,13 @@ fn numbered_condition(number: u16) -> Condition
 }
 
 // B under a condition.
-fn branch_if<B: Bus>(registers: &mut Registers, bus: &mut B, site: Site, cond: u16, n8: u32) -> u32
+fn branch_if<B: Bus>(registers: &mut Registers, bus: &mut B, site: Site, cond: u16, n8: u16) -> u32
     requires { cond < 16 }
     ensures { Leaves (conditional_branch B.code_price_of B.load_of B.store_of cond n8 site registers.old
         (B.state bus.old)) registers.new (B.state bus.new) result }
 {
     if condition_holds(numbered_condition(cond), registers.flags()) {
-        branch(registers, bus, site, sign_extend(n8, 8))
+        branch(registers, bus, site, sign_extend(u32::from(n8), 8))
     } else {
         code_price(bus, site, true)
     }
@@ -112,27 +113,27 @@ fn branch_if<B: Bus>(registers: &mut Registers, bus: &mut B, site: Site, cond: u
 
 // The first half of BL.
 #[tactic(auto, unfolding(crate::specs::Effects::after_link_high))]
-fn link_high(registers: &mut Registers, site: Site, n11: u32)
+fn link_high(registers: &mut Registers, site: Site, n11: u16)
     ensures { registers.new ≡ after_link_high n11 site registers.old }
 {
-    let high = sign_extend(n11, 11).wrapping_mul(1 << 12);
+    let high = sign_extend(u32::from(n11), 11).wrapping_mul(1 << 12);
     registers.set(14, site.counter().wrapping_add(high));
 }
 
 // The second half of BL.
 #[tactic(auto, unfolding(crate::specs::Effects::after_link_low))]
-fn link_low(registers: &mut Registers, n11: u32)
+fn link_low(registers: &mut Registers, n11: u16)
     requires { n11 < 2048 }
     ensures { registers.new ≡ after_link_low n11 registers.old }
 {
     let next = registers.get(15);
-    let target = registers.get(14).wrapping_add(2 * n11);
+    let target = registers.get(14).wrapping_add(2 * u32::from(n11));
     registers.set(14, next - next % 2 + 1);
     jump(registers, target);
 }
 
 // Either half of BL.
-fn link<B: Bus>(registers: &mut Registers, bus: &mut B, site: Site, second: bool, n11: u32) -> u32
+fn link<B: Bus>(registers: &mut Registers, bus: &mut B, site: Site, second: bool, n11: u16) -> u32
     requires { n11 < 2048 }
     ensures { Leaves (link_half B.code_price_of B.load_of B.store_of second n11 site registers.old
         (B.state bus.old)) registers.new (B.state bus.new) result }
@@ -154,51 +155,34 @@ pub fn perform_thumb<B: Bus>(registers: &mut Registers, bus: &mut B, site: Site,
         registers.new (B.state bus.new) result }
 {
     let arm = match op {
-        ThumbOp::Format1 { op, o5, rs, rd } => shift_by_constant(op, o5 as u8, rs as u8, rd as u8),
-        ThumbOp::Format2 { i, op, x3, rs, rd } => add_or_subtract(
-            i, op, x3 as u8, rs as u8, rd as u8,
-        ),
-        ThumbOp::Format3 { op, rd, n8 } => process_number(op, rd as u8, n8 as u8),
-        ThumbOp::Format4 { op, rs, rd } => process_register(op, rs as u8, rd as u8),
+        ThumbOp::Format1 { op, o5, rs, rd } => shift_by_constant(op, o5, rs, rd),
+        ThumbOp::Format2 { i, op, x3, rs, rd } => add_or_subtract(i, op, x3, rs, rd),
+        ThumbOp::Format3 { op, rd, n8 } => process_number(op, rd, n8),
+        ThumbOp::Format4 { op, rs, rd } => process_register(op, rs, rd),
         ThumbOp::Format5 { op, h1, h2, rs, rd } => process_full_register(
             op,
-            full_register(h2, rs as u8),
-            full_register(h1, rd as u8),
+            full_register(h2, rs),
+            full_register(h1, rd),
         ),
-        ThumbOp::Format6 { rd, n8 } => {
-            return load_near(registers, bus, site, u32::from(rd), u32::from(n8));
-        }
-        ThumbOp::Format7 { l, b, ro, rb, rd } => transfer_by_register(
-            l, b, ro as u8, rb as u8, rd as u8,
-        ),
-        ThumbOp::Format8 { h, s, ro, rb, rd } => half_by_register(
-            h, s, ro as u8, rb as u8, rd as u8,
-        ),
-        ThumbOp::Format9 { b, l, o5, rb, rd } => transfer_by_number(
-            b,
-            l,
-            u32::from(o5),
-            rb as u8,
-            rd as u8,
-        ),
-        ThumbOp::Format10 { l, o5, rb, rd } => half_by_number(l, u32::from(o5), rb as u8, rd as u8),
-        ThumbOp::Format11 { l, rd, n8 } => stack_transfer(l, rd as u8, u32::from(n8)),
-        ThumbOp::Format12 { p, rd, n8 } => {
-            return make_address(registers, bus, site, p, rd as u8, n8 as u8);
-        }
-        ThumbOp::Format13 { s, n7 } => stack_move(s, n7 as u8),
+        ThumbOp::Format6 { rd, n8 } => return load_near(registers, bus, site, rd, n8),
+        ThumbOp::Format7 { l, b, ro, rb, rd } => transfer_by_register(l, b, ro, rb, rd),
+        ThumbOp::Format8 { h, s, ro, rb, rd } => half_by_register(h, s, ro, rb, rd),
+        ThumbOp::Format9 { b, l, o5, rb, rd } => transfer_by_number(b, l, o5, rb, rd),
+        ThumbOp::Format10 { l, o5, rb, rd } => half_by_number(l, o5, rb, rd),
+        ThumbOp::Format11 { l, rd, n8 } => stack_transfer(l, rd, n8),
+        ThumbOp::Format12 { p, rd, n8 } => return make_address(registers, bus, site, p, rd, n8),
+        ThumbOp::Format13 { s, n7 } => stack_move(s, n7),
         ThumbOp::Format14 { l, r, list8 } => push_or_pop(l, r, list8),
-        ThumbOp::Format15 { l, rb, list8 } => block(l, rb as u8, list8),
-        ThumbOp::Format16 { cond, n8 } => {
-            return branch_if(registers, bus, site, cond, u32::from(n8));
-        }
+        ThumbOp::Format15 { l, rb, list8 } => block(l, rb, list8),
+        ThumbOp::Format16 { cond, n8 } => return branch_if(registers, bus, site, cond, n8),
         ThumbOp::Format17 { n8 } => software_interrupt(n8),
-        ThumbOp::Format18 { n11 } => {
-            return branch(registers, bus, site, sign_extend(u32::from(n11), 11));
-        }
-        ThumbOp::Format19 { second, n11 } => {
-            return link(registers, bus, site, second, u32::from(n11));
-        }
+        ThumbOp::Format18 { n11 } => return branch(
+            registers,
+            bus,
+            site,
+            sign_extend(u32::from(n11), 11),
+        ),
+        ThumbOp::Format19 { second, n11 } => return link(registers, bus, site, second, n11),
     };
     perform(registers, bus, site, arm)
 }
