@@ -141,15 +141,19 @@ stack_address rd n8 = quiet_processing Add 13 rd (words_number n8)
 abbrev pub stack_move : Bool → ℕ → ArmOp
 stack_move s n7 = quiet_processing (if s then Sub else Add) 13 13 (words_number n7)
 
--- format 14: PUSH is STMDB r13! of the list and with R of r14, POP is LDMIA r13! of the list and with R of r15
+-- LDM and STM of the present mode's registers, with write-back
+abbrev pub block_transfer : Bool → Bool → Bool → ℕ → ℕ → ArmOp
+block_transfer load pre up rn list = arm.Block Always load pre up false true rn list
+
+-- format 14 with L: POP is LDMIA r13! of the list, and with R of r15, which leaves T; without L: PUSH is STMDB r13! of the
+-- list, and with R of r14
 abbrev pub push_or_pop : Bool → Bool → ℕ → ArmOp
-push_or_pop l r list8 =
-    arm.Block Always l (if l then false else true) l false true 13
-    (if r then list8 + (if l then 2 ^ 15 else 2 ^ 14) else list8)
+push_or_pop true r list8 = block_transfer true false true 13 (if r then list8 + 2 ^ 15 else list8)
+push_or_pop false r list8 = block_transfer false true false 13 (if r then list8 + 2 ^ 14 else list8)
 
 -- format 15: STMIA and LDMIA Rb!
 abbrev pub block : Bool → ℕ → ℕ → ArmOp
-block l rb list8 = arm.Block Always l false true false true rb list8
+block l rb list8 = block_transfer l false true rb list8
 
 -- format 17: SWI
 abbrev pub software_interrupt : ℕ → ArmOp

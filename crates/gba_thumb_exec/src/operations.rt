@@ -1,15 +1,27 @@
 //! The ARM operation that each format stands for, where there is one.
 
 ghost use Rattle.std.specs.Prelude.{◌≡◌, ◌<◌};
-ghost use Rattle.gba_arm_table.specs.Limits.{Fits, Within, operand_immediates, operand_registers};
+ghost use Rattle.gba_arm_table.specs.Limits.{
+  Fits,
+  Within,
+  half_offsets,
+  half_registers,
+  operand_immediates,
+  operand_registers,
+  transfer_immediates,
+  transfer_offsets,
+  transfer_registers,
+};
 ghost use Rattle.gba_thumb_exec.specs.Operations.{
   add_or_subtract,
   block,
+  block_transfer,
   comparison,
   full_register,
   half_by_number,
   half_by_register,
   half_kind,
+  half_transfer,
   plain,
   process_full_register,
   process_number,
@@ -24,6 +36,7 @@ ghost use Rattle.gba_thumb_exec.specs.Operations.{
   stack_address,
   stack_move,
   stack_transfer,
+  transfer,
   transfer_by_number,
   transfer_by_register,
   words_number,
@@ -235,16 +248,58 @@ pub fn process_full_register(op: u16, rs: u16, rd: u16) -> ArmOp
     ensures operation { result ≡ process_full_register op rs rd }
     ensures fits { Fits result }
 {
-    let rs = rs as u8;
-    let rd = rd as u8;
+    let source = rs as u8;
+    let target = rd as u8;
     match op {
-        0 => quiet_processing(ComputeOp::Add, rd, rd, plain(rs)),
-        1 => comparison(CompareOp::Cmp, rd, plain(rs)),
-        2 => quiet_processing(ComputeOp::Mov, 0, rd, plain(rs)),
+        0 => quiet_processing(ComputeOp::Add, target, target, plain(source)),
+        1 => comparison(CompareOp::Cmp, target, plain(source)),
+        2 => quiet_processing(ComputeOp::Mov, 0, target, plain(source)),
         _ => ArmOp::Exchange {
             cond: Condition::Always,
-            rm: rs,
+            rm: source,
         },
+    }
+}
+
+fn transfer(load: bool, byte: bool, rn: u8, rd: u16, offset: TransferOffset) -> ArmOp
+    requires rn { rn < 16 }
+    requires rd { rd < 8 }
+    requires registers { Within (transfer_registers offset) }
+    requires immediates { Within (transfer_immediates offset) }
+    requires offsets { Within (transfer_offsets offset) }
+    ensures operation { result ≡ transfer load byte rn rd offset }
+    ensures fits { Fits result }
+{
+    ArmOp::Transfer {
+        cond: Condition::Always,
+        load,
+        byte,
+        pre: true,
+        up: true,
+        write: false,
+        rn,
+        rd: rd as u8,
+        offset,
+    }
+}
+
+fn half_transfer(kind: HalfKind, rn: u16, rd: u16, offset: HalfOffset) -> ArmOp
+    requires rn { rn < 8 }
+    requires rd { rd < 8 }
+    requires registers { Within (half_registers offset) }
+    requires offsets { Within (half_offsets offset) }
+    ensures operation { result ≡ half_transfer kind rn rd offset }
+    ensures fits { Fits result }
+{
+    ArmOp::Half {
+        cond: Condition::Always,
+        kind,
+        pre: true,
+        up: true,
+        write: false,
+        rn: rn as u8,
+        rd: rd as u8,
+        offset,
     }
 }
 
@@ -256,21 +311,12 @@ pub fn transfer_by_register(load: bool, byte: bool, ro: u16, rb: u16, rd: u16) -
     ensures operation { result ≡ transfer_by_register load byte ro rb rd }
     ensures fits { Fits result }
 {
-    ArmOp::Transfer {
-        cond: Condition::Always,
-        load,
-        byte,
-        pre: true,
-        up: true,
-        write: false,
-        rn: rb as u8,
-        rd: rd as u8,
-        offset: TransferOffset::Shifted {
-            rm: ro as u8,
-            kind: Shift::Lsl,
-            amount: 0,
-        },
-    }
+    let offset = TransferOffset::Shifted {
+        rm: ro as u8,
+        kind: Shift::Lsl,
+        amount: 0,
+    };
+    transfer(load, byte, rb as u8, rd, offset)
 }
 
 fn half_kind(h: bool, s: bool) -> HalfKind
@@ -292,16 +338,7 @@ pub fn half_by_register(h: bool, s: bool, ro: u16, rb: u16, rd: u16) -> ArmOp
     ensures operation { result ≡ half_by_register h s ro rb rd }
     ensures fits { Fits result }
 {
-    ArmOp::Half {
-        cond: Condition::Always,
-        kind: half_kind(h, s),
-        pre: true,
-        up: true,
-        write: false,
-        rn: rb as u8,
-        rd: rd as u8,
-        offset: HalfOffset::Plain { rm: ro as u8 },
-    }
+    half_transfer(half_kind(h, s), rb, rd, HalfOffset::Plain { rm: ro as u8 })
 }
 
 /// Format 9.
@@ -313,17 +350,7 @@ pub fn transfer_by_number(byte: bool, load: bool, o5: u16, rb: u16, rd: u16) -> 
     ensures fits { Fits result }
 {
     let value = u32::from(if byte { o5 } else { 4 * o5 });
-    ArmOp::Transfer {
-        cond: Condition::Always,
-        load,
-        byte,
-        pre: true,
-        up: true,
-        write: false,
-        rn: rb as u8,
-        rd: rd as u8,
-        offset: TransferOffset::Number { value },
-    }
+    transfer(load, byte, rb as u8, rd, TransferOffset::Number { value })
 }
 
 /// Format 10.
@@ -334,22 +361,13 @@ pub fn half_by_number(load: bool, o5: u16, rb: u16, rd: u16) -> ArmOp
     ensures operation { result ≡ half_by_number load o5 rb rd }
     ensures fits { Fits result }
 {
-    ArmOp::Half {
-        cond: Condition::Always,
-        kind: if load {
-            HalfKind::LoadHalf
-        } else {
-            HalfKind::StoreHalf
-        },
-        pre: true,
-        up: true,
-        write: false,
-        rn: rb as u8,
-        rd: rd as u8,
-        offset: HalfOffset::Number {
-            value: 2 * u32::from(o5),
-        },
-    }
+    let kind = if load {
+        HalfKind::LoadHalf
+    } else {
+        HalfKind::StoreHalf
+    };
+    let value = 2 * u32::from(o5);
+    half_transfer(kind, rb, rd, HalfOffset::Number { value })
 }
 
 /// Format 11.
@@ -359,19 +377,8 @@ pub fn stack_transfer(load: bool, rd: u16, n8: u16) -> ArmOp
     ensures operation { result ≡ stack_transfer load rd n8 }
     ensures fits { Fits result }
 {
-    ArmOp::Transfer {
-        cond: Condition::Always,
-        load,
-        byte: false,
-        pre: true,
-        up: true,
-        write: false,
-        rn: 13,
-        rd: rd as u8,
-        offset: TransferOffset::Number {
-            value: 4 * u32::from(n8),
-        },
-    }
+    let value = 4 * u32::from(n8);
+    transfer(load, false, 13, rd, TransferOffset::Number { value })
 }
 
 /// Format 12 with P.
@@ -394,22 +401,45 @@ pub fn stack_move(s: bool, n7: u16) -> ArmOp
     quiet_processing(kind, 13, 13, words_number(n7 as u8))
 }
 
+fn block_transfer(load: bool, pre: bool, up: bool, rn: u8, list: u16) -> ArmOp
+    requires { rn < 16 }
+    ensures operation { result ≡ block_transfer load pre up rn list }
+    ensures fits { Fits result }
+{
+    ArmOp::Block {
+        cond: Condition::Always,
+        load,
+        pre,
+        up,
+        user: false,
+        write: true,
+        rn,
+        list,
+    }
+}
+
 /// Format 14.
 pub fn push_or_pop(load: bool, r: bool, list8: u16) -> ArmOp
     requires { list8 < 256 }
     ensures operation { result ≡ push_or_pop load r list8 }
     ensures fits { Fits result }
 {
-    let last = if load { 1 << 15 } else { 1 << 14 };
-    ArmOp::Block {
-        cond: Condition::Always,
-        load,
-        pre: !load,
-        up: load,
-        user: false,
-        write: true,
-        rn: 13,
-        list: if r { list8 + last } else { list8 },
+    if load {
+        block_transfer(
+            true,
+            false,
+            true,
+            13,
+            if r { list8 + (1 << 15) } else { list8 },
+        )
+    } else {
+        block_transfer(
+            false,
+            true,
+            false,
+            13,
+            if r { list8 + (1 << 14) } else { list8 },
+        )
     }
 }
 
@@ -419,16 +449,7 @@ pub fn block(load: bool, rb: u16, list8: u16) -> ArmOp
     ensures operation { result ≡ block load rb list8 }
     ensures fits { Fits result }
 {
-    ArmOp::Block {
-        cond: Condition::Always,
-        load,
-        pre: false,
-        up: true,
-        user: false,
-        write: true,
-        rn: rb as u8,
-        list: list8,
-    }
+    block_transfer(load, false, true, rb as u8, list8)
 }
 
 /// Format 17.
