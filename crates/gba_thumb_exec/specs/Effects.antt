@@ -29,7 +29,8 @@ after_short_branch halfwords site file = after_jump file ((counter site + 2 * ha
 unfoldable pub after_link_high : ℕ → Site → List ℕ → List ℕ
 after_link_high n11 site file = with_register file 14 ((counter site + 2 ^ 12 * sign_extension n11 11) % 2 ^ 32)
 
--- the second half of BL: a jump by so many halfwords from r14, which takes the next instruction's address with bit 0 set
+-- the second half of BL: a jump by so many halfwords from r14, which takes the next instruction's address with bit 0
+-- set
 unfoldable pub after_link_low : ℕ → List ℕ → List ℕ
 after_link_low n11 file =
     let link = register file 15 - register file 15 % 2 + 1 in

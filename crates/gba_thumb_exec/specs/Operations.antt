@@ -145,8 +145,8 @@ stack_move s n7 = quiet_processing (if s then Sub else Add) 13 13 (words_number 
 abbrev pub block_transfer : Bool → Bool → Bool → ℕ → ℕ → ArmOp
 block_transfer load pre up rn list = arm.Block Always load pre up false true rn list
 
--- format 14 with L: POP is LDMIA r13! of the list, and with R of r15, which leaves T; without L: PUSH is STMDB r13! of the
--- list, and with R of r14
+-- format 14. With L, POP is LDMIA r13! of the list, and with R of r15, which leaves T. Without L, PUSH is STMDB r13! of
+-- the list, and with R of r14.
 abbrev pub push_or_pop : Bool → Bool → ℕ → ArmOp
 push_or_pop true r list8 = block_transfer true false true 13 (if r then list8 + 2 ^ 15 else list8)
 push_or_pop false r list8 = block_transfer false true false 13 (if r then list8 + 2 ^ 14 else list8)

@@ -14,8 +14,8 @@ use gba_psr::Registers;
 use gba_thumb_table::decode;
 use performing::perform_half;
 
-/// Executes a Thumb halfword that stands at the address in r15, and answers the cycles. Afterwards r15 is the address of
-/// the next instruction (ARM Architecture Reference Manual, version 4T; cycles by the ARM7TDMI Technical Reference
+/// Executes a Thumb halfword that stands at the address in r15, and answers the cycles. Afterwards r15 is the address
+/// of the next instruction (ARM Architecture Reference Manual, version 4T; cycles by the ARM7TDMI Technical Reference
 /// Manual).
 #[tactic(auto, unfolding(crate::specs::Execution::execution))]
 pub fn execute<B: Bus>(registers: &mut Registers, bus: &mut B, half: u16) -> u32
