@@ -1,95 +1,75 @@
 -- Each step raises the clock, so a run reaches its end.
-use Rattle.std.proofs.Common.{◌≡◌, ℕ, zero, suc, ◌+◌, ◌<◌, ◌≤◌, Bool, true, false, List, Result, Ok, Err, refl, sym, subst, arith}
+use Rattle.std.proofs.Common.{◌≡◌, ℕ, zero, suc, ◌+◌, ◌<◌, ◌≤◌, Bool, true, false, List, refl, sym, arith}
 use Rattle.std.specs.Prelude.{nat_lt, if◌then◌else◌}
 use Rattle.gba_terms.specs.Bits.{bit}
-use Rattle.gba_bus.specs.declared.width.Width.TheVariants.{Word}
+use Rattle.gba_bus.specs.declared.width.Width.TheVariants.{Half, Word}
 use Rattle.gba_psr.specs.RegisterFile.{status, register}
-use Rattle.gba_exec_transfers.specs.Done.{IsStepLength}
-use Rattle.gba_arm_exec.specs.Execution.{execution}
-use Rattle.gba_console.specs.declared.NotBuilt.{NotBuilt}
+use Rattle.gba_exec_transfers.specs.Done.{Done, IsStepLength}
+use Rattle.gba_arm_exec.specs.Execution as arm
+use Rattle.gba_thumb_exec.specs.Execution as thumb
 use Rattle.gba_console.specs.Memory.{Memory, read, memory_code_price, memory_load, memory_store}
 use Rattle.gba_console.specs.Machine.{Machine}
-use Rattle.gba_console.specs.Step.{next, after_instruction, refusal}
-use Rattle.gba_console.specs.Run.{run, run_to, after}
+use Rattle.gba_console.specs.Step.{next, half_done, instruction_done, word_done}
+use Rattle.gba_console.specs.Run.{run, run_to}
 
--- an outcome that isn't refused
-abbrev good : Machine → Result Machine NotBuilt
-good m = Ok m
-
-same_machine : (m n : Machine) → good m ≡ good n → m ≡ n
-same_machine m n e = cc
-
--- how long words take over these memories
+-- how long words, and halfwords, take over these memories
 abbrev pub WordsTakeSteps : Type 0
 WordsTakeSteps =
-    (word : ℕ) (file : List ℕ) (memory : Memory) → IsStepLength (execution memory_code_price memory_load memory_store word file memory).cycles
+    (word : ℕ) (file : List ℕ) (memory : Memory)
+    → IsStepLength (arm.execution memory_code_price memory_load memory_store word file memory).cycles
 
-next_by : (m n : Machine) (thumb : Bool) → WordsTakeSteps → (if thumb then Err (refusal m) else good (after_instruction m)) ≡ Ok n → m.clock < n.clock
-next_by m n true lengths e = cc
-next_by m n false lengths e =
-    let length = lengths (read true m.memory (register m.registers 15) Word) m.registers m.memory in
-    let rises : m.clock < (after_instruction m).clock = omega (arith, length.least) in
-    subst (λ (k : Machine). m.clock < k.clock) (same_machine (after_instruction m) n e) rises
+abbrev pub HalvesTakeSteps : Type 0
+HalvesTakeSteps =
+    (half : ℕ) (file : List ℕ) (memory : Memory)
+    → IsStepLength (thumb.execution memory_code_price memory_load memory_store half file memory).cycles
 
-next-rises : (m n : Machine) → WordsTakeSteps → next m ≡ Ok n → m.clock < n.clock
-unfolding next
-next-rises m n lengths e = next_by m n (bit (status m.registers) 5) lengths e
+module _ (words : WordsTakeSteps) (halves : HalvesTakeSteps) where
+  either-length : (test : Bool) (one other : Done Memory) → IsStepLength one.cycles → IsStepLength other.cycles
+      → IsStepLength (if test then one else other).cycles
+  either-length true one other here there = here
+  either-length false one other here there = there
 
--- the rest of a run after its next step, where the rest reaches the end
-rest_reaches : (most until : ℕ) (m n : Machine) (r : Result Machine NotBuilt) → WordsTakeSteps → next m ≡ r
-    → ((k : Machine) → until ≤ k.clock + most → run most until k ≡ Ok n → until ≤ n.clock)
-    → until ≤ m.clock + suc most → after r (run most until) ≡ Ok n → until ≤ n.clock
-rest_reaches most until m n (Ok k) lengths is rest bound e =
-    let rises : m.clock < k.clock = next-rises m k lengths is in
-    rest k (omega arith) e
-rest_reaches most until m n (Err refusal) lengths is rest bound e = cc
+  instruction-length : (file : List ℕ) (memory : Memory) → IsStepLength (instruction_done file memory).cycles
+  instruction-length file memory =
+      either-length (bit (status file) 5) (half_done file memory) (word_done file memory)
+      (halves (read true memory (register file 15) Half) file memory)
+      (words (read true memory (register file 15) Word) file memory)
 
-by_test : (most until : ℕ) (m n : Machine) (b : Bool) → WordsTakeSteps → nat_lt m.clock until ≡ b
-    → ((k : Machine) → until ≤ k.clock + most → run most until k ≡ Ok n → until ≤ n.clock)
-    → until ≤ m.clock + suc most → (if b then after (next m) (run most until) else Ok m) ≡ Ok n → until ≤ n.clock
-by_test most until m n true lengths is rest bound e = rest_reaches most until m n (next m) lengths refl rest bound e
-by_test most until m n false lengths is rest bound e =
-    let same : m ≡ n = same_machine m n e in
-    let past : until ≤ m.clock = grind arith in
-    subst (λ (k : Machine). until ≤ k.clock) same past
+  next-rises : (m : Machine) → m.clock < (next m).clock
+  unfolding next
+  next-rises m = omega (arith, (instruction-length m.registers m.memory).least)
 
-run-reaches : (most until : ℕ) (m n : Machine) → WordsTakeSteps → until ≤ m.clock + most → run most until m ≡ Ok n → until ≤ n.clock
-unfolding run
-run-reaches zero until m n lengths bound e =
-    let past : until ≤ m.clock = omega arith in
-    subst (λ (k : Machine). until ≤ k.clock) (same_machine m n e) past
-run-reaches (suc most) until m n lengths bound e =
-    by_test most until m n (nat_lt m.clock until) lengths refl (λ k. run-reaches most until k n lengths) bound e
+  by-test : (most until : ℕ) (m : Machine) (test : Bool) → nat_lt m.clock until ≡ test
+      → (until ≤ (next m).clock + most → until ≤ (run most until (next m)).clock)
+      → until ≤ m.clock + suc most → until ≤ (if test then run most until (next m) else m).clock
+  by-test most until m true is rest bound = rest (omega (arith, next-rises m))
+  by-test most until m false is rest bound = grind arith
 
-pub reaches : WordsTakeSteps → (until : ℕ) (start end : Machine) → run_to until start ≡ Ok end → until ≤ end.clock
-reaches lengths until start end e = run-reaches until until start end lengths (omega arith) e
+  run-reaches : (most until : ℕ) (m : Machine) → until ≤ m.clock + most → until ≤ (run most until m).clock
+  unfolding run
+  run-reaches zero until m bound = omega arith
+  run-reaches (suc most) until m bound =
+      by-test most until m (nat_lt m.clock until) refl (run-reaches most until (next m)) bound
 
--- two bounds on what follows a step
-enough-after : (a b until : ℕ) (m : Machine) (r : Result Machine NotBuilt) → WordsTakeSteps → next m ≡ r
-    → ((k : Machine) → until ≤ k.clock + a → until ≤ k.clock + b → run a until k ≡ run b until k)
-    → until ≤ m.clock + suc a → until ≤ m.clock + suc b → after r (run a until) ≡ after r (run b until)
-enough-after a b until m (Ok k) lengths is rest one other =
-    let rises : m.clock < k.clock = next-rises m k lengths is in
-    rest k (omega arith) (omega arith)
-enough-after a b until m (Err refusal) lengths is rest one other = refl
+  pub reaches : (until : ℕ) (start : Machine) → until ≤ (run_to until start).clock
+  reaches until start = run-reaches until until start (omega arith)
 
-enough-test : (a b until : ℕ) (m : Machine) (test : Bool)
-    → after (next m) (run a until) ≡ after (next m) (run b until)
-    → (if test then after (next m) (run a until) else good m) ≡ (if test then after (next m) (run b until) else good m)
-enough-test a b until m true same = same
-enough-test a b until m false same = refl
+  same-test : (test : Bool) (m n k : Machine) → n ≡ k → (if test then n else m) ≡ (if test then k else m)
+  same-test true m n k same = same
+  same-test false m n k same = refl
 
-run-over : (most until : ℕ) (m : Machine) → until ≤ m.clock → good m ≡ run (suc most) until m
-unfolding run
-run-over most until m past =
-    let e : nat_lt m.clock until ≡ false = grind arith in
-    rw e refl
+  run-over : (most until : ℕ) (m : Machine) → until ≤ m.clock → m ≡ run (suc most) until m
+  unfolding run
+  run-over most until m past =
+      let e : nat_lt m.clock until ≡ false = grind arith in
+      rw e refl
 
-pub enough : (a b until : ℕ) (m : Machine) → WordsTakeSteps → until ≤ m.clock + a → until ≤ m.clock + b → run a until m ≡ run b until m
-unfolding run
-enough zero zero until m lengths one other = refl
-enough zero (suc b) until m lengths one other = run-over b until m (omega arith)
-enough (suc a) zero until m lengths one other = sym (run-over a until m (omega arith))
-enough (suc a) (suc b) until m lengths one other =
-    enough-test a b until m (nat_lt m.clock until)
-    (enough-after a b until m (next m) lengths refl (λ k. enough a b until k lengths) one other)
+  pub enough : (a b until : ℕ) (m : Machine) → until ≤ m.clock + a → until ≤ m.clock + b
+      → run a until m ≡ run b until m
+  unfolding run
+  enough zero zero until m one other = refl
+  enough zero (suc b) until m one other = run-over b until m (omega arith)
+  enough (suc a) zero until m one other = sym (run-over a until m (omega arith))
+  enough (suc a) (suc b) until m one other =
+      same-test (nat_lt m.clock until) m (run a until (next m)) (run b until (next m))
+      (enough a b until (next m) (omega (arith, next-rises m)) (omega (arith, next-rises m)))

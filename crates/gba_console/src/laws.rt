@@ -4,12 +4,14 @@ ghost use Rattle.gba_console.specs.Run.{IsEnough, Reaches};
 
 use crate::memory::Memory;
 use gba_arm_exec::laws::cycles_of_a_word;
+use gba_thumb_exec::laws::cycles_of_a_halfword;
 
-/// A run that isn't refused ends with a clock at or past its end: the bound on its steps cuts none off.
+/// A run ends with a clock at or past its end: the bound on its steps cuts none off.
 pub fn reaches()
     ensures { Reaches }
 {
     cycles_of_a_word::<Memory>();
+    cycles_of_a_halfword::<Memory>();
 }
 
 /// Any two bounds on the steps of a run that are enough give the same run.
@@ -17,4 +19,5 @@ pub fn enough()
     ensures { IsEnough }
 {
     cycles_of_a_word::<Memory>();
+    cycles_of_a_halfword::<Memory>();
 }

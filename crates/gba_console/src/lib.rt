@@ -1,29 +1,28 @@
 #![tactic(auto)]
 //! A console: registers, memories and a clock, and one step of it.
 
-ghost use Rattle.std.specs.Prelude.{◌≡◌, ◌<◌, IfOk, replicate, vec_len};
+ghost use Rattle.std.specs.Prelude.{◌≡◌, ◌<◌, IfOk, length, replicate, vec_len};
 ghost use Rattle.gba_console.specs.Machine.{inner_length};
+ghost use Rattle.gba_console.specs.Step.{half_done, word_done};
+ghost use Rattle.gba_exec_transfers.specs.Done.{Leaves};
 
 pub mod laws;
 mod memory;
 
+use gba_arm_exec as arm;
 use gba_arm_exec::laws::cycles_of_a_word;
-use gba_arm_exec::{Decoded, decode_word, execute_decoded, execute_first};
+use gba_arm_exec::{Decoded as DecodedWord, decode_word};
 use gba_bus::{Bus, Width};
 use gba_psr::Registers;
 use gba_terms::NoMemory;
+use gba_thumb_exec as thumb;
+use gba_thumb_exec::laws::cycles_of_a_halfword;
+use gba_thumb_exec::{DecodedHalf, decode_half};
 use gba_word::bit;
 use memory::Memory;
 pub use memory::{BIOS_LENGTH, INNER_LENGTH};
 use std::alloc::{AllocError, Global};
 use std::marker::Model;
-
-/// An instruction that this version can't execute: its address, and the halfword there.
-#[derive(Clone, Copy, Debug, PartialEq, Eq)]
-pub struct NotBuilt {
-    pub address: u32,
-    pub word: u32,
-}
 
 /// The length of the inner RAM, whose number the proofs don't see.
 #[tactic(auto, unfolding(crate::specs::Machine::inner_length))]
@@ -34,21 +33,36 @@ fn length_of_inner() -> usize
     INNER_LENGTH
 }
 
-/// How many decoded words a console keeps: 128 KiB of them.
-const DECODED_WORDS: usize = 4096;
+/// How many decoded words a console keeps, and how many decoded halfwords: 128 KiB of each.
+const DECODED: usize = 4096;
 
-/// Where the table has the word at this address. Words 16 KiB apart share a place.
-fn place_of(address: u32) -> usize
+/// Where the table of words has the one at this address. Words 16 KiB apart share a place.
+fn place_of_word(address: u32) -> usize
     ensures { result < 4096 }
 {
-    (address / 4) as usize % DECODED_WORDS
+    (address / 4) as usize % DECODED
+}
+
+/// Where the table of halfwords has the one at this address. Halfwords 8 KiB apart share a place.
+fn place_of_half(address: u32) -> usize
+    ensures { result < 4096 }
+{
+    (address / 2) as usize % DECODED
 }
 
 /// A table of the word 0, decoded.
-fn table_of(alloc: Global, length: usize) -> Result<Vec<Decoded>, AllocError>
+fn words_of(alloc: Global, length: usize) -> Result<Vec<DecodedWord>, AllocError>
     ensures { IfOk result (λ table. vec_len table ≡ length) }
 {
     let first = decode_word(0);
+    vec![in alloc; first; length]
+}
+
+/// A table of the halfword 0, decoded.
+fn halves_of(alloc: Global, length: usize) -> Result<Vec<DecodedHalf>, AllocError>
+    ensures { IfOk result (λ table. vec_len table ≡ length) }
+{
+    let first = decode_half(0);
     vec![in alloc; first; length]
 }
 
@@ -64,8 +78,9 @@ pub struct Console {
     registers: Registers,
     memory: Memory,
     clock: u64,
-    // Words that were decoded at their addresses. An entry counts only where its word is the one that is read.
-    table: Vec<Decoded>,
+    // Words and halfwords that were decoded at their addresses. An entry counts only where it is the one that is read.
+    words: Vec<DecodedWord>,
+    halves: Vec<DecodedHalf>,
 }
 
 impl Model for Console {
@@ -76,7 +91,7 @@ impl Model for Console {
 
     ghost view = { λ c. record { registers = c.registers; memory = c.memory; clock = c.clock } };
 
-    ghost invariant = { λ c. vec_len c.table ≡ 4096 };
+    ghost invariant = { λ c. (vec_len c.words ≡ 4096) × (vec_len c.halves ≡ 4096) };
 }
 
 impl Console {
@@ -86,12 +101,7 @@ impl Console {
       ◌≤◌,
       ◌<◌,
       ◌^◌,
-      Ok,
-      Err,
       IfOk,
-      MatchResult,
-      OnOk,
-      OnErr,
       vec_len,
       length,
     };
@@ -99,7 +109,7 @@ impl Console {
     ghost use Rattle.gba_console.specs.Step.{next};
 
     /// A console at reset, at clock 0. It takes the memory of the inner RAM and of
-    /// the decoded words, and no more later.
+    /// the decoded instructions, and no more later.
     #[tactic(auto, unfolding(crate::specs::Machine::reset))]
     pub fn new(alloc: Global, bios: Vec<u8>) -> Result<Console, NoMemory>
         requires { vec_len bios ≡ 16384 }
@@ -110,7 +120,8 @@ impl Console {
             registers: Registers::reset(),
             memory: Memory::new(bios, inner),
             clock: 0,
-            table: table_of(alloc, DECODED_WORDS)?,
+            words: words_of(alloc, DECODED)?,
+            halves: halves_of(alloc, DECODED)?,
         })
     }
 
@@ -136,37 +147,64 @@ impl Console {
         self.memory.inner()
     }
 
-    /// Executes the instruction at r15. A refusal leaves the console unchanged; it comes exactly where the processor is
-    /// in Thumb state. The clock is below 2^40 because a run ends below 2^39 and a step takes at most 512 cycles.
+    /// Executes the instruction at r15, a word in ARM state and a halfword in Thumb state. The clock is below 2^40
+    /// because a run ends below 2^39 and a step takes at most 512 cycles.
     #[tactic(auto, unfolding(crate::specs::Step::next))]
-    pub fn step(&mut self) -> Result<(), NotBuilt>
+    pub fn step(&mut self)
         requires { self.old.clock < 2 ^ 40 }
-        ensures step { MatchResult result (λ _. next self.old ≡ Ok self.new) (λ refusal. next self.old ≡ Err refusal) }
-        ensures refused { OnErr result (self.new ≡ self.old) }
-        ensures raised { OnOk result (self.old.clock < self.new.clock) }
+        ensures step { self.new ≡ next self.old }
+        ensures raised { self.old.clock < self.new.clock }
         ensures short { self.new.clock ≤ self.old.clock + 512 }
     {
         cycles_of_a_word::<Memory>();
-        let address = self.registers.get(15);
-        if bit(self.registers.cpsr(), 5) {
-            let word = self.memory.code(address, Width::Half);
-            return Err(NotBuilt { address, word });
-        }
-        let word = self.memory.code(address, Width::Word);
-        let place = place_of(address);
-        let one = &self.table[place];
-        let cycles = if one.word == word {
-            execute_decoded(&mut self.registers, &mut self.memory, one)
-        } else {
-            execute_first(
+        cycles_of_a_halfword::<Memory>();
+        let cycles = if bit(self.registers.cpsr(), 5) {
+            step_half(
                 &mut self.registers,
                 &mut self.memory,
-                self.table.as_mut_slice(),
-                place,
-                word,
+                self.halves.as_mut_slice(),
+            )
+        } else {
+            step_word(
+                &mut self.registers,
+                &mut self.memory,
+                self.words.as_mut_slice(),
             )
         };
         self.clock += u64::from(cycles);
-        Ok(())
+    }
+}
+
+// Executes the word at r15.
+#[inline(always)]
+fn step_word(registers: &mut Registers, memory: &mut Memory, words: &mut [DecodedWord]) -> u32
+    requires { length words.old ≡ 4096 }
+    ensures { Leaves (word_done registers.old memory.old) registers.new memory.new result }
+{
+    let address = registers.get(15);
+    let word = memory.code(address, Width::Word);
+    let place = place_of_word(address);
+    let one = &words[place];
+    if one.word == word {
+        arm::execute_decoded(registers, memory, one)
+    } else {
+        arm::execute_first(registers, memory, words, place, word)
+    }
+}
+
+// Executes the halfword at r15.
+#[inline(always)]
+fn step_half(registers: &mut Registers, memory: &mut Memory, halves: &mut [DecodedHalf]) -> u32
+    requires { length halves.old ≡ 4096 }
+    ensures { Leaves (half_done registers.old memory.old) registers.new memory.new result }
+{
+    let address = registers.get(15);
+    let half = memory.code(address, Width::Half) as u16;
+    let place = place_of_half(address);
+    let one = &halves[place];
+    if one.half == half {
+        thumb::execute_decoded(registers, memory, one)
+    } else {
+        thumb::execute_first(registers, memory, halves, place, half)
     }
 }

@@ -1,1 +1,2 @@
+pub mod FormEffects
 pub mod Lengths

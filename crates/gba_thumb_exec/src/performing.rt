@@ -31,9 +31,9 @@ use gba_psr::Registers;
 use gba_thumb_table::ThumbOp;
 use gba_word::sign_extend;
 
-// So many words above the PC with its low two bits cleared.
+/// So many words above the PC with its low two bits cleared.
 #[tactic(auto, unfolding(crate::specs::Effects::near_address))]
-fn near_address(site: Site, words: u16) -> u32
+pub fn near_address(site: Site, words: u16) -> u32
     requires { words < 256 }
     ensures { result ≡ near_address words site }
 {
@@ -41,9 +41,15 @@ fn near_address(site: Site, words: u16) -> u32
     (counter - counter % 4).wrapping_add(4 * u32::from(words))
 }
 
-// LDR from near the PC.
+/// LDR from near the PC.
 #[tactic(auto, unfolding(crate::specs::Effects::after_near_load))]
-fn load_near<B: Bus>(registers: &mut Registers, bus: &mut B, site: Site, rd: u16, words: u16) -> u32
+pub fn load_near<B: Bus>(
+    registers: &mut Registers,
+    bus: &mut B,
+    site: Site,
+    rd: u16,
+    words: u16,
+) -> u32
     requires rd { rd < 8 }
     requires words { words < 256 }
     ensures { Leaves (after_near_load B.code_price_of B.load_of B.store_of rd words site registers.old
@@ -90,8 +96,8 @@ fn branch<B: Bus>(registers: &mut Registers, bus: &mut B, site: Site, halfwords:
     jump_price(bus, site)
 }
 
-// The condition of a number below 16.
-fn numbered_condition(number: u16) -> Condition
+/// The condition of a number below 16.
+pub fn numbered_condition(number: u16) -> Condition
     requires { number < 16 }
     ensures { result ≡ condition_of number }
 {
@@ -111,18 +117,18 @@ fn branch_if<B: Bus>(registers: &mut Registers, bus: &mut B, site: Site, cond: u
     }
 }
 
-// The first half of BL.
+/// The first half of BL.
 #[tactic(auto, unfolding(crate::specs::Effects::after_link_high))]
-fn link_high(registers: &mut Registers, site: Site, n11: u16)
+pub fn link_high(registers: &mut Registers, site: Site, n11: u16)
     ensures { registers.new ≡ after_link_high n11 site registers.old }
 {
     let high = sign_extend(u32::from(n11), 11).wrapping_mul(1 << 12);
     registers.set(14, site.counter().wrapping_add(high));
 }
 
-// The second half of BL.
+/// The second half of BL.
 #[tactic(auto, unfolding(crate::specs::Effects::after_link_low))]
-fn link_low(registers: &mut Registers, n11: u16)
+pub fn link_low(registers: &mut Registers, n11: u16)
     requires { n11 < 2048 }
     ensures { registers.new ≡ after_link_low n11 registers.old }
 {

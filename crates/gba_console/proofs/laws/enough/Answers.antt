@@ -2,4 +2,4 @@ use Rattle.gba_console.proofs.Rises.{enough}
 use Rattle.gba_console.proofs.laws.enough.Goals as goal
 
 pub returns : goal.returns
-returns c = λ until a b start. enough a b until start c.cycles_of_a_word.ensures
+returns c = λ until a b start. enough c.cycles_of_a_word.ensures c.cycles_of_a_halfword.ensures a b until start

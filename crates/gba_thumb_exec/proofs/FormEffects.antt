@@ -1,0 +1,307 @@
+-- A halfword's form has the effect of its operation, and fields that fit.
+use Rattle.std.proofs.Common.{◌≡◌, ℕ, Bool, true, false, List, ◌+◌, ◌*◌, ◌%◌, ◌^◌, ◌<◌, ◌==◌, refl, ap, arith, if◌then◌else◌}
+use Rattle.std.specs.Prelude.{Option, Some, None, IfSome}
+use Rattle.gba_arm_table.specs.Limits.{Within, half_offsets, half_registers, operand_immediates, operand_registers, transfer_immediates, transfer_offsets, transfer_registers}
+use Rattle.gba_arm_table.specs.Limits as arm
+use Rattle.gba_arm_table.specs.Numbers.{condition_of}
+use Rattle.gba_arm_table.specs.declared.operation.ArmOp.{ArmOp}
+use Rattle.gba_arm_table.specs.declared.operation.CompareOp.{CompareOp}
+use Rattle.gba_arm_table.specs.declared.operation.CompareOp.TheVariants.{Tst, Cmp, Cmn}
+use Rattle.gba_arm_table.specs.declared.operation.ComputeOp.{ComputeOp}
+use Rattle.gba_arm_table.specs.declared.operation.ComputeOp.TheVariants.{And, Eor, Sub, Rsb, Add, Adc, Sbc, Orr, Mov, Bic, Mvn}
+use Rattle.gba_arm_table.specs.declared.operation.Condition.TheVariants.{Always}
+use Rattle.gba_arm_table.specs.declared.operation.HalfKind.{HalfKind}
+use Rattle.gba_arm_table.specs.declared.operation.HalfOffset.{HalfOffset}
+use Rattle.gba_arm_table.specs.declared.operation.HalfOffset.TheVariants as half_offset
+use Rattle.gba_arm_table.specs.declared.operation.Operand.{Operand}
+use Rattle.gba_arm_table.specs.declared.operation.TransferOffset.{TransferOffset}
+use Rattle.gba_arm_table.specs.declared.operation.TransferOffset.TheVariants as transfer_offset
+use Rattle.gba_bus.specs.Meanings.{Load, Price, Store}
+use Rattle.gba_exec_quick.specs.Effects.{effect_of_quick}
+use Rattle.gba_exec_quick.specs.Making.{QuickFits, quick_of_word}
+use Rattle.gba_exec_registers.specs.Access.{after_jump, code_cost, counter, jump_cost}
+use Rattle.gba_exec_registers.specs.Conditions.{holds}
+use Rattle.gba_exec_registers.specs.declared.site.Site.{Site}
+use Rattle.gba_exec_transfers.specs.Done.{Done}
+use Rattle.gba_exec_transfers.specs.Effects.{effect, effect_of_word, internal}
+use Rattle.gba_psr.specs.RegisterFile.{flags}
+use Rattle.gba_thumb_exec.specs.Effects.{after_short_branch, conditional_branch, effect_of_half, short_branch, thumb_effect}
+use Rattle.gba_thumb_exec.specs.Forms.{FormFits, branch_by, condition_of_half, effect_of_form, effect_under, form_of, form_of_half, quickly}
+use Rattle.gba_thumb_exec.specs.Operations.{shift_by_constant, add_or_subtract, process_number, process_register, full_register, process_full_register, transfer_by_register, half_by_register, transfer_by_number, half_by_number, stack_transfer, stack_address, stack_move, push_or_pop, block, software_interrupt, comparison, half_transfer, plain, processing, quiet_processing, shift_by_register, small_number, transfer, words_number}
+use Rattle.gba_thumb_exec.specs.declared.forms.Form.{Form}
+use Rattle.gba_thumb_table.specs.Limits as thumb
+use Rattle.gba_thumb_table.specs.Table.{operation}
+use Rattle.gba_thumb_table.specs.declared.operation.ThumbOp.{ThumbOp}
+use Rattle.gba_thumb_table.specs.declared.operation.ThumbOp.TheVariants as op
+use Rattle.gba_word.specs.Extension.{sign_extension}
+use Rattle.gba_word.specs.declared.kinds.Shift.{Shift}
+use Rattle.gba_word.specs.declared.kinds.Shift.TheVariants.{Lsl, Lsr, Asr, Ror}
+
+-- ---- effects
+
+wrapped : (a b : ℕ) → (a + b % 2 ^ 32) % 2 ^ 32 ≡ (a + b) % 2 ^ 32
+wrapped a b = omega arith
+
+module _ {State : Type 0} (price : Price State) (load : Load State) (store : Store State)
+    (quick-is : (one : Option ArmOp) (site : Site) (file : List ℕ) (bus : State)
+    → effect_of_quick price load store (quick_of_word one) site file bus ≡ effect_of_word price load store one site file bus) where
+  arm-is : (one : ArmOp) (site : Site) (file : List ℕ) (bus : State)
+      → effect_under price load store Always (quickly one) site file bus ≡ effect price load store one site file bus
+  unfolding effect_under effect_of_form effect_of_word
+  arm-is one site file bus = quick-is (Some one) site file bus
+
+  branch-is : (halfwords : ℕ) (site : Site) (file : List ℕ) (bus : State)
+      → effect_of_form price load store (branch_by halfwords) site file bus
+      ≡ short_branch price load store halfwords site file bus
+  unfolding effect_of_form effect_of_quick after_short_branch
+  branch-is halfwords site file bus =
+      ap (λ target. internal price load store bus (after_jump file target) (jump_cost (code_cost price bus site)))
+      (wrapped (counter site) (2 * halfwords))
+
+  same-branch : (test : Bool) (one other rest : Done State) → one ≡ other
+      → (if test then one else rest) ≡ (if test then other else rest)
+  same-branch true one other rest same = same
+  same-branch false one other rest same = refl
+
+  conditional-is : (cond n8 : ℕ) (site : Site) (file : List ℕ) (bus : State)
+      → effect_under price load store (condition_of cond) (branch_by (sign_extension n8 8)) site file bus
+      ≡ conditional_branch price load store cond n8 site file bus
+  unfolding effect_under
+  conditional-is cond n8 site file bus =
+      same-branch (holds (condition_of cond) (flags file))
+      (effect_of_form price load store (branch_by (sign_extension n8 8)) site file bus)
+      (short_branch price load store (sign_extension n8 8) site file bus)
+      (internal price load store bus file (code_cost price bus site true))
+      (branch-is (sign_extension n8 8) site file bus)
+
+  always-is : (one : Form) (site : Site) (file : List ℕ) (bus : State)
+      → effect_under price load store Always one site file bus ≡ effect_of_form price load store one site file bus
+  unfolding effect_under
+  always-is one site file bus = refl
+
+  form-is : (one : ThumbOp) (site : Site) (file : List ℕ) (bus : State)
+      → effect_under price load store (condition_of_half (Some one)) (form_of one) site file bus
+      ≡ thumb_effect price load store one site file bus
+  unfolding thumb_effect effect_under effect_of_form
+  form-is (op.Format1 op o5 rs rd) site file bus = arm-is (shift_by_constant op o5 rs rd) site file bus
+  form-is (op.Format2 i op x3 rs rd) site file bus = arm-is (add_or_subtract i op x3 rs rd) site file bus
+  form-is (op.Format3 op rd n8) site file bus = arm-is (process_number op rd n8) site file bus
+  form-is (op.Format4 op rs rd) site file bus = arm-is (process_register op rs rd) site file bus
+  form-is (op.Format5 op h1 h2 rs rd) site file bus =
+      arm-is (process_full_register op (full_register h2 rs) (full_register h1 rd)) site file bus
+  form-is (op.Format6 rd n8) site file bus = refl
+  form-is (op.Format7 l b ro rb rd) site file bus = arm-is (transfer_by_register l b ro rb rd) site file bus
+  form-is (op.Format8 h s ro rb rd) site file bus = arm-is (half_by_register h s ro rb rd) site file bus
+  form-is (op.Format9 b l o5 rb rd) site file bus = arm-is (transfer_by_number b l o5 rb rd) site file bus
+  form-is (op.Format10 l o5 rb rd) site file bus = arm-is (half_by_number l o5 rb rd) site file bus
+  form-is (op.Format11 l rd n8) site file bus = arm-is (stack_transfer l rd n8) site file bus
+  form-is (op.Format12 false rd n8) site file bus = refl
+  form-is (op.Format12 true rd n8) site file bus = arm-is (stack_address rd n8) site file bus
+  form-is (op.Format13 s n7) site file bus = arm-is (stack_move s n7) site file bus
+  form-is (op.Format14 l r list8) site file bus = arm-is (push_or_pop l r list8) site file bus
+  form-is (op.Format15 l rb list8) site file bus = arm-is (block l rb list8) site file bus
+  form-is (op.Format16 cond n8) site file bus = conditional-is cond n8 site file bus
+  form-is (op.Format17 n8) site file bus = arm-is (software_interrupt n8) site file bus
+  form-is (op.Format18 n11) site file bus = branch-is (sign_extension n11 11) site file bus
+  form-is (op.Format19 false n11) site file bus = refl
+  form-is (op.Format19 true n11) site file bus = refl
+
+  pub half-is : (one : Option ThumbOp) (site : Site) (file : List ℕ) (bus : State)
+      → effect_under price load store (condition_of_half one) (form_of_half one) site file bus
+      ≡ effect_of_half price load store one site file bus
+  unfolding effect_of_half effect_under effect_of_form
+  half-is None site file bus = quick-is None site file bus
+  half-is (Some one) site file bus = form-is one site file bus
+
+-- ---- fields
+
+either-fits : (test : Bool) (one other : ArmOp) → arm.Fits one → arm.Fits other → arm.Fits (if test then one else other)
+either-fits true one other here there = here
+either-fits false one other here there = there
+
+processing-fits : (kind : ComputeOp) (rn rd : ℕ) (second : Operand) → rn < 16 → rd < 16
+    → Within (operand_registers second) → Within (operand_immediates second) → arm.Fits (processing kind rn rd second)
+processing-fits kind rn rd second n d r i = record { registers = (n, (d, r)); immediates = i; offsets = tt }
+
+quiet-fits : (kind : ComputeOp) (rn rd : ℕ) (second : Operand) → rn < 16 → rd < 16
+    → Within (operand_registers second) → Within (operand_immediates second) → arm.Fits (quiet_processing kind rn rd second)
+quiet-fits kind rn rd second n d r i = record { registers = (n, (d, r)); immediates = i; offsets = tt }
+
+comparison-fits : (kind : CompareOp) (rn : ℕ) (second : Operand) → rn < 16
+    → Within (operand_registers second) → Within (operand_immediates second) → arm.Fits (comparison kind rn second)
+comparison-fits kind rn second n r i = record { registers = (n, r); immediates = i; offsets = tt }
+
+plain-registers : (register : ℕ) → register < 16 → Within (operand_registers (plain register))
+plain-registers register r = (r, tt)
+
+plain-immediates : (register : ℕ) → Within (operand_immediates (plain register))
+plain-immediates register = (omega arith, tt)
+
+small-immediates : (value : ℕ) → value < 256 → Within (operand_immediates (small_number value))
+small-immediates value v = (omega arith, (v, tt))
+
+words-immediates : (value : ℕ) → value < 256 → Within (operand_immediates (words_number value))
+words-immediates value v = (omega arith, (v, tt))
+
+wide : (number : ℕ) → number < 8 → number < 16
+wide number n = omega arith
+
+-- processing of two registers, of a register and a number
+with-register : (kind : ComputeOp) (rn rd rs : ℕ) → rn < 16 → rd < 16 → rs < 16 → arm.Fits (processing kind rn rd (plain rs))
+with-register kind rn rd rs n d s = processing-fits kind rn rd (plain rs) n d (plain-registers rs s) (plain-immediates rs)
+
+with-number : (kind : ComputeOp) (rn rd value : ℕ) → rn < 16 → rd < 16 → value < 256 → arm.Fits (processing kind rn rd (small_number value))
+with-number kind rn rd value n d v = processing-fits kind rn rd (small_number value) n d tt (small-immediates value v)
+
+compare-register : (kind : CompareOp) (rn rs : ℕ) → rn < 16 → rs < 16 → arm.Fits (comparison kind rn (plain rs))
+compare-register kind rn rs n s = comparison-fits kind rn (plain rs) n (plain-registers rs s) (plain-immediates rs)
+
+add_or_subtract-fits : (i minus : Bool) (x3 rs rd : ℕ) → thumb.Fits (op.Format2 i minus x3 rs rd)
+    → arm.Fits (add_or_subtract i minus x3 rs rd)
+add_or_subtract-fits true minus x3 rs rd fits =
+    with-number (if minus then Sub else Add) rs rd x3 (wide rs fits.registers.0) (wide rd fits.registers.1.0)
+    (omega (arith, fits.immediates.0))
+add_or_subtract-fits false minus x3 rs rd fits =
+    with-register (if minus then Sub else Add) rs rd x3 (wide rs fits.registers.1.0) (wide rd fits.registers.1.1.0)
+    (wide x3 fits.registers.0)
+
+process_number-fits : (op rd n8 : ℕ) → rd < 16 → n8 < 256 → arm.Fits (process_number op rd n8)
+process_number-fits op rd n8 d n =
+    let zero : 0 < 16 = omega arith in
+    either-fits (op == 0) _ _ (with-number Mov 0 rd n8 zero d n)
+    (either-fits (op == 1) _ _ (comparison-fits Cmp rd (small_number n8) d tt (small-immediates n8 n))
+    (either-fits (op == 2) _ _ (with-number Add rd rd n8 d d n) (with-number Sub rd rd n8 d d n)))
+
+register-shift-fits : (kind : Shift) (rs rd : ℕ) → rs < 16 → rd < 16 → arm.Fits (shift_by_register kind rs rd)
+register-shift-fits kind rs rd s d =
+    let zero : 0 < 16 = omega arith in
+    record { registers = (zero, (d, (d, (s, tt)))); immediates = tt; offsets = tt }
+
+process_register-fits : (op rs rd : ℕ) → rs < 16 → rd < 16 → arm.Fits (process_register op rs rd)
+process_register-fits op rs rd s d =
+    let zero : 0 < 16 = omega arith in
+    let few : 0 < 256 = omega arith in
+    either-fits (op == 0) _ _ (with-register And rd rd rs d d s)
+    (either-fits (op == 1) _ _ (with-register Eor rd rd rs d d s)
+    (either-fits (op == 2) _ _ (register-shift-fits Lsl rs rd s d)
+    (either-fits (op == 3) _ _ (register-shift-fits Lsr rs rd s d)
+    (either-fits (op == 4) _ _ (register-shift-fits Asr rs rd s d)
+    (either-fits (op == 5) _ _ (with-register Adc rd rd rs d d s)
+    (either-fits (op == 6) _ _ (with-register Sbc rd rd rs d d s)
+    (either-fits (op == 7) _ _ (register-shift-fits Ror rs rd s d)
+    (either-fits (op == 8) _ _ (compare-register Tst rd rs d s)
+    (either-fits (op == 9) _ _ (with-number Rsb rs rd 0 s d few)
+    (either-fits (op == 10) _ _ (compare-register Cmp rd rs d s)
+    (either-fits (op == 11) _ _ (compare-register Cmn rd rs d s)
+    (either-fits (op == 12) _ _ (with-register Orr rd rd rs d d s)
+    (either-fits (op == 13) _ _ (record { registers = (d, (zero, (d, (s, tt)))); immediates = tt; offsets = tt })
+    (either-fits (op == 14) _ _ (with-register Bic rd rd rs d d s) (with-register Mvn 0 rd rs zero d s)))))))))))))))
+
+full-fits : (h : Bool) (number : ℕ) → number < 8 → full_register h number < 16
+full-fits true number n = omega arith
+full-fits false number n = omega arith
+
+process_full-fits : (op rs rd : ℕ) → rs < 16 → rd < 16 → arm.Fits (process_full_register op rs rd)
+process_full-fits op rs rd s d =
+    let zero : 0 < 16 = omega arith in
+    either-fits (op == 0) _ _ (quiet-fits Add rd rd (plain rs) d d (plain-registers rs s) (plain-immediates rs))
+    (either-fits (op == 1) _ _ (compare-register Cmp rd rs d s)
+    (either-fits (op == 2) _ _ (quiet-fits Mov 0 rd (plain rs) zero d (plain-registers rs s) (plain-immediates rs))
+    (record { registers = (s, tt); immediates = tt; offsets = tt })))
+
+transfer-fits : (load byte : Bool) (rn rd : ℕ) (offset : TransferOffset) → rn < 16 → rd < 16
+    → Within (transfer_registers offset) → Within (transfer_immediates offset) → Within (transfer_offsets offset)
+    → arm.Fits (transfer load byte rn rd offset)
+transfer-fits load byte rn rd offset n d r i o = record { registers = (n, (d, r)); immediates = i; offsets = o }
+
+half-fits : (kind : HalfKind) (rn rd : ℕ) (offset : HalfOffset) → rn < 16 → rd < 16
+    → Within (half_registers offset) → Within (half_offsets offset) → arm.Fits (half_transfer kind rn rd offset)
+half-fits kind rn rd offset n d r o = record { registers = (n, (d, r)); immediates = tt; offsets = o }
+
+scaled-fits : (b : Bool) (o5 : ℕ) → o5 < 32 → (if b then o5 else 4 * o5) < 4096
+scaled-fits true o5 o = omega arith
+scaled-fits false o5 o = omega arith
+
+push_or_pop-fits : (l r : Bool) (list8 : ℕ) → list8 < 256 → arm.Fits (push_or_pop l r list8)
+push_or_pop-fits true true list8 n = record { registers = (omega arith, tt); immediates = (omega arith, tt); offsets = tt }
+push_or_pop-fits true false list8 n = record { registers = (omega arith, tt); immediates = (omega arith, tt); offsets = tt }
+push_or_pop-fits false true list8 n = record { registers = (omega arith, tt); immediates = (omega arith, tt); offsets = tt }
+push_or_pop-fits false false list8 n = record { registers = (omega arith, tt); immediates = (omega arith, tt); offsets = tt }
+
+module _ (quick-fits : (one : Option ArmOp) → IfSome one arm.Fits → QuickFits (quick_of_word one)) where
+  quickly-fits : (one : ArmOp) → arm.Fits one → FormFits (quickly one)
+  quickly-fits one fits = quick-fits (Some one) fits
+
+  form-fits : (one : ThumbOp) → thumb.Fits one → FormFits (form_of one)
+  form-fits (op.Format1 op o5 rs rd) fits =
+      let zero : 0 < 16 = omega arith in
+      quickly-fits (shift_by_constant op o5 rs rd)
+      (record {
+        registers = (zero, (wide rd fits.registers.1.0, (wide rs fits.registers.0, tt)));
+        immediates = (fits.immediates.1.0, tt);
+        offsets = tt;
+      })
+  form-fits (op.Format2 i op x3 rs rd) fits =
+      quickly-fits (add_or_subtract i op x3 rs rd) (add_or_subtract-fits i op x3 rs rd fits)
+  form-fits (op.Format3 op rd n8) fits =
+      quickly-fits (process_number op rd n8) (process_number-fits op rd n8 (wide rd fits.registers.0) fits.immediates.1.0)
+  form-fits (op.Format4 op rs rd) fits =
+      quickly-fits (process_register op rs rd)
+      (process_register-fits op rs rd (wide rs fits.registers.0) (wide rd fits.registers.1.0))
+  form-fits (op.Format5 op h1 h2 rs rd) fits =
+      quickly-fits (process_full_register op (full_register h2 rs) (full_register h1 rd))
+      (process_full-fits op (full_register h2 rs) (full_register h1 rd) (full-fits h2 rs fits.registers.0)
+      (full-fits h1 rd fits.registers.1.0))
+  form-fits (op.Format6 rd n8) fits = (fits.registers.0, fits.offsets.0)
+  form-fits (op.Format7 l b ro rb rd) fits =
+      quickly-fits (transfer_by_register l b ro rb rd)
+      (transfer-fits l b rb rd (transfer_offset.Shifted ro Lsl 0) (wide rb fits.registers.1.0)
+      (wide rd fits.registers.1.1.0) (wide ro fits.registers.0, tt) (omega arith, tt) tt)
+  form-fits (op.Format8 h s ro rb rd) fits =
+      quickly-fits (half_by_register h s ro rb rd)
+      (half-fits _ rb rd (half_offset.Plain ro) (wide rb fits.registers.1.0) (wide rd fits.registers.1.1.0)
+      (wide ro fits.registers.0, tt) tt)
+  form-fits (op.Format9 b l o5 rb rd) fits =
+      quickly-fits (transfer_by_number b l o5 rb rd)
+      (transfer-fits l b rb rd (transfer_offset.Number (if b then o5 else 4 * o5)) (wide rb fits.registers.0)
+      (wide rd fits.registers.1.0) tt tt (scaled-fits b o5 fits.offsets.0, tt))
+  form-fits (op.Format10 l o5 rb rd) fits =
+      quickly-fits (half_by_number l o5 rb rd)
+      (half-fits _ rb rd (half_offset.Number (2 * o5)) (wide rb fits.registers.0) (wide rd fits.registers.1.0) tt
+      (omega (arith, fits.offsets.0), tt))
+  form-fits (op.Format11 l rd n8) fits =
+      quickly-fits (stack_transfer l rd n8)
+      (transfer-fits l false 13 rd (transfer_offset.Number (4 * n8)) (omega arith) (wide rd fits.registers.0) tt tt
+      (omega (arith, fits.offsets.0), tt))
+  form-fits (op.Format12 false rd n8) fits = (fits.registers.0, fits.immediates.0)
+  form-fits (op.Format12 true rd n8) fits =
+      quickly-fits (stack_address rd n8)
+      (quiet-fits Add 13 rd (words_number n8) (omega arith) (wide rd fits.registers.0) tt
+      (words-immediates n8 fits.immediates.0))
+  form-fits (op.Format13 s n7) fits =
+      quickly-fits (stack_move s n7)
+      (quiet-fits (if s then Sub else Add) 13 13 (words_number n7) (omega arith) (omega arith) tt
+      (words-immediates n7 (omega (arith, fits.immediates.0))))
+  form-fits (op.Format14 l r list8) fits =
+      quickly-fits (push_or_pop l r list8) (push_or_pop-fits l r list8 fits.immediates.0)
+  form-fits (op.Format15 l rb list8) fits =
+      quickly-fits (block l rb list8)
+      (record {
+        registers = (wide rb fits.registers.0, tt);
+        immediates = (omega (arith, fits.immediates.0), tt);
+        offsets = tt;
+      })
+  form-fits (op.Format16 cond n8) fits = tt
+  form-fits (op.Format17 n8) fits =
+      quickly-fits (software_interrupt n8)
+      (record { registers = tt; immediates = (omega (arith, fits.immediates.0), tt); offsets = tt })
+  form-fits (op.Format18 n11) fits = tt
+  form-fits (op.Format19 false n11) fits = fits.offsets.0
+  form-fits (op.Format19 true n11) fits = fits.offsets.0
+
+  option-fits : (one : Option ThumbOp) → IfSome one thumb.Fits → FormFits (form_of_half one)
+  option-fits None fits = tt
+  option-fits (Some one) fits = form-fits one fits
+
+  pub half-form-fits : ((half : ℕ) → IfSome (operation half) thumb.Fits) → (half : ℕ) → FormFits (form_of_half (operation half))
+  half-form-fits fits half = option-fits (operation half) (fits half)
