@@ -1,4 +1,4 @@
-use Rattle.std.proofs.Common.{ℕ, Bool, true, false, ◌%◌, ◌^◌, ◌<◌, List, if◌then◌else◌, arith}
+use Rattle.std.proofs.Common.{ℕ, Bool, true, false, List, if◌then◌else◌, arith}
 use Rattle.gba_bus.specs.Meanings.{CodeFits, CodePriced, IsPrice, LoadsFit, LoadsPriced, StoresPriced}
 use Rattle.gba_bus.specs.Widths.{FitsWidth, aligned}
 use Rattle.gba_bus.specs.declared.width.Width.{Width}

@@ -1,5 +1,5 @@
 use Rattle.std.specs.Int.{w16, w32, from_le_bytes}
-use Rattle.std.specs.Prelude.{ℕ, Bool, true, ◌+◌, ◌-◌, ◌/◌, ◌%◌, ◌^◌, ◌==◌, nat_lt, List, [], ◌∷◌, slice_index, slice_set, if◌then◌else◌}
+use Rattle.std.specs.Prelude.{ℕ, Bool, true, ◌+◌, ◌/◌, ◌%◌, ◌^◌, ◌==◌, nat_lt, List, [], ◌∷◌, slice_index, slice_set, if◌then◌else◌}
 use Rattle.gba_terms.specs.Bits.{field}
 use Rattle.gba_bus.specs.Meanings.{Code, Load, Price, Store}
 use Rattle.gba_bus.specs.Widths.{aligned}
