@@ -1,5 +1,4 @@
 use Rattle.std.specs.Prelude.{ℕ, List, ◌++◌, codes, decimal}
-use Rattle.gba_terms.specs.Hexadecimal.{hex}
 use Rattle.gba_joblog.specs.Kinds.{kind_name}
 use Rattle.gba_joblog.specs.declared.kinds.JobError.{JobError}
 
@@ -11,14 +10,11 @@ pub data Cause : Type 0 where
   Job : List ℕ → JobError → Cause
   -- the BIOS image of this name hasn't its length
   BiosLength : List ℕ → Cause
-  -- the instruction at this address, which is this word, isn't built
-  Unbuilt : ℕ → ℕ → Cause
 
 abbrev pub status_of : Cause → ℕ
 status_of Words = 2
 status_of (Job name error) = 5
 status_of (BiosLength name) = 6
-status_of (Unbuilt address word) = 11
 
 -- the line that is reported on standard output
 abbrev pub report_of : Cause → List ℕ
@@ -26,7 +22,6 @@ report_of Words = codes "words\n"
 report_of (BiosLength name) = codes "image " ++ name ++ codes " BiosLength\n"
 report_of (Job name error) =
     codes "job " ++ name ++ codes " line " ++ decimal error.line ++ codes " " ++ kind_name error.kind ++ codes "\n"
-report_of (Unbuilt address word) = codes "notbuilt " ++ hex 8 address ++ codes " " ++ hex 8 word ++ codes "\n"
 
 -- why a command stops before anything is written: refused for a cause, the named file isn't there, the store failed in
 -- the read of the named file, or memory was wanting

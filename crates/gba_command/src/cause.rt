@@ -1,10 +1,8 @@
 //! Why a command is refused, as its words and the files say.
 
 ghost use Rattle.std.specs.Prelude.{◌≡◌, ◌≤◌, ◌++◌, codes, decimal, length};
-ghost use Rattle.gba_terms.specs.Hexadecimal.{hex};
 ghost use Rattle.gba_joblog.specs.Kinds.{kind_name};
 
-use crate::hexadecimal::hex_word;
 use crate::line::{Line, add_text, line_of};
 use crate::refusal::{Name, line_about};
 use gba_joblog::{JobError, JobKind};
@@ -19,20 +17,6 @@ pub enum Cause {
     Job(Name, JobError),
     /// The BIOS image of this name hasn't 16,384 bytes: 6.
     BiosLength(Name),
-    /// The instruction at this address, which is this word, isn't built: 11.
-    Unbuilt(u32, u32),
-}
-
-fn unbuilt_line(address: u32, word: u32) -> Line
-    ensures { result.items ≡ codes "notbuilt " ++ hex 8 address ++ codes " " ++ hex 8 word ++ codes "\n" }
-{
-    let mut line = Line::new();
-    add_text(&mut line, b"notbuilt ");
-    add_text(&mut line, &hex_word(address));
-    add_text(&mut line, b" ");
-    add_text(&mut line, &hex_word(word));
-    add_text(&mut line, b"\n");
-    line
 }
 
 #[tactic(auto, using(crate::proofs::KindNames::kind_name_short))]
@@ -70,7 +54,6 @@ impl Cause {
             Cause::Words => 2,
             Cause::Job(..) => 5,
             Cause::BiosLength(_) => 6,
-            Cause::Unbuilt(..) => 11,
         }
     }
 
@@ -82,7 +65,6 @@ impl Cause {
             Cause::Words => line_of(b"words\n"),
             Cause::Job(name, error) => job_line(name, error),
             Cause::BiosLength(name) => line_about(b"image ", name, b" BiosLength\n"),
-            Cause::Unbuilt(address, word) => unbuilt_line(*address, *word),
         }
     }
 }

@@ -8,25 +8,17 @@ use Rattle.gba_command.specs.Plan.{bind, judgement}
 use Rattle.gba_command.specs.Reading.{Gives, GoesTo}
 use Rattle.gba_command.specs.Writing.{Run}
 use Rattle.gba_command.proofs.Plans.{Names, refused-named, refuses-alone}
-use Rattle.gba_console.specs.Machine.{Machine, reset}
-use Rattle.gba_console.specs.Run.{run_to}
-use Rattle.gba_console.specs.declared.NotBuilt.{NotBuilt}
 use Rattle.gba_joblog.specs.Clash.{clash_of}
 use Rattle.gba_joblog.specs.Job.{WholeJob}
 use Rattle.gba_joblog.specs.Language.{job_of}
 use Rattle.gba_joblog.specs.declared.kinds.JobError.{JobError}
-use Rattle.gba_link.specs.CommandPlan.{job_or_refusal, after_image, command_plan, from_end, image_plan, unless_clash, without_clash}
+use Rattle.gba_link.specs.CommandPlan.{job_or_refusal, after_image, command_plan, image_plan, unless_clash, without_clash}
 use Rattle.gba_link.specs.Words.{Command}
-
-end-named : (command : Command) (job : WholeJob) (end : Result Machine NotBuilt) → Names Words (judgement (from_end command job end)) → ⊥
-unfolding Names
-end-named command job (Ok m) h = h
-end-named command job (Err refusal) h = cc
 
 run-named : (command : Command) (job : WholeJob) (bios : List ℕ) (whole : Bool) → nat_eq (length bios) 16384 ≡ whole → Names Words (after_image command job bios)
     → ⊥
 unfolding Names
-run-named command job bios true is h = end-named command job (run_to job.cycles (reset bios)) (rw is at h)
+run-named command job bios true is h = let apart = rw is at h in apart
 run-named command job bios false is h = let apart = rw is at h in cc
 
 image-named : (command : Command) (job : WholeJob) → Names Words (image_plan command job) → ⊥

@@ -1,8 +1,7 @@
 use Rattle.std.specs.Prelude.{ℕ, ◌==◌, List, [], ◌∷◌, length, Option, Some, None, Result, Ok, Err, if◌then◌else◌}
-use Rattle.gba_command.specs.Cause.{Cause, Words, Job, BiosLength, Unbuilt}
+use Rattle.gba_command.specs.Cause.{Cause, Words, Job, BiosLength}
 use Rattle.gba_command.specs.Plan.{Plan, Refuse, bind, file, judgement}
 use Rattle.gba_command.specs.Writing.{Run}
-use Rattle.gba_console.specs.declared.NotBuilt.{NotBuilt}
 use Rattle.gba_console.specs.Machine.{Machine, reset}
 use Rattle.gba_console.specs.Run.{run_to}
 use Rattle.gba_joblog.specs.Clash.{clash_of, output_file}
@@ -63,15 +62,11 @@ written command job m = record {
   summary = summary m;
 }
 
-abbrev pub from_end : Command → WholeJob → Result Machine NotBuilt → Result Run Cause
-from_end command job (Ok m) = Ok (written command job m)
-from_end command job (Err refusal) = Err (Unbuilt refusal.address refusal.word)
-
 -- the run of a job with this image: a console from its reset to the first step boundary at or past the job's cycles
 abbrev pub result_of_run : Command → WholeJob → List ℕ → Result Run Cause
 result_of_run command job bios =
     if length bios == 16384
-    then from_end command job (run_to job.cycles (reset bios))
+    then Ok (written command job (run_to job.cycles (reset bios)))
     else Err (BiosLength (image_name job))
 
 -- what follows the bytes of JOB, and those of the image

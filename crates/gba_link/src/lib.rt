@@ -33,7 +33,6 @@ use std::thread::Threads;
 /// | 6 | `image NAME BiosLength` | the BIOS image hasn't 16,384 bytes |
 /// | 9 | `sink NAME` | the sink failed |
 /// | 10 | `memory` | memory was wanting; it may come in place of any other, and hides no absence and no fault |
-/// | 11 | `notbuilt ADDRESS WORD` | the run came to an instruction that isn't built |
 ///
 /// Two clauses say all of it, over every store and sink: `answer`, that the reads made are those of the plan of the
 /// words, how they end_of, and what is written and answered for that end; and `complete`, that where no count of absences

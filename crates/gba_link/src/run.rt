@@ -14,7 +14,7 @@ use crate::state::{STATE_ROOM, summary, write_state};
 use crate::words::{RunWords, command_of};
 use gba_command::{Cause, OutputFile, Outputs, Refusal, name_in_report, read_file};
 use gba_console::laws::enough;
-use gba_console::{BIOS_LENGTH, Console, NotBuilt};
+use gba_console::{BIOS_LENGTH, Console};
 use gba_joblog::{
     FileLine, Job, JobConsole, JobError, JobKind, LONGEST_JOB, OutKind, ParseRefused,
 };
@@ -90,16 +90,15 @@ fn image_name(job: &Job) -> &str
 }
 
 /// Steps a console until its clock is at least `until`.
-fn run_console(mut console: Console, until: u64) -> Result<Console, NotBuilt>
+fn run_console(mut console: Console, until: u64) -> Console
     requires { until ≤ 2 ^ 31 }
-    ensures { MatchResult result (λ end. run_to until console ≡ Ok end)
-        (λ refusal. run_to until console ≡ Err refusal) }
+    ensures { result ≡ run_to until console }
 {
     enough();
     while console.clock() < until {
-        console.step()?;
+        console.step();
     }
-    Ok(console)
+    console
 }
 
 /// Adds a file to a list that has room for it.
@@ -167,10 +166,8 @@ fn run_image(
     let Ok(start) = Console::new(alloc, image) else {
         return Err(Refusal::NoMemory);
     };
-    match run_console(start, job.cycles) {
-        Ok(console) => Ok(outputs_of(files, state, state_name, job, &console)),
-        Err(at) => Err(Refusal::Refused(Cause::Unbuilt(at.address, at.word))),
-    }
+    let end = run_console(start, job.cycles);
+    Ok(outputs_of(files, state, state_name, job, &end))
 }
 
 /// Reads the image of a job and runs it.

@@ -1,6 +1,6 @@
 //! A console by itself: programs of a few words in its BIOS, and what they leave.
 
-use gba_console::{BIOS_LENGTH, Console, INNER_LENGTH, NotBuilt};
+use gba_console::{BIOS_LENGTH, Console, INNER_LENGTH};
 use std::alloc::Global;
 use std::process::Abort;
 use std::test::Fail;
@@ -18,11 +18,11 @@ fn console_of<R: Abort>(rt: &R, alloc: Global, words: &[u32]) -> Result<Console,
     Ok(Console::new(alloc, bios)?)
 }
 
-/// Makes steps, each of which must be made, and asserts the clock after them.
+/// Makes steps, and asserts the clock after them.
 fn steps<R: Abort>(rt: &R, console: &mut Console, count: usize, clock: u64) {
     for _ in 0..count {
         assert!(rt; console.clock() < 1_000_000);
-        assert_eq!(rt; console.step(), Ok(()));
+        console.step();
     }
     assert_eq!(rt; console.clock(), clock);
 }
@@ -148,7 +148,7 @@ fn memory_map(rt: HostRuntime) -> Result<(), Fail> {
         let mut console = console_of(&rt, rt.alloc(), &words)?;
         for _ in 0..count {
             assert!(rt; console.clock() < 1_000_000);
-            assert_eq!(rt; console.step(), Ok(()));
+            console.step();
         }
         assert_eq!(rt; console.all()[0], result);
     }
@@ -195,23 +195,33 @@ fn code_in_the_inner_ram(rt: HostRuntime) -> Result<(), Fail> {
     Ok(())
 }
 
-/// BX into Thumb state: the next step is refused, with the halfword there, and changes nothing.
+/// BX into Thumb state, where MOV and SUB make flags, and BX r15 back to ARM state at the word above it.
 #[test]
-fn thumb_state_is_not_built(rt: HostRuntime) -> Result<(), Fail> {
-    // MOV r0, #9; BX r0; at 8 the halfwords 5678h and 1234h.
-    let mut console = console_of(&rt, rt.alloc(), &[0xE3A0_0009, 0xE12F_FF10, 0x1234_5678])?;
-    steps(&rt, &mut console, 2, 4);
-    for _ in 0..2 {
-        assert!(rt; console.clock() < 1_000);
-        assert_eq!(rt;
-            console.step(),
-            Err(NotBuilt {
-                address: 8,
-                word: 0x5678
-            })
-        );
-        assert_eq!(rt; console.clock(), 4);
-        assert_eq!(rt; console.all()[31], 0xF3);
+fn both_states(rt: HostRuntime) -> Result<(), Fail> {
+    let words = [
+        0xE3A0_0009, // 00 MOV r0, #9
+        0xE12F_FF10, // 04 BX r0
+        0x3903_2105, // 08 MOV r1, #5; 0A SUB r1, #3
+        0x46C0_4778, // 0C BX r15; 0E MOV r8, r8
+        0xE281_1001, // 10 ADD r1, r1, #1
+        0xEAFF_FFFE, // 14 B to itself
+    ];
+    let mut console = console_of(&rt, rt.alloc(), &words)?;
+    // The clock, r1, r15 and CPSR after each step. SUB has no borrow, so C is set.
+    for (clock, value, at, status) in [
+        (1, 0, 4, 0xD3),
+        (4, 0, 8, 0xF3),
+        (5, 5, 0xA, 0xF3),
+        (6, 2, 0xC, 0x2000_00F3),
+        (9, 2, 0x10, 0x2000_00D3),
+        (10, 3, 0x14, 0x2000_00D3),
+        (13, 3, 0x14, 0x2000_00D3),
+    ] {
+        steps(&rt, &mut console, 1, clock);
+        let registers = console.all();
+        assert_eq!(rt; registers[1], value);
+        assert_eq!(rt; registers[15], at);
+        assert_eq!(rt; registers[31], status);
     }
     Ok(())
 }

@@ -411,11 +411,17 @@ fn programs_run_to_their_states(rt: HostRuntime) -> Result<(), Fail> {
     assert!(rt; lines.contains("\nr0 00000005\n"));
     assert!(rt; lines.contains("\nr15 00000004\n"));
     assert!(rt; lines.ends_with("\nspsr_und 00000000\n"));
-    // MOV r0, #9; BX r0; at 8 the halfword 5678h.
+    // MOV r0, #9; BX r0; at 8 LDRSB r0, [r7, r1] of address 0 in 3 cycles, ASR r4, r6, #8 and LSL r0, r0, #0 twice.
     let thumb = run_code(&rt, alloc, "10", &[0xE3A0_0009, 0xE12F_FF10, 0x1234_5678])?;
-    assert_eq!(rt; thumb.status, 11);
-    assert_eq!(rt; thumb.report.as_str(), "notbuilt 00000008 00005678\n");
-    assert_eq!(rt; thumb.state.as_str(), "");
+    assert_eq!(rt; thumb.status, 0);
+    assert_eq!(rt;
+        thumb.report.as_str(),
+        "console 0 clock 10 frames 0 samples 0 words 0\n"
+    );
+    let lines = thumb.state.as_str();
+    assert!(rt; lines.contains("\nr0 00000009\n"));
+    assert!(rt; lines.contains("\nr15 00000010\n"));
+    assert!(rt; lines.contains("\ncpsr 000000f3\n"));
     Ok(())
 }
 
