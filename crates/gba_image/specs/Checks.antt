@@ -12,8 +12,8 @@ bios_fault bytes = if length bytes == 16384 then None else Some BiosLength
 abbrev pub header_check : List ℕ → ℕ
 header_check bytes = (256 - (sum (slice_range bytes 0xa0 0xbd) + 0x19) % 256) % 256
 
--- A cartridge has a whole header and at most 32 MiB; the byte B2h is 96h, and the byte BDh is the header check. The logo
--- isn't compared (GBATEK, GBA Cartridge Header; the logo and the lengths this project's profile).
+-- A cartridge has a whole header and at most 32 MiB; the byte B2h is 96h, and the byte BDh is the header check. The
+-- logo isn't compared (GBATEK, GBA Cartridge Header; the logo and the lengths this project's profile).
 unfoldable pub cartridge_fault : List ℕ → Option ImageError
 cartridge_fault bytes =
     if nat_lt (length bytes) 192 then Some TooShort

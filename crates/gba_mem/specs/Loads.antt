@@ -12,15 +12,17 @@ use Rattle.gba_mem.specs.Places.{inner_place, oam_place, palette_place, rom_plac
 
 -- What is read, one byte at a time.
 
--- A byte of ROM. Past the image it is the matching byte of the halfword (address / 2) AND FFFFh (GBATEK, GBA Cartridge ROM).
+-- A byte of ROM. Past the image it is the matching byte of the halfword (address / 2) AND FFFFh (GBATEK, GBA
+-- Unpredictable Things).
 abbrev pub rom_byte : List ℕ → ℕ → ℕ
 rom_byte rom address =
     if nat_lt (rom_place address) (length rom)
     then slice_index rom (rom_place address)
     else field (address / 2 % 2 ^ 16) (8 * (address % 2)) 8
 
--- The byte at an address of a region, for an instruction that stands in the BIOS or not: to one outside the BIOS reads 0.
--- The I/O registers are none of these memories, and where there is no memory 0 is read (this project's profile).
+-- The byte at an address of a region, for an instruction that stands in the BIOS or not: to one outside the BIOS
+-- reads 0. The I/O registers are none of these memories, and where there is no memory 0 is read (this project's
+-- profile).
 abbrev pub byte_in : Region → Bool → Memories → ℕ → ℕ
 byte_in Bios in_bios m address = if in_bios then slice_index m.bios address else 0
 byte_in Work in_bios m address = slice_index m.work (work_place address)
@@ -54,8 +56,8 @@ abbrev pub is_sram : Region → Bool
 is_sram Sram = true
 is_sram _ = false
 
--- What an access reads at its aligned address. The SRAM has one byte at a time, which a wider access reads in every place
--- (this project's profile).
+-- What an access reads at its aligned address. The SRAM has one byte at a time, which a wider access reads in every
+-- place (this project's profile).
 unfoldable pub load : Memories → ℕ → ℕ → Width → ℕ
 load m from address width =
     if is_sram (region_of address)

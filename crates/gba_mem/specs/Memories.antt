@@ -1,8 +1,8 @@
 use Rattle.std.specs.Prelude.{ℕ, List, [], Option, replicate, unwrap_or}
 
 -- The memories of a console (GBATEK, GBA Memory Map): the BIOS, the cartridge's ROM, the work RAM, the inner RAM, the
--- palette, the VRAM, the OAM and the SRAM, each as its bytes from the front up. Where there is no cartridge its ROM has no
--- byte.
+-- palette, the VRAM, the OAM and the SRAM, each as its bytes from the front up. Where there is no cartridge its ROM
+-- has no byte.
 pub record Memories : Type 0 where
   pub bios : List ℕ
   pub rom : List ℕ

@@ -1,7 +1,7 @@
 use Rattle.std.specs.Prelude.{ℕ, ◌-◌, ◌%◌, nat_lt, if◌then◌else◌}
 
--- Where the byte of an address stands in its memory (GBATEK, GBA Memory Map). Each memory is repeated in its blocks of
--- 16 MiB, the ROM in 32 MiB.
+-- Where the byte of an address stands in its memory, which is repeated in its blocks of 16 MiB (GBATEK, GBA Memory
+-- Map, and Memory Mirrors in GBA Unpredictable Things). The ROM has 32 MiB in each view.
 abbrev pub work_place : ℕ → ℕ
 work_place address = address % 0x40000
 
@@ -24,6 +24,7 @@ rom_place address = address % 0x2000000
 abbrev pub sram_place : ℕ → ℕ
 sram_place address = address % 0x8000
 
--- where the part of the VRAM begins that holds the tiles of sprites, by the mode of the picture (GBATEK, LCD OBJ Tiles)
+-- where the part of the VRAM begins that holds the tiles of sprites, by the mode of the picture (GBATEK, LCD VRAM
+-- Overview)
 abbrev pub sprite_part : ℕ → ℕ
 sprite_part mode = if nat_lt mode 3 then 0x10000 else 0x14000

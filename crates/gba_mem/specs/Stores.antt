@@ -29,23 +29,26 @@ with_byte_in Other m address byte = m
 abbrev pub with_byte : Memories → ℕ → ℕ → Memories
 with_byte m address byte = with_byte_in (region_of address) m address byte
 
--- what one write of a byte after another leaves: as many of a number's low bytes as the width has, the lowest byte first
+-- what one write of a byte after another leaves: as many of a number's low bytes as the width has, the lowest byte
+-- first
 abbrev pub with_number : {Kept : Type 0} → (Kept → ℕ → ℕ → Kept) → Width → Kept → ℕ → ℕ → Kept
 with_number write Byte kept address value = write kept address (field value 0 8)
 with_number write Half kept address value =
     write (write kept address (field value 0 8)) (address + 1) (field value 8 8)
 with_number write Word kept address value =
     write
-    (write (write (write kept address (field value 0 8)) (address + 1) (field value 8 8)) (address + 2) (field value 16 8))
+    (write
+    (write (write kept address (field value 0 8)) (address + 1) (field value 8 8))
+    (address + 2) (field value 16 8))
     (address + 3) (field value 24 8)
 
 -- a byte written to both bytes of its halfword
 abbrev pub with_both : {Kept : Type 0} → (Kept → ℕ → ℕ → Kept) → Kept → ℕ → ℕ → Kept
 with_both write kept address byte = write (write kept address byte) (address + 1) byte
 
--- What a write leaves, by the region of its address (GBATEK, GBA Memory Map). A byte goes to both bytes of its halfword in
--- the palette and in the VRAM below the part of sprites; that part and the OAM drop it. The SRAM stores the low byte of any
--- write at its aligned address (this project's profile).
+-- What a write leaves, by the region of its address. A byte goes to both bytes of its halfword in the palette and in
+-- the VRAM below the part of sprites; that part and the OAM drop it (GBATEK, Writing 8bit Data to Video Memory in GBA
+-- Unpredictable Things). The SRAM stores the low byte of any write at its aligned address (this project's profile).
 abbrev pub stored_in : Region → ℕ → Memories → ℕ → Width → ℕ → Memories
 stored_in Palette mode m address Byte value = with_both with_byte m (aligned Half address) (field value 0 8)
 stored_in Vram mode m address Byte value =

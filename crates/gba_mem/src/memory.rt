@@ -4,6 +4,7 @@ ghost use Rattle.std.specs.Prelude.{◌≡◌, ◌≤◌, [], IfOk, replicate, u
 ghost use Rattle.gba_bus.specs.Regions.{region_of};
 ghost use Rattle.gba_mem.specs.Loads.{is_bios};
 ghost use Rattle.gba_mem.specs.Memories.{sram_length};
+ghost use Rattle.gba_mem.specs.Wide.{is_inner, is_rom};
 
 use crate::numbers::{length_of, number, put, put_twice, repeated};
 use crate::places;
@@ -40,12 +41,33 @@ fn sram_of(alloc: Global, save: Option<Save>) -> Result<Vec<u8>, AllocError>
     }
 }
 
-/// Whether an instruction stands in the BIOS.
-fn is_in_bios(from: u32) -> bool
-    ensures { result ≡ is_bios (region_of from) }
+/// Whether an address is in the BIOS.
+fn is_in_bios(address: u32) -> bool
+    ensures { result ≡ is_bios (region_of address) }
 {
-    match region_of(from) {
+    match region_of(address) {
         Region::Bios => true,
+        _ => false,
+    }
+}
+
+/// Whether an address is in the inner RAM.
+fn is_in_inner(address: u32) -> bool
+    ensures { result ≡ is_inner (region_of address) }
+{
+    match region_of(address) {
+        Region::Inner => true,
+        _ => false,
+    }
+}
+
+/// Whether an address is in a view of the ROM.
+#[tactic(auto, unfolding(gba_bus::specs::Regions::region_of))]
+fn is_in_rom(address: u32) -> bool
+    ensures { result ≡ is_rom (region_of address) }
+{
+    match address >> 24 {
+        0x8..=0xD => true,
         _ => false,
     }
 }
@@ -82,8 +104,10 @@ impl Model for Memory {
     } };
 
     ghost invariant = { λ m.
-        (vec_len m.bios ≡ 0x4000) × (vec_len m.rom ≤ 0x2000000) × (vec_len m.work ≡ 0x40000) × (vec_len m.inner ≡ 0x8000)
-        × (vec_len m.palette ≡ 0x400) × (vec_len m.vram ≡ 0x18000) × (vec_len m.oam ≡ 0x400) × (vec_len m.sram ≡ 0x8000) };
+        (vec_len m.bios ≡ 0x4000) × (vec_len m.rom ≤ 0x2000000)
+        × (vec_len m.work ≡ 0x40000) × (vec_len m.inner ≡ 0x8000)
+        × (vec_len m.palette ≡ 0x400) × (vec_len m.vram ≡ 0x18000)
+        × (vec_len m.oam ≡ 0x400) × (vec_len m.sram ≡ 0x8000) };
 }
 
 impl Memory {
@@ -95,8 +119,8 @@ impl Memory {
     ghost use Rattle.gba_mem.specs.Stores.{store};
     ghost use Rattle.gba_mem.specs.Wide.{wide_load, wide_oam, wide_palette, wide_rom, wide_store, wide_vram};
 
-    /// The memories of a console at the start, from its images. RAM is 0, and the SRAM is the save or FFh bytes. The images'
-    /// bytes are moved in, not copied; on refusal they are dropped.
+    /// The memories of a console at the start, from its images. RAM is 0, and the SRAM is the save or FFh bytes. The
+    /// images' bytes are moved in, not copied; on refusal they are dropped.
     #[tactic(auto, unfolding(crate::specs::Memories::at_start))]
     pub fn new(alloc: Global, images: ConsoleImages) -> Result<Memory, NoMemory>
         ensures { IfOk result (λ memory. memory ≡ at_start images.bios images.cart images.save) }
@@ -168,7 +192,7 @@ impl Memory {
         self.sram.as_slice()
     }
 
-    /// A byte of ROM, past the image too (GBATEK, GBA Cartridge ROM).
+    /// A byte of ROM, past the image too (GBATEK, GBA Unpredictable Things).
     fn byte_of_rom(&self, address: u32) -> u8
         ensures { result ≡ rom_byte self.now.rom address }
     {
@@ -337,41 +361,42 @@ impl Memory {
         }
     }
 
-    /// What an instruction is read as, the commonest regions first.
-    #[tactic(auto, unfolding(crate::specs::Wide::wide_load, gba_bus::specs::Regions::region_of))]
+    /// What an instruction is read as, the commonest regions first, each after one test.
+    #[tactic(auto, using(crate::proofs::Coding::told_regions), unfolding(gba_bus::specs::Regions::region_of))]
     #[inline]
     fn wide_code(&self, address: u32, width: Width) -> u32
         ensures { result ≡ wide_load (region_of address) (is_bios (region_of address)) self.now address width }
     {
-        match region_of(address) {
-            Region::Rom0 | Region::Rom1 | Region::Rom2 => self.read_rom(
-                width,
-                width.align(address),
-            ),
-            Region::Inner => number(self.inner.as_slice(), width, places::inner(address, width)),
-            Region::Bios => number(self.bios.as_slice(), width, places::bios(address, width)),
-            _ => self.wide_load(is_in_bios(address), address, width),
+        if is_in_bios(address) {
+            return number(self.bios.as_slice(), width, places::bios(address, width));
         }
+        if is_in_inner(address) {
+            return number(self.inner.as_slice(), width, places::inner(address, width));
+        }
+        if is_in_rom(address) {
+            return self.read_rom(width, width.align(address));
+        }
+        self.wide_load(false, address, width)
     }
 
-    /// What an access reads at its aligned address, for the instruction at `from`. To an instruction outside the BIOS, and
-    /// so to a DMA unit, the BIOS reads 0 (this project's profile).
+    /// What an access reads at its aligned address, for the instruction at `from`. To an instruction outside the
+    /// BIOS, and so to a DMA unit, the BIOS reads 0 (this project's profile).
     pub fn load(&self, from: u32, address: u32, width: Width) -> u32
         ensures { result ≡ load self.now from address width }
     {
         self.wide_load(is_in_bios(from), address, width)
     }
 
-    /// Writes the low bits of a number, as many as the width has, at the aligned address. `mode` is the mode of the picture,
-    /// bits 0 to 2 of DISPCNT: it says which part of the VRAM drops bytes.
+    /// Writes the low bits of a number, as many as the width has, at the aligned address. `mode` is the mode of the
+    /// picture, bits 0 to 2 of DISPCNT: it says which part of the VRAM drops bytes.
     pub fn store(&mut self, mode: u32, address: u32, width: Width, value: u32)
         ensures { self.new ≡ store mode self.old address width value }
     {
         self.wide_store(mode, address, width, value);
     }
 
-    /// The instruction at an address, as [`Memory::load`] reads it for that instruction itself. Quick where instructions
-    /// mostly stand: in the BIOS, the inner RAM and the ROM.
+    /// The instruction at an address, as [`Memory::load`] reads it for that instruction itself. Quick where
+    /// instructions mostly stand: in the BIOS, the inner RAM and the ROM.
     #[inline]
     pub fn code(&self, address: u32, width: Width) -> u32
         ensures { result ≡ load self.now address address width }

@@ -48,7 +48,8 @@ fn memory_has_its_prices(rt: HostRuntime) {
     }
 }
 
-/// A row: the wait control, a region, and the prices of a halfword, then of a word, first non-sequential, then sequential.
+/// A row: the wait control, a region, and the prices of a halfword, then of a word, first non-sequential, then
+/// sequential.
 type Waits = (u16, Region, [u32; 4]);
 
 /// The wait control is 0 at reset, and 4317h where most games set it: ROM 3 and 1, SRAM 8, view 2 8 and 8 (GBATEK, GBA

@@ -98,8 +98,8 @@ const MIRRORS: [Move; 38] = [
     Reads(0x0300_0004, Word, 0),
 ];
 
-/// A byte written to the palette or to the VRAM below the tiles of sprites goes to both bytes of its halfword. Those tiles
-/// and the OAM drop it. The tiles begin at 10000h in modes 0 to 2, and at 14000h in the others.
+/// A byte written to the palette or to the VRAM below the tiles of sprites goes to both bytes of its halfword. Those
+/// tiles and the OAM drop it. The tiles begin at 10000h in modes 0 to 2, and at 14000h in the others.
 const BYTES: [Move; 24] = [
     Store(0, 0x0700_0000, Byte, 0x5A),
     Reads(0x0700_0000, Word, 0),
@@ -254,30 +254,50 @@ fn rom_reads_past_its_image(rt: HostRuntime) -> Result<(), Fail> {
     Ok(())
 }
 
-/// RAM starts as 0, and the SRAM as FFh or as the save.
+/// The bytes of a RAM all have this value.
+fn all_are<R: Abort>(rt: &R, ram: &[u8], value: u8) {
+    for byte in ram {
+        assert_eq!(rt; *byte, value);
+    }
+}
+
+/// RAM starts as 0, and the SRAM as FFh.
 #[test]
 fn memories_start_as_they_should(rt: HostRuntime) -> Result<(), Fail> {
     let memory = memories(&rt, rt.alloc(), None, None)?;
-    for ram in [
-        memory.work(),
-        memory.inner(),
-        memory.palette(),
-        memory.vram(),
-        memory.oam(),
-    ] {
-        assert!(rt; ram.iter().all(|byte| *byte == 0));
-    }
-    assert!(rt; memory.sram().iter().all(|byte| *byte == 0xFF));
-    let save = Save::check(image(&rt, rt.alloc(), 32_768, &[(5, 0x5A), (0x7FFF, 0x6B)])?)?;
-    let mut memory = memories(&rt, rt.alloc(), None, Some(save))?;
-    assert_eq!(rt; memory.sram()[0x7FFF], 0x6B);
-    memory.store(0, 0x0E00_0006, Width::Byte, 0x7C);
-    assert_eq!(rt; &memory.sram()[4..8], [0, 0x5A, 0x7C, 0].as_slice());
-    memory.store(0, 0x0600_0002, Width::Half, 0x1234);
-    assert_eq!(rt; &memory.vram()[..4], [0, 0, 0x34, 0x12].as_slice());
-    memory.store(0, 0x0500_0002, Width::Byte, 0x12);
-    assert_eq!(rt; &memory.palette()[..4], [0, 0, 0x12, 0x12].as_slice());
-    memory.store(0, 0x0700_0000, Width::Word, 0x4433_2211);
-    assert_eq!(rt; &memory.oam()[..4], [0x11, 0x22, 0x33, 0x44].as_slice());
+    all_are(&rt, memory.work(), 0);
+    all_are(&rt, memory.inner(), 0);
+    all_are(&rt, memory.palette(), 0);
+    all_are(&rt, memory.vram(), 0);
+    all_are(&rt, memory.oam(), 0);
+    all_are(&rt, memory.sram(), 0xFF);
     Ok(())
 }
+
+/// Each memory is lent with what was stored in it, and the SRAM starts as the save.
+#[test]
+fn memories_are_lent(rt: HostRuntime) -> Result<(), Fail> {
+    let bytes = [(5, 0x5A), (0x7FFF, 0x6B)];
+    let save = Save::check(image(&rt, rt.alloc(), 32_768, &bytes)?)?;
+    let mut memory = memories(&rt, rt.alloc(), None, Some(save))?;
+    play(&rt, &mut memory, &LENT);
+    assert_eq!(rt; memory.work().get(3).copied(), Some(0x01));
+    assert_eq!(rt; memory.inner().last().copied(), Some(0x02));
+    assert_eq!(rt; memory.palette().get(2).copied(), Some(0x03));
+    assert_eq!(rt; memory.vram().last().copied(), Some(0x04));
+    assert_eq!(rt; memory.oam().get(1).copied(), Some(0x05));
+    assert_eq!(rt; memory.sram().get(6).copied(), Some(0x06));
+    assert_eq!(rt; memory.sram().get(5).copied(), Some(0x5A));
+    assert_eq!(rt; memory.sram().last().copied(), Some(0x6B));
+    Ok(())
+}
+
+/// One store to each memory that can be written.
+const LENT: [Move; 6] = [
+    Store(0, 0x0200_0003, Byte, 0x01),
+    Store(0, 0x03FF_FFFC, Word, 0x0200_0000),
+    Store(0, 0x0500_0003, Byte, 0x03),
+    Store(0, 0x0601_FFFE, Half, 0x0400),
+    Store(0, 0x0700_0000, Half, 0x0500),
+    Store(0, 0x0E00_0006, Byte, 0x06),
+];
