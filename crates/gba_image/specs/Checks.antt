@@ -1,0 +1,31 @@
+use Rattle.std.specs.Prelude.{◌≡◌, ℕ, ◌+◌, ◌-◌, ◌%◌, ◌==◌, nat_lt, List, length, slice_index, slice_range, sum, Option, Some, None, Result, MatchResult, if◌then◌else◌}
+use Rattle.gba_image.specs.declared.error.ImageError.{ImageError}
+use Rattle.gba_image.specs.declared.error.ImageError.TheVariants.{BiosLength, TooShort, TooLong, FixedByte, HeaderCheck, SaveLength}
+
+-- Why an image is refused: the first reason in this order, or none.
+
+-- a BIOS has 16 KiB (GBATEK, GBA Memory Map)
+unfoldable pub bios_fault : List ℕ → Option ImageError
+bios_fault bytes = if length bytes == 16384 then None else Some BiosLength
+
+-- the header check of a cartridge: 0 minus the bytes A0h to BCh, minus 19h, modulo 256 (GBATEK, GBA Cartridge Header)
+abbrev pub header_check : List ℕ → ℕ
+header_check bytes = (256 - (sum (slice_range bytes 0xa0 0xbd) + 0x19) % 256) % 256
+
+-- A cartridge has a whole header and at most 32 MiB; the byte B2h is 96h, and the byte BDh is the header check. The
+-- logo isn't compared (GBATEK, GBA Cartridge Header; the logo and the lengths this project's profile).
+unfoldable pub cartridge_fault : List ℕ → Option ImageError
+cartridge_fault bytes =
+    if nat_lt (length bytes) 192 then Some TooShort
+    else if nat_lt 33554432 (length bytes) then Some TooLong
+    else if slice_index bytes 0xb2 == 0x96
+    then (if slice_index bytes 0xbd == header_check bytes then None else Some HeaderCheck)
+    else Some FixedByte
+
+-- a save has the 32 KiB of the SRAM (GBATEK, GBA Cart Backup SRAM)
+unfoldable pub save_fault : List ℕ → Option ImageError
+save_fault bytes = if length bytes == 32768 then None else Some SaveLength
+
+-- a check accepts an image with just these bytes where nothing is wrong with them, and else gives the reason
+abbrev pub Judges : Option ImageError → List ℕ → Result (List ℕ) ImageError → Type 0
+Judges fault bytes answer = MatchResult answer (λ image. (fault ≡ None) × (image ≡ bytes)) (λ error. fault ≡ Some error)

@@ -1,0 +1,4 @@
+pub mod Aligned
+pub mod Coding
+pub mod Loading
+pub mod Storing

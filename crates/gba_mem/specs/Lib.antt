@@ -1,0 +1,6 @@
+pub mod Fits
+pub mod Loads
+pub mod Memories
+pub mod Places
+pub mod Stores
+pub mod Wide

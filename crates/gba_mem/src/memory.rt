@@ -1,0 +1,406 @@
+//! The memories of a console.
+
+ghost use Rattle.std.specs.Prelude.{◌≡◌, ◌≤◌, [], IfOk, replicate, unwrap_or, vec_len};
+ghost use Rattle.gba_bus.specs.Regions.{region_of};
+ghost use Rattle.gba_mem.specs.Loads.{is_bios};
+ghost use Rattle.gba_mem.specs.Memories.{sram_length};
+ghost use Rattle.gba_mem.specs.Wide.{is_inner, is_rom};
+
+use crate::numbers::{length_of, number, put, put_twice, repeated};
+use crate::places;
+use crate::start::{
+    filled, length_of_inner, length_of_oam, length_of_palette, length_of_sram, length_of_vram,
+    length_of_work,
+};
+use gba_bus::{Region, Width, region_of};
+use gba_image::{Cartridge, ConsoleImages, Save};
+use gba_terms::NoMemory;
+use gba_word::bits;
+use std::alloc::{AllocError, Global};
+use std::marker::Model;
+
+/// The ROM of a cartridge, or none.
+fn rom_of(alloc: Global, cart: Option<Cartridge>) -> Vec<u8>
+    ensures bytes { result.items ≡ unwrap_or cart [] }
+    ensures most { vec_len result ≤ 0x2000000 }
+{
+    match cart {
+        Some(cart) => cart.into_bytes(),
+        None => Vec::new(alloc),
+    }
+}
+
+/// The SRAM of a save, or one of FFh bytes.
+fn sram_of(alloc: Global, save: Option<Save>) -> Result<Vec<u8>, AllocError>
+    ensures bytes { IfOk result (λ sram. sram.items ≡ unwrap_or save (replicate sram_length 0xff)) }
+    ensures length { IfOk result (λ sram. vec_len sram ≡ 0x8000) }
+{
+    match save {
+        Some(save) => Ok(save.into_bytes()),
+        None => filled(alloc, length_of_sram(), 0xFF),
+    }
+}
+
+/// Whether an address is in the BIOS.
+fn is_in_bios(address: u32) -> bool
+    ensures { result ≡ is_bios (region_of address) }
+{
+    match region_of(address) {
+        Region::Bios => true,
+        _ => false,
+    }
+}
+
+/// Whether an address is in the inner RAM.
+fn is_in_inner(address: u32) -> bool
+    ensures { result ≡ is_inner (region_of address) }
+{
+    match region_of(address) {
+        Region::Inner => true,
+        _ => false,
+    }
+}
+
+/// Whether an address is in a view of the ROM.
+#[tactic(auto, unfolding(gba_bus::specs::Regions::region_of))]
+fn is_in_rom(address: u32) -> bool
+    ensures { result ≡ is_rom (region_of address) }
+{
+    match address >> 24 {
+        0x8..=0xD => true,
+        _ => false,
+    }
+}
+
+/// The memories of a console (GBATEK, GBA Memory Map), but for the I/O registers, which read 0 here and drop writes.
+/// Contracts see the lists of their bytes.
+#[derive(Drop)]
+pub struct Memory {
+    bios: Vec<u8>,
+    rom: Vec<u8>,
+    work: Vec<u8>,
+    inner: Vec<u8>,
+    palette: Vec<u8>,
+    vram: Vec<u8>,
+    oam: Vec<u8>,
+    sram: Vec<u8>,
+}
+
+impl Model for Memory {
+    ghost use Rattle.std.specs.Prelude.{◌≡◌, ◌≤◌, vec_len};
+    ghost use Rattle.gba_mem.specs.Memories.{Memories};
+
+    ghost Value = { Memories };
+
+    ghost view = { λ m. record {
+      bios = m.bios.items;
+      rom = m.rom.items;
+      work = m.work.items;
+      inner = m.inner.items;
+      palette = m.palette.items;
+      vram = m.vram.items;
+      oam = m.oam.items;
+      sram = m.sram.items;
+    } };
+
+    ghost invariant = { λ m.
+        (vec_len m.bios ≡ 0x4000) × (vec_len m.rom ≤ 0x2000000)
+        × (vec_len m.work ≡ 0x40000) × (vec_len m.inner ≡ 0x8000)
+        × (vec_len m.palette ≡ 0x400) × (vec_len m.vram ≡ 0x18000)
+        × (vec_len m.oam ≡ 0x400) × (vec_len m.sram ≡ 0x8000) };
+}
+
+impl Memory {
+    ghost use Rattle.std.specs.Prelude.{◌≡◌, ◌+◌, ◌^◌, ◌≤◌, IfOk, length};
+    ghost use Rattle.gba_bus.specs.Regions.{region_of};
+    ghost use Rattle.gba_bus.specs.Widths.{size};
+    ghost use Rattle.gba_mem.specs.Loads.{is_bios, load, number_of, rom_byte};
+    ghost use Rattle.gba_mem.specs.Memories.{at_start};
+    ghost use Rattle.gba_mem.specs.Stores.{store};
+    ghost use Rattle.gba_mem.specs.Wide.{wide_load, wide_oam, wide_palette, wide_rom, wide_store, wide_vram};
+
+    /// The memories of a console at the start, from its images. RAM is 0, and the SRAM is the save or FFh bytes. The
+    /// images' bytes are moved in, not copied; on refusal they are dropped.
+    #[tactic(auto, unfolding(crate::specs::Memories::at_start))]
+    pub fn new(alloc: Global, images: ConsoleImages) -> Result<Memory, NoMemory>
+        ensures { IfOk result (λ memory. memory ≡ at_start images.bios images.cart images.save) }
+    {
+        let ConsoleImages { bios, cart, save } = images;
+        let work = filled(alloc, length_of_work(), 0)?;
+        let inner = filled(alloc, length_of_inner(), 0)?;
+        let palette = filled(alloc, length_of_palette(), 0)?;
+        let vram = filled(alloc, length_of_vram(), 0)?;
+        let oam = filled(alloc, length_of_oam(), 0)?;
+        let sram = sram_of(alloc, save)?;
+        Ok(Memory {
+            bios: bios.into_bytes(),
+            rom: rom_of(alloc, cart),
+            work,
+            inner,
+            palette,
+            vram,
+            oam,
+            sram,
+        })
+    }
+
+    /// The 262,144 bytes of the work RAM.
+    pub fn work(&self) -> &[u8]
+        ensures bytes { result.now ≡ self.now.work }
+        ensures length { length result.now ≡ 0x40000 }
+    {
+        self.work.as_slice()
+    }
+
+    /// The 32,768 bytes of the inner RAM.
+    pub fn inner(&self) -> &[u8]
+        ensures bytes { result.now ≡ self.now.inner }
+        ensures length { length result.now ≡ 0x8000 }
+    {
+        self.inner.as_slice()
+    }
+
+    /// The 1,024 bytes of the palette.
+    pub fn palette(&self) -> &[u8]
+        ensures bytes { result.now ≡ self.now.palette }
+        ensures length { length result.now ≡ 0x400 }
+    {
+        self.palette.as_slice()
+    }
+
+    /// The 98,304 bytes of the VRAM.
+    pub fn vram(&self) -> &[u8]
+        ensures bytes { result.now ≡ self.now.vram }
+        ensures length { length result.now ≡ 0x18000 }
+    {
+        self.vram.as_slice()
+    }
+
+    /// The 1,024 bytes of the OAM.
+    pub fn oam(&self) -> &[u8]
+        ensures bytes { result.now ≡ self.now.oam }
+        ensures length { length result.now ≡ 0x400 }
+    {
+        self.oam.as_slice()
+    }
+
+    /// The 32,768 bytes of the SRAM.
+    pub fn sram(&self) -> &[u8]
+        ensures bytes { result.now ≡ self.now.sram }
+        ensures length { length result.now ≡ 0x8000 }
+    {
+        self.sram.as_slice()
+    }
+
+    /// A byte of ROM, past the image too (GBATEK, GBA Unpredictable Things).
+    fn byte_of_rom(&self, address: u32) -> u8
+        ensures { result ≡ rom_byte self.now.rom address }
+    {
+        let place = (address % 0x0200_0000) as usize;
+        if place < self.rom.len() {
+            return self.rom[place];
+        }
+        let half = address / 2 % 0x1_0000;
+        if address % 2 == 0 {
+            (half % 0x100) as u8
+        } else {
+            (half / 0x100) as u8
+        }
+    }
+
+    /// What the ROM reads where some byte is past the image.
+    #[inline(never)]
+    fn number_of_rom(&self, width: Width, address: u32) -> u32
+        requires { address + size width ≤ 2 ^ 32 }
+        ensures { result ≡ number_of (rom_byte self.now.rom) width address }
+    {
+        match width {
+            Width::Byte => u32::from(self.byte_of_rom(address)),
+            Width::Half => u32::from(u16::from_le_bytes([
+                self.byte_of_rom(address),
+                self.byte_of_rom(address + 1),
+            ])),
+            Width::Word => u32::from_le_bytes([
+                self.byte_of_rom(address),
+                self.byte_of_rom(address + 1),
+                self.byte_of_rom(address + 2),
+                self.byte_of_rom(address + 3),
+            ]),
+        }
+    }
+
+    /// What the ROM reads at an aligned address.
+    #[tactic(auto, unfolding(crate::specs::Wide::wide_rom))]
+    fn read_rom(&self, width: Width, address: u32) -> u32
+        requires { address + size width ≤ 2 ^ 32 }
+        ensures { result ≡ wide_rom self.now.rom width address }
+    {
+        let place = (address % 0x0200_0000) as usize;
+        if place + length_of(width) <= self.rom.len() {
+            number(self.rom.as_slice(), width, place)
+        } else {
+            self.number_of_rom(width, address)
+        }
+    }
+
+    /// What an access reads, by its region.
+    #[tactic(auto, unfolding(crate::specs::Wide::wide_load, gba_bus::specs::Regions::region_of))]
+    fn wide_load(&self, in_bios: bool, address: u32, width: Width) -> u32
+        ensures { result ≡ wide_load (region_of address) in_bios self.now address width }
+    {
+        match region_of(address) {
+            Region::Bios => {
+                if in_bios {
+                    number(self.bios.as_slice(), width, places::bios(address, width))
+                } else {
+                    0
+                }
+            }
+            Region::Work => number(self.work.as_slice(), width, places::work(address, width)),
+            Region::Inner => number(self.inner.as_slice(), width, places::inner(address, width)),
+            Region::Palette => number(
+                self.palette.as_slice(),
+                width,
+                places::palette(address, width),
+            ),
+            Region::Vram => number(self.vram.as_slice(), width, places::vram(address, width)),
+            Region::Oam => number(self.oam.as_slice(), width, places::palette(address, width)),
+            Region::Rom0 | Region::Rom1 | Region::Rom2 => self.read_rom(
+                width,
+                width.align(address),
+            ),
+            Region::Sram => repeated(self.sram[places::inner(address, width)], width),
+            Region::Io | Region::Other => 0,
+        }
+    }
+
+    /// Writes in the palette.
+    #[tactic(auto, unfolding(crate::specs::Wide::wide_palette))]
+    fn store_palette(palette: &mut [u8], address: u32, width: Width, value: u32)
+        requires { length palette.old ≡ 0x400 }
+        ensures { palette.new ≡ wide_palette palette.old address width value }
+    {
+        match width {
+            Width::Byte => put_twice(palette, places::palette(address, Width::Half), value),
+            Width::Half | Width::Word => put(
+                palette,
+                width,
+                places::palette(address, width),
+                value,
+            ),
+        }
+    }
+
+    /// Writes in the VRAM.
+    #[tactic(auto, unfolding(crate::specs::Wide::wide_vram))]
+    fn store_vram(mode: u32, vram: &mut [u8], address: u32, width: Width, value: u32)
+        requires { length vram.old ≡ 0x18000 }
+        ensures { vram.new ≡ wide_vram mode vram.old address width value }
+    {
+        match width {
+            Width::Byte => {
+                if places::vram(address, Width::Byte) < places::start_of_sprites(mode) {
+                    put_twice(vram, places::vram(address, Width::Half), value);
+                }
+            }
+            Width::Half | Width::Word => put(vram, width, places::vram(address, width), value),
+        }
+    }
+
+    /// Writes in the OAM.
+    #[tactic(auto, unfolding(crate::specs::Wide::wide_oam))]
+    fn store_oam(oam: &mut [u8], address: u32, width: Width, value: u32)
+        requires { length oam.old ≡ 0x400 }
+        ensures { oam.new ≡ wide_oam oam.old address width value }
+    {
+        match width {
+            Width::Byte => {}
+            Width::Half | Width::Word => put(oam, width, places::palette(address, width), value),
+        }
+    }
+
+    /// What a write leaves, by its region.
+    #[tactic(auto, unfolding(crate::specs::Wide::wide_store))]
+    fn wide_store(&mut self, mode: u32, address: u32, width: Width, value: u32)
+        ensures { self.new ≡ wide_store (region_of address) mode self.old address width value }
+    {
+        match region_of(address) {
+            Region::Work => put(
+                self.work.as_mut_slice(),
+                width,
+                places::work(address, width),
+                value,
+            ),
+            Region::Inner => put(
+                self.inner.as_mut_slice(),
+                width,
+                places::inner(address, width),
+                value,
+            ),
+            Region::Palette => Memory::store_palette(
+                self.palette.as_mut_slice(),
+                address,
+                width,
+                value,
+            ),
+            Region::Vram => Memory::store_vram(
+                mode,
+                self.vram.as_mut_slice(),
+                address,
+                width,
+                value,
+            ),
+            Region::Oam => Memory::store_oam(self.oam.as_mut_slice(), address, width, value),
+            Region::Sram => self.sram[places::inner(address, width)] = bits(value, 0, 8) as u8,
+            Region::Bios
+            | Region::Io
+            | Region::Rom0
+            | Region::Rom1
+            | Region::Rom2
+            | Region::Other => {}
+        }
+    }
+
+    /// What an instruction is read as, the commonest regions first, each after one test.
+    #[tactic(auto, using(crate::proofs::Coding::told_regions), unfolding(gba_bus::specs::Regions::region_of))]
+    #[inline]
+    fn wide_code(&self, address: u32, width: Width) -> u32
+        ensures { result ≡ wide_load (region_of address) (is_bios (region_of address)) self.now address width }
+    {
+        if is_in_bios(address) {
+            return number(self.bios.as_slice(), width, places::bios(address, width));
+        }
+        if is_in_inner(address) {
+            return number(self.inner.as_slice(), width, places::inner(address, width));
+        }
+        if is_in_rom(address) {
+            return self.read_rom(width, width.align(address));
+        }
+        self.wide_load(false, address, width)
+    }
+
+    /// What an access reads at its aligned address, for the instruction at `from`. To an instruction outside the
+    /// BIOS, and so to a DMA unit, the BIOS reads 0 (this project's profile).
+    pub fn load(&self, from: u32, address: u32, width: Width) -> u32
+        ensures { result ≡ load self.now from address width }
+    {
+        self.wide_load(is_in_bios(from), address, width)
+    }
+
+    /// Writes the low bits of a number, as many as the width has, at the aligned address. `mode` is the mode of the
+    /// picture, bits 0 to 2 of DISPCNT: it says which part of the VRAM drops bytes.
+    pub fn store(&mut self, mode: u32, address: u32, width: Width, value: u32)
+        ensures { self.new ≡ store mode self.old address width value }
+    {
+        self.wide_store(mode, address, width, value);
+    }
+
+    /// The instruction at an address, as [`Memory::load`] reads it for that instruction itself. Quick where
+    /// instructions mostly stand: in the BIOS, the inner RAM and the ROM.
+    #[inline]
+    pub fn code(&self, address: u32, width: Width) -> u32
+        ensures { result ≡ load self.now address address width }
+    {
+        self.wide_code(address, width)
+    }
+}

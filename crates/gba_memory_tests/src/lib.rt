@@ -1,0 +1,9 @@
+#![tactic(auto)]
+//! Tests of the memory map: the regions and their prices, the image checks, what each address reads and stores.
+
+#[cfg(test)]
+mod images;
+#[cfg(test)]
+mod map;
+#[cfg(test)]
+mod memories;

@@ -1,0 +1,303 @@
+//! What each address reads and stores.
+
+use crate::images::{HEADER, image};
+use gba_bus::Width::{self, Byte, Half, Word};
+use gba_image::{Bios, Cartridge, ConsoleImages, Save};
+use gba_mem::Memory;
+use std::alloc::Global;
+use std::process::Abort;
+use std::test::Fail;
+
+/// Something done to the memories, or something that must hold of them.
+#[derive(Clone, Copy)]
+enum Move {
+    /// Write a number in a mode of the picture.
+    Store(u32, u32, Width, u32),
+    /// An address reads so for an instruction in ROM.
+    Reads(u32, Width, u32),
+    /// It reads so for the instruction at the first address.
+    ReadsFrom(u32, u32, Width, u32),
+    /// The instruction there is this.
+    Instruction(u32, Width, u32),
+}
+
+use Move::{Instruction, Reads, ReadsFrom, Store};
+
+fn play<R: Abort>(rt: &R, memory: &mut Memory, moves: &[Move]) {
+    for one in moves {
+        match *one {
+            Store(mode, address, width, value) => memory.store(mode, address, width, value),
+            Reads(address, width, value) => {
+                assert_eq!(rt;
+                    memory.load(0x0800_0000, address, width),
+                    value,
+                    "at {address}"
+                );
+            }
+            ReadsFrom(from, address, width, value) => {
+                assert_eq!(rt; memory.load(from, address, width), value, "at {address}");
+            }
+            Instruction(address, width, value) => {
+                assert_eq!(rt; memory.code(address, width), value, "at {address}");
+            }
+        }
+    }
+}
+
+/// A console's memories with a BIOS that begins 11h 22h 33h 44h and ends 55h, and this cartridge and save.
+fn memories<R: Abort>(
+    rt: &R,
+    alloc: Global,
+    cart: Option<Cartridge>,
+    save: Option<Save>,
+) -> Result<Memory, Fail> {
+    let bytes = [(0, 0x11), (1, 0x22), (2, 0x33), (3, 0x44), (0x3FFF, 0x55)];
+    let bios = Bios::check(image(rt, alloc, 16_384, &bytes)?)?;
+    Ok(Memory::new(alloc, ConsoleImages { bios, cart, save })?)
+}
+
+/// Each memory that repeats, at both ends of a period and of its region, at each width.
+const MIRRORS: [Move; 38] = [
+    Store(0, 0x0200_0000, Word, 0x4433_2211),
+    Reads(0x0200_0003, Word, 0x4433_2211),
+    Reads(0x0204_0001, Half, 0x2211),
+    Reads(0x02FC_0003, Byte, 0x44),
+    Store(0, 0x02FF_FFFF, Word, 0x8877_6655),
+    Reads(0x0203_FFFC, Word, 0x8877_6655),
+    Reads(0x0207_FFFE, Half, 0x8877),
+    Reads(0x0203_FFFF, Byte, 0x88),
+    Store(0, 0x0300_0001, Half, 0xFFFF_2211),
+    Reads(0x0300_8000, Word, 0x0000_2211),
+    Reads(0x03FF_8001, Byte, 0x22),
+    Store(0, 0x03FF_FFFF, Byte, 0xFFFF_FF88),
+    Reads(0x0300_7FFC, Word, 0x8800_0000),
+    Reads(0x0300_FFFF, Half, 0x8800),
+    Store(0, 0x0500_0000, Word, 0x4433_2211),
+    Reads(0x0500_0402, Half, 0x4433),
+    Reads(0x05FF_FC03, Byte, 0x44),
+    Store(0, 0x05FF_FFFF, Half, 0x8877),
+    Reads(0x0500_03FC, Word, 0x8877_0000),
+    Reads(0x0500_03FF, Byte, 0x88),
+    Store(0, 0x0700_0000, Word, 0x4433_2211),
+    Reads(0x0700_0402, Half, 0x4433),
+    Reads(0x07FF_FC03, Byte, 0x44),
+    Store(0, 0x07FF_FFFF, Half, 0x8877),
+    Reads(0x0700_03FC, Word, 0x8877_0000),
+    Reads(0x0700_03FF, Byte, 0x88),
+    Store(0, 0x0600_0000, Word, 0x4433_2211),
+    Reads(0x0602_0002, Half, 0x4433),
+    Reads(0x06FE_0003, Byte, 0x44),
+    Store(0, 0x0601_8000, Word, 0x9999_0001),
+    Reads(0x0601_0000, Word, 0x9999_0001),
+    Reads(0x0601_8002, Half, 0x9999),
+    Store(0, 0x0601_FFFE, Half, 0x8877),
+    Reads(0x0601_7FFC, Word, 0x8877_0000),
+    Reads(0x06FF_FFFF, Byte, 0x88),
+    Reads(0x0600_FFFC, Word, 0),
+    Reads(0x0601_0004, Word, 0),
+    Reads(0x0300_0004, Word, 0),
+];
+
+/// A byte written to the palette or to the VRAM below the tiles of sprites goes to both bytes of its halfword. Those
+/// tiles and the OAM drop it. The tiles begin at 10000h in modes 0 to 2, and at 14000h in the others.
+const BYTES: [Move; 24] = [
+    Store(0, 0x0700_0000, Byte, 0x5A),
+    Reads(0x0700_0000, Word, 0),
+    Store(0, 0x0600_0001, Byte, 0xFF5A),
+    Reads(0x0600_0000, Word, 0x0000_5A5A),
+    Store(0, 0x0500_0003, Byte, 0x6B),
+    Reads(0x0500_0000, Word, 0x6B6B_0000),
+    Store(2, 0x0600_FFFF, Byte, 0x5A),
+    Reads(0x0600_FFFC, Word, 0x5A5A_0000),
+    Store(0, 0x0601_0000, Byte, 0x5A),
+    Store(1, 0x0601_0001, Byte, 0x5A),
+    Store(2, 0x0601_8000, Byte, 0x5A),
+    Reads(0x0601_0000, Word, 0),
+    Store(3, 0x0601_8001, Byte, 0x6B),
+    Reads(0x0601_0000, Word, 0x6B6B),
+    Store(5, 0x0601_3FFF, Byte, 0x7C),
+    Reads(0x0601_3FFC, Word, 0x7C7C_0000),
+    Store(3, 0x0601_4000, Byte, 0x5A),
+    Store(4, 0x0601_C000, Byte, 0x5A),
+    Store(7, 0x0601_7FFF, Byte, 0x5A),
+    Reads(0x0601_4000, Word, 0),
+    Reads(0x0601_7FFC, Word, 0),
+    Store(0, 0x0200_0001, Byte, 0x5A),
+    Reads(0x0200_0000, Word, 0x5A00),
+    Reads(0x0600_0004, Word, 0),
+];
+
+/// What drops writes and reads 0, and the BIOS, which reads 0 from outside.
+const DROPS: [Move; 22] = [
+    ReadsFrom(0x0000_0000, 0x0000_0000, Word, 0x4433_2211),
+    ReadsFrom(0x0000_3FFF, 0x0000_0003, Half, 0x4433),
+    ReadsFrom(0x0000_0100, 0x0000_3FFF, Byte, 0x55),
+    ReadsFrom(0x0000_4000, 0x0000_0000, Word, 0),
+    ReadsFrom(0x0300_0000, 0x0000_0000, Word, 0),
+    Reads(0x0000_0000, Word, 0),
+    Instruction(0x0000_0000, Word, 0x4433_2211),
+    Instruction(0x0000_3FFE, Half, 0x5500),
+    Store(0, 0x0000_0000, Word, 0xFFFF_FFFF),
+    Instruction(0x0000_0002, Half, 0x4433),
+    Store(0, 0x0800_0000, Word, 0xFFFF_FFFF),
+    Reads(0x0800_0000, Word, 0x0001_0000),
+    Store(0, 0x0400_0000, Half, 0xFFFF),
+    Reads(0x0400_0000, Half, 0),
+    Store(0, 0x0400_0400, Word, 0xFFFF_FFFF),
+    Reads(0x0400_0400, Word, 0),
+    Reads(0x0000_4000, Word, 0),
+    Store(0, 0x1000_0000, Word, 0xFFFF_FFFF),
+    Reads(0x1000_0000, Word, 0),
+    Store(0, 0xFFFF_FFFF, Word, 0xFFFF_FFFF),
+    Reads(0xFFFF_FFFF, Word, 0),
+    Instruction(0x1000_0000, Word, 0),
+];
+
+/// The SRAM has one byte at a time.
+const SRAM: [Move; 12] = [
+    Reads(0x0E00_0000, Word, 0xFFFF_FFFF),
+    Store(0, 0x0E00_0000, Byte, 0x5A),
+    Reads(0x0E00_0000, Word, 0x5A5A_5A5A),
+    Reads(0x0E00_8003, Word, 0x5A5A_5A5A),
+    Reads(0x0FFF_8001, Half, 0x5A5A),
+    Reads(0x0E00_0001, Byte, 0xFF),
+    Store(0, 0x0FFF_FFFF, Half, 0x1234),
+    Reads(0x0E00_7FFE, Byte, 0x34),
+    Reads(0x0E00_7FFF, Byte, 0xFF),
+    Store(0, 0x0F00_0007, Word, 0x1234_5678),
+    Reads(0x0E00_0004, Half, 0x7878),
+    Instruction(0x0E00_0004, Word, 0x7878_7878),
+];
+
+#[test]
+fn memories_repeat_and_take_each_width(rt: HostRuntime) -> Result<(), Fail> {
+    for moves in [&MIRRORS[..], &BYTES[..], &DROPS[..], &SRAM[..]] {
+        let mut memory = memories(&rt, rt.alloc(), None, None)?;
+        play(&rt, &mut memory, moves);
+    }
+    Ok(())
+}
+
+/// A cartridge of zeros with a header and these bytes.
+fn cartridge<R: Abort>(
+    rt: &R,
+    alloc: Global,
+    length: usize,
+    bytes: &[(usize, u8)],
+) -> Result<Cartridge, Fail> {
+    let mut cart = image(rt, alloc, length, &HEADER)?;
+    for (place, byte) in bytes {
+        assert!(rt; *place < cart.len());
+        cart[*place] = *byte;
+    }
+    Ok(Cartridge::check(cart)?)
+}
+
+/// A row: how long a cartridge is, its bytes, and what it reads.
+type Row<'a> = (usize, &'a [(usize, u8)], &'a [Move]);
+
+/// ROM in its three views, and past its image, where a halfword reads its own number.
+#[test]
+fn rom_reads_past_its_image(rt: HostRuntime) -> Result<(), Fail> {
+    let rows: [Row; 4] = [
+        (
+            192,
+            &[(0, 0x11), (3, 0x44), (0xBF, 0x77)],
+            &[
+                Reads(0x0800_0000, Word, 0x4400_0011),
+                Reads(0x0A00_0001, Half, 0x0011),
+                Reads(0x0C00_0003, Byte, 0x44),
+                Instruction(0x0C00_0000, Word, 0x4400_0011),
+                Reads(0x0800_00BC, Word, 0x7700_5100),
+                Reads(0x0800_00C0, Word, 0x0061_0060),
+                Reads(0x0800_0200, Half, 0x0100),
+                Instruction(0x0800_0200, Half, 0x0100),
+                Reads(0x0A00_0201, Byte, 0x01),
+                Reads(0x0DFF_FFFC, Word, 0xFFFF_FFFE),
+                Reads(0x0802_0002, Half, 0x0001),
+            ],
+        ),
+        (
+            193,
+            &[(0xC0, 0xAB)],
+            &[
+                Reads(0x0800_00C0, Half, 0x00AB),
+                Reads(0x0800_00C1, Byte, 0x00),
+                Instruction(0x0A00_00C0, Word, 0x0061_00AB),
+            ],
+        ),
+        (
+            33_554_431,
+            &[(33_554_430, 0xAB)],
+            &[
+                Reads(0x09FF_FFFE, Half, 0xFFAB),
+                Instruction(0x0BFF_FFFC, Word, 0xFFAB_0000),
+                Reads(0x0DFF_FFFF, Byte, 0xFF),
+                Reads(0x0A00_00B2, Byte, 0x96),
+            ],
+        ),
+        (
+            33_554_432,
+            &[(33_554_431, 0x12)],
+            &[
+                Reads(0x09FF_FFFE, Half, 0x1200),
+                Instruction(0x0BFF_FFFC, Word, 0x1200_0000),
+                Reads(0x0DFF_FFFF, Byte, 0x12),
+            ],
+        ),
+    ];
+    for (length, bytes, moves) in rows {
+        let cart = cartridge(&rt, rt.alloc(), length, bytes)?;
+        let mut memory = memories(&rt, rt.alloc(), Some(cart), None)?;
+        play(&rt, &mut memory, moves);
+    }
+    Ok(())
+}
+
+/// The bytes of a RAM all have this value.
+fn all_are<R: Abort>(rt: &R, ram: &[u8], value: u8) {
+    for byte in ram {
+        assert_eq!(rt; *byte, value);
+    }
+}
+
+/// RAM starts as 0, and the SRAM as FFh.
+#[test]
+fn memories_start_as_they_should(rt: HostRuntime) -> Result<(), Fail> {
+    let memory = memories(&rt, rt.alloc(), None, None)?;
+    all_are(&rt, memory.work(), 0);
+    all_are(&rt, memory.inner(), 0);
+    all_are(&rt, memory.palette(), 0);
+    all_are(&rt, memory.vram(), 0);
+    all_are(&rt, memory.oam(), 0);
+    all_are(&rt, memory.sram(), 0xFF);
+    Ok(())
+}
+
+/// Each memory is lent with what was stored in it, and the SRAM starts as the save.
+#[test]
+fn memories_are_lent(rt: HostRuntime) -> Result<(), Fail> {
+    let bytes = [(5, 0x5A), (0x7FFF, 0x6B)];
+    let save = Save::check(image(&rt, rt.alloc(), 32_768, &bytes)?)?;
+    let mut memory = memories(&rt, rt.alloc(), None, Some(save))?;
+    play(&rt, &mut memory, &LENT);
+    assert_eq!(rt; memory.work().get(3).copied(), Some(0x01));
+    assert_eq!(rt; memory.inner().last().copied(), Some(0x02));
+    assert_eq!(rt; memory.palette().get(2).copied(), Some(0x03));
+    assert_eq!(rt; memory.vram().last().copied(), Some(0x04));
+    assert_eq!(rt; memory.oam().get(1).copied(), Some(0x05));
+    assert_eq!(rt; memory.sram().get(6).copied(), Some(0x06));
+    assert_eq!(rt; memory.sram().get(5).copied(), Some(0x5A));
+    assert_eq!(rt; memory.sram().last().copied(), Some(0x6B));
+    Ok(())
+}
+
+/// One store to each memory that can be written.
+const LENT: [Move; 6] = [
+    Store(0, 0x0200_0003, Byte, 0x01),
+    Store(0, 0x03FF_FFFC, Word, 0x0200_0000),
+    Store(0, 0x0500_0003, Byte, 0x03),
+    Store(0, 0x0601_FFFE, Half, 0x0400),
+    Store(0, 0x0700_0000, Half, 0x0500),
+    Store(0, 0x0E00_0006, Byte, 0x06),
+];
