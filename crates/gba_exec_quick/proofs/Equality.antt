@@ -1,5 +1,5 @@
 -- A quick form has the effect of its operation.
-use Rattle.std.proofs.Common.{◌≡◌, ℕ, Bool, true, false, List, ◌+◌, ◌-◌, ◌*◌, ◌%◌, ◌^◌, ◌<◌, ◌==◌, ◌||◌, ◌&&◌, not, refl, ap, sym, ◌∙◌, arith, if◌then◌else◌}
+use Rattle.std.proofs.Common.{◌≡◌, ℕ, Bool, true, false, List, ◌+◌, ◌*◌, ◌%◌, ◌^◌, ◌==◌, not, refl, ap, ◌∙◌, arith, if◌then◌else◌}
 use Rattle.std.specs.Int.{cast_unsigned, w32}
 use Rattle.std.specs.Prelude.{Option, Some, None}
 use Rattle.gba_terms.specs.Bits.{bit}
@@ -31,9 +31,8 @@ use Rattle.gba_exec_transfers.specs.Effects.{effect, effect_of_word, internal}
 use Rattle.gba_exec_transfers.specs.Singles.{after_load, after_store, offset_address, transfer_address, transfer_distance, half_distance, unit_load, unit_store, with_transfer_base, with_write_back}
 use Rattle.gba_exec_transfers.specs.declared.units.LoadUnit.{LoadUnit}
 use Rattle.gba_exec_transfers.specs.declared.units.LoadUnit.TheVariants as unit
-use Rattle.gba_exec_transfers.specs.declared.units.SingleTransfer.{SingleTransfer}
-use Rattle.gba_exec_quick.specs.Effects.{after_quick_load, after_quick_store, effect_of_quick, number_carry, outcome_in, value_of, with_flags_and}
-use Rattle.gba_exec_quick.specs.Making.{compare_form, compare_shifted, compute_form, compute_shifted, general_transfer, is_lsl, number_form, number_transfer, plain_form, plain_transfer, quick_of, quick_of_word, signed_offset}
+use Rattle.gba_exec_quick.specs.Effects.{after_quick_load, after_quick_store, effect_of_quick, outcome_in, value_of, with_flags_and}
+use Rattle.gba_exec_quick.specs.Making.{compare_form, compare_number_form, compare_plain_form, compare_shifted, compute_form, compute_shifted, general_transfer, number_form, number_transfer, plain_form, plain_transfer, quick_of, quick_of_word, set_number_form, set_plain_form, set_shifted_form, signed_offset}
 use Rattle.gba_exec_quick.specs.declared.quick.Quick.{Quick}
 use Rattle.gba_exec_quick.specs.declared.quick.Quick.TheVariants as quick
 
@@ -167,6 +166,41 @@ module _ {State : Type 0} (price : Price State) (load : Load State) (store : Sto
   plain_form-is Bic rn rd rm site file bus = refl
   plain_form-is Mvn rn rd rm site file bus = refl
 
+  set_number_form-is : (kind : ComputeOp) (rn rd value : ℕ) (turned : Bool) (site : Site) (file : List ℕ) (bus : State)
+      → effect_of_quick price load store (set_number_form kind rn rd value turned) site file bus
+      ≡ effect_of_quick price load store (quick.SetNumber kind rn rd value turned) site file bus
+  unfolding effect_of_quick
+  set_number_form-is Add rn rd value turned site file bus = refl
+  set_number_form-is kind rn rd value turned site file bus = refl
+
+  set_plain_form-is : (kind : ComputeOp) (rn rd rm : ℕ) (site : Site) (file : List ℕ) (bus : State)
+      → effect_of_quick price load store (set_plain_form kind rn rd rm) site file bus
+      ≡ effect_of_quick price load store (quick.SetPlain kind rn rd rm) site file bus
+  unfolding effect_of_quick
+  set_plain_form-is Add rn rd rm site file bus = refl
+  set_plain_form-is kind rn rd rm site file bus = refl
+
+  set_shifted_form-is : (kind : ComputeOp) (rn rd rm : ℕ) (shift : Shift) (amount : ℕ) (site : Site) (file : List ℕ) (bus : State)
+      → effect_of_quick price load store (set_shifted_form kind rn rd rm shift amount) site file bus
+      ≡ effect_of_quick price load store (quick.SetShifted kind rn rd rm shift amount) site file bus
+  unfolding effect_of_quick
+  set_shifted_form-is Mov rn rd rm shift amount site file bus = refl
+  set_shifted_form-is kind rn rd rm shift amount site file bus = refl
+
+  compare_number_form-is : (kind : ComputeOp) (rn value : ℕ) (turned : Bool) (site : Site) (file : List ℕ) (bus : State)
+      → effect_of_quick price load store (compare_number_form kind rn value turned) site file bus
+      ≡ effect_of_quick price load store (quick.CompareNumber kind rn value turned) site file bus
+  unfolding effect_of_quick
+  compare_number_form-is Sub rn value turned site file bus = refl
+  compare_number_form-is kind rn value turned site file bus = refl
+
+  compare_plain_form-is : (kind : ComputeOp) (rn rm : ℕ) (site : Site) (file : List ℕ) (bus : State)
+      → effect_of_quick price load store (compare_plain_form kind rn rm) site file bus
+      ≡ effect_of_quick price load store (quick.ComparePlain kind rn rm) site file bus
+  unfolding effect_of_quick
+  compare_plain_form-is Sub rn rm site file bus = refl
+  compare_plain_form-is kind rn rm site file bus = refl
+
   number-set : (cond : Condition) (kind : ComputeOp) (rn rd value turn : ℕ) (site : Site) (file : List ℕ) (bus : State)
       → (rn == 15) ≡ false → (rd == 15) ≡ false
       → effect_of_quick price load store (quick.SetNumber kind rn rd (rotation value (2 * turn)) (not (turn == 0))) site file bus
@@ -227,8 +261,9 @@ module _ {State : Type 0} (price : Price State) (load : Load State) (store : Sto
   shifted-is cond kind set rn rd rm shift amount site file bus n d true a m' a' =
       other-is _ (op.Compute cond kind set rn rd (operand.Fixed rm shift amount)) site file bus (rw m' refl)
   shifted-is cond kind true rn rd rm Lsl amount site file bus n d false true m a =
-      form-effect (quick.SetPlain kind rn rd rm) _ _ site file bus (rw (m, a) refl)
-      (fixed-set cond kind rn rd rm Lsl amount (register file rm, (flags file).carry) site file bus
+      form-effect (set_plain_form kind rn rd rm) _ _ site file bus (rw (m, a) refl)
+      (set_plain_form-is kind rn rd rm site file bus
+      ∙ fixed-set cond kind rn rd rm Lsl amount (register file rm, (flags file).carry) site file bus
       (plain-operand rm amount (counter site) (flags file).carry file m a) n d)
   shifted-is cond kind false rn rd rm Lsl amount site file bus n d false true m a =
       form-effect (plain_form kind rn rd rm) _ _ site file bus (rw (m, a) refl)
@@ -242,8 +277,11 @@ module _ {State : Type 0} (price : Price State) (load : Load State) (store : Sto
   shifted-is cond kind set rn rd rm Ror amount site file bus n d false true m a =
       other-is _ (op.Compute cond kind set rn rd (operand.Fixed rm Ror amount)) site file bus (rw (m, a) refl)
   shifted-is cond kind true rn rd rm shift amount site file bus n d false false m a =
-      form-effect (quick.SetShifted kind rn rd rm shift amount) _ _ site file bus (rw (m, a) refl)
-      (fixed-set cond kind rn rd rm shift amount (nonzero_shift shift (register file rm) amount) site file bus
+      let whole = op.Compute cond kind true rn rd (operand.Fixed rm shift amount) in
+      form-effect (set_shifted_form kind rn rd rm shift amount) whole
+      (compute_shifted whole kind true rn rd rm shift amount) site file bus (rw (m, a) refl)
+      (set_shifted_form-is kind rn rd rm shift amount site file bus
+      ∙ fixed-set cond kind rn rd rm shift amount (nonzero_shift shift (register file rm) amount) site file bus
       (shifted-operand rm shift amount (counter site) (flags file).carry file m a) n d)
   shifted-is cond kind false rn rd rm shift amount site file bus n d false false m a =
       form-effect (quick.Shifted kind rn rd rm shift amount) _ _ site file bus (rw (m, a) refl)
@@ -255,7 +293,8 @@ module _ {State : Type 0} (price : Price State) (load : Load State) (store : Sto
       → effect_of_quick price load store (compute_form (op.Compute cond kind set rn rd second) kind set rn rd second) site file bus
       ≡ effect price load store (op.Compute cond kind set rn rd second) site file bus
   compute-is cond kind true rn rd (operand.Immediate value turn) site file bus n d =
-      number-set cond kind rn rd value turn site file bus n d
+      set_number_form-is kind rn rd (rotation value (2 * turn)) (not (turn == 0)) site file bus
+      ∙ number-set cond kind rn rd value turn site file bus n d
   compute-is cond kind false rn rd (operand.Immediate value turn) site file bus n d =
       number_form-is kind rn rd (rotation value (2 * turn)) site file bus
       ∙ number-value cond kind rn rd value turn site file bus n d
@@ -323,8 +362,9 @@ module _ {State : Type 0} (price : Price State) (load : Load State) (store : Sto
   compare_shifted-is cond kind rn rm shift amount site file bus n true a m' a' =
       other-is _ (op.Compare cond kind rn (operand.Fixed rm shift amount)) site file bus (rw m' refl)
   compare_shifted-is cond kind rn rm Lsl amount site file bus n false true m a =
-      form-effect (quick.ComparePlain (compute_op_of kind) rn rm) _ _ site file bus (rw (m, a) refl)
-      (fixed-compare cond kind rn rm Lsl amount (register file rm, (flags file).carry) site file bus
+      form-effect (compare_plain_form (compute_op_of kind) rn rm) _ _ site file bus (rw (m, a) refl)
+      (compare_plain_form-is (compute_op_of kind) rn rm site file bus
+      ∙ fixed-compare cond kind rn rm Lsl amount (register file rm, (flags file).carry) site file bus
       (plain-operand rm amount (counter site) (flags file).carry file m a) n)
   compare_shifted-is cond kind rn rm Lsr amount site file bus n false true m a =
       other-is _ (op.Compare cond kind rn (operand.Fixed rm Lsr amount)) site file bus (rw (m, a) refl)
@@ -341,7 +381,9 @@ module _ {State : Type 0} (price : Price State) (load : Load State) (store : Sto
       → (rn == 15) ≡ false
       → effect_of_quick price load store (compare_form (op.Compare cond kind rn second) (compute_op_of kind) rn second) site file bus
       ≡ effect price load store (op.Compare cond kind rn second) site file bus
-  compare-is cond kind rn (operand.Immediate value turn) site file bus n = number-compare cond kind rn value turn site file bus n
+  compare-is cond kind rn (operand.Immediate value turn) site file bus n =
+      compare_number_form-is (compute_op_of kind) rn (rotation value (2 * turn)) (not (turn == 0)) site file bus
+      ∙ number-compare cond kind rn value turn site file bus n
   compare-is cond kind rn (operand.Fixed rm shift amount) site file bus n =
       compare_shifted-is cond kind rn rm shift amount site file bus n (rm == 15) (amount == 0) refl refl
   compare-is cond kind rn (operand.ByRegister rm shift rs) site file bus n =

@@ -17,7 +17,7 @@ use Rattle.gba_arm_table.specs.declared.operation.Operand.TheVariants as operand
 use Rattle.gba_arm_table.specs.declared.operation.TransferOffset.TheVariants as transfer_offset
 use Rattle.gba_exec_registers.specs.Processing.{compute_op_of}
 use Rattle.gba_exec_transfers.specs.declared.units.SingleTransfer.{SingleTransfer}
-use Rattle.gba_exec_quick.specs.Making.{QuickFits, compare_form, compare_shifted, compute_form, compute_shifted, general_transfer, half_form, is_lsl, number_form, number_transfer, plain_form, plain_transfer, quick_of, quick_of_word, signed_offset}
+use Rattle.gba_exec_quick.specs.Making.{QuickFits, compare_form, compare_number_form, compare_plain_form, compare_shifted, compute_form, compute_shifted, general_transfer, half_form, is_lsl, number_form, number_transfer, plain_form, plain_transfer, quick_of, quick_of_word, set_number_form, set_plain_form, set_shifted_form, signed_offset}
 use Rattle.gba_exec_quick.specs.declared.quick.Quick.{Quick}
 use Rattle.gba_exec_quick.specs.declared.quick.Quick.TheVariants as quick
 
@@ -59,25 +59,49 @@ plain_form-fits Mov rn rd rm n d m = (n, d, m)
 plain_form-fits Bic rn rd rm n d m = (n, d, m)
 plain_form-fits Mvn rn rd rm n d m = (n, d, m)
 
+set_number_form-fits : (kind : ComputeOp) (rn rd value : ℕ) (turned : Bool) → rn < 16 → rd < 16
+    → QuickFits (set_number_form kind rn rd value turned)
+set_number_form-fits Add rn rd value turned n d = (n, d)
+set_number_form-fits kind rn rd value turned n d = (n, d)
+
+set_plain_form-fits : (kind : ComputeOp) (rn rd rm : ℕ) → rn < 16 → rd < 16 → rm < 16 → QuickFits (set_plain_form kind rn rd rm)
+set_plain_form-fits Add rn rd rm n d m = (n, d, m)
+set_plain_form-fits kind rn rd rm n d m = (n, d, m)
+
+set_shifted_form-fits : (kind : ComputeOp) (rn rd rm : ℕ) (shift : Shift) (amount : ℕ) → rn < 16 → rd < 16 → rm < 16
+    → 0 < amount → amount ≤ 31 → QuickFits (set_shifted_form kind rn rd rm shift amount)
+set_shifted_form-fits Mov rn rd rm shift amount n d m least most = (n, d, m, least, most)
+set_shifted_form-fits kind rn rd rm shift amount n d m least most = (n, d, m, least, most)
+
+compare_number_form-fits : (kind : ComputeOp) (rn value : ℕ) (turned : Bool) → rn < 16 → QuickFits (compare_number_form kind rn value turned)
+compare_number_form-fits Sub rn value turned n = n
+compare_number_form-fits kind rn value turned n = n
+
+compare_plain_form-fits : (kind : ComputeOp) (rn rm : ℕ) → rn < 16 → rm < 16 → QuickFits (compare_plain_form kind rn rm)
+compare_plain_form-fits Sub rn rm n m = (n, m)
+compare_plain_form-fits kind rn rm n m = (n, m)
+
 compute_shifted-fits : (whole : ArmOp) (kind : ComputeOp) (set : Bool) (rn rd rm : ℕ) (shift : Shift) (amount : ℕ) → Fits whole
     → rn < 16 → rd < 16 → rm < 16 → amount < 32 → QuickFits (compute_shifted whole kind set rn rd rm shift amount)
 compute_shifted-fits whole kind set rn rd rm shift amount fits n d m a =
     let other = quick.Other whole in
-    let plain = if set then quick.SetPlain kind rn rd rm else plain_form kind rn rd rm in
-    let shifts = if set then quick.SetShifted kind rn rd rm shift amount else quick.Shifted kind rn rd rm shift amount in
+    let plain = if set then set_plain_form kind rn rd rm else plain_form kind rn rd rm in
+    let shifts = if set then set_shifted_form kind rn rd rm shift amount else quick.Shifted kind rn rd rm shift amount in
     either-fits (rm == 15) other (if amount == 0 then (if is_lsl shift then plain else other) else shifts) fits
     (tested-fits (amount == 0) amount (if is_lsl shift then plain else other) shifts refl
     (either-fits (is_lsl shift) plain other
-    (either-fits set (quick.SetPlain kind rn rd rm) (plain_form kind rn rd rm) (n, d, m) (plain_form-fits kind rn rd rm n d m)) fits)
+    (either-fits set (set_plain_form kind rn rd rm) (plain_form kind rn rd rm) (set_plain_form-fits kind rn rd rm n d m)
+    (plain_form-fits kind rn rd rm n d m)) fits)
     (λ positive. let most : amount ≤ 31 = omega arith in
-    either-fits set (quick.SetShifted kind rn rd rm shift amount) (quick.Shifted kind rn rd rm shift amount)
-    (n, d, m, positive, most) (n, d, m, positive, most)))
+    either-fits set (set_shifted_form kind rn rd rm shift amount) (quick.Shifted kind rn rd rm shift amount)
+    (set_shifted_form-fits kind rn rd rm shift amount n d m positive most) (n, d, m, positive, most)))
 
 compute_form-fits : (whole : ArmOp) (kind : ComputeOp) (set : Bool) (rn rd : ℕ) (second : Operand) → Fits whole → rn < 16 → rd < 16
     → Within (operand_registers second) → Within (operand_immediates second) → QuickFits (compute_form whole kind set rn rd second)
 compute_form-fits whole kind set rn rd (operand.Immediate value turn) fits n d r i =
     let word = rotation value (2 * turn) in
-    either-fits set (quick.SetNumber kind rn rd word (not (turn == 0))) (number_form kind rn rd word) (n, d)
+    either-fits set (set_number_form kind rn rd word (not (turn == 0))) (number_form kind rn rd word)
+    (set_number_form-fits kind rn rd word (not (turn == 0)) n d)
     (number_form-fits kind rn rd word n d)
 compute_form-fits whole kind set rn rd (operand.Fixed rm shift amount) fits n d r i =
     compute_shifted-fits whole kind set rn rd rm shift amount fits n d r.0 i.0
@@ -87,16 +111,17 @@ compare_shifted-fits : (whole : ArmOp) (kind : ComputeOp) (rn rm : ℕ) (shift :
     → rn < 16 → rm < 16 → amount < 32 → QuickFits (compare_shifted whole kind rn rm shift amount)
 compare_shifted-fits whole kind rn rm shift amount fits n m a =
     let other = quick.Other whole in
-    let plain = quick.ComparePlain kind rn rm in
+    let plain = compare_plain_form kind rn rm in
     let shifts = quick.CompareShifted kind rn rm shift amount in
     either-fits (rm == 15) other (if amount == 0 then (if is_lsl shift then plain else other) else shifts) fits
     (tested-fits (amount == 0) amount (if is_lsl shift then plain else other) shifts refl
-    (either-fits (is_lsl shift) plain other (n, m) fits)
+    (either-fits (is_lsl shift) plain other (compare_plain_form-fits kind rn rm n m) fits)
     (λ positive. (n, m, positive, omega arith)))
 
 compare_form-fits : (whole : ArmOp) (kind : ComputeOp) (rn : ℕ) (second : Operand) → Fits whole → rn < 16
     → Within (operand_registers second) → Within (operand_immediates second) → QuickFits (compare_form whole kind rn second)
-compare_form-fits whole kind rn (operand.Immediate value turn) fits n r i = n
+compare_form-fits whole kind rn (operand.Immediate value turn) fits n r i =
+    compare_number_form-fits kind rn (rotation value (2 * turn)) (not (turn == 0)) n
 compare_form-fits whole kind rn (operand.Fixed rm shift amount) fits n r i =
     compare_shifted-fits whole kind rn rm shift amount fits n r.0 i.0
 compare_form-fits whole kind rn (operand.ByRegister rm shift rs) fits n r i = fits

@@ -1,6 +1,7 @@
 use Rattle.std.specs.Prelude.{ℕ, Bool, true, false, List, ◌+◌, ◌%◌, ◌^◌, if◌then◌else◌}
 use Rattle.gba_terms.specs.Bits.{bit}
 use Rattle.gba_word.specs.Shifts.{nonzero_shift}
+use Rattle.gba_word.specs.declared.kinds.Shift.{Shift}
 use Rattle.gba_arm_table.specs.declared.operation.ComputeOp.{ComputeOp}
 use Rattle.gba_arm_table.specs.declared.operation.ComputeOp.TheVariants.{And, Eor, Sub, Rsb, Add, Orr, Mov, Bic, Mvn}
 use Rattle.gba_bus.specs.Meanings.{Load, Price, Store}
@@ -51,6 +52,38 @@ module _ {State : Type 0} (price : Price State) (load : Load State) (store : Sto
       internal price load store bus
       (with_register file rd (value_of kind (register file rn) (register file rm) file)) (code_cost price bus site true)
 
+  -- an operation with S of a register and a number, of two registers, and of a register and a shifted register
+  abbrev pub after_set_number : ComputeOp → ℕ → ℕ → ℕ → Bool → Site → List ℕ → State → Done State
+  after_set_number kind rn rd value turned site file bus =
+      internal price load store bus
+      (with_flags_and rd (outcome_in kind (register file rn) value (number_carry value turned file) file) file)
+      (code_cost price bus site true)
+
+  abbrev pub after_set_plain : ComputeOp → ℕ → ℕ → ℕ → Site → List ℕ → State → Done State
+  after_set_plain kind rn rd rm site file bus =
+      internal price load store bus
+      (with_flags_and rd (outcome_in kind (register file rn) (register file rm) (flags file).carry file) file)
+      (code_cost price bus site true)
+
+  abbrev pub after_set_shifted : ComputeOp → ℕ → ℕ → ℕ → Shift → ℕ → Site → List ℕ → State → Done State
+  after_set_shifted kind rn rd rm shift amount site file bus =
+      let second = nonzero_shift shift (register file rm) amount in
+      internal price load store bus
+      (with_flags_and rd (outcome_in kind (register file rn) second.0 second.1 file) file) (code_cost price bus site true)
+
+  -- the flags of a register and a number, and of two registers
+  abbrev pub after_compare_number : ComputeOp → ℕ → ℕ → Bool → Site → List ℕ → State → Done State
+  after_compare_number kind rn value turned site file bus =
+      internal price load store bus
+      (with_flags file (flags_after (outcome_in kind (register file rn) value (number_carry value turned file) file)))
+      (code_cost price bus site true)
+
+  abbrev pub after_compare_plain : ComputeOp → ℕ → ℕ → Site → List ℕ → State → Done State
+  after_compare_plain kind rn rm site file bus =
+      internal price load store bus
+      (with_flags file (flags_after (outcome_in kind (register file rn) (register file rm) (flags file).carry file)))
+      (code_cost price bus site true)
+
   -- a load at a base plus an offset that keeps the base
   abbrev pub after_quick_load : LoadUnit → ℕ → ℕ → ℕ → Site → List ℕ → State → Done State
   after_quick_load kind rn rd offset site file bus =
@@ -89,25 +122,25 @@ module _ {State : Type 0} (price : Price State) (load : Load State) (store : Sto
       (value_of kind (register file rn) (nonzero_shift shift (register file rm) amount).0 file))
       (code_cost price bus site true)
   effect_of_quick (quick.SetNumber kind rn rd value turned) site file bus =
-      internal price load store bus
-      (with_flags_and rd (outcome_in kind (register file rn) value (number_carry value turned file) file) file)
-      (code_cost price bus site true)
-  effect_of_quick (quick.SetPlain kind rn rd rm) site file bus =
-      internal price load store bus
-      (with_flags_and rd (outcome_in kind (register file rn) (register file rm) (flags file).carry file) file)
-      (code_cost price bus site true)
+      after_set_number kind rn rd value turned site file bus
+  effect_of_quick (quick.SetPlain kind rn rd rm) site file bus = after_set_plain kind rn rd rm site file bus
   effect_of_quick (quick.SetShifted kind rn rd rm shift amount) site file bus =
-      let second = nonzero_shift shift (register file rm) amount in
-      internal price load store bus
-      (with_flags_and rd (outcome_in kind (register file rn) second.0 second.1 file) file) (code_cost price bus site true)
+      after_set_shifted kind rn rd rm shift amount site file bus
+  effect_of_quick (quick.SetAddNumber rn rd value turned) site file bus =
+      after_set_number Add rn rd value turned site file bus
+  effect_of_quick (quick.SetSubNumber rn rd value turned) site file bus =
+      after_set_number Sub rn rd value turned site file bus
+  effect_of_quick (quick.SetMovNumber rn rd value turned) site file bus =
+      after_set_number Mov rn rd value turned site file bus
+  effect_of_quick (quick.SetAddPlain rn rd rm) site file bus = after_set_plain Add rn rd rm site file bus
+  effect_of_quick (quick.SetSubPlain rn rd rm) site file bus = after_set_plain Sub rn rd rm site file bus
+  effect_of_quick (quick.SetMovShifted rn rd rm shift amount) site file bus =
+      after_set_shifted Mov rn rd rm shift amount site file bus
   effect_of_quick (quick.CompareNumber kind rn value turned) site file bus =
-      internal price load store bus
-      (with_flags file (flags_after (outcome_in kind (register file rn) value (number_carry value turned file) file)))
-      (code_cost price bus site true)
-  effect_of_quick (quick.ComparePlain kind rn rm) site file bus =
-      internal price load store bus
-      (with_flags file (flags_after (outcome_in kind (register file rn) (register file rm) (flags file).carry file)))
-      (code_cost price bus site true)
+      after_compare_number kind rn value turned site file bus
+  effect_of_quick (quick.ComparePlain kind rn rm) site file bus = after_compare_plain kind rn rm site file bus
+  effect_of_quick (quick.CmpNumber rn value turned) site file bus = after_compare_number Sub rn value turned site file bus
+  effect_of_quick (quick.CmpPlain rn rm) site file bus = after_compare_plain Sub rn rm site file bus
   effect_of_quick (quick.CompareShifted kind rn rm shift amount) site file bus =
       let second = nonzero_shift shift (register file rm) amount in
       internal price load store bus

@@ -1,21 +1,18 @@
 use Rattle.std.specs.Int.{cast_unsigned, w32}
-use Rattle.std.specs.Prelude.{ℕ, Bool, true, false, not, ◌&&◌, ◌||◌, ◌+◌, ◌-◌, ◌*◌, ◌%◌, ◌^◌, ◌<◌, ◌≤◌, ◌==◌, Option, Some, None, if◌then◌else◌}
+use Rattle.std.specs.Prelude.{ℕ, Bool, true, false, not, ◌&&◌, ◌||◌, ◌-◌, ◌*◌, ◌%◌, ◌^◌, ◌<◌, ◌≤◌, ◌==◌, Option, Some, None, if◌then◌else◌}
 use Rattle.gba_word.specs.Shifts.{rotation}
 use Rattle.gba_word.specs.declared.kinds.Shift.{Shift}
 use Rattle.gba_word.specs.declared.kinds.Shift.TheVariants.{Lsl, Lsr, Asr, Ror}
 use Rattle.gba_arm_table.specs.Limits.{Fits}
 use Rattle.gba_arm_table.specs.declared.operation.ArmOp.{ArmOp}
 use Rattle.gba_arm_table.specs.declared.operation.ArmOp.TheVariants as op
-use Rattle.gba_arm_table.specs.declared.operation.CompareOp.{CompareOp}
 use Rattle.gba_arm_table.specs.declared.operation.ComputeOp.{ComputeOp}
 use Rattle.gba_arm_table.specs.declared.operation.ComputeOp.TheVariants.{And, Eor, Sub, Rsb, Add, Orr, Mov, Bic, Mvn}
 use Rattle.gba_arm_table.specs.declared.operation.HalfKind.{HalfKind}
 use Rattle.gba_arm_table.specs.declared.operation.HalfKind.TheVariants.{StoreHalf, LoadHalf, LoadSignedByte, LoadSignedHalf}
-use Rattle.gba_arm_table.specs.declared.operation.HalfOffset.{HalfOffset}
 use Rattle.gba_arm_table.specs.declared.operation.HalfOffset.TheVariants as half_offset
 use Rattle.gba_arm_table.specs.declared.operation.Operand.{Operand}
 use Rattle.gba_arm_table.specs.declared.operation.Operand.TheVariants as operand
-use Rattle.gba_arm_table.specs.declared.operation.TransferOffset.{TransferOffset}
 use Rattle.gba_arm_table.specs.declared.operation.TransferOffset.TheVariants as transfer_offset
 use Rattle.gba_bus.specs.declared.width.Width.TheVariants as width
 use Rattle.gba_exec_registers.specs.Processing.{compute_op_of}
@@ -57,18 +54,41 @@ plain_form Rsb rn rd rm = quick.RsbPlain rn rd rm
 plain_form Mvn rn rd rm = quick.MvnPlain rn rd rm
 plain_form kind rn rd rm = quick.Plain kind rn rd rm
 
+abbrev pub set_number_form : ComputeOp → ℕ → ℕ → ℕ → Bool → Quick
+set_number_form Add rn rd value turned = quick.SetAddNumber rn rd value turned
+set_number_form Sub rn rd value turned = quick.SetSubNumber rn rd value turned
+set_number_form Mov rn rd value turned = quick.SetMovNumber rn rd value turned
+set_number_form kind rn rd value turned = quick.SetNumber kind rn rd value turned
+
+abbrev pub set_plain_form : ComputeOp → ℕ → ℕ → ℕ → Quick
+set_plain_form Add rn rd rm = quick.SetAddPlain rn rd rm
+set_plain_form Sub rn rd rm = quick.SetSubPlain rn rd rm
+set_plain_form kind rn rd rm = quick.SetPlain kind rn rd rm
+
+abbrev pub set_shifted_form : ComputeOp → ℕ → ℕ → ℕ → Shift → ℕ → Quick
+set_shifted_form Mov rn rd rm shift amount = quick.SetMovShifted rn rd rm shift amount
+set_shifted_form kind rn rd rm shift amount = quick.SetShifted kind rn rd rm shift amount
+
+abbrev pub compare_number_form : ComputeOp → ℕ → ℕ → Bool → Quick
+compare_number_form Sub rn value turned = quick.CmpNumber rn value turned
+compare_number_form kind rn value turned = quick.CompareNumber kind rn value turned
+
+abbrev pub compare_plain_form : ComputeOp → ℕ → ℕ → Quick
+compare_plain_form Sub rn rm = quick.CmpPlain rn rm
+compare_plain_form kind rn rm = quick.ComparePlain kind rn rm
+
 -- data processing that writes Rd, where neither Rn nor Rd is r15
 abbrev pub compute_shifted : ArmOp → ComputeOp → Bool → ℕ → ℕ → ℕ → Shift → ℕ → Quick
 compute_shifted whole kind set rn rd rm shift amount =
     if rm == 15 then quick.Other whole
     else if amount == 0 then
-    (if is_lsl shift then (if set then quick.SetPlain kind rn rd rm else plain_form kind rn rd rm) else quick.Other whole)
-    else if set then quick.SetShifted kind rn rd rm shift amount
+    (if is_lsl shift then (if set then set_plain_form kind rn rd rm else plain_form kind rn rd rm) else quick.Other whole)
+    else if set then set_shifted_form kind rn rd rm shift amount
     else quick.Shifted kind rn rd rm shift amount
 
 abbrev pub compute_form : ArmOp → ComputeOp → Bool → ℕ → ℕ → Operand → Quick
 compute_form whole kind set rn rd (operand.Immediate value turn) =
-    if set then quick.SetNumber kind rn rd (rotation value (2 * turn)) (not (turn == 0))
+    if set then set_number_form kind rn rd (rotation value (2 * turn)) (not (turn == 0))
     else number_form kind rn rd (rotation value (2 * turn))
 compute_form whole kind set rn rd (operand.Fixed rm shift amount) = compute_shifted whole kind set rn rd rm shift amount
 compute_form whole kind set rn rd (operand.ByRegister rm shift rs) = quick.Other whole
@@ -77,12 +97,12 @@ compute_form whole kind set rn rd (operand.ByRegister rm shift rs) = quick.Other
 abbrev pub compare_shifted : ArmOp → ComputeOp → ℕ → ℕ → Shift → ℕ → Quick
 compare_shifted whole kind rn rm shift amount =
     if rm == 15 then quick.Other whole
-    else if amount == 0 then (if is_lsl shift then quick.ComparePlain kind rn rm else quick.Other whole)
+    else if amount == 0 then (if is_lsl shift then compare_plain_form kind rn rm else quick.Other whole)
     else quick.CompareShifted kind rn rm shift amount
 
 abbrev pub compare_form : ArmOp → ComputeOp → ℕ → Operand → Quick
 compare_form whole kind rn (operand.Immediate value turn) =
-    quick.CompareNumber kind rn (rotation value (2 * turn)) (not (turn == 0))
+    compare_number_form kind rn (rotation value (2 * turn)) (not (turn == 0))
 compare_form whole kind rn (operand.Fixed rm shift amount) = compare_shifted whole kind rn rm shift amount
 compare_form whole kind rn (operand.ByRegister rm shift rs) = quick.Other whole
 
@@ -157,7 +177,15 @@ QuickFits (quick.MvnPlain rn rd rm) = (rn < 16) × (rd < 16) × (rm < 16)
 QuickFits (quick.SetNumber kind rn rd value turned) = (rn < 16) × (rd < 16)
 QuickFits (quick.SetPlain kind rn rd rm) = (rn < 16) × (rd < 16) × (rm < 16)
 QuickFits (quick.SetShifted kind rn rd rm shift amount) = (rn < 16) × (rd < 16) × (rm < 16) × (0 < amount) × (amount ≤ 31)
+QuickFits (quick.SetAddNumber rn rd value turned) = (rn < 16) × (rd < 16)
+QuickFits (quick.SetSubNumber rn rd value turned) = (rn < 16) × (rd < 16)
+QuickFits (quick.SetMovNumber rn rd value turned) = (rn < 16) × (rd < 16)
+QuickFits (quick.SetAddPlain rn rd rm) = (rn < 16) × (rd < 16) × (rm < 16)
+QuickFits (quick.SetSubPlain rn rd rm) = (rn < 16) × (rd < 16) × (rm < 16)
+QuickFits (quick.SetMovShifted rn rd rm shift amount) = (rn < 16) × (rd < 16) × (rm < 16) × (0 < amount) × (amount ≤ 31)
 QuickFits (quick.CompareNumber kind rn value turned) = rn < 16
+QuickFits (quick.CmpNumber rn value turned) = rn < 16
+QuickFits (quick.CmpPlain rn rm) = (rn < 16) × (rm < 16)
 QuickFits (quick.ComparePlain kind rn rm) = (rn < 16) × (rm < 16)
 QuickFits (quick.CompareShifted kind rn rm shift amount) = (rn < 16) × (rm < 16) × (0 < amount) × (amount ≤ 31)
 QuickFits (quick.LoadWord rn rd offset) = (rn < 16) × (rd < 16)
@@ -173,19 +201,8 @@ QuickFits (quick.BranchLink distance) = Unit {0}
 QuickFits (quick.Other whole) = Fits whole
 QuickFits quick.Trap = Unit {0}
 
--- the forms without a quick shape, and those with one that is rarer
+-- the forms without a quick shape
 abbrev pub is_whole : Quick → Bool
 is_whole (quick.Other whole) = true
 is_whole quick.Trap = true
 is_whole _ = false
-
-abbrev pub is_rare : Quick → Bool
-is_rare (quick.CompareShifted kind rn rm shift amount) = true
-is_rare (quick.LoadSingle unit one) = true
-is_rare (quick.StoreSingle width one) = true
-is_rare (quick.LoadBlock block) = true
-is_rare (quick.StoreBlock block) = true
-is_rare (quick.BranchLink distance) = true
-is_rare (quick.Other whole) = true
-is_rare quick.Trap = true
-is_rare _ = false

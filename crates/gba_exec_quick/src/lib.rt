@@ -8,5 +8,5 @@ mod performing;
 mod quick;
 
 pub use making::quick_of_word;
-pub use performing::perform_quick;
+pub use performing::{perform_quick, perform_quick_in_thumb};
 pub use quick::Quick;

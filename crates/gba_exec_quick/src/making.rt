@@ -3,6 +3,8 @@
 ghost use Rattle.std.specs.Prelude.{◌≡◌, ◌<◌};
 ghost use Rattle.gba_exec_quick.specs.Making.{
   compare_form,
+  compare_number_form,
+  compare_plain_form,
   compare_shifted,
   compute_form,
   compute_shifted,
@@ -15,6 +17,9 @@ ghost use Rattle.gba_exec_quick.specs.Making.{
   plain_transfer,
   quick_of,
   quick_of_word,
+  set_number_form,
+  set_plain_form,
+  set_shifted_form,
   signed_offset,
 };
 
@@ -166,13 +171,7 @@ fn compute_form(whole: ArmOp, op: ComputeOp, set: bool, rn: u8, rd: u8, operand:
         Operand::Immediate { value, turn } => {
             let value = rotate(u32::from(value), 2 * u32::from(turn));
             if set {
-                Quick::SetNumber {
-                    op,
-                    rn,
-                    rd,
-                    value,
-                    turned: turn != 0,
-                }
+                set_number_form(op, rn, rd, value, turn != 0)
             } else {
                 number_form(op, rn, rd, value)
             }
@@ -202,19 +201,12 @@ fn compute_shifted(
         if !is_lsl(kind) {
             Quick::Other { op: whole }
         } else if set {
-            Quick::SetPlain { op, rn, rd, rm }
+            set_plain_form(op, rn, rd, rm)
         } else {
             plain_form(op, rn, rd, rm)
         }
     } else if set {
-        Quick::SetShifted {
-            op,
-            rn,
-            rd,
-            rm,
-            kind,
-            amount,
-        }
+        set_shifted_form(op, rn, rd, rm, kind, amount)
     } else {
         Quick::Shifted {
             op,
@@ -233,12 +225,7 @@ fn compare_form(whole: ArmOp, op: ComputeOp, rn: u8, operand: Operand) -> Quick
     match operand {
         Operand::Immediate { value, turn } => {
             let value = rotate(u32::from(value), 2 * u32::from(turn));
-            Quick::CompareNumber {
-                op,
-                rn,
-                value,
-                turned: turn != 0,
-            }
+            compare_number_form(op, rn, value, turn != 0)
         }
         Operand::Fixed { rm, kind, amount } => compare_shifted(whole, op, rn, rm, kind, amount),
         Operand::ByRegister { .. } => Quick::Other { op: whole },
@@ -252,7 +239,7 @@ fn compare_shifted(whole: ArmOp, op: ComputeOp, rn: u8, rm: u8, kind: Shift, amo
         Quick::Other { op: whole }
     } else if amount == 0 {
         if is_lsl(kind) {
-            Quick::ComparePlain { op, rn, rm }
+            compare_plain_form(op, rn, rm)
         } else {
             Quick::Other { op: whole }
         }
@@ -365,6 +352,98 @@ fn number_form(op: ComputeOp, rn: u8, rd: u8, value: u32) -> Quick
         ComputeOp::Bic => Quick::BicNumber { rn, rd, value },
         ComputeOp::Mov => Quick::MovNumber { rn, rd, value },
         _ => Quick::Number { op, rn, rd, value },
+    }
+}
+
+// Data processing with S of a register and a number.
+fn set_number_form(op: ComputeOp, rn: u8, rd: u8, value: u32, turned: bool) -> Quick
+    ensures { result ≡ set_number_form op rn rd value turned }
+{
+    match op {
+        ComputeOp::Add => Quick::SetAddNumber {
+            rn,
+            rd,
+            value,
+            turned,
+        },
+        ComputeOp::Sub => Quick::SetSubNumber {
+            rn,
+            rd,
+            value,
+            turned,
+        },
+        ComputeOp::Mov => Quick::SetMovNumber {
+            rn,
+            rd,
+            value,
+            turned,
+        },
+        _ => Quick::SetNumber {
+            op,
+            rn,
+            rd,
+            value,
+            turned,
+        },
+    }
+}
+
+// Data processing with S of two registers.
+fn set_plain_form(op: ComputeOp, rn: u8, rd: u8, rm: u8) -> Quick
+    ensures { result ≡ set_plain_form op rn rd rm }
+{
+    match op {
+        ComputeOp::Add => Quick::SetAddPlain { rn, rd, rm },
+        ComputeOp::Sub => Quick::SetSubPlain { rn, rd, rm },
+        _ => Quick::SetPlain { op, rn, rd, rm },
+    }
+}
+
+// Data processing with S of a register and a shifted register.
+fn set_shifted_form(op: ComputeOp, rn: u8, rd: u8, rm: u8, kind: Shift, amount: u8) -> Quick
+    ensures { result ≡ set_shifted_form op rn rd rm kind amount }
+{
+    match op {
+        ComputeOp::Mov => Quick::SetMovShifted {
+            rn,
+            rd,
+            rm,
+            kind,
+            amount,
+        },
+        _ => Quick::SetShifted {
+            op,
+            rn,
+            rd,
+            rm,
+            kind,
+            amount,
+        },
+    }
+}
+
+// The flags of a register and a number.
+fn compare_number_form(op: ComputeOp, rn: u8, value: u32, turned: bool) -> Quick
+    ensures { result ≡ compare_number_form op rn value turned }
+{
+    match op {
+        ComputeOp::Sub => Quick::CmpNumber { rn, value, turned },
+        _ => Quick::CompareNumber {
+            op,
+            rn,
+            value,
+            turned,
+        },
+    }
+}
+
+// The flags of two registers.
+fn compare_plain_form(op: ComputeOp, rn: u8, rm: u8) -> Quick
+    ensures { result ≡ compare_plain_form op rn rm }
+{
+    match op {
+        ComputeOp::Sub => Quick::CmpPlain { rn, rm },
+        _ => Quick::ComparePlain { op, rn, rm },
     }
 }
 

@@ -1,7 +1,7 @@
 //! What each quick form does. The commonest stand in `perform_quick`, which is to be inlined where it is called, the
 //! others in functions of their own.
 
-ghost use Rattle.std.specs.Prelude.{◌≡◌, ◌<◌, IsTrue};
+ghost use Rattle.std.specs.Prelude.{◌≡◌, ◌<◌, ◌≤◌, IsTrue};
 ghost use Rattle.gba_exec_quick.specs.Effects.{
   after_number,
   after_plain,
@@ -13,7 +13,7 @@ ghost use Rattle.gba_exec_quick.specs.Effects.{
   value_of,
   with_flags_and,
 };
-ghost use Rattle.gba_exec_quick.specs.Making.{QuickFits, is_rare, is_whole};
+ghost use Rattle.gba_exec_quick.specs.Making.{QuickFits, is_whole};
 ghost use Rattle.gba_exec_transfers.specs.Done.{Leaves};
 
 use crate::Quick;
@@ -26,9 +26,10 @@ use gba_exec_transfers::{
     LoadUnit, load_block, load_single, perform, store_block, store_single, unit_load, unit_store,
 };
 use gba_psr::Registers;
-use gba_word::{bit, shift, shift_within};
+use gba_word::{Shift, bit, shift, shift_within};
 
-/// Performs a quick form and answers the cycles. r15 is the address of the next instruction.
+/// Performs a quick form and answers the cycles. r15 is the address of the next instruction. The forms that are common
+/// in ARM code stand here, to be inlined where it is called; so it is called at one place.
 #[inline(always)]
 #[tactic(auto, unfolding(crate::specs::Effects::effect_of_quick))]
 pub fn perform_quick<B: Bus>(registers: &mut Registers, bus: &mut B, site: Site, one: &Quick) -> u32
@@ -90,31 +91,15 @@ pub fn perform_quick<B: Bus>(registers: &mut Registers, bus: &mut B, site: Site,
             rm,
             kind,
             amount,
-        } => {
-            let second = shift_within(kind, registers.get(u32::from(rm)), amount);
-            let value = value_of(registers, op, registers.get(u32::from(rn)), second);
-            registers.set(u32::from(rd), value);
-            code_price(bus, site, true)
-        }
+        } => write_shifted(registers, bus, site, op, rn, rd, rm, kind, amount),
         Quick::SetNumber {
             op,
             rn,
             rd,
             value,
             turned,
-        } => {
-            let carry = number_carry(registers, value, turned);
-            let outcome = outcome_in(registers, op, registers.get(u32::from(rn)), value, carry);
-            write_flags_and(registers, rd, outcome);
-            code_price(bus, site, true)
-        }
-        Quick::SetPlain { op, rn, rd, rm } => {
-            let second = registers.get(u32::from(rm));
-            let carry = registers.flags().carry;
-            let outcome = outcome_in(registers, op, registers.get(u32::from(rn)), second, carry);
-            write_flags_and(registers, rd, outcome);
-            code_price(bus, site, true)
-        }
+        } => set_number(registers, bus, site, op, rn, rd, value, turned),
+        Quick::SetPlain { op, rn, rd, rm } => set_plain(registers, bus, site, op, rn, rd, rm),
         Quick::SetShifted {
             op,
             rn,
@@ -122,30 +107,59 @@ pub fn perform_quick<B: Bus>(registers: &mut Registers, bus: &mut B, site: Site,
             rm,
             kind,
             amount,
-        } => {
-            let (second, carry) = shift(kind, registers.get(u32::from(rm)), amount, false);
-            let outcome = outcome_in(registers, op, registers.get(u32::from(rn)), second, carry);
-            write_flags_and(registers, rd, outcome);
-            code_price(bus, site, true)
-        }
+        } => set_shifted(registers, bus, site, op, rn, rd, rm, kind, amount),
         Quick::CompareNumber {
             op,
             rn,
             value,
             turned,
-        } => {
-            let carry = number_carry(registers, value, turned);
-            let outcome = outcome_in(registers, op, registers.get(u32::from(rn)), value, carry);
-            registers.set_flags(flags_of_outcome(outcome));
-            code_price(bus, site, true)
+        } => compare_number(registers, bus, site, op, rn, value, turned),
+        Quick::ComparePlain { op, rn, rm } => compare_plain(registers, bus, site, op, rn, rm),
+        Quick::SetAddNumber {
+            rn,
+            rd,
+            value,
+            turned,
+        } => set_number(registers, bus, site, ComputeOp::Add, rn, rd, value, turned),
+        Quick::SetSubNumber {
+            rn,
+            rd,
+            value,
+            turned,
+        } => set_number(registers, bus, site, ComputeOp::Sub, rn, rd, value, turned),
+        Quick::SetMovNumber {
+            rn,
+            rd,
+            value,
+            turned,
+        } => set_number(registers, bus, site, ComputeOp::Mov, rn, rd, value, turned),
+        Quick::SetAddPlain { rn, rd, rm } => {
+            set_plain(registers, bus, site, ComputeOp::Add, rn, rd, rm)
         }
-        Quick::ComparePlain { op, rn, rm } => {
-            let second = registers.get(u32::from(rm));
-            let carry = registers.flags().carry;
-            let outcome = outcome_in(registers, op, registers.get(u32::from(rn)), second, carry);
-            registers.set_flags(flags_of_outcome(outcome));
-            code_price(bus, site, true)
+        Quick::SetSubPlain { rn, rd, rm } => {
+            set_plain(registers, bus, site, ComputeOp::Sub, rn, rd, rm)
         }
+        Quick::SetMovShifted {
+            rn,
+            rd,
+            rm,
+            kind,
+            amount,
+        } => set_shifted(
+            registers,
+            bus,
+            site,
+            ComputeOp::Mov,
+            rn,
+            rd,
+            rm,
+            kind,
+            amount,
+        ),
+        Quick::CmpNumber { rn, value, turned } => {
+            compare_number(registers, bus, site, ComputeOp::Sub, rn, value, turned)
+        }
+        Quick::CmpPlain { rn, rm } => compare_plain(registers, bus, site, ComputeOp::Sub, rn, rm),
         Quick::LoadWord { rn, rd, offset } => {
             load_quick(registers, bus, site, LoadUnit::Word, rn, rd, offset)
         }
@@ -158,43 +172,270 @@ pub fn perform_quick<B: Bus>(registers: &mut Registers, bus: &mut B, site: Site,
         Quick::StoreByte { rn, rd, offset } => {
             store_quick(registers, bus, site, Width::Byte, rn, rd, offset)
         }
-        Quick::Branch { distance } => {
-            jump(registers, site.counter().wrapping_add(distance));
-            jump_price(bus, site)
-        }
-        Quick::CompareShifted { .. }
-        | Quick::LoadSingle { .. }
-        | Quick::StoreSingle { .. }
-        | Quick::LoadBlock { .. }
-        | Quick::StoreBlock { .. }
-        | Quick::BranchLink { .. }
-        | Quick::Other { .. }
-        | Quick::Trap => perform_rare(registers, bus, site, one),
+        Quick::Branch { distance } => branch(registers, bus, site, distance),
+        _ => perform_any(registers, bus, site, one),
     }
 }
 
-// The rarer forms.
-#[inline(never)]
+/// Performs a quick form as [`perform_quick`] does, with the forms that are common in Thumb code at hand.
+#[inline(always)]
 #[tactic(auto, unfolding(crate::specs::Effects::effect_of_quick))]
-fn perform_rare<B: Bus>(registers: &mut Registers, bus: &mut B, site: Site, one: &Quick) -> u32
-    requires fits { QuickFits one.now }
-    requires class { IsTrue (is_rare one.now) }
+pub fn perform_quick_in_thumb<B: Bus>(
+    registers: &mut Registers,
+    bus: &mut B,
+    site: Site,
+    one: &Quick,
+) -> u32
+    requires { QuickFits one.now }
     ensures { Leaves (effect_of_quick B.code_price_of B.load_of B.store_of one.now site registers.old (B.state bus.old))
         registers.new (B.state bus.new) result }
 {
     match *one {
+        Quick::AddNumber { rn, rd, value } => {
+            write_number(registers, bus, site, ComputeOp::Add, rn, rd, value)
+        }
+        Quick::AddPlain { rn, rd, rm } => {
+            write_plain(registers, bus, site, ComputeOp::Add, rn, rd, rm)
+        }
+        Quick::MovPlain { rn, rd, rm } => {
+            write_plain(registers, bus, site, ComputeOp::Mov, rn, rd, rm)
+        }
+        Quick::SetNumber {
+            op,
+            rn,
+            rd,
+            value,
+            turned,
+        } => set_number(registers, bus, site, op, rn, rd, value, turned),
+        Quick::SetPlain { op, rn, rd, rm } => set_plain(registers, bus, site, op, rn, rd, rm),
+        Quick::SetShifted {
+            op,
+            rn,
+            rd,
+            rm,
+            kind,
+            amount,
+        } => set_shifted(registers, bus, site, op, rn, rd, rm, kind, amount),
+        Quick::CompareNumber {
+            op,
+            rn,
+            value,
+            turned,
+        } => compare_number(registers, bus, site, op, rn, value, turned),
+        Quick::ComparePlain { op, rn, rm } => compare_plain(registers, bus, site, op, rn, rm),
+        Quick::SetAddNumber {
+            rn,
+            rd,
+            value,
+            turned,
+        } => set_number(registers, bus, site, ComputeOp::Add, rn, rd, value, turned),
+        Quick::SetSubNumber {
+            rn,
+            rd,
+            value,
+            turned,
+        } => set_number(registers, bus, site, ComputeOp::Sub, rn, rd, value, turned),
+        Quick::SetMovNumber {
+            rn,
+            rd,
+            value,
+            turned,
+        } => set_number(registers, bus, site, ComputeOp::Mov, rn, rd, value, turned),
+        Quick::SetAddPlain { rn, rd, rm } => {
+            set_plain(registers, bus, site, ComputeOp::Add, rn, rd, rm)
+        }
+        Quick::SetSubPlain { rn, rd, rm } => {
+            set_plain(registers, bus, site, ComputeOp::Sub, rn, rd, rm)
+        }
+        Quick::SetMovShifted {
+            rn,
+            rd,
+            rm,
+            kind,
+            amount,
+        } => set_shifted(
+            registers,
+            bus,
+            site,
+            ComputeOp::Mov,
+            rn,
+            rd,
+            rm,
+            kind,
+            amount,
+        ),
+        Quick::CmpNumber { rn, value, turned } => {
+            compare_number(registers, bus, site, ComputeOp::Sub, rn, value, turned)
+        }
+        Quick::CmpPlain { rn, rm } => compare_plain(registers, bus, site, ComputeOp::Sub, rn, rm),
+        Quick::LoadWord { rn, rd, offset } => {
+            load_quick(registers, bus, site, LoadUnit::Word, rn, rd, offset)
+        }
+        Quick::LoadByte { rn, rd, offset } => {
+            load_quick(registers, bus, site, LoadUnit::Byte, rn, rd, offset)
+        }
+        Quick::StoreWord { rn, rd, offset } => {
+            store_quick(registers, bus, site, Width::Word, rn, rd, offset)
+        }
+        Quick::StoreByte { rn, rd, offset } => {
+            store_quick(registers, bus, site, Width::Byte, rn, rd, offset)
+        }
+        Quick::Branch { distance } => branch(registers, bus, site, distance),
+        _ => perform_any(registers, bus, site, one),
+    }
+}
+
+// Any form.
+#[inline(never)]
+#[tactic(auto, unfolding(crate::specs::Effects::effect_of_quick))]
+fn perform_any<B: Bus>(registers: &mut Registers, bus: &mut B, site: Site, one: &Quick) -> u32
+    requires { QuickFits one.now }
+    ensures { Leaves (effect_of_quick B.code_price_of B.load_of B.store_of one.now site registers.old (B.state bus.old))
+        registers.new (B.state bus.new) result }
+{
+    match *one {
+        Quick::Number { op, rn, rd, value } => write_number(
+            registers, bus, site, op, rn, rd, value,
+        ),
+        Quick::Plain { op, rn, rd, rm } => write_plain(registers, bus, site, op, rn, rd, rm),
+        Quick::AddNumber { rn, rd, value } => {
+            write_number(registers, bus, site, ComputeOp::Add, rn, rd, value)
+        }
+        Quick::SubNumber { rn, rd, value } => {
+            write_number(registers, bus, site, ComputeOp::Sub, rn, rd, value)
+        }
+        Quick::AndNumber { rn, rd, value } => {
+            write_number(registers, bus, site, ComputeOp::And, rn, rd, value)
+        }
+        Quick::OrrNumber { rn, rd, value } => {
+            write_number(registers, bus, site, ComputeOp::Orr, rn, rd, value)
+        }
+        Quick::BicNumber { rn, rd, value } => {
+            write_number(registers, bus, site, ComputeOp::Bic, rn, rd, value)
+        }
+        Quick::MovNumber { rn, rd, value } => {
+            write_number(registers, bus, site, ComputeOp::Mov, rn, rd, value)
+        }
+        Quick::AddPlain { rn, rd, rm } => {
+            write_plain(registers, bus, site, ComputeOp::Add, rn, rd, rm)
+        }
+        Quick::SubPlain { rn, rd, rm } => {
+            write_plain(registers, bus, site, ComputeOp::Sub, rn, rd, rm)
+        }
+        Quick::AndPlain { rn, rd, rm } => {
+            write_plain(registers, bus, site, ComputeOp::And, rn, rd, rm)
+        }
+        Quick::OrrPlain { rn, rd, rm } => {
+            write_plain(registers, bus, site, ComputeOp::Orr, rn, rd, rm)
+        }
+        Quick::EorPlain { rn, rd, rm } => {
+            write_plain(registers, bus, site, ComputeOp::Eor, rn, rd, rm)
+        }
+        Quick::MovPlain { rn, rd, rm } => {
+            write_plain(registers, bus, site, ComputeOp::Mov, rn, rd, rm)
+        }
+        Quick::RsbPlain { rn, rd, rm } => {
+            write_plain(registers, bus, site, ComputeOp::Rsb, rn, rd, rm)
+        }
+        Quick::MvnPlain { rn, rd, rm } => {
+            write_plain(registers, bus, site, ComputeOp::Mvn, rn, rd, rm)
+        }
+        Quick::Shifted {
+            op,
+            rn,
+            rd,
+            rm,
+            kind,
+            amount,
+        } => write_shifted(registers, bus, site, op, rn, rd, rm, kind, amount),
+        Quick::SetNumber {
+            op,
+            rn,
+            rd,
+            value,
+            turned,
+        } => set_number(registers, bus, site, op, rn, rd, value, turned),
+        Quick::SetPlain { op, rn, rd, rm } => set_plain(registers, bus, site, op, rn, rd, rm),
+        Quick::SetShifted {
+            op,
+            rn,
+            rd,
+            rm,
+            kind,
+            amount,
+        } => set_shifted(registers, bus, site, op, rn, rd, rm, kind, amount),
+        Quick::CompareNumber {
+            op,
+            rn,
+            value,
+            turned,
+        } => compare_number(registers, bus, site, op, rn, value, turned),
+        Quick::ComparePlain { op, rn, rm } => compare_plain(registers, bus, site, op, rn, rm),
+        Quick::SetAddNumber {
+            rn,
+            rd,
+            value,
+            turned,
+        } => set_number(registers, bus, site, ComputeOp::Add, rn, rd, value, turned),
+        Quick::SetSubNumber {
+            rn,
+            rd,
+            value,
+            turned,
+        } => set_number(registers, bus, site, ComputeOp::Sub, rn, rd, value, turned),
+        Quick::SetMovNumber {
+            rn,
+            rd,
+            value,
+            turned,
+        } => set_number(registers, bus, site, ComputeOp::Mov, rn, rd, value, turned),
+        Quick::SetAddPlain { rn, rd, rm } => {
+            set_plain(registers, bus, site, ComputeOp::Add, rn, rd, rm)
+        }
+        Quick::SetSubPlain { rn, rd, rm } => {
+            set_plain(registers, bus, site, ComputeOp::Sub, rn, rd, rm)
+        }
+        Quick::SetMovShifted {
+            rn,
+            rd,
+            rm,
+            kind,
+            amount,
+        } => set_shifted(
+            registers,
+            bus,
+            site,
+            ComputeOp::Mov,
+            rn,
+            rd,
+            rm,
+            kind,
+            amount,
+        ),
+        Quick::CmpNumber { rn, value, turned } => {
+            compare_number(registers, bus, site, ComputeOp::Sub, rn, value, turned)
+        }
+        Quick::CmpPlain { rn, rm } => compare_plain(registers, bus, site, ComputeOp::Sub, rn, rm),
+        Quick::LoadWord { rn, rd, offset } => {
+            load_quick(registers, bus, site, LoadUnit::Word, rn, rd, offset)
+        }
+        Quick::LoadByte { rn, rd, offset } => {
+            load_quick(registers, bus, site, LoadUnit::Byte, rn, rd, offset)
+        }
+        Quick::StoreWord { rn, rd, offset } => {
+            store_quick(registers, bus, site, Width::Word, rn, rd, offset)
+        }
+        Quick::StoreByte { rn, rd, offset } => {
+            store_quick(registers, bus, site, Width::Byte, rn, rd, offset)
+        }
+        Quick::Branch { distance } => branch(registers, bus, site, distance),
         Quick::CompareShifted {
             op,
             rn,
             rm,
             kind,
             amount,
-        } => {
-            let (second, carry) = shift(kind, registers.get(u32::from(rm)), amount, false);
-            let outcome = outcome_in(registers, op, registers.get(u32::from(rn)), second, carry);
-            registers.set_flags(flags_of_outcome(outcome));
-            code_price(bus, site, true)
-        }
+        } => compare_shifted(registers, bus, site, op, rn, rm, kind, amount),
         Quick::LoadSingle { unit, one } => load_single(registers, bus, site, unit, one),
         Quick::StoreSingle { width, one } => store_single(registers, bus, site, width, one),
         Quick::LoadBlock { block } => load_block(registers, bus, site, block),
@@ -205,7 +446,6 @@ fn perform_rare<B: Bus>(registers: &mut Registers, bus: &mut B, site: Site, one:
             jump_price(bus, site)
         }
         Quick::Other { .. } | Quick::Trap => perform_whole(registers, bus, site, one),
-        _ => unreachable!(),
     }
 }
 
@@ -329,6 +569,193 @@ fn write_plain<B: Bus>(
     let value = value_of(registers, op, registers.get(u32::from(rn)), second);
     registers.set(u32::from(rd), value);
     code_price(bus, site, true)
+}
+
+// Data processing of a register and a shifted register.
+#[inline(always)]
+#[tactic(auto, unfolding(crate::specs::Effects::effect_of_quick))]
+fn write_shifted<B: Bus>(
+    registers: &mut Registers,
+    bus: &B,
+    site: Site,
+    op: ComputeOp,
+    rn: u8,
+    rd: u8,
+    rm: u8,
+    kind: Shift,
+    amount: u8,
+) -> u32
+    requires rn { rn < 16 }
+    requires rd { rd < 16 }
+    requires rm { rm < 16 }
+    requires least { 0 < amount }
+    requires most { amount ≤ 31 }
+    ensures { Leaves (effect_of_quick B.code_price_of B.load_of B.store_of (Quick.Shifted op rn rd rm kind amount) site registers.old
+        (B.state bus.now)) registers.new (B.state bus.now) result }
+{
+    let second = shift_within(kind, registers.get(u32::from(rm)), amount);
+    let value = value_of(registers, op, registers.get(u32::from(rn)), second);
+    registers.set(u32::from(rd), value);
+    code_price(bus, site, true)
+}
+
+// Data processing with S of a register and a number.
+#[inline(always)]
+#[tactic(auto, unfolding(crate::specs::Effects::effect_of_quick))]
+fn set_number<B: Bus>(
+    registers: &mut Registers,
+    bus: &B,
+    site: Site,
+    op: ComputeOp,
+    rn: u8,
+    rd: u8,
+    value: u32,
+    turned: bool,
+) -> u32
+    requires rn { rn < 16 }
+    requires rd { rd < 16 }
+    ensures { Leaves (effect_of_quick B.code_price_of B.load_of B.store_of (Quick.SetNumber op rn rd value turned) site registers.old
+        (B.state bus.now)) registers.new (B.state bus.now) result }
+{
+    let carry = number_carry(registers, value, turned);
+    let outcome = outcome_in(registers, op, registers.get(u32::from(rn)), value, carry);
+    write_flags_and(registers, rd, outcome);
+    code_price(bus, site, true)
+}
+
+// Data processing with S of two registers.
+#[inline(always)]
+#[tactic(auto, unfolding(crate::specs::Effects::effect_of_quick))]
+fn set_plain<B: Bus>(
+    registers: &mut Registers,
+    bus: &B,
+    site: Site,
+    op: ComputeOp,
+    rn: u8,
+    rd: u8,
+    rm: u8,
+) -> u32
+    requires rn { rn < 16 }
+    requires rd { rd < 16 }
+    requires rm { rm < 16 }
+    ensures { Leaves (effect_of_quick B.code_price_of B.load_of B.store_of (Quick.SetPlain op rn rd rm) site registers.old
+        (B.state bus.now)) registers.new (B.state bus.now) result }
+{
+    let second = registers.get(u32::from(rm));
+    let carry = registers.flags().carry;
+    let outcome = outcome_in(registers, op, registers.get(u32::from(rn)), second, carry);
+    write_flags_and(registers, rd, outcome);
+    code_price(bus, site, true)
+}
+
+// Data processing with S of a register and a shifted register.
+#[inline(always)]
+#[tactic(auto, unfolding(crate::specs::Effects::effect_of_quick))]
+fn set_shifted<B: Bus>(
+    registers: &mut Registers,
+    bus: &B,
+    site: Site,
+    op: ComputeOp,
+    rn: u8,
+    rd: u8,
+    rm: u8,
+    kind: Shift,
+    amount: u8,
+) -> u32
+    requires rn { rn < 16 }
+    requires rd { rd < 16 }
+    requires rm { rm < 16 }
+    requires least { 0 < amount }
+    requires most { amount ≤ 31 }
+    ensures { Leaves (effect_of_quick B.code_price_of B.load_of B.store_of (Quick.SetShifted op rn rd rm kind amount) site registers.old
+        (B.state bus.now)) registers.new (B.state bus.now) result }
+{
+    let (second, carry) = shift(kind, registers.get(u32::from(rm)), amount, false);
+    let outcome = outcome_in(registers, op, registers.get(u32::from(rn)), second, carry);
+    write_flags_and(registers, rd, outcome);
+    code_price(bus, site, true)
+}
+
+// The flags of a register and a number.
+#[inline(always)]
+#[tactic(auto, unfolding(crate::specs::Effects::effect_of_quick))]
+fn compare_number<B: Bus>(
+    registers: &mut Registers,
+    bus: &B,
+    site: Site,
+    op: ComputeOp,
+    rn: u8,
+    value: u32,
+    turned: bool,
+) -> u32
+    requires { rn < 16 }
+    ensures { Leaves (effect_of_quick B.code_price_of B.load_of B.store_of (Quick.CompareNumber op rn value turned) site registers.old
+        (B.state bus.now)) registers.new (B.state bus.now) result }
+{
+    let carry = number_carry(registers, value, turned);
+    let outcome = outcome_in(registers, op, registers.get(u32::from(rn)), value, carry);
+    registers.set_flags(flags_of_outcome(outcome));
+    code_price(bus, site, true)
+}
+
+// The flags of two registers.
+#[inline(always)]
+#[tactic(auto, unfolding(crate::specs::Effects::effect_of_quick))]
+fn compare_plain<B: Bus>(
+    registers: &mut Registers,
+    bus: &B,
+    site: Site,
+    op: ComputeOp,
+    rn: u8,
+    rm: u8,
+) -> u32
+    requires rn { rn < 16 }
+    requires rm { rm < 16 }
+    ensures { Leaves (effect_of_quick B.code_price_of B.load_of B.store_of (Quick.ComparePlain op rn rm) site registers.old
+        (B.state bus.now)) registers.new (B.state bus.now) result }
+{
+    let second = registers.get(u32::from(rm));
+    let carry = registers.flags().carry;
+    let outcome = outcome_in(registers, op, registers.get(u32::from(rn)), second, carry);
+    registers.set_flags(flags_of_outcome(outcome));
+    code_price(bus, site, true)
+}
+
+// The flags of a register and a shifted register.
+#[inline(always)]
+#[tactic(auto, unfolding(crate::specs::Effects::effect_of_quick))]
+fn compare_shifted<B: Bus>(
+    registers: &mut Registers,
+    bus: &B,
+    site: Site,
+    op: ComputeOp,
+    rn: u8,
+    rm: u8,
+    kind: Shift,
+    amount: u8,
+) -> u32
+    requires rn { rn < 16 }
+    requires rm { rm < 16 }
+    requires least { 0 < amount }
+    requires most { amount ≤ 31 }
+    ensures { Leaves (effect_of_quick B.code_price_of B.load_of B.store_of (Quick.CompareShifted op rn rm kind amount) site registers.old
+        (B.state bus.now)) registers.new (B.state bus.now) result }
+{
+    let (second, carry) = shift(kind, registers.get(u32::from(rm)), amount, false);
+    let outcome = outcome_in(registers, op, registers.get(u32::from(rn)), second, carry);
+    registers.set_flags(flags_of_outcome(outcome));
+    code_price(bus, site, true)
+}
+
+// B.
+#[inline(always)]
+#[tactic(auto, unfolding(crate::specs::Effects::effect_of_quick))]
+fn branch<B: Bus>(registers: &mut Registers, bus: &B, site: Site, distance: u32) -> u32
+    ensures { Leaves (effect_of_quick B.code_price_of B.load_of B.store_of (Quick.Branch distance) site registers.old
+        (B.state bus.now)) registers.new (B.state bus.now) result }
+{
+    jump(registers, site.counter().wrapping_add(distance));
+    jump_price(bus, site)
 }
 
 // A load that keeps the base.

@@ -125,6 +125,42 @@ pub enum Quick {
         kind: Shift,
         amount: u8,
     },
+    /// The commonest of these, each a form of its own.
+    SetAddNumber {
+        rn: u8,
+        rd: u8,
+        value: u32,
+        turned: bool,
+    },
+    SetSubNumber {
+        rn: u8,
+        rd: u8,
+        value: u32,
+        turned: bool,
+    },
+    SetMovNumber {
+        rn: u8,
+        rd: u8,
+        value: u32,
+        turned: bool,
+    },
+    SetAddPlain {
+        rn: u8,
+        rd: u8,
+        rm: u8,
+    },
+    SetSubPlain {
+        rn: u8,
+        rd: u8,
+        rm: u8,
+    },
+    SetMovShifted {
+        rn: u8,
+        rd: u8,
+        rm: u8,
+        kind: Shift,
+        amount: u8,
+    },
     /// The flags alone.
     CompareNumber {
         op: ComputeOp,
@@ -143,6 +179,16 @@ pub enum Quick {
         rm: u8,
         kind: Shift,
         amount: u8,
+    },
+    /// The flags of a subtraction: CMP.
+    CmpNumber {
+        rn: u8,
+        value: u32,
+        turned: bool,
+    },
+    CmpPlain {
+        rn: u8,
+        rm: u8,
     },
     /// LDR, LDRB, STR and STRB at `rn` plus `offset` modulo 2^32, where the base stays.
     LoadWord {

@@ -7,7 +7,7 @@ ghost use Rattle.gba_thumb_exec.specs.Forms.{FormFits, effect_of_form, is_near};
 use crate::Form;
 use crate::performing::{link_high, link_low, load_near, near_address};
 use gba_bus::Bus;
-use gba_exec_quick::perform_quick;
+use gba_exec_quick::perform_quick_in_thumb;
 use gba_exec_registers::{Site, code_price, jump_price};
 use gba_psr::Registers;
 
@@ -20,7 +20,7 @@ pub fn perform_form<B: Bus>(registers: &mut Registers, bus: &mut B, site: Site, 
         registers.new (B.state bus.new) result }
 {
     match one {
-        Form::Quick { quick } => perform_quick(registers, bus, site, quick),
+        Form::Quick { quick } => perform_quick_in_thumb(registers, bus, site, quick),
         Form::NearLoad { .. }
         | Form::NearAddress { .. }
         | Form::LinkHigh { .. }
