@@ -1,4 +1,4 @@
 pub mod Aligned
-pub mod Coding
+pub mod Telling
 pub mod Loading
 pub mod Storing

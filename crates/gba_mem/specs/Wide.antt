@@ -53,6 +53,10 @@ put_number width bytes place value = with_number slice_set width bytes place val
 abbrev pub put_both : List ℕ → ℕ → ℕ → List ℕ
 put_both bytes place value = with_both slice_set bytes place (field value 0 8)
 
+abbrev pub with_inner : Memories → ℕ → Width → ℕ → Memories
+with_inner m address width value =
+    record m { inner = put_number width m.inner (inner_place (aligned width address)) value }
+
 unfoldable pub wide_palette : List ℕ → ℕ → Width → ℕ → List ℕ
 wide_palette palette address Byte value = put_both palette (palette_place (aligned Half address)) value
 wide_palette palette address width value = put_number width palette (palette_place (aligned width address)) value
@@ -71,8 +75,7 @@ wide_oam oam address width value = put_number width oam (oam_place (aligned widt
 unfoldable pub wide_store : Region → ℕ → Memories → ℕ → Width → ℕ → Memories
 wide_store Work mode m address width value =
     record m { work = put_number width m.work (work_place (aligned width address)) value }
-wide_store Inner mode m address width value =
-    record m { inner = put_number width m.inner (inner_place (aligned width address)) value }
+wide_store Inner mode m address width value = with_inner m address width value
 wide_store Palette mode m address width value = record m { palette = wide_palette m.palette address width value }
 wide_store Vram mode m address width value = record m { vram = wide_vram mode m.vram address width value }
 wide_store Oam mode m address width value = record m { oam = wide_oam m.oam address width value }

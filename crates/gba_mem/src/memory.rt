@@ -117,7 +117,7 @@ impl Memory {
     ghost use Rattle.gba_mem.specs.Loads.{is_bios, load, number_of, rom_byte};
     ghost use Rattle.gba_mem.specs.Memories.{at_start};
     ghost use Rattle.gba_mem.specs.Stores.{store};
-    ghost use Rattle.gba_mem.specs.Wide.{wide_load, wide_oam, wide_palette, wide_rom, wide_store, wide_vram};
+    ghost use Rattle.gba_mem.specs.Wide.{wide_load, with_inner, wide_oam, wide_palette, wide_rom, wide_store, wide_vram};
 
     /// The memories of a console at the start, from its images. RAM is 0, and the SRAM is the save or FFh bytes. The
     /// images' bytes are moved in, not copied; on refusal they are dropped.
@@ -245,6 +245,7 @@ impl Memory {
 
     /// What an access reads, by its region.
     #[tactic(auto, unfolding(crate::specs::Wide::wide_load, gba_bus::specs::Regions::region_of))]
+    #[inline(never)]
     fn wide_load(&self, in_bios: bool, address: u32, width: Width) -> u32
         ensures { result ≡ wide_load (region_of address) in_bios self.now address width }
     {
@@ -321,6 +322,7 @@ impl Memory {
 
     /// What a write leaves, by its region.
     #[tactic(auto, unfolding(crate::specs::Wide::wide_store))]
+    #[inline(never)]
     fn wide_store(&mut self, mode: u32, address: u32, width: Width, value: u32)
         ensures { self.new ≡ wide_store (region_of address) mode self.old address width value }
     {
@@ -331,12 +333,7 @@ impl Memory {
                 places::work(address, width),
                 value,
             ),
-            Region::Inner => put(
-                self.inner.as_mut_slice(),
-                width,
-                places::inner(address, width),
-                value,
-            ),
+            Region::Inner => self.store_inner(address, width, value),
             Region::Palette => Memory::store_palette(
                 self.palette.as_mut_slice(),
                 address,
@@ -362,7 +359,7 @@ impl Memory {
     }
 
     /// What an instruction is read as, the commonest regions first, each after one test.
-    #[tactic(auto, using(crate::proofs::Coding::told_regions), unfolding(gba_bus::specs::Regions::region_of))]
+    #[tactic(auto, using(crate::proofs::Telling::told_regions), unfolding(gba_bus::specs::Regions::region_of))]
     #[inline]
     fn wide_code(&self, address: u32, width: Width) -> u32
         ensures { result ≡ wide_load (region_of address) (is_bios (region_of address)) self.now address width }
@@ -379,20 +376,60 @@ impl Memory {
         self.wide_load(false, address, width)
     }
 
-    /// What an access reads at its aligned address, for the instruction at `from`. To an instruction outside the
-    /// BIOS, and so to a DMA unit, the BIOS reads 0 (this project's profile).
+    /// What an access reads, the inner RAM after one test.
+    #[tactic(auto, using(crate::proofs::Telling::told_regions))]
+    #[inline]
+    fn quick_load(&self, in_bios: bool, address: u32, width: Width) -> u32
+        ensures { result ≡ wide_load (region_of address) in_bios self.now address width }
+    {
+        if is_in_inner(address) {
+            return number(self.inner.as_slice(), width, places::inner(address, width));
+        }
+        self.wide_load(in_bios, address, width)
+    }
+
+    /// Writes in the inner RAM.
+    #[inline]
+    fn store_inner(&mut self, address: u32, width: Width, value: u32)
+        ensures { self.new ≡ with_inner self.old address width value }
+    {
+        put(
+            self.inner.as_mut_slice(),
+            width,
+            places::inner(address, width),
+            value,
+        );
+    }
+
+    /// What a write leaves, the inner RAM after one test.
+    #[tactic(auto, using(crate::proofs::Telling::told_regions))]
+    #[inline]
+    fn quick_store(&mut self, mode: u32, address: u32, width: Width, value: u32)
+        ensures { self.new ≡ wide_store (region_of address) mode self.old address width value }
+    {
+        if is_in_inner(address) {
+            self.store_inner(address, width, value);
+        } else {
+            self.wide_store(mode, address, width, value);
+        }
+    }
+
+    /// What an access reads at its aligned address, for the instruction at `from`. To an instruction outside the BIOS,
+    /// and so to a DMA unit, the BIOS reads 0 (this project's profile).
+    #[inline]
     pub fn load(&self, from: u32, address: u32, width: Width) -> u32
         ensures { result ≡ load self.now from address width }
     {
-        self.wide_load(is_in_bios(from), address, width)
+        self.quick_load(is_in_bios(from), address, width)
     }
 
     /// Writes the low bits of a number, as many as the width has, at the aligned address. `mode` is the mode of the
     /// picture, bits 0 to 2 of DISPCNT: it says which part of the VRAM drops bytes.
+    #[inline]
     pub fn store(&mut self, mode: u32, address: u32, width: Width, value: u32)
         ensures { self.new ≡ store mode self.old address width value }
     {
-        self.wide_store(mode, address, width, value);
+        self.quick_store(mode, address, width, value);
     }
 
     /// The instruction at an address, as [`Memory::load`] reads it for that instruction itself. Quick where

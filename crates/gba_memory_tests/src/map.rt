@@ -1,6 +1,8 @@
 //! Regions and prices.
 
 use gba_bus::{Region, WaitControl, Width, price, region_of};
+use gba_price_table::PriceTable;
+use std::process::Abort;
 
 /// Both ends of each region, and the addresses beside them (GBATEK, GBA Memory Map).
 #[test]
@@ -26,59 +28,86 @@ fn regions_have_both_ends(rt: HostRuntime) {
     }
 }
 
+/// An access at an address costs so, by its region and by the table.
+fn costs<R: Abort>(
+    rt: &R,
+    waits: &WaitControl,
+    address: u32,
+    width: Width,
+    sequential: bool,
+    cycles: u32,
+) {
+    let table = PriceTable::new(waits);
+    assert_eq!(rt;
+        price(region_of(address), width, sequential, waits),
+        cycles,
+        "at {address}"
+    );
+    assert_eq!(rt;
+        table.price(address, width, sequential),
+        cycles,
+        "at {address}"
+    );
+    assert_eq!(rt; table.waits().value, waits.value);
+}
+
 /// Prices at 8, 16 and 32 bits where the wait control has no part (GBATEK, GBA Memory Map).
 #[test]
 fn memory_has_its_prices(rt: HostRuntime) {
     let waits = WaitControl { value: 0xFFFF };
-    for (region, byte, half, word) in [
-        (Region::Bios, 1, 1, 1),
-        (Region::Work, 3, 3, 6),
-        (Region::Inner, 1, 1, 1),
-        (Region::Io, 1, 1, 1),
-        (Region::Palette, 1, 1, 2),
-        (Region::Vram, 1, 1, 2),
-        (Region::Oam, 1, 1, 1),
-        (Region::Other, 1, 1, 1),
+    for (address, byte, half, word) in [
+        (0x0000_3FFF, 1, 1, 1),
+        (0x0000_4000, 1, 1, 1),
+        (0x0100_0000, 1, 1, 1),
+        (0x0200_0000, 3, 3, 6),
+        (0x03FF_FFFF, 1, 1, 1),
+        (0x0400_0000, 1, 1, 1),
+        (0x0400_0400, 1, 1, 1),
+        (0x05FF_FFFF, 1, 1, 2),
+        (0x0600_0000, 1, 1, 2),
+        (0x0700_0000, 1, 1, 1),
+        (0x1000_0000, 1, 1, 1),
+        (0xFFFF_FFFF, 1, 1, 1),
     ] {
         for sequential in [false, true] {
-            assert_eq!(rt; price(region, Width::Byte, sequential, &waits), byte);
-            assert_eq!(rt; price(region, Width::Half, sequential, &waits), half);
-            assert_eq!(rt; price(region, Width::Word, sequential, &waits), word);
+            costs(&rt, &waits, address, Width::Byte, sequential, byte);
+            costs(&rt, &waits, address, Width::Half, sequential, half);
+            costs(&rt, &waits, address, Width::Word, sequential, word);
         }
     }
 }
 
-/// A row: the wait control, a region, and the prices of a halfword, then of a word, first non-sequential, then
+/// A row: the wait control, an address, and the prices there of a halfword and of a word, each first and then
 /// sequential.
-type Waits = (u16, Region, [u32; 4]);
+type Waits = (u16, u32, [u32; 4]);
 
 /// The wait control is 0 at reset, and 4317h where most games set it: ROM 3 and 1, SRAM 8, view 2 8 and 8 (GBATEK, GBA
 /// System Control).
 const WAITS: [Waits; 12] = [
-    (0x0000, Region::Rom0, [5, 3, 8, 6]),
-    (0x0000, Region::Rom1, [5, 5, 10, 10]),
-    (0x0000, Region::Rom2, [5, 9, 14, 18]),
-    (0x0000, Region::Sram, [5, 5, 5, 5]),
-    (0x4317, Region::Rom0, [4, 2, 6, 4]),
-    (0x4317, Region::Rom1, [5, 5, 10, 10]),
-    (0x4317, Region::Rom2, [9, 9, 18, 18]),
-    (0x4317, Region::Sram, [9, 9, 9, 9]),
-    (0x04DA, Region::Rom0, [3, 2, 5, 4]),
-    (0x04DA, Region::Rom1, [3, 2, 5, 4]),
-    (0x04DA, Region::Rom2, [5, 2, 7, 4]),
-    (0x04DA, Region::Sram, [3, 3, 3, 3]),
+    (0x0000, 0x0800_0000, [5, 3, 8, 6]),
+    (0x0000, 0x0A00_0000, [5, 5, 10, 10]),
+    (0x0000, 0x0C00_0000, [5, 9, 14, 18]),
+    (0x0000, 0x0E00_0000, [5, 5, 5, 5]),
+    (0x4317, 0x09FF_FFFF, [4, 2, 6, 4]),
+    (0x4317, 0x0BFF_FFFF, [5, 5, 10, 10]),
+    (0x4317, 0x0DFF_FFFF, [9, 9, 18, 18]),
+    (0x4317, 0x0FFF_FFFF, [9, 9, 9, 9]),
+    (0x04DA, 0x0900_0000, [3, 2, 5, 4]),
+    (0x04DA, 0x0B00_0000, [3, 2, 5, 4]),
+    (0x04DA, 0x0D00_0000, [5, 2, 7, 4]),
+    (0x04DA, 0x0F00_0000, [3, 3, 3, 3]),
 ];
 
 #[test]
 fn waits_are_chosen_for_each_view(rt: HostRuntime) {
-    for (value, region, [half, next_half, word, next_word]) in WAITS {
+    for (value, address, [half, next_half, word, next_word]) in WAITS {
         let waits = WaitControl { value };
-        assert_eq!(rt; price(region, Width::Byte, false, &waits), half);
-        assert_eq!(rt; price(region, Width::Byte, true, &waits), next_half);
-        assert_eq!(rt; price(region, Width::Half, false, &waits), half);
-        assert_eq!(rt; price(region, Width::Half, true, &waits), next_half);
-        assert_eq!(rt; price(region, Width::Word, false, &waits), word);
-        assert_eq!(rt; price(region, Width::Word, true, &waits), next_word);
+        costs(&rt, &waits, address, Width::Byte, false, half);
+        costs(&rt, &waits, address, Width::Byte, true, next_half);
+        costs(&rt, &waits, address, Width::Half, false, half);
+        costs(&rt, &waits, address, Width::Half, true, next_half);
+        costs(&rt, &waits, address, Width::Word, false, word);
+        costs(&rt, &waits, address, Width::Word, true, next_word);
     }
 }
 

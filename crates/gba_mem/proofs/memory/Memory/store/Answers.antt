@@ -4,5 +4,5 @@ use Rattle.gba_mem.proofs.memory.Memory.store.Goals as goal
 
 pub returns : goal.returns
 returns c =
-    c.wide_store.ensures
+    c.quick_store.ensures
     ∙ sym (store-wide c.args.mode c.args.self.now c.args.address c.args.width c.args.value)

@@ -6,9 +6,9 @@ use Rattle.gba_bus.specs.declared.width.Width.{Width}
 use Rattle.gba_mem.specs.Loads.{is_bios}
 use Rattle.gba_mem.specs.Memories.{Memories}
 use Rattle.gba_mem.specs.Places.{inner_place}
-use Rattle.gba_mem.specs.Wide.{is_inner, is_rom, wide_load, wide_number, wide_rom}
+use Rattle.gba_mem.specs.Wide.{is_inner, is_rom, wide_load, wide_number, wide_rom, wide_store, with_inner}
 
--- What an instruction is read as where a test has told its region.
+-- What is read and written where a test has told the region.
 
 pub bios_code : (region : Region) (in_bios : Bool) (m : Memories) (address : ℕ) (width : Width) → is_bios region ≡ true
     → in_bios ≡ true → wide_load region in_bios m address width ≡ wide_number m.bios width (aligned width address)
@@ -32,4 +32,10 @@ rom_code Rom1 in_bios m address width e = refl
 rom_code Rom2 in_bios m address width e = refl
 rom_code _ in_bios m address width e = cc
 
-pub ruleset told_regions = (bios_code, inner_code, rom_code)
+pub inner_write : (region : Region) (mode : ℕ) (m : Memories) (address : ℕ) (width : Width) (value : ℕ)
+    → is_inner region ≡ true → wide_store region mode m address width value ≡ with_inner m address width value
+unfolding wide_store
+inner_write Inner mode m address width value e = refl
+inner_write _ mode m address width value e = cc
+
+pub ruleset told_regions = (bios_code, inner_code, rom_code, inner_write)
