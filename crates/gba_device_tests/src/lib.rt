@@ -1,6 +1,8 @@
 #![tactic(auto)]
-//! Tests of the devices: worked cases of timers, interrupts and the keypad.
+//! Tests of the devices: worked cases of timers, DMA channels, interrupts and the keypad.
 
+#[cfg(test)]
+mod dma;
 #[cfg(test)]
 mod interrupts;
 #[cfg(test)]
