@@ -132,3 +132,12 @@ pub comes_later : (away dot count : ℕ) (p : Position) → dot < 1232 → p.dot
     → None ≡ first_cycle dot count p
 comes_later away dot count p t h k e lt =
     arrival-late away count lt ∙ ap (λ n. arrival n count) e ∙ sym (first_cycle_is dot count p t h k)
+
+dot_at-once : (dot first second : ℕ) → dot < 1232 → first < 1232 → second < 1232 → dot_at dot first ≡ dot_at dot second → first ≡ second
+dot_at-once dot first second h a b e = grind arith
+
+pub once : (first second : ℕ) (p : Position) → p.dot < 1232 → first < 1232 → second < 1232
+    → (after_cycles first p).dot ≡ (after_cycles second p).dot → first ≡ second
+once first second p h a b e =
+    dot_at-once p.dot first second h a b
+    (sym (ap (λ q. q.dot) (moved_is first p h a)) ∙ e ∙ ap (λ q. q.dot) (moved_is second p h b))

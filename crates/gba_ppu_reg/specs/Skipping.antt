@@ -1,6 +1,6 @@
-use Rattle.std.specs.Prelude.{◌≡◌, ℕ, ◌+◌, ◌-◌, ◌≤◌, false, min}
+use Rattle.std.specs.Prelude.{◌≡◌, ℕ, ◌+◌, ◌-◌, ◌<◌, ◌≤◌, false, min}
 use Rattle.gba_ppu_reg.specs.declared.position.Position.{Position}
-use Rattle.gba_ppu_reg.specs.Position.{begins_hblank, begins_line, cycle, distance}
+use Rattle.gba_ppu_reg.specs.Position.{IsPosition, after_cycles, begins_hblank, begins_line, cycle, distance}
 
 -- Cycles that come to no event can be skipped at once.
 
@@ -19,3 +19,9 @@ pub record SkipsCycles : Type 0 where
   pub next : (count : ℕ) (p : Position) → count + 1 ≤ quiet p → cycle (after_skip count p) ≡ after_skip (count + 1) p
   pub no_hblank : (count : ℕ) (p : Position) → count + 1 ≤ quiet p → begins_hblank (after_skip (count + 1) p) ≡ false
   pub no_line : (count : ℕ) (p : Position) → count + 1 ≤ quiet p → begins_line (after_skip (count + 1) p) ≡ false
+
+-- In fewer cycles than a line has no dot comes twice, so that of 512 cycles at most the first one that comes to a dot is the
+-- only one.
+pub record VisitsOnce : Type 0 where
+  pub once : (first second : ℕ) (p : Position) → IsPosition p → first < 1232 → second < 1232
+      → (after_cycles first p).dot ≡ (after_cycles second p).dot → first ≡ second
