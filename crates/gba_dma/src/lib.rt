@@ -4,6 +4,7 @@
 mod channel;
 mod channels;
 mod event;
+pub mod laws;
 mod unit;
 
 pub use channel::Channel;
