@@ -33,13 +33,23 @@ fn position_at<R: Abort>(rt: &R, line: u32, dot: u32) -> Position {
     Position { line, dot }
 }
 
-fn go<R: Abort>(rt: &R, (from, cycles, hblank, line_start, to): Way) {
-    let mut position = position_at(rt, from.0, from.1);
+fn advance<R: Abort>(rt: &R, position: &mut Position, cycles: u32) -> PictureEvents {
     assert!(rt; position.line < 228);
     assert!(rt; position.dot < 1232);
     assert!(rt; cycles <= 512);
+    position.advance(cycles)
+}
+
+fn step<R: Abort>(rt: &R, position: &mut Position) {
+    assert!(rt; position.line < 228);
+    assert!(rt; position.dot < 1232);
+    position.cycle();
+}
+
+fn go<R: Abort>(rt: &R, (from, cycles, hblank, line_start, to): Way) {
+    let mut position = position_at(rt, from.0, from.1);
     assert_eq!(rt;
-        position.advance(cycles),
+        advance(rt, &mut position, cycles),
         PictureEvents { hblank, line_start }
     );
     assert_eq!(rt; (position.line, position.dot), to);
@@ -55,14 +65,14 @@ fn positions_move_as_worked_out(rt: HostRuntime) -> Result<(), Fail> {
     let mut hblanks = 0u32;
     let mut lines = 0u32;
     for _ in 0..616 {
-        let events = position.advance(456);
+        let events = advance(&rt, &mut position, 456);
         hblanks = hblanks.saturating_add(u32::from(events.hblank.is_some()));
         lines = lines.saturating_add(u32::from(events.line_start.is_some()));
     }
     assert_eq!(rt; position, Position { line: 0, dot: 0 });
     assert_eq!(rt; (hblanks, lines), (228, 228));
     for _ in 0..280_895 {
-        position.cycle();
+        step(&rt, &mut position);
     }
     assert_eq!(rt;
         position,
