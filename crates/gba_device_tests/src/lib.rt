@@ -1,7 +1,14 @@
 #![tactic(auto)]
-//! Tests of the devices: worked cases of timers, interrupts and the keypad.
+//! Tests of the devices: worked cases of timers, DMA channels, direct sound, interrupts, the keypad, and the picture's
+//! registers and position.
 
 #[cfg(test)]
+mod dma;
+#[cfg(test)]
 mod interrupts;
+#[cfg(test)]
+mod picture;
+#[cfg(test)]
+mod sound;
 #[cfg(test)]
 mod timers;

@@ -1,0 +1,9 @@
+#![tactic(auto)]
+//! Direct sound: two queues of samples, and their registers.
+
+mod asked;
+mod queue;
+mod queues;
+
+pub use asked::Asked;
+pub use queues::Queues;
