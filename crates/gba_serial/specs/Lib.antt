@@ -1,0 +1,7 @@
+pub mod Timing
+pub mod SerialUnit
+pub mod Registers
+pub mod Write
+pub mod Take
+pub mod End
+pub mod Tell
