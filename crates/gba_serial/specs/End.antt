@@ -29,7 +29,7 @@ peer_word mode run = if run.starter && not (any_received run.got) then 2 ^ word_
 -- In the mode of the transfer: SIODATA8 becomes the peer's word with a high byte of 0, or SIODATA32 does; in Multi the
 -- words stand in their places, and the error is set where one is missing.
 abbrev pub send_after : LinkMode → Running → SerialUnit → ℕ
-send_after Normal8 run u = peer_word Normal8 run
+send_after Normal8 run u = field (peer_word Normal8 run) 0 8
 send_after Normal32 run u = u.send
 send_after Multi run u = u.send
 send_after Other run u = u.send

@@ -1,6 +1,9 @@
 //! One console's serial unit.
 
+mod ending;
 mod registers;
+mod taking;
+mod telling;
 mod writing;
 
 use crate::timing::{is_multi, mode_by};
@@ -70,7 +73,7 @@ impl Model for Serial {
 }
 
 impl Serial {
-    ghost use Rattle.std.specs.Prelude.{◌≡◌, ◌*◌, ◌<◌, ◌≤◌};
+    ghost use Rattle.std.specs.Prelude.{◌≡◌, ◌*◌, ◌<◌, ◌≤◌, IsTrue};
     ghost use Rattle.gba_serial.specs.SerialUnit.{data_word, is_peer, is_running, is_wired, mode_of, own_word, serial_at_reset, speed_of};
 
     /// The unit at reset, of a player below `count`, on a cable of 1 to 4 consoles whose signals take `delay` cycles, from
@@ -114,7 +117,8 @@ impl Serial {
 
     /// Whether a player is another console of the cable.
     fn is_peer(&self, player: u32) -> bool
-        ensures { result ≡ is_peer player self.now }
+        ensures value { result ≡ is_peer player self.now }
+        ensures small { IsTrue result → player < 4 }
     {
         player < self.count && player != self.player
     }
