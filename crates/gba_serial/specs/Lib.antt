@@ -5,3 +5,4 @@ pub mod Write
 pub mod Take
 pub mod End
 pub mod Tell
+pub mod Numbers

@@ -1,6 +1,7 @@
 //! One console's serial unit.
 
 mod ending;
+mod numbers;
 mod registers;
 mod taking;
 mod telling;
@@ -74,7 +75,7 @@ impl Model for Serial {
 
 impl Serial {
     ghost use Rattle.std.specs.Prelude.{◌≡◌, ◌*◌, ◌<◌, ◌≤◌, IsTrue};
-    ghost use Rattle.gba_serial.specs.SerialUnit.{data_word, is_peer, is_running, is_wired, mode_of, own_word, serial_at_reset, speed_of};
+    ghost use Rattle.gba_serial.specs.SerialUnit.{data_word, is_peer, is_wired, mode_of, own_word, serial_at_reset, speed_of};
 
     /// The unit at reset, of a player below `count`, on a cable of 1 to 4 consoles whose signals take `delay` cycles, from
     /// 1 to 1,024. Its mode is Other, and so is every peer's until it tells another.
@@ -107,12 +108,6 @@ impl Serial {
         ensures { result ≡ mode_of self.now }
     {
         mode_by(self.select, self.control)
-    }
-
-    fn is_running(&self) -> bool
-        ensures { result ≡ is_running self.now }
-    {
-        self.run.is_some()
     }
 
     /// Whether a player is another console of the cable.

@@ -76,7 +76,7 @@ impl Serial {
     {
         let stored = self.control & 0x7003;
         let shown = self.shown_player() + weight(8, self.all_ready());
-        stored + shown + weight(64, self.error) + weight(128, self.is_running())
+        stored + shown + weight(64, self.error) + weight(128, self.running())
     }
 
     fn control_shown(&self) -> u16

@@ -106,7 +106,7 @@ impl Serial {
         ensures { result ≡ can_answer due.now self.now }
     {
         let mode = self.mode();
-        !self.is_running() && is_same(mode, due.signal.mode) && (is_multi(mode) || self.waits())
+        !self.running() && is_same(mode, due.signal.mode) && (is_multi(mode) || self.waits())
     }
 
     fn answers(&self, due: &Incoming, start: Start) -> bool

@@ -1,7 +1,7 @@
-//! What a step tells, and the numbers of the state file.
+//! What a step tells.
 
 ghost use Rattle.std.specs.Prelude.{◌≡◌, option_map};
-ghost use Rattle.gba_serial.specs.Tell.{reply_told, start_told};
+ghost use Rattle.gba_serial.specs.Tell.{start_told};
 
 use super::Serial;
 use crate::timing::is_same;
@@ -17,15 +17,6 @@ fn start_told(start: Option<Start>) -> Option<Start>
             speed: bits(u32::from(start.speed), 0, 2) as u8,
             word: start.word,
         }),
-        None => None,
-    }
-}
-
-fn reply_told(reply: Option<u32>) -> Option<u32>
-    ensures { result ≡ option_map reply_told reply }
-{
-    match reply {
-        Some(word) => Some(bits(word, 0, 32)),
         None => None,
     }
 }
@@ -54,7 +45,7 @@ impl Serial {
             clock,
             mode: self.mode(),
             start: start_told(self.start),
-            reply: reply_told(self.reply),
+            reply: self.reply,
         };
         self.start = None;
         self.reply = None;

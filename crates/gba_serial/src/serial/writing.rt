@@ -153,7 +153,7 @@ impl Serial {
         requires { clock < 2 ^ 40 }
         ensures { self.new ≡ with_control clock bits self.old }
     {
-        if self.is_running() {
+        if self.running() {
             self.control = self.busy_control(bits);
             return;
         }
@@ -168,7 +168,7 @@ impl Serial {
         requires { place < 4 }
         ensures { self.new ≡ with_word place bits self.old }
     {
-        if !self.is_running() {
+        if !self.running() {
             self.words[place] = bits;
         }
     }
@@ -176,7 +176,7 @@ impl Serial {
     fn set_select(&mut self, bits: u16)
         ensures { self.new ≡ with_select bits self.old }
     {
-        if !self.is_running() {
+        if !self.running() {
             self.select = bits;
         }
     }
