@@ -1,7 +1,9 @@
 #![tactic(auto)]
-//! Tests of the devices: worked cases of timers, interrupts and the keypad.
+//! Tests of the devices: worked cases of timers, interrupts, the keypad and the serial unit.
 
 #[cfg(test)]
 mod interrupts;
+#[cfg(test)]
+mod serial;
 #[cfg(test)]
 mod timers;
