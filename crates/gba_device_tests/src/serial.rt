@@ -747,22 +747,18 @@ fn two_consoles_exchange_words_in_multi(rt: HostRuntime) -> Result<(), Fail> {
     first.write(2000, SIOCNT, 0x2083);
     step(&rt, &mut first, &mut second, 0, 2000, 512);
     step(&rt, &mut second, &mut first, 1, 2520, 512);
-    let words = [0x1234, 0xABCD, 0xFFFF, 0xFFFF];
-    for (unit, sent) in [(&mut first, 0x1234), (&mut second, 0xABCD)] {
-        ends(
-            &rt,
-            unit,
-            Transfer {
-                end: 7220,
-                mode: Multi,
-                words,
-                sent,
-                got: 0,
-                error: false,
-                interrupt: false,
-            },
-        );
-    }
+    let mut transfer = Transfer {
+        end: 7220,
+        mode: Multi,
+        words: [0x1234, 0xABCD, 0xFFFF, 0xFFFF],
+        sent: 0x1234,
+        got: 0,
+        error: false,
+        interrupt: false,
+    };
+    ends(&rt, &mut first, transfer);
+    transfer.sent = 0xABCD;
+    ends(&rt, &mut second, transfer);
     Ok(())
 }
 
@@ -796,29 +792,26 @@ fn a_peer_in_another_mode_sends_nothing(rt: HostRuntime) -> Result<(), Fail> {
 #[test]
 fn two_starts_at_once_answer_neither(rt: HostRuntime) -> Result<(), Fail> {
     let (mut first, mut second) = pair(&rt, 512, (0x1001, 0), (0x1001, 0));
-    for unit in [&mut first, &mut second] {
-        unit.write(2000, SIODATA0, 0x0102);
-        unit.write(2000, SIODATA1, 0x0304);
-        unit.write(2000, SIOCNT, 0x1081);
-    }
+    first.write(2000, SIODATA1, 0x0304);
+    first.write(2000, SIOCNT, 0x1081);
+    second.write(2000, SIODATA1, 0x0506);
+    second.write(2000, SIOCNT, 0x1081);
     step(&rt, &mut first, &mut second, 0, 2000, 512);
     step(&rt, &mut second, &mut first, 1, 2000, 512);
-    for unit in [&mut first, &mut second] {
-        assert_eq!(rt; unit.outgoing(2520), None);
-        ends(
-            &rt,
-            unit,
-            Transfer {
-                end: 4048,
-                mode: Normal32,
-                words: [0; 4],
-                sent: 0x0304_0102,
-                got: 0xFFFF_FFFF,
-                error: false,
-                interrupt: false,
-            },
-        );
-    }
+    assert_eq!(rt; first.outgoing(2520), None);
+    assert_eq!(rt; second.outgoing(2520), None);
+    let mut transfer = Transfer {
+        end: 4048,
+        mode: Normal32,
+        words: [0; 4],
+        sent: 0x0304_0000,
+        got: 0xFFFF_FFFF,
+        error: false,
+        interrupt: false,
+    };
+    ends(&rt, &mut first, transfer);
+    transfer.sent = 0x0506_0000;
+    ends(&rt, &mut second, transfer);
     Ok(())
 }
 
@@ -830,24 +823,20 @@ fn two_consoles_exchange_bytes(rt: HostRuntime) -> Result<(), Fail> {
     first.write(2000, SIOCNT, 0x0081);
     step(&rt, &mut first, &mut second, 0, 2000, 1);
     step(&rt, &mut second, &mut first, 1, 2003, 1);
-    for (unit, sent, got, interrupt) in [
-        (&mut first, 0x5A, 0xA5, false),
-        (&mut second, 0xA5, 0x5A, true),
-    ] {
-        ends(
-            &rt,
-            unit,
-            Transfer {
-                end: 2516,
-                mode: Normal8,
-                words: [0; 4],
-                sent,
-                got,
-                error: false,
-                interrupt,
-            },
-        );
-    }
+    let mut transfer = Transfer {
+        end: 2516,
+        mode: Normal8,
+        words: [0; 4],
+        sent: 0x5A,
+        got: 0xA5,
+        error: false,
+        interrupt: false,
+    };
+    ends(&rt, &mut first, transfer);
+    transfer.sent = 0xA5;
+    transfer.got = 0x5A;
+    transfer.interrupt = true;
+    ends(&rt, &mut second, transfer);
     assert_eq!(rt; first.read(SEND), 0x00A5);
     assert_eq!(rt; second.read(SEND), 0x005A);
     Ok(())
