@@ -6,3 +6,4 @@ pub mod Take
 pub mod End
 pub mod Tell
 pub mod Numbers
+pub mod Law

@@ -1,0 +1,4 @@
+pub mod Telling
+pub mod Busy
+pub mod Seats
+pub mod Lengths
