@@ -1,5 +1,5 @@
 -- Writes in a transfer.
-use Rattle.std.proofs.Common.{ℕ, ◌≡◌, ◌+◌, ◌/◌, ◌%◌, ◌^◌, Bool, true, false, if◌then◌else◌, refl, ap, ◌∙◌, arith}
+use Rattle.std.proofs.Common.{ℕ, ◌≡◌, ◌/◌, ◌%◌, ◌^◌, Bool, true, false, if◌then◌else◌, refl, ap, ◌∙◌, arith}
 use Rattle.std.specs.Prelude.{bit_and, bit_or, nat_eq}
 use Rattle.std.proofs.lemmas.Nat.{and_mask, and_mod, and_shr, or_mod, or_shr}
 use Rattle.gba_terms.specs.Bits.{bit, field}
@@ -7,7 +7,7 @@ use Rattle.gba_register.specs.Rows.{row_at}
 use Rattle.gba_serial.specs.Timing.{chosen_mode, mode_by}
 use Rattle.gba_serial.specs.SerialUnit.{SerialUnit, is_running, mode_of}
 use Rattle.gba_serial.specs.Registers.{serial_rows}
-use Rattle.gba_serial.specs.Write.{busy_control, put_at, with_control, with_select, with_word, written}
+use Rattle.gba_serial.specs.Write.{busy_control, put_at, with_control, with_select, with_word}
 use Rattle.gba_serial.specs.Law.{KeepsTransfer, WritesKeepTransfers}
 use Rattle.link_node.specs.declared.signal.LinkMode.TheVariants.{Other}
 

@@ -1,5 +1,5 @@
 -- How long transfers last.
-use Rattle.std.proofs.Common.{ℕ, ◌≡◌, ◌+◌, ◌*◌, ◌≤◌, Bool, true, false, max, if◌then◌else◌, refl, arith}
+use Rattle.std.proofs.Common.{ℕ, ◌+◌, ◌*◌, ◌≤◌, Bool, true, false, max, if◌then◌else◌, arith}
 use Rattle.std.specs.Prelude.{nat_eq}
 use Rattle.gba_serial.specs.Timing.{multi_bit_cycles, multi_end, normal_bit_cycles, normal_end, word_width}
 use Rattle.gba_serial.specs.Law.{StartsInTime}

@@ -3,11 +3,11 @@ use Rattle.std.proofs.Common.{ℕ, Bool, true, false, Option, None, Some, if◌t
 use Rattle.std.specs.Prelude.{nat_eq, nat_le, bit_and}
 use Rattle.gba_register.specs.Rows.{row_at}
 use Rattle.gba_serial.specs.Timing.{is_multi}
-use Rattle.gba_serial.specs.SerialUnit.{SerialUnit, is_peer, is_running, is_wired, mode_of}
+use Rattle.gba_serial.specs.SerialUnit.{SerialUnit, is_peer, is_running, mode_of}
 use Rattle.gba_serial.specs.Registers.{serial_rows}
-use Rattle.gba_serial.specs.Write.{begins, begun, idle_control, multi_begun, normal_begun, put_at, with_control, written}
+use Rattle.gba_serial.specs.Write.{begins, begun, idle_control, multi_begun, normal_begun, put_at, with_control}
 use Rattle.gba_serial.specs.Take.{answered, is_answered, taken, with_known, with_reply, with_reply_in, with_reply_of, with_start}
-use Rattle.gba_serial.specs.End.{ended, ended_of, finished}
+use Rattle.gba_serial.specs.End.{ended_of, finished}
 use Rattle.gba_serial.specs.Law.{KeepsSeat, StaysSeated}
 use Rattle.gba_serial.specs.declared.transfer.Running.{Running}
 use Rattle.link_node.specs.declared.signal.Incoming.{Incoming}

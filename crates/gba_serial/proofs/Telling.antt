@@ -1,5 +1,5 @@
 -- What a step tells.
-use Rattle.std.proofs.Common.{ℕ, ◌≡◌, ◌<◌, ◌^◌, Bool, true, false, not, ◌||◌, Option, None, Some, is_some, if◌then◌else◌, refl, arith}
+use Rattle.std.proofs.Common.{ℕ, ◌≡◌, ◌<◌, ◌^◌, Bool, true, false, Option, None, Some, if◌then◌else◌, refl, arith}
 use Rattle.std.specs.Prelude.{IfSome, option_map}
 use Rattle.gba_serial.specs.SerialUnit.{SerialUnit, mode_of}
 use Rattle.gba_serial.specs.Timing.{is_same}

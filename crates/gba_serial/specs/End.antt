@@ -1,4 +1,4 @@
-use Rattle.std.specs.Prelude.{ℕ, ◌-◌, ◌/◌, ◌^◌, Bool, true, false, not, ◌&&◌, ◌||◌, nat_le, List, [], ◌∷◌}
+use Rattle.std.specs.Prelude.{ℕ, ◌-◌, ◌^◌, Bool, not, ◌&&◌, ◌||◌, nat_le, List, [], ◌∷◌}
 use Rattle.std.specs.Prelude.{Option, None, Some, bit_and, if◌then◌else◌, slice_set}
 use Rattle.gba_terms.specs.Bits.{bit, field}
 use Rattle.gba_serial.specs.Timing.{is_multi, word_width}

@@ -1,4 +1,4 @@
-use Rattle.std.specs.Prelude.{ℕ, ◌==◌, Bool, true, false, not, ◌&&◌, ◌||◌, nat_lt, List, [], ◌∷◌, Option, None, Some}
+use Rattle.std.specs.Prelude.{ℕ, ◌==◌, Bool, true, false, not, ◌&&◌, ◌||◌, nat_lt, List, [], ◌∷◌, Option, Some}
 use Rattle.std.specs.Prelude.{bit_and, bit_or, if◌then◌else◌, slice_set}
 use Rattle.gba_terms.specs.Bits.{bit}
 use Rattle.gba_register.specs.Rows.{row_at}
