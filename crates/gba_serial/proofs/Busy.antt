@@ -68,6 +68,7 @@ kept-self u = record {
   error = refl;
   start = refl;
   reply = refl;
+  told = refl;
 }
 
 kept-send : (bits : ℕ) (u : SerialUnit) → KeepsTransfer u (record u { send = bits })
@@ -80,6 +81,7 @@ kept-send bits u = record {
   error = refl;
   start = refl;
   reply = refl;
+  told = refl;
 }
 
 kept-word : (place bits : ℕ) (u : SerialUnit) → is_running u ≡ true → KeepsTransfer u (with_word place bits u)
@@ -98,6 +100,7 @@ kept-busy bits u = record {
   error = refl;
   start = refl;
   reply = refl;
+  told = refl;
 }
 
 kept-control : (clock bits : ℕ) (u : SerialUnit) → is_running u ≡ true → KeepsTransfer u (with_control clock bits u)

@@ -2,3 +2,4 @@ pub mod Telling
 pub mod Busy
 pub mod Seats
 pub mod Lengths
+pub mod Going

@@ -6,4 +6,5 @@ pub mod Take
 pub mod End
 pub mod Tell
 pub mod Numbers
+pub mod Steps
 pub mod Law
