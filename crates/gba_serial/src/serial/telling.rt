@@ -40,7 +40,9 @@ impl Serial {
         ensures signal { result ≡ outgoing clock self.old }
         ensures unit { self.new ≡ silent self.old }
     {
-        let news = self.has_news();
+        if !self.has_news() {
+            return None;
+        }
         let signal = Signal {
             clock,
             mode: self.mode(),
@@ -50,6 +52,6 @@ impl Serial {
         self.start = None;
         self.reply = None;
         self.told = signal.mode;
-        if news { Some(signal) } else { None }
+        Some(signal)
     }
 }
