@@ -31,7 +31,7 @@ enum Move {
     /// This transfer ends at its end and not a cycle before.
     Ends(Transfer),
     /// The numbers of the state file: started, end, got, sent and word of the transfer that runs.
-    Runs(bool, u64, u32, u32, u32),
+    Runs(bool, u64, u64, u64, u64),
     /// No transfer runs.
     Idle,
 }
@@ -55,36 +55,27 @@ const SEND: u32 = 0x12A;
 
 const RCNT: u32 = 0x134;
 
-/// A signal is taken at its arrival, which is after its clock.
-fn take<R: Abort>(
-    rt: &R,
-    unit: &mut Serial,
-    arrival: u64,
-    sender: u32,
-    signal: Signal,
-) -> Option<Transfer> {
-    assert!(rt; signal.clock < arrival);
-    assert!(rt; arrival < 1 << 40);
-    unit.take_signal(&Incoming {
-        sender,
-        arrival,
-        signal,
-    })
+/// A signal is taken at its arrival, which is after its clock, and this transfer ends before it.
+fn hears<R: Abort>(rt: &R, unit: &mut Serial, due: Incoming, ended: Option<Transfer>) {
+    assert!(rt; due.signal.clock < due.arrival && due.arrival < 1 << 40);
+    let transfer = unit.take_signal(&due);
+    assert!(rt; transfer == ended, "{transfer:?} ended before {due:?}");
 }
 
-/// What a step that began at a clock tells.
-fn tell<R: Abort>(rt: &R, unit: &mut Serial, clock: u64) -> Option<Signal> {
+/// A step that began at a clock tells this.
+fn tells<R: Abort>(rt: &R, unit: &mut Serial, clock: u64, signal: Option<Signal>) {
     assert!(rt; clock < 1 << 40);
-    unit.outgoing(clock)
+    let told = unit.outgoing(clock);
+    assert!(rt; told == signal, "{told:?} told at {clock}");
 }
 
 /// A transfer ends at its end, and not a cycle before.
 fn ends<R: Abort>(rt: &R, unit: &mut Serial, transfer: Transfer) {
     let end = transfer.end;
     assert!(rt; 0 < end && end < 1 << 40);
-    assert_eq!(rt; unit.end_due(end - 1), None);
-    assert_eq!(rt; unit.end_due(end), Some(transfer));
-    assert_eq!(rt; unit.end_due(end), None);
+    let early = unit.end_due(end - 1).is_some();
+    let ended = unit.end_due(end);
+    assert!(rt; !early && ended == Some(transfer), "{ended:?} ended");
 }
 
 fn write<R: Abort>(rt: &R, unit: &mut Serial, clock: u64, offset: u32, value: u16) {
@@ -92,18 +83,18 @@ fn write<R: Abort>(rt: &R, unit: &mut Serial, clock: u64, offset: u32, value: u1
     unit.write(clock, offset, value);
 }
 
-fn runs<R: Abort>(rt: &R, unit: &Serial, started: bool, end: u64, got: u32, words: (u32, u32)) {
-    assert!(rt; unit.running());
-    assert_eq!(rt; unit.started(), started);
-    assert_eq!(rt; unit.end(), end);
-    assert_eq!(rt; unit.got(), got);
-    assert_eq!(rt; (unit.sent(), unit.word()), words);
+fn equal<R: Abort>(rt: &R, one: u64, other: u64) {
+    assert_eq!(rt; one, other);
 }
 
-fn idle<R: Abort>(rt: &R, unit: &Serial) {
-    assert!(rt; !unit.running() && !unit.started());
-    assert_eq!(rt; unit.end(), 0);
-    assert_eq!(rt; (unit.got(), unit.sent(), unit.word()), (0, 0, 0));
+/// The numbers of the state file: whether a transfer runs that this console started, its end, got, sent and word.
+fn runs<R: Abort>(rt: &R, unit: &Serial, started: bool, numbers: [u64; 4]) {
+    equal(rt, u64::from(unit.started()), u64::from(started));
+    equal(rt, unit.end(), numbers[0]);
+    equal(rt, u64::from(unit.got()), numbers[1]);
+    equal(rt, u64::from(unit.sent()), numbers[2]);
+    equal(rt, u64::from(unit.word()), numbers[3]);
+    equal(rt, u64::from(unit.running()), u64::from(numbers[0] != 0));
 }
 
 fn signal(clock: u64, mode: LinkMode) -> Signal {
@@ -133,45 +124,85 @@ fn reply(clock: u64, mode: LinkMode, word: u32) -> Signal {
     }
 }
 
+fn incoming(sender: u32, arrival: u64, signal: Signal) -> Incoming {
+    Incoming {
+        sender,
+        arrival,
+        signal,
+    }
+}
+
+/// What a unit takes.
+fn take<R: Abort>(rt: &R, unit: &mut Serial, one: Move) {
+    match one {
+        Mode(arrival, sender, mode) => hears(
+            rt,
+            unit,
+            incoming(sender, arrival, signal(0, mode)),
+            None,
+        ),
+        Begin(arrival, sender, clock, mode, speed, word) => {
+            hears(
+                rt,
+                unit,
+                incoming(sender, arrival, start(clock, mode, speed, word)),
+                None,
+            );
+        }
+        Reply(arrival, sender, mode, word) => {
+            hears(
+                rt,
+                unit,
+                incoming(sender, arrival, reply(0, mode, word)),
+                None,
+            );
+        }
+        Late(arrival, sender, mode, word, transfer) => {
+            hears(
+                rt,
+                unit,
+                incoming(sender, arrival, reply(0, mode, word)),
+                Some(transfer),
+            );
+        }
+        _ => {}
+    }
+}
+
+/// What a unit tells.
+fn tell<R: Abort>(rt: &R, unit: &mut Serial, one: Move) {
+    match one {
+        TellsMode(clock, mode) => tells(rt, unit, clock, Some(signal(clock, mode))),
+        TellsStart(clock, mode, speed, word) => {
+            tells(rt, unit, clock, Some(start(clock, mode, speed, word)));
+        }
+        TellsReply(clock, mode, word) => tells(rt, unit, clock, Some(reply(clock, mode, word))),
+        Silent(clock) => tells(rt, unit, clock, None),
+        _ => {}
+    }
+}
+
+/// What a unit shows.
+fn show<R: Abort>(rt: &R, unit: &Serial, one: Move) {
+    match one {
+        Reads(offset, value) => equal(rt, u64::from(unit.read(offset)), u64::from(value)),
+        Stored(value) => equal(rt, u64::from(unit.stored(SIOCNT)), u64::from(value)),
+        Runs(started, end, got, sent, word) => runs(rt, unit, started, [end, got, sent, word]),
+        Idle => runs(rt, unit, false, [0; 4]),
+        _ => {}
+    }
+}
+
 fn play<R: Abort>(rt: &R, unit: &mut Serial, moves: &[Move]) {
     for one in moves {
         match *one {
             Write(clock, offset, value) => write(rt, unit, clock, offset, value),
-            Reads(offset, value) => assert_eq!(rt; unit.read(offset), value),
-            Stored(value) => assert_eq!(rt; unit.stored(SIOCNT), value),
-            Mode(arrival, sender, mode) => {
-                assert_eq!(rt; take(rt, unit, arrival, sender, signal(0, mode)), None);
-            }
-            Begin(arrival, sender, clock, mode, speed, word) => {
-                let start = start(clock, mode, speed, word);
-                assert_eq!(rt; take(rt, unit, arrival, sender, start), None);
-            }
-            Reply(arrival, sender, mode, word) => {
-                assert_eq!(rt; take(rt, unit, arrival, sender, reply(0, mode, word)), None);
-            }
-            Late(arrival, sender, mode, word, transfer) => {
-                assert_eq!(rt;
-                    take(rt, unit, arrival, sender, reply(0, mode, word)),
-                    Some(transfer)
-                );
-            }
-            TellsMode(clock, mode) => assert_eq!(rt;
-                tell(rt, unit, clock),
-                Some(signal(clock, mode))
-            ),
-            TellsStart(clock, mode, speed, word) => {
-                assert_eq!(rt;
-                    tell(rt, unit, clock),
-                    Some(start(clock, mode, speed, word))
-                );
-            }
-            TellsReply(clock, mode, word) => {
-                assert_eq!(rt; tell(rt, unit, clock), Some(reply(clock, mode, word)));
-            }
-            Silent(clock) => assert_eq!(rt; tell(rt, unit, clock), None),
             Ends(transfer) => ends(rt, unit, transfer),
-            Runs(started, end, got, sent, word) => runs(rt, unit, started, end, got, (sent, word)),
-            Idle => idle(rt, unit),
+            other => {
+                take(rt, unit, other);
+                tell(rt, unit, other);
+                show(rt, unit, other);
+            }
         }
     }
 }
@@ -607,7 +638,7 @@ fn modes_are_told_once(rt: HostRuntime) -> Result<(), Fail> {
             let mut unit = open(&rt, 2, from);
             assert_eq!(rt; unit.mode(), old);
             let _first = unit.outgoing(0);
-            assert_eq!(rt; unit.outgoing(1), None);
+            tells(&rt, &mut unit, 1, None);
             unit.write(2, SIOCNT, to);
             assert_eq!(rt; unit.mode(), new);
             let told = if old == new {
@@ -615,7 +646,7 @@ fn modes_are_told_once(rt: HostRuntime) -> Result<(), Fail> {
             } else {
                 Some(signal(2, new))
             };
-            assert_eq!(rt; unit.outgoing(2), told);
+            tells(&rt, &mut unit, 2, told);
             unit.write(3, RCNT, 0x8000);
             assert_eq!(rt; unit.mode(), Other);
             let told = if new == Other {
@@ -623,7 +654,7 @@ fn modes_are_told_once(rt: HostRuntime) -> Result<(), Fail> {
             } else {
                 Some(signal(3, Other))
             };
-            assert_eq!(rt; unit.outgoing(3), told);
+            tells(&rt, &mut unit, 3, told);
         }
     }
     Ok(())
@@ -633,10 +664,10 @@ fn modes_are_told_once(rt: HostRuntime) -> Result<(), Fail> {
 #[test]
 fn modes_are_compared_over_a_whole_step(rt: HostRuntime) -> Result<(), Fail> {
     let mut unit = open(&rt, 2, 0x2000);
-    assert_eq!(rt; unit.outgoing(0), Some(signal(0, Multi)));
+    tells(&rt, &mut unit, 0, Some(signal(0, Multi)));
     unit.write(9, SIOCNT, 0x0000);
     unit.write(9, SIOCNT, 0x2000);
-    assert_eq!(rt; unit.outgoing(9), None);
+    tells(&rt, &mut unit, 9, None);
     Ok(())
 }
 
@@ -649,17 +680,17 @@ fn peers_are_known_by_what_they_told(rt: HostRuntime) -> Result<(), Fail> {
         assert_eq!(rt; unit.known(player), Other);
     }
     for (_, mode) in MODES {
-        assert_eq!(rt; take(&rt, &mut unit, 20, 1, signal(4, mode)), None);
+        hears(&rt, &mut unit, incoming(1, 20, signal(4, mode)), None);
         assert_eq!(rt; unit.known(1), mode);
         assert_eq!(rt; unit.read(SIOCNT), 0x2000);
-        assert_eq!(rt; take(&rt, &mut unit, 20, 0, signal(4, mode)), None);
+        hears(&rt, &mut unit, incoming(0, 20, signal(4, mode)), None);
         assert_eq!(rt; unit.known(0), Other);
-        assert_eq!(rt; take(&rt, &mut unit, 20, 3, signal(4, mode)), None);
+        hears(&rt, &mut unit, incoming(3, 20, signal(4, mode)), None);
         assert_eq!(rt; unit.known(3), Other);
     }
-    assert_eq!(rt; take(&rt, &mut unit, 20, 1, signal(4, Multi)), None);
+    hears(&rt, &mut unit, incoming(1, 20, signal(4, Multi)), None);
     assert_eq!(rt; unit.read(SIOCNT), 0x2000);
-    assert_eq!(rt; take(&rt, &mut unit, 20, 2, signal(4, Multi)), None);
+    hears(&rt, &mut unit, incoming(2, 20, signal(4, Multi)), None);
     assert_eq!(rt; unit.read(SIOCNT), 0x2008);
     unit.write(30, SIOCNT, 0x0000);
     assert_eq!(rt; unit.read(SIOCNT), 0x0000);
@@ -719,7 +750,7 @@ fn step<R: Abort>(rt: &R, from: &mut Serial, to: &mut Serial, sender: u32, clock
     assert!(rt; clock < 1 << 39);
     assert!(rt; 0 < delay && delay <= 1024);
     if let Some(signal) = from.outgoing(clock) {
-        assert_eq!(rt; take(rt, to, clock + delay, sender, signal), None);
+        hears(rt, to, incoming(sender, clock + delay, signal), None);
     }
 }
 
@@ -770,7 +801,7 @@ fn a_peer_in_another_mode_sends_nothing(rt: HostRuntime) -> Result<(), Fail> {
     first.write(2000, SIOCNT, 0x2083);
     step(&rt, &mut first, &mut second, 0, 2000, 512);
     step(&rt, &mut second, &mut first, 1, 2520, 512);
-    idle(&rt, &second);
+    runs(&rt, &second, false, [0; 4]);
     ends(
         &rt,
         &mut first,
@@ -798,8 +829,8 @@ fn two_starts_at_once_answer_neither(rt: HostRuntime) -> Result<(), Fail> {
     second.write(2000, SIOCNT, 0x1081);
     step(&rt, &mut first, &mut second, 0, 2000, 512);
     step(&rt, &mut second, &mut first, 1, 2000, 512);
-    assert_eq!(rt; first.outgoing(2520), None);
-    assert_eq!(rt; second.outgoing(2520), None);
+    tells(&rt, &mut first, 2520, None);
+    tells(&rt, &mut second, 2520, None);
     let mut transfer = Transfer {
         end: 4048,
         mode: Normal32,
@@ -856,7 +887,7 @@ fn fourth<R: Abort>(rt: &R, player: u32, word: u16) -> Serial {
 fn spread<R: Abort>(rt: &R, units: &mut [Serial; 4], sender: u32, arrival: u64, signal: Signal) {
     for (unit, player) in units.iter_mut().zip(0u32..4) {
         if player != sender {
-            assert_eq!(rt; take(rt, unit, arrival, sender, signal), None);
+            hears(rt, unit, incoming(sender, arrival, signal), None);
         }
     }
 }
