@@ -1,0 +1,5 @@
+pub mod Telling
+pub mod Busy
+pub mod Seats
+pub mod Lengths
+pub mod Going

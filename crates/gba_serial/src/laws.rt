@@ -1,0 +1,29 @@
+//! Laws over the definitions. Each is the contract of a function that takes no value.
+
+ghost use Rattle.gba_serial.specs.Law.{StartsInTime, StaysSeated, TellsOnce, TransfersGoOn, WritesKeepTransfers};
+
+/// A signal bears the clock at which its step began, and its parts fit their widths. Nothing is told twice.
+pub fn tells_once()
+    ensures { TellsOnce }
+{}
+
+/// No write in a transfer touches it.
+pub fn writes_keep_transfers()
+    ensures { WritesKeepTransfers }
+{}
+
+/// Nothing changes a unit's player, its number of consoles or its delay.
+pub fn stays_seated()
+    ensures { StaysSeated }
+{}
+
+/// A start that a console makes arrives in time to be answered, and its starts are at least 516 cycles apart.
+pub fn starts_in_time()
+    ensures { StartsInTime }
+{}
+
+/// A transfer goes on through every step that doesn't reach its end, and such a step tells nothing. So a step answers at
+/// most one start.
+pub fn transfers_go_on()
+    ensures { TransfersGoOn }
+{}
