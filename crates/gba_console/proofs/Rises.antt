@@ -3,37 +3,38 @@ use Rattle.std.proofs.Common.{◌≡◌, ℕ, zero, suc, ◌+◌, ◌<◌, ◌�
 use Rattle.std.specs.Prelude.{nat_lt, if◌then◌else◌}
 use Rattle.gba_terms.specs.Bits.{bit}
 use Rattle.gba_bus.specs.declared.width.Width.TheVariants.{Half, Word}
-use Rattle.gba_psr.specs.RegisterFile.{status, register}
+use Rattle.gba_psr.specs.RegisterFile.{status}
 use Rattle.gba_exec_transfers.specs.Done.{Done, IsStepLength}
 use Rattle.gba_arm_exec.specs.Execution as arm
 use Rattle.gba_thumb_exec.specs.Execution as thumb
-use Rattle.gba_console.specs.Memory.{Memory, read, memory_code_price, memory_load, memory_store}
+use Rattle.gba_console.specs.Memory.{memory_code_price, memory_load, memory_store}
+use Rattle.gba_mem.specs.Memories.{Memories}
 use Rattle.gba_console.specs.Machine.{Machine}
-use Rattle.gba_console.specs.Step.{next, half_done, instruction_done, word_done}
+use Rattle.gba_console.specs.Step.{next, half_done, instruction, instruction_done, word_done}
 use Rattle.gba_console.specs.Run.{run, run_to}
 
 -- how long words, and halfwords, take over these memories
 abbrev pub WordsTakeSteps : Type 0
 WordsTakeSteps =
-    (word : ℕ) (file : List ℕ) (memory : Memory)
+    (word : ℕ) (file : List ℕ) (memory : Memories)
     → IsStepLength (arm.execution memory_code_price memory_load memory_store word file memory).cycles
 
 abbrev pub HalvesTakeSteps : Type 0
 HalvesTakeSteps =
-    (half : ℕ) (file : List ℕ) (memory : Memory)
+    (half : ℕ) (file : List ℕ) (memory : Memories)
     → IsStepLength (thumb.execution memory_code_price memory_load memory_store half file memory).cycles
 
 module _ (words : WordsTakeSteps) (halves : HalvesTakeSteps) where
-  either-length : (test : Bool) (one other : Done Memory) → IsStepLength one.cycles → IsStepLength other.cycles
+  either-length : (test : Bool) (one other : Done Memories) → IsStepLength one.cycles → IsStepLength other.cycles
       → IsStepLength (if test then one else other).cycles
   either-length true one other here there = here
   either-length false one other here there = there
 
-  instruction-length : (file : List ℕ) (memory : Memory) → IsStepLength (instruction_done file memory).cycles
+  instruction-length : (file : List ℕ) (memory : Memories) → IsStepLength (instruction_done file memory).cycles
   instruction-length file memory =
       either-length (bit (status file) 5) (half_done file memory) (word_done file memory)
-      (halves (read true memory (register file 15) Half) file memory)
-      (words (read true memory (register file 15) Word) file memory)
+      (halves (instruction Half file memory) file memory)
+      (words (instruction Word file memory) file memory)
 
   next-rises : (m : Machine) → m.clock < (next m).clock
   unfolding next

@@ -2,7 +2,7 @@
 
 ghost use Rattle.gba_console.specs.Run.{IsEnough, Reaches};
 
-use crate::memory::Memory;
+use crate::memory::PricedMemory;
 use gba_arm_exec::laws::cycles_of_a_word;
 use gba_thumb_exec::laws::cycles_of_a_halfword;
 
@@ -10,14 +10,14 @@ use gba_thumb_exec::laws::cycles_of_a_halfword;
 pub fn reaches()
     ensures { Reaches }
 {
-    cycles_of_a_word::<Memory>();
-    cycles_of_a_halfword::<Memory>();
+    cycles_of_a_word::<PricedMemory>();
+    cycles_of_a_halfword::<PricedMemory>();
 }
 
 /// Any two bounds on the steps of a run that are enough give the same run.
 pub fn enough()
     ensures { IsEnough }
 {
-    cycles_of_a_word::<Memory>();
-    cycles_of_a_halfword::<Memory>();
+    cycles_of_a_word::<PricedMemory>();
+    cycles_of_a_halfword::<PricedMemory>();
 }

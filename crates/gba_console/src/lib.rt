@@ -1,8 +1,7 @@
 #![tactic(auto)]
 //! A console: registers, memories and a clock, and one step of it.
 
-ghost use Rattle.std.specs.Prelude.{◌≡◌, ◌<◌, IfOk, length, replicate, vec_len};
-ghost use Rattle.gba_console.specs.Machine.{inner_length};
+ghost use Rattle.std.specs.Prelude.{◌≡◌, ◌<◌, IfOk, length, vec_len};
 ghost use Rattle.gba_console.specs.Step.{half_done, word_done};
 ghost use Rattle.gba_exec_transfers.specs.Done.{Leaves};
 
@@ -13,25 +12,17 @@ use gba_arm_exec as arm;
 use gba_arm_exec::laws::cycles_of_a_word;
 use gba_arm_exec::{Decoded as DecodedWord, decode_word};
 use gba_bus::{Bus, Width};
+use gba_image::ConsoleImages;
+use gba_mem::Memory;
 use gba_psr::Registers;
 use gba_terms::NoMemory;
 use gba_thumb_exec as thumb;
 use gba_thumb_exec::laws::cycles_of_a_halfword;
 use gba_thumb_exec::{DecodedHalf, decode_half};
 use gba_word::bit;
-use memory::Memory;
-pub use memory::{BIOS_LENGTH, INNER_LENGTH};
+use memory::PricedMemory;
 use std::alloc::{AllocError, Global};
 use std::marker::Model;
-
-/// The length of the inner RAM, whose number the proofs don't see.
-#[tactic(auto, unfolding(crate::specs::Machine::inner_length))]
-fn length_of_inner() -> usize
-    ensures length { result ≡ inner_length }
-    ensures number { result ≡ 32768 }
-{
-    INNER_LENGTH
-}
 
 /// How many decoded words a console keeps, and how many decoded halfwords: 128 KiB of each.
 const DECODED: usize = 4096;
@@ -66,17 +57,11 @@ fn halves_of(alloc: Global, length: usize) -> Result<Vec<DecodedHalf>, AllocErro
     vec![in alloc; first; length]
 }
 
-fn zeros(alloc: Global, length: usize) -> Result<Vec<u8>, AllocError>
-    ensures { IfOk result (λ zeros. zeros.items ≡ replicate length 0) }
-{
-    vec![in alloc; 0; length]
-}
-
-/// A Game Boy Advance, so far of a processor, BIOS, inner RAM and a clock. Contracts see the record `Machine`.
+/// A Game Boy Advance, so far of a processor, memories and a clock. Contracts see the record `Machine`.
 #[derive(Drop)]
 pub struct Console {
     registers: Registers,
-    memory: Memory,
+    memory: PricedMemory,
     clock: u64,
     // Words and halfwords that were decoded at their addresses. An entry counts only where it is the one that is read.
     words: Vec<DecodedWord>,
@@ -108,17 +93,14 @@ impl Console {
     ghost use Rattle.gba_console.specs.Machine.{reset};
     ghost use Rattle.gba_console.specs.Step.{next};
 
-    /// A console at reset, at clock 0. It takes the memory of the inner RAM and of
-    /// the decoded instructions, and no more later.
-    #[tactic(auto, unfolding(crate::specs::Machine::reset))]
-    pub fn new(alloc: Global, bios: Vec<u8>) -> Result<Console, NoMemory>
-        requires { vec_len bios ≡ 16384 }
-        ensures { IfOk result (λ console. console ≡ reset bios.items) }
+    /// A console at reset, at clock 0, from its images, which are dropped on refusal. It takes the memory of its RAM and
+    /// of the decoded instructions, and no more later.
+    pub fn new(alloc: Global, images: ConsoleImages) -> Result<Console, NoMemory>
+        ensures { IfOk result (λ console. console ≡ reset images.bios images.cart images.save) }
     {
-        let inner = zeros(alloc, length_of_inner())?;
         Ok(Console {
             registers: Registers::reset(),
-            memory: Memory::new(bios, inner),
+            memory: PricedMemory::new(alloc, images)?,
             clock: 0,
             words: words_of(alloc, DECODED)?,
             halves: halves_of(alloc, DECODED)?,
@@ -139,12 +121,11 @@ impl Console {
         self.registers.all()
     }
 
-    /// The 32,768 bytes of the inner RAM.
-    pub fn inner_ram(&self) -> &[u8]
-        ensures bytes { result.now ≡ self.now.memory.inner }
-        ensures length { length result.now ≡ 32768 }
+    /// The memories.
+    pub fn memory(&self) -> &Memory
+        ensures { result.now ≡ self.now.memory }
     {
-        self.memory.inner()
+        self.memory.memory()
     }
 
     /// Executes the instruction at r15, a word in ARM state and a halfword in Thumb state. The clock is below 2^40
@@ -156,8 +137,8 @@ impl Console {
         ensures raised { self.old.clock < self.new.clock }
         ensures short { self.new.clock ≤ self.old.clock + 512 }
     {
-        cycles_of_a_word::<Memory>();
-        cycles_of_a_halfword::<Memory>();
+        cycles_of_a_word::<PricedMemory>();
+        cycles_of_a_halfword::<PricedMemory>();
         let cycles = if bit(self.registers.cpsr(), 5) {
             step_half(
                 &mut self.registers,
@@ -177,7 +158,7 @@ impl Console {
 
 // Executes the word at r15.
 #[inline(always)]
-fn step_word(registers: &mut Registers, memory: &mut Memory, words: &mut [DecodedWord]) -> u32
+fn step_word(registers: &mut Registers, memory: &mut PricedMemory, words: &mut [DecodedWord]) -> u32
     requires { length words.old ≡ 4096 }
     ensures { Leaves (word_done registers.old memory.old) registers.new memory.new result }
 {
@@ -194,7 +175,11 @@ fn step_word(registers: &mut Registers, memory: &mut Memory, words: &mut [Decode
 
 // Executes the halfword at r15.
 #[inline(always)]
-fn step_half(registers: &mut Registers, memory: &mut Memory, halves: &mut [DecodedHalf]) -> u32
+fn step_half(
+    registers: &mut Registers,
+    memory: &mut PricedMemory,
+    halves: &mut [DecodedHalf],
+) -> u32
     requires { length halves.old ≡ 4096 }
     ensures { Leaves (half_done registers.old memory.old) registers.new memory.new result }
 {

@@ -16,7 +16,7 @@ use Rattle.gba_joblog.specs.Language.{Leads, EndsIn, line_says, said_with, first
 use Rattle.gba_joblog.specs.Names.{is_name}
 use Rattle.gba_joblog.specs.Operands.{Words, Taken, word_at, number_in, number_at, name_in, name_of, name_at, player_at, version_at, out_kind_at, end_at, or_refused, operand}
 use Rattle.gba_joblog.specs.Soundness.{IsFile, IsPartOfConsole, IsConsole, IsJob}
-use Rattle.gba_joblog.specs.Statements.{Statement, Version, Cycles, Console, Bios, Out, End, keyword_of, refusal_at, arguments, plus_statement, at_start, in_console, before_console, plain_file, plain_output, place_of, asks_for}
+use Rattle.gba_joblog.specs.Statements.{Statement, Version, Cycles, Console, Bios, Cart, Save, Out, End, keyword_of, refusal_at, arguments, plus_statement, at_start, in_console, before_console, plain_file, plain_output, place_of, asks_for}
 use Rattle.gba_joblog.specs.declared.draft.Place.{Place}
 use Rattle.gba_joblog.specs.declared.draft.Place.TheVariants.{Start, Head, Inside, Ended}
 use Rattle.gba_joblog.specs.declared.kinds.ParseRefused.{ParseRefused}
@@ -43,7 +43,7 @@ pub record IsDraft (d : Draft) : Type 0 where
   consoles : AreConsoles d.place d.consoles
 
 silent : IsPartOfConsole silent_console
-silent = record { bios = tt; cart = refl; save = refl; keys = refl; changes = refl; five = refl }
+silent = record { bios = tt; cart = tt; save = tt; keys = refl; changes = refl; five = refl }
 
 pub begins : IsDraft nothing_said
 begins = record { cycles = tt; last = silent; consoles = refl }
@@ -152,6 +152,42 @@ keeps n d keyword.Bios ws s h place e =
         bios = file;
         cart = h.last.cart;
         save = h.last.save;
+        keys = h.last.keys;
+        changes =
+            h.last.changes;
+        five = h.last.five;
+      };
+      consoles = h.consoles;
+    })
+keeps n d keyword.Cart ws s h place e =
+    let b = bind-ok (name_at ws) (λ name. end_at name.words >>= (λ _. Ok (Cart name.value))) s e in
+    let c = bind-ok (end_at b.0.words) (λ _. Ok (Cart b.0.value)) s b.2 in
+    let same : s ≡ Cart b.0.value = sym (ok-is (Cart b.0.value) s c.2) in
+    let file : IsFile (plain_file b.0.value n) = record { named = name_at-is ws b.0 b.1; plain = refl } in
+    rw same (record {
+      cycles = h.cycles;
+      last = record {
+        bios = h.last.bios;
+        cart = file;
+        save = h.last.save;
+        keys = h.last.keys;
+        changes =
+            h.last.changes;
+        five = h.last.five;
+      };
+      consoles = h.consoles;
+    })
+keeps n d keyword.Save ws s h place e =
+    let b = bind-ok (name_at ws) (λ name. end_at name.words >>= (λ _. Ok (Save name.value))) s e in
+    let c = bind-ok (end_at b.0.words) (λ _. Ok (Save b.0.value)) s b.2 in
+    let same : s ≡ Save b.0.value = sym (ok-is (Save b.0.value) s c.2) in
+    let file : IsFile (plain_file b.0.value n) = record { named = name_at-is ws b.0 b.1; plain = refl } in
+    rw same (record {
+      cycles = h.cycles;
+      last = record {
+        bios = h.last.bios;
+        cart = h.last.cart;
+        save = file;
         keys = h.last.keys;
         changes =
             h.last.changes;

@@ -12,8 +12,8 @@ pub record IsFile (file : NamedFile) : Type 0 where
 -- what the lines of a console, all of them or some, say
 pub record IsPartOfConsole (console : ConsoleJob) : Type 0 where
   pub bios : IfSome console.bios IsFile
-  pub cart : console.cart ≡ None
-  pub save : console.save ≡ None
+  pub cart : IfSome console.cart IsFile
+  pub save : IfSome console.save IsFile
   pub keys : console.keys ≡ None
   pub changes : console.changes ≡ []
   pub five : length console.outs ≡ 5

@@ -21,6 +21,8 @@ pub data Statement : Type 0 where
   Cycles : ℕ → Statement
   Console : Statement
   Bios : List ℕ → Statement
+  Cart : List ℕ → Statement
+  Save : List ℕ → Statement
   Out : OutKind → Statement
   End : Statement
 
@@ -31,6 +33,8 @@ keyword_of word =
     else if bytes_eq word (codes "cycles") then Some keyword.Cycles
     else if bytes_eq word (codes "console") then Some keyword.Console
     else if bytes_eq word (codes "bios") then Some keyword.Bios
+    else if bytes_eq word (codes "cart") then Some keyword.Cart
+    else if bytes_eq word (codes "save") then Some keyword.Save
     else if bytes_eq word (codes "out") then Some keyword.Out
     else if bytes_eq word (codes "end") then Some keyword.End
     else None
@@ -75,6 +79,8 @@ refusal_at d keyword.Version = at_start d.place
 refusal_at d keyword.Cycles = in_head d.place (is_some d.cycles)
 refusal_at d keyword.Console = before_console d.place (is_some d.cycles)
 refusal_at d keyword.Bios = in_console d.place (once (is_some d.last.bios))
+refusal_at d keyword.Cart = in_console d.place (once (is_some d.last.cart))
+refusal_at d keyword.Save = in_console d.place (once (is_some d.last.save))
 refusal_at d keyword.Out = in_console d.place None
 refusal_at d keyword.End = in_console d.place None
 
@@ -113,6 +119,14 @@ arguments d keyword.Bios words = do
   name ← name_at words
   _ ← end_at name.words
   Ok (Bios name.value)
+arguments d keyword.Cart words = do
+  name ← name_at words
+  _ ← end_at name.words
+  Ok (Cart name.value)
+arguments d keyword.Save words = do
+  name ← name_at words
+  _ ← end_at name.words
+  Ok (Save name.value)
 arguments d keyword.Out words = do
   out ← out_kind_at words
   _ ← holds (not (asks_for d.last out.value)) kind.Repeated
@@ -136,6 +150,8 @@ plus_statement line Version d = record d { place = Head }
 plus_statement line (Cycles cycles) d = record d { cycles = Some cycles }
 plus_statement line Console d = record d { place = Inside }
 plus_statement line (Bios name) d = record d { last = record d.last { bios = Some (plain_file name line) } }
+plus_statement line (Cart name) d = record d { last = record d.last { cart = Some (plain_file name line) } }
+plus_statement line (Save name) d = record d { last = record d.last { save = Some (plain_file name line) } }
 plus_statement line (Out out) d =
     record d { last = record d.last { outs = slice_set d.last.outs (place_of out) (Some plain_output) } }
 plus_statement line End d = record d { place = Ended; consoles = d.consoles ++ d.last ∷ []; last = silent_console }

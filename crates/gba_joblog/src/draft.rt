@@ -103,6 +103,16 @@ impl DraftJob {
                 self.last.bios = Some(file);
                 Ok(())
             }
+            Line::Cart(name) => {
+                let file = plain_file(alloc, name, number)?;
+                self.last.cart = Some(file);
+                Ok(())
+            }
+            Line::Save(name) => {
+                let file = plain_file(alloc, name, number)?;
+                self.last.save = Some(file);
+                Ok(())
+            }
             Line::Out(out) => {
                 self.last.outs[out.place()] = Some(OutLine { digest: None });
                 Ok(())

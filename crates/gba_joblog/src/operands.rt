@@ -91,10 +91,13 @@ pub(crate) fn out_kind_at(cursor: &mut Cursor<'_>) -> Result<OutKind, JobKind>
     ensures lines { cursor.new.lines ≡ cursor.old.lines }
 {
     let word = word_at(cursor)?;
-    if word != b"state".as_slice() {
-        return Err(JobKind::Word);
+    if word == b"state".as_slice() {
+        return Ok(OutKind::State);
     }
-    Ok(OutKind::State)
+    if word == b"save".as_slice() {
+        return Ok(OutKind::Save);
+    }
+    Err(JobKind::Word)
 }
 
 fn are_digits(word: &[u8]) -> bool

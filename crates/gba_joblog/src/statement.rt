@@ -22,6 +22,8 @@ pub(crate) enum Keyword {
     Cycles,
     Console,
     Bios,
+    Cart,
+    Save,
     Out,
     End,
 }
@@ -33,6 +35,8 @@ pub(crate) enum Line<'a> {
     Cycles(u64),
     Console,
     Bios(&'a str),
+    Cart(&'a str),
+    Save(&'a str),
     Out(OutKind),
     End,
 }
@@ -50,6 +54,10 @@ pub(crate) fn keyword_of(word: &[u8]) -> Option<Keyword>
         Some(Keyword::Console)
     } else if word == b"bios".as_slice() {
         Some(Keyword::Bios)
+    } else if word == b"cart".as_slice() {
+        Some(Keyword::Cart)
+    } else if word == b"save".as_slice() {
+        Some(Keyword::Save)
     } else if word == b"out".as_slice() {
         Some(Keyword::Out)
     } else if word == b"end".as_slice() {
@@ -72,7 +80,12 @@ pub(crate) fn refusal_at(draft: &DraftJob, keyword: Keyword) -> Option<JobKind>
         (Keyword::Console, Place::Inside | Place::Ended) => Some(JobKind::Word),
         (Keyword::Console, Place::Head) if draft.cycles.is_some() => None,
         (Keyword::Bios, Place::Inside) if draft.last.bios.is_some() => Some(JobKind::Repeated),
-        (Keyword::Bios | Keyword::Out | Keyword::End, Place::Inside) => None,
+        (Keyword::Cart, Place::Inside) if draft.last.cart.is_some() => Some(JobKind::Repeated),
+        (Keyword::Save, Place::Inside) if draft.last.save.is_some() => Some(JobKind::Repeated),
+        (
+            Keyword::Bios | Keyword::Cart | Keyword::Save | Keyword::Out | Keyword::End,
+            Place::Inside,
+        ) => None,
         _ => Some(JobKind::Order),
     }
 }
@@ -111,6 +124,16 @@ pub(crate) fn arguments<'a>(
             let name = name_at(cursor)?;
             end_at(cursor)?;
             Ok(Line::Bios(name))
+        }
+        Keyword::Cart => {
+            let name = name_at(cursor)?;
+            end_at(cursor)?;
+            Ok(Line::Cart(name))
+        }
+        Keyword::Save => {
+            let name = name_at(cursor)?;
+            end_at(cursor)?;
+            Ok(Line::Save(name))
         }
         Keyword::Out => {
             let out = out_kind_at(cursor)?;

@@ -106,6 +106,33 @@ fn jobs_are_read(rt: HostRuntime) {
     }
 }
 
+// The name and the line of a file.
+fn is_file(file: &Option<FileLine>, name: &str, line: u64) -> bool {
+    match file {
+        Some(file) => file.name.as_str() == name && file.line == line && file.digest.is_none(),
+        None => false,
+    }
+}
+
+#[test]
+fn cartridges_and_saves_are_read(rt: HostRuntime) {
+    let text =
+        b"gbalink 1\ncycles 1\nconsole 0\nout save\nsave s\ncart c.gba\nbios b\nout state\nend\n";
+    let plain = Some(OutLine { digest: None });
+    match Job::parse(rt.alloc(), text) {
+        Ok(job) => {
+            let [console] = job.consoles.as_slice() else {
+                return assert!(rt; false);
+            };
+            assert!(rt; is_file(&console.bios, "b", 7));
+            assert!(rt; is_file(&console.cart, "c.gba", 6));
+            assert!(rt; is_file(&console.save, "s", 5));
+            assert_eq!(rt; console.outs, [None, None, None, plain, plain]);
+        }
+        Err(_) => assert!(rt; false),
+    }
+}
+
 static REFUSED_LINES: [(&[u8], u64, JobKind); 30] = [
     (b"", 1, JobKind::Missing),
     (b"\n", 2, JobKind::Missing),
@@ -194,12 +221,13 @@ fn the_first_refused_line_is_named(rt: HostRuntime) {
     }
 }
 
-static TESTS_IN_ORDER: [(&[u8], u64, JobKind); 42] = [
+static TESTS_IN_ORDER: [(&[u8], u64, JobKind); 51] = [
     (b" #\n", 1, JobKind::Word),
     (b"GBALINK 1\n", 1, JobKind::Word),
     (b"gbalink 01", 1, JobKind::Word),
     (b"gbalink 2 3", 1, JobKind::Word),
-    (b"cart c", 1, JobKind::Word),
+    (b"cart c", 1, JobKind::Order),
+    (b"carts c", 1, JobKind::Word),
     (b"gbalink 1\ndelay 5", 2, JobKind::Word),
     (b"gbalink 1\ncycles 1\nconsole 0\nkeys k", 4, JobKind::Word),
     (
@@ -207,7 +235,35 @@ static TESTS_IN_ORDER: [(&[u8], u64, JobKind); 42] = [
         4,
         JobKind::Word,
     ),
-    (b"gbalink 1\ncycles 1\nconsole 0\nsave s", 4, JobKind::Word),
+    (b"gbalink 1\ncycles 1\ncart c", 3, JobKind::Order),
+    (b"gbalink 1\nsave s", 2, JobKind::Order),
+    (b"gbalink 1\ncycles 1\nconsole 0\ncart", 4, JobKind::Missing),
+    (
+        b"gbalink 1\ncycles 1\nconsole 0\nsave s t",
+        4,
+        JobKind::Extra,
+    ),
+    (b"gbalink 1\ncycles 1\nconsole 0\ncart -", 4, JobKind::Name),
+    (
+        b"gbalink 1\ncycles 1\nconsole 0\ncart c\nsave s\ncart -",
+        6,
+        JobKind::Repeated,
+    ),
+    (
+        b"gbalink 1\ncycles 1\nconsole 0\nsave s\nbios b\nsave s",
+        6,
+        JobKind::Repeated,
+    ),
+    (
+        b"gbalink 1\ncycles 1\nconsole 0\nout save\nout state\nout save x",
+        6,
+        JobKind::Repeated,
+    ),
+    (
+        b"gbalink 1\ncycles 1\nconsole 0\ncart c\nsave s\nend",
+        6,
+        JobKind::Missing,
+    ),
     (
         b"gbalink 1\ncycles 1\nconsole 0\nconsole 1",
         4,
