@@ -1,5 +1,8 @@
 -- The names of the kinds of refusal.
 use Rattle.std.proofs.Common.{◌≤◌, length, lit≤}
+use Rattle.gba_image.specs.Names.{error_name}
+use Rattle.gba_image.specs.declared.error.ImageError.{ImageError}
+use Rattle.gba_image.specs.declared.error.ImageError.TheVariants.{BiosLength, TooShort, TooLong, FixedByte, HeaderCheck, SaveLength}
 use Rattle.gba_joblog.specs.Kinds.{kind_name}
 use Rattle.gba_joblog.specs.declared.kinds.JobKind.{JobKind}
 use Rattle.gba_joblog.specs.declared.kinds.JobKind.TheVariants.{Byte, Word, Number, Name, Digest, Order, Repeated, Missing, Extra, Long, Clash}
@@ -16,3 +19,11 @@ kind_name_short Missing = lit≤ tt
 kind_name_short Extra = lit≤ tt
 kind_name_short Long = lit≤ tt
 kind_name_short Clash = lit≤ tt
+
+pub error_name_short : (error : ImageError) → length (error_name error) ≤ 11
+error_name_short BiosLength = lit≤ tt
+error_name_short TooShort = lit≤ tt
+error_name_short TooLong = lit≤ tt
+error_name_short FixedByte = lit≤ tt
+error_name_short HeaderCheck = lit≤ tt
+error_name_short SaveLength = lit≤ tt

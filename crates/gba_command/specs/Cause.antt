@@ -1,4 +1,6 @@
 use Rattle.std.specs.Prelude.{ℕ, List, ◌++◌, codes, decimal}
+use Rattle.gba_image.specs.Names.{error_name}
+use Rattle.gba_image.specs.declared.error.ImageError.{ImageError}
 use Rattle.gba_joblog.specs.Kinds.{kind_name}
 use Rattle.gba_joblog.specs.declared.kinds.JobError.{JobError}
 
@@ -8,18 +10,18 @@ pub data Cause : Type 0 where
   Words : Cause
   -- the job of this name isn't of the language, or clashes with an output: the first refused line, and its kind
   Job : List ℕ → JobError → Cause
-  -- the BIOS image of this name hasn't its length
-  BiosLength : List ℕ → Cause
+  -- the image of this name is refused, and why
+  Image : List ℕ → ImageError → Cause
 
 abbrev pub status_of : Cause → ℕ
 status_of Words = 2
 status_of (Job name error) = 5
-status_of (BiosLength name) = 6
+status_of (Image name error) = 6
 
 -- the line that is reported on standard output
 abbrev pub report_of : Cause → List ℕ
 report_of Words = codes "words\n"
-report_of (BiosLength name) = codes "image " ++ name ++ codes " BiosLength\n"
+report_of (Image name error) = codes "image " ++ name ++ codes " " ++ error_name error ++ codes "\n"
 report_of (Job name error) =
     codes "job " ++ name ++ codes " line " ++ decimal error.line ++ codes " " ++ kind_name error.kind ++ codes "\n"
 

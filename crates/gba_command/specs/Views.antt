@@ -7,7 +7,7 @@ use Rattle.gba_command.specs.declared.writing.WriteStop.{WriteStop}
 use Rattle.gba_command.specs.declared.writing.WriteStop.TheVariants as writing
 use Rattle.gba_command.specs.declared.outputs.OutputFile.{OutputFile}
 use Rattle.gba_command.specs.declared.outputs.Outputs.{Outputs}
-use Rattle.gba_command.specs.Cause.{Cause, Words, Job, BiosLength, Stop, Refused, Absent, StoreFails, LacksMemory}
+use Rattle.gba_command.specs.Cause.{Cause, Words, Job, Image, Stop, Refused, Absent, StoreFails, LacksMemory}
 use Rattle.gba_command.specs.Writing.{Output, Run, WriteEnd, Wrote, SinkFails, SinkLacks}
 
 -- what the program's types stand for
@@ -15,7 +15,7 @@ use Rattle.gba_command.specs.Writing.{Output, Run, WriteEnd, Wrote, SinkFails, S
 abbrev pub cause_value : CauseText → Cause
 cause_value cause.Words = Words
 cause_value (cause.Job name error) = Job name.items error
-cause_value (cause.BiosLength name) = BiosLength name.items
+cause_value (cause.Image name error) = Image name.items error
 
 abbrev pub stop_value : Refusal → Stop
 stop_value (refusal.Refused of) = Refused (cause_value of)

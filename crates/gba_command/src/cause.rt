@@ -1,10 +1,12 @@
 //! Why a command is refused, as its words and the files say.
 
 ghost use Rattle.std.specs.Prelude.{◌≡◌, ◌≤◌, ◌++◌, codes, decimal, length};
+ghost use Rattle.gba_image.specs.Names.{error_name};
 ghost use Rattle.gba_joblog.specs.Kinds.{kind_name};
 
 use crate::line::{Line, add_text, line_of};
 use crate::refusal::{Name, line_about};
+use gba_image::ImageError;
 use gba_joblog::{JobError, JobKind};
 use itoa::Buffer;
 
@@ -15,8 +17,8 @@ pub enum Cause {
     Words,
     /// The job of this name isn't of the language, or an output file would be the job or one of its inputs: 5.
     Job(Name, JobError),
-    /// The BIOS image of this name hasn't 16,384 bytes: 6.
-    BiosLength(Name),
+    /// The image of this name is refused for this: 6.
+    Image(Name, ImageError),
 }
 
 #[tactic(auto, using(crate::proofs::KindNames::kind_name_short))]
@@ -25,6 +27,23 @@ fn kind_text(kind: JobKind) -> &'static [u8]
     ensures short { length result.now ≤ 8 }
 {
     kind.name().as_bytes()
+}
+
+#[tactic(auto, using(crate::proofs::KindNames::error_name_short))]
+fn error_text(error: ImageError) -> &'static [u8]
+    ensures text { result.now ≡ error_name error }
+    ensures short { length result.now ≤ 11 }
+{
+    error.name().as_bytes()
+}
+
+fn image_line(name: &Name, error: ImageError) -> Line
+    ensures { result.items ≡ codes "image " ++ name.now.items ++ codes " " ++ error_name error ++ codes "\n" }
+{
+    let mut line = line_about(b"image ", name, b" ");
+    add_text(&mut line, error_text(error));
+    add_text(&mut line, b"\n");
+    line
 }
 
 fn job_line(name: &Name, error: &JobError) -> Line
@@ -53,7 +72,7 @@ impl Cause {
         match self {
             Cause::Words => 2,
             Cause::Job(..) => 5,
-            Cause::BiosLength(_) => 6,
+            Cause::Image(..) => 6,
         }
     }
 
@@ -64,7 +83,7 @@ impl Cause {
         match self {
             Cause::Words => line_of(b"words\n"),
             Cause::Job(name, error) => job_line(name, error),
-            Cause::BiosLength(name) => line_about(b"image ", name, b" BiosLength\n"),
+            Cause::Image(name, error) => image_line(name, *error),
         }
     }
 }

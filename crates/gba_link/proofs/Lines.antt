@@ -23,16 +23,22 @@ joined old new piece left rest all grew split whole =
     ap (λ t. t ++ rest) grew ∙ append_assoc old piece rest ∙ ap (λ t. old ++ t) (sym split) ∙ whole
 
 -- the lines of memory that are left are the next one and those after it
-pub memory_lines-more : (left count offset : ℕ) (bytes : List ℕ) → left ≡ suc count
-    → memory_lines left offset bytes ≡ memory_line offset (take 32 (drop offset bytes)) ++ memory_lines count (offset + 32) bytes
+pub memory_lines-more : (name : List ℕ) (left count offset : ℕ) (bytes : List ℕ) → left ≡ suc count
+    → memory_lines name left offset bytes ≡ memory_line name offset (take 32 (drop offset bytes)) ++ memory_lines name count (offset + 32) bytes
 unfolding memory_lines
-memory_lines-more left count offset bytes is = ap (λ n. memory_lines n offset bytes) is
+memory_lines-more name left count offset bytes is = ap (λ n. memory_lines name n offset bytes) is
 
-pub memory_lines-none : (left offset : ℕ) (bytes : List ℕ) → left ≡ 0 → memory_lines left offset bytes ≡ []
+pub memory_lines-none : (name : List ℕ) (left offset : ℕ) (bytes : List ℕ) → left ≡ 0 → memory_lines name left offset bytes ≡ []
 unfolding memory_lines
-memory_lines-none left offset bytes is = ap (λ n. memory_lines n offset bytes) is
+memory_lines-none name left offset bytes is = ap (λ n. memory_lines name n offset bytes) is
 
--- a text that grew by three pieces
-pub grown_by_three : (old one two new a b c : List ℕ) → one ≡ old ++ a → two ≡ one ++ b → new ≡ two ++ c → new ≡ old ++ (a ++ b ++ c)
-grown_by_three old one two new a b c p q r =
-    r ∙ ap (λ t. t ++ c) (q ∙ ap (λ t. t ++ b) p ∙ append_assoc old a b) ∙ append_assoc old (a ++ b) c
+-- a text that grew by a piece and by another
+grown : (old one new a b : List ℕ) → one ≡ old ++ a → new ≡ one ++ b → new ≡ old ++ (a ++ b)
+grown old one new a b p q = q ∙ ap (λ t. t ++ b) p ∙ append_assoc old a b
+
+-- a text that grew by five pieces
+pub grown_by_five : (old one two three four new a b c d e : List ℕ) → one ≡ old ++ a → two ≡ one ++ b → three ≡ two ++ c
+    → four ≡ three ++ d → new ≡ four ++ e → new ≡ old ++ (a ++ b ++ c ++ d ++ e)
+grown_by_five old one two three four new a b c d e p q r s t =
+    grown old four new (a ++ b ++ c ++ d) e (grown old three four (a ++ b ++ c) d
+    (grown old two three (a ++ b) c (grown old one two a b p q) r) s) t

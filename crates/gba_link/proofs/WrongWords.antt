@@ -1,38 +1,82 @@
 -- Words are refused just where they say no command.
-use Rattle.std.proofs.Common.{◌≡◌, ◌⊎◌, ℕ, true, false, Bool, List, length, Option, Some, None, Result, Ok, Err, refl, ap, subst, inl, inr}
-use Rattle.std.specs.Prelude.{nat_eq}
+use Rattle.std.proofs.Common.{◌≡◌, ◌⊎◌, ℕ, List, Option, Some, None, Result, Ok, Err, refl, ap, subst, inl, inr}
 use Rattle.gba_store.specs.Files.{Files}
 use Rattle.gba_store.specs.declared.outside.ReadError.{ReadError}
 use Rattle.gba_command.specs.Cause.{Cause, Words, Stop, Refused, LacksMemory}
-use Rattle.gba_command.specs.Plan.{bind, judgement}
+use Rattle.gba_command.specs.Plan.{Plan, Done, Refuse, Read, bind, judgement}
 use Rattle.gba_command.specs.Reading.{Gives, GoesTo}
 use Rattle.gba_command.specs.Writing.{Run}
 use Rattle.gba_command.proofs.Plans.{Names, refused-named, refuses-alone}
 use Rattle.gba_joblog.specs.Clash.{clash_of}
-use Rattle.gba_joblog.specs.Job.{WholeJob}
+use Rattle.gba_joblog.specs.Job.{NamedFile, WholeJob}
 use Rattle.gba_joblog.specs.Language.{job_of}
 use Rattle.gba_joblog.specs.declared.kinds.JobError.{JobError}
-use Rattle.gba_link.specs.CommandPlan.{job_or_refusal, after_image, command_plan, image_plan, unless_clash, without_clash}
+use Rattle.gba_image.specs.Checks.{bios_fault, cartridge_fault, save_fault}
+use Rattle.gba_image.specs.declared.error.ImageError.{ImageError}
+use Rattle.gba_image.specs.declared.error.ImageError.TheVariants.{BiosLength, TooLong, SaveLength}
+use Rattle.gba_link.specs.CommandPlan.{after_bios, after_cart, after_images, after_save, any_cart_plan, any_save_plan, bios_plan, checked, command_plan, console_of, image_plan, images, job_or_refusal, name_in, present, run_plan, unless_clash, whole, without_clash}
 use Rattle.gba_link.specs.Words.{Command}
 
-run-named : (command : Command) (job : WholeJob) (bios : List ℕ) (whole : Bool) → nat_eq (length bios) 16384 ≡ whole → Names Words (after_image command job bios)
-    → ⊥
-unfolding Names
-run-named command job bios true is h = let apart = rw is at h in apart
-run-named command job bios false is h = let apart = rw is at h in cc
+abbrev refused_as : (X : Type 0) → Cause → Result X Cause
+refused_as X cause = Err cause
 
-image-named : (command : Command) (job : WholeJob) → Names Words (image_plan command job) → ⊥
+-- a judgement isn't that the words are wrong, and nor is what follows
+judgement-apart : {X Y : Type 0} (result : Result X Cause) (following : X → Plan Y) → (result ≡ Err Words → ⊥)
+    → ((x : X) → Names Words (following x) → ⊥) → Names Words (bind (judgement result) following) → ⊥
 unfolding Names
-image-named command job (inl h) = cc
-image-named command job (inr h) = run-named command job h.0 (nat_eq (length h.0) 16384) refl h.1
+judgement-apart (Ok x) following apart rest h = rest x h
+judgement-apart {X} (Err cause) following apart rest h = apart (ap (λ (c : Cause). refused_as X c) h)
 
-abbrev refused_job : Cause → Result WholeJob Cause
-refused_job cause = Err cause
+checked-apart : {X : Type 0} (kept : List ℕ → X) (name : List ℕ) (fault : Option ImageError) (bytes : List ℕ)
+    → checked kept name fault bytes ≡ Err Words → ⊥
+checked-apart kept name None bytes h = cc
+checked-apart kept name (Some error) bytes h = cc
 
-judged-named : (command : Command) (judged : Result WholeJob Cause) → (judged ≡ Err Words → ⊥) → Names Words (bind (judgement judged) (image_plan command)) → ⊥
+image-apart : {X Y : Type 0} (kept : List ℕ → X) (name : List ℕ) (most : ℕ) (long : ImageError) (fault : List ℕ → Option ImageError)
+    (following : X → Plan Y) → ((x : X) → Names Words (following x) → ⊥)
+    → Names Words (bind (image_plan kept name most long fault) following) → ⊥
 unfolding Names
-judged-named command (Ok job) apart h = image-named command job h
-judged-named command (Err cause) apart h = apart (ap refused_job h)
+image-apart kept name most long fault following rest (inl h) = cc
+image-apart kept name most long fault following rest (inr h) =
+    judgement-apart (checked kept name (fault h.0) h.0) following (checked-apart kept name (fault h.0) h.0) rest h.1
+
+any-cart-apart : {Y : Type 0} (file : Option NamedFile) (following : Option (List ℕ) → Plan Y)
+    → ((x : Option (List ℕ)) → Names Words (following x) → ⊥) → Names Words (bind (any_cart_plan file) following) → ⊥
+any-cart-apart None following rest h = rest None h
+any-cart-apart (Some file) following rest h = image-apart present file.name 33554432 TooLong cartridge_fault following rest h
+
+any-save-apart : {Y : Type 0} (file : Option NamedFile) (following : Option (List ℕ) → Plan Y)
+    → ((x : Option (List ℕ)) → Names Words (following x) → ⊥) → Names Words (bind (any_save_plan file) following) → ⊥
+any-save-apart None following rest h = rest None h
+any-save-apart (Some file) following rest h = image-apart present file.name 32768 SaveLength save_fault following rest h
+
+-- plans one after another, however they are put together
+names-together : {X Y Z : Type 0} (plan : Plan X) (next : X → Plan Y) (last : Y → Plan Z)
+    → Names Words (bind (bind plan next) last) → Names Words (bind plan (λ x. bind (next x) last))
+unfolding Names
+names-together (Done x) next last h = h
+names-together (Refuse cause) next last h = h
+names-together (Read name most long more) next last (inl h) = inl h
+names-together (Read name most long more) next last (inr h) = inr (h.0, names-together (more h.0) next last h.1)
+
+run-named : (command : Command) (job : WholeJob) → Names Words (run_plan command job) → ⊥
+unfolding Names
+run-named command job h =
+    let console = console_of job in
+    let last = after_images command job in
+    let at-end : (bios : List ℕ) (cart save : Option (List ℕ)) → Names Words (last (images bios cart save)) → ⊥ = λ bios cart save k. k in
+    let at-save : (bios : List ℕ) (cart : Option (List ℕ)) → Names Words (bind (after_cart console bios cart) last) → ⊥ = λ bios cart k.
+    any-save-apart console.save (λ save. last (images bios cart save)) (at-end bios cart)
+    (names-together (any_save_plan console.save) (after_save bios cart) last k) in
+    let at-cart : (bios : List ℕ) → Names Words (bind (after_bios console bios) last) → ⊥ = λ bios k.
+    any-cart-apart console.cart (λ cart. bind (after_cart console bios cart) last) (at-save bios)
+    (names-together (any_cart_plan console.cart) (after_cart console bios) last k) in
+    image-apart whole (name_in console.bios) 16384 BiosLength bios_fault (λ bios. bind (after_bios console bios) last) at-cart
+    (names-together (bios_plan (name_in console.bios)) (after_bios console) last h)
+
+judged-named : (command : Command) (result : Result WholeJob Cause) → (result ≡ Err Words → ⊥)
+    → Names Words (bind (judgement result) (run_plan command)) → ⊥
+judged-named command result apart h = judgement-apart result (run_plan command) apart (run-named command) h
 
 unclashing : (command : Command) (job : WholeJob) (clash : Option ℕ) → unless_clash command job clash ≡ Err Words → ⊥
 unclashing command job None h = cc

@@ -1,15 +1,19 @@
-use Rattle.std.specs.Prelude.{ℕ, ◌==◌, List, [], ◌∷◌, length, Option, Some, None, Result, Ok, Err, if◌then◌else◌}
-use Rattle.gba_command.specs.Cause.{Cause, Words, Job, BiosLength}
-use Rattle.gba_command.specs.Plan.{Plan, Refuse, bind, file, judgement}
-use Rattle.gba_command.specs.Writing.{Run}
+use Rattle.std.specs.Prelude.{ℕ, Bool, List, [], ◌∷◌, ◌++◌, Option, Some, None, Result, Ok, Err, if◌then◌else◌}
+use Rattle.gba_command.specs.Cause.{Cause, Words, Job, Image}
+use Rattle.gba_command.specs.Plan.{Plan, Done, Refuse, bind, file, judgement}
+use Rattle.gba_command.specs.Writing.{Output, Run}
 use Rattle.gba_console.specs.Machine.{Machine, reset}
 use Rattle.gba_console.specs.Run.{run_to}
+use Rattle.gba_image.specs.Checks.{bios_fault, cartridge_fault, save_fault}
+use Rattle.gba_image.specs.declared.error.ImageError.{ImageError}
+use Rattle.gba_image.specs.declared.error.ImageError.TheVariants.{BiosLength, TooLong, SaveLength}
+use Rattle.gba_image.specs.declared.images.ConsoleImages.{ConsoleImages}
 use Rattle.gba_joblog.specs.Clash.{clash_of, output_file}
 use Rattle.gba_joblog.specs.Draft.{silent_console}
 use Rattle.gba_joblog.specs.Job.{ConsoleJob, NamedFile, WholeJob}
 use Rattle.gba_joblog.specs.Language.{job_of, longest_job, error_at}
 use Rattle.gba_joblog.specs.Statements.{asks_for}
-use Rattle.gba_joblog.specs.declared.job.OutKind.TheVariants.{State}
+use Rattle.gba_joblog.specs.declared.job.OutKind.TheVariants.{State, Save}
 use Rattle.gba_joblog.specs.declared.kinds.JobError.{JobError}
 use Rattle.gba_joblog.specs.declared.kinds.JobKind.TheVariants.{Long, Clash}
 use Rattle.gba_link.specs.Words.{Command, command_of}
@@ -40,51 +44,103 @@ first_console (console ∷ consoles) = console
 abbrev pub console_of : WholeJob → ConsoleJob
 console_of job = first_console job.consoles
 
+-- An image: a file of at most so many bytes, a longer one refused for its length, and then what its check says. What
+-- comes of it is made of its bytes by `kept`.
+abbrev pub checked : {X : Type 0} → (List ℕ → X) → List ℕ → Option ImageError → List ℕ → Result X Cause
+checked kept name None bytes = Ok (kept bytes)
+checked kept name (Some error) bytes = Err (Image name error)
+
+abbrev pub judged : {X : Type 0} → (List ℕ → X) → List ℕ → (List ℕ → Option ImageError) → List ℕ → Plan X
+judged kept name fault bytes = judgement (checked kept name (fault bytes) bytes)
+
+abbrev pub image_plan : {X : Type 0} → (List ℕ → X) → List ℕ → ℕ → ImageError → (List ℕ → Option ImageError) → Plan X
+image_plan kept name most long fault = bind (file name most (Image name long)) (judged kept name fault)
+
+-- the three images; a cartridge and a save are there or not
+abbrev pub whole : List ℕ → List ℕ
+whole bytes = bytes
+
+abbrev pub present : List ℕ → Option (List ℕ)
+present bytes = Some bytes
+
+abbrev pub bios_plan : List ℕ → Plan (List ℕ)
+bios_plan name = image_plan whole name 16384 BiosLength bios_fault
+
+abbrev pub cart_plan : List ℕ → Plan (Option (List ℕ))
+cart_plan name = image_plan present name 33554432 TooLong cartridge_fault
+
+abbrev pub save_plan : List ℕ → Plan (Option (List ℕ))
+save_plan name = image_plan present name 32768 SaveLength save_fault
+
+abbrev pub any_cart_plan : Option NamedFile → Plan (Option (List ℕ))
+any_cart_plan None = Done None
+any_cart_plan (Some file) = cart_plan file.name
+
+abbrev pub any_save_plan : Option NamedFile → Plan (Option (List ℕ))
+any_save_plan None = Done None
+any_save_plan (Some file) = save_plan file.name
+
 -- the name of a console's BIOS image, which every console of a job has
 abbrev pub name_in : Option NamedFile → List ℕ
 name_in None = []
 name_in (Some file) = file.name
 
-abbrev pub image_name : WholeJob → List ℕ
-image_name job = name_in (console_of job).bios
+-- a console's images: the BIOS, the cartridge, the save, each read and checked before the next
+abbrev pub images : List ℕ → Option (List ℕ) → Option (List ℕ) → ConsoleImages
+images bios cart save = record { bios = bios; cart = cart; save = save }
 
--- the name of the state file under OUT
+abbrev pub after_save : List ℕ → Option (List ℕ) → Option (List ℕ) → Plan ConsoleImages
+after_save bios cart save = Done (images bios cart save)
+
+abbrev pub after_cart : ConsoleJob → List ℕ → Option (List ℕ) → Plan ConsoleImages
+after_cart console bios cart = bind (any_save_plan console.save) (after_save bios cart)
+
+abbrev pub after_bios : ConsoleJob → List ℕ → Plan ConsoleImages
+after_bios console bios = bind (any_cart_plan console.cart) (after_cart console bios)
+
+abbrev pub images_plan : ConsoleJob → Plan ConsoleImages
+images_plan console = bind (bios_plan (name_in console.bios)) (after_bios console)
+
+-- the names of the state file and of the save under OUT
 abbrev pub state_name : List ℕ → List ℕ
 state_name out = output_file out 0 State
 
--- what a run writes: its state file where the job asks for it, and its summary
+abbrev pub save_name : List ℕ → List ℕ
+save_name out = output_file out 0 Save
+
+-- what a run writes: its state file and its save where the job asks for them, and its summary
+abbrev pub output_if : Bool → List ℕ → List ℕ → List Output
+output_if asked name bytes = if asked then record { name = name; bytes = bytes } ∷ [] else []
+
 abbrev pub written : Command → WholeJob → Machine → Run
 written command job m = record {
   outputs =
-      if asks_for (console_of job) State
-      then record { name = state_name command.out; bytes = state_file m } ∷ []
-      else [];
+      output_if (asks_for (console_of job) State) (state_name command.out) (state_file m)
+      ++ output_if (asks_for (console_of job) Save) (save_name command.out) m.memory.sram;
   summary = summary m;
 }
 
--- the run of a job with this image: a console from its reset to the first step boundary at or past the job's cycles
-abbrev pub result_of_run : Command → WholeJob → List ℕ → Result Run Cause
-result_of_run command job bios =
-    if length bios == 16384
-    then Ok (written command job (run_to job.cycles (reset bios)))
-    else Err (BiosLength (image_name job))
+-- the run of a job with these images: a console from its reset to the first step boundary at or past the job's cycles
+abbrev pub result_of_run : Command → WholeJob → ConsoleImages → Run
+result_of_run command job images =
+    written command job (run_to job.cycles (reset images.bios images.cart images.save))
 
--- what follows the bytes of JOB, and those of the image
+-- what follows the bytes of JOB, and what the job with its images comes to
 abbrev pub after_job : Command → List ℕ → Plan WholeJob
 after_job command bytes = judgement (job_or_refusal command bytes)
-
-abbrev pub after_image : Command → WholeJob → List ℕ → Plan Run
-after_image command job bios = judgement (result_of_run command job bios)
 
 abbrev pub job_plan : Command → Plan WholeJob
 job_plan command = bind (file command.job longest_job (job_refusal command (error_at 0 Long))) (after_job command)
 
-abbrev pub image_plan : Command → WholeJob → Plan Run
-image_plan command job = bind (file (image_name job) 16384 (BiosLength (image_name job))) (after_image command job)
+abbrev pub after_images : Command → WholeJob → ConsoleImages → Plan Run
+after_images command job images = Done (result_of_run command job images)
+
+abbrev pub run_plan : Command → WholeJob → Plan Run
+run_plan command job = bind (images_plan (console_of job)) (after_images command job)
 
 abbrev pub command_plan : Option Command → Plan Run
 command_plan None = Refuse Words
-command_plan (Some command) = bind (job_plan command) (image_plan command)
+command_plan (Some command) = bind (job_plan command) (run_plan command)
 
 -- What the words after the program's name say to do: which files are read, in which order, and what comes of them.
 abbrev pub plan_of : List (List ℕ) → Plan Run

@@ -3,6 +3,7 @@ use Rattle.std.specs.List.{list_all}
 use Rattle.gba_terms.specs.Hexadecimal.{hex}
 use Rattle.gba_terms.specs.RegisterNames.{register_names}
 use Rattle.gba_console.specs.Machine.{Machine}
+use Rattle.gba_mem.specs.Memories.{Memories}
 
 -- the line of a register: its name, and its value as eight digits
 abbrev pub register_line : List ℕ → ℕ → List ℕ
@@ -23,28 +24,37 @@ abbrev pub hex_bytes : List ℕ → List ℕ
 hex_bytes [] = []
 hex_bytes (byte ∷ bytes) = hex 2 byte ++ hex_bytes bytes
 
--- the line of 32 bytes of the inner RAM: their offset as six digits, and the bytes
-abbrev pub memory_name : ℕ → List ℕ
-memory_name offset = codes "mem iwram " ++ hex 6 offset ++ codes " "
+-- the line of 32 bytes of a memory: its name, their offset as six digits, and the bytes
+abbrev pub memory_place : List ℕ → ℕ → List ℕ
+memory_place name offset = codes "mem " ++ name ++ codes " " ++ hex 6 offset ++ codes " "
 
-abbrev pub memory_row : ℕ → List ℕ → List ℕ
-memory_row offset bytes = memory_name offset ++ hex_bytes bytes ++ codes "\n"
+abbrev pub memory_row : List ℕ → ℕ → List ℕ → List ℕ
+memory_row name offset bytes = memory_place name offset ++ hex_bytes bytes ++ codes "\n"
 
 -- where all the bytes are 0, there is no line
-abbrev pub memory_line : ℕ → List ℕ → List ℕ
-memory_line offset bytes = if list_all (λ byte. byte == 0) bytes then [] else memory_row offset bytes
+abbrev pub memory_line : List ℕ → ℕ → List ℕ → List ℕ
+memory_line name offset bytes = if list_all (λ byte. byte == 0) bytes then [] else memory_row name offset bytes
 
 -- so many of these lines, from an offset on
-unfoldable pub memory_lines : ℕ → ℕ → List ℕ → List ℕ
-memory_lines zero offset bytes = []
-memory_lines (suc count) offset bytes =
-    memory_line offset (take 32 (drop offset bytes)) ++ memory_lines count (offset + 32) bytes
+unfoldable pub memory_lines : List ℕ → ℕ → ℕ → List ℕ → List ℕ
+memory_lines name zero offset bytes = []
+memory_lines name (suc count) offset bytes =
+    memory_line name offset (take 32 (drop offset bytes)) ++ memory_lines name count (offset + 32) bytes
+
+-- the lines of a whole memory
+abbrev pub lines_of : List ℕ → List ℕ → List ℕ
+lines_of name bytes = memory_lines name (length bytes / 32) 0 bytes
+
+-- the lines of the memories that a state file has
+abbrev pub lines_of_memories : Memories → List ℕ
+lines_of_memories m =
+    lines_of (codes "wram") m.work ++ lines_of (codes "iwram") m.inner ++ lines_of (codes "palette") m.palette
+    ++ lines_of (codes "vram") m.vram ++ lines_of (codes "oam") m.oam
 
 -- the state file of the console with the number 0
 abbrev pub state_file : Machine → List ℕ
 state_file m =
-    heading m.clock ++ register_lines register_names m.registers
-    ++ memory_lines (length m.memory.inner / 32) 0 m.memory.inner
+    heading m.clock ++ register_lines register_names m.registers ++ lines_of_memories m.memory
 
 -- the summary of a run of one console
 abbrev pub summary : Machine → List ℕ

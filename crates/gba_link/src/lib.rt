@@ -10,6 +10,7 @@ ghost use Rattle.gba_command.specs.Reading.{Gives, GoesTo};
 ghost use Rattle.gba_command.specs.Writing.{Run, sink_state};
 ghost use Rattle.gba_link.specs.CommandPlan.{plan_of};
 
+mod images;
 pub mod laws;
 mod run;
 mod state;
@@ -25,17 +26,17 @@ use std::thread::Threads;
 ///
 /// | Status | Report on `-` | Comes |
 /// |---|---|---|
-/// | 0 | the summary | the run is done and its file is written |
+/// | 0 | the summary | the run is done and its files are written |
 /// | 2 | `words` | the words aren't `run JOB OUT` |
-/// | 3 | `absent NAME` | JOB or the BIOS image, the next file to read, isn't there |
+/// | 3 | `absent NAME` | JOB or an image, the next file to read, isn't there |
 /// | 4 | `store NAME` | the store failed in the read of the next file |
 /// | 5 | `job NAME line L KIND` | JOB isn't of the job language, or an output file would be JOB or an input |
-/// | 6 | `image NAME BiosLength` | the BIOS image hasn't 16,384 bytes |
+/// | 6 | `image NAME KIND` | the image fails its check; KIND is the first reason |
 /// | 9 | `sink NAME` | the sink failed |
 /// | 10 | `memory` | memory was wanting; it may come in place of any other, and hides no absence and no fault |
 ///
 /// Two clauses say all of it, over every store and sink: `answer`, that the reads made are those of the plan of the
-/// words, how they end_of, and what is written and answered for that end; and `complete`, that where no count of absences
+/// words, how they end, and what is written and answered for that end; and `complete`, that where no count of absences
 /// or faults rose, it is what the words and the files come to, or memory was wanting. This project's profile.
 pub fn gba_link<R: Threads + Sync, S: Store, O: Sink, G: Gate + Sync>(
     _rt: &R,

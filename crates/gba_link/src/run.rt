@@ -1,20 +1,23 @@
 //! From the words and the files to what a run writes.
 
-ghost use Rattle.std.specs.Prelude.{◌≡◌, ◌≤◌, ◌^◌, ◌<◌, ◌++◌, [], ◌∷◌, Ok, Err, Some, IsSome, map, MatchResult, IfOk, IfSome, length, option_map, vec_len, vec_capacity, string_bytes, string_len};
+ghost use Rattle.std.specs.Prelude.{◌≡◌, ◌≤◌, ◌+◌, ◌^◌, ◌<◌, ◌++◌, [], ◌∷◌, Ok, Err, Some, IsSome, map, MatchResult, IfOk, IfSome, length, option_map, vec_len, vec_capacity, string_bytes, string_len};
 ghost use Rattle.gba_console.specs.Run.{run_to};
 ghost use Rattle.gba_command.specs.Reading.{Gives, GoesTo};
-ghost use Rattle.gba_command.specs.Views.{Agrees, end_of, run_value};
-ghost use Rattle.gba_joblog.specs.Soundness.{IsFile, IsJob};
+ghost use Rattle.gba_command.specs.Views.{Agrees, end_of, output_value, run_value};
+ghost use Rattle.gba_joblog.specs.Soundness.{IsConsole, IsFile, IsJob};
 ghost use Rattle.gba_joblog.specs.Views.{console_value, file_value, job_value};
-ghost use Rattle.gba_link.specs.CommandPlan.{job_or_refusal, written, command_plan, console_of as console_said, image_name as image_said, image_plan, name_in, plan_of, result_of_run, state_name as state_name_of};
+ghost use Rattle.gba_link.specs.CommandPlan.{job_or_refusal, written, command_plan, console_of as console_said, name_in, output_if, plan_of, result_of_run, run_plan, save_name as save_name_of, state_name as state_name_of};
+ghost use Rattle.gba_link.specs.StateFile.{state_file};
 ghost use Rattle.gba_link.specs.Words.{Command};
 ghost use Rattle.gba_link.specs.Views.{command_value};
 
-use crate::state::{STATE_ROOM, summary, write_state};
+use crate::images::read_images;
+use crate::state::{SAVE_ROOM, STATE_ROOM, summary, write_save, write_state};
 use crate::words::{RunWords, command_of};
 use gba_command::{Cause, OutputFile, Outputs, Refusal, name_in_report, read_file};
+use gba_console::Console;
 use gba_console::laws::enough;
-use gba_console::{BIOS_LENGTH, Console};
+use gba_image::ConsoleImages;
 use gba_joblog::{
     FileLine, Job, JobConsole, JobError, JobKind, LONGEST_JOB, OutKind, ParseRefused,
 };
@@ -47,6 +50,15 @@ fn accepted_job(alloc: Global, command: &RunWords<'_>, bytes: &[u8]) -> Result<J
     }
 }
 
+/// The names of the files that a run may write.
+#[derive(Drop)]
+struct OutputNames {
+    state: String,
+    save: String,
+    ghost short_state: { string_len state ≤ 200 },
+    ghost short_save: { string_len save ≤ 200 },
+}
+
 /// The name of the state file under OUT.
 fn make_state_name(alloc: Global, out: &str) -> Result<String, AllocError>
     requires { length out.now ≤ 180 }
@@ -57,10 +69,53 @@ fn make_state_name(alloc: Global, out: &str) -> Result<String, AllocError>
     Ok(name)
 }
 
+/// The name of the save under OUT.
+fn make_save_name(alloc: Global, out: &str) -> Result<String, AllocError>
+    requires { length out.now ≤ 180 }
+    ensures name { IfOk result (λ name. string_bytes name ≡ save_name_of out.now) }
+    ensures short { IfOk result (λ name. string_len name ≤ 200) }
+{
+    let name = format!(in alloc; "{out}.0.save")?;
+    Ok(name)
+}
+
+/// The names of the files under OUT.
+fn make_names(alloc: Global, out: &str) -> Result<OutputNames, AllocError>
+    requires { length out.now ≤ 180 }
+    ensures state { IfOk result (λ names. string_bytes names.state ≡ state_name_of out.now) }
+    ensures save { IfOk result (λ names. string_bytes names.save ≡ save_name_of out.now) }
+{
+    let state = make_state_name(alloc, out)?;
+    let save = make_save_name(alloc, out)?;
+    Ok(OutputNames { state, save })
+}
+
+/// The room of what a run writes, taken before its first step.
+#[derive(Drop)]
+struct OutputRoom {
+    files: Vec<OutputFile>,
+    state: Vec<u8>,
+    save: Vec<u8>,
+    ghost no_file: { files.items ≡ [] },
+    ghost two_files: { 2 ≤ vec_capacity files },
+    ghost no_state: { state.items ≡ [] },
+    ghost state_room: { 1038330 ≤ vec_capacity state },
+    ghost no_save: { save.items ≡ [] },
+    ghost save_room: { 32768 ≤ vec_capacity save },
+}
+
+fn make_room(alloc: Global) -> Result<OutputRoom, AllocError> {
+    let files = Vec::with_capacity(alloc, 2)?;
+    let state = Vec::with_capacity(alloc, STATE_ROOM)?;
+    let save = Vec::with_capacity(alloc, SAVE_ROOM)?;
+    Ok(OutputRoom { files, state, save })
+}
+
 /// The console of a job.
 fn console_of(job: &Job) -> &JobConsole
     requires { IsJob (job_value job.now) }
-    ensures { console_value result.now ≡ console_said (job_value job.now) }
+    ensures console { console_value result.now ≡ console_said (job_value job.now) }
+    ensures whole { IsConsole (console_value result.now) }
 {
     match job.consoles.as_slice() {
         [console, ..] => console,
@@ -68,25 +123,26 @@ fn console_of(job: &Job) -> &JobConsole
     }
 }
 
-fn name_of(file: &Option<FileLine>) -> &str
+/// The name of a file.
+pub(crate) fn file_name(file: &FileLine) -> &str
+    requires { IsFile (file_value file.now) }
+    ensures name { result.now ≡ string_bytes file.now.name }
+    ensures short { length result.now ≤ 200 }
+{
+    file.name.as_str()
+}
+
+/// The name of a file that is named.
+pub(crate) fn name_of(file: &Option<FileLine>) -> &str
     requires some { IsSome file.now }
     requires named { IfSome (option_map file_value file.now) IsFile }
     ensures name { result.now ≡ name_in (option_map file_value file.now) }
     ensures short { length result.now ≤ 200 }
 {
     match file {
-        Some(file) => file.name.as_str(),
+        Some(file) => file_name(file),
         None => unreachable!(),
     }
-}
-
-/// The name of a job's BIOS image.
-fn image_name(job: &Job) -> &str
-    requires { IsJob (job_value job.now) }
-    ensures name { result.now ≡ image_said (job_value job.now) }
-    ensures short { length result.now ≤ 200 }
-{
-    name_of(&console_of(job).bios)
 }
 
 /// Steps a console until its clock is at least `until`.
@@ -104,89 +160,125 @@ fn run_console(mut console: Console, until: u64) -> Console
 /// Adds a file to a list that has room for it.
 fn add_file(files: &mut Vec<OutputFile>, file: OutputFile)
     requires { vec_len files.old < vec_capacity files.old }
-    ensures { files.new.items ≡ files.old.items ++ file ∷ [] }
+    ensures items { files.new.items ≡ files.old.items ++ file ∷ [] }
+    ensures room { vec_capacity files.old ≤ vec_capacity files.new }
 {
     if files.push(file).is_err() {
         unreachable!()
     }
 }
 
-/// What a run of a job writes that end_of with this console, into a list and a buffer with room for it.
-fn outputs_of(
-    mut files: Vec<OutputFile>,
+/// Adds the state file of a console, where it is asked for.
+fn add_state(
+    files: &mut Vec<OutputFile>,
+    asked: bool,
+    name: String,
     mut state: Vec<u8>,
-    state_name: String,
-    job: &Job,
     console: &Console,
-) -> Outputs
-    requires no_file { files.items ≡ [] }
-    requires one_file { 0 < vec_capacity files }
+)
+    requires one_file { vec_len files.old < vec_capacity files.old }
     requires no_byte { state.items ≡ [] }
-    requires state_room { 84992 ≤ vec_capacity state }
-    requires named { string_len state_name ≤ 200 }
-    requires sound { IsJob (job_value job.now) }
-    ensures { (command : Command) → string_bytes state_name ≡ state_name_of command.out
+    requires state_room { 1038330 ≤ vec_capacity state }
+    requires named { string_len name ≤ 200 }
+    ensures files { map output_value files.new.items
+        ≡ map output_value files.old.items ++ output_if asked (string_bytes name) (state_file console.now) }
+    ensures len { vec_len files.new ≤ vec_len files.old + 1 }
+    ensures room { vec_capacity files.old ≤ vec_capacity files.new }
+{
+    if asked {
+        write_state(&mut state, console);
+        add_file(files, OutputFile { name, bytes: state });
+    }
+}
+
+/// Adds the save of a console, where it is asked for.
+fn add_save(
+    files: &mut Vec<OutputFile>,
+    asked: bool,
+    name: String,
+    mut save: Vec<u8>,
+    console: &Console,
+)
+    requires one_file { vec_len files.old < vec_capacity files.old }
+    requires no_byte { save.items ≡ [] }
+    requires save_room { 32768 ≤ vec_capacity save }
+    requires named { string_len name ≤ 200 }
+    ensures { map output_value files.new.items
+        ≡ map output_value files.old.items ++ output_if asked (string_bytes name) console.now.memory.sram }
+{
+    if asked {
+        write_save(&mut save, console);
+        add_file(files, OutputFile { name, bytes: save });
+    }
+}
+
+/// What a run of a job writes that ends with this console, into the room for it.
+fn outputs_of(room: OutputRoom, names: OutputNames, job: &Job, console: &Console) -> Outputs
+    requires { IsJob (job_value job.now) }
+    ensures { (command : Command) → string_bytes names.state ≡ state_name_of command.out
+        → string_bytes names.save ≡ save_name_of command.out
         → run_value result ≡ written command (job_value job.now) console.now }
 {
-    if console_of(job).asks_for(OutKind::State) {
-        write_state(&mut state, console);
-        let file = OutputFile {
-            name: state_name,
-            bytes: state,
-        };
-        add_file(&mut files, file);
-    }
+    let asks = console_of(job);
+    let mut files = room.files;
+    add_state(
+        &mut files,
+        asks.asks_for(OutKind::State),
+        names.state,
+        room.state,
+        console,
+    );
+    add_save(
+        &mut files,
+        asks.asks_for(OutKind::Save),
+        names.save,
+        room.save,
+        console,
+    );
     Outputs {
         files,
         summary: summary(console),
     }
 }
 
-/// Runs a console from this image, and makes what is written. All memory is taken before the first step.
-fn run_image(
+/// Runs a console from these images, and makes what is written. All memory is taken before the first step.
+fn run_images(
     alloc: Global,
-    state_name: String,
+    names: OutputNames,
     job: &Job,
-    image: Vec<u8>,
-) -> Result<Outputs, Refusal>
-    requires named { string_len state_name ≤ 200 }
-    requires sound { IsJob (job_value job.now) }
-    ensures { (command : Command) → string_bytes state_name ≡ state_name_of command.out
-        → Agrees run_value (result_of_run command (job_value job.now) image.items) result }
+    images: ConsoleImages,
+) -> Result<Outputs, AllocError>
+    requires { IsJob (job_value job.now) }
+    ensures { (command : Command) → string_bytes names.state ≡ state_name_of command.out
+        → string_bytes names.save ≡ save_name_of command.out
+        → IfOk result (λ outputs. run_value outputs ≡ result_of_run command (job_value job.now) images) }
 {
-    if image.len() != BIOS_LENGTH {
-        return Err(Refusal::Refused(Cause::BiosLength(name_in_report(image_name(job)))));
-    }
-    let Ok(files) = Vec::with_capacity(alloc, 1) else {
-        return Err(Refusal::NoMemory);
-    };
-    let Ok(state) = Vec::with_capacity(alloc, STATE_ROOM) else {
-        return Err(Refusal::NoMemory);
-    };
-    let Ok(start) = Console::new(alloc, image) else {
-        return Err(Refusal::NoMemory);
+    let room = make_room(alloc)?;
+    let Ok(start) = Console::new(alloc, images) else {
+        return Err(AllocError);
     };
     let end = run_console(start, job.cycles);
-    Ok(outputs_of(files, state, state_name, job, &end))
+    Ok(outputs_of(room, names, job, &end))
 }
 
-/// Reads the image of a job and runs it.
+/// Reads the images of a job and runs it.
 fn run_job<S: Store>(
     alloc: Global,
     store: &mut S,
-    state_name: String,
+    names: OutputNames,
     job: &Job,
 ) -> Result<Outputs, Refusal>
-    requires named { string_len state_name ≤ 200 }
-    requires sound { IsJob (job_value job.now) }
-    ensures { (command : Command) → string_bytes state_name ≡ state_name_of command.out
-        → GoesTo (Gives S.Tells S.files S.Reads S.absences S.faults) (image_plan command (job_value job.now))
+    requires { IsJob (job_value job.now) }
+    ensures { (command : Command) → string_bytes names.state ≡ state_name_of command.out
+        → string_bytes names.save ≡ save_name_of command.out
+        → GoesTo (Gives S.Tells S.files S.Reads S.absences S.faults) (run_plan command (job_value job.now))
         store.old store.new (end_of run_value result) }
 {
-    let name = image_name(job);
-    let long = Cause::BiosLength(name_in_report(name));
-    let image = read_file(alloc, store, name, BIOS_LENGTH as u64, long)?;
-    run_image(alloc, state_name, job, image)
+    let images = read_images(alloc, store, console_of(job))?;
+    match run_images(alloc, names, job, images) {
+        Ok(outputs) => Ok(outputs),
+        Err(_) => Err(Refusal::NoMemory),
+    }
 }
 
 /// Reads the job of a command and runs it.
@@ -199,7 +291,7 @@ fn run_command<S: Store>(
     ensures { GoesTo (Gives S.Tells S.files S.Reads S.absences S.faults)
         (command_plan (Some (command_value command.now))) store.old store.new (end_of run_value result) }
 {
-    let Ok(state_name) = make_state_name(alloc, command.out) else {
+    let Ok(names) = make_names(alloc, command.out) else {
         return Err(Refusal::NoMemory);
     };
     let long = Cause::Job(
@@ -211,7 +303,7 @@ fn run_command<S: Store>(
     );
     let bytes = read_file(alloc, store, command.job, LONGEST_JOB as u64, long)?;
     let job = accepted_job(alloc, command, bytes.as_slice())?;
-    run_job(alloc, store, state_name, &job)
+    run_job(alloc, store, names, &job)
 }
 
 /// What the words say to do, done up to what is to be written.

@@ -3,16 +3,20 @@
 ghost use Rattle.std.specs.Prelude.{◌≡◌, ◌+◌, ◌*◌, ◌/◌, ◌≤◌, ◌<◌, ◌==◌, ◌++◌, [], length, drop, vec_len, vec_capacity, slice_index_or};
 ghost use Rattle.std.specs.List.{list_all};
 ghost use Rattle.gba_terms.specs.RegisterNames.{register_names};
-ghost use Rattle.gba_link.specs.StateFile.{hex_bytes, memory_line, memory_name, memory_row, memory_lines, register_line, register_lines, heading, state_file, summary as summary_of};
+ghost use Rattle.gba_link.specs.StateFile.{hex_bytes, lines_of, lines_of_memories, memory_line, memory_place, memory_row, register_line, register_lines, heading, state_file, summary as summary_of};
 
 use gba_command::hexadecimal::{hex_byte, hex_offset, hex_word};
 use gba_command::{Line, add_text};
 use gba_console::Console;
+use gba_mem::Memory;
 use itoa::Buffer;
 
 /// The room of a state file in bytes: its heading has at most 96, each of the 37 registers at most 18, and each of the
-/// 1,024 lines of the inner RAM 82.
-pub(crate) const STATE_ROOM: usize = 84_992;
+/// 12,352 lines of memory 84.
+pub(crate) const STATE_ROOM: usize = 1_038_330;
+
+/// The bytes of a save.
+pub(crate) const SAVE_ROOM: usize = 32_768;
 
 /// The bytes in a line of memory.
 const ROW: usize = 32;
@@ -133,65 +137,94 @@ fn is_zero(bytes: &[u8]) -> bool
     bytes.iter().all(|byte| *byte == 0)
 }
 
-/// Adds the name of a line of memory and its offset.
-fn add_memory_name(into: &mut Vec<u8>, offset: u32)
-    requires { vec_len into.old + 17 ≤ vec_capacity into.old }
-    ensures items { into.new.items ≡ into.old.items ++ memory_name offset }
-    ensures len { vec_len into.new ≡ vec_len into.old + 17 }
+/// Adds the name of a memory and the offset of its line.
+fn add_memory_place(into: &mut Vec<u8>, name: &[u8], offset: u32)
+    requires short { length name.now ≤ 7 }
+    requires room { vec_len into.old + 19 ≤ vec_capacity into.old }
+    ensures items { into.new.items ≡ into.old.items ++ memory_place name.now offset }
+    ensures len { vec_len into.new ≤ vec_len into.old + 19 }
     ensures room { vec_capacity into.old ≤ vec_capacity into.new }
 {
-    add(into, b"mem iwram ");
+    add(into, b"mem ");
+    add(into, name);
+    add(into, b" ");
     add(into, &hex_offset(offset));
     add(into, b" ");
 }
 
 /// Adds the line of 32 bytes of memory.
-fn add_memory_row(into: &mut Vec<u8>, offset: u32, bytes: &[u8])
+fn add_memory_row(into: &mut Vec<u8>, name: &[u8], offset: u32, bytes: &[u8])
+    requires short { length name.now ≤ 7 }
     requires whole { length bytes.now ≡ 32 }
-    requires room { vec_len into.old + 82 ≤ vec_capacity into.old }
-    ensures items { into.new.items ≡ into.old.items ++ memory_row offset bytes.now }
-    ensures len { vec_len into.new ≡ vec_len into.old + 82 }
+    requires room { vec_len into.old + 84 ≤ vec_capacity into.old }
+    ensures items { into.new.items ≡ into.old.items ++ memory_row name.now offset bytes.now }
+    ensures len { vec_len into.new ≤ vec_len into.old + 84 }
     ensures room { vec_capacity into.old ≤ vec_capacity into.new }
 {
-    add_memory_name(into, offset);
+    add_memory_place(into, name, offset);
     add_hex_bytes(into, bytes);
     add(into, b"\n");
 }
 
 /// Adds the line of 32 bytes of memory, where they aren't all 0.
-fn add_memory_line(into: &mut Vec<u8>, offset: u32, bytes: &[u8])
+fn add_memory_line(into: &mut Vec<u8>, name: &[u8], offset: u32, bytes: &[u8])
+    requires short { length name.now ≤ 7 }
     requires whole { length bytes.now ≡ 32 }
-    requires room { vec_len into.old + 82 ≤ vec_capacity into.old }
-    ensures items { into.new.items ≡ into.old.items ++ memory_line offset bytes.now }
-    ensures len { vec_len into.new ≤ vec_len into.old + 82 }
+    requires room { vec_len into.old + 84 ≤ vec_capacity into.old }
+    ensures items { into.new.items ≡ into.old.items ++ memory_line name.now offset bytes.now }
+    ensures len { vec_len into.new ≤ vec_len into.old + 84 }
     ensures room { vec_capacity into.old ≤ vec_capacity into.new }
 {
     if !is_zero(bytes) {
-        add_memory_row(into, offset, bytes);
+        add_memory_row(into, name, offset, bytes);
     }
 }
 
-/// Adds the lines of a memory of at most 32,768 bytes.
-fn add_memory_lines(into: &mut Vec<u8>, bytes: &[u8])
-    requires most { length bytes.now ≤ 32768 }
-    requires room { vec_len into.old + 83968 ≤ vec_capacity into.old }
-    ensures { into.new.items ≡ into.old.items ++ memory_lines (length bytes.now / 32) 0 bytes.now }
+/// Adds the lines of a memory of at most 262,144 bytes.
+fn add_memory_lines(into: &mut Vec<u8>, name: &[u8], bytes: &[u8])
+    requires short { length name.now ≤ 7 }
+    requires most { length bytes.now ≤ 262144 }
+    requires room { vec_len into.old + 84 * (length bytes.now / 32) ≤ vec_capacity into.old }
+    ensures items { into.new.items ≡ into.old.items ++ lines_of name.now bytes.now }
+    ensures len { vec_len into.new ≤ vec_len into.old + 84 * (length bytes.now / 32) }
+    ensures room { vec_capacity into.old ≤ vec_capacity into.new }
 {
     for line in 0..bytes.len() / ROW {
         let offset = line * ROW;
-        add_memory_line(into, offset as u32, &bytes[offset..offset + ROW]);
+        add_memory_line(into, name, offset as u32, &bytes[offset..offset + ROW]);
     }
+}
+
+/// Adds the lines of the memories.
+fn add_memories(into: &mut Vec<u8>, memory: &Memory)
+    requires { vec_len into.old + 1037568 ≤ vec_capacity into.old }
+    ensures { into.new.items ≡ into.old.items ++ lines_of_memories memory.now }
+{
+    add_memory_lines(into, b"wram", memory.work());
+    add_memory_lines(into, b"iwram", memory.inner());
+    add_memory_lines(into, b"palette", memory.palette());
+    add_memory_lines(into, b"vram", memory.vram());
+    add_memory_lines(into, b"oam", memory.oam());
 }
 
 /// Writes the state file of a console into an empty buffer with room for it.
 pub(crate) fn write_state(into: &mut Vec<u8>, console: &Console)
     requires empty { into.old.items ≡ [] }
-    requires room { 84992 ≤ vec_capacity into.old }
+    requires room { 1038330 ≤ vec_capacity into.old }
     ensures { into.new.items ≡ state_file console.now }
 {
     add_heading(into, console.clock());
     add_register_lines(into, &console.all());
-    add_memory_lines(into, console.inner_ram());
+    add_memories(into, console.memory());
+}
+
+/// Writes the save of a console into an empty buffer with room for it.
+pub(crate) fn write_save(into: &mut Vec<u8>, console: &Console)
+    requires empty { into.old.items ≡ [] }
+    requires room { 32768 ≤ vec_capacity into.old }
+    ensures { into.new.items ≡ console.now.memory.sram }
+{
+    add(into, console.memory().sram());
 }
 
 /// The summary of a run.

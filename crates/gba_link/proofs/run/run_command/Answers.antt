@@ -4,7 +4,7 @@ use Rattle.std.proofs.lemmas.Result.{err_from_is_err_and}
 use Rattle.gba_command.specs.Plan.{bind, file}
 use Rattle.gba_command.specs.Reading.{Gives}
 use Rattle.gba_command.proofs.Plans.{goes-lacks, goes-then, goes-stop, goes-judged}
-use Rattle.gba_link.specs.CommandPlan.{job_or_refusal, after_job, command_plan, image_plan, job_refusal}
+use Rattle.gba_link.specs.CommandPlan.{job_or_refusal, after_job, command_plan, job_refusal, run_plan}
 use Rattle.gba_joblog.specs.Language.{longest_job, error_at}
 use Rattle.gba_joblog.specs.Views.{job_value}
 use Rattle.gba_joblog.specs.declared.kinds.JobKind.TheVariants.{Long}
@@ -21,7 +21,7 @@ returns-in_err-bytes g c =
     let gives = Gives g.S.Store.Tells g.S.Store.files g.S.Store.Reads g.S.Store.absences g.S.Store.faults in
     let p = err_from_is_err_and c.from_residual.result c.from_residual.ensures.1 in
     rw (p.1, p.2)
-    (goes-stop gives (file command.job longest_job (job_refusal command (error_at 0 Long))) (λ bytes. bind (after_job command bytes) (image_plan command)) _ _ _ (rw c.name_in_report.ensures at c.in_err-bytes.ensures.goes))
+    (goes-stop gives (file command.job longest_job (job_refusal command (error_at 0 Long))) (λ bytes. bind (after_job command bytes) (run_plan command)) _ _ _ (rw c.name_in_report.ensures at c.in_err-bytes.ensures.goes))
 
 pub returns-in_err-job : goal.returns-in_err-job
 returns-in_err-job g c =
@@ -30,8 +30,8 @@ returns-in_err-job g c =
     let bytes = c.in_ok-bytes.bytes.items in
     let p = err_from_is_err_and c.from_residual-in_err-job.result c.from_residual-in_err-job.ensures.1 in
     rw (p.1, p.2)
-    (goes-then gives (file command.job longest_job (job_refusal command (error_at 0 Long))) (λ text. bind (after_job command text) (image_plan command)) _ _ _ bytes _ (rw c.name_in_report.ensures at c.in_ok-bytes.ensures.goes)
-    (goes-stop gives (after_job command bytes) (image_plan command) _ _ _
+    (goes-then gives (file command.job longest_job (job_refusal command (error_at 0 Long))) (λ text. bind (after_job command text) (run_plan command)) _ _ _ bytes _ (rw c.name_in_report.ensures at c.in_ok-bytes.ensures.goes)
+    (goes-stop gives (after_job command bytes) (run_plan command) _ _ _
     (goes-judged gives job_value (job_or_refusal command bytes) (Err c.in_err-job.field-0.0) _
     (subst (λ (text : List ℕ). Agrees job_value (job_or_refusal command text) (Err c.in_err-job.field-0.0)) c.as_slice.ensures.value c.in_err-job.ensures.agrees))))
 
@@ -41,8 +41,7 @@ returns g c =
     let gives = Gives g.S.Store.Tells g.S.Store.files g.S.Store.Reads g.S.Store.absences g.S.Store.faults in
     let bytes = c.in_ok-bytes.bytes.items in
     let job = job_value c.in_ok-job.job in
-    goes-then gives (file command.job longest_job (job_refusal command (error_at 0 Long))) (λ text. bind (after_job command text) (image_plan command)) _ _ _ bytes _ (rw c.name_in_report.ensures at c.in_ok-bytes.ensures.goes)
-    (goes-then gives (after_job command bytes) (image_plan command) _ _ _ job _
+    goes-then gives (file command.job longest_job (job_refusal command (error_at 0 Long))) (λ text. bind (after_job command text) (run_plan command)) _ _ _ bytes _ (rw c.name_in_report.ensures at c.in_ok-bytes.ensures.goes)
+    (goes-then gives (after_job command bytes) (run_plan command) _ _ _ job _
     (goes-judged gives job_value (job_or_refusal command bytes) (Ok c.in_ok-job.job) _ (rw c.as_slice.ensures.value at c.in_ok-job.ensures.agrees))
-    (c.run_job.ensures command
-    c.in-Ok.ensures.name))
+    (c.run_job.ensures command c.in-Ok.ensures.state c.in-Ok.ensures.save))
