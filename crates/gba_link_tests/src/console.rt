@@ -1,21 +1,57 @@
 //! A console by itself: programs of a few words in its BIOS, and what they leave.
 
-use gba_console::{BIOS_LENGTH, Console, INNER_LENGTH};
+use gba_console::Console;
+use gba_image::{Bios, Cartridge, ConsoleImages};
 use std::alloc::Global;
 use std::process::Abort;
 use std::test::Fail;
 
-/// A console whose BIOS begins with these words and is 0 behind them.
-fn console_of<R: Abort>(rt: &R, alloc: Global, words: &[u32]) -> Result<Console, Fail> {
+/// A BIOS that begins with these words and is 0 behind them.
+fn bios_of(alloc: Global, words: &[u32]) -> Result<Bios, Fail> {
     let mut bios = Vec::new(alloc);
     for word in words {
         bios.extend_from_slice(&word.to_le_bytes())?;
     }
-    for _ in bios.len()..BIOS_LENGTH {
+    for _ in bios.len()..16_384 {
         bios.push(0)?;
     }
-    assert_eq!(rt; bios.len(), 16_384);
-    Ok(Console::new(alloc, bios)?)
+    Ok(Bios::check(bios).map_err(|_| "no BIOS")?)
+}
+
+/// A console whose BIOS begins with these words, without a cartridge.
+fn console_of(alloc: Global, words: &[u32]) -> Result<Console, Fail> {
+    let images = ConsoleImages {
+        bios: bios_of(alloc, words)?,
+        cart: None,
+        save: None,
+    };
+    Ok(Console::new(alloc, images)?)
+}
+
+/// A cartridge with these words from C0h up, and 0 elsewhere but in its header.
+fn cartridge_of(alloc: Global, words: &[u32]) -> Result<Cartridge, Fail> {
+    let mut bytes = Vec::new(alloc);
+    for place in 0..0xC0 {
+        bytes.push(match place {
+            0xB2 => 0x96,
+            0xBD => 0x51,
+            _ => 0,
+        })?;
+    }
+    for word in words {
+        bytes.extend_from_slice(&word.to_le_bytes())?;
+    }
+    Ok(Cartridge::check(bytes).map_err(|_| "no cartridge")?)
+}
+
+/// A console with a cartridge.
+fn console_with(alloc: Global, words: &[u32], cart: &[u32]) -> Result<Console, Fail> {
+    let images = ConsoleImages {
+        bios: bios_of(alloc, words)?,
+        cart: Some(cartridge_of(alloc, cart)?),
+        save: None,
+    };
+    Ok(Console::new(alloc, images)?)
 }
 
 /// Makes steps, and asserts the clock after them.
@@ -31,7 +67,7 @@ fn steps<R: Abort>(rt: &R, console: &mut Console, count: usize, clock: u64) {
 /// executed and go on.
 #[test]
 fn jumps_and_no_memory(rt: HostRuntime) -> Result<(), Fail> {
-    let mut console = console_of(&rt, rt.alloc(), &[0xEB00_0000, 0, 0x0A00_0000, 0xEA00_0FFB])?;
+    let mut console = console_of(rt.alloc(), &[0xEB00_0000, 0, 0x0A00_0000, 0xEA00_0FFB])?;
     assert_eq!(rt; console.all()[31], 0xD3);
     for (count, clock, link, at) in [
         (1, 3, 4, 8),
@@ -49,7 +85,7 @@ fn jumps_and_no_memory(rt: HostRuntime) -> Result<(), Fail> {
 /// MOV r0, #5 and a branch to itself: the steps end at 1, 4, 7 and 10.
 #[test]
 fn move_and_loop(rt: HostRuntime) -> Result<(), Fail> {
-    let mut console = console_of(&rt, rt.alloc(), &[0xE3A0_0005, 0xEAFF_FFFE])?;
+    let mut console = console_of(rt.alloc(), &[0xE3A0_0005, 0xEAFF_FFFE])?;
     for clock in [1, 4, 7, 10] {
         steps(&rt, &mut console, 1, clock);
     }
@@ -96,19 +132,19 @@ fn memory_map(rt: HostRuntime) -> Result<(), Fail> {
             4,
             0xE3A0_1000,
         ),
-        // MOV r1, #0A000000h; MVN r2, #0; STR r2, [r1]; LDR r0, [r1]: there is no memory.
+        // MOV r1, #10000000h; MVN r2, #0; STR r2, [r1]; LDR r0, [r1]: there is no memory.
         (
-            [0xE3A0_140A, 0xE3E0_2000, 0xE581_2000, 0xE591_0000, 0, 0, 0],
+            [0xE3A0_1201, 0xE3E0_2000, 0xE581_2000, 0xE591_0000, 0, 0, 0],
             4,
             0,
         ),
-        // MOV r1, #03000000h; MVN r2, #0; STR r2, [r1]; MOV r1, #0A000000h; MOV r0, #7; LDR r0, [r1]: nor a value kept.
+        // MOV r1, #03000000h; MVN r2, #0; STR r2, [r1]; MOV r1, #10000000h; MOV r0, #7; LDR r0, [r1]: nor a value kept.
         (
             [
                 0xE3A0_1403,
                 0xE3E0_2000,
                 0xE581_2000,
-                0xE3A0_140A,
+                0xE3A0_1201,
                 0xE3A0_0007,
                 0xE591_0000,
                 0,
@@ -145,7 +181,7 @@ fn memory_map(rt: HostRuntime) -> Result<(), Fail> {
             0xFFFF_0000,
         ),
     ] {
-        let mut console = console_of(&rt, rt.alloc(), &words)?;
+        let mut console = console_of(rt.alloc(), &words)?;
         for _ in 0..count {
             assert!(rt; console.clock() < 1_000_000);
             console.step();
@@ -177,7 +213,7 @@ fn code_in_the_inner_ram(rt: HostRuntime) -> Result<(), Fail> {
         0xEAFF_FFFE, // 38 B to itself
         0xE3A0_5002, // 3C MOV r5, #2
     ];
-    let mut console = console_of(&rt, rt.alloc(), &words)?;
+    let mut console = console_of(rt.alloc(), &words)?;
     // 1 + 1 + 3 + 1 + 1 + (1 + 5 + 1) + (1 + 5) + 3 + 1 + 3 cycles.
     steps(&rt, &mut console, 10, 27);
     assert_eq!(rt; console.all()[15], 0x0300_0000);
@@ -188,8 +224,8 @@ fn code_in_the_inner_ram(rt: HostRuntime) -> Result<(), Fail> {
     assert_eq!(rt; registers[0], 0);
     assert_eq!(rt; registers[5], 0x12);
     assert_eq!(rt; registers[15], 0x0300_0010);
-    let inner = console.inner_ram();
-    assert_eq!(rt; inner.len(), INNER_LENGTH);
+    let inner = console.memory().inner();
+    assert_eq!(rt; inner.len(), 0x8000);
     assert_eq!(rt; inner[8], 0x02);
     assert_eq!(rt; inner[11], 0xE3);
     Ok(())
@@ -206,7 +242,7 @@ fn both_states(rt: HostRuntime) -> Result<(), Fail> {
         0xE281_1001, // 10 ADD r1, r1, #1
         0xEAFF_FFFE, // 14 B to itself
     ];
-    let mut console = console_of(&rt, rt.alloc(), &words)?;
+    let mut console = console_of(rt.alloc(), &words)?;
     // The clock, r1, r15 and CPSR after each step. SUB has no borrow, so C is set.
     for (clock, value, at, status) in [
         (1, 0, 4, 0xD3),
@@ -223,5 +259,66 @@ fn both_states(rt: HostRuntime) -> Result<(), Fail> {
         assert_eq!(rt; registers[15], at);
         assert_eq!(rt; registers[31], status);
     }
+    Ok(())
+}
+
+/// Loads and stores through the memory map with the wait control at 0: a word of the cartridge, a halfword past its end,
+/// a load that isn't aligned, the VRAM's second half at its repeat, and the SRAM at 8 and 32 bits.
+#[test]
+fn the_memory_map_has_its_prices(rt: HostRuntime) -> Result<(), Fail> {
+    let words = [
+        0xE3A0_1302, // 00 MOV r1, #08000000h
+        0xE591_0000, // 04 LDR r0, [r1]: 1 + (5 + 3) + 1
+        0xE281_2C02, // 08 ADD r2, r1, #200h
+        0xE1D2_30B0, // 0C LDRH r3, [r2]: past the image, 1 + 5 + 1
+        0xE3A0_4402, // 10 MOV r4, #02000000h
+        0xE59F_5030, // 14 LDR r5, [r15, #30h]: the word at 4Ch
+        0xE584_5000, // 18 STR r5, [r4]: 1 + 6
+        0xE284_6003, // 1C ADD r6, r4, #3
+        0xE596_7000, // 20 LDR r7, [r6]: 1 + 6 + 1, turned by three bytes
+        0xE3A0_8406, // 24 MOV r8, #06000000h
+        0xE288_9A18, // 28 ADD r9, r8, #18000h
+        0xE589_5000, // 2C STR r5, [r9]: 1 + 2
+        0xE288_9801, // 30 ADD r9, r8, #10000h
+        0xE599_A000, // 34 LDR r10, [r9]: 1 + 2 + 1
+        0xE3A0_B40E, // 38 MOV r11, #0E000000h
+        0xE3A0_C05A, // 3C MOV r12, #5Ah
+        0xE5CB_C000, // 40 STRB r12, [r11]: 1 + 5
+        0xE59B_D000, // 44 LDR r13, [r11]: 1 + 5 + 1
+        0xEAFF_FFFE, // 48 B to itself
+        0x4433_2211, // 4C
+    ];
+    let mut console = console_with(rt.alloc(), &words, &[])?;
+    steps(&rt, &mut console, 2, 11);
+    steps(&rt, &mut console, 2, 19);
+    steps(&rt, &mut console, 5, 39);
+    steps(&rt, &mut console, 5, 49);
+    steps(&rt, &mut console, 4, 64);
+    let registers = console.all();
+    assert_eq!(rt; registers[0], 0);
+    assert_eq!(rt; registers[3], 0x0100);
+    assert_eq!(rt; registers[7], 0x3322_1144);
+    assert_eq!(rt; registers[10], 0x4433_2211);
+    // r13 of the supervisor.
+    assert_eq!(rt; registers[25], 0x5A5A_5A5A);
+    assert_eq!(rt; console.memory().sram()[0], 0x5A);
+    Ok(())
+}
+
+/// LDMIA r0, {r0-r15} that stands in ROM view 2 and reads it: 18 of code, 14 and 15 times 18 of data, 1, and 18 and 14 of
+/// the jump.
+#[test]
+fn a_whole_block_from_view_2(rt: HostRuntime) -> Result<(), Fail> {
+    // MOV r0, #0C000000h; ADD r0, r0, #C0h; MOV r15, r0.
+    let bios = [0xE3A0_040C, 0xE280_00C0, 0xE1A0_F000];
+    let mut cart = [0; 16];
+    cart[0] = 0xE890_FFFF;
+    cart[15] = 0x0800_00C0;
+    let mut console = console_with(rt.alloc(), &bios, &cart)?;
+    steps(&rt, &mut console, 3, 5);
+    assert_eq!(rt; console.all()[15], 0x0C00_00C0);
+    steps(&rt, &mut console, 1, 340);
+    assert_eq!(rt; console.all()[0], 0xE890_FFFF);
+    assert_eq!(rt; console.all()[15], 0x0800_00C0);
     Ok(())
 }

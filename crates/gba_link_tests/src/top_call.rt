@@ -472,3 +472,173 @@ fn run_code<R: Abort + Threads + Sync>(
         state: text_of(alloc, out.bytes("g.0.state"))?,
     })
 }
+
+/// The job of a console with every image, which asks for its state and its save.
+const JOB_WITH_IMAGES: &str =
+    "gbalink 1\ncycles 10\nconsole 0\nsave s\ncart c\nbios b\nout save\nout state\nend\n";
+
+/// A cartridge of 192 bytes with these two bytes of its header.
+fn cartridge(alloc: Global, length: usize, fixed: u8, check: u8) -> Result<Vec<u8>, AllocError> {
+    let mut bytes = Vec::new(alloc);
+    for place in 0..length {
+        bytes.push(match place {
+            0xB2 => fixed,
+            0xBD => check,
+            _ => 0,
+        })?;
+    }
+    Ok(bytes)
+}
+
+/// A save of this length, full of a byte.
+fn save(alloc: Global, length: usize, byte: u8) -> Result<Vec<u8>, AllocError> {
+    vec![in alloc; byte; length]
+}
+
+/// The images of a job: the length of the BIOS, the cartridge's length, fixed byte and check, and the length of the save;
+/// without a file where the length is None.
+#[derive(Clone, Copy)]
+struct Images {
+    bios: Option<usize>,
+    cart: Option<(usize, u8, u8)>,
+    save: Option<usize>,
+}
+
+const RIGHT: Images = Images {
+    bios: Some(16_384),
+    cart: Some((192, 0x96, 0x51)),
+    save: Some(32_768),
+};
+
+fn image_files(alloc: Global, images: Images) -> Result<Vec<StoredFile>, AllocError> {
+    let mut files = Vec::new(alloc);
+    files.push(stored(
+        alloc,
+        "j",
+        Vec::from_slice(alloc, JOB_WITH_IMAGES.as_bytes())?,
+    )?)?;
+    if let Some(length) = images.bios {
+        files.push(stored(alloc, "b", image(alloc, LOOP, length)?)?)?;
+    }
+    if let Some((length, fixed, check)) = images.cart {
+        files.push(stored(alloc, "c", cartridge(alloc, length, fixed, check)?)?)?;
+    }
+    if let Some(length) = images.save {
+        files.push(stored(alloc, "s", save(alloc, length, 0xA5)?)?)?;
+    }
+    Ok(files)
+}
+
+/// Each image is read and checked in its order: the BIOS, the cartridge, the save. The first refusal is told, and nothing
+/// is written.
+#[test]
+fn images_are_checked_in_their_order(rt: HostRuntime) -> Result<(), Fail> {
+    let alloc = rt.alloc();
+    let none = Images {
+        bios: None,
+        cart: None,
+        save: None,
+    };
+    for (images, status, report) in [
+        (none, 3, "absent b\n"),
+        (
+            Images {
+                bios: Some(16_383),
+                ..none
+            },
+            6,
+            "image b BiosLength\n",
+        ),
+        (
+            Images {
+                cart: None,
+                ..RIGHT
+            },
+            3,
+            "absent c\n",
+        ),
+        (
+            Images {
+                cart: Some((191, 0x96, 0x51)),
+                save: None,
+                ..RIGHT
+            },
+            6,
+            "image c TooShort\n",
+        ),
+        (
+            Images {
+                cart: Some((192, 0, 0)),
+                ..RIGHT
+            },
+            6,
+            "image c FixedByte\n",
+        ),
+        (
+            Images {
+                cart: Some((192, 0x96, 0)),
+                ..RIGHT
+            },
+            6,
+            "image c HeaderCheck\n",
+        ),
+        (
+            Images {
+                save: None,
+                ..RIGHT
+            },
+            3,
+            "absent s\n",
+        ),
+        (
+            Images {
+                save: Some(32_767),
+                ..RIGHT
+            },
+            6,
+            "image s SaveLength\n",
+        ),
+        (
+            Images {
+                save: Some(32_769),
+                ..RIGHT
+            },
+            6,
+            "image s SaveLength\n",
+        ),
+    ] {
+        let mut store = MemoryStore::new(image_files(alloc, images)?, Vec::new(alloc));
+        let mut out = MemorySink::new(alloc, Vec::new(alloc), Vec::new(alloc));
+        let said = words(alloc, &["run", "j", "g"])?;
+        let answer = gba_link(&rt, alloc, said.as_slice(), &mut store, &mut out, &NoGate);
+        assert_eq!(rt; answer, status);
+        assert_eq!(rt; out.bytes("-").unwrap_or(b"".as_slice()), report.as_bytes());
+        assert!(rt; out.bytes("g.0.state").is_none());
+        assert!(rt; out.bytes("g.0.save").is_none());
+    }
+    Ok(())
+}
+
+/// With all its images a console runs; its state file and its save are written, the save as it was read.
+#[test]
+fn a_save_is_written_as_it_was_read(rt: HostRuntime) -> Result<(), Fail> {
+    let alloc = rt.alloc();
+    let mut store = MemoryStore::new(image_files(alloc, RIGHT)?, Vec::new(alloc));
+    let mut out = MemorySink::new(alloc, Vec::new(alloc), Vec::new(alloc));
+    let said = words(alloc, &["run", "j", "g"])?;
+    assert_eq!(rt;
+        gba_link(&rt, alloc, said.as_slice(), &mut store, &mut out, &NoGate),
+        0
+    );
+    assert_eq!(rt;
+        out.bytes("-").unwrap_or(b"".as_slice()),
+        b"console 0 clock 12 frames 0 samples 0 words 0\n".as_slice()
+    );
+    assert!(rt; out.bytes("g.0.state").is_some());
+    let kept = save(alloc, 32_768, 0xA5)?;
+    assert_eq!(rt;
+        out.bytes("g.0.save").unwrap_or(b"".as_slice()),
+        kept.as_slice()
+    );
+    Ok(())
+}
