@@ -15,15 +15,19 @@ use Rattle.gba_mem.specs.Memories.{Memories}
 abbrev pub instruction : Width → List ℕ → Memories → ℕ
 instruction width file memory = load memory (register file 15) (register file 15) width
 
--- the word at r15, by the ARM table over the memories
-abbrev pub word_done : List ℕ → Memories → Done Memories
-word_done file memory =
-    arm.execution memory_code_price memory_load memory_store (instruction Word file memory) file memory
+-- a word by the ARM table over the memories, and a halfword by the Thumb table
+abbrev pub execution_of_word : ℕ → List ℕ → Memories → Done Memories
+execution_of_word word file memory = arm.execution memory_code_price memory_load memory_store word file memory
 
--- the halfword at r15, by the Thumb table over the memories
+abbrev pub execution_of_half : ℕ → List ℕ → Memories → Done Memories
+execution_of_half half file memory = thumb.execution memory_code_price memory_load memory_store half file memory
+
+-- the word at r15, and the halfword there
+abbrev pub word_done : List ℕ → Memories → Done Memories
+word_done file memory = execution_of_word (instruction Word file memory) file memory
+
 abbrev pub half_done : List ℕ → Memories → Done Memories
-half_done file memory =
-    thumb.execution memory_code_price memory_load memory_store (instruction Half file memory) file memory
+half_done file memory = execution_of_half (instruction Half file memory) file memory
 
 -- One instruction, which is a halfword where T (bit 5 of CPSR) is set, and else a word.
 abbrev pub instruction_done : List ℕ → Memories → Done Memories

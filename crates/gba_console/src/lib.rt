@@ -2,7 +2,7 @@
 //! A console: registers, memories and a clock, and one step of it.
 
 ghost use Rattle.std.specs.Prelude.{◌≡◌, ◌<◌, IfOk, length, vec_len};
-ghost use Rattle.gba_console.specs.Step.{half_done, word_done};
+ghost use Rattle.gba_console.specs.Step.{execution_of_half, execution_of_word, half_done, word_done};
 ghost use Rattle.gba_exec_transfers.specs.Done.{Leaves};
 
 pub mod laws;
@@ -164,13 +164,27 @@ fn step_word(registers: &mut Registers, memory: &mut PricedMemory, words: &mut [
 {
     let address = registers.get(15);
     let word = memory.code(address, Width::Word);
-    let place = place_of_word(address);
-    let one = &words[place];
+    let one = &words[place_of_word(address)];
     if one.word == word {
         arm::execute_decoded(registers, memory, one)
     } else {
-        arm::execute_first(registers, memory, words, place, word)
+        first_word(registers, memory, words, word)
     }
+}
+
+// Executes the word at r15, which isn't decoded yet at its place.
+#[inline(never)]
+fn first_word(
+    registers: &mut Registers,
+    memory: &mut PricedMemory,
+    words: &mut [DecodedWord],
+    word: u32,
+) -> u32
+    requires { length words.old ≡ 4096 }
+    ensures { Leaves (execution_of_word word registers.old memory.old) registers.new memory.new result }
+{
+    let place = place_of_word(registers.get(15));
+    arm::execute_first(registers, memory, words, place, word)
 }
 
 // Executes the halfword at r15.
@@ -185,11 +199,25 @@ fn step_half(
 {
     let address = registers.get(15);
     let half = memory.code(address, Width::Half) as u16;
-    let place = place_of_half(address);
-    let one = &halves[place];
+    let one = &halves[place_of_half(address)];
     if one.half == half {
         thumb::execute_decoded(registers, memory, one)
     } else {
-        thumb::execute_first(registers, memory, halves, place, half)
+        first_half(registers, memory, halves, half)
     }
+}
+
+// Executes the halfword at r15, which isn't decoded yet at its place.
+#[inline(never)]
+fn first_half(
+    registers: &mut Registers,
+    memory: &mut PricedMemory,
+    halves: &mut [DecodedHalf],
+    half: u16,
+) -> u32
+    requires { length halves.old ≡ 4096 }
+    ensures { Leaves (execution_of_half half registers.old memory.old) registers.new memory.new result }
+{
+    let place = place_of_half(registers.get(15));
+    thumb::execute_first(registers, memory, halves, place, half)
 }

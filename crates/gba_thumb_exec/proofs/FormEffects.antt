@@ -9,7 +9,6 @@ use Rattle.gba_arm_table.specs.declared.operation.CompareOp.{CompareOp}
 use Rattle.gba_arm_table.specs.declared.operation.CompareOp.TheVariants.{Tst, Cmp, Cmn}
 use Rattle.gba_arm_table.specs.declared.operation.ComputeOp.{ComputeOp}
 use Rattle.gba_arm_table.specs.declared.operation.ComputeOp.TheVariants.{And, Eor, Sub, Rsb, Add, Adc, Sbc, Orr, Mov, Bic, Mvn}
-use Rattle.gba_arm_table.specs.declared.operation.Condition.TheVariants.{Always}
 use Rattle.gba_arm_table.specs.declared.operation.HalfKind.{HalfKind}
 use Rattle.gba_arm_table.specs.declared.operation.HalfOffset.{HalfOffset}
 use Rattle.gba_arm_table.specs.declared.operation.HalfOffset.TheVariants as half_offset
@@ -26,9 +25,8 @@ use Rattle.gba_exec_transfers.specs.Done.{Done}
 use Rattle.gba_exec_transfers.specs.Effects.{effect, effect_of_word, internal}
 use Rattle.gba_psr.specs.RegisterFile.{flags}
 use Rattle.gba_thumb_exec.specs.Effects.{after_short_branch, conditional_branch, effect_of_half, short_branch, thumb_effect}
-use Rattle.gba_thumb_exec.specs.Forms.{FormFits, branch_by, condition_of_half, effect_of_form, effect_under, form_of, form_of_half, quickly}
+use Rattle.gba_thumb_exec.specs.Forms.{FormFits, branch_by, branch_distance, branch_if, effect_of_form, form_of, form_of_half, quickly}
 use Rattle.gba_thumb_exec.specs.Operations.{shift_by_constant, add_or_subtract, process_number, process_register, full_register, process_full_register, transfer_by_register, half_by_register, transfer_by_number, half_by_number, stack_transfer, stack_address, stack_move, push_or_pop, block, software_interrupt, comparison, half_transfer, plain, processing, quiet_processing, shift_by_register, small_number, transfer, words_number}
-use Rattle.gba_thumb_exec.specs.declared.forms.Form.{Form}
 use Rattle.gba_thumb_table.specs.Limits as thumb
 use Rattle.gba_thumb_table.specs.Table.{operation}
 use Rattle.gba_thumb_table.specs.declared.operation.ThumbOp.{ThumbOp}
@@ -46,17 +44,24 @@ module _ {State : Type 0} (price : Price State) (load : Load State) (store : Sto
     (quick-is : (one : Option ArmOp) (site : Site) (file : List ℕ) (bus : State)
     → effect_of_quick price load store (quick_of_word one) site file bus ≡ effect_of_word price load store one site file bus) where
   arm-is : (one : ArmOp) (site : Site) (file : List ℕ) (bus : State)
-      → effect_under price load store Always (quickly one) site file bus ≡ effect price load store one site file bus
-  unfolding effect_under effect_of_form effect_of_word
+      → effect_of_form price load store (quickly one) site file bus ≡ effect price load store one site file bus
+  unfolding effect_of_form effect_of_word
   arm-is one site file bus = quick-is (Some one) site file bus
+
+  jumped : (halfwords : ℕ) (site : Site) (file : List ℕ) (bus : State)
+      → internal price load store bus (after_jump file ((counter site + branch_distance halfwords) % 2 ^ 32))
+      (jump_cost (code_cost price bus site))
+      ≡ short_branch price load store halfwords site file bus
+  unfolding after_short_branch
+  jumped halfwords site file bus =
+      ap (λ target. internal price load store bus (after_jump file target) (jump_cost (code_cost price bus site)))
+      (wrapped (counter site) (2 * halfwords))
 
   branch-is : (halfwords : ℕ) (site : Site) (file : List ℕ) (bus : State)
       → effect_of_form price load store (branch_by halfwords) site file bus
       ≡ short_branch price load store halfwords site file bus
-  unfolding effect_of_form effect_of_quick after_short_branch
-  branch-is halfwords site file bus =
-      ap (λ target. internal price load store bus (after_jump file target) (jump_cost (code_cost price bus site)))
-      (wrapped (counter site) (2 * halfwords))
+  unfolding effect_of_form effect_of_quick
+  branch-is halfwords site file bus = jumped halfwords site file bus
 
   same-branch : (test : Bool) (one other rest : Done State) → one ≡ other
       → (if test then one else rest) ≡ (if test then other else rest)
@@ -64,25 +69,19 @@ module _ {State : Type 0} (price : Price State) (load : Load State) (store : Sto
   same-branch false one other rest same = refl
 
   conditional-is : (cond n8 : ℕ) (site : Site) (file : List ℕ) (bus : State)
-      → effect_under price load store (condition_of cond) (branch_by (sign_extension n8 8)) site file bus
+      → effect_of_form price load store (branch_if cond (sign_extension n8 8)) site file bus
       ≡ conditional_branch price load store cond n8 site file bus
-  unfolding effect_under
+  unfolding effect_of_form
   conditional-is cond n8 site file bus =
-      same-branch (holds (condition_of cond) (flags file))
-      (effect_of_form price load store (branch_by (sign_extension n8 8)) site file bus)
+      same-branch (holds (condition_of cond) (flags file)) _
       (short_branch price load store (sign_extension n8 8) site file bus)
       (internal price load store bus file (code_cost price bus site true))
-      (branch-is (sign_extension n8 8) site file bus)
-
-  always-is : (one : Form) (site : Site) (file : List ℕ) (bus : State)
-      → effect_under price load store Always one site file bus ≡ effect_of_form price load store one site file bus
-  unfolding effect_under
-  always-is one site file bus = refl
+      (jumped (sign_extension n8 8) site file bus)
 
   form-is : (one : ThumbOp) (site : Site) (file : List ℕ) (bus : State)
-      → effect_under price load store (condition_of_half (Some one)) (form_of one) site file bus
+      → effect_of_form price load store (form_of one) site file bus
       ≡ thumb_effect price load store one site file bus
-  unfolding thumb_effect effect_under effect_of_form
+  unfolding thumb_effect effect_of_form
   form-is (op.Format1 op o5 rs rd) site file bus = arm-is (shift_by_constant op o5 rs rd) site file bus
   form-is (op.Format2 i op x3 rs rd) site file bus = arm-is (add_or_subtract i op x3 rs rd) site file bus
   form-is (op.Format3 op rd n8) site file bus = arm-is (process_number op rd n8) site file bus
@@ -107,9 +106,9 @@ module _ {State : Type 0} (price : Price State) (load : Load State) (store : Sto
   form-is (op.Format19 true n11) site file bus = refl
 
   pub half-is : (one : Option ThumbOp) (site : Site) (file : List ℕ) (bus : State)
-      → effect_under price load store (condition_of_half one) (form_of_half one) site file bus
+      → effect_of_form price load store (form_of_half one) site file bus
       ≡ effect_of_half price load store one site file bus
-  unfolding effect_of_half effect_under effect_of_form
+  unfolding effect_of_half effect_of_form
   half-is None site file bus = quick-is None site file bus
   half-is (Some one) site file bus = form-is one site file bus
 

@@ -1,13 +1,12 @@
-use Rattle.std.specs.Prelude.{ℕ, Bool, true, false, List, Option, Some, None, ◌*◌, ◌%◌, ◌^◌, ◌<◌, if◌then◌else◌}
+use Rattle.std.specs.Prelude.{ℕ, Bool, true, false, List, Option, Some, None, ◌+◌, ◌*◌, ◌%◌, ◌^◌, ◌<◌, if◌then◌else◌}
 use Rattle.gba_arm_table.specs.Numbers.{condition_of}
 use Rattle.gba_arm_table.specs.declared.operation.ArmOp.{ArmOp}
 use Rattle.gba_arm_table.specs.declared.operation.Condition.{Condition}
-use Rattle.gba_arm_table.specs.declared.operation.Condition.TheVariants.{Always}
 use Rattle.gba_bus.specs.Meanings.{Load, Price, Store}
 use Rattle.gba_exec_quick.specs.Effects.{effect_of_quick}
 use Rattle.gba_exec_quick.specs.Making.{QuickFits, quick_of_word}
 use Rattle.gba_exec_quick.specs.declared.quick.Quick.TheVariants as quick
-use Rattle.gba_exec_registers.specs.Access.{code_cost}
+use Rattle.gba_exec_registers.specs.Access.{after_jump, code_cost, counter, jump_cost}
 use Rattle.gba_exec_registers.specs.Conditions.{holds}
 use Rattle.gba_exec_registers.specs.declared.site.Site.{Site}
 use Rattle.gba_exec_transfers.specs.Done.{Done}
@@ -23,11 +22,6 @@ use Rattle.gba_word.specs.Extension.{sign_extension}
 
 -- How halfwords are performed. The law `forms_have_their_effect` says that they then have the effect of their operation.
 
--- the condition under which a halfword executes: a branch has one, all others execute always
-abbrev pub condition_of_half : Option ThumbOp → Condition
-condition_of_half (Some (op.Format16 cond n8)) = condition_of cond
-condition_of_half _ = Always
-
 -- a jump by so many halfwords, as a number of bytes modulo 2 ^ 32
 abbrev pub branch_distance : ℕ → ℕ
 branch_distance halfwords = 2 * halfwords % 2 ^ 32
@@ -38,6 +32,9 @@ quickly arm = form.Quick (quick_of_word (Some arm))
 
 abbrev pub branch_by : ℕ → Form
 branch_by halfwords = form.Quick (quick.Branch (branch_distance halfwords))
+
+abbrev pub branch_if : ℕ → ℕ → Form
+branch_if cond halfwords = form.BranchIf (condition_of cond) (branch_distance halfwords)
 
 -- how an operation is performed
 abbrev pub form_of : ThumbOp → Form
@@ -57,7 +54,7 @@ form_of (op.Format12 true rd n8) = quickly (stack_address rd n8)
 form_of (op.Format13 s n7) = quickly (stack_move s n7)
 form_of (op.Format14 l r list8) = quickly (push_or_pop l r list8)
 form_of (op.Format15 l rb list8) = quickly (block l rb list8)
-form_of (op.Format16 cond n8) = branch_by (sign_extension n8 8)
+form_of (op.Format16 cond n8) = branch_if cond (sign_extension n8 8)
 form_of (op.Format17 n8) = quickly (software_interrupt n8)
 form_of (op.Format18 n11) = branch_by (sign_extension n11 11)
 form_of (op.Format19 false n11) = form.LinkHigh n11
@@ -71,6 +68,7 @@ form_of_half (Some operation) = form_of operation
 -- a form whose registers and numbers fit
 abbrev pub FormFits : Form → Type 0
 FormFits (form.Quick one) = QuickFits one
+FormFits (form.BranchIf condition distance) = Unit {0}
 FormFits (form.NearLoad rd words) = (rd < 8) × (words < 256)
 FormFits (form.NearAddress rd words) = (rd < 8) × (words < 256)
 FormFits (form.LinkHigh n11) = n11 < 2048
@@ -79,23 +77,27 @@ FormFits (form.LinkLow n11) = n11 < 2048
 -- the forms that no ARM operation says
 abbrev pub is_near : Form → Bool
 is_near (form.Quick one) = false
+is_near (form.BranchIf condition distance) = false
 is_near (form.NearLoad rd words) = true
 is_near (form.NearAddress rd words) = true
 is_near (form.LinkHigh n11) = true
 is_near (form.LinkLow n11) = true
 
 module _ {State : Type 0} (price : Price State) (load : Load State) (store : Store State) where
+  -- B under a condition, which costs 1S where it doesn't hold
+  abbrev pub branch_under : Condition → ℕ → Site → List ℕ → State → Done State
+  branch_under condition distance site file bus =
+      if holds condition (flags file)
+      then internal price load store bus (after_jump file ((counter site + distance) % 2 ^ 32))
+      (jump_cost (code_cost price bus site))
+      else internal price load store bus file (code_cost price bus site true)
+
   -- what a form leaves
   unfoldable pub effect_of_form : Form → Site → List ℕ → State → Done State
   effect_of_form (form.Quick one) site file bus = effect_of_quick price load store one site file bus
+  effect_of_form (form.BranchIf condition distance) site file bus = branch_under condition distance site file bus
   effect_of_form (form.NearLoad rd words) site file bus = after_near_load price load store rd words site file bus
   effect_of_form (form.NearAddress rd words) site file bus =
       internal price load store bus (with_register file rd (near_address words site)) (code_cost price bus site true)
   effect_of_form (form.LinkHigh n11) site file bus = link_half price load store false n11 site file bus
   effect_of_form (form.LinkLow n11) site file bus = link_half price load store true n11 site file bus
-
-  -- what a form leaves under a condition, which costs 1S where it doesn't hold
-  unfoldable pub effect_under : Condition → Form → Site → List ℕ → State → Done State
-  effect_under condition one site file bus =
-      if holds condition (flags file) then effect_of_form one site file bus
-      else internal price load store bus file (code_cost price bus site true)

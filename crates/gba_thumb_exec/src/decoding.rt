@@ -1,8 +1,7 @@
 //! Decoding a halfword once.
 
-ghost use Rattle.std.specs.Prelude.{◌≡◌, IfSome, IsTrue};
-ghost use Rattle.gba_arm_table.specs.declared.operation.Condition.TheVariants.{Always};
-ghost use Rattle.gba_thumb_exec.specs.Forms.{branch_by, condition_of_half, form_of, form_of_half};
+ghost use Rattle.std.specs.Prelude.{◌≡◌, ◌<◌, IfSome};
+ghost use Rattle.gba_thumb_exec.specs.Forms.{branch_by, branch_distance, branch_if, form_of, form_of_half};
 ghost use Rattle.gba_thumb_table.specs.Limits.{Fits};
 ghost use Rattle.gba_thumb_table.specs.Table.{operation};
 
@@ -13,7 +12,6 @@ use crate::operations::{
 };
 use crate::performing::numbered_condition;
 use crate::{DecodedHalf, Form};
-use gba_arm_table::Condition;
 use gba_exec_quick::{Quick, quick_of_word};
 use gba_thumb_table::laws::operations_fit;
 use gba_thumb_table::{ThumbOp, decode};
@@ -33,32 +31,9 @@ pub fn make_decoded(half: u16, op: Option<ThumbOp>) -> DecodedHalf
     requires fits { IfSome op Fits }
     ensures { result.half ≡ half }
 {
-    let condition = condition_of_half(op);
     DecodedHalf {
         half,
-        condition,
-        always: is_always(condition),
         form: form_of_half(op),
-    }
-}
-
-fn is_always(condition: Condition) -> bool
-    ensures { IsTrue result → condition ≡ Always }
-{
-    match condition {
-        Condition::Always => true,
-        _ => false,
-    }
-}
-
-// The condition under which a halfword executes.
-fn condition_of_half(op: Option<ThumbOp>) -> Condition
-    requires { IfSome op Fits }
-    ensures { result ≡ condition_of_half op }
-{
-    match op {
-        Some(ThumbOp::Format16 { cond, .. }) => numbered_condition(cond),
-        _ => Condition::Always,
     }
 }
 
@@ -73,13 +48,32 @@ fn form_of_half(op: Option<ThumbOp>) -> Form
     }
 }
 
-// A jump by so many halfwords.
+// A jump by so many halfwords, as a number of bytes.
+fn branch_distance(halfwords: u32) -> u32
+    ensures { result ≡ branch_distance halfwords }
+{
+    halfwords.wrapping_mul(2)
+}
+
+// B.
 fn branch_by(halfwords: u32) -> Form
     ensures { result ≡ branch_by halfwords }
 {
-    let distance = halfwords.wrapping_mul(2);
     Form::Quick {
-        quick: Quick::Branch { distance },
+        quick: Quick::Branch {
+            distance: branch_distance(halfwords),
+        },
+    }
+}
+
+// B under a condition.
+fn branch_if(cond: u16, halfwords: u32) -> Form
+    requires { cond < 16 }
+    ensures { result ≡ branch_if cond halfwords }
+{
+    Form::BranchIf {
+        condition: numbered_condition(cond),
+        distance: branch_distance(halfwords),
     }
 }
 
@@ -109,7 +103,7 @@ fn form_of(op: ThumbOp) -> Form
         ThumbOp::Format13 { s, n7 } => stack_move(s, n7),
         ThumbOp::Format14 { l, r, list8 } => push_or_pop(l, r, list8),
         ThumbOp::Format15 { l, rb, list8 } => block(l, rb, list8),
-        ThumbOp::Format16 { n8, .. } => return branch_by(sign_extend(u32::from(n8), 8)),
+        ThumbOp::Format16 { cond, n8 } => return branch_if(cond, sign_extend(u32::from(n8), 8)),
         ThumbOp::Format17 { n8 } => software_interrupt(n8),
         ThumbOp::Format18 { n11 } => return branch_by(sign_extend(u32::from(n11), 11)),
         ThumbOp::Format19 { second: false, n11 } => return Form::LinkHigh { n11 },

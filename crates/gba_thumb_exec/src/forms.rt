@@ -1,8 +1,7 @@
 //! How halfwords are performed: most by the quick form of their ARM operation, the others by equations of their own.
 
-ghost use Rattle.std.specs.Prelude.{◌≡◌, IsTrue};
-ghost use Rattle.gba_arm_table.specs.declared.operation.Condition.TheVariants.{Always};
-ghost use Rattle.gba_thumb_exec.specs.Forms.{condition_of_half, form_of_half};
+ghost use Rattle.std.specs.Prelude.{◌≡◌};
+ghost use Rattle.gba_thumb_exec.specs.Forms.{form_of_half};
 ghost use Rattle.gba_thumb_table.specs.Table.{operation};
 
 use gba_arm_table::Condition;
@@ -13,6 +12,8 @@ use gba_exec_quick::Quick;
 pub enum Form {
     /// As an ARM operation.
     Quick { quick: Quick },
+    /// B by so many bytes modulo 2^32, where the condition holds.
+    BranchIf { condition: Condition, distance: u32 },
     /// LDR from so many words above the PC.
     NearLoad { rd: u16, words: u16 },
     /// The address so many words above the PC.
@@ -23,16 +24,11 @@ pub enum Form {
     LinkLow { n11: u16 },
 }
 
-/// A halfword with its condition and the form of its operation.
+/// A halfword with the form of its operation.
 #[derive(Clone, Copy)]
 pub struct DecodedHalf {
     /// The halfword that was decoded.
     pub half: u16,
-    pub(crate) condition: Condition,
-    /// The condition is Always. It may be false also where it is, and is then tested.
-    pub(crate) always: bool,
     pub(crate) form: Form,
-    ghost when: { condition ≡ condition_of_half (operation half) },
-    ghost ever: { IsTrue always → condition ≡ Always },
     ghost right: { form ≡ form_of_half (operation half) },
 }

@@ -5,7 +5,7 @@ ghost use Rattle.gba_exec_transfers.specs.Done.{IsStepLength};
 ghost use Rattle.gba_exec_registers.specs.declared.site.Site.{Site};
 ghost use Rattle.gba_thumb_exec.specs.Effects.{effect_of_half};
 ghost use Rattle.gba_thumb_exec.specs.Execution.{execution};
-ghost use Rattle.gba_thumb_exec.specs.Forms.{FormFits, condition_of_half, effect_under, form_of_half};
+ghost use Rattle.gba_thumb_exec.specs.Forms.{FormFits, effect_of_form, form_of_half};
 ghost use Rattle.gba_thumb_table.specs.Table.{operation};
 ghost use Rattle.gba_thumb_table.specs.declared.operation.ThumbOp.{ThumbOp};
 
@@ -22,10 +22,10 @@ pub fn cycles_of_a_halfword<B: Bus>()
     cycles_of_an_operation::<B>();
 }
 
-/// A halfword's form under its condition has the effect of its operation, whatever the register file and the bus are.
+/// A halfword's form has the effect of its operation, whatever the register file and the bus are.
 pub fn forms_have_their_effect<B: Bus>()
     ensures { (op : Option ThumbOp) (site : Site) (file : List ℕ) (bus : B.State) →
-        effect_under B.code_price_of B.load_of B.store_of (condition_of_half op) (form_of_half op) site file bus
+        effect_of_form B.code_price_of B.load_of B.store_of (form_of_half op) site file bus
         ≡ effect_of_half B.code_price_of B.load_of B.store_of op site file bus }
 {
     quick_forms_have_their_effect::<B>();

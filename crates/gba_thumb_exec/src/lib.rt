@@ -2,11 +2,8 @@
 //! What each Thumb instruction does to registers and memory, over any bus, and what it costs.
 
 ghost use Rattle.std.specs.Prelude.{◌≡◌, ◌<◌, length};
-ghost use Rattle.gba_exec_registers.specs.Conditions.{holds};
 ghost use Rattle.gba_exec_transfers.specs.Done.{Leaves};
-ghost use Rattle.gba_psr.specs.RegisterFile.{flags};
 ghost use Rattle.gba_thumb_exec.specs.Execution.{execution};
-ghost use Rattle.gba_thumb_exec.specs.Forms.{FormFits, effect_under};
 ghost use Rattle.gba_thumb_table.specs.Table.{operation};
 
 mod decoding;
@@ -20,9 +17,8 @@ pub use decoding::decode_half;
 use decoding::make_decoded;
 use forming::perform_form;
 pub use forms::{DecodedHalf, Form};
-use gba_arm_table::Condition;
 use gba_bus::Bus;
-use gba_exec_registers::{Site, code_price, condition_holds};
+use gba_exec_registers::Site;
 use gba_psr::Registers;
 use gba_thumb_table::laws::operations_fit;
 use gba_thumb_table::{ThumbOp, decode};
@@ -53,7 +49,7 @@ pub fn execute_decoded<B: Bus>(registers: &mut Registers, bus: &mut B, one: &Dec
         thumb: true,
     };
     registers.set(15, site.address.wrapping_add(2));
-    perform_under(registers, bus, site, one)
+    perform_form(registers, bus, site, &one.form)
 }
 
 /// Executes a halfword as `execute` does, and keeps it decoded at a place of the table.
@@ -94,32 +90,4 @@ fn execute_operation<B: Bus>(
     };
     registers.set(15, site.address.wrapping_add(2));
     perform_half(registers, bus, site, op)
-}
-
-// Performs a decoded halfword. r15 is the address of the next instruction.
-#[inline(always)]
-#[tactic(auto, unfolding(crate::specs::Forms::effect_under))]
-fn perform_under<B: Bus>(
-    registers: &mut Registers,
-    bus: &mut B,
-    site: Site,
-    one: &DecodedHalf,
-) -> u32
-    requires { FormFits one.now.form }
-    ensures { Leaves (effect_under B.code_price_of B.load_of B.store_of one.now.condition one.now.form site
-        registers.old (B.state bus.old)) registers.new (B.state bus.new) result }
-{
-    if one.always || holds_now(registers, one.condition) {
-        perform_form(registers, bus, site, &one.form)
-    } else {
-        code_price(bus, site, true)
-    }
-}
-
-// Whether a condition holds by the flags as they are.
-#[inline(never)]
-fn holds_now(registers: &Registers, condition: Condition) -> bool
-    ensures { result ≡ holds condition (flags registers.now) }
-{
-    condition_holds(condition, registers.flags())
 }
