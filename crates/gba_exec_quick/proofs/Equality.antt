@@ -261,12 +261,16 @@ module _ {State : Type 0} (price : Price State) (load : Load State) (store : Sto
   shifted-is cond kind set rn rd rm shift amount site file bus n d true a m' a' =
       other-is _ (op.Compute cond kind set rn rd (operand.Fixed rm shift amount)) site file bus (rw m' refl)
   shifted-is cond kind true rn rd rm Lsl amount site file bus n d false true m a =
-      form-effect (set_plain_form kind rn rd rm) _ _ site file bus (rw (m, a) refl)
+      let whole = op.Compute cond kind true rn rd (operand.Fixed rm Lsl amount) in
+      form-effect (set_plain_form kind rn rd rm) whole (compute_shifted whole kind true rn rd rm Lsl amount) site file bus
+      (rw (m, a) refl)
       (set_plain_form-is kind rn rd rm site file bus
       ∙ fixed-set cond kind rn rd rm Lsl amount (register file rm, (flags file).carry) site file bus
       (plain-operand rm amount (counter site) (flags file).carry file m a) n d)
   shifted-is cond kind false rn rd rm Lsl amount site file bus n d false true m a =
-      form-effect (plain_form kind rn rd rm) _ _ site file bus (rw (m, a) refl)
+      let whole = op.Compute cond kind false rn rd (operand.Fixed rm Lsl amount) in
+      form-effect (plain_form kind rn rd rm) whole (compute_shifted whole kind false rn rd rm Lsl amount) site file bus
+      (rw (m, a) refl)
       (plain_form-is kind rn rd rm site file bus
       ∙ fixed-value cond kind rn rd rm Lsl amount (register file rm, (flags file).carry) site file bus
       (plain-operand rm amount (counter site) (flags file).carry file m a) n d)
@@ -284,7 +288,9 @@ module _ {State : Type 0} (price : Price State) (load : Load State) (store : Sto
       ∙ fixed-set cond kind rn rd rm shift amount (nonzero_shift shift (register file rm) amount) site file bus
       (shifted-operand rm shift amount (counter site) (flags file).carry file m a) n d)
   shifted-is cond kind false rn rd rm shift amount site file bus n d false false m a =
-      form-effect (quick.Shifted kind rn rd rm shift amount) _ _ site file bus (rw (m, a) refl)
+      let whole = op.Compute cond kind false rn rd (operand.Fixed rm shift amount) in
+      form-effect (quick.Shifted kind rn rd rm shift amount) whole
+      (compute_shifted whole kind false rn rd rm shift amount) site file bus (rw (m, a) refl)
       (fixed-value cond kind rn rd rm shift amount (nonzero_shift shift (register file rm) amount) site file bus
       (shifted-operand rm shift amount (counter site) (flags file).carry file m a) n d)
 
@@ -362,7 +368,9 @@ module _ {State : Type 0} (price : Price State) (load : Load State) (store : Sto
   compare_shifted-is cond kind rn rm shift amount site file bus n true a m' a' =
       other-is _ (op.Compare cond kind rn (operand.Fixed rm shift amount)) site file bus (rw m' refl)
   compare_shifted-is cond kind rn rm Lsl amount site file bus n false true m a =
-      form-effect (compare_plain_form (compute_op_of kind) rn rm) _ _ site file bus (rw (m, a) refl)
+      let whole = op.Compare cond kind rn (operand.Fixed rm Lsl amount) in
+      form-effect (compare_plain_form (compute_op_of kind) rn rm) whole
+      (compare_shifted whole (compute_op_of kind) rn rm Lsl amount) site file bus (rw (m, a) refl)
       (compare_plain_form-is (compute_op_of kind) rn rm site file bus
       ∙ fixed-compare cond kind rn rm Lsl amount (register file rm, (flags file).carry) site file bus
       (plain-operand rm amount (counter site) (flags file).carry file m a) n)
@@ -373,7 +381,9 @@ module _ {State : Type 0} (price : Price State) (load : Load State) (store : Sto
   compare_shifted-is cond kind rn rm Ror amount site file bus n false true m a =
       other-is _ (op.Compare cond kind rn (operand.Fixed rm Ror amount)) site file bus (rw (m, a) refl)
   compare_shifted-is cond kind rn rm shift amount site file bus n false false m a =
-      form-effect (quick.CompareShifted (compute_op_of kind) rn rm shift amount) _ _ site file bus (rw (m, a) refl)
+      let whole = op.Compare cond kind rn (operand.Fixed rm shift amount) in
+      form-effect (quick.CompareShifted (compute_op_of kind) rn rm shift amount) whole
+      (compare_shifted whole (compute_op_of kind) rn rm shift amount) site file bus (rw (m, a) refl)
       (fixed-compare cond kind rn rm shift amount (nonzero_shift shift (register file rm) amount) site file bus
       (shifted-operand rm shift amount (counter site) (flags file).carry file m a) n)
 

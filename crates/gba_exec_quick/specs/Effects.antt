@@ -3,7 +3,7 @@ use Rattle.gba_terms.specs.Bits.{bit}
 use Rattle.gba_word.specs.Shifts.{nonzero_shift}
 use Rattle.gba_word.specs.declared.kinds.Shift.{Shift}
 use Rattle.gba_arm_table.specs.declared.operation.ComputeOp.{ComputeOp}
-use Rattle.gba_arm_table.specs.declared.operation.ComputeOp.TheVariants.{And, Eor, Sub, Rsb, Add, Orr, Mov, Bic, Mvn}
+use Rattle.gba_arm_table.specs.declared.operation.ComputeOp.TheVariants.{And, Eor, Sub, Rsb, Add, Adc, Orr, Mov, Bic, Mvn}
 use Rattle.gba_bus.specs.Meanings.{Load, Price, Store}
 use Rattle.gba_bus.specs.declared.width.Width.{Width}
 use Rattle.gba_bus.specs.declared.width.Width.TheVariants as width
@@ -134,6 +134,12 @@ module _ {State : Type 0} (price : Price State) (load : Load State) (store : Sto
       after_set_number Mov rn rd value turned site file bus
   effect_of_quick (quick.SetAddPlain rn rd rm) site file bus = after_set_plain Add rn rd rm site file bus
   effect_of_quick (quick.SetSubPlain rn rd rm) site file bus = after_set_plain Sub rn rd rm site file bus
+  effect_of_quick (quick.SetAndPlain rn rd rm) site file bus = after_set_plain And rn rd rm site file bus
+  effect_of_quick (quick.SetEorPlain rn rd rm) site file bus = after_set_plain Eor rn rd rm site file bus
+  effect_of_quick (quick.SetAdcPlain rn rd rm) site file bus = after_set_plain Adc rn rd rm site file bus
+  effect_of_quick (quick.SetOrrPlain rn rd rm) site file bus = after_set_plain Orr rn rd rm site file bus
+  effect_of_quick (quick.SetBicPlain rn rd rm) site file bus = after_set_plain Bic rn rd rm site file bus
+  effect_of_quick (quick.SetMvnPlain rn rd rm) site file bus = after_set_plain Mvn rn rd rm site file bus
   effect_of_quick (quick.SetMovShifted rn rd rm shift amount) site file bus =
       after_set_shifted Mov rn rd rm shift amount site file bus
   effect_of_quick (quick.CompareNumber kind rn value turned) site file bus =

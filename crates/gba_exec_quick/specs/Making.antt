@@ -7,7 +7,7 @@ use Rattle.gba_arm_table.specs.Limits.{Fits}
 use Rattle.gba_arm_table.specs.declared.operation.ArmOp.{ArmOp}
 use Rattle.gba_arm_table.specs.declared.operation.ArmOp.TheVariants as op
 use Rattle.gba_arm_table.specs.declared.operation.ComputeOp.{ComputeOp}
-use Rattle.gba_arm_table.specs.declared.operation.ComputeOp.TheVariants.{And, Eor, Sub, Rsb, Add, Orr, Mov, Bic, Mvn}
+use Rattle.gba_arm_table.specs.declared.operation.ComputeOp.TheVariants.{And, Eor, Sub, Rsb, Add, Adc, Orr, Mov, Bic, Mvn}
 use Rattle.gba_arm_table.specs.declared.operation.HalfKind.{HalfKind}
 use Rattle.gba_arm_table.specs.declared.operation.HalfKind.TheVariants.{StoreHalf, LoadHalf, LoadSignedByte, LoadSignedHalf}
 use Rattle.gba_arm_table.specs.declared.operation.HalfOffset.TheVariants as half_offset
@@ -63,6 +63,12 @@ set_number_form kind rn rd value turned = quick.SetNumber kind rn rd value turne
 abbrev pub set_plain_form : ComputeOp → ℕ → ℕ → ℕ → Quick
 set_plain_form Add rn rd rm = quick.SetAddPlain rn rd rm
 set_plain_form Sub rn rd rm = quick.SetSubPlain rn rd rm
+set_plain_form And rn rd rm = quick.SetAndPlain rn rd rm
+set_plain_form Eor rn rd rm = quick.SetEorPlain rn rd rm
+set_plain_form Adc rn rd rm = quick.SetAdcPlain rn rd rm
+set_plain_form Orr rn rd rm = quick.SetOrrPlain rn rd rm
+set_plain_form Bic rn rd rm = quick.SetBicPlain rn rd rm
+set_plain_form Mvn rn rd rm = quick.SetMvnPlain rn rd rm
 set_plain_form kind rn rd rm = quick.SetPlain kind rn rd rm
 
 abbrev pub set_shifted_form : ComputeOp → ℕ → ℕ → ℕ → Shift → ℕ → Quick
@@ -182,6 +188,12 @@ QuickFits (quick.SetSubNumber rn rd value turned) = (rn < 16) × (rd < 16)
 QuickFits (quick.SetMovNumber rn rd value turned) = (rn < 16) × (rd < 16)
 QuickFits (quick.SetAddPlain rn rd rm) = (rn < 16) × (rd < 16) × (rm < 16)
 QuickFits (quick.SetSubPlain rn rd rm) = (rn < 16) × (rd < 16) × (rm < 16)
+QuickFits (quick.SetAndPlain rn rd rm) = (rn < 16) × (rd < 16) × (rm < 16)
+QuickFits (quick.SetEorPlain rn rd rm) = (rn < 16) × (rd < 16) × (rm < 16)
+QuickFits (quick.SetAdcPlain rn rd rm) = (rn < 16) × (rd < 16) × (rm < 16)
+QuickFits (quick.SetOrrPlain rn rd rm) = (rn < 16) × (rd < 16) × (rm < 16)
+QuickFits (quick.SetBicPlain rn rd rm) = (rn < 16) × (rd < 16) × (rm < 16)
+QuickFits (quick.SetMvnPlain rn rd rm) = (rn < 16) × (rd < 16) × (rm < 16)
 QuickFits (quick.SetMovShifted rn rd rm shift amount) = (rn < 16) × (rd < 16) × (rm < 16) × (0 < amount) × (amount ≤ 31)
 QuickFits (quick.CompareNumber kind rn value turned) = rn < 16
 QuickFits (quick.CmpNumber rn value turned) = rn < 16

@@ -395,6 +395,12 @@ fn set_plain_form(op: ComputeOp, rn: u8, rd: u8, rm: u8) -> Quick
     match op {
         ComputeOp::Add => Quick::SetAddPlain { rn, rd, rm },
         ComputeOp::Sub => Quick::SetSubPlain { rn, rd, rm },
+        ComputeOp::And => Quick::SetAndPlain { rn, rd, rm },
+        ComputeOp::Eor => Quick::SetEorPlain { rn, rd, rm },
+        ComputeOp::Adc => Quick::SetAdcPlain { rn, rd, rm },
+        ComputeOp::Orr => Quick::SetOrrPlain { rn, rd, rm },
+        ComputeOp::Bic => Quick::SetBicPlain { rn, rd, rm },
+        ComputeOp::Mvn => Quick::SetMvnPlain { rn, rd, rm },
         _ => Quick::SetPlain { op, rn, rd, rm },
     }
 }

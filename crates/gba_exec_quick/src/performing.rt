@@ -139,6 +139,24 @@ pub fn perform_quick<B: Bus>(registers: &mut Registers, bus: &mut B, site: Site,
         Quick::SetSubPlain { rn, rd, rm } => {
             set_plain(registers, bus, site, ComputeOp::Sub, rn, rd, rm)
         }
+        Quick::SetAndPlain { rn, rd, rm } => {
+            set_plain(registers, bus, site, ComputeOp::And, rn, rd, rm)
+        }
+        Quick::SetEorPlain { rn, rd, rm } => {
+            set_plain(registers, bus, site, ComputeOp::Eor, rn, rd, rm)
+        }
+        Quick::SetAdcPlain { rn, rd, rm } => {
+            set_plain(registers, bus, site, ComputeOp::Adc, rn, rd, rm)
+        }
+        Quick::SetOrrPlain { rn, rd, rm } => {
+            set_plain(registers, bus, site, ComputeOp::Orr, rn, rd, rm)
+        }
+        Quick::SetBicPlain { rn, rd, rm } => {
+            set_plain(registers, bus, site, ComputeOp::Bic, rn, rd, rm)
+        }
+        Quick::SetMvnPlain { rn, rd, rm } => {
+            set_plain(registers, bus, site, ComputeOp::Mvn, rn, rd, rm)
+        }
         Quick::SetMovShifted {
             rn,
             rd,
@@ -246,6 +264,24 @@ pub fn perform_quick_in_thumb<B: Bus>(
         }
         Quick::SetSubPlain { rn, rd, rm } => {
             set_plain(registers, bus, site, ComputeOp::Sub, rn, rd, rm)
+        }
+        Quick::SetAndPlain { rn, rd, rm } => {
+            set_plain(registers, bus, site, ComputeOp::And, rn, rd, rm)
+        }
+        Quick::SetEorPlain { rn, rd, rm } => {
+            set_plain(registers, bus, site, ComputeOp::Eor, rn, rd, rm)
+        }
+        Quick::SetAdcPlain { rn, rd, rm } => {
+            set_plain(registers, bus, site, ComputeOp::Adc, rn, rd, rm)
+        }
+        Quick::SetOrrPlain { rn, rd, rm } => {
+            set_plain(registers, bus, site, ComputeOp::Orr, rn, rd, rm)
+        }
+        Quick::SetBicPlain { rn, rd, rm } => {
+            set_plain(registers, bus, site, ComputeOp::Bic, rn, rd, rm)
+        }
+        Quick::SetMvnPlain { rn, rd, rm } => {
+            set_plain(registers, bus, site, ComputeOp::Mvn, rn, rd, rm)
         }
         Quick::SetMovShifted {
             rn,
@@ -394,6 +430,24 @@ fn perform_any<B: Bus>(registers: &mut Registers, bus: &mut B, site: Site, one: 
         }
         Quick::SetSubPlain { rn, rd, rm } => {
             set_plain(registers, bus, site, ComputeOp::Sub, rn, rd, rm)
+        }
+        Quick::SetAndPlain { rn, rd, rm } => {
+            set_plain(registers, bus, site, ComputeOp::And, rn, rd, rm)
+        }
+        Quick::SetEorPlain { rn, rd, rm } => {
+            set_plain(registers, bus, site, ComputeOp::Eor, rn, rd, rm)
+        }
+        Quick::SetAdcPlain { rn, rd, rm } => {
+            set_plain(registers, bus, site, ComputeOp::Adc, rn, rd, rm)
+        }
+        Quick::SetOrrPlain { rn, rd, rm } => {
+            set_plain(registers, bus, site, ComputeOp::Orr, rn, rd, rm)
+        }
+        Quick::SetBicPlain { rn, rd, rm } => {
+            set_plain(registers, bus, site, ComputeOp::Bic, rn, rd, rm)
+        }
+        Quick::SetMvnPlain { rn, rd, rm } => {
+            set_plain(registers, bus, site, ComputeOp::Mvn, rn, rd, rm)
         }
         Quick::SetMovShifted {
             rn,

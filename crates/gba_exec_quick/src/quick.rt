@@ -154,6 +154,36 @@ pub enum Quick {
         rd: u8,
         rm: u8,
     },
+    SetAndPlain {
+        rn: u8,
+        rd: u8,
+        rm: u8,
+    },
+    SetEorPlain {
+        rn: u8,
+        rd: u8,
+        rm: u8,
+    },
+    SetAdcPlain {
+        rn: u8,
+        rd: u8,
+        rm: u8,
+    },
+    SetOrrPlain {
+        rn: u8,
+        rd: u8,
+        rm: u8,
+    },
+    SetBicPlain {
+        rn: u8,
+        rd: u8,
+        rm: u8,
+    },
+    SetMvnPlain {
+        rn: u8,
+        rd: u8,
+        rm: u8,
+    },
     SetMovShifted {
         rn: u8,
         rd: u8,

@@ -74,10 +74,10 @@ FormFits (form.NearAddress rd words) = (rd < 8) × (words < 256)
 FormFits (form.LinkHigh n11) = n11 < 2048
 FormFits (form.LinkLow n11) = n11 < 2048
 
--- the forms that no ARM operation says
+-- the forms that no quick form says
 abbrev pub is_near : Form → Bool
 is_near (form.Quick one) = false
-is_near (form.BranchIf condition distance) = false
+is_near (form.BranchIf condition distance) = true
 is_near (form.NearLoad rd words) = true
 is_near (form.NearAddress rd words) = true
 is_near (form.LinkHigh n11) = true

@@ -24,19 +24,11 @@ pub fn perform_form<B: Bus>(registers: &mut Registers, bus: &mut B, site: Site, 
 {
     match one {
         Form::Quick { quick } => perform_quick_in_thumb(registers, bus, site, quick),
-        Form::BranchIf {
-            condition,
-            distance,
-        } => branch_under(registers, bus, site, *condition, *distance),
-        Form::NearLoad { .. }
-        | Form::NearAddress { .. }
-        | Form::LinkHigh { .. }
-        | Form::LinkLow { .. } => perform_near(registers, bus, site, one),
+        _ => perform_near(registers, bus, site, one),
     }
 }
 
 // B under a condition.
-#[inline(always)]
 fn branch_under<B: Bus>(
     registers: &mut Registers,
     bus: &B,
@@ -56,14 +48,13 @@ fn branch_under<B: Bus>(
 }
 
 // Whether a condition holds by the flags as they are.
-#[inline(never)]
 fn holds_now(registers: &Registers, condition: Condition) -> bool
     ensures { result ≡ holds condition (flags registers.now) }
 {
     condition_holds(condition, registers.flags())
 }
 
-// The forms that no ARM operation says.
+// The forms that no quick form says.
 #[inline(never)]
 #[tactic(auto, unfolding(crate::specs::Forms::effect_of_form))]
 fn perform_near<B: Bus>(registers: &mut Registers, bus: &mut B, site: Site, one: &Form) -> u32
@@ -86,6 +77,10 @@ fn perform_near<B: Bus>(registers: &mut Registers, bus: &mut B, site: Site, one:
             link_low(registers, n11);
             jump_price(bus, site)
         }
-        Form::Quick { .. } | Form::BranchIf { .. } => unreachable!(),
+        Form::BranchIf {
+            condition,
+            distance,
+        } => branch_under(registers, bus, site, condition, distance),
+        Form::Quick { .. } => unreachable!(),
     }
 }
