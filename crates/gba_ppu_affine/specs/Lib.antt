@@ -1,0 +1,3 @@
+pub mod Affine
+pub mod Bitmap
+pub mod Places

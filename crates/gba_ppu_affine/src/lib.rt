@@ -1,0 +1,9 @@
+#![tactic(auto)]
+//! The dots of affine backgrounds and of bitmaps, line by line.
+
+mod affine;
+mod bitmap;
+mod walk;
+
+pub use affine::affine_line;
+pub use bitmap::bitmap_line;
