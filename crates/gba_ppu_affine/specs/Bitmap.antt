@@ -1,4 +1,4 @@
-use Rattle.std.specs.Prelude.{ℕ, ◌+◌, ◌*◌, ◌&&◌, ◌==◌, nat_lt, List, slice_index, if◌then◌else◌}
+use Rattle.std.specs.Prelude.{ℕ, Bool, ◌+◌, ◌*◌, ◌&&◌, ◌==◌, nat_lt, List, slice_index, if◌then◌else◌}
 use Rattle.gba_terms.specs.Bits.{bit}
 use Rattle.gba_ppu_reg.specs.Registers.{Picture, picture_kept, picture_mode}
 use Rattle.gba_ppu_dot.specs.Bytes.{half_at}
@@ -12,16 +12,25 @@ use Rattle.gba_ppu_affine.specs.Places.{place_across, place_down}
 abbrev pub page_start : Picture → ℕ
 page_start r = if bit (picture_kept 0x000 r) 4 then 0xa000 else 0
 
--- Mode 3 has 240 x 160 colours, mode 4 as many entries of the palette, mode 5 160 x 128 colours, row by row. A colour is a
--- halfword, an entry a byte. Past the edges there is nothing, and in other modes there is none of it (own).
+-- A bitmap of so many columns and rows has a halfword with the colour for each dot, or a byte with the palette's entry, row
+-- by row from an offset on. Past its edges there is nothing.
+abbrev pub is_inside : ℕ → ℕ → ℕ → ℕ → Bool
+is_inside columns rows u v = nat_lt u columns && nat_lt v rows
+
+abbrev pub colours_dot : ℕ → ℕ → ℕ → List ℕ → ℕ → ℕ → ℕ → Dot
+colours_dot columns rows start vram priority u v =
+    if is_inside columns rows u v then coloured_dot priority (half_at vram (start + 2 * (columns * v + u))) else clear_dot
+
+abbrev pub entries_dot : ℕ → ℕ → ℕ → List ℕ → ℕ → ℕ → ℕ → Dot
+entries_dot columns rows start vram priority u v =
+    if is_inside columns rows u v then indexed_dot priority 0 (slice_index vram (start + columns * v + u)) else clear_dot
+
+-- the bitmaps of the modes; in a mode without one there is nothing (own)
 unfoldable pub bitmap_dot : ℕ → ℕ → List ℕ → ℕ → ℕ → ℕ → Dot
 bitmap_dot mode page vram priority u v =
-    if mode == 3 then
-    (if nat_lt u 240 && nat_lt v 160 then coloured_dot priority (half_at vram (2 * (240 * v + u))) else clear_dot)
-    else if mode == 4 then
-    (if nat_lt u 240 && nat_lt v 160 then indexed_dot priority 0 (slice_index vram (page + 240 * v + u)) else clear_dot)
-    else if mode == 5 then
-    (if nat_lt u 160 && nat_lt v 128 then coloured_dot priority (half_at vram (page + 2 * (160 * v + u))) else clear_dot)
+    if mode == 3 then colours_dot 240 160 0 vram priority u v
+    else if mode == 4 then entries_dot 240 160 page vram priority u v
+    else if mode == 5 then colours_dot 160 128 page vram priority u v
     else clear_dot
 
 -- The pixel at x of the bitmap, in the line that the inner reference point of background 2 is of.
