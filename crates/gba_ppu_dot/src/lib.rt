@@ -5,6 +5,6 @@ mod bytes;
 mod control;
 mod dot;
 
-pub use bytes::{half_at, tile_byte};
+pub use bytes::half_at;
 pub use control::BackgroundControl;
 pub use dot::{Dot, DotKind};

@@ -8,6 +8,9 @@ ghost use Rattle.gba_terms.specs.Bits.{bit as bit_of, field};
 use gba_ppu_dot::{BackgroundControl, Dot};
 use gba_word::{bit, bits};
 
+/// Where in video memory the tiles of backgrounds end.
+const TILES_END: usize = 0x1_0000;
+
 /// A row of eight dots in bytes.
 #[tactic(auto, unfolding(crate::specs::Text::byte_dot))]
 fn row_of_bytes(vram: &[u8], start: usize) -> [u8; 8]
@@ -15,7 +18,7 @@ fn row_of_bytes(vram: &[u8], start: usize) -> [u8; 8]
     requires aligned { start % 8 ≡ 0 }
     ensures { (column : ℕ) → column < 8 → slice_index result column ≡ byte_dot vram.now start column }
 {
-    if start >= 0x1_0000 {
+    if start >= TILES_END {
         return [0; 8];
     }
     [
@@ -37,7 +40,7 @@ fn row_of_nibbles(vram: &[u8], start: usize) -> [u8; 8]
     requires aligned { start % 4 ≡ 0 }
     ensures { (column : ℕ) → column < 8 → slice_index result column ≡ nibble_dot vram.now start column }
 {
-    if start >= 0x1_0000 {
+    if start >= TILES_END {
         return [0; 8];
     }
     [
@@ -64,11 +67,8 @@ fn palette_of(control: BackgroundControl, entry: u16) -> u16
     ensures value { result ≡ palette_start control.value entry }
     ensures most { result ≤ 240 }
 {
-    if control.has_eight_bits() {
-        0
-    } else {
-        16 * bits(u32::from(entry), 12, 4) as u16
-    }
+    let palette = 16 * bits(u32::from(entry), 12, 4) as u16;
+    if control.has_eight_bits() { 0 } else { palette }
 }
 
 /// A row of the tile of an entry, as it is stored from left to right.
