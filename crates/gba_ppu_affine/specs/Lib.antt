@@ -1,3 +1,4 @@
 pub mod Affine
 pub mod Bitmap
 pub mod Places
+pub mod Rounding

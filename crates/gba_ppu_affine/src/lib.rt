@@ -3,6 +3,7 @@
 
 mod affine;
 mod bitmap;
+pub mod laws;
 mod walk;
 
 pub use affine::affine_line;
