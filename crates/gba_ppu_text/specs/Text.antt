@@ -31,19 +31,19 @@ unfoldable pub text_entry : List ℕ → ℕ → ℕ → ℕ → ℕ
 text_entry vram control x y =
     half_at vram (map_start control + 0x800 * block_of control x y + 64 * (y % 256 / 8) + 2 * (x % 256 / 8))
 
--- A row of a tile begins at an offset. Its dots are bytes, or nibbles with the left dot in the low one.
-unfoldable pub byte_dot : List ℕ → ℕ → ℕ → ℕ
-byte_dot vram start column = tile_byte vram (start + column)
+-- A row of a tile begins at an offset. The numbers of its dots are bytes, or nibbles with the left dot in the low one.
+unfoldable pub byte_number : List ℕ → ℕ → ℕ → ℕ
+byte_number vram start column = tile_byte vram (start + column)
 
-unfoldable pub nibble_dot : List ℕ → ℕ → ℕ → ℕ
-nibble_dot vram start column = field (tile_byte vram (start + column / 2)) (4 * (column % 2)) 4
+unfoldable pub nibble_number : List ℕ → ℕ → ℕ → ℕ
+nibble_number vram start column = field (tile_byte vram (start + column / 2)) (4 * (column % 2)) 4
 
 -- the number of a dot of a tile, as the tile is stored: 64 bytes with 8 bits for each dot, or 32 with 4
 abbrev pub stored_number : List ℕ → ℕ → ℕ → ℕ → ℕ → ℕ
 stored_number vram control tile column row =
     if has_eight_bits control
-    then byte_dot vram (tiles_start control + 64 * tile + 8 * row) column
-    else nibble_dot vram (tiles_start control + 32 * tile + 4 * row) column
+    then byte_number vram (tiles_start control + 64 * tile + 8 * row) column
+    else nibble_number vram (tiles_start control + 32 * tile + 4 * row) column
 
 -- An entry has the tile in bits 0 to 9, whether the tile is mirrored from left to right in bit 10 and upside down in
 -- bit 11, and the palette of 16 entries in bits 12 to 15, which counts with 4 bits alone.

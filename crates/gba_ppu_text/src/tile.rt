@@ -2,7 +2,7 @@
 
 ghost use Rattle.std.specs.Prelude.{◌≡◌, ℕ, ◌+◌, ◌-◌, ◌*◌, ◌%◌, ◌<◌, ◌≤◌, length, slice_index, slice_index_or};
 ghost use Rattle.gba_ppu_dot.specs.declared.dot.Dot.{Dot};
-ghost use Rattle.gba_ppu_text.specs.Text.{byte_dot, mirrored as mirrored_place, nibble_dot, number_at, palette_of as palette_start, stored_number, tile_dot};
+ghost use Rattle.gba_ppu_text.specs.Text.{byte_number, mirrored as mirrored_place, nibble_number, number_at, palette_of as palette_start, stored_number, tile_dot};
 ghost use Rattle.gba_terms.specs.Bits.{bit as bit_of, field};
 
 use gba_ppu_dot::{BackgroundControl, Dot};
@@ -12,11 +12,11 @@ use gba_word::{bit, bits};
 const TILES_END: usize = 0x1_0000;
 
 /// A row of eight dots in bytes.
-#[tactic(auto, unfolding(crate::specs::Text::byte_dot))]
+#[tactic(auto, unfolding(crate::specs::Text::byte_number))]
 fn row_of_bytes(vram: &[u8], start: usize) -> [u8; 8]
     requires vram { length vram.now ≡ 98304 }
     requires aligned { start % 8 ≡ 0 }
-    ensures { (column : ℕ) → column < 8 → slice_index result column ≡ byte_dot vram.now start column }
+    ensures { (column : ℕ) → column < 8 → slice_index result column ≡ byte_number vram.now start column }
 {
     if start >= TILES_END {
         return [0; 8];
@@ -34,11 +34,11 @@ fn row_of_bytes(vram: &[u8], start: usize) -> [u8; 8]
 }
 
 /// A row of eight dots in nibbles.
-#[tactic(auto, unfolding(crate::specs::Text::nibble_dot))]
+#[tactic(auto, unfolding(crate::specs::Text::nibble_number))]
 fn row_of_nibbles(vram: &[u8], start: usize) -> [u8; 8]
     requires vram { length vram.now ≡ 98304 }
     requires aligned { start % 4 ≡ 0 }
-    ensures { (column : ℕ) → column < 8 → slice_index result column ≡ nibble_dot vram.now start column }
+    ensures { (column : ℕ) → column < 8 → slice_index result column ≡ nibble_number vram.now start column }
 {
     if start >= TILES_END {
         return [0; 8];
