@@ -1,0 +1,4 @@
+pub mod Affine
+pub mod Bitmap
+pub mod Places
+pub mod Rounding
