@@ -1,4 +1,5 @@
 pub mod Accesses
+pub mod Keeping
 pub mod Lengths
 pub mod Lists
 pub mod Runs

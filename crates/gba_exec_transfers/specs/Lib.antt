@@ -2,4 +2,5 @@ pub mod Accesses
 pub mod Blocks
 pub mod Done
 pub mod Effects
+pub mod Keeping
 pub mod Singles

@@ -8,6 +8,7 @@ ghost use Rattle.gba_exec_transfers.specs.Accesses.{HoldsWords, Rises, after_loa
 ghost use Rattle.gba_exec_transfers.specs.Blocks.{loads, registers_in, stores};
 ghost use Rattle.gba_exec_transfers.specs.Done.{Done, IsStepLength};
 ghost use Rattle.gba_exec_transfers.specs.Effects.{effect_of_word};
+ghost use Rattle.gba_exec_transfers.specs.Keeping.{LoadsKeep, OperationsKeep, StoresKeep};
 ghost use Rattle.gba_exec_transfers.specs.Singles.{unit_load};
 ghost use Rattle.gba_exec_transfers.specs.declared.units.LoadUnit.TheVariants.{Byte};
 
@@ -48,4 +49,10 @@ pub fn stores_in_order<B: Bus>()
         (done : Done B.State) → lowest < 2 ^ 32 →
         stores B.code_price_of B.load_of B.store_of user site write rn base numbers lowest false done
         ≡ after_stores B.load_of B.store_of user site write rn base numbers lowest done (length numbers) }
+{}
+
+/// What every read and every write of data keeps of a bus, every operation keeps, and so does the Undefined trap.
+pub fn operations_keep<B: Bus>()
+    ensures { (test : B.State → Bool) → LoadsKeep B.load_of test → StoresKeep B.store_of test →
+        OperationsKeep B.code_price_of B.load_of B.store_of test }
 {}

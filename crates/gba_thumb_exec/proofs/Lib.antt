@@ -1,2 +1,3 @@
 pub mod FormEffects
+pub mod Keeping
 pub mod Lengths

@@ -1,0 +1,8 @@
+use Rattle.gba_thumb_exec.proofs.Keeping.{kept-execution}
+use Rattle.gba_thumb_exec.proofs.laws.halfwords_keep.Goals as goal
+
+pub returns : goal.returns
+returns g c =
+    λ test loads stores.
+    kept-execution g.B.Bus.code_price_of g.B.Bus.load_of g.B.Bus.store_of test loads
+    (c.operations_keep.ensures test loads stores)
