@@ -1,5 +1,5 @@
-pub mod BusLaws
+pub mod Keys
 pub mod Machine
-pub mod Memory
+pub mod Passing
 pub mod Run
 pub mod Step

@@ -1,45 +1,26 @@
 #![tactic(auto)]
-//! A console: registers, memories and a clock, and one step of it.
+//! A console: registers, a board and changes of the keys, and one step of it.
 
-ghost use Rattle.std.specs.Prelude.{◌≡◌, ◌<◌, IfOk, length, vec_len};
-ghost use Rattle.gba_console.specs.Step.{execution_of_half, execution_of_word, half_done, word_done};
-ghost use Rattle.gba_exec_transfers.specs.Done.{Leaves};
+ghost use Rattle.std.specs.Prelude.{◌≡◌, ◌+◌, ◌<◌, IfOk, drop, length, vec_len};
+ghost use Rattle.gba_console.specs.Keys.{due_of};
 
+mod acting;
+mod keys;
 pub mod laws;
-mod memory;
 
-use gba_arm_exec as arm;
-use gba_arm_exec::laws::cycles_of_a_word;
+use acting::{DECODED, act, execute};
 use gba_arm_exec::{Decoded as DecodedWord, decode_word};
-use gba_bus::{Bus, Width};
+use gba_devices::laws::{calm_has_begun, cycles_pass};
 use gba_image::ConsoleImages;
-use gba_mem::Memory;
+use gba_io::Board;
 use gba_psr::Registers;
 use gba_terms::NoMemory;
-use gba_thumb_exec as thumb;
-use gba_thumb_exec::laws::cycles_of_a_halfword;
 use gba_thumb_exec::{DecodedHalf, decode_half};
-use gba_word::bit;
-use memory::PricedMemory;
+pub use keys::KeyState;
+use keys::apply;
+use laws::{acts_pass, enough, steps_pass};
 use std::alloc::{AllocError, Global};
 use std::marker::Model;
-
-/// How many decoded words a console keeps, and how many decoded halfwords: 128 KiB of each.
-const DECODED: usize = 4096;
-
-/// Where the table of words has the one at this address. Words 16 KiB apart share a place.
-fn place_of_word(address: u32) -> usize
-    ensures { result < 4096 }
-{
-    (address / 4) as usize % DECODED
-}
-
-/// Where the table of halfwords has the one at this address. Halfwords 8 KiB apart share a place.
-fn place_of_half(address: u32) -> usize
-    ensures { result < 4096 }
-{
-    (address / 2) as usize % DECODED
-}
 
 /// A table of the word 0, decoded.
 fn words_of(alloc: Global, length: usize) -> Result<Vec<DecodedWord>, AllocError>
@@ -57,51 +38,68 @@ fn halves_of(alloc: Global, length: usize) -> Result<Vec<DecodedHalf>, AllocErro
     vec![in alloc; first; length]
 }
 
-/// A Game Boy Advance, so far of a processor, memories and a clock. Contracts see the record `Machine`.
+/// The clock of the first change that isn't applied yet, or one that no run reaches.
+fn due_after(changes: &[KeyState], applied: usize) -> u64
+    ensures { result ≡ due_of (drop applied changes.now) }
+{
+    if applied < changes.len() {
+        changes[applied].clock
+    } else {
+        u64::MAX
+    }
+}
+
+/// A Game Boy Advance. Contracts see the record `Machine`.
 #[derive(Drop)]
 pub struct Console {
     registers: Registers,
-    memory: PricedMemory,
-    clock: u64,
+    board: Board,
+    // The key changes, how many of them are applied, and the clock of the next one.
+    keys: Vec<KeyState>,
+    applied: usize,
+    due: u64,
     // Words and halfwords that were decoded at their addresses. An entry counts only where it is the one that is read.
     words: Vec<DecodedWord>,
     halves: Vec<DecodedHalf>,
 }
 
 impl Model for Console {
+    ghost use Rattle.gba_console.specs.Keys.{due_of};
     ghost use Rattle.gba_console.specs.Machine.{Machine};
-    ghost use Rattle.std.specs.Prelude.{◌≡◌, vec_len};
+    ghost use Rattle.std.specs.Prelude.{◌≡◌, ◌≤◌, drop, vec_len};
 
     ghost Value = { Machine };
 
-    ghost view = { λ c. record { registers = c.registers; memory = c.memory; clock = c.clock } };
+    ghost view = { λ c. record { registers = c.registers; board = c.board; keys = drop c.applied c.keys.items } };
 
-    ghost invariant = { λ c. (vec_len c.words ≡ 4096) × (vec_len c.halves ≡ 4096) };
+    ghost invariant = { λ c.
+        (vec_len c.words ≡ 4096) × (vec_len c.halves ≡ 4096) × (c.applied ≤ vec_len c.keys)
+        × (c.due ≡ due_of (drop c.applied c.keys.items)) };
 }
 
 impl Console {
-    ghost use Rattle.std.specs.Prelude.{
-      ◌≡◌,
-      ◌+◌,
-      ◌≤◌,
-      ◌<◌,
-      ◌^◌,
-      IfOk,
-      vec_len,
-      length,
-    };
-    ghost use Rattle.gba_console.specs.Machine.{reset};
+    ghost use Rattle.std.specs.Prelude.{◌≡◌, ◌+◌, ◌≤◌, ◌<◌, ◌^◌, IfOk, true};
+    ghost use Rattle.gba_console.specs.Keys.{due_of};
+    ghost use Rattle.gba_console.specs.Machine.{clock_of, reset};
+    ghost use Rattle.gba_console.specs.Run.{run_to};
     ghost use Rattle.gba_console.specs.Step.{next};
+    ghost use Rattle.gba_devices.specs.State.{is_calm};
 
-    /// A console at reset, at clock 0, from its images, which are dropped on refusal. It takes the memory of its RAM and
-    /// of the decoded instructions, and no more later.
-    pub fn new(alloc: Global, images: ConsoleImages) -> Result<Console, NoMemory>
-        ensures { IfOk result (λ console. console ≡ reset images.bios images.cart images.save) }
+    /// A console at reset, at clock 0, from its images and the changes of its keys, which are dropped on refusal. It
+    /// takes the memory of its RAM and of the decoded instructions, and no more later.
+    pub fn new(
+        alloc: Global,
+        images: ConsoleImages,
+        keys: Vec<KeyState>,
+    ) -> Result<Console, NoMemory>
+        ensures { IfOk result (λ console. console ≡ reset images.bios images.cart images.save keys.items) }
     {
         Ok(Console {
             registers: Registers::reset(),
-            memory: PricedMemory::new(alloc, images)?,
-            clock: 0,
+            board: Board::new(alloc, images)?,
+            due: due_after(keys.as_slice(), 0),
+            keys,
+            applied: 0,
             words: words_of(alloc, DECODED)?,
             halves: halves_of(alloc, DECODED)?,
         })
@@ -109,9 +107,9 @@ impl Console {
 
     /// The clock: cycles of 16,777,216 Hz since reset.
     pub fn clock(&self) -> u64
-        ensures { result ≡ self.now.clock }
+        ensures { result ≡ clock_of self.now }
     {
-        self.clock
+        self.board.clock()
     }
 
     /// The 37 registers in the order of the state file.
@@ -121,103 +119,110 @@ impl Console {
         self.registers.all()
     }
 
-    /// The memories.
-    pub fn memory(&self) -> &Memory
-        ensures { result.now ≡ self.now.memory }
+    /// The memories and the devices.
+    pub fn board(&self) -> &Board
+        ensures { result.now ≡ self.now.board }
     {
-        self.memory.memory()
+        &self.board
     }
 
-    /// Executes the instruction at r15, a word in ARM state and a halfword in Thumb state. The clock is below 2^40
-    /// because a run ends below 2^39 and a step takes at most 512 cycles.
-    #[tactic(auto, unfolding(crate::specs::Step::next))]
+    /// Makes a step. The clock is below 2^40 because a run ends below 2^39 and a step takes at most 512 cycles.
     pub fn step(&mut self)
-        requires { self.old.clock < 2 ^ 40 }
+        requires { clock_of self.old < 2 ^ 40 }
         ensures step { self.new ≡ next self.old }
-        ensures raised { self.old.clock < self.new.clock }
-        ensures short { self.new.clock ≤ self.old.clock + 512 }
+        ensures raised { clock_of self.old < clock_of self.new }
+        ensures short { clock_of self.new ≤ clock_of self.old + 512 }
     {
-        cycles_of_a_word::<PricedMemory>();
-        cycles_of_a_halfword::<PricedMemory>();
-        let cycles = if bit(self.registers.cpsr(), 5) {
-            step_half(
-                &mut self.registers,
-                &mut self.memory,
-                self.halves.as_mut_slice(),
-            )
-        } else {
-            step_word(
-                &mut self.registers,
-                &mut self.memory,
-                self.words.as_mut_slice(),
-            )
-        };
-        self.clock += u64::from(cycles);
+        steps_pass();
+        self.step_fully();
     }
-}
 
-// Executes the word at r15.
-#[inline(always)]
-fn step_word(registers: &mut Registers, memory: &mut PricedMemory, words: &mut [DecodedWord]) -> u32
-    requires { length words.old ≡ 4096 }
-    ensures { Leaves (word_done registers.old memory.old) registers.new memory.new result }
-{
-    let address = registers.get(15);
-    let word = memory.code(address, Width::Word);
-    let one = &words[place_of_word(address)];
-    if one.word == word {
-        arm::execute_decoded(registers, memory, one)
-    } else {
-        first_word(registers, memory, words, word)
+    /// Makes a step, whatever is asked for.
+    #[tactic(auto, unfolding(crate::specs::Step::next))]
+    #[inline(never)]
+    fn step_fully(&mut self)
+        requires { clock_of self.old < 2 ^ 40 }
+        ensures { self.new ≡ next self.old }
+    {
+        acts_pass();
+        let clock = self.board.clock();
+        self.board.begin();
+        self.applied = apply(clock, self.keys.as_slice(), self.applied, &mut self.board);
+        self.due = due_after(self.keys.as_slice(), self.applied);
+        let cycles = act(
+            &mut self.registers,
+            &mut self.board,
+            self.words.as_mut_slice(),
+            self.halves.as_mut_slice(),
+        );
+        self.board.advance(cycles);
     }
-}
 
-// Executes the word at r15, which isn't decoded yet at its place.
-#[inline(never)]
-fn first_word(
-    registers: &mut Registers,
-    memory: &mut PricedMemory,
-    words: &mut [DecodedWord],
-    word: u32,
-) -> u32
-    requires { length words.old ≡ 4096 }
-    ensures { Leaves (execution_of_word word registers.old memory.old) registers.new memory.new result }
-{
-    let place = place_of_word(registers.get(15));
-    arm::execute_first(registers, memory, words, place, word)
-}
-
-// Executes the halfword at r15.
-#[inline(always)]
-fn step_half(
-    registers: &mut Registers,
-    memory: &mut PricedMemory,
-    halves: &mut [DecodedHalf],
-) -> u32
-    requires { length halves.old ≡ 4096 }
-    ensures { Leaves (half_done registers.old memory.old) registers.new memory.new result }
-{
-    let address = registers.get(15);
-    let half = memory.code(address, Width::Half) as u16;
-    let one = &halves[place_of_half(address)];
-    if one.half == half {
-        thumb::execute_decoded(registers, memory, one)
-    } else {
-        first_half(registers, memory, halves, half)
+    /// Makes a step where nothing asks for more than an instruction, and answers its cycles.
+    #[inline(always)]
+    fn step_plainly(&mut self) -> u32
+        requires clock { clock_of self.old < 2 ^ 40 }
+        requires calm { is_calm self.old.board.devices ≡ true }
+        requires early { clock_of self.old < due_of self.old.keys }
+        ensures step { self.new ≡ next self.old }
+        ensures keys { self.new.keys ≡ self.old.keys }
+        ensures clock { clock_of self.new ≡ clock_of self.old + result }
+        ensures some { 1 ≤ result }
+    {
+        acts_pass();
+        calm_has_begun();
+        cycles_pass();
+        let cycles = execute(
+            &mut self.registers,
+            &mut self.board,
+            self.words.as_mut_slice(),
+            self.halves.as_mut_slice(),
+        );
+        self.board.advance(cycles);
+        cycles
     }
-}
 
-// Executes the halfword at r15, which isn't decoded yet at its place.
-#[inline(never)]
-fn first_half(
-    registers: &mut Registers,
-    memory: &mut PricedMemory,
-    halves: &mut [DecodedHalf],
-    half: u16,
-) -> u32
-    requires { length halves.old ≡ 4096 }
-    ensures { Leaves (execution_of_half half registers.old memory.old) registers.new memory.new result }
-{
-    let place = place_of_half(registers.get(15));
-    thumb::execute_first(registers, memory, halves, place, half)
+    /// Whether nothing but the keys may ask for more than an instruction.
+    #[inline(always)]
+    fn is_calm(&self) -> bool
+        ensures { result ≡ is_calm self.now.board.devices }
+    {
+        self.board.is_calm()
+    }
+
+    /// The clock of the next change of the keys, or one that no run reaches.
+    fn due(&self) -> u64
+        ensures { result ≡ due_of self.now.keys }
+    {
+        self.due
+    }
+
+    /// Makes steps while they are plain and the clock is below `until`.
+    #[inline(never)]
+    fn run_plainly(&mut self, until: u64)
+        requires { until ≤ 2 ^ 39 }
+        ensures same_end { run_to until self.new ≡ run_to until self.old }
+        ensures later { clock_of self.old ≤ clock_of self.new }
+    {
+        enough();
+        let end = until.min(self.due());
+        let mut left = end.saturating_sub(self.clock());
+        while left > 0 && self.is_calm() {
+            left = left.saturating_sub(u64::from(self.step_plainly()));
+        }
+    }
+
+    /// Makes steps until the clock is at least `until`, which is at most 2^39.
+    pub fn run_to(&mut self, until: u64)
+        requires { until ≤ 2 ^ 39 }
+        ensures { self.new ≡ run_to until self.old }
+    {
+        enough();
+        while self.clock() < until {
+            self.run_plainly(until);
+            if self.clock() < until {
+                self.step();
+            }
+        }
+    }
 }

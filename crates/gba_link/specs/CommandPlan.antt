@@ -17,7 +17,7 @@ use Rattle.gba_joblog.specs.declared.job.OutKind.TheVariants.{State, Save}
 use Rattle.gba_joblog.specs.declared.kinds.JobError.{JobError}
 use Rattle.gba_joblog.specs.declared.kinds.JobKind.TheVariants.{Long, Clash}
 use Rattle.gba_link.specs.Words.{Command, command_of}
-use Rattle.gba_link.specs.StateFile.{state_file, summary}
+use Rattle.gba_output.specs.StateFile.{save_file, state_file, summary}
 
 -- JOB is refused at a line
 abbrev pub job_refusal : Command → JobError → Cause
@@ -116,14 +116,14 @@ abbrev pub written : Command → WholeJob → Machine → Run
 written command job m = record {
   outputs =
       output_if (asks_for (console_of job) State) (state_name command.out) (state_file m)
-      ++ output_if (asks_for (console_of job) Save) (save_name command.out) m.memory.sram;
+      ++ output_if (asks_for (console_of job) Save) (save_name command.out) (save_file m);
   summary = summary m;
 }
 
 -- the run of a job with these images: a console from its reset to the first step boundary at or past the job's cycles
 abbrev pub result_of_run : Command → WholeJob → ConsoleImages → Run
 result_of_run command job images =
-    written command job (run_to job.cycles (reset images.bios images.cart images.save))
+    written command job (run_to job.cycles (reset images.bios images.cart images.save []))
 
 -- what follows the bytes of JOB, and what the job with its images comes to
 abbrev pub after_job : Command → List ℕ → Plan WholeJob

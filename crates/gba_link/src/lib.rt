@@ -13,7 +13,6 @@ ghost use Rattle.gba_link.specs.CommandPlan.{plan_of};
 mod images;
 pub mod laws;
 mod run;
-mod state;
 mod words;
 
 use crate::run::run_words;

@@ -1,26 +1,24 @@
 //! From the words and the files to what a run writes.
 
 ghost use Rattle.std.specs.Prelude.{◌≡◌, ◌≤◌, ◌+◌, ◌^◌, ◌<◌, ◌++◌, [], ◌∷◌, Ok, Err, Some, IsSome, map, MatchResult, IfOk, IfSome, length, option_map, vec_len, vec_capacity, string_bytes, string_len};
-ghost use Rattle.gba_console.specs.Run.{run_to};
 ghost use Rattle.gba_command.specs.Reading.{Gives, GoesTo};
 ghost use Rattle.gba_command.specs.Views.{Agrees, end_of, output_value, run_value};
 ghost use Rattle.gba_joblog.specs.Soundness.{IsConsole, IsFile, IsJob};
 ghost use Rattle.gba_joblog.specs.Views.{console_value, file_value, job_value};
 ghost use Rattle.gba_link.specs.CommandPlan.{job_or_refusal, written, command_plan, console_of as console_said, name_in, output_if, plan_of, result_of_run, run_plan, save_name as save_name_of, state_name as state_name_of};
-ghost use Rattle.gba_link.specs.StateFile.{state_file};
+ghost use Rattle.gba_output.specs.StateFile.{save_file, state_file};
 ghost use Rattle.gba_link.specs.Words.{Command};
 ghost use Rattle.gba_link.specs.Views.{command_value};
 
 use crate::images::read_images;
-use crate::state::{SAVE_ROOM, STATE_ROOM, summary, write_save, write_state};
 use crate::words::{RunWords, command_of};
 use gba_command::{Cause, OutputFile, Outputs, Refusal, name_in_report, read_file};
 use gba_console::Console;
-use gba_console::laws::enough;
 use gba_image::ConsoleImages;
 use gba_joblog::{
     FileLine, Job, JobConsole, JobError, JobKind, LONGEST_JOB, OutKind, ParseRefused,
 };
+use gba_output::{SAVE_ROOM, STATE_ROOM, summary, write_save, write_state};
 use gba_store::Store;
 use std::alloc::{AllocError, Global};
 
@@ -99,7 +97,7 @@ struct OutputRoom {
     ghost no_file: { files.items ≡ [] },
     ghost two_files: { 2 ≤ vec_capacity files },
     ghost no_state: { state.items ≡ [] },
-    ghost state_room: { 1038330 ≤ vec_capacity state },
+    ghost state_room: { 1041162 ≤ vec_capacity state },
     ghost no_save: { save.items ≡ [] },
     ghost save_room: { 32768 ≤ vec_capacity save },
 }
@@ -145,18 +143,6 @@ pub(crate) fn name_of(file: &Option<FileLine>) -> &str
     }
 }
 
-/// Steps a console until its clock is at least `until`.
-fn run_console(mut console: Console, until: u64) -> Console
-    requires { until ≤ 2 ^ 31 }
-    ensures { result ≡ run_to until console }
-{
-    enough();
-    while console.clock() < until {
-        console.step();
-    }
-    console
-}
-
 /// Adds a file to a list that has room for it.
 fn add_file(files: &mut Vec<OutputFile>, file: OutputFile)
     requires { vec_len files.old < vec_capacity files.old }
@@ -178,7 +164,7 @@ fn add_state(
 )
     requires one_file { vec_len files.old < vec_capacity files.old }
     requires no_byte { state.items ≡ [] }
-    requires state_room { 1038330 ≤ vec_capacity state }
+    requires state_room { 1041162 ≤ vec_capacity state }
     requires named { string_len name ≤ 200 }
     ensures files { map output_value files.new.items
         ≡ map output_value files.old.items ++ output_if asked (string_bytes name) (state_file console.now) }
@@ -204,7 +190,7 @@ fn add_save(
     requires save_room { 32768 ≤ vec_capacity save }
     requires named { string_len name ≤ 200 }
     ensures { map output_value files.new.items
-        ≡ map output_value files.old.items ++ output_if asked (string_bytes name) console.now.memory.sram }
+        ≡ map output_value files.old.items ++ output_if asked (string_bytes name) (save_file console.now) }
 {
     if asked {
         write_save(&mut save, console);
@@ -254,11 +240,11 @@ fn run_images(
         → IfOk result (λ outputs. run_value outputs ≡ result_of_run command (job_value job.now) images) }
 {
     let room = make_room(alloc)?;
-    let Ok(start) = Console::new(alloc, images) else {
+    let Ok(mut console) = Console::new(alloc, images, Vec::new(alloc)) else {
         return Err(AllocError);
     };
-    let end = run_console(start, job.cycles);
-    Ok(outputs_of(room, names, job, &end))
+    console.run_to(job.cycles);
+    Ok(outputs_of(room, names, job, &console))
 }
 
 /// Reads the images of a job and runs it.

@@ -1,13 +1,14 @@
 //! A console by itself: programs of a few words in its BIOS, and what they leave.
 
-use gba_console::Console;
+use gba_console::{Console, KeyState};
 use gba_image::{Bios, Cartridge, ConsoleImages};
+use gba_io::MemoryName;
 use std::alloc::Global;
 use std::process::Abort;
 use std::test::Fail;
 
 /// A BIOS that begins with these words and is 0 behind them.
-fn bios_of(alloc: Global, words: &[u32]) -> Result<Bios, Fail> {
+pub(crate) fn bios_of(alloc: Global, words: &[u32]) -> Result<Bios, Fail> {
     let mut bios = Vec::new(alloc);
     for word in words {
         bios.extend_from_slice(&word.to_le_bytes())?;
@@ -25,7 +26,17 @@ fn console_of(alloc: Global, words: &[u32]) -> Result<Console, Fail> {
         cart: None,
         save: None,
     };
-    Ok(Console::new(alloc, images)?)
+    Ok(Console::new(alloc, images, Vec::new(alloc))?)
+}
+
+/// The same, whose keys change.
+fn console_with_keys(alloc: Global, words: &[u32], keys: &[KeyState]) -> Result<Console, Fail> {
+    let images = ConsoleImages {
+        bios: bios_of(alloc, words)?,
+        cart: None,
+        save: None,
+    };
+    Ok(Console::new(alloc, images, Vec::from_slice(alloc, keys)?)?)
 }
 
 /// A cartridge with these words from C0h up, and 0 elsewhere but in its header.
@@ -51,7 +62,7 @@ fn console_with(alloc: Global, words: &[u32], cart: &[u32]) -> Result<Console, F
         cart: Some(cartridge_of(alloc, cart)?),
         save: None,
     };
-    Ok(Console::new(alloc, images)?)
+    Ok(Console::new(alloc, images, Vec::new(alloc))?)
 }
 
 /// Makes steps, and asserts the clock after them.
@@ -224,7 +235,7 @@ fn code_in_the_inner_ram(rt: HostRuntime) -> Result<(), Fail> {
     assert_eq!(rt; registers[0], 0);
     assert_eq!(rt; registers[5], 0x12);
     assert_eq!(rt; registers[15], 0x0300_0010);
-    let inner = console.memory().inner();
+    let inner = console.board().memory(MemoryName::Iwram);
     assert_eq!(rt; inner.len(), 0x8000);
     assert_eq!(rt; inner[8], 0x02);
     assert_eq!(rt; inner[11], 0xE3);
@@ -301,7 +312,7 @@ fn the_memory_map_has_its_prices(rt: HostRuntime) -> Result<(), Fail> {
     assert_eq!(rt; registers[10], 0x4433_2211);
     // r13 of the supervisor.
     assert_eq!(rt; registers[25], 0x5A5A_5A5A);
-    assert_eq!(rt; console.memory().sram()[0], 0x5A);
+    assert_eq!(rt; console.board().memory(MemoryName::Backup)[0], 0x5A);
     Ok(())
 }
 
@@ -320,5 +331,158 @@ fn a_whole_block_from_view_2(rt: HostRuntime) -> Result<(), Fail> {
     steps(&rt, &mut console, 1, 340);
     assert_eq!(rt; console.all()[0], 0xE890_FFFF);
     assert_eq!(rt; console.all()[15], 0x0800_00C0);
+    Ok(())
+}
+
+/// A program of the BIOS, the clock after each of its steps, and r0 at its end.
+#[derive(Clone, Copy)]
+struct Program<'a> {
+    words: &'a [u32],
+    clocks: &'a [u64],
+    zero: u32,
+}
+
+/// Registers, halts and prices in steps: a timer is started and read by the next instruction; a halt without an enabled
+/// interrupt lasts for ever, 16 cycles at a time; WAITCNT prices from the next instruction on.
+#[test]
+fn devices_in_steps(rt: HostRuntime) -> Result<(), Fail> {
+    for one in [
+        // MOV r1, #04000000h; MOV r2, #80h; ADD r3, r1, #100h; STRH r2, [r3, #2]; LDRH r0, [r3]
+        Program {
+            words: &[
+                0xE3A0_1301,
+                0xE3A0_2080,
+                0xE281_3C01,
+                0xE1C3_20B2,
+                0xE1D3_00B0,
+            ],
+            clocks: &[1, 2, 3, 5, 8],
+            zero: 2,
+        },
+        // MOV r1, #04000000h; ADD r1, r1, #300h; STRB r0, [r1, #1]
+        Program {
+            words: &[0xE3A0_1301, 0xE281_1C03, 0xE5C1_0001],
+            clocks: &[1, 2, 4, 20, 36, 52],
+            zero: 0,
+        },
+        // MOV r1, #04000000h; ADD r1, r1, #204h; MOV r2, #0Ch; MOV r3, #08000000h; LDRH r0, [r3]; STRH r2, [r1];
+        // LDRH r0, [r3]
+        Program {
+            words: &[
+                0xE3A0_1301,
+                0xE281_1F81,
+                0xE3A0_200C,
+                0xE3A0_3302,
+                0xE1D3_00B0,
+                0xE1C1_20B0,
+                0xE1D3_00B0,
+            ],
+            clocks: &[1, 2, 3, 4, 11, 13, 24],
+            zero: 0,
+        },
+    ] {
+        let mut console = console_of(rt.alloc(), one.words)?;
+        for clock in one.clocks {
+            steps(&rt, &mut console, 1, *clock);
+        }
+        assert_eq!(rt; console.all()[0], one.zero);
+    }
+    Ok(())
+}
+
+/// A loop of 3 cycles, whose steps begin at 15, 18 and so on, is interrupted by the step that begins at or after the
+/// change of the keys: KEYCNT 4001h, IE 1000h, IME 1, I 0.
+#[test]
+fn a_key_interrupts(rt: HostRuntime) -> Result<(), Fail> {
+    let words = [
+        0xE3A0_1301, // 00 MOV r1, #04000000h
+        0xE281_1E13, // 04 ADD r1, r1, #130h
+        0xE3A0_2901, // 08 MOV r2, #4000h
+        0xE282_2001, // 0C ADD r2, r2, #1
+        0xE1C1_20B2, // 10 STRH r2, [r1, #2]: KEYCNT
+        0xE281_30D0, // 14 ADD r3, r1, #D0h
+        0xE3A0_2A01, // 18 MOV r2, #1000h
+        0xE1C3_20B0, // 1C STRH r2, [r3]: IE
+        0xE3A0_2001, // 20 MOV r2, #1
+        0xE583_2008, // 24 STR r2, [r3, #8]: IME
+        0xE321_F053, // 28 MSR CPSR_c, #53h
+        0xE1A0_0000, // 2C MOV r0, r0
+        0xEAFF_FFFE, // 30 B to itself
+    ];
+    for (at, clock) in [(99, 102), (100, 105), (102, 105), (103, 108), (105, 108)] {
+        let changes = [KeyState { clock: at, keys: 1 }];
+        let mut console = console_with_keys(rt.alloc(), &words, &changes)?;
+        steps(&rt, &mut console, 12, 15);
+        console.run_to(clock - 3);
+        assert_eq!(rt; console.clock(), clock - 3);
+        assert_eq!(rt; console.all()[15], 0x30);
+        console.step();
+        let registers = console.all();
+        assert_eq!(rt; console.clock(), clock);
+        assert_eq!(rt; registers[15], 0x18);
+        // r14 and SPSR of the interrupt's mode.
+        assert_eq!(rt; registers[24], 0x34);
+        assert_eq!(rt; registers[31], 0xD2);
+        assert_eq!(rt; registers[33], 0x53);
+    }
+    Ok(())
+}
+
+/// Changes are applied in their order, the last one of a step stays, and each once.
+#[test]
+fn keys_change_in_their_order(rt: HostRuntime) -> Result<(), Fail> {
+    let changes = [
+        KeyState { clock: 0, keys: 1 },
+        KeyState { clock: 4, keys: 2 },
+        KeyState { clock: 4, keys: 4 },
+        KeyState { clock: 90, keys: 8 },
+    ];
+    let mut console = console_with_keys(rt.alloc(), &[0xEAFF_FFFE], &changes)?;
+    for (clock, half) in [(3, 0x3FE), (6, 0x3FE), (9, 0x3FB), (90, 0x3FB), (93, 0x3F7)] {
+        console.run_to(clock);
+        assert_eq!(rt; console.clock(), clock);
+        assert_eq!(rt; console.board().io_half(0x130), half);
+    }
+    Ok(())
+}
+
+/// A halt that timer 0 ends, which overflows at 47: the step that begins at 52 goes on behind it, and enters the interrupt
+/// only where IME is 1 and I is 0.
+#[test]
+fn a_halt_ends(rt: HostRuntime) -> Result<(), Fail> {
+    for (master, status, clock, at, zero) in [
+        (0xE3A0_5000, 0xE321_F0D3, 53, 0x40, 1),
+        (0xE3A0_5000, 0xE321_F053, 53, 0x40, 1),
+        (0xE3A0_5001, 0xE321_F0D3, 53, 0x40, 1),
+        (0xE3A0_5001, 0xE321_F053, 55, 0x18, 0),
+    ] {
+        let words = [
+            0xE3A0_3301, // 00 MOV r3, #04000000h
+            0xE283_3C01, // 04 ADD r3, r3, #100h
+            0xE283_4C01, // 08 ADD r4, r3, #100h
+            0xE3A0_2008, // 0C MOV r2, #8
+            0xE1C4_20B0, // 10 STRH r2, [r4]: IE
+            0xE3A0_2CFF, // 14 MOV r2, #FF00h
+            0xE282_20E0, // 18 ADD r2, r2, #E0h
+            0xE1C3_20B0, // 1C STRH r2, [r3]: the reload
+            master, // 20 MOV r5, #IME
+            0xE1C4_50B8, // 24 STRH r5, [r4, #8]
+            status, // 28 MSR CPSR_c, #STATUS
+            0xE3A0_20C0, // 2C MOV r2, #C0h
+            0xE1C3_20B2, // 30 STRH r2, [r3, #2]: the timer's control, at 15
+            0xE284_4C01, // 34 ADD r4, r4, #100h
+            0xE5C4_2001, // 38 STRB r2, [r4, #1]: the halt
+            0xE280_0001, // 3C ADD r0, r0, #1
+            0xEAFF_FFFE, // 40 B to itself
+        ];
+        let mut console = console_of(rt.alloc(), &words)?;
+        steps(&rt, &mut console, 15, 20);
+        assert!(rt; console.board().halted());
+        steps(&rt, &mut console, 2, 52);
+        steps(&rt, &mut console, 1, clock);
+        assert!(rt; !console.board().halted());
+        assert_eq!(rt; console.all()[15], at);
+        assert_eq!(rt; console.all()[0], zero);
+    }
     Ok(())
 }

@@ -1,6 +1,8 @@
 #![tactic(auto)]
-//! Tests of the outside, of a console by itself, and of the top call over files in memory.
+//! Tests of the outside, of a board and a console by themselves, and of the top call over files in memory.
 
+#[cfg(test)]
+mod board;
 #[cfg(test)]
 mod console;
 #[cfg(test)]

@@ -18,12 +18,14 @@ r8 00000000\nr9 00000000\nr10 00000000\nr11 00000000\nr12 00000000\nr13 00000000
 r8_fiq 00000000\nr9_fiq 00000000\nr10_fiq 00000000\nr11_fiq 00000000\nr12_fiq 00000000\nr13_fiq 00000000\nr14_fiq 00000000\n\
 r13_irq 00000000\nr14_irq 00000000\nr13_svc 00000000\nr14_svc 00000000\nr13_abt 00000000\nr14_abt 00000000\n\
 r13_und 00000000\nr14_und 00000000\ncpsr 000000d3\n\
-spsr_fiq 00000000\nspsr_irq 00000000\nspsr_svc 00000000\nspsr_abt 00000000\nspsr_und 00000000\n";
+spsr_fiq 00000000\nspsr_irq 00000000\nspsr_svc 00000000\nspsr_abt 00000000\nspsr_und 00000000\n\
+timer 0 0 0 0 0\ntimer 1 0 0 0 0\ntimer 2 0 0 0 0\ntimer 3 0 0 0 0\n\
+mem io 000120 00000000000000000000000000000000ff030000000000000000000000000000\n";
 
 const SUMMARY_OF_BRANCH: &str = "console 0 clock 3 frames 0 samples 0 words 0\n";
 
 const HALF_OF_STATE: &str =
-    "gbalink-state 1\nconsole 0\nclock 3\nhalted 0\nr0 00000000\nr1 00000000\nr2 00000000\nr3 00000000\nr4 00000000\nr5 00000000\nr6 00000000\nr7 00000000\nr8 00000000\nr9 00000000\nr10 00000000\nr11 00000000\nr12 00000000\nr13 00000000\nr14 00000000\nr15 00000000\nr8_fiq 00000000\nr9_fiq 00000000\nr10_fiq 00000000\nr11_fiq 0";
+    "gbalink-state 1\nconsole 0\nclock 3\nhalted 0\nr0 00000000\nr1 00000000\nr2 00000000\nr3 00000000\nr4 00000000\nr5 00000000\nr6 00000000\nr7 00000000\nr8 00000000\nr9 00000000\nr10 00000000\nr11 00000000\nr12 00000000\nr13 00000000\nr14 00000000\nr15 00000000\nr8_fiq 00000000\nr9_fiq 00000000\nr10_fiq 00000000\nr11_fiq 00000000\nr12_fiq 00000000\nr13_fiq 00000000\nr14_fiq 00000000\nr13_irq 0000";
 
 const HALF_OF_SUMMARY_AND_REPORT: &str = "console 0 clock 3 framsink -\n";
 
@@ -397,7 +399,7 @@ fn programs_run_to_their_states(rt: HostRuntime) -> Result<(), Fail> {
     assert!(rt; lines.contains("\nr1 03000000\nr2 00000005\n"));
     assert!(rt;
         lines.ends_with(
-            "\nspsr_und 00000000\nmem iwram 000020 0500000000000000000000000000000000000000000000000000000000000000\n"
+            "\nspsr_und 00000000\ntimer 0 0 0 0 0\ntimer 1 0 0 0 0\ntimer 2 0 0 0 0\ntimer 3 0 0 0 0\nmem io 000120 00000000000000000000000000000000ff030000000000000000000000000000\nmem iwram 000020 0500000000000000000000000000000000000000000000000000000000000000\n"
         )
     );
     let moved = run_code(&rt, alloc, "10", &[0xE3A0_0005, 0xEAFF_FFFE])?;
@@ -410,7 +412,11 @@ fn programs_run_to_their_states(rt: HostRuntime) -> Result<(), Fail> {
     assert!(rt; lines.contains("\nclock 10\n"));
     assert!(rt; lines.contains("\nr0 00000005\n"));
     assert!(rt; lines.contains("\nr15 00000004\n"));
-    assert!(rt; lines.ends_with("\nspsr_und 00000000\n"));
+    assert!(rt;
+        lines.ends_with(
+            "\nspsr_und 00000000\ntimer 0 0 0 0 0\ntimer 1 0 0 0 0\ntimer 2 0 0 0 0\ntimer 3 0 0 0 0\nmem io 000120 00000000000000000000000000000000ff030000000000000000000000000000\n"
+        )
+    );
     // MOV r0, #9; BX r0; at 8 LDRSB r0, [r7, r1] of address 0 in 3 cycles, ASR r4, r6, #8 and LSL r0, r0, #0 twice.
     let thumb = run_code(&rt, alloc, "10", &[0xE3A0_0009, 0xE12F_FF10, 0x1234_5678])?;
     assert_eq!(rt; thumb.status, 0);

@@ -56,6 +56,17 @@ abbrev pub is_sram : Region → Bool
 is_sram Sram = true
 is_sram _ = false
 
+-- whether a region is the inner RAM, and a view of the ROM
+abbrev pub is_inner : Region → Bool
+is_inner Inner = true
+is_inner _ = false
+
+abbrev pub is_rom : Region → Bool
+is_rom Rom0 = true
+is_rom Rom1 = true
+is_rom Rom2 = true
+is_rom _ = false
+
 -- What an access reads at its aligned address. The SRAM has one byte at a time, which a wider access reads in every
 -- place (this project's profile).
 unfoldable pub load : Memories → ℕ → ℕ → Width → ℕ

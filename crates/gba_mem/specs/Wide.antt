@@ -1,4 +1,4 @@
-use Rattle.std.specs.Prelude.{ℕ, Bool, true, false, ◌+◌, nat_le, nat_lt, List, length, slice_index, slice_set, if◌then◌else◌}
+use Rattle.std.specs.Prelude.{ℕ, Bool, ◌+◌, nat_le, nat_lt, List, length, slice_index, slice_set, if◌then◌else◌}
 use Rattle.gba_terms.specs.Bits.{field}
 use Rattle.gba_bus.specs.Widths.{aligned, size}
 use Rattle.gba_bus.specs.declared.region.Region.{Region}
@@ -11,17 +11,6 @@ use Rattle.gba_mem.specs.Loads.{number_of, rom_byte}
 use Rattle.gba_mem.specs.Stores.{with_both, with_number}
 
 -- The same by whole accesses, as the code makes them. Only private functions cite it.
-
--- whether a region is the inner RAM, and a view of the ROM
-abbrev pub is_inner : Region → Bool
-is_inner Inner = true
-is_inner _ = false
-
-abbrev pub is_rom : Region → Bool
-is_rom Rom0 = true
-is_rom Rom1 = true
-is_rom Rom2 = true
-is_rom _ = false
 
 abbrev pub wide_number : List ℕ → Width → ℕ → ℕ
 wide_number bytes width place = number_of (slice_index bytes) width place

@@ -2,9 +2,8 @@
 
 ghost use Rattle.std.specs.Prelude.{◌≡◌, ◌≤◌, [], IfOk, replicate, unwrap_or, vec_len};
 ghost use Rattle.gba_bus.specs.Regions.{region_of};
-ghost use Rattle.gba_mem.specs.Loads.{is_bios};
+ghost use Rattle.gba_mem.specs.Loads.{is_bios, is_inner, is_rom};
 ghost use Rattle.gba_mem.specs.Memories.{sram_length};
-ghost use Rattle.gba_mem.specs.Wide.{is_inner, is_rom};
 
 use crate::numbers::{length_of, number, put, put_twice, repeated};
 use crate::places;
@@ -111,13 +110,14 @@ impl Model for Memory {
 }
 
 impl Memory {
-    ghost use Rattle.std.specs.Prelude.{◌≡◌, ◌+◌, ◌^◌, ◌≤◌, IfOk, length};
+    ghost use Rattle.std.specs.Prelude.{◌≡◌, ℕ, ◌+◌, ◌^◌, ◌≤◌, IfOk, true, length};
     ghost use Rattle.gba_bus.specs.Regions.{region_of};
-    ghost use Rattle.gba_bus.specs.Widths.{size};
-    ghost use Rattle.gba_mem.specs.Loads.{is_bios, load, number_of, rom_byte};
+    ghost use Rattle.gba_bus.specs.Widths.{aligned, size};
+    ghost use Rattle.gba_mem.specs.Loads.{is_bios, is_inner, is_rom, load, number_of, rom_byte};
     ghost use Rattle.gba_mem.specs.Memories.{at_start};
     ghost use Rattle.gba_mem.specs.Stores.{store};
-    ghost use Rattle.gba_mem.specs.Wide.{wide_load, with_inner, wide_oam, wide_palette, wide_rom, wide_store, wide_vram};
+    ghost use Rattle.gba_mem.specs.Places.{inner_place};
+    ghost use Rattle.gba_mem.specs.Wide.{wide_load, wide_number, with_inner, wide_oam, wide_palette, wide_rom, wide_store, wide_vram};
 
     /// The memories of a console at the start, from its images. RAM is 0, and the SRAM is the save or FFh bytes. The
     /// images' bytes are moved in, not copied; on refusal they are dropped.
@@ -333,7 +333,7 @@ impl Memory {
                 places::work(address, width),
                 value,
             ),
-            Region::Inner => self.store_inner(address, width, value),
+            Region::Inner => self.put_inner(address, width, value),
             Region::Palette => Memory::store_palette(
                 self.palette.as_mut_slice(),
                 address,
@@ -390,7 +390,7 @@ impl Memory {
 
     /// Writes in the inner RAM.
     #[inline]
-    fn store_inner(&mut self, address: u32, width: Width, value: u32)
+    fn put_inner(&mut self, address: u32, width: Width, value: u32)
         ensures { self.new ≡ with_inner self.old address width value }
     {
         put(
@@ -408,7 +408,7 @@ impl Memory {
         ensures { self.new ≡ wide_store (region_of address) mode self.old address width value }
     {
         if is_in_inner(address) {
-            self.store_inner(address, width, value);
+            self.put_inner(address, width, value);
         } else {
             self.wide_store(mode, address, width, value);
         }
@@ -430,6 +430,65 @@ impl Memory {
         ensures { self.new ≡ store mode self.old address width value }
     {
         self.quick_store(mode, address, width, value);
+    }
+
+    #[inline]
+    fn inner_number(&self, address: u32, width: Width) -> u32
+        ensures { result ≡ wide_number self.now.inner width (inner_place (aligned width address)) }
+    {
+        number(self.inner.as_slice(), width, places::inner(address, width))
+    }
+
+    #[tactic(auto, unfolding(gba_bus::specs::Regions::region_of))]
+    #[inline]
+    fn bios_number(&self, address: u32, width: Width) -> u32
+        requires { is_bios (region_of address) ≡ true }
+        ensures { result ≡ wide_number self.now.bios width (aligned width address) }
+    {
+        number(self.bios.as_slice(), width, places::bios(address, width))
+    }
+
+    #[inline]
+    fn rom_number(&self, address: u32, width: Width) -> u32
+        ensures { result ≡ wide_rom self.now.rom width (aligned width address) }
+    {
+        self.read_rom(width, width.align(address))
+    }
+
+    /// What [`Memory::load`] reads at an address in the inner RAM, whatever instruction asks for it.
+    #[inline]
+    pub fn load_inner(&self, address: u32, width: Width) -> u32
+        requires { is_inner (region_of address) ≡ true }
+        ensures { (from : ℕ) → result ≡ load self.now from address width }
+    {
+        self.inner_number(address, width)
+    }
+
+    /// What [`Memory::store`] writes at an address in the inner RAM, whatever the mode of the picture.
+    #[inline]
+    pub fn store_inner(&mut self, address: u32, width: Width, value: u32)
+        requires { is_inner (region_of address) ≡ true }
+        ensures { (mode : ℕ) → self.new ≡ store mode self.old address width value }
+    {
+        self.put_inner(address, width, value);
+    }
+
+    /// What [`Memory::code`] reads at an address in the BIOS.
+    #[inline]
+    pub fn code_in_bios(&self, address: u32, width: Width) -> u32
+        requires { is_bios (region_of address) ≡ true }
+        ensures { result ≡ load self.now address address width }
+    {
+        self.bios_number(address, width)
+    }
+
+    /// What [`Memory::code`] reads at an address in a view of the ROM.
+    #[inline]
+    pub fn code_in_rom(&self, address: u32, width: Width) -> u32
+        requires { is_rom (region_of address) ≡ true }
+        ensures { result ≡ load self.now address address width }
+    {
+        self.rom_number(address, width)
     }
 
     /// The instruction at an address, as [`Memory::load`] reads it for that instruction itself. Quick where

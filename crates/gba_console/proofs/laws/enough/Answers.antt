@@ -2,4 +2,4 @@ use Rattle.gba_console.proofs.Rises.{enough}
 use Rattle.gba_console.proofs.laws.enough.Goals as goal
 
 pub returns : goal.returns
-returns c = λ until a b start. enough c.cycles_of_a_word.ensures c.cycles_of_a_halfword.ensures a b until start
+returns c = λ until a b start. enough c.steps_pass.ensures a b until start

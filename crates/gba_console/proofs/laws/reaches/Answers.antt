@@ -2,4 +2,4 @@ use Rattle.gba_console.proofs.Rises.{reaches}
 use Rattle.gba_console.proofs.laws.reaches.Goals as goal
 
 pub returns : goal.returns
-returns c = reaches c.cycles_of_a_word.ensures c.cycles_of_a_halfword.ensures
+returns c = reaches c.steps_pass.ensures

@@ -1,0 +1,11 @@
+use Rattle.std.proofs.Common.{◌≡◌, ◌-◌}
+use Rattle.gba_console.specs.Machine.{clock_of}
+use Rattle.gba_console.specs.Run.{run_to}
+use Rattle.gba_console.proofs.Console.run_to.Given as goal
+
+-- what is left of the run leads to the same end
+abbrev pub invariant-loop-self : goal.invariant-loop-self
+invariant-loop-self l = run_to l.until l.self ≡ run_to l.until l.fn.self
+
+abbrev pub decreases-loop-self : goal.decreases-loop-self
+decreases-loop-self l = l.until - clock_of l.self

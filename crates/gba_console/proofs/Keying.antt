@@ -1,0 +1,103 @@
+use Rattle.std.proofs.Common.{◌≡◌, ℕ, ◌+◌, ◌<◌, ◌≤◌, Bool, true, false, List, [], ◌∷◌, length, drop, get_or, refl, sym, ◌∙◌, arith, if◌then◌else◌}
+use Rattle.std.specs.Prelude.{nat_le}
+use Rattle.std.proofs.Math.ListN.{drop_of_length-le}
+use Rattle.std.proofs.lemmas.Bool.Decides.{nat_tests}
+use Rattle.std.proofs.lemmas.List.{drop_more}
+use Rattle.gba_devices.specs.Registers.{keyed}
+use Rattle.gba_io.specs.Board.{Board, board_keyed}
+use Rattle.gba_console.specs.Keys.{after_keys, due_of, keys_left}
+use Rattle.gba_console.specs.declared.keys.KeyState.{KeyState}
+
+-- Changes of the keys, one after another.
+
+either-clock : (test : Bool) (clock : ℕ) (one other : Board) → one.devices.clock ≡ clock → other.devices.clock ≡ clock
+    → (if test then one else other).devices.clock ≡ clock
+either-clock true clock one other here there = here
+either-clock false clock one other here there = there
+
+keyed-clock : (keys : ℕ) (b : Board) → (board_keyed keys b).devices.clock ≡ b.devices.clock
+unfolding keyed
+keyed-clock keys b = refl
+
+-- they leave the clock
+pub keys-clock : (clock : ℕ) (changes : List KeyState) (b : Board)
+    → (after_keys clock changes b).devices.clock ≡ b.devices.clock
+unfolding after_keys
+keys-clock clock [] b = refl
+keys-clock clock (change ∷ changes) b =
+    either-clock (nat_le change.clock clock) b.devices.clock (after_keys clock changes (board_keyed change.keys b)) b
+    (keys-clock clock changes (board_keyed change.keys b) ∙ keyed-clock change.keys b) refl
+
+-- none is due
+pub keys-early : (clock : ℕ) (changes : List KeyState) (b : Board) → clock < due_of changes
+    → after_keys clock changes b ≡ b
+unfolding after_keys
+keys-early clock [] b early = refl
+keys-early clock (change ∷ changes) b early =
+    let test : nat_le change.clock clock ≡ false = grind (arith, nat_tests) in
+    rw test refl
+
+pub left-early : (clock : ℕ) (changes : List KeyState) → clock < due_of changes → keys_left clock changes ≡ changes
+unfolding keys_left
+left-early clock [] early = refl
+left-early clock (change ∷ changes) early =
+    let test : nat_le change.clock clock ≡ false = grind (arith, nat_tests) in
+    rw test refl
+
+-- the next one is
+pub keys-due : (clock : ℕ) (change : KeyState) (changes : List KeyState) (b : Board) → change.clock ≤ clock
+    → after_keys clock (change ∷ changes) b ≡ after_keys clock changes (board_keyed change.keys b)
+unfolding after_keys
+keys-due clock change changes b due =
+    let test : nat_le change.clock clock ≡ true = grind (arith, nat_tests) in
+    rw test refl
+
+pub left-due : (clock : ℕ) (change : KeyState) (changes : List KeyState) → change.clock ≤ clock
+    → keys_left clock (change ∷ changes) ≡ keys_left clock changes
+unfolding keys_left
+left-due clock change changes due =
+    let test : nat_le change.clock clock ≡ true = grind (arith, nat_tests) in
+    rw test refl
+
+-- The same at a place of the list.
+abbrev pub change_at : List KeyState → ℕ → KeyState
+change_at changes next = get_or changes next (record { clock = 0; keys = 0 })
+
+from : (changes : List KeyState) (next : ℕ) → next < length changes
+    → drop next changes ≡ change_at changes next ∷ drop (next + 1) changes
+from changes next inside = drop_more changes next (record { clock = 0; keys = 0 }) inside
+
+pub early-at : (clock : ℕ) (changes : List KeyState) (next : ℕ) (b : Board) → next < length changes
+    → clock < (change_at changes next).clock → b ≡ after_keys clock (drop next changes) b
+early-at clock changes next b inside early =
+    rw (from changes next inside)
+    (sym (keys-early clock (change_at changes next ∷ drop (next + 1) changes) b early))
+
+pub left-at : (clock : ℕ) (changes : List KeyState) (next : ℕ) → next < length changes
+    → clock < (change_at changes next).clock → drop next changes ≡ keys_left clock (drop next changes)
+left-at clock changes next inside early =
+    rw (from changes next inside)
+    (sym (left-early clock (change_at changes next ∷ drop (next + 1) changes) early))
+
+pub due-at : (clock : ℕ) (changes : List KeyState) (next : ℕ) (b c : Board) → next < length changes
+    → (change_at changes next).clock ≤ clock → c ≡ board_keyed (change_at changes next).keys b
+    → after_keys clock (drop (next + 1) changes) c ≡ after_keys clock (drop next changes) b
+due-at clock changes next b c inside due same =
+    rw (from changes next inside, same)
+    (sym (keys-due clock (change_at changes next) (drop (next + 1) changes) b due))
+
+pub due-left-at : (clock : ℕ) (changes : List KeyState) (next : ℕ) → next < length changes
+    → (change_at changes next).clock ≤ clock
+    → keys_left clock (drop (next + 1) changes) ≡ keys_left clock (drop next changes)
+due-left-at clock changes next inside due =
+    rw (from changes next inside) (sym (left-due clock (change_at changes next) (drop (next + 1) changes) due))
+
+pub none-at : (clock : ℕ) (changes : List KeyState) (next : ℕ) (b : Board) → length changes ≤ next
+    → b ≡ after_keys clock (drop next changes) b
+unfolding after_keys
+none-at clock changes next b past = rw (drop_of_length-le changes past) refl
+
+pub none-left-at : (clock : ℕ) (changes : List KeyState) (next : ℕ) → length changes ≤ next
+    → drop next changes ≡ keys_left clock (drop next changes)
+unfolding keys_left
+none-left-at clock changes next past = rw (drop_of_length-le changes past) refl

@@ -1,0 +1,24 @@
+use Rattle.std.specs.Prelude.{ℕ, ◌-◌, ◌^◌, List, [], ◌∷◌, nat_le, if◌then◌else◌}
+use Rattle.gba_io.specs.Board.{Board, board_keyed}
+use Rattle.gba_console.specs.declared.keys.KeyState.{KeyState}
+
+-- The key changes that a step which begins at `clock` applies: those at the front of the list whose clock isn't above
+-- it, one after another (that each is applied by the first step which begins at or after it is this project's
+-- profile).
+
+-- a board once they are applied
+unfoldable pub after_keys : ℕ → List KeyState → Board → Board
+after_keys clock [] b = b
+after_keys clock (change ∷ changes) b =
+    if nat_le change.clock clock then after_keys clock changes (board_keyed change.keys b) else b
+
+-- the changes that are left
+unfoldable pub keys_left : ℕ → List KeyState → List KeyState
+keys_left clock [] = []
+keys_left clock (change ∷ changes) =
+    if nat_le change.clock clock then keys_left clock changes else change ∷ changes
+
+-- the clock of the first change, or one that no run reaches
+abbrev pub due_of : List KeyState → ℕ
+due_of [] = 2 ^ 64 - 1
+due_of (change ∷ changes) = change.clock

@@ -1,0 +1,233 @@
+//! What a step does before its devices move.
+
+ghost use Rattle.std.specs.Prelude.{◌≡◌, ◌<◌, length, not};
+ghost use Rattle.gba_console.specs.Step.{acted, awake_done, enters, entry_done, execution_of_half, execution_of_word, half_done, idles, in_thumb, instruction_done, word_done};
+ghost use Rattle.gba_exec_transfers.specs.Done.{Leaves};
+ghost use Rattle.gba_io.specs.Bus.{board_read};
+ghost use Rattle.gba_bus.specs.declared.width.Width.TheVariants.{Half, Word};
+
+use gba_arm_exec as arm;
+use gba_arm_exec::Decoded as DecodedWord;
+use gba_bus::{Bus, Width};
+use gba_exec_registers::{Site, jump_price};
+use gba_io::Board;
+use gba_psr::{Exception, Registers};
+use gba_thumb_exec as thumb;
+use gba_thumb_exec::DecodedHalf;
+use gba_word::bit;
+
+/// How many decoded words a console keeps, and how many decoded halfwords: 128 KiB of each.
+pub(crate) const DECODED: usize = 4096;
+
+/// How many cycles a halted console idles at a time.
+const IDLE_CYCLES: u32 = 16;
+
+/// Where the table of words has the one at this address. Words 16 KiB apart share a place.
+fn place_of_word(address: u32) -> usize
+    ensures { result < 4096 }
+{
+    (address / 4) as usize % DECODED
+}
+
+/// Where the table of halfwords has the one at this address. Halfwords 8 KiB apart share a place.
+fn place_of_half(address: u32) -> usize
+    ensures { result < 4096 }
+{
+    (address / 2) as usize % DECODED
+}
+
+/// Whether the processor is in Thumb state.
+#[inline(always)]
+pub(crate) fn in_thumb(registers: &Registers) -> bool
+    ensures { result ≡ in_thumb registers.now }
+{
+    bit(registers.cpsr(), 5)
+}
+
+// The word at an address, as an instruction.
+#[inline(always)]
+fn word_at(board: &mut Board, address: u32) -> u32
+    ensures value { result ≡ board_read board.old address address Word }
+    ensures same { board.new ≡ board.old }
+{
+    board.code(address, Width::Word)
+}
+
+// The halfword at an address, as an instruction.
+#[inline(always)]
+fn half_at(board: &mut Board, address: u32) -> u16
+    ensures value { result ≡ board_read board.old address address Half }
+    ensures same { board.new ≡ board.old }
+{
+    board.code(address, Width::Half) as u16
+}
+
+// Executes the word at r15.
+#[inline(always)]
+fn step_word(registers: &mut Registers, board: &mut Board, words: &mut [DecodedWord]) -> u32
+    requires { length words.old ≡ 4096 }
+    ensures { Leaves (word_done registers.old board.old) registers.new board.new result }
+{
+    let address = registers.get(15);
+    let word = word_at(board, address);
+    let one = &words[place_of_word(address)];
+    if one.word == word {
+        arm::execute_decoded(registers, board, one)
+    } else {
+        first_word(registers, board, words, word)
+    }
+}
+
+// Executes the word at r15, which isn't decoded yet at its place.
+#[inline(never)]
+fn first_word(
+    registers: &mut Registers,
+    board: &mut Board,
+    words: &mut [DecodedWord],
+    word: u32,
+) -> u32
+    requires { length words.old ≡ 4096 }
+    ensures { Leaves (execution_of_word word registers.old board.old) registers.new board.new result }
+{
+    let place = place_of_word(registers.get(15));
+    arm::execute_first(registers, board, words, place, word)
+}
+
+// Executes the halfword at r15.
+#[inline(always)]
+fn step_half(registers: &mut Registers, board: &mut Board, halves: &mut [DecodedHalf]) -> u32
+    requires { length halves.old ≡ 4096 }
+    ensures { Leaves (half_done registers.old board.old) registers.new board.new result }
+{
+    let address = registers.get(15);
+    let half = half_at(board, address);
+    let one = &halves[place_of_half(address)];
+    if one.half == half {
+        thumb::execute_decoded(registers, board, one)
+    } else {
+        first_half(registers, board, halves, half)
+    }
+}
+
+// Executes the halfword at r15, which isn't decoded yet at its place.
+#[inline(never)]
+fn first_half(
+    registers: &mut Registers,
+    board: &mut Board,
+    halves: &mut [DecodedHalf],
+    half: u16,
+) -> u32
+    requires { length halves.old ≡ 4096 }
+    ensures { Leaves (execution_of_half half registers.old board.old) registers.new board.new result }
+{
+    let place = place_of_half(registers.get(15));
+    thumb::execute_first(registers, board, halves, place, half)
+}
+
+/// Executes the instruction at r15, a halfword in Thumb state, and else a word. It has one caller, into which all of it
+/// goes.
+#[tactic(auto, unfolding(crate::specs::Step::instruction_done))]
+#[inline(always)]
+pub(crate) fn execute(
+    registers: &mut Registers,
+    board: &mut Board,
+    words: &mut [DecodedWord],
+    halves: &mut [DecodedHalf],
+) -> u32
+    requires words { length words.old ≡ 4096 }
+    requires halves { length halves.old ≡ 4096 }
+    ensures { Leaves (instruction_done registers.old board.old) registers.new board.new result }
+{
+    if in_thumb(registers) {
+        step_half(registers, board, halves)
+    } else {
+        step_word(registers, board, words)
+    }
+}
+
+// The same where it seldom comes: whatever is decoded already, it is decoded anew.
+#[tactic(auto, unfolding(crate::specs::Step::instruction_done))]
+fn execute_anew(
+    registers: &mut Registers,
+    board: &mut Board,
+    words: &mut [DecodedWord],
+    halves: &mut [DecodedHalf],
+) -> u32
+    requires words { length words.old ≡ 4096 }
+    requires halves { length halves.old ≡ 4096 }
+    ensures { Leaves (instruction_done registers.old board.old) registers.new board.new result }
+{
+    let address = registers.get(15);
+    if in_thumb(registers) {
+        let half = half_at(board, address);
+        first_half(registers, board, halves, half)
+    } else {
+        let word = word_at(board, address);
+        first_word(registers, board, words, word)
+    }
+}
+
+/// Whether a halted console stays so.
+fn idles(board: &Board) -> bool
+    ensures { result ≡ idles board.now }
+{
+    board.halted() && !board.pending()
+}
+
+/// Whether an interrupt is entered.
+fn enters(registers: &Registers, board: &Board) -> bool
+    ensures { result ≡ enters registers.now board.now }
+{
+    !bit(registers.cpsr(), 7) && board.master() && board.pending()
+}
+
+/// Enters an interrupt.
+fn enter(registers: &mut Registers, board: &mut Board) -> u32
+    ensures { Leaves (entry_done registers.old board.old) registers.new board.new result }
+{
+    let site = Site {
+        address: registers.get(15),
+        thumb: in_thumb(registers),
+    };
+    let cycles = jump_price(board, site);
+    registers.enter(Exception::Interrupt, site.address.wrapping_add(4));
+    cycles
+}
+
+// What a step does where the halt has ended.
+fn act_awake(
+    registers: &mut Registers,
+    board: &mut Board,
+    words: &mut [DecodedWord],
+    halves: &mut [DecodedHalf],
+) -> u32
+    requires words { length words.old ≡ 4096 }
+    requires halves { length halves.old ≡ 4096 }
+    ensures { Leaves (awake_done registers.old board.old) registers.new board.new result }
+{
+    if enters(registers, board) {
+        enter(registers, board)
+    } else {
+        execute_anew(registers, board, words, halves)
+    }
+}
+
+/// What a step does once its keys are applied: it idles, enters an interrupt or executes an instruction.
+#[tactic(auto, unfolding(crate::specs::Step::acted))]
+#[inline(never)]
+pub(crate) fn act(
+    registers: &mut Registers,
+    board: &mut Board,
+    words: &mut [DecodedWord],
+    halves: &mut [DecodedHalf],
+) -> u32
+    requires words { length words.old ≡ 4096 }
+    requires halves { length halves.old ≡ 4096 }
+    ensures { Leaves (acted registers.old board.old) registers.new board.new result }
+{
+    if idles(board) {
+        return IDLE_CYCLES;
+    }
+    board.wake();
+    act_awake(registers, board, words, halves)
+}

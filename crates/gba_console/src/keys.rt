@@ -1,0 +1,34 @@
+//! Changes of the keys.
+
+ghost use Rattle.std.specs.Prelude.{◌≡◌, ◌+◌, ◌≤◌, drop, length, vec_len};
+ghost use Rattle.gba_console.specs.Keys.{after_keys, keys_left};
+
+use gba_io::Board;
+
+/// A change of the keys: from its clock on, in cycles since reset, these are pressed, 1 for pressed: A, B, Select, Start,
+/// Right, Left, Up, Down, R, L are bits 0 to 9.
+#[derive(Clone, Copy, Debug, PartialEq, Eq)]
+pub struct KeyState {
+    pub clock: u64,
+    pub keys: u16,
+}
+
+/// Applies the changes that a step which begins at `clock` applies, of those from `applied` on. Answers how many of all
+/// are applied then.
+pub(crate) fn apply(clock: u64, changes: &[KeyState], applied: usize, board: &mut Board) -> usize
+    requires { applied ≤ length changes.now }
+    ensures board { board.new ≡ after_keys clock (drop applied changes.now) board.old }
+    ensures left { drop result changes.now ≡ keys_left clock (drop applied changes.now) }
+    ensures most { result ≤ length changes.now }
+{
+    let mut next = applied;
+    while next < changes.len() {
+        let change = changes[next];
+        if change.clock > clock {
+            return next;
+        }
+        board.set_keys(change.keys);
+        next += 1;
+    }
+    next
+}

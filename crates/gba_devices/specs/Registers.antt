@@ -1,0 +1,119 @@
+use Rattle.std.specs.Prelude.{ℕ, Bool, ◌+◌, ◌-◌, ◌*◌, ◌%◌, ◌^◌, ◌==◌, ◌||◌, nat_le, nat_lt, ◌&&◌, List, [], ◌∷◌, bit_and, bit_or, if◌then◌else◌}
+use Rattle.gba_terms.specs.Bits.{bit, field}
+use Rattle.gba_bus.specs.declared.width.Width.{Width}
+use Rattle.gba_bus.specs.declared.width.Width.TheVariants.{Byte, Half, Word}
+use Rattle.gba_register.specs.Rows.{Row, row, row_at}
+use Rattle.gba_irq.specs.Interrupts.{interrupt_kept, interrupt_read, interrupt_written}
+use Rattle.gba_irq.specs.Keypad.{becomes_true, keypad_read, with_control, with_pressed}
+use Rattle.gba_irq.specs.declared.interrupts.Interrupts.{Interrupts}
+use Rattle.gba_timer.specs.Timers.{timer_kept, timer_read, timer_written}
+use Rattle.gba_devices.specs.declared.registers.Owner.{Owner}
+use Rattle.gba_devices.specs.declared.registers.Owner.TheVariants.{TimerBlock, KeyBlock, InterruptBlock, WaitControl, PostFlag, Nobody}
+use Rattle.gba_devices.specs.State.{Devices}
+
+-- The I/O registers (GBATEK, GBA I/O Map), by their offsets from 04000000h. Each device has its own rows; here are those
+-- of WAITCNT and POSTFLG, and which device a halfword belongs to. What isn't listed reads 0 and drops writes.
+
+unfoldable pub system_rows : List Row
+system_rows = row 0x204 0x5fff 0x5fff ∷ row 0x300 0x0001 0x0001 ∷ []
+
+-- whose halfword an offset is
+unfoldable pub owner_of : ℕ → Owner
+owner_of offset =
+    if nat_le 0x100 offset && nat_lt offset 0x110 then TimerBlock
+    else if nat_le 0x130 offset && nat_lt offset 0x134 then KeyBlock
+    else if offset == 0x204 then WaitControl
+    else if nat_le 0x200 offset && nat_lt offset 0x20a then InterruptBlock
+    else if offset == 0x300 then PostFlag
+    else Nobody
+
+abbrev pub truth_number : Bool → ℕ
+truth_number set = if set then 1 else 0
+
+-- what a halfword reads
+abbrev pub read_of : Owner → ℕ → Devices → ℕ
+read_of TimerBlock offset d = timer_read offset d.timers
+read_of KeyBlock offset d = keypad_read offset d.keys
+read_of InterruptBlock offset d = interrupt_read offset d.interrupts
+read_of WaitControl offset d = bit_and d.waits (row_at system_rows 0x204).read_mask
+read_of PostFlag offset d = bit_and (truth_number d.posted) (row_at system_rows 0x300).read_mask
+read_of Nobody offset d = 0
+
+unfoldable pub half_read : ℕ → Devices → ℕ
+half_read offset d = read_of (owner_of offset) offset d % 2 ^ 16
+
+-- what a write of one byte keeps of the halfword's other byte: of a timer's first halfword that of the reload, of IF
+-- nothing, and else what is stored
+abbrev pub kept_of : Owner → ℕ → Devices → ℕ
+kept_of TimerBlock offset d = timer_kept offset d.timers
+kept_of KeyBlock offset d = keypad_read offset d.keys
+kept_of InterruptBlock offset d = interrupt_kept offset d.interrupts
+kept_of WaitControl offset d = d.waits
+kept_of PostFlag offset d = truth_number d.posted
+kept_of Nobody offset d = 0
+
+unfoldable pub half_kept : ℕ → Devices → ℕ
+half_kept offset d = kept_of (owner_of offset) offset d
+
+-- what is stored at a halfword, and of bits that are only read what they read; of a timer's first halfword that is the
+-- reload
+abbrev pub stored_of : Owner → ℕ → Devices → ℕ
+stored_of TimerBlock offset d = timer_kept offset d.timers
+stored_of owner offset d = read_of owner offset d
+
+unfoldable pub half_stored : ℕ → Devices → ℕ
+half_stored offset d = stored_of (owner_of offset) offset d % 2 ^ 16
+
+-- the keypad's interrupt is requested where its condition went from false to true (that it is tested after each key
+-- change and each write of KEYCNT is this project's profile)
+abbrev pub with_key_request : Bool → Interrupts → Interrupts
+with_key_request rose i = record i { raised = if rose then bit_or i.raised (2 ^ 12) else i.raised }
+
+-- other keys are pressed
+unfoldable pub keyed : ℕ → Devices → Devices
+keyed pressed d = record d {
+  keys = with_pressed pressed d.keys;
+  interrupts = with_key_request (becomes_true d.keys (with_pressed pressed d.keys)) d.interrupts;
+}
+
+-- KEYCNT is written
+abbrev pub with_key_control : ℕ → Devices → Devices
+with_key_control value d = record d {
+  keys = with_control value d.keys;
+  interrupts = with_key_request (becomes_true d.keys (with_control value d.keys)) d.interrupts;
+}
+
+-- What a write of a halfword leaves; `lanes` has the bits of the bytes that are written, and `value` the whole halfword.
+-- A write that covers byte 301h halts (GBATEK, HALTCNT; that Stop is a halt too is this project's profile).
+abbrev pub written_of : Owner → ℕ → ℕ → ℕ → Devices → Devices
+written_of TimerBlock offset value lanes d = record d { timers = timer_written offset value d.timers }
+written_of KeyBlock offset value lanes d = if offset == 0x132 then with_key_control value d else d
+written_of InterruptBlock offset value lanes d = record d { interrupts = interrupt_written offset value d.interrupts }
+written_of WaitControl offset value lanes d =
+    record d { waits = bit_and value (row_at system_rows 0x204).write_mask }
+written_of PostFlag offset value lanes d = record d { posted = bit value 0; halted = d.halted || bit lanes 8 }
+written_of Nobody offset value lanes d = d
+
+-- the bytes that are written, and the halfword's others as they are kept
+abbrev pub merged : ℕ → ℕ → ℕ → ℕ
+merged kept value lanes = bit_or (bit_and kept (2 ^ 16 - 1 - lanes)) (bit_and value lanes)
+
+unfoldable pub half_written : ℕ → ℕ → ℕ → Devices → Devices
+half_written offset value lanes d =
+    written_of (owner_of offset) offset (merged (half_kept offset d) value lanes) lanes d
+
+-- What an access reads. Wider ones are their halfwords, the lower first.
+abbrev pub io_loaded : ℕ → Width → Devices → ℕ
+io_loaded offset Byte d = field (half_read (offset - offset % 2) d) (8 * (offset % 2)) 8
+io_loaded offset Half d = half_read (offset - offset % 2) d
+io_loaded offset Word d = half_read (offset - offset % 4) d + 2 ^ 16 * half_read (offset - offset % 4 + 2) d
+
+-- what an access of this width leaves
+abbrev pub io_stored : ℕ → Width → ℕ → Devices → Devices
+io_stored offset Byte value d =
+    if offset % 2 == 0 then half_written offset (field value 0 8) 0x00ff d
+    else half_written (offset - 1) (2 ^ 8 * field value 0 8) 0xff00 d
+io_stored offset Half value d = half_written (offset - offset % 2) (field value 0 16) 0xffff d
+io_stored offset Word value d =
+    half_written (offset - offset % 4 + 2) (field value 16 16) 0xffff
+    (half_written (offset - offset % 4) (field value 0 16) 0xffff d)

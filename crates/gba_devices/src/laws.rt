@@ -1,0 +1,36 @@
+//! Laws over the definitions. Each is the contract of a function that takes no value.
+
+ghost use Rattle.std.specs.Prelude.{ℕ};
+ghost use Rattle.gba_devices.specs.Cycles.{CyclesPass, SkipsCycles};
+ghost use Rattle.gba_devices.specs.Fits.{ReadsFit};
+ghost use Rattle.gba_devices.specs.Keeping.{CalmHasBegun, WritesKeep};
+ghost use Rattle.gba_devices.specs.State.{Devices};
+
+use gba_timer::laws::skips_cycles as timers_skip_cycles;
+
+/// Within the quiet cycles skipping is stepping.
+pub fn skips_cycles()
+    ensures { SkipsCycles }
+{
+    timers_skip_cycles();
+}
+
+/// Cycles raise the clock by their number, and leave WAITCNT and the prices.
+pub fn cycles_pass()
+    ensures { (count : ℕ) (d : Devices) → CyclesPass count d }
+{}
+
+/// What is read has zeros above its width.
+pub fn reads_fit()
+    ensures { ReadsFit }
+{}
+
+/// A write of a register leaves the clock and the prices of this step.
+pub fn writes_keep()
+    ensures { WritesKeep }
+{}
+
+/// Calm devices have the prices of this step already.
+pub fn calm_has_begun()
+    ensures { CalmHasBegun }
+{}

@@ -1,0 +1,47 @@
+use Rattle.std.proofs.Common.{◌≡◌, ℕ, true, false, refl}
+use Rattle.gba_bus.specs.Regions.{region_of}
+use Rattle.gba_bus.specs.declared.region.Region.{Region}
+use Rattle.gba_bus.specs.declared.region.Region.TheVariants.{Bios, Inner, Rom0, Rom1, Rom2}
+use Rattle.gba_bus.specs.declared.width.Width.{Width}
+use Rattle.gba_mem.specs.Loads.{is_bios, is_inner, is_rom, load}
+use Rattle.gba_mem.specs.Stores.{store}
+use Rattle.gba_io.specs.Board.{Board}
+use Rattle.gba_io.specs.Bus.{board_read, board_written, is_io}
+
+-- What is read and written where a test has told that an address is no register's.
+
+bios-not-io : (region : Region) → is_bios region ≡ true → is_io region ≡ false
+bios-not-io Bios e = refl
+bios-not-io _ e = cc
+
+inner-not-io : (region : Region) → is_inner region ≡ true → is_io region ≡ false
+inner-not-io Inner e = refl
+inner-not-io _ e = cc
+
+rom-not-io : (region : Region) → is_rom region ≡ true → is_io region ≡ false
+rom-not-io Rom0 e = refl
+rom-not-io Rom1 e = refl
+rom-not-io Rom2 e = refl
+rom-not-io _ e = cc
+
+pub bios_read : (b : Board) (from address : ℕ) (width : Width) → is_bios (region_of address) ≡ true
+    → board_read b from address width ≡ load b.memory from address width
+unfolding board_read
+bios_read b from address width e = rw (bios-not-io (region_of address) e) refl
+
+pub inner_read : (b : Board) (from address : ℕ) (width : Width) → is_inner (region_of address) ≡ true
+    → board_read b from address width ≡ load b.memory from address width
+unfolding board_read
+inner_read b from address width e = rw (inner-not-io (region_of address) e) refl
+
+pub rom_read : (b : Board) (from address : ℕ) (width : Width) → is_rom (region_of address) ≡ true
+    → board_read b from address width ≡ load b.memory from address width
+unfolding board_read
+rom_read b from address width e = rw (rom-not-io (region_of address) e) refl
+
+pub inner_written : (b : Board) (address : ℕ) (width : Width) (value : ℕ) → is_inner (region_of address) ≡ true
+    → board_written b address width value ≡ record b { memory = store 0 b.memory address width value }
+unfolding board_written
+inner_written b address width value e = rw (inner-not-io (region_of address) e) refl
+
+pub ruleset told_accesses = (bios_read, inner_read, rom_read, inner_written)

@@ -1,0 +1,50 @@
+use Rattle.std.specs.Prelude.{ℕ, Bool, true, false, ◌-◌, if◌then◌else◌}
+use Rattle.gba_bus.specs.Meanings.{Code, Load, Price, Store}
+use Rattle.gba_bus.specs.Prices.{price}
+use Rattle.gba_bus.specs.Regions.{region_of}
+use Rattle.gba_bus.specs.declared.region.Region.{Region}
+use Rattle.gba_bus.specs.declared.region.Region.TheVariants.{Io}
+use Rattle.gba_bus.specs.declared.width.Width.{Width}
+use Rattle.gba_devices.specs.Registers.{io_loaded, io_stored}
+use Rattle.gba_mem.specs.Loads.{load}
+use Rattle.gba_mem.specs.Stores.{store}
+use Rattle.gba_io.specs.Board.{Board}
+
+-- A board as a bus (GBATEK, GBA Memory Map): the I/O registers are those of the devices, and all else is memory. Prices
+-- are those of WAITCNT as it was at the start of the step (this project's profile). Until the picture's registers come,
+-- its mode is 0.
+
+abbrev pub is_io : Region → Bool
+is_io Io = true
+is_io _ = false
+
+-- where a register stands: its offset from 04000000h
+abbrev pub io_offset : ℕ → ℕ
+io_offset address = address - 0x04000000
+
+-- what an instruction at `from` reads at an address
+unfoldable pub board_read : Board → ℕ → ℕ → Width → ℕ
+board_read b from address width =
+    if is_io (region_of address) then io_loaded (io_offset address) width b.devices
+    else load b.memory from address width
+
+-- what a write leaves
+unfoldable pub board_written : Board → ℕ → Width → ℕ → Board
+board_written b address width value =
+    if is_io (region_of address)
+    then record b { devices = io_stored (io_offset address) width value b.devices }
+    else record b { memory = store 0 b.memory address width value }
+
+abbrev pub board_price : Price Board
+board_price b address width sequential = price (region_of address) width sequential b.devices.priced
+
+abbrev pub board_code : Code Board
+board_code b address width = record { value = board_read b address address width; after = b }
+
+abbrev pub board_load : Load Board
+board_load b from address width sequential =
+    record { value = board_read b from address width; price = board_price b address width sequential; after = b }
+
+abbrev pub board_store : Store Board
+board_store b address width value sequential =
+    record { price = board_price b address width sequential; after = board_written b address width value }

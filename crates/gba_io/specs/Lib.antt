@@ -1,0 +1,4 @@
+pub mod Board
+pub mod Bus
+pub mod BusLaws
+pub mod Keeping

@@ -1,0 +1,197 @@
+//! The board as a bus.
+
+ghost use Rattle.std.specs.Prelude.{◌≡◌, ◌<◌, true};
+ghost use Rattle.gba_bus.specs.Regions.{region_of};
+ghost use Rattle.gba_io.specs.Bus.{board_read, board_written, io_offset, is_io};
+ghost use Rattle.gba_mem.specs.Loads.{is_bios, is_inner, is_rom};
+
+use crate::Board;
+use gba_bus::{Bus, Region, Width, region_of};
+use gba_devices::laws::writes_keep;
+
+/// The mode of the picture, until its registers come: with 0 the tiles of sprites begin at 10000h in the VRAM.
+const PICTURE_MODE: u32 = 0;
+
+/// Whether an address is one of the I/O registers.
+fn is_in_io(address: u32) -> bool
+    ensures { result ≡ is_io (region_of address) }
+{
+    match region_of(address) {
+        Region::Io => true,
+        _ => false,
+    }
+}
+
+/// Whether an address is in the inner RAM.
+#[tactic(auto, unfolding(gba_bus::specs::Regions::region_of))]
+#[inline]
+fn is_in_inner(address: u32) -> bool
+    ensures { result ≡ is_inner (region_of address) }
+{
+    address >> 24 == 0x3
+}
+
+/// Whether an address is in the BIOS.
+#[tactic(auto, unfolding(gba_bus::specs::Regions::region_of))]
+#[inline]
+fn is_in_bios(address: u32) -> bool
+    ensures { result ≡ is_bios (region_of address) }
+{
+    address < 0x4000
+}
+
+/// Whether an address is in a view of the ROM.
+#[tactic(auto, unfolding(gba_bus::specs::Regions::region_of))]
+#[inline]
+fn is_in_rom(address: u32) -> bool
+    ensures { result ≡ is_rom (region_of address) }
+{
+    match address >> 24 {
+        0x8..=0xD => true,
+        _ => false,
+    }
+}
+
+/// The offset of an I/O register from 04000000h.
+#[tactic(auto, unfolding(gba_bus::specs::Regions::region_of))]
+fn offset_of(address: u32) -> u32
+    requires { is_io (region_of address) ≡ true }
+    ensures value { result ≡ io_offset address }
+    ensures most { result < 0x400 }
+{
+    address - 0x0400_0000
+}
+
+impl Board {
+    ghost use Rattle.std.specs.Prelude.{◌≡◌};
+    ghost use Rattle.gba_io.specs.Bus.{board_read, board_written};
+
+    /// What an instruction reads at an address that may be a register's.
+    #[tactic(auto, unfolding(crate::specs::Bus::board_read))]
+    #[inline(never)]
+    fn read_anywhere(&mut self, from: u32, address: u32, width: Width) -> u32
+        ensures value { result ≡ board_read self.old from address width }
+        ensures same { self.new ≡ self.old }
+    {
+        if is_in_io(address) {
+            self.devices.load(offset_of(address), width)
+        } else {
+            self.memory.load(from, address, width)
+        }
+    }
+
+    /// Writes at an address that may be a register's.
+    #[tactic(auto, unfolding(crate::specs::Bus::board_written))]
+    #[inline(never)]
+    fn write_anywhere(&mut self, address: u32, width: Width, value: u32)
+        ensures { self.new ≡ board_written self.old address width value }
+    {
+        writes_keep();
+        if is_in_io(address) {
+            self.devices.store(offset_of(address), width, value);
+        } else {
+            self.memory.store(PICTURE_MODE, address, width, value);
+        }
+    }
+
+    /// What an instruction is read as, the commonest regions first, each after one test.
+    #[tactic(auto, using(crate::proofs::Telling::told_accesses))]
+    #[inline]
+    fn read_code(&mut self, address: u32, width: Width) -> u32
+        ensures value { result ≡ board_read self.old address address width }
+        ensures same { self.new ≡ self.old }
+    {
+        if is_in_bios(address) {
+            return self.memory.code_in_bios(address, width);
+        }
+        if is_in_inner(address) {
+            return self.memory.load_inner(address, width);
+        }
+        if is_in_rom(address) {
+            return self.memory.code_in_rom(address, width);
+        }
+        self.read_anywhere(address, address, width)
+    }
+
+    /// What an instruction reads, the inner RAM after one test.
+    #[tactic(auto, using(crate::proofs::Telling::told_accesses))]
+    #[inline]
+    fn read(&mut self, from: u32, address: u32, width: Width) -> u32
+        ensures value { result ≡ board_read self.old from address width }
+        ensures same { self.new ≡ self.old }
+    {
+        if is_in_inner(address) {
+            self.memory.load_inner(address, width)
+        } else {
+            self.read_anywhere(from, address, width)
+        }
+    }
+
+    /// Writes, the inner RAM after one test.
+    #[tactic(auto, using(crate::proofs::Telling::told_accesses))]
+    #[inline]
+    fn write(&mut self, address: u32, width: Width, value: u32)
+        ensures { self.new ≡ board_written self.old address width value }
+    {
+        if is_in_inner(address) {
+            self.memory.store_inner(address, width, value);
+        } else {
+            self.write_anywhere(address, width, value);
+        }
+    }
+}
+
+impl Bus for Board {
+    ghost use Rattle.gba_io.specs.Board.{Board};
+    ghost use Rattle.gba_io.specs.Bus.{board_code, board_load, board_price, board_store};
+    ghost use Rattle.gba_io.specs.BusLaws.{
+      board_code_fits,
+      board_code_prices,
+      board_load_prices,
+      board_loads_fit,
+      board_store_prices,
+    };
+
+    ghost State = { Board };
+
+    ghost state = { λ board. board };
+
+    ghost code_of = { board_code };
+
+    ghost code_price_of = { board_price };
+
+    ghost load_of = { board_load };
+
+    ghost store_of = { board_store };
+
+    ghost code_prices = { board_code_prices };
+
+    ghost load_prices = { board_load_prices };
+
+    ghost store_prices = { board_store_prices };
+
+    ghost code_fits = { board_code_fits };
+
+    ghost loads_fit = { board_loads_fit };
+
+    fn code(&mut self, address: u32, width: Width) -> u32 {
+        self.read_code(address, width)
+    }
+
+    fn code_price(&self, address: u32, width: Width, sequential: bool) -> u32 {
+        self.prices.price(address, width, sequential)
+    }
+
+    fn load(&mut self, from: u32, address: u32, width: Width, sequential: bool) -> (u32, u32) {
+        (
+            self.read(from, address, width),
+            self.prices.price(address, width, sequential),
+        )
+    }
+
+    fn store(&mut self, address: u32, width: Width, value: u32, sequential: bool) -> u32 {
+        let price = self.prices.price(address, width, sequential);
+        self.write(address, width, value);
+        price
+    }
+}

@@ -1,0 +1,45 @@
+-- The register lines, one after another.
+use Rattle.std.proofs.Common.{◌≡◌, ℕ, suc, ◌+◌, ◌*◌, ◌/◌, ◌%◌, ◌<◌, List, [], ◌∷◌, ◌++◌, length, take, drop, get_or, refl, sym, ap, ◌∙◌, append_assoc, add-one, drop-cons}
+use Rattle.gba_terms.specs.RegisterNames.{register_names}
+use Rattle.gba_devices.specs.Registers.{half_stored}
+use Rattle.gba_devices.specs.State.{Devices}
+use Rattle.gba_output.specs.StateFile.{io_bytes, register_line, register_lines, memory_line, memory_lines}
+
+-- what is left of the lines is the next one and what is left after it
+pub register_lines-more : (names : List (List ℕ)) (values : List ℕ) (i : ℕ) → i < length names → i < length values
+    → register_lines (drop i names) (drop i values) ≡ register_line (get_or names i []) (get_or values i 0) ++ register_lines (drop (i + 1) names) (drop (i + 1) values)
+unfolding register_lines
+register_lines-more names values i p q = rw (add-one, drop-cons names i [], drop-cons values i 0) refl
+
+pub register_lines-all : (values : List ℕ) → register_lines (drop 37 register_names) values ≡ []
+unfolding register_lines register_names
+register_lines-all values = refl
+
+pub length-register_names : length register_names ≡ 37
+unfolding register_names
+length-register_names = refl
+
+-- a text that grew by the next piece of what is left
+pub joined : (old new piece left rest all : List ℕ) → new ≡ old ++ piece → left ≡ piece ++ rest → old ++ left ≡ all → new ++ rest ≡ all
+joined old new piece left rest all grew split whole =
+    ap (λ t. t ++ rest) grew ∙ append_assoc old piece rest ∙ ap (λ t. old ++ t) (sym split) ∙ whole
+
+-- the lines of memory that are left are the next one and those after it
+pub memory_lines-more : (name : List ℕ) (left count offset : ℕ) (bytes : List ℕ) → left ≡ suc count
+    → memory_lines name left offset bytes ≡ memory_line name offset (take 32 (drop offset bytes)) ++ memory_lines name count (offset + 32) bytes
+unfolding memory_lines
+memory_lines-more name left count offset bytes is = ap (λ n. memory_lines name n offset bytes) is
+
+pub memory_lines-none : (name : List ℕ) (left offset : ℕ) (bytes : List ℕ) → left ≡ 0 → memory_lines name left offset bytes ≡ []
+unfolding memory_lines
+memory_lines-none name left offset bytes is = ap (λ n. memory_lines name n offset bytes) is
+
+-- the bytes of the I/O registers, one halfword after another
+pub io_bytes-none : (d : Devices) → io_bytes 0 d ≡ []
+unfolding io_bytes
+io_bytes-none d = refl
+
+pub io_bytes-more : (d : Devices) (halves half : ℕ) (old new : List ℕ) → old ≡ io_bytes halves d
+    → half ≡ half_stored (2 * halves) d → new ≡ old ++ (half % 256 ∷ half / 256 ∷ []) → new ≡ io_bytes (halves + 1) d
+unfolding io_bytes
+io_bytes-more d halves half old new before value grew = rw (add-one, grew, value, before) refl

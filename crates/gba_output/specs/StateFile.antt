@@ -1,0 +1,97 @@
+use Rattle.std.specs.Prelude.{ℕ, zero, suc, ◌+◌, ◌*◌, ◌/◌, ◌%◌, ◌==◌, Bool, List, [], ◌∷◌, ◌++◌, length, take, drop, codes, decimal, if◌then◌else◌}
+use Rattle.std.specs.List.{list_all}
+use Rattle.gba_terms.specs.Hexadecimal.{hex}
+use Rattle.gba_terms.specs.RegisterNames.{register_names}
+use Rattle.gba_console.specs.Machine.{Machine, clock_of}
+use Rattle.gba_devices.specs.Registers.{half_stored}
+use Rattle.gba_devices.specs.State.{Devices}
+use Rattle.gba_io.specs.Board.{Board}
+use Rattle.gba_timer.specs.Timers.{timer_at}
+use Rattle.gba_timer.specs.declared.timer.Timer.{Timer}
+
+-- the line of a register: its name, and its value as eight digits
+abbrev pub register_line : List ℕ → ℕ → List ℕ
+register_line name value = name ++ codes " " ++ hex 8 value ++ codes "\n"
+
+-- a line for each register that has a name and a value
+unfoldable pub register_lines : List (List ℕ) → List ℕ → List ℕ
+register_lines [] values = []
+register_lines (name ∷ names) [] = []
+register_lines (name ∷ names) (value ∷ values) = register_line name value ++ register_lines names values
+
+-- the lines before the registers; the last says whether the console is halted
+abbrev pub truth : Bool → List ℕ
+truth set = if set then codes "1" else codes "0"
+
+abbrev pub heading : ℕ → Bool → List ℕ
+heading clock halted =
+    codes "gbalink-state 1\nconsole 0\nclock " ++ decimal clock ++ codes "\nhalted " ++ truth halted ++ codes "\n"
+
+-- the line of a timer: its number, its counter, its reload, its control and its phase
+abbrev pub timer_numbers : Timer → List ℕ
+timer_numbers t =
+    (codes " " ++ decimal t.counter) ++ (codes " " ++ decimal t.reload) ++ (codes " " ++ decimal t.control)
+    ++ (codes " " ++ decimal t.phase)
+
+abbrev pub timer_line : ℕ → Timer → List ℕ
+timer_line number t = codes "timer " ++ decimal number ++ timer_numbers t ++ codes "\n"
+
+abbrev pub timer_lines : Devices → List ℕ
+timer_lines d =
+    timer_line 0 (timer_at 0 d.timers) ++ timer_line 1 (timer_at 1 d.timers) ++ timer_line 2 (timer_at 2 d.timers)
+    ++ timer_line 3 (timer_at 3 d.timers)
+
+-- bytes as two digits each
+abbrev pub hex_bytes : List ℕ → List ℕ
+hex_bytes [] = []
+hex_bytes (byte ∷ bytes) = hex 2 byte ++ hex_bytes bytes
+
+-- the line of 32 bytes of a memory: its name, their offset as six digits, and the bytes
+abbrev pub memory_place : List ℕ → ℕ → List ℕ
+memory_place name offset = codes "mem " ++ name ++ codes " " ++ hex 6 offset ++ codes " "
+
+abbrev pub memory_row : List ℕ → ℕ → List ℕ → List ℕ
+memory_row name offset bytes = memory_place name offset ++ hex_bytes bytes ++ codes "\n"
+
+-- where all the bytes are 0, there is no line
+abbrev pub memory_line : List ℕ → ℕ → List ℕ → List ℕ
+memory_line name offset bytes = if list_all (λ byte. byte == 0) bytes then [] else memory_row name offset bytes
+
+-- so many of these lines, from an offset on
+unfoldable pub memory_lines : List ℕ → ℕ → ℕ → List ℕ → List ℕ
+memory_lines name zero offset bytes = []
+memory_lines name (suc count) offset bytes =
+    memory_line name offset (take 32 (drop offset bytes)) ++ memory_lines name count (offset + 32) bytes
+
+-- the lines of a whole memory
+abbrev pub lines_of : List ℕ → List ℕ → List ℕ
+lines_of name bytes = memory_lines name (length bytes / 32) 0 bytes
+
+-- the bytes of so many of the I/O registers' halfwords, from 04000000h up: what is stored there, and of bits that are
+-- only read what they read
+unfoldable pub io_bytes : ℕ → Devices → List ℕ
+io_bytes zero d = []
+io_bytes (suc halves) d =
+    io_bytes halves d ++ (half_stored (2 * halves) d % 256 ∷ half_stored (2 * halves) d / 256 ∷ [])
+
+-- the lines of the memories that a state file has, the I/O registers first
+abbrev pub lines_of_memories : Board → List ℕ
+lines_of_memories b =
+    lines_of (codes "io") (io_bytes 512 b.devices)
+    ++ lines_of (codes "wram") b.memory.work ++ lines_of (codes "iwram") b.memory.inner
+    ++ lines_of (codes "palette") b.memory.palette ++ lines_of (codes "vram") b.memory.vram
+    ++ lines_of (codes "oam") b.memory.oam
+
+-- the state file of the console with the number 0
+abbrev pub state_file : Machine → List ℕ
+state_file m =
+    heading (clock_of m) m.board.devices.halted ++ register_lines register_names m.registers
+    ++ timer_lines m.board.devices ++ lines_of_memories m.board
+
+-- its save: the bytes of the SRAM
+abbrev pub save_file : Machine → List ℕ
+save_file m = m.board.memory.sram
+
+-- the summary of a run of one console
+abbrev pub summary : Machine → List ℕ
+summary m = codes "console 0 clock " ++ decimal (clock_of m) ++ codes " frames 0 samples 0 words 0\n"

@@ -1,0 +1,347 @@
+//! The state file, the save and the summary.
+
+ghost use Rattle.std.specs.Prelude.{◌≡◌, ◌+◌, ◌*◌, ◌/◌, ◌%◌, ◌≤◌, ◌<◌, ◌==◌, ◌++◌, [], ◌∷◌, codes, decimal, length, drop, vec_len, vec_capacity, slice_index_or};
+ghost use Rattle.std.specs.List.{list_all};
+ghost use Rattle.gba_terms.specs.RegisterNames.{register_names};
+ghost use Rattle.arrayvec.specs.ArrayVec.{array_vec_len};
+ghost use Rattle.gba_output.specs.StateFile.{heading, hex_bytes, io_bytes as io_bytes_of, lines_of, lines_of_memories, memory_line, memory_place, memory_row, register_line, register_lines, save_file, state_file, summary as summary_of, timer_line, timer_lines, timer_numbers, truth as truth_of};
+
+use arrayvec::ArrayVec;
+use gba_command::hexadecimal::{hex_byte, hex_offset, hex_word};
+use gba_command::{Line, add_text};
+use gba_console::Console;
+use gba_io::{Board, MemoryName};
+use gba_timer::Timer;
+use itoa::Buffer;
+
+/// The room of a state file in bytes: its heading has at most 96, each of the 37 registers at most 18, each timer at most
+/// 36, and each of the 12,384 lines of registers and memory 84.
+pub const STATE_ROOM: usize = 1_041_162;
+
+/// The bytes of a save.
+pub const SAVE_ROOM: usize = 32_768;
+
+/// How many halfwords the I/O registers have.
+const IO_HALVES: u32 = 512;
+
+/// The bytes in a line of memory.
+const ROW: usize = 32;
+
+/// Adds bytes where there is room for them.
+fn add(into: &mut Vec<u8>, bytes: &[u8])
+    requires { vec_len into.old + length bytes.now ≤ vec_capacity into.old }
+    ensures items { into.new.items ≡ into.old.items ++ bytes.now }
+    ensures len { vec_len into.new ≡ vec_len into.old + length bytes.now }
+    ensures room { vec_capacity into.old ≤ vec_capacity into.new }
+{
+    if into.extend_from_slice(bytes).is_err() {
+        unreachable!()
+    }
+}
+
+/// The name of a register, by its place among the 37.
+#[tactic(auto, unfolding(gba_terms::specs::RegisterNames::register_names))]
+fn register_name(place: usize) -> &'static [u8]
+    requires { place < 37 }
+    ensures name { result.now ≡ slice_index_or register_names place [] }
+    ensures short { length result.now ≤ 8 }
+{
+    match place {
+        0 => b"r0",
+        1 => b"r1",
+        2 => b"r2",
+        3 => b"r3",
+        4 => b"r4",
+        5 => b"r5",
+        6 => b"r6",
+        7 => b"r7",
+        8 => b"r8",
+        9 => b"r9",
+        10 => b"r10",
+        11 => b"r11",
+        12 => b"r12",
+        13 => b"r13",
+        14 => b"r14",
+        15 => b"r15",
+        16 => b"r8_fiq",
+        17 => b"r9_fiq",
+        18 => b"r10_fiq",
+        19 => b"r11_fiq",
+        20 => b"r12_fiq",
+        21 => b"r13_fiq",
+        22 => b"r14_fiq",
+        23 => b"r13_irq",
+        24 => b"r14_irq",
+        25 => b"r13_svc",
+        26 => b"r14_svc",
+        27 => b"r13_abt",
+        28 => b"r14_abt",
+        29 => b"r13_und",
+        30 => b"r14_und",
+        31 => b"cpsr",
+        32 => b"spsr_fiq",
+        33 => b"spsr_irq",
+        34 => b"spsr_svc",
+        35 => b"spsr_abt",
+        _ => b"spsr_und",
+    }
+}
+
+/// Adds the line of one register.
+fn add_register_line(into: &mut Vec<u8>, name: &[u8], value: u32)
+    requires { vec_len into.old + length name.now + 10 ≤ vec_capacity into.old }
+    ensures items { into.new.items ≡ into.old.items ++ register_line name.now value }
+    ensures len { vec_len into.new ≡ vec_len into.old + length name.now + 10 }
+    ensures room { vec_capacity into.old ≤ vec_capacity into.new }
+{
+    add(into, name);
+    add(into, b" ");
+    add(into, &hex_word(value));
+    add(into, b"\n");
+}
+
+/// Adds the lines of the 37 registers.
+fn add_register_lines(into: &mut Vec<u8>, registers: &[u32; 37])
+    requires { vec_len into.old + 666 ≤ vec_capacity into.old }
+    ensures items { into.new.items ≡ into.old.items ++ register_lines register_names registers.now }
+    ensures len { vec_len into.new ≤ vec_len into.old + 666 }
+    ensures room { vec_capacity into.old ≤ vec_capacity into.new }
+{
+    for place in 0..37 {
+        add_register_line(into, register_name(place), registers[place]);
+    }
+}
+
+/// A truth as a digit.
+fn truth(set: bool) -> &'static [u8]
+    ensures value { result.now ≡ truth_of set }
+    ensures short { length result.now ≡ 1 }
+{
+    if set { b"1" } else { b"0" }
+}
+
+/// Adds the lines before the registers.
+fn add_heading(into: &mut Vec<u8>, clock: u64, halted: bool)
+    requires { vec_len into.old + 96 ≤ vec_capacity into.old }
+    ensures items { into.new.items ≡ into.old.items ++ heading clock halted }
+    ensures len { vec_len into.new ≤ vec_len into.old + 96 }
+    ensures room { vec_capacity into.old ≤ vec_capacity into.new }
+{
+    let mut buffer = Buffer::new();
+    add(into, b"gbalink-state 1\nconsole 0\nclock ");
+    add(into, buffer.format(clock).as_bytes());
+    add(into, b"\nhalted ");
+    add(into, truth(halted));
+    add(into, b"\n");
+}
+
+/// Adds a blank and a number.
+fn add_number(into: &mut Vec<u8>, number: u16)
+    requires { vec_len into.old + 6 ≤ vec_capacity into.old }
+    ensures items { into.new.items ≡ into.old.items ++ (codes " " ++ decimal number) }
+    ensures len { vec_len into.new ≤ vec_len into.old + 6 }
+    ensures room { vec_capacity into.old ≤ vec_capacity into.new }
+{
+    let mut buffer = Buffer::new();
+    add(into, b" ");
+    add(into, buffer.format(number).as_bytes());
+}
+
+/// Adds the numbers of a timer.
+fn add_timer_numbers(into: &mut Vec<u8>, timer: &Timer)
+    requires { vec_len into.old + 24 ≤ vec_capacity into.old }
+    ensures items { into.new.items ≡ into.old.items ++ timer_numbers timer.now }
+    ensures len { vec_len into.new ≤ vec_len into.old + 24 }
+    ensures room { vec_capacity into.old ≤ vec_capacity into.new }
+{
+    add_number(into, timer.counter);
+    add_number(into, timer.reload);
+    add_number(into, timer.control);
+    add_number(into, timer.phase);
+}
+
+/// Adds the line of a timer, whose number is below 4.
+fn add_timer_line(into: &mut Vec<u8>, number: u8, timer: &Timer)
+    requires number { number < 4 }
+    requires room { vec_len into.old + 36 ≤ vec_capacity into.old }
+    ensures items { into.new.items ≡ into.old.items ++ timer_line number timer.now }
+    ensures len { vec_len into.new ≤ vec_len into.old + 36 }
+    ensures room { vec_capacity into.old ≤ vec_capacity into.new }
+{
+    let mut buffer = Buffer::new();
+    add(into, b"timer ");
+    add(into, buffer.format(number).as_bytes());
+    add_timer_numbers(into, timer);
+    add(into, b"\n");
+}
+
+/// Adds the lines of the four timers.
+fn add_timer_lines(into: &mut Vec<u8>, board: &Board)
+    requires { vec_len into.old + 144 ≤ vec_capacity into.old }
+    ensures items { into.new.items ≡ into.old.items ++ timer_lines board.now.devices }
+    ensures len { vec_len into.new ≤ vec_len into.old + 144 }
+    ensures room { vec_capacity into.old ≤ vec_capacity into.new }
+{
+    add_timer_line(into, 0, &board.timer(0));
+    add_timer_line(into, 1, &board.timer(1));
+    add_timer_line(into, 2, &board.timer(2));
+    add_timer_line(into, 3, &board.timer(3));
+}
+
+/// Adds bytes as two digits each.
+fn add_hex_bytes(into: &mut Vec<u8>, bytes: &[u8])
+    requires { vec_len into.old + 2 * length bytes.now ≤ vec_capacity into.old }
+    ensures items { into.new.items ≡ into.old.items ++ hex_bytes bytes.now }
+    ensures len { vec_len into.new ≡ vec_len into.old + 2 * length bytes.now }
+    ensures room { vec_capacity into.old ≤ vec_capacity into.new }
+{
+    for byte in bytes {
+        add(into, &hex_byte(*byte));
+    }
+}
+
+fn is_zero(bytes: &[u8]) -> bool
+    ensures { result ≡ list_all (λ byte. byte == 0) bytes.now }
+{
+    bytes.iter().all(|byte| *byte == 0)
+}
+
+/// Adds the name of a memory and the offset of its line.
+fn add_memory_place(into: &mut Vec<u8>, name: &[u8], offset: u32)
+    requires short { length name.now ≤ 7 }
+    requires room { vec_len into.old + 19 ≤ vec_capacity into.old }
+    ensures items { into.new.items ≡ into.old.items ++ memory_place name.now offset }
+    ensures len { vec_len into.new ≤ vec_len into.old + 19 }
+    ensures room { vec_capacity into.old ≤ vec_capacity into.new }
+{
+    add(into, b"mem ");
+    add(into, name);
+    add(into, b" ");
+    add(into, &hex_offset(offset));
+    add(into, b" ");
+}
+
+/// Adds the line of 32 bytes of memory.
+fn add_memory_row(into: &mut Vec<u8>, name: &[u8], offset: u32, bytes: &[u8])
+    requires short { length name.now ≤ 7 }
+    requires whole { length bytes.now ≡ 32 }
+    requires room { vec_len into.old + 84 ≤ vec_capacity into.old }
+    ensures items { into.new.items ≡ into.old.items ++ memory_row name.now offset bytes.now }
+    ensures len { vec_len into.new ≤ vec_len into.old + 84 }
+    ensures room { vec_capacity into.old ≤ vec_capacity into.new }
+{
+    add_memory_place(into, name, offset);
+    add_hex_bytes(into, bytes);
+    add(into, b"\n");
+}
+
+/// Adds the line of 32 bytes of memory, where they aren't all 0.
+fn add_memory_line(into: &mut Vec<u8>, name: &[u8], offset: u32, bytes: &[u8])
+    requires short { length name.now ≤ 7 }
+    requires whole { length bytes.now ≡ 32 }
+    requires room { vec_len into.old + 84 ≤ vec_capacity into.old }
+    ensures items { into.new.items ≡ into.old.items ++ memory_line name.now offset bytes.now }
+    ensures len { vec_len into.new ≤ vec_len into.old + 84 }
+    ensures room { vec_capacity into.old ≤ vec_capacity into.new }
+{
+    if !is_zero(bytes) {
+        add_memory_row(into, name, offset, bytes);
+    }
+}
+
+/// Adds the lines of a memory of at most 262,144 bytes.
+fn add_memory_lines(into: &mut Vec<u8>, name: &[u8], bytes: &[u8])
+    requires short { length name.now ≤ 7 }
+    requires most { length bytes.now ≤ 262144 }
+    requires room { vec_len into.old + 84 * (length bytes.now / 32) ≤ vec_capacity into.old }
+    ensures items { into.new.items ≡ into.old.items ++ lines_of name.now bytes.now }
+    ensures len { vec_len into.new ≤ vec_len into.old + 84 * (length bytes.now / 32) }
+    ensures room { vec_capacity into.old ≤ vec_capacity into.new }
+{
+    for line in 0..bytes.len() / ROW {
+        let offset = line * ROW;
+        add_memory_line(into, name, offset as u32, &bytes[offset..offset + ROW]);
+    }
+}
+
+/// Adds the bytes of a halfword, the low one first.
+fn add_half(bytes: &mut ArrayVec<u8, 1024>, half: u16)
+    requires { array_vec_len bytes.old + 2 ≤ 1024 }
+    ensures items { bytes.new.items ≡ bytes.old.items ++ (half % 256 ∷ half / 256 ∷ []) }
+    ensures len { array_vec_len bytes.new ≡ array_vec_len bytes.old + 2 }
+{
+    let pair = [(half % 0x100) as u8, (half / 0x100) as u8];
+    if bytes.try_extend_from_slice(&pair).is_err() {
+        unreachable!()
+    }
+}
+
+/// The bytes of the I/O registers.
+fn io_bytes(board: &Board) -> ArrayVec<u8, 1024>
+    ensures items { result.items ≡ io_bytes_of 512 board.now.devices }
+    ensures len { array_vec_len result ≡ 1024 }
+{
+    let mut bytes = ArrayVec::new();
+    for half in 0..IO_HALVES {
+        add_half(&mut bytes, board.io_half(2 * half));
+    }
+    bytes
+}
+
+/// Adds the lines of the I/O registers.
+fn add_io_lines(into: &mut Vec<u8>, board: &Board)
+    requires { vec_len into.old + 2688 ≤ vec_capacity into.old }
+    ensures items { into.new.items ≡ into.old.items ++ lines_of (codes "io") (io_bytes_of 512 board.now.devices) }
+    ensures len { vec_len into.new ≤ vec_len into.old + 2688 }
+    ensures room { vec_capacity into.old ≤ vec_capacity into.new }
+{
+    let bytes = io_bytes(board);
+    add_memory_lines(into, b"io", bytes.as_slice());
+}
+
+/// Adds the lines of the memories.
+fn add_memories(into: &mut Vec<u8>, board: &Board)
+    requires { vec_len into.old + 1040256 ≤ vec_capacity into.old }
+    ensures { into.new.items ≡ into.old.items ++ lines_of_memories board.now }
+{
+    add_io_lines(into, board);
+    add_memory_lines(into, b"wram", board.memory(MemoryName::Wram));
+    add_memory_lines(into, b"iwram", board.memory(MemoryName::Iwram));
+    add_memory_lines(into, b"palette", board.memory(MemoryName::Palette));
+    add_memory_lines(into, b"vram", board.memory(MemoryName::Vram));
+    add_memory_lines(into, b"oam", board.memory(MemoryName::Oam));
+}
+
+/// Writes the state file of a console into an empty buffer with room for it: 1,041,162 bytes are enough for any.
+pub fn write_state(into: &mut Vec<u8>, console: &Console)
+    requires empty { into.old.items ≡ [] }
+    requires room { 1041162 ≤ vec_capacity into.old }
+    ensures { into.new.items ≡ state_file console.now }
+{
+    let board = console.board();
+    add_heading(into, console.clock(), board.halted());
+    add_register_lines(into, &console.all());
+    add_timer_lines(into, board);
+    add_memories(into, board);
+}
+
+/// Writes the save of a console, its 32,768 bytes of SRAM, into an empty buffer with room for it.
+pub fn write_save(into: &mut Vec<u8>, console: &Console)
+    requires empty { into.old.items ≡ [] }
+    requires room { 32768 ≤ vec_capacity into.old }
+    ensures { into.new.items ≡ save_file console.now }
+{
+    add(into, console.board().memory(MemoryName::Backup));
+}
+
+/// The summary of a run.
+pub fn summary(console: &Console) -> Line
+    ensures { result.items ≡ summary_of console.now }
+{
+    let mut buffer = Buffer::new();
+    let mut line = Line::new();
+    add_text(&mut line, b"console 0 clock ");
+    add_text(&mut line, buffer.format(console.clock()).as_bytes());
+    add_text(&mut line, b" frames 0 samples 0 words 0\n");
+    line
+}
