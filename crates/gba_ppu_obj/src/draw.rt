@@ -1,0 +1,180 @@
+//! Drawing a sprite.
+
+ghost use Rattle.std.specs.Prelude.{◌≡◌, ℕ, ◌+◌, ◌-◌, ◌<◌, ◌≤◌, length, slice_index_or};
+ghost use Rattle.gba_ppu_dot.specs.declared.dot.Dot.{Dot};
+ghost use Rattle.gba_ppu_obj.specs.Attributes.{attributes_of, box_height, box_width, height_of, is_row_shown as is_row_of_box, width_of};
+ghost use Rattle.gba_ppu_obj.specs.Order.{over as dot_over};
+ghost use Rattle.gba_ppu_obj.specs.Places.{box_row as row_of, mirrored as mirrored_place, turned_place as place_turned};
+ghost use Rattle.gba_ppu_obj.specs.Sprites.{attributes_dot, box_dot as dot_of_box, straight_dot as dot_straight, turned_dot as dot_turned};
+
+use crate::attributes::Attributes;
+use crate::matrix::Matrix;
+use crate::order::over;
+use crate::span::{Span, span_of};
+use crate::tiles::{Mapping, picture_dot};
+use gba_ppu_dot::Dot;
+
+fn mirrored(mirror: bool, side: u32, place: u32) -> u32
+    requires { place < side }
+    ensures value { result ≡ mirrored_place mirror side place }
+    ensures within { result < side }
+{
+    if mirror { side - 1 - place } else { place }
+}
+
+#[tactic(auto, unfolding(crate::specs::Sprites::straight_dot))]
+fn straight_dot(m: Mapping, vram: &[u8], a: Attributes, q: u32, p: u32) -> Dot
+    requires vram { length vram.now ≡ 98304 }
+    requires q { q < height_of a }
+    requires p { p < width_of a }
+    ensures { result ≡ dot_straight m vram.now a q p }
+{
+    let across = mirrored(a.is_mirrored(), a.width(), p);
+    let down = mirrored(a.is_upside_down(), a.height(), q);
+    picture_dot(m, vram, a, across, down)
+}
+
+#[tactic(auto, unfolding(crate::specs::Places::turned_place))]
+fn turned_place(
+    across: u32,
+    down: u32,
+    box_wide: u32,
+    box_high: u32,
+    side: u32,
+    p: u32,
+    q: u32,
+) -> u32
+    requires side { side ≤ 64 }
+    ensures { result ≡ place_turned across down box_wide box_high side p q }
+{
+    let from_left = across.wrapping_mul(p.wrapping_sub(box_wide / 2));
+    let from_top = down.wrapping_mul(q.wrapping_sub(box_high / 2));
+    (from_left.wrapping_add(from_top) / 0x100 + side / 2) % 0x100_0000
+}
+
+#[tactic(auto, unfolding(crate::specs::Sprites::turned_dot))]
+fn turned_dot(m: Mapping, vram: &[u8], a: Attributes, t: Matrix, q: u32, p: u32) -> Dot
+    requires vram { length vram.now ≡ 98304 }
+    ensures { result ≡ dot_turned m vram.now a t q p }
+{
+    let wide = a.width();
+    let high = a.height();
+    let across = turned_place(t.pa, t.pb, a.box_width(), a.box_height(), wide, p, q);
+    let down = turned_place(t.pc, t.pd, a.box_width(), a.box_height(), high, p, q);
+    if across < wide && down < high {
+        picture_dot(m, vram, a, across, down)
+    } else {
+        Dot::CLEAR
+    }
+}
+
+/// Draws the row `q` of the box of a sprite that isn't affine.
+fn draw_straight(m: Mapping, vram: &[u8], a: Attributes, q: u32, span: Span, dots: &mut [Dot])
+    requires vram { length vram.now ≡ 98304 }
+    requires q { q < height_of a }
+    requires order { span.start ≤ span.end }
+    requires within { span.first + (span.end - span.start) ≤ width_of a }
+    requires dots { span.end ≤ length dots.old }
+    ensures before { (x : ℕ) (d : Dot) → x < span.start → slice_index_or dots.new x d ≡ slice_index_or dots.old x d }
+    ensures drawn { (x : ℕ) (d : Dot) → span.start ≤ x → x < span.end → slice_index_or dots.new x d ≡ dot_over (slice_index_or dots.old x d) (dot_straight m vram.now a q (span.first + (x - span.start))) }
+    ensures after { (x : ℕ) (d : Dot) → span.end ≤ x → slice_index_or dots.new x d ≡ slice_index_or dots.old x d }
+{
+    for x in span.start..span.end {
+        let p = span.first + (x - span.start) as u32;
+        dots[x] = over(dots[x], straight_dot(m, vram, a, q, p));
+    }
+}
+
+/// Draws the row `q` of the box of an affine sprite.
+fn draw_turned(
+    m: Mapping,
+    vram: &[u8],
+    a: Attributes,
+    t: Matrix,
+    q: u32,
+    span: Span,
+    dots: &mut [Dot],
+)
+    requires vram { length vram.now ≡ 98304 }
+    requires order { span.start ≤ span.end }
+    requires within { span.first + (span.end - span.start) ≤ box_width a }
+    requires dots { span.end ≤ length dots.old }
+    ensures before { (x : ℕ) (d : Dot) → x < span.start → slice_index_or dots.new x d ≡ slice_index_or dots.old x d }
+    ensures drawn { (x : ℕ) (d : Dot) → span.start ≤ x → x < span.end → slice_index_or dots.new x d ≡ dot_over (slice_index_or dots.old x d) (dot_turned m vram.now a t q (span.first + (x - span.start))) }
+    ensures after { (x : ℕ) (d : Dot) → span.end ≤ x → slice_index_or dots.new x d ≡ slice_index_or dots.old x d }
+{
+    for x in span.start..span.end {
+        let p = span.first + (x - span.start) as u32;
+        dots[x] = over(dots[x], turned_dot(m, vram, a, t, q, p));
+    }
+}
+
+/// Draws the row `q` of the box of a sprite.
+#[tactic(auto, unfolding(crate::specs::Sprites::box_dot))]
+fn draw_box(
+    m: Mapping,
+    vram: &[u8],
+    oam: &[u8],
+    a: Attributes,
+    q: u32,
+    span: Span,
+    dots: &mut [Dot],
+)
+    requires vram { length vram.now ≡ 98304 }
+    requires oam { length oam.now ≡ 1024 }
+    requires q { q < box_height a }
+    requires order { span.start ≤ span.end }
+    requires within { span.first + (span.end - span.start) ≤ box_width a }
+    requires dots { span.end ≤ length dots.old }
+    ensures before { (x : ℕ) (d : Dot) → x < span.start → slice_index_or dots.new x d ≡ slice_index_or dots.old x d }
+    ensures drawn { (x : ℕ) (d : Dot) → span.start ≤ x → x < span.end → slice_index_or dots.new x d ≡ dot_over (slice_index_or dots.old x d) (dot_of_box m vram.now oam.now a q (span.first + (x - span.start))) }
+    ensures after { (x : ℕ) (d : Dot) → span.end ≤ x → slice_index_or dots.new x d ≡ slice_index_or dots.old x d }
+{
+    if a.is_affine() {
+        draw_turned(m, vram, a, Matrix::of(oam, a.group()), q, span, dots)
+    } else {
+        draw_straight(m, vram, a, q, span, dots)
+    }
+}
+
+fn box_row(top: u32, line: u32) -> u32
+    requires top { top < 256 }
+    requires line { line < 160 }
+    ensures { result ≡ row_of top line }
+{
+    (line + (256 - top)) % 256
+}
+
+/// Whether the row `q` of the box of a sprite is shown.
+fn is_row_shown(a: Attributes, q: u32) -> bool
+    ensures { result ≡ is_row_of_box a q }
+{
+    a.is_shown() && q < a.box_height()
+}
+
+/// Draws a sprite over those before it.
+fn draw_attributes(m: Mapping, vram: &[u8], oam: &[u8], a: Attributes, line: u32, dots: &mut [Dot])
+    requires vram { length vram.now ≡ 98304 }
+    requires oam { length oam.now ≡ 1024 }
+    requires line { line < 160 }
+    requires dots { length dots.old ≡ 240 }
+    ensures { (x : ℕ) (d : Dot) → x < 240 → slice_index_or dots.new x d ≡ dot_over (slice_index_or dots.old x d) (attributes_dot m vram.now oam.now a line x) }
+{
+    let q = box_row(a.top(), line);
+    if is_row_shown(a, q) {
+        let span = span_of(a.left(), a.box_width());
+        draw_box(m, vram, oam, a, q, span, dots);
+    }
+}
+
+/// Draws a sprite from 0 to 127 over those before it.
+pub fn draw_sprite(m: Mapping, vram: &[u8], oam: &[u8], number: u32, line: u32, dots: &mut [Dot])
+    requires vram { length vram.now ≡ 98304 }
+    requires oam { length oam.now ≡ 1024 }
+    requires number { number < 128 }
+    requires line { line < 160 }
+    requires dots { length dots.old ≡ 240 }
+    ensures { (x : ℕ) (d : Dot) → x < 240 → slice_index_or dots.new x d ≡ dot_over (slice_index_or dots.old x d) (attributes_dot m vram.now oam.now (attributes_of oam.now number) line x) }
+{
+    draw_attributes(m, vram, oam, Attributes::of(oam, number), line, dots);
+}

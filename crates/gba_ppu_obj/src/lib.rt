@@ -1,0 +1,13 @@
+#![tactic(auto)]
+//! The dots of sprites, line by line.
+
+mod attributes;
+mod draw;
+mod line;
+mod matrix;
+mod order;
+mod sides;
+mod span;
+mod tiles;
+
+pub use line::sprite_line;
