@@ -1,0 +1,5 @@
+pub mod Blending
+pub mod Layers
+pub mod Mixing
+pub mod Stacks
+pub mod Windows

@@ -1,0 +1,11 @@
+#![tactic(auto)]
+//! The colours of a line: the layers behind one another, windows and blending.
+
+mod blending;
+mod colours;
+mod layers;
+mod line;
+mod stacks;
+mod windows;
+
+pub use line::mix_line;
