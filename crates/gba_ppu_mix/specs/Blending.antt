@@ -1,15 +1,16 @@
-use Rattle.std.specs.Prelude.{ℕ, Bool, ◌&&◌, ◌||◌, ◌+◌, ◌-◌, ◌*◌, ◌/◌, ◌%◌, ◌==◌, min, true, false, List, Option, None, Some, if◌then◌else◌}
+use Rattle.std.specs.Prelude.{ℕ, Bool, ◌&&◌, ◌||◌, ◌+◌, ◌-◌, ◌*◌, ◌/◌, ◌%◌, ◌==◌, min, true, false, List, if◌then◌else◌}
 use Rattle.gba_terms.specs.Bits.{bit, field}
 use Rattle.gba_ppu_reg.specs.Registers.{Picture, picture_kept}
 use Rattle.gba_ppu_dot.specs.Bytes.{half_at}
 use Rattle.gba_ppu_dot.specs.declared.dot.Dot.{Dot}
 use Rattle.gba_ppu_dot.specs.declared.dot.DotKind.{DotKind}
 use Rattle.gba_ppu_dot.specs.declared.dot.DotKind.TheVariants.{Plain, Semi}
-use Rattle.gba_ppu_mix.specs.Stacks.{layer_bit}
+use Rattle.gba_ppu_mix.specs.Stacks.{Dots, dot_of, layer_bit}
 use Rattle.gba_ppu_mix.specs.declared.blending.Blending.{Blending}
 use Rattle.gba_ppu_mix.specs.declared.blending.Effect.{Effect}
 use Rattle.gba_ppu_mix.specs.declared.blending.Effect.TheVariants.{Unchanged, Alpha, Brighter, Darker}
-use Rattle.gba_ppu_mix.specs.declared.stacks.Candidate.{Candidate}
+use Rattle.gba_ppu_mix.specs.declared.stacks.Layer.{Layer}
+use Rattle.gba_ppu_mix.specs.declared.stacks.Stack.{Stack}
 
 -- BLDCNT, BLDALPHA and BLDY (GBATEK, LCD I/O Color Special Effects). Coefficients are sixteenths, and above 16 count as 16.
 abbrev pub effect_of : ℕ → Effect
@@ -77,11 +78,6 @@ alone Alpha evy colour = colour
 alone Brighter evy colour = brighter evy colour
 alone Darker evy colour = darker evy colour
 
--- the dot of the second candidate, where it is a second target
-abbrev pub second_target : Blending → Option Candidate → Option Dot
-second_target b None = None
-second_target b (Some c) = if bit b.second_targets (layer_bit c.layer) then Some c.dot else None
-
 abbrev pub is_alpha : Effect → Bool
 is_alpha Unchanged = false
 is_alpha Alpha = true
@@ -92,23 +88,26 @@ abbrev pub is_semi : DotKind → Bool
 is_semi Plain = false
 is_semi Semi = true
 
--- whether the foremost candidate is a first target, where effects show
-abbrev pub is_first_target : Blending → Bool → Candidate → Bool
-is_first_target b effects top = effects && bit b.first_targets (layer_bit top.layer)
+-- whether a layer is one of the targets
+abbrev pub is_target : ℕ → Layer → Bool
+is_target targets layer = bit targets (layer_bit layer)
 
--- The colour of the foremost candidate over the dot of the second target behind it. A semi-transparent sprite is blended
--- with that dot whatever the effect is and wherever effects show (own: in every window). Else the effect is on a first
--- target alone, where effects show.
-abbrev pub changed_alone : List ℕ → Blending → Bool → Candidate → ℕ
-changed_alone palette b effects top =
-    if is_first_target b effects top then alone b.effect b.evy (colour_of palette top.dot) else colour_of palette top.dot
+-- The colour of the foremost layer's dot over that of the layer behind it. Where that one is a second target, a
+-- semi-transparent sprite is blended with it whatever the effect is and wherever effects show (own: in every window). Else
+-- the effect is on a first target alone, and where effects show.
+abbrev pub is_changed : Blending → Bool → Layer → Bool
+is_changed b effects layer = effects && is_target b.first_targets layer
 
-abbrev pub is_blended : Blending → Bool → Candidate → Bool
-is_blended b effects top = is_semi top.dot.kind || (is_first_target b effects top && is_alpha b.effect)
+abbrev pub is_blended : Blending → Bool → Layer → Dot → Bool
+is_blended b effects layer dot = is_semi dot.kind || (is_changed b effects layer && is_alpha b.effect)
 
-unfoldable pub colour_over : List ℕ → Blending → Bool → Candidate → Option Dot → ℕ
-colour_over palette b effects top None = changed_alone palette b effects top
-colour_over palette b effects top (Some below) =
-    if is_blended b effects top
-    then both b.eva b.evb (colour_of palette top.dot) (colour_of palette below)
-    else changed_alone palette b effects top
+abbrev pub changed_alone : List ℕ → Blending → Bool → Layer → Dot → ℕ
+changed_alone palette b effects layer dot =
+    if is_changed b effects layer then alone b.effect b.evy (colour_of palette dot) else colour_of palette dot
+
+unfoldable pub stack_colour : List ℕ → Blending → Bool → Dots → Stack → ℕ
+stack_colour palette b effects dots s =
+    let top = dot_of dots s.top.layer in
+    if is_target b.second_targets s.second.layer && is_blended b effects s.top.layer top
+    then both b.eva b.evb (colour_of palette top) (colour_of palette (dot_of dots s.second.layer))
+    else changed_alone palette b effects s.top.layer top

@@ -1,10 +1,12 @@
 //! Blending.
 
-ghost use Rattle.std.specs.Prelude.{◌≡◌, ◌≤◌, ◌<◌, ◌+◌, length};
-ghost use Rattle.gba_ppu_mix.specs.Blending.{alone as alone_by, blending_of, changed_alone as changed_alone_by, coefficient as coefficient_of, colour_over as colour_of_both, effect_of as effect_by, is_alpha, is_blended as is_blended_by, is_first_target as is_target, is_semi as is_semi_kind, second_target as target_behind};
+ghost use Rattle.std.specs.Prelude.{◌≡◌, ◌≤◌, ◌<◌, length};
+ghost use Rattle.gba_ppu_mix.specs.Blending.{alone as alone_by, blending_of, changed_alone as changed_alone_by, coefficient as coefficient_of, effect_of as effect_by, is_alpha, is_blended as is_blended_by, is_changed as is_changed_by, is_semi as is_semi_kind, is_target as is_target_of, stack_colour as colour_of_stack};
+ghost use Rattle.gba_ppu_mix.specs.Stacks.{dots_at};
 
 use crate::colours::{both, brighter, colour_of, darker};
-use crate::stacks::{Candidate, layer_bit};
+use crate::lines::{Lines, dot_of};
+use crate::stacks::{Layer, Stack, layer_bit};
 use gba_ppu_dot::{Dot, DotKind};
 use gba_ppu_reg::PictureRegisters;
 use gba_word::{bit, bits};
@@ -60,6 +62,12 @@ fn alone(effect: Effect, evy: u32, colour: u16) -> u16
     }
 }
 
+fn is_target(targets: u32, layer: Layer) -> bool
+    ensures { result ≡ is_target_of targets layer }
+{
+    bit(targets, layer_bit(layer))
+}
+
 impl Effect {
     fn is_alpha(self) -> bool
         ensures { result ≡ is_alpha self }
@@ -94,72 +102,60 @@ impl Blending {
         }
     }
 
-    /// The dot of the second candidate, where it is a second target.
-    pub fn second_target(&self, second: Option<Candidate>) -> Option<Dot>
-        ensures { result ≡ target_behind self.now second }
+    fn is_changed(&self, effects: bool, layer: Layer) -> bool
+        ensures { result ≡ is_changed_by self.now effects layer }
     {
-        match second {
-            None => None,
-            Some(c) => if bit(self.second_targets, layer_bit(c.layer)) {
-                Some(c.dot)
-            } else {
-                None
-            },
-        }
+        effects && is_target(self.first_targets, layer)
     }
 
-    fn is_first_target(&self, effects: bool, top: Candidate) -> bool
-        ensures { result ≡ is_target self.now effects top }
+    fn is_blended(&self, effects: bool, layer: Layer, dot: Dot) -> bool
+        ensures { result ≡ is_blended_by self.now effects layer dot }
     {
-        effects && bit(self.first_targets, layer_bit(top.layer))
+        is_semi(dot.kind) || (self.is_changed(effects, layer) && self.effect.is_alpha())
     }
 
-    fn is_blended(&self, effects: bool, top: Candidate) -> bool
-        ensures { result ≡ is_blended_by self.now effects top }
-    {
-        is_semi(top.dot.kind) || (self.is_first_target(effects, top) && self.effect.is_alpha())
-    }
-
-    fn changed_alone(&self, palette: &[u8], effects: bool, top: Candidate) -> u16
+    fn changed_alone(&self, palette: &[u8], effects: bool, layer: Layer, dot: Dot) -> u16
         requires palette { length palette.now ≡ 1024 }
         requires evy { self.now.evy ≤ 16 }
-        ensures { result ≡ changed_alone_by palette.now self.now effects top }
+        ensures { result ≡ changed_alone_by palette.now self.now effects layer dot }
     {
-        let colour = colour_of(palette, top.dot);
-        if self.is_first_target(effects, top) {
+        let colour = colour_of(palette, dot);
+        if self.is_changed(effects, layer) {
             alone(self.effect, self.evy, colour)
         } else {
             colour
         }
     }
 
-    /// The colour of the foremost candidate over the dot of the second target behind it.
-    #[tactic(auto, unfolding(crate::specs::Blending::colour_over))]
-    pub fn colour_over(
+    /// The colour of the foremost layer at a place over the layer behind it.
+    #[tactic(auto, unfolding(crate::specs::Blending::stack_colour))]
+    pub fn stack_colour(
         &self,
         palette: &[u8],
         effects: bool,
-        top: Candidate,
-        below: Option<Dot>,
+        lines: &Lines,
+        x: usize,
+        stack: Stack,
     ) -> u16
         requires palette { length palette.now ≡ 1024 }
         requires eva { self.now.eva ≤ 16 }
         requires evb { self.now.evb ≤ 16 }
         requires evy { self.now.evy ≤ 16 }
-        ensures { result ≡ colour_of_both palette.now self.now effects top below }
+        requires place { x < 240 }
+        ensures { result ≡ colour_of_stack palette.now self.now effects (dots_at lines.now x) stack }
     {
-        match below {
-            None => self.changed_alone(palette, effects, top),
-            Some(dot) => if self.is_blended(effects, top) {
-                both(
-                    self.eva,
-                    self.evb,
-                    colour_of(palette, top.dot),
-                    colour_of(palette, dot),
-                )
-            } else {
-                self.changed_alone(palette, effects, top)
-            },
+        let top = dot_of(lines, x, stack.top.layer);
+        let is_second_target = is_target(self.second_targets, stack.second.layer);
+        if is_second_target && self.is_blended(effects, stack.top.layer, top) {
+            let below = dot_of(lines, x, stack.second.layer);
+            both(
+                self.eva,
+                self.evb,
+                colour_of(palette, top),
+                colour_of(palette, below),
+            )
+        } else {
+            self.changed_alone(palette, effects, stack.top.layer, top)
         }
     }
 }

@@ -5,6 +5,7 @@ mod blending;
 mod colours;
 mod layers;
 mod line;
+mod lines;
 mod stacks;
 mod windows;
 

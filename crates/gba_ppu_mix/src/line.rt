@@ -1,117 +1,35 @@
 //! A line of the picture.
 
-ghost use Rattle.std.specs.Prelude.{◌≡◌, ℕ, ◌<◌, ◌≤◌, length, slice_index, slice_index_or};
-ghost use Rattle.gba_ppu_dot.specs.declared.dot.Dot.{Dot};
-ghost use Rattle.gba_ppu_dot.specs.Dots.{IsLine};
-ghost use Rattle.gba_ppu_mix.specs.Layers.{background_dot, sprites_dot};
-ghost use Rattle.gba_ppu_mix.specs.Mixing.{IsPixelLine, colour_of_dots as colour_of_all, is_blank as is_blank_by, mixed_pixel};
-ghost use Rattle.gba_ppu_mix.specs.Stacks.{stack_of as stack_from};
+ghost use Rattle.std.specs.Prelude.{◌≡◌, ℕ, ◌<◌, ◌≤◌, length, slice_index};
+ghost use Rattle.gba_ppu_mix.specs.Mixing.{IsPixelLine, colour_of_dots, is_blank as is_blank_by, mixed_pixel};
+ghost use Rattle.gba_ppu_mix.specs.Stacks.{dots_at};
 
 use crate::blending::Blending;
-use crate::layers::{background_line, sprites_line};
-use crate::stacks::{Layer, Stack};
+use crate::lines::{Lines, draw_layers, empty_line, stack_of};
 use crate::windows::Windows;
-use gba_ppu_dot::Dot;
 use gba_ppu_reg::PictureRegisters;
 use gba_word::bit;
 
-/// The layers' dots at a place.
-#[derive(Clone, Copy, Debug, PartialEq, Eq)]
-struct Dots {
-    sprite: Dot,
-    background0: Dot,
-    background1: Dot,
-    background2: Dot,
-    background3: Dot,
-}
-
-/// The layers' lines.
-#[derive(Clone, Copy)]
-struct Lines {
-    sprites: [Dot; 240],
-    background0: [Dot; 240],
-    background1: [Dot; 240],
-    background2: [Dot; 240],
-    background3: [Dot; 240],
-}
-
-fn stack_of(shows: u32, dots: Dots) -> Stack
-    ensures { result ≡ stack_from shows dots.sprite dots.background0 dots.background1 dots.background2 dots.background3 }
-{
-    Stack::bottom()
-        .with_dot(shows, Layer::Background3, dots.background3)
-        .with_dot(shows, Layer::Background2, dots.background2)
-        .with_dot(shows, Layer::Background1, dots.background1)
-        .with_dot(shows, Layer::Background0, dots.background0)
-        .with_dot(shows, Layer::Sprites, dots.sprite)
-}
-
+/// The colour at a place.
 #[tactic(auto, unfolding(crate::specs::Mixing::colour_of_dots))]
-fn colour_of_dots(palette: &[u8], w: &Windows, b: &Blending, x: u32, dots: Dots) -> u16
+fn colour_at(palette: &[u8], w: &Windows, b: &Blending, lines: &Lines, x: u32) -> u16
     requires palette { length palette.now ≡ 1024 }
     requires eva { b.now.eva ≤ 16 }
     requires evb { b.now.evb ≤ 16 }
     requires evy { b.now.evy ≤ 16 }
-    ensures { result ≡ colour_of_all palette.now w.now b.now x dots.sprite dots.background0 dots.background1 dots.background2 dots.background3 }
+    requires place { x < 240 }
+    ensures { result ≡ colour_of_dots palette.now w.now b.now x (dots_at lines.now x) }
 {
-    let shows = w.shows_at(x, dots.sprite.window);
-    let stack = stack_of(shows, dots);
-    b.colour_over(
-        palette,
-        bit(shows, 5),
-        stack.top,
-        b.second_target(stack.second),
-    )
+    let place = x as usize;
+    let shows = w.shows_at(x, lines.sprites[place].window);
+    let stack = stack_of(lines, shows, place);
+    b.stack_colour(palette, bit(shows, 5), lines, place, stack)
 }
 
 fn is_blank(r: &PictureRegisters) -> bool
     ensures { result ≡ is_blank_by r.now }
 {
     bit(u32::from(r.kept(0x000)), 7)
-}
-
-/// The dots of the layers at a place.
-fn dots_at(lines: &Lines, x: usize) -> Dots
-    requires place { x < 240 }
-    ensures sprite { (d : Dot) → result.sprite ≡ slice_index_or lines.now.sprites x d }
-    ensures background0 { (d : Dot) → result.background0 ≡ slice_index_or lines.now.background0 x d }
-    ensures background1 { (d : Dot) → result.background1 ≡ slice_index_or lines.now.background1 x d }
-    ensures background2 { (d : Dot) → result.background2 ≡ slice_index_or lines.now.background2 x d }
-    ensures background3 { (d : Dot) → result.background3 ≡ slice_index_or lines.now.background3 x d }
-{
-    Dots {
-        sprite: lines.sprites[x],
-        background0: lines.background0[x],
-        background1: lines.background1[x],
-        background2: lines.background2[x],
-        background3: lines.background3[x],
-    }
-}
-
-/// Draws the layers.
-fn draw_layers(r: &PictureRegisters, vram: &[u8], oam: &[u8], line: u32) -> Lines
-    requires line { line < 160 }
-    requires vram { length vram.now ≡ 98304 }
-    requires oam { length oam.now ≡ 1024 }
-    ensures sprites { IsLine (sprites_dot r.now vram.now oam.now line) result.sprites }
-    ensures background0 { IsLine (background_dot r.now vram.now 0 line) result.background0 }
-    ensures background1 { IsLine (background_dot r.now vram.now 1 line) result.background1 }
-    ensures background2 { IsLine (background_dot r.now vram.now 2 line) result.background2 }
-    ensures background3 { IsLine (background_dot r.now vram.now 3 line) result.background3 }
-{
-    let mut lines = Lines {
-        sprites: [Dot::CLEAR; 240],
-        background0: [Dot::CLEAR; 240],
-        background1: [Dot::CLEAR; 240],
-        background2: [Dot::CLEAR; 240],
-        background3: [Dot::CLEAR; 240],
-    };
-    sprites_line(r, vram, oam, line, &mut lines.sprites);
-    background_line(r, vram, 0, line, &mut lines.background0);
-    background_line(r, vram, 1, line, &mut lines.background1);
-    background_line(r, vram, 2, line, &mut lines.background2);
-    background_line(r, vram, 3, line, &mut lines.background3);
-    lines
 }
 
 /// Mixes the layers' lines.
@@ -121,11 +39,10 @@ fn mix(palette: &[u8], w: &Windows, b: &Blending, lines: &Lines, colours: &mut [
     requires evb { b.now.evb ≤ 16 }
     requires evy { b.now.evy ≤ 16 }
     requires colours { length colours.old ≡ 240 }
-    ensures { (x : ℕ) (d : Dot) → x < 240 → slice_index colours.new x ≡ colour_of_all palette.now w.now b.now x (slice_index_or lines.now.sprites x d) (slice_index_or lines.now.background0 x d) (slice_index_or lines.now.background1 x d) (slice_index_or lines.now.background2 x d) (slice_index_or lines.now.background3 x d) }
+    ensures { (x : ℕ) → x < 240 → slice_index colours.new x ≡ colour_of_dots palette.now w.now b.now x (dots_at lines.now x) }
 {
     for x in 0..240u32 {
-        let place = x as usize;
-        colours[place] = colour_of_dots(palette, w, b, x, dots_at(lines, place));
+        colours[x as usize] = colour_at(palette, w, b, lines, x);
     }
 }
 
@@ -160,7 +77,14 @@ pub fn mix_line(
         whiten(colours);
         return;
     }
-    let lines = draw_layers(r, vram, oam, line);
+    let mut lines = Lines {
+        sprites: empty_line(),
+        background0: empty_line(),
+        background1: empty_line(),
+        background2: empty_line(),
+        background3: empty_line(),
+    };
+    draw_layers(r, vram, oam, line, &mut lines);
     mix(
         palette,
         &Windows::of(r, line),

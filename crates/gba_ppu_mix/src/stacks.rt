@@ -1,12 +1,12 @@
 //! The layers behind one another at a place.
 
-ghost use Rattle.std.specs.Prelude.{◌≡◌, ◌<◌, ◌≤◌};
-ghost use Rattle.gba_ppu_mix.specs.Stacks.{backdrop as the_backdrop, bottom as the_bottom, candidate as candidate_of, layer_bit as bit_of, nearer as nearest, rank_of as rank_in, with_candidate as stack_with, with_dot as stack_with_dot};
+ghost use Rattle.std.specs.Prelude.{◌≡◌, ◌≤◌};
+ghost use Rattle.gba_ppu_mix.specs.Stacks.{bottom as the_bottom, candidate as candidate_of, layer_bit as bit_of, nearer as nearer_of, rank_of as rank_in, with_candidate as stack_with, with_dot as stack_with_dot};
 
-use gba_ppu_dot::{Dot, DotKind};
+use gba_ppu_dot::Dot;
 use gba_word::bit;
 
-/// The layers, in the order of their bits in BLDCNT.
+/// The layers, in the order of their bits in BLDCNT, and what is behind the last one.
 #[derive(Clone, Copy, Debug, PartialEq, Eq)]
 pub enum Layer {
     Background0,
@@ -15,28 +15,28 @@ pub enum Layer {
     Background3,
     Sprites,
     Backdrop,
+    Nothing,
 }
 
-/// What may be seen at a place.
+/// A layer that may be seen at a place.
 #[derive(Clone, Copy, Debug, PartialEq, Eq)]
 pub struct Candidate {
     /// Its place in the order from the front.
     pub rank: u32,
     pub layer: Layer,
-    pub dot: Dot,
 }
 
 /// The foremost candidate, and the one behind it.
 #[derive(Clone, Copy, Debug, PartialEq, Eq)]
 pub struct Stack {
     pub top: Candidate,
-    pub second: Option<Candidate>,
+    pub second: Candidate,
 }
 
 /// The layer's bit in BLDCNT, and in what a window shows.
 pub fn layer_bit(layer: Layer) -> u32
     ensures value { result ≡ bit_of layer }
-    ensures most { result ≤ 5 }
+    ensures most { result ≤ 6 }
 {
     match layer {
         Layer::Background0 => 0,
@@ -45,39 +45,39 @@ pub fn layer_bit(layer: Layer) -> u32
         Layer::Background3 => 3,
         Layer::Sprites => 4,
         Layer::Backdrop => 5,
+        Layer::Nothing => 6,
     }
 }
 
 fn rank_of(layer: Layer, priority: u8) -> u32
     ensures { result ≡ rank_in layer priority }
 {
-    let priority = u32::from(priority);
+    let first = 8 * u32::from(priority);
     match layer {
-        Layer::Sprites => 8 * priority,
-        Layer::Background0 => 8 * priority + 1,
-        Layer::Background1 => 8 * priority + 2,
-        Layer::Background2 => 8 * priority + 3,
-        Layer::Background3 => 8 * priority + 4,
+        Layer::Sprites => first,
+        Layer::Background0 => first + 1,
+        Layer::Background1 => first + 2,
+        Layer::Background2 => first + 3,
+        Layer::Background3 => first + 4,
         Layer::Backdrop => 0x800,
+        Layer::Nothing => 0x801,
     }
 }
 
-fn candidate_from(layer: Layer, dot: Dot) -> Candidate
-    ensures { result ≡ candidate_of layer dot }
-{
-    Candidate {
-        rank: rank_of(layer, dot.priority),
-        layer,
-        dot,
+impl Candidate {
+    fn of(layer: Layer, priority: u8) -> Candidate
+        ensures { result ≡ candidate_of layer priority }
+    {
+        Candidate {
+            rank: rank_of(layer, priority),
+            layer,
+        }
     }
-}
 
-fn nearer(new: Candidate, old: Option<Candidate>) -> Option<Candidate>
-    ensures { result ≡ nearest new old }
-{
-    match old {
-        None => Some(new),
-        Some(old) => Some(if new.rank < old.rank { new } else { old }),
+    fn or(self, old: Candidate) -> Candidate
+        ensures { result ≡ nearer_of self old }
+    {
+        if self.rank < old.rank { self } else { old }
     }
 }
 
@@ -86,13 +86,9 @@ impl Stack {
     pub fn bottom() -> Stack
         ensures { result ≡ the_bottom }
     {
-        let dot = Dot {
-            opaque: true,
-            ..Dot::CLEAR
-        };
         Stack {
-            top: candidate_from(Layer::Backdrop, dot),
-            second: None,
+            top: Candidate::of(Layer::Backdrop, 0),
+            second: Candidate::of(Layer::Nothing, 0),
         }
     }
 
@@ -103,23 +99,23 @@ impl Stack {
         if new.rank < self.top.rank {
             Stack {
                 top: new,
-                second: Some(self.top),
+                second: self.top,
             }
         } else {
             Stack {
                 top: self.top,
-                second: nearer(new, self.second),
+                second: new.or(self.second),
             }
         }
     }
 
-    /// With the dot of a layer, where it is opaque and the layer shows.
+    /// With a layer, where its dot is opaque and the layer shows.
     #[tactic(auto, unfolding(crate::specs::Stacks::with_dot))]
     pub fn with_dot(self, shows: u32, layer: Layer, dot: Dot) -> Stack
         ensures { result ≡ stack_with_dot shows layer dot self }
     {
         if dot.opaque && bit(shows, layer_bit(layer)) {
-            self.with(candidate_from(layer, dot))
+            self.with(Candidate::of(layer, dot.priority))
         } else {
             self
         }

@@ -1,18 +1,23 @@
 -- Dots over one another.
 use Rattle.std.proofs.Common.{◌≡◌, ℕ, ◌+◌, ◌-◌, ◌<◌, ◌≤◌, Bool, true, false, ◌||◌, List, ⊎_elim, ap, sym, ◌∙◌, refl, add-one, arith}
 use Rattle.std.proofs.lemmas.Bool.{cases_lt, le-ltb, lt-ltb}
+use Rattle.std.proofs.Math.Bool.{and-false}
 use Rattle.gba_ppu_dot.specs.Dots.{clear_dot}
 use Rattle.gba_ppu_dot.specs.declared.dot.Dot.{Dot}
-use Rattle.gba_ppu_obj.specs.Attributes.{box_width, is_row_shown, left_of, top_of}
+use Rattle.gba_ppu_obj.specs.Attributes.{box_height, box_width, is_row_shown, is_shown, left_of, top_of}
 use Rattle.gba_ppu_obj.specs.Order.{first_over, over}
 use Rattle.gba_ppu_obj.specs.Places.{box_column, box_row}
 use Rattle.gba_ppu_obj.specs.Sprites.{attributes_dot, box_dot}
 use Rattle.gba_ppu_obj.specs.declared.attributes.Attributes.{Attributes}
-use Rattle.gba_ppu_obj.specs.declared.tiles.Mapping.{Mapping}
+use Rattle.gba_ppu_obj.specs.declared.sprite.Mapping.{Mapping}
 
-or_false : (b : Bool) → (b || false) ≡ b
+pub or_false : (b : Bool) → (b || false) ≡ b
 or_false true = refl
 or_false false = refl
+
+pub or_true : (b : Bool) → (b || true) ≡ true
+or_true true = refl
+or_true false = refl
 
 -- nothing over a dot is that dot
 pub over_clear : (best : Dot) → over best clear_dot ≡ best
@@ -79,3 +84,10 @@ drawn_at m vram oam a y x q left width start end first old new row_is left_is wi
     (λ (past : end ≤ x). after past ∙ nothing_over old _ (beside (to_right past)))
     (cases_lt x end))
     (cases_lt x start)
+
+-- no box is higher than 128
+high_at_most : (a : Attributes) → box_height a ≤ 128
+high_at_most a = grind arith
+
+pub too_low : (a : Attributes) (q : ℕ) → 128 ≤ q → is_row_shown a q ≡ false
+too_low a q h = rw (le-ltb q (box_height a) (omega (arith, high_at_most a))) (and-false (is_shown a))

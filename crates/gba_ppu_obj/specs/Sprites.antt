@@ -2,13 +2,14 @@ use Rattle.std.specs.Prelude.{ℕ, ◌&&◌, nat_lt, List, if◌then◌else◌}
 use Rattle.gba_ppu_reg.specs.Registers.{Picture}
 use Rattle.gba_ppu_dot.specs.Dots.{clear_dot}
 use Rattle.gba_ppu_dot.specs.declared.dot.Dot.{Dot}
-use Rattle.gba_ppu_obj.specs.Attributes.{attributes_of, box_height, box_width, group_of, height_of, is_affine, is_mirrored, is_row_shown, is_upside_down, left_of, top_of, width_of}
+use Rattle.gba_ppu_obj.specs.Attributes.{attributes_of, box_height, box_width, group_of, is_affine, is_mirrored, is_row_shown, is_upside_down, left_of, top_of}
 use Rattle.gba_ppu_obj.specs.Order.{first_over}
 use Rattle.gba_ppu_obj.specs.Places.{box_column, box_row, mirrored, parameter_of, turned_place}
-use Rattle.gba_ppu_obj.specs.Tiles.{mapping_of, picture_dot}
+use Rattle.gba_ppu_obj.specs.Tiles.{mapping_of, picture_dot, sprite_of}
 use Rattle.gba_ppu_obj.specs.declared.attributes.Attributes.{Attributes}
 use Rattle.gba_ppu_obj.specs.declared.matrix.Matrix.{Matrix}
-use Rattle.gba_ppu_obj.specs.declared.tiles.Mapping.{Mapping}
+use Rattle.gba_ppu_obj.specs.declared.sprite.Mapping.{Mapping}
+use Rattle.gba_ppu_obj.specs.declared.sprite.Sprite.{Sprite}
 
 -- the four parameters of a group
 abbrev pub matrix_of : List ℕ → ℕ → Matrix
@@ -20,20 +21,22 @@ matrix_of oam group = record {
 }
 
 -- the dot at a place of the box of a sprite that isn't affine
-unfoldable pub straight_dot : Mapping → List ℕ → Attributes → ℕ → ℕ → Dot
-straight_dot m vram a q p =
-    picture_dot m vram a (mirrored (is_mirrored a) (width_of a) p) (mirrored (is_upside_down a) (height_of a) q)
+unfoldable pub straight_dot : List ℕ → Sprite → Attributes → ℕ → ℕ → Dot
+straight_dot vram s a q p =
+    picture_dot vram s (mirrored (is_mirrored a) s.width p) (mirrored (is_upside_down a) s.height q)
 
--- The dot at a place of the box of an affine sprite. Outside of its picture there is nothing.
-unfoldable pub turned_dot : Mapping → List ℕ → Attributes → Matrix → ℕ → ℕ → Dot
-turned_dot m vram a t q p =
-    let across = turned_place t.pa t.pb (box_width a) (box_height a) (width_of a) p q in
-    let down = turned_place t.pc t.pd (box_width a) (box_height a) (height_of a) p q in
-    if nat_lt across (width_of a) && nat_lt down (height_of a) then picture_dot m vram a across down else clear_dot
+-- The dot at a place of the box of an affine sprite, by the sides of the box. Outside of its picture there is nothing.
+unfoldable pub turned_dot : List ℕ → Sprite → Matrix → ℕ → ℕ → ℕ → ℕ → Dot
+turned_dot vram s t box_wide box_high q p =
+    let across = turned_place t.pa t.pb box_wide box_high s.width p q in
+    let down = turned_place t.pc t.pd box_wide box_high s.height p q in
+    if nat_lt across s.width && nat_lt down s.height then picture_dot vram s across down else clear_dot
 
 unfoldable pub box_dot : Mapping → List ℕ → List ℕ → Attributes → ℕ → ℕ → Dot
 box_dot m vram oam a q p =
-    if is_affine a then turned_dot m vram a (matrix_of oam (group_of a)) q p else straight_dot m vram a q p
+    if is_affine a
+    then turned_dot vram (sprite_of m a) (matrix_of oam (group_of a)) (box_width a) (box_height a) q p
+    else straight_dot vram (sprite_of m a) a q p
 
 -- The dot of a sprite at (x, y).
 unfoldable pub attributes_dot : Mapping → List ℕ → List ℕ → Attributes → ℕ → ℕ → Dot

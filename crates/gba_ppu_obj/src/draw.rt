@@ -2,16 +2,18 @@
 
 ghost use Rattle.std.specs.Prelude.{◌≡◌, ℕ, ◌+◌, ◌-◌, ◌<◌, ◌≤◌, length, slice_index_or};
 ghost use Rattle.gba_ppu_dot.specs.declared.dot.Dot.{Dot};
-ghost use Rattle.gba_ppu_obj.specs.Attributes.{attributes_of, box_height, box_width, height_of, is_row_shown as is_row_of_box, width_of};
+ghost use Rattle.gba_ppu_obj.specs.Attributes.{attributes_of, box_height, box_width, is_row_shown as is_row_of_box};
 ghost use Rattle.gba_ppu_obj.specs.Order.{over as dot_over};
 ghost use Rattle.gba_ppu_obj.specs.Places.{box_row as row_of, mirrored as mirrored_place, turned_place as place_turned};
+ghost use Rattle.gba_ppu_obj.specs.Tiles.{SpriteFits};
 ghost use Rattle.gba_ppu_obj.specs.Sprites.{attributes_dot, box_dot as dot_of_box, straight_dot as dot_straight, turned_dot as dot_turned};
 
 use crate::attributes::Attributes;
 use crate::matrix::Matrix;
-use crate::order::over;
+use crate::order::put_over;
 use crate::span::{Span, span_of};
-use crate::tiles::{Mapping, picture_dot};
+use crate::sprite::{Mapping, Sprite};
+use crate::tiles::picture_dot;
 use gba_ppu_dot::Dot;
 
 fn mirrored(mirror: bool, side: u32, place: u32) -> u32
@@ -23,15 +25,16 @@ fn mirrored(mirror: bool, side: u32, place: u32) -> u32
 }
 
 #[tactic(auto, unfolding(crate::specs::Sprites::straight_dot))]
-fn straight_dot(m: Mapping, vram: &[u8], a: Attributes, q: u32, p: u32) -> Dot
+fn straight_dot(vram: &[u8], s: &Sprite, a: Attributes, q: u32, p: u32) -> Dot
+    requires sprite { SpriteFits s.now }
     requires vram { length vram.now ≡ 98304 }
-    requires q { q < height_of a }
-    requires p { p < width_of a }
-    ensures { result ≡ dot_straight m vram.now a q p }
+    requires q { q < s.now.height }
+    requires p { p < s.now.width }
+    ensures { result ≡ dot_straight vram.now s.now a q p }
 {
-    let across = mirrored(a.is_mirrored(), a.width(), p);
-    let down = mirrored(a.is_upside_down(), a.height(), q);
-    picture_dot(m, vram, a, across, down)
+    let across = mirrored(a.is_mirrored(), s.width, p);
+    let down = mirrored(a.is_upside_down(), s.height, q);
+    picture_dot(vram, s, across, down)
 }
 
 #[tactic(auto, unfolding(crate::specs::Places::turned_place))]
@@ -53,59 +56,70 @@ fn turned_place(
 }
 
 #[tactic(auto, unfolding(crate::specs::Sprites::turned_dot))]
-fn turned_dot(m: Mapping, vram: &[u8], a: Attributes, t: Matrix, q: u32, p: u32) -> Dot
+fn turned_dot(
+    vram: &[u8],
+    s: &Sprite,
+    t: &Matrix,
+    box_wide: u32,
+    box_high: u32,
+    q: u32,
+    p: u32,
+) -> Dot
+    requires sprite { SpriteFits s.now }
     requires vram { length vram.now ≡ 98304 }
-    ensures { result ≡ dot_turned m vram.now a t q p }
+    ensures { result ≡ dot_turned vram.now s.now t.now box_wide box_high q p }
 {
-    let wide = a.width();
-    let high = a.height();
-    let across = turned_place(t.pa, t.pb, a.box_width(), a.box_height(), wide, p, q);
-    let down = turned_place(t.pc, t.pd, a.box_width(), a.box_height(), high, p, q);
-    if across < wide && down < high {
-        picture_dot(m, vram, a, across, down)
+    let across = turned_place(t.pa, t.pb, box_wide, box_high, s.width, p, q);
+    let down = turned_place(t.pc, t.pd, box_wide, box_high, s.height, p, q);
+    if across < s.width && down < s.height {
+        picture_dot(vram, s, across, down)
     } else {
         Dot::CLEAR
     }
 }
 
 /// Draws the row `q` of the box of a sprite that isn't affine.
-fn draw_straight(m: Mapping, vram: &[u8], a: Attributes, q: u32, span: Span, dots: &mut [Dot])
+fn draw_straight(vram: &[u8], s: &Sprite, a: Attributes, q: u32, span: Span, dots: &mut [Dot])
+    requires sprite { SpriteFits s.now }
     requires vram { length vram.now ≡ 98304 }
-    requires q { q < height_of a }
+    requires q { q < s.now.height }
     requires order { span.start ≤ span.end }
-    requires within { span.first + (span.end - span.start) ≤ width_of a }
+    requires within { span.first + (span.end - span.start) ≤ s.now.width }
     requires dots { span.end ≤ length dots.old }
     ensures before { (x : ℕ) (d : Dot) → x < span.start → slice_index_or dots.new x d ≡ slice_index_or dots.old x d }
-    ensures drawn { (x : ℕ) (d : Dot) → span.start ≤ x → x < span.end → slice_index_or dots.new x d ≡ dot_over (slice_index_or dots.old x d) (dot_straight m vram.now a q (span.first + (x - span.start))) }
+    ensures drawn { (x : ℕ) (d : Dot) → span.start ≤ x → x < span.end → slice_index_or dots.new x d ≡ dot_over (slice_index_or dots.old x d) (dot_straight vram.now s.now a q (span.first + (x - span.start))) }
     ensures after { (x : ℕ) (d : Dot) → span.end ≤ x → slice_index_or dots.new x d ≡ slice_index_or dots.old x d }
 {
     for x in span.start..span.end {
         let p = span.first + (x - span.start) as u32;
-        dots[x] = over(dots[x], straight_dot(m, vram, a, q, p));
+        put_over(dots, x, straight_dot(vram, s, a, q, p));
     }
 }
 
 /// Draws the row `q` of the box of an affine sprite.
 fn draw_turned(
-    m: Mapping,
     vram: &[u8],
+    s: &Sprite,
+    t: &Matrix,
     a: Attributes,
-    t: Matrix,
     q: u32,
     span: Span,
     dots: &mut [Dot],
 )
+    requires sprite { SpriteFits s.now }
     requires vram { length vram.now ≡ 98304 }
     requires order { span.start ≤ span.end }
-    requires within { span.first + (span.end - span.start) ≤ box_width a }
+    requires within { span.first + (span.end - span.start) ≤ 128 }
     requires dots { span.end ≤ length dots.old }
     ensures before { (x : ℕ) (d : Dot) → x < span.start → slice_index_or dots.new x d ≡ slice_index_or dots.old x d }
-    ensures drawn { (x : ℕ) (d : Dot) → span.start ≤ x → x < span.end → slice_index_or dots.new x d ≡ dot_over (slice_index_or dots.old x d) (dot_turned m vram.now a t q (span.first + (x - span.start))) }
+    ensures drawn { (x : ℕ) (d : Dot) → span.start ≤ x → x < span.end → slice_index_or dots.new x d ≡ dot_over (slice_index_or dots.old x d) (dot_turned vram.now s.now t.now (box_width a) (box_height a) q (span.first + (x - span.start))) }
     ensures after { (x : ℕ) (d : Dot) → span.end ≤ x → slice_index_or dots.new x d ≡ slice_index_or dots.old x d }
 {
+    let box_wide = a.box_width();
+    let box_high = a.box_height();
     for x in span.start..span.end {
         let p = span.first + (x - span.start) as u32;
-        dots[x] = over(dots[x], turned_dot(m, vram, a, t, q, p));
+        put_over(dots, x, turned_dot(vram, s, t, box_wide, box_high, q, p));
     }
 }
 
@@ -130,10 +144,11 @@ fn draw_box(
     ensures drawn { (x : ℕ) (d : Dot) → span.start ≤ x → x < span.end → slice_index_or dots.new x d ≡ dot_over (slice_index_or dots.old x d) (dot_of_box m vram.now oam.now a q (span.first + (x - span.start))) }
     ensures after { (x : ℕ) (d : Dot) → span.end ≤ x → slice_index_or dots.new x d ≡ slice_index_or dots.old x d }
 {
+    let s = Sprite::of(m, a);
     if a.is_affine() {
-        draw_turned(m, vram, a, Matrix::of(oam, a.group()), q, span, dots)
+        draw_turned(vram, &s, &Matrix::of(oam, a.group()), a, q, span, dots)
     } else {
-        draw_straight(m, vram, a, q, span, dots)
+        draw_straight(vram, &s, a, q, span, dots)
     }
 }
 
@@ -145,10 +160,14 @@ fn box_row(top: u32, line: u32) -> u32
     (line + (256 - top)) % 256
 }
 
-/// Whether the row `q` of the box of a sprite is shown.
+/// Whether the row `q` of the box of a sprite is shown. No box is higher than 128.
+#[tactic(auto, using(crate::proofs::Painting::too_low))]
 fn is_row_shown(a: Attributes, q: u32) -> bool
     ensures { result ≡ is_row_of_box a q }
 {
+    if q >= 128 {
+        return false;
+    }
     a.is_shown() && q < a.box_height()
 }
 

@@ -8,6 +8,7 @@ mod matrix;
 mod order;
 mod sides;
 mod span;
+mod sprite;
 mod tiles;
 
 pub use line::sprite_line;

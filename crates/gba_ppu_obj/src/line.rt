@@ -5,7 +5,7 @@ ghost use Rattle.gba_ppu_dot.specs.Dots.{IsLine};
 ghost use Rattle.gba_ppu_obj.specs.Sprites.{sprites_pixel};
 
 use crate::draw::draw_sprite;
-use crate::tiles::Mapping;
+use crate::sprite::Mapping;
 use gba_ppu_dot::{Dot, clear_line};
 use gba_ppu_reg::PictureRegisters;
 
