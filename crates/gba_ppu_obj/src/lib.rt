@@ -3,6 +3,7 @@
 
 mod attributes;
 mod draw;
+pub mod laws;
 mod line;
 mod matrix;
 mod order;
