@@ -1,4 +1,5 @@
 pub mod Blending
+pub mod Foremost
 pub mod Layers
 pub mod Mixing
 pub mod Stacks

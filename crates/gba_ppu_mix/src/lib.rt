@@ -4,6 +4,7 @@
 mod blending;
 mod colours;
 mod layers;
+pub mod laws;
 mod line;
 mod lines;
 mod stacks;

@@ -1,0 +1,156 @@
+-- The two foremost candidates of a stack.
+use Rattle.std.proofs.Common.{◌≡◌, ℕ, ◌<◌, ◌≤◌, ◌⊎◌, Bool, true, false, nat_lt, List, [], ◌∷◌, ⊎_elim, inl, inr, ap, sym, ◌∙◌, refl, subst, arith}
+use Rattle.std.proofs.lemmas.Bool.{ltb-true, ltb-false}
+use Rattle.gba_ppu_dot.specs.declared.dot.Dot.{Dot}
+use Rattle.gba_ppu_mix.specs.Foremost.{HasForemost, IsOneOf, and_if, and_layer, candidates_of, is_candidate}
+use Rattle.gba_ppu_mix.specs.Stacks.{Dots, bottom, candidate, nearer, stack_of, with_candidate, with_dot}
+use Rattle.gba_ppu_mix.specs.declared.stacks.Candidate.{Candidate}
+use Rattle.gba_ppu_mix.specs.declared.stacks.Layer.{Layer}
+use Rattle.gba_ppu_mix.specs.declared.stacks.Layer.TheVariants.{Background0, Background1, Background2, Background3, Sprites}
+use Rattle.gba_ppu_mix.specs.declared.stacks.Stack.{Stack}
+
+all : List Candidate → Stack
+all [] = bottom
+all (c ∷ cs) = with_candidate c (all cs)
+
+in_front_of : (c : Candidate) (s : Stack) → nat_lt c.rank s.top.rank ≡ true
+    → with_candidate c s ≡ record { top = c; second = s.top }
+unfolding with_candidate
+in_front_of c s e = rw e refl
+
+behind_top : (c : Candidate) (s : Stack) → nat_lt c.rank s.top.rank ≡ false
+    → with_candidate c s ≡ record { top = s.top; second = nearer c s.second }
+unfolding with_candidate
+behind_top c s e = rw e refl
+
+same_rank : (a b : Candidate) → a ≡ b → a.rank ≡ b.rank
+same_rank a b e = ap (λ (c : Candidate). c.rank) e
+
+new_top : (c : Candidate) (cs : List Candidate) (s : Stack) → c.rank < s.top.rank → HasForemost cs s
+    → HasForemost (c ∷ cs) record { top = c; second = s.top }
+new_top c cs s less h =
+    let backdrop = h.before_backdrop in
+    record {
+      top = inr (inl refl);
+      second = ⊎_elim (λ (e : s.top ≡ bottom.top). inr (inl e)) (λ (o : IsOneOf s.top cs). inr (inr (inr o))) h.top;
+      in_front = λ d o.
+        ⊎_elim
+        (λ (e : d ≡ c). let f = same_rank d c e in omega (arith, f))
+        (λ (i : IsOneOf d cs). let f = h.in_front d i in omega (arith, f))
+        o;
+      before_backdrop = omega (arith, backdrop);
+      next = λ d o.
+        ⊎_elim (λ (e : d ≡ c). inl e) (λ (i : IsOneOf d cs). inr (h.in_front d i)) o;
+      next_backdrop = inr backdrop;
+      order = omega arith;
+    }
+
+new_second : (c : Candidate) (cs : List Candidate) (s : Stack) → s.top.rank ≤ c.rank → c.rank < s.second.rank
+    → HasForemost cs s → HasForemost (c ∷ cs) record { top = s.top; second = c }
+new_second c cs s behind less h = record {
+  top = ⊎_elim (λ (e : s.top ≡ bottom.top). inl e) (λ (o : IsOneOf s.top cs). inr (inr o)) h.top;
+  second = inr (inr (inl refl));
+  in_front = λ d o.
+    ⊎_elim (λ (e : d ≡ c). let f = same_rank d c e in omega (arith, f)) (λ (i : IsOneOf d cs). h.in_front d i) o;
+  before_backdrop = h.before_backdrop;
+  next = λ d o.
+    ⊎_elim
+    (λ (e : d ≡ c). let f = same_rank d c e in inr (omega (arith, f)))
+    (λ (i : IsOneOf d cs).
+    ⊎_elim
+    (λ (e : d ≡ s.top). inl e)
+    (λ (f : s.second.rank ≤ d.rank). inr (omega arith))
+    (h.next d i))
+    o;
+  next_backdrop =
+    ⊎_elim
+    (λ (e : bottom.top ≡ s.top). inl e)
+    (λ (f : s.second.rank ≤ bottom.top.rank). inr (omega arith))
+    h.next_backdrop;
+  order = behind;
+}
+
+behind_both : (c : Candidate) (cs : List Candidate) (s : Stack) → s.top.rank ≤ c.rank → s.second.rank ≤ c.rank
+    → HasForemost cs s → HasForemost (c ∷ cs) record { top = s.top; second = s.second }
+behind_both c cs s behind least h = record {
+  top = ⊎_elim (λ (e : s.top ≡ bottom.top). inl e) (λ (o : IsOneOf s.top cs). inr (inr o)) h.top;
+  second =
+    ⊎_elim
+    (λ (e : s.second ≡ bottom.second). inl e)
+    (λ (o : (s.second ≡ bottom.top) ⊎ IsOneOf s.second cs).
+    ⊎_elim (λ (e : s.second ≡ bottom.top). inr (inl e)) (λ (i : IsOneOf s.second cs). inr (inr (inr i))) o)
+    h.second;
+  in_front = λ d o.
+    ⊎_elim (λ (e : d ≡ c). let f = same_rank d c e in omega (arith, f)) (λ (i : IsOneOf d cs). h.in_front d i) o;
+  before_backdrop = h.before_backdrop;
+  next = λ d o.
+    ⊎_elim
+    (λ (e : d ≡ c). let f = same_rank d c e in inr (omega (arith, f)))
+    (λ (i : IsOneOf d cs). h.next d i)
+    o;
+  next_backdrop = h.next_backdrop;
+  order = h.order;
+}
+
+nearer_by : (c : Candidate) (cs : List Candidate) (s : Stack) (w : Bool) → nat_lt c.rank s.second.rank ≡ w
+    → s.top.rank ≤ c.rank → HasForemost cs s → HasForemost (c ∷ cs) record { top = s.top; second = nearer c s.second }
+nearer_by c cs s true e behind h =
+    rw e (new_second c cs s behind (ltb-true c.rank s.second.rank e) h)
+nearer_by c cs s false e behind h =
+    rw e (behind_both c cs s behind (ltb-false c.rank s.second.rank e) h)
+
+step : (c : Candidate) (cs : List Candidate) (s : Stack) (w : Bool) → nat_lt c.rank s.top.rank ≡ w
+    → HasForemost cs s → HasForemost (c ∷ cs) (with_candidate c s)
+step c cs s true e h =
+    let P : Stack → Type 0 = λ t. HasForemost (c ∷ cs) t in
+    subst P (sym (in_front_of c s e)) (new_top c cs s (ltb-true c.rank s.top.rank e) h)
+step c cs s false e h =
+    let P : Stack → Type 0 = λ t. HasForemost (c ∷ cs) t in
+    subst P (sym (behind_top c s e))
+    (nearer_by c cs s (nat_lt c.rank s.second.rank) refl (ltb-false c.rank s.top.rank e) h)
+
+backdrop_alone : HasForemost [] bottom
+backdrop_alone = record {
+  top = inl refl;
+  second = inl refl;
+  in_front = λ c o. absurd o;
+  before_backdrop = omega arith;
+  next = λ c o. absurd o;
+  next_backdrop = inl refl;
+  order = omega arith;
+}
+
+of_all : (cs : List Candidate) → HasForemost cs (all cs)
+unfolding all
+of_all [] = backdrop_alone
+of_all (c ∷ cs) = step c cs (all cs) (nat_lt c.rank (all cs).top.rank) refl (of_all cs)
+
+-- the layers one after another are those candidates
+layer_by : (shows : ℕ) (layer : Layer) (dot : Dot) (cs : List Candidate) (w : Bool) → is_candidate shows layer dot ≡ w
+    → with_dot shows layer dot (all cs) ≡ all (and_if w (candidate layer dot.priority) cs)
+unfolding with_dot all
+layer_by shows layer dot cs true e = rw e refl
+layer_by shows layer dot cs false e = rw e refl
+
+layer_more : (shows : ℕ) (layer : Layer) (dot : Dot) (cs : List Candidate) (s : Stack) → s ≡ all cs
+    → with_dot shows layer dot s ≡ all (and_layer shows layer dot cs)
+layer_more shows layer dot cs s e =
+    ap (with_dot shows layer dot) e ∙ layer_by shows layer dot cs (is_candidate shows layer dot) refl
+
+none : bottom ≡ all []
+unfolding all
+none = refl
+
+layers_are : (shows : ℕ) (dots : Dots) → stack_of shows dots ≡ all (candidates_of shows dots)
+unfolding stack_of
+layers_are shows dots =
+    layer_more shows Sprites dots.sprite _ _
+    (layer_more shows Background0 dots.background0 _ _
+    (layer_more shows Background1 dots.background1 _ _
+    (layer_more shows Background2 dots.background2 _ _
+    (layer_more shows Background3 dots.background3 [] bottom none))))
+
+pub of_layers : (shows : ℕ) (dots : Dots) → HasForemost (candidates_of shows dots) (stack_of shows dots)
+of_layers shows dots =
+    let P : Stack → Type 0 = λ t. HasForemost (candidates_of shows dots) t in
+    subst P (sym (layers_are shows dots)) (of_all (candidates_of shows dots))
