@@ -1,10 +1,11 @@
 use Rattle.std.specs.Prelude.{◌≡◌, ℕ, Bool, ◌&&◌, ◌≤◌, ◌⊎◌, List, [], ◌∷◌, if◌then◌else◌}
 use Rattle.gba_terms.specs.Bits.{bit}
 use Rattle.gba_ppu_dot.specs.declared.dot.Dot.{Dot}
-use Rattle.gba_ppu_mix.specs.Stacks.{Dots, bottom, candidate, layer_bit, stack_of, with_candidate}
+use Rattle.gba_ppu_mix.specs.Stacks.{Dots, bottom, layer_bit, sprite_rank, stack_of}
 use Rattle.gba_ppu_mix.specs.declared.stacks.Candidate.{Candidate}
 use Rattle.gba_ppu_mix.specs.declared.stacks.Layer.{Layer}
 use Rattle.gba_ppu_mix.specs.declared.stacks.Layer.TheVariants.{Background0, Background1, Background2, Background3, Sprites}
+use Rattle.gba_ppu_mix.specs.declared.stacks.Ranks.{Ranks}
 use Rattle.gba_ppu_mix.specs.declared.stacks.Stack.{Stack}
 
 -- Which two candidates a stack has, without the order in which they come.
@@ -15,16 +16,19 @@ is_candidate shows layer dot = dot.opaque && bit shows (layer_bit layer)
 abbrev pub and_if : Bool → Candidate → List Candidate → List Candidate
 and_if is_one c cs = if is_one then c ∷ cs else cs
 
-abbrev pub and_layer : ℕ → Layer → Dot → List Candidate → List Candidate
-and_layer shows layer dot cs = and_if (is_candidate shows layer dot) (candidate layer dot.priority) cs
+abbrev pub and_layer : ℕ → Layer → ℕ → Dot → List Candidate → List Candidate
+and_layer shows layer rank dot cs = and_if (is_candidate shows layer dot) record { rank = rank; layer = layer } cs
 
-abbrev pub candidates_of : ℕ → Dots → List Candidate
-candidates_of shows dots =
-    and_layer shows Sprites dots.sprite
-    (and_layer shows Background0 dots.background0
-    (and_layer shows Background1 dots.background1
-    (and_layer shows Background2 dots.background2
-    (and_layer shows Background3 dots.background3 []))))
+abbrev pub front_candidates : ℕ → Ranks → Dots → List Candidate
+front_candidates shows ranks dots =
+    and_layer shows Background1 ranks.background1 dots.background1
+    (and_layer shows Background0 ranks.background0 dots.background0
+    (and_layer shows Sprites (sprite_rank dots.sprite.priority) dots.sprite []))
+
+abbrev pub candidates_of : ℕ → Ranks → Dots → List Candidate
+candidates_of shows ranks dots =
+    and_layer shows Background3 ranks.background3 dots.background3
+    (and_layer shows Background2 ranks.background2 dots.background2 (front_candidates shows ranks dots))
 
 abbrev pub IsOneOf : Candidate → List Candidate → Type 0
 IsOneOf c [] = ⊥
@@ -42,4 +46,4 @@ pub record HasForemost (cs : List Candidate) (s : Stack) : Type 0 where
   pub order : s.top.rank ≤ s.second.rank
 
 abbrev pub HasForemostOfLayers : Type 0
-HasForemostOfLayers = (shows : ℕ) (dots : Dots) → HasForemost (candidates_of shows dots) (stack_of shows dots)
+HasForemostOfLayers = (shows : ℕ) (ranks : Ranks) (dots : Dots) → HasForemost (candidates_of shows ranks dots) (stack_of shows ranks dots)

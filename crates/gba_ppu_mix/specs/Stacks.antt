@@ -1,11 +1,14 @@
 use Rattle.std.specs.Prelude.{ℕ, ◌&&◌, ◌+◌, ◌*◌, nat_lt, true, slice_index_or, if◌then◌else◌}
 use Rattle.gba_terms.specs.Bits.{bit}
+use Rattle.gba_ppu_reg.specs.Registers.{Picture}
+use Rattle.gba_ppu_dot.specs.Control.{control_of, priority_of}
 use Rattle.gba_ppu_dot.specs.Dots.{clear_dot}
 use Rattle.gba_ppu_dot.specs.declared.dot.Dot.{Dot}
 use Rattle.gba_ppu_mix.specs.declared.lines.Lines.{Lines}
 use Rattle.gba_ppu_mix.specs.declared.stacks.Candidate.{Candidate}
 use Rattle.gba_ppu_mix.specs.declared.stacks.Layer.{Layer}
 use Rattle.gba_ppu_mix.specs.declared.stacks.Layer.TheVariants.{Background0, Background1, Background2, Background3, Sprites, Backdrop, Nothing}
+use Rattle.gba_ppu_mix.specs.declared.stacks.Ranks.{Ranks}
 use Rattle.gba_ppu_mix.specs.declared.stacks.Stack.{Stack}
 
 -- the dots of the layers at a place
@@ -48,21 +51,22 @@ layer_bit Sprites = 4
 layer_bit Backdrop = 5
 layer_bit Nothing = 6
 
--- The order of the layers from the front: by priority, and with one priority sprites before backgrounds and these by their
--- number (GBATEK, LCD I/O BG Control, LCD OBJ OAM Attributes). The backdrop is behind every priority, and behind it there is
--- nothing.
-abbrev pub rank_of : Layer → ℕ → ℕ
-rank_of Sprites priority = 8 * priority
-rank_of Background0 priority = 8 * priority + 1
-rank_of Background1 priority = 8 * priority + 2
-rank_of Background2 priority = 8 * priority + 3
-rank_of Background3 priority = 8 * priority + 4
-rank_of Backdrop priority = 0x800
-rank_of Nothing priority = 0x801
+-- The order of the layers from the front, as numbers: by priority, and with one priority sprites before backgrounds and these
+-- by their number (GBATEK, LCD I/O BG Control, LCD OBJ OAM Attributes). The backdrop is behind every priority, and behind it
+-- there is nothing.
+abbrev pub sprite_rank : ℕ → ℕ
+sprite_rank priority = 8 * priority
 
--- a layer that may be seen at a place, by its dot's priority
-abbrev pub candidate : Layer → ℕ → Candidate
-candidate layer priority = record { rank = rank_of layer priority; layer = layer }
+abbrev pub background_rank : Picture → ℕ → ℕ
+background_rank r background = 8 * priority_of (control_of background r) + background + 1
+
+abbrev pub ranks_of : Picture → Ranks
+ranks_of r = record {
+  background0 = background_rank r 0;
+  background1 = background_rank r 1;
+  background2 = background_rank r 2;
+  background3 = background_rank r 3;
+}
 
 -- The foremost candidate and the one behind it, with one candidate more.
 abbrev pub nearer : Candidate → Candidate → Candidate
@@ -75,19 +79,22 @@ with_candidate new s =
     else record { top = s.top; second = nearer new s.second }
 
 -- a layer is a candidate where its dot is opaque and the layer shows
-unfoldable pub with_dot : ℕ → Layer → Dot → Stack → Stack
-with_dot shows layer dot s =
-    if dot.opaque && bit shows (layer_bit layer) then with_candidate (candidate layer dot.priority) s else s
+unfoldable pub with_dot : ℕ → Layer → ℕ → Dot → Stack → Stack
+with_dot shows layer rank dot s =
+    if dot.opaque && bit shows (layer_bit layer) then with_candidate record { rank = rank; layer = layer } s else s
 
 -- the backdrop alone
 abbrev pub bottom : Stack
-bottom = record { top = candidate Backdrop 0; second = candidate Nothing 0 }
+bottom = record { top = record { rank = 0x800; layer = Backdrop }; second = record { rank = 0x801; layer = Nothing } }
 
 -- the candidates of all layers
-unfoldable pub stack_of : ℕ → Dots → Stack
-stack_of shows dots =
-    with_dot shows Sprites dots.sprite
-    (with_dot shows Background0 dots.background0
-    (with_dot shows Background1 dots.background1
-    (with_dot shows Background2 dots.background2
-    (with_dot shows Background3 dots.background3 bottom))))
+unfoldable pub front_of : ℕ → Ranks → Dots → Stack
+front_of shows ranks dots =
+    with_dot shows Background1 ranks.background1 dots.background1
+    (with_dot shows Background0 ranks.background0 dots.background0
+    (with_dot shows Sprites (sprite_rank dots.sprite.priority) dots.sprite bottom))
+
+unfoldable pub stack_of : ℕ → Ranks → Dots → Stack
+stack_of shows ranks dots =
+    with_dot shows Background3 ranks.background3 dots.background3
+    (with_dot shows Background2 ranks.background2 dots.background2 (front_of shows ranks dots))

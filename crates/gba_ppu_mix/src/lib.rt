@@ -3,8 +3,8 @@
 
 mod blending;
 mod colours;
-mod layers;
 pub mod laws;
+mod layers;
 mod line;
 mod lines;
 mod stacks;

@@ -6,23 +6,24 @@ ghost use Rattle.gba_ppu_mix.specs.Stacks.{dots_at};
 
 use crate::blending::Blending;
 use crate::lines::{Lines, draw_layers, empty_line, stack_of};
+use crate::stacks::Ranks;
 use crate::windows::Windows;
 use gba_ppu_reg::PictureRegisters;
 use gba_word::bit;
 
 /// The colour at a place.
 #[tactic(auto, unfolding(crate::specs::Mixing::colour_of_dots))]
-fn colour_at(palette: &[u8], w: &Windows, b: &Blending, lines: &Lines, x: u32) -> u16
+fn colour_at(palette: &[u8], w: &Windows, b: &Blending, ranks: &Ranks, lines: &Lines, x: u32) -> u16
     requires palette { length palette.now ≡ 1024 }
     requires eva { b.now.eva ≤ 16 }
     requires evb { b.now.evb ≤ 16 }
     requires evy { b.now.evy ≤ 16 }
     requires place { x < 240 }
-    ensures { result ≡ colour_of_dots palette.now w.now b.now x (dots_at lines.now x) }
+    ensures { result ≡ colour_of_dots palette.now w.now b.now ranks.now x (dots_at lines.now x) }
 {
     let place = x as usize;
     let shows = w.shows_at(x, lines.sprites[place].window);
-    let stack = stack_of(lines, shows, place);
+    let stack = stack_of(lines, shows, ranks, place);
     b.stack_colour(palette, bit(shows, 5), lines, place, stack)
 }
 
@@ -33,16 +34,16 @@ fn is_blank(r: &PictureRegisters) -> bool
 }
 
 /// Mixes the layers' lines.
-fn mix(palette: &[u8], w: &Windows, b: &Blending, lines: &Lines, colours: &mut [u16])
+fn mix(palette: &[u8], w: &Windows, b: &Blending, ranks: &Ranks, lines: &Lines, colours: &mut [u16])
     requires palette { length palette.now ≡ 1024 }
     requires eva { b.now.eva ≤ 16 }
     requires evb { b.now.evb ≤ 16 }
     requires evy { b.now.evy ≤ 16 }
     requires colours { length colours.old ≡ 240 }
-    ensures { (x : ℕ) → x < 240 → slice_index colours.new x ≡ colour_of_dots palette.now w.now b.now x (dots_at lines.now x) }
+    ensures { (x : ℕ) → x < 240 → slice_index colours.new x ≡ colour_of_dots palette.now w.now b.now ranks.now x (dots_at lines.now x) }
 {
     for x in 0..240u32 {
-        colours[x as usize] = colour_at(palette, w, b, lines, x);
+        colours[x as usize] = colour_at(palette, w, b, ranks, lines, x);
     }
 }
 
@@ -89,6 +90,7 @@ pub fn mix_line(
         palette,
         &Windows::of(r, line),
         &Blending::of(r),
+        &Ranks::of(r),
         &lines,
         colours,
     );

@@ -3,10 +3,10 @@
 ghost use Rattle.std.specs.Prelude.{◌≡◌, ◌<◌, length};
 ghost use Rattle.gba_ppu_dot.specs.Dots.{IsLine};
 ghost use Rattle.gba_ppu_mix.specs.Layers.{background_dot, sprites_dot};
-ghost use Rattle.gba_ppu_mix.specs.Stacks.{dot_of as layer_dot, dots_at, stack_of as stack_from};
+ghost use Rattle.gba_ppu_mix.specs.Stacks.{dot_of as layer_dot, dots_at, front_of as front_from, stack_of as stack_from};
 
 use crate::layers::{background_line, sprites_line};
-use crate::stacks::{Layer, Stack};
+use crate::stacks::{Layer, Ranks, Stack, sprite_rank};
 use gba_ppu_dot::Dot;
 use gba_ppu_reg::PictureRegisters;
 
@@ -47,18 +47,52 @@ pub fn dot_of(lines: &Lines, x: usize, layer: Layer) -> Dot
     }
 }
 
-/// The layers behind one another at a place.
-#[tactic(auto, unfolding(crate::specs::Stacks::stack_of))]
-pub fn stack_of(lines: &Lines, shows: u32, x: usize) -> Stack
+/// The sprite and backgrounds 0 and 1 behind one another at a place.
+#[tactic(auto, unfolding(crate::specs::Stacks::front_of))]
+fn front_of(lines: &Lines, shows: u32, ranks: &Ranks, x: usize) -> Stack
     requires { x < 240 }
-    ensures { result ≡ stack_from shows (dots_at lines.now x) }
+    ensures { result ≡ front_from shows ranks.now (dots_at lines.now x) }
 {
+    let sprite = lines.sprites[x];
     Stack::bottom()
-        .with_dot(shows, Layer::Background3, lines.background3[x])
-        .with_dot(shows, Layer::Background2, lines.background2[x])
-        .with_dot(shows, Layer::Background1, lines.background1[x])
-        .with_dot(shows, Layer::Background0, lines.background0[x])
-        .with_dot(shows, Layer::Sprites, lines.sprites[x])
+        .with_dot(shows, Layer::Sprites, sprite_rank(sprite.priority), sprite)
+        .with_dot(
+            shows,
+            Layer::Background0,
+            ranks.background0,
+            lines.background0[x],
+        )
+        .with_dot(
+            shows,
+            Layer::Background1,
+            ranks.background1,
+            lines.background1[x],
+        )
+}
+
+/// The layers behind one another at a place. Mostly backgrounds 2 and 3 are behind two others, and then they aren't looked at.
+#[tactic(auto, unfolding(crate::specs::Stacks::stack_of))]
+pub fn stack_of(lines: &Lines, shows: u32, ranks: &Ranks, x: usize) -> Stack
+    requires { x < 240 }
+    ensures { result ≡ stack_from shows ranks.now (dots_at lines.now x) }
+{
+    let front = front_of(lines, shows, ranks, x);
+    if front.second.rank <= ranks.background2 && front.second.rank <= ranks.background3 {
+        return front;
+    }
+    front
+        .with_dot(
+            shows,
+            Layer::Background2,
+            ranks.background2,
+            lines.background2[x],
+        )
+        .with_dot(
+            shows,
+            Layer::Background3,
+            ranks.background3,
+            lines.background3[x],
+        )
 }
 
 /// Draws the layers.

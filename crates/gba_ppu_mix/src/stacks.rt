@@ -1,9 +1,10 @@
 //! The layers behind one another at a place.
 
-ghost use Rattle.std.specs.Prelude.{◌≡◌, ◌≤◌};
-ghost use Rattle.gba_ppu_mix.specs.Stacks.{bottom as the_bottom, candidate as candidate_of, layer_bit as bit_of, nearer as nearer_of, rank_of as rank_in, with_candidate as stack_with, with_dot as stack_with_dot};
+ghost use Rattle.std.specs.Prelude.{◌≡◌, ◌<◌, ◌≤◌};
+ghost use Rattle.gba_ppu_mix.specs.Stacks.{background_rank as background_rank_of, bottom as the_bottom, layer_bit as bit_of, nearer as nearer_of, ranks_of, sprite_rank as sprite_rank_of, with_candidate as stack_with, with_dot as stack_with_dot};
 
-use gba_ppu_dot::Dot;
+use gba_ppu_dot::{BackgroundControl, Dot};
+use gba_ppu_reg::PictureRegisters;
 use gba_word::bit;
 
 /// The layers, in the order of their bits in BLDCNT, and what is behind the last one.
@@ -24,6 +25,15 @@ pub struct Candidate {
     /// Its place in the order from the front.
     pub rank: u32,
     pub layer: Layer,
+}
+
+/// The ranks of the backgrounds.
+#[derive(Clone, Copy, Debug, PartialEq, Eq)]
+pub struct Ranks {
+    pub background0: u32,
+    pub background1: u32,
+    pub background2: u32,
+    pub background3: u32,
 }
 
 /// The foremost candidate, and the one behind it.
@@ -49,31 +59,35 @@ pub fn layer_bit(layer: Layer) -> u32
     }
 }
 
-fn rank_of(layer: Layer, priority: u8) -> u32
-    ensures { result ≡ rank_in layer priority }
+/// The rank of sprites of a priority.
+pub fn sprite_rank(priority: u8) -> u32
+    ensures { result ≡ sprite_rank_of priority }
 {
-    let first = 8 * u32::from(priority);
-    match layer {
-        Layer::Sprites => first,
-        Layer::Background0 => first + 1,
-        Layer::Background1 => first + 2,
-        Layer::Background2 => first + 3,
-        Layer::Background3 => first + 4,
-        Layer::Backdrop => 0x800,
-        Layer::Nothing => 0x801,
+    8 * u32::from(priority)
+}
+
+fn background_rank(r: &PictureRegisters, background: u32) -> u32
+    requires { background < 4 }
+    ensures { result ≡ background_rank_of r.now background }
+{
+    8 * u32::from(BackgroundControl::of(r, background).priority()) + background + 1
+}
+
+impl Ranks {
+    /// Those of the registers.
+    pub fn of(r: &PictureRegisters) -> Ranks
+        ensures { result ≡ ranks_of r.now }
+    {
+        Ranks {
+            background0: background_rank(r, 0),
+            background1: background_rank(r, 1),
+            background2: background_rank(r, 2),
+            background3: background_rank(r, 3),
+        }
     }
 }
 
 impl Candidate {
-    fn of(layer: Layer, priority: u8) -> Candidate
-        ensures { result ≡ candidate_of layer priority }
-    {
-        Candidate {
-            rank: rank_of(layer, priority),
-            layer,
-        }
-    }
-
     fn or(self, old: Candidate) -> Candidate
         ensures { result ≡ nearer_of self old }
     {
@@ -87,8 +101,14 @@ impl Stack {
         ensures { result ≡ the_bottom }
     {
         Stack {
-            top: Candidate::of(Layer::Backdrop, 0),
-            second: Candidate::of(Layer::Nothing, 0),
+            top: Candidate {
+                rank: 0x800,
+                layer: Layer::Backdrop,
+            },
+            second: Candidate {
+                rank: 0x801,
+                layer: Layer::Nothing,
+            },
         }
     }
 
@@ -111,11 +131,11 @@ impl Stack {
 
     /// With a layer, where its dot is opaque and the layer shows.
     #[tactic(auto, unfolding(crate::specs::Stacks::with_dot))]
-    pub fn with_dot(self, shows: u32, layer: Layer, dot: Dot) -> Stack
-        ensures { result ≡ stack_with_dot shows layer dot self }
+    pub fn with_dot(self, shows: u32, layer: Layer, rank: u32, dot: Dot) -> Stack
+        ensures { result ≡ stack_with_dot shows layer rank dot self }
     {
         if dot.opaque && bit(shows, layer_bit(layer)) {
-            self.with(Candidate::of(layer, dot.priority))
+            self.with(Candidate { rank, layer })
         } else {
             self
         }
