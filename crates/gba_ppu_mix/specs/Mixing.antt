@@ -4,16 +4,22 @@ use Rattle.gba_ppu_reg.specs.Registers.{Picture, picture_kept}
 use Rattle.gba_ppu_mix.specs.Blending.{blending_of, stack_colour}
 use Rattle.gba_ppu_mix.specs.Layers.{background_dot, sprites_dot}
 use Rattle.gba_ppu_mix.specs.Stacks.{Dots, ranks_of, stack_of}
-use Rattle.gba_ppu_mix.specs.Windows.{shows_at, windows_of}
+use Rattle.gba_ppu_mix.specs.Windows.{run_shows, shows_at, windows_of}
 use Rattle.gba_ppu_mix.specs.declared.blending.Blending.{Blending}
 use Rattle.gba_ppu_mix.specs.declared.stacks.Ranks.{Ranks}
+use Rattle.gba_ppu_mix.specs.declared.windows.Run.{Run}
 use Rattle.gba_ppu_mix.specs.declared.windows.Windows.{Windows}
 
--- the colour where the layers have these dots
+-- the colour where the layers have these dots, by what shows
+abbrev pub colour_where : List ℕ → ℕ → Blending → Ranks → Dots → ℕ
+colour_where palette shows b ranks dots = stack_colour palette b (bit shows 5) dots (stack_of shows ranks dots)
+
+-- the same in a part of the line, and by the windows
+abbrev pub colour_in : List ℕ → Run → Blending → Ranks → Dots → ℕ
+colour_in palette run b ranks dots = colour_where palette (run_shows run dots.sprite.window) b ranks dots
+
 unfoldable pub colour_of_dots : List ℕ → Windows → Blending → Ranks → ℕ → Dots → ℕ
-colour_of_dots palette w b ranks x dots =
-    let shows = shows_at w x dots.sprite.window in
-    stack_colour palette b (bit shows 5) dots (stack_of shows ranks dots)
+colour_of_dots palette w b ranks x dots = colour_where palette (shows_at w x dots.sprite.window) b ranks dots
 
 -- the dots of the layers at (x, y)
 abbrev pub layers_dots : Picture → List ℕ → List ℕ → ℕ → ℕ → Dots

@@ -1,6 +1,7 @@
 use Rattle.std.specs.Prelude.{ℕ, Bool, ◌&&◌, ◌||◌, ◌+◌, ◌*◌, nat_le, nat_lt, if◌then◌else◌}
 use Rattle.gba_terms.specs.Bits.{bit, field}
 use Rattle.gba_ppu_reg.specs.Registers.{Picture, picture_kept}
+use Rattle.gba_ppu_mix.specs.declared.windows.Run.{Run}
 use Rattle.gba_ppu_mix.specs.declared.windows.Side.{Side}
 use Rattle.gba_ppu_mix.specs.declared.windows.Window.{Window}
 use Rattle.gba_ppu_mix.specs.declared.windows.Windows.{Windows}
@@ -48,3 +49,8 @@ shows_at w x in_sprites =
     else if w.has_sprites && in_sprites then w.sprites_show
     else w.outside_shows)
     else 63
+
+-- What shows in a part of the line that no side of window 0 or 1 cuts: one thing in the sprite window, where it counts there,
+-- and one elsewhere.
+abbrev pub run_shows : Run → Bool → ℕ
+run_shows run in_sprites = if run.has_sprites && in_sprites then run.sprites_show else run.shows

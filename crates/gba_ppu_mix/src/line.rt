@@ -1,36 +1,67 @@
 //! A line of the picture.
 
 ghost use Rattle.std.specs.Prelude.{◌≡◌, ℕ, ◌<◌, ◌≤◌, length, slice_index};
-ghost use Rattle.gba_ppu_mix.specs.Mixing.{IsPixelLine, colour_of_dots, is_blank as is_blank_by, mixed_pixel};
+ghost use Rattle.gba_ppu_mix.specs.Mixing.{IsPixelLine, colour_in, colour_of_dots, colour_where, is_blank as is_blank_by, mixed_pixel};
 ghost use Rattle.gba_ppu_mix.specs.Stacks.{dots_at};
 
 use crate::blending::Blending;
 use crate::lines::{Lines, draw_layers, empty_line, stack_of};
 use crate::stacks::Ranks;
-use crate::windows::Windows;
+use crate::windows::{Run, Windows};
 use gba_ppu_reg::PictureRegisters;
 use gba_word::bit;
 
-/// The colour at a place.
-#[tactic(auto, unfolding(crate::specs::Mixing::colour_of_dots))]
-fn colour_at(palette: &[u8], w: &Windows, b: &Blending, ranks: &Ranks, lines: &Lines, x: u32) -> u16
+/// The colour at a place, by what shows there.
+fn colour_at(
+    palette: &[u8],
+    shows: u32,
+    b: &Blending,
+    ranks: &Ranks,
+    lines: &Lines,
+    x: usize,
+) -> u16
     requires palette { length palette.now ≡ 1024 }
     requires eva { b.now.eva ≤ 16 }
     requires evb { b.now.evb ≤ 16 }
     requires evy { b.now.evy ≤ 16 }
     requires place { x < 240 }
-    ensures { result ≡ colour_of_dots palette.now w.now b.now ranks.now x (dots_at lines.now x) }
+    ensures { result ≡ colour_where palette.now shows b.now ranks.now (dots_at lines.now x) }
 {
-    let place = x as usize;
-    let shows = w.shows_at(x, lines.sprites[place].window);
-    let stack = stack_of(lines, shows, ranks, place);
-    b.stack_colour(palette, bit(shows, 5), lines, place, stack)
+    let stack = stack_of(lines, shows, ranks, x);
+    b.stack_colour(palette, bit(shows, 5), lines, x, stack)
 }
 
 fn is_blank(r: &PictureRegisters) -> bool
     ensures { result ≡ is_blank_by r.now }
 {
     bit(u32::from(r.kept(0x000)), 7)
+}
+
+/// Mixes a part of the layers' lines.
+fn mix_run(
+    palette: &[u8],
+    run: &Run,
+    b: &Blending,
+    ranks: &Ranks,
+    lines: &Lines,
+    start: u32,
+    colours: &mut [u16],
+)
+    requires palette { length palette.now ≡ 1024 }
+    requires eva { b.now.eva ≤ 16 }
+    requires evb { b.now.evb ≤ 16 }
+    requires evy { b.now.evy ≤ 16 }
+    requires start { start ≤ run.now.end }
+    requires end { run.now.end ≤ 240 }
+    requires colours { length colours.old ≡ 240 }
+    ensures before { (x : ℕ) → x < start → slice_index colours.new x ≡ slice_index colours.old x }
+    ensures drawn { (x : ℕ) → start ≤ x → x < run.now.end → slice_index colours.new x ≡ colour_in palette.now run.now b.now ranks.now (dots_at lines.now x) }
+{
+    for x in start..run.end {
+        let place = x as usize;
+        let shows = run.shows(lines.sprites[place].window);
+        colours[place] = colour_at(palette, shows, b, ranks, lines, place);
+    }
 }
 
 /// Mixes the layers' lines.
@@ -42,8 +73,11 @@ fn mix(palette: &[u8], w: &Windows, b: &Blending, ranks: &Ranks, lines: &Lines, 
     requires colours { length colours.old ≡ 240 }
     ensures { (x : ℕ) → x < 240 → slice_index colours.new x ≡ colour_of_dots palette.now w.now b.now ranks.now x (dots_at lines.now x) }
 {
-    for x in 0..240u32 {
-        colours[x as usize] = colour_at(palette, w, b, ranks, lines, x);
+    let mut start = 0;
+    while start < 240 {
+        let run = w.run_from(start);
+        mix_run(palette, &run, b, ranks, lines, start, colours);
+        start = run.end;
     }
 }
 

@@ -1,7 +1,7 @@
 //! Windows.
 
-ghost use Rattle.std.specs.Prelude.{◌≡◌, ◌<◌, ◌≤◌};
-ghost use Rattle.gba_ppu_mix.specs.Windows.{is_inside as has_place, is_on_side as side_has, shows_at, side_of as side_from, window_of as window_on, windows_of};
+ghost use Rattle.std.specs.Prelude.{◌≡◌, ℕ, Bool, ◌<◌, ◌≤◌, false};
+ghost use Rattle.gba_ppu_mix.specs.Windows.{is_inside as has_place, is_on_side as side_has, run_shows, shows_at, side_of as side_from, window_of as window_on, windows_of};
 
 use gba_ppu_reg::PictureRegisters;
 use gba_word::{bit, bits};
@@ -36,6 +36,17 @@ pub struct Windows {
     pub outside_shows: u32,
 }
 
+/// A part of the line that no side of window 0 or 1 cuts.
+#[derive(Clone, Copy, Debug, PartialEq, Eq)]
+pub struct Run {
+    pub end: u32,
+    /// Whether the sprite window counts here.
+    pub has_sprites: bool,
+    pub sprites_show: u32,
+    /// What shows where no dot of the sprite window is, or where that one doesn't count.
+    pub shows: u32,
+}
+
 fn side_of(half: u16, edge: u32) -> Side
     ensures { result ≡ side_from half edge }
 {
@@ -52,6 +63,21 @@ fn is_on_side(side: Side, place: u32) -> bool
     ensures { result ≡ side_has side place }
 {
     side.start <= place && place < side.end
+}
+
+/// The first end or start of a side behind a place, up to an end.
+fn next_edge(x: u32, side: Side, end: u32) -> u32
+    requires { x < end }
+    ensures first { x < result }
+    ensures last { result ≤ end }
+    ensures same { (k : ℕ) → x ≤ k → k < result → side_has side k ≡ side_has side x }
+{
+    let end = if x < side.start {
+        end.min(side.start)
+    } else {
+        end
+    };
+    if x < side.end { end.min(side.end) } else { end }
 }
 
 fn window_of(r: &PictureRegisters, number: u32, line: u32) -> Window
@@ -89,22 +115,63 @@ impl Windows {
         }
     }
 
-    /// What shows at a place, by whether a dot of the sprite window is there: six bits.
+    /// What shows at a place and up to the next side of a window.
     #[tactic(auto, unfolding(crate::specs::Windows::shows_at))]
-    pub fn shows_at(&self, x: u32, in_sprites: bool) -> u32
-        ensures { result ≡ shows_at self.now x in_sprites }
+    fn shows_from(&self, x: u32, end: u32) -> Run
+        ensures end { result.end ≡ end }
+        ensures shows { (b : Bool) → run_shows result b ≡ shows_at self.now x b }
     {
         if !self.are_used {
-            return 63;
+            return Run::without_sprites(end, 63);
         }
         if is_inside(&self.first, x) {
-            self.first.shows
+            Run::without_sprites(end, self.first.shows)
         } else if is_inside(&self.second, x) {
-            self.second.shows
-        } else if self.has_sprites && in_sprites {
+            Run::without_sprites(end, self.second.shows)
+        } else {
+            Run {
+                end,
+                has_sprites: self.has_sprites,
+                sprites_show: self.sprites_show,
+                shows: self.outside_shows,
+            }
+        }
+    }
+
+    /// The part of the line from a place on that no side of a window cuts, and what shows in it.
+    pub fn run_from(&self, x: u32) -> Run
+        requires { x < 240 }
+        ensures first { x < result.end }
+        ensures last { result.end ≤ 240 }
+        ensures shows { (k : ℕ) (b : Bool) → x ≤ k → k < result.end → run_shows result b ≡ shows_at self.now k b }
+    {
+        let end = next_edge(x, self.first.columns, 240);
+        let end = next_edge(x, self.second.columns, end);
+        self.shows_from(x, end)
+    }
+}
+
+impl Run {
+    /// One in which the sprite window doesn't count.
+    fn without_sprites(end: u32, shows: u32) -> Run
+        ensures { result ≡ record { end = end; has_sprites = false; sprites_show = 0; shows = shows } }
+    {
+        Run {
+            end,
+            has_sprites: false,
+            sprites_show: 0,
+            shows,
+        }
+    }
+
+    /// What shows at a place, by whether a dot of the sprite window is there: six bits.
+    pub fn shows(&self, in_sprites: bool) -> u32
+        ensures { result ≡ run_shows self.now in_sprites }
+    {
+        if self.has_sprites && in_sprites {
             self.sprites_show
         } else {
-            self.outside_shows
+            self.shows
         }
     }
 }
