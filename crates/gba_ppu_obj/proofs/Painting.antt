@@ -7,7 +7,8 @@ use Rattle.gba_ppu_dot.specs.declared.dot.Dot.{Dot}
 use Rattle.gba_ppu_obj.specs.Attributes.{box_height, box_width, is_row_shown, is_shown, left_of, top_of}
 use Rattle.gba_ppu_obj.specs.Order.{first_over, over}
 use Rattle.gba_ppu_obj.specs.Places.{box_column, box_row}
-use Rattle.gba_ppu_obj.specs.Sprites.{attributes_dot, box_dot}
+use Rattle.gba_ppu_obj.specs.Sprites.{attributes_dot, box_number}
+use Rattle.gba_ppu_obj.specs.Tiles.{numbered_dot, sprite_of}
 use Rattle.gba_ppu_obj.specs.declared.attributes.Attributes.{Attributes}
 use Rattle.gba_ppu_obj.specs.declared.sprite.Mapping.{Mapping}
 
@@ -47,7 +48,7 @@ beside_box m vram oam a y x on beside = rw (on, le-ltb (box_column (left_of a) x
 
 in_box : (m : Mapping) (vram oam : List ℕ) (a : Attributes) (y x p : ℕ)
     → is_row_shown a (box_row (top_of a) y) ≡ true → box_column (left_of a) x ≡ p → p < box_width a
-    → attributes_dot m vram oam a y x ≡ box_dot m vram oam a (box_row (top_of a) y) p
+    → attributes_dot m vram oam a y x ≡ numbered_dot (sprite_of m a) (box_number m vram oam a (box_row (top_of a) y) p)
 unfolding attributes_dot
 in_box m vram oam a y x p on e within = rw (on, e, lt-ltb p (box_width a) within) refl
 
@@ -63,7 +64,7 @@ pub drawn_at : (m : Mapping) (vram oam : List ℕ) (a : Attributes) (y x q left 
     → (x < start → width ≤ box_column left x)
     → (end ≤ x → width ≤ box_column left x)
     → (x < start → new ≡ old)
-    → (start ≤ x → x < end → new ≡ over old (box_dot m vram oam a q (first + (x - start))))
+    → (start ≤ x → x < end → new ≡ over old (numbered_dot (sprite_of m a) (box_number m vram oam a q (first + (x - start)))))
     → (end ≤ x → new ≡ old)
     → new ≡ over old (attributes_dot m vram oam a y x)
 drawn_at m vram oam a y x q left width start end first old new row_is left_is width_is on within inside to_left to_right before drawn after =
@@ -79,7 +80,7 @@ drawn_at m vram oam a y x q left width start end first old new row_is left_is wi
     let column : box_column (left_of a) x ≡ first + (x - start) = rw left_is at (inside from below) in
     drawn from below
     ∙ ap (over old)
-    (ap (λ n. box_dot m vram oam a n (first + (x - start))) row_is
+    (ap (λ n. numbered_dot (sprite_of m a) (box_number m vram oam a n (first + (x - start)))) row_is
     ∙ sym (in_box m vram oam a y x (first + (x - start)) shown column within_box)))
     (λ (past : end ≤ x). after past ∙ nothing_over old _ (beside (to_right past)))
     (cases_lt x end))

@@ -5,7 +5,7 @@ use Rattle.gba_ppu_dot.specs.declared.dot.Dot.{Dot}
 use Rattle.gba_ppu_obj.specs.Attributes.{attributes_of, box_height, box_width, group_of, is_affine, is_mirrored, is_row_shown, is_upside_down, left_of, top_of}
 use Rattle.gba_ppu_obj.specs.Order.{first_over}
 use Rattle.gba_ppu_obj.specs.Places.{box_column, box_row, mirrored, parameter_of, turned_place}
-use Rattle.gba_ppu_obj.specs.Tiles.{mapping_of, picture_dot, sprite_of}
+use Rattle.gba_ppu_obj.specs.Tiles.{mapping_of, numbered_dot, picture_number, sprite_of}
 use Rattle.gba_ppu_obj.specs.declared.attributes.Attributes.{Attributes}
 use Rattle.gba_ppu_obj.specs.declared.matrix.Matrix.{Matrix}
 use Rattle.gba_ppu_obj.specs.declared.sprite.Mapping.{Mapping}
@@ -20,30 +20,30 @@ matrix_of oam group = record {
   pd = parameter_of oam group 3;
 }
 
--- the dot at a place of the box of a sprite that isn't affine
-unfoldable pub straight_dot : List ℕ → Sprite → Attributes → ℕ → ℕ → Dot
-straight_dot vram s a q p =
-    picture_dot vram s (mirrored (is_mirrored a) s.width p) (mirrored (is_upside_down a) s.height q)
+-- the number at a place of the box of a sprite that isn't affine
+unfoldable pub straight_number : List ℕ → Sprite → Attributes → ℕ → ℕ → ℕ
+straight_number vram s a q p =
+    picture_number vram s (mirrored (is_mirrored a) s.width p) (mirrored (is_upside_down a) s.height q)
 
--- The dot at a place of the box of an affine sprite, by the sides of the box. Outside of its picture there is nothing.
-unfoldable pub turned_dot : List ℕ → Sprite → Matrix → ℕ → ℕ → ℕ → ℕ → Dot
-turned_dot vram s t box_wide box_high q p =
+-- The number at a place of the box of an affine sprite, by the sides of the box. Outside of its picture it is 0.
+unfoldable pub turned_number : List ℕ → Sprite → Matrix → ℕ → ℕ → ℕ → ℕ → ℕ
+turned_number vram s t box_wide box_high q p =
     let across = turned_place t.pa t.pb box_wide box_high s.width p q in
     let down = turned_place t.pc t.pd box_wide box_high s.height p q in
-    if nat_lt across s.width && nat_lt down s.height then picture_dot vram s across down else clear_dot
+    if nat_lt across s.width && nat_lt down s.height then picture_number vram s across down else 0
 
-unfoldable pub box_dot : Mapping → List ℕ → List ℕ → Attributes → ℕ → ℕ → Dot
-box_dot m vram oam a q p =
+unfoldable pub box_number : Mapping → List ℕ → List ℕ → Attributes → ℕ → ℕ → ℕ
+box_number m vram oam a q p =
     if is_affine a
-    then turned_dot vram (sprite_of m a) (matrix_of oam (group_of a)) (box_width a) (box_height a) q p
-    else straight_dot vram (sprite_of m a) a q p
+    then turned_number vram (sprite_of m a) (matrix_of oam (group_of a)) (box_width a) (box_height a) q p
+    else straight_number vram (sprite_of m a) a q p
 
 -- The dot of a sprite at (x, y).
 unfoldable pub attributes_dot : Mapping → List ℕ → List ℕ → Attributes → ℕ → ℕ → Dot
 attributes_dot m vram oam a y x =
     if is_row_shown a (box_row (top_of a) y)
     then (if nat_lt (box_column (left_of a) x) (box_width a)
-    then box_dot m vram oam a (box_row (top_of a) y) (box_column (left_of a) x)
+    then numbered_dot (sprite_of m a) (box_number m vram oam a (box_row (top_of a) y) (box_column (left_of a) x))
     else clear_dot)
     else clear_dot
 

@@ -32,6 +32,19 @@ first_in_rows a = if has_eight_bits a then 2 * (tile_of a / 2) else tile_of a
 abbrev pub palette_start : Attributes → ℕ
 palette_start a = if has_eight_bits a then 256 else 256 + 16 * palette_of a
 
+-- what the dots of a sprite are, by its mode: of a prohibited one nothing is shown
+abbrev pub kind_of : SpriteMode → DotKind
+kind_of Normal = Plain
+kind_of SemiTransparent = Semi
+kind_of Window = Plain
+kind_of Prohibited = Plain
+
+abbrev pub is_window : SpriteMode → Bool
+is_window Normal = false
+is_window SemiTransparent = false
+is_window Window = true
+is_window Prohibited = false
+
 -- A sprite's picture: its sides, the number of its first tile, how far it is in units to the tile below and to the next one,
 -- and what its dots are.
 abbrev pub sprite_of : Mapping → Attributes → Sprite
@@ -45,7 +58,8 @@ sprite_of m a = record {
   with_bitmap = m.with_bitmap;
   palette_start = palette_start a;
   priority = priority_of a;
-  mode = mode_of a;
+  kind = kind_of (mode_of a);
+  in_window = is_window (mode_of a);
 }
 
 -- the sizes that these numbers have
@@ -74,13 +88,20 @@ abbrev pub dot_number : List ℕ → Sprite → ℕ → ℕ → ℕ → ℕ
 dot_number vram s tile column row =
     if s.eight_bits then byte_number vram tile column row else nibble_number vram tile column row
 
-abbrev pub shown_dot : Sprite → DotKind → ℕ → Dot
-shown_dot s kind number = record {
+-- the number at a place of the picture: 0 where its tile is in the bitmap's memory
+unfoldable pub picture_number : List ℕ → Sprite → ℕ → ℕ → ℕ
+picture_number vram s across down =
+    if s.with_bitmap && nat_lt (tile_number s across down) 512
+    then 0
+    else dot_number vram s (tile_number s across down) (across % 8) (down % 8)
+
+abbrev pub shown_dot : Sprite → ℕ → Dot
+shown_dot s number = record {
   opaque = true;
   entry = s.palette_start + number;
   direct = false;
   priority = s.priority;
-  kind = kind;
+  kind = s.kind;
   window = false;
 }
 
@@ -88,19 +109,6 @@ shown_dot s kind number = record {
 abbrev pub window_dot : Dot
 window_dot = record clear_dot { window = true }
 
-abbrev pub dot_by_mode : SpriteMode → Sprite → ℕ → Dot
-dot_by_mode Normal s number = shown_dot s Plain number
-dot_by_mode SemiTransparent s number = shown_dot s Semi number
-dot_by_mode Window s number = window_dot
-dot_by_mode Prohibited s number = clear_dot
-
 -- the dot by its number: number 0 is nothing
 unfoldable pub numbered_dot : Sprite → ℕ → Dot
-numbered_dot s number = if number == 0 then clear_dot else dot_by_mode s.mode s number
-
--- the dot at a place of the picture: nothing where its tile is in the bitmap's memory
-unfoldable pub picture_dot : List ℕ → Sprite → ℕ → ℕ → Dot
-picture_dot vram s across down =
-    if s.with_bitmap && nat_lt (tile_number s across down) 512
-    then clear_dot
-    else numbered_dot s (dot_number vram s (tile_number s across down) (across % 8) (down % 8))
+numbered_dot s number = if number == 0 then clear_dot else if s.in_window then window_dot else shown_dot s number

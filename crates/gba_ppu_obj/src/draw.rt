@@ -5,15 +5,15 @@ ghost use Rattle.gba_ppu_dot.specs.declared.dot.Dot.{Dot};
 ghost use Rattle.gba_ppu_obj.specs.Attributes.{attributes_of, box_height, box_width, is_row_shown as is_row_of_box};
 ghost use Rattle.gba_ppu_obj.specs.Order.{over as dot_over};
 ghost use Rattle.gba_ppu_obj.specs.Places.{box_row as row_of, mirrored as mirrored_place, turned_place as place_turned};
-ghost use Rattle.gba_ppu_obj.specs.Tiles.{SpriteFits};
-ghost use Rattle.gba_ppu_obj.specs.Sprites.{attributes_dot, box_dot as dot_of_box, straight_dot as dot_straight, turned_dot as dot_turned};
+ghost use Rattle.gba_ppu_obj.specs.Tiles.{SpriteFits, numbered_dot, sprite_of};
+ghost use Rattle.gba_ppu_obj.specs.Sprites.{attributes_dot, box_number as number_of_box, straight_number as number_straight, turned_number as number_turned};
 
 use crate::attributes::Attributes;
 use crate::matrix::Matrix;
-use crate::order::put_over;
+use crate::order::put_number;
 use crate::span::{Span, span_of};
 use crate::sprite::{Mapping, Sprite};
-use crate::tiles::picture_dot;
+use crate::tiles::picture_number;
 use gba_ppu_dot::Dot;
 
 fn mirrored(mirror: bool, side: u32, place: u32) -> u32
@@ -24,17 +24,17 @@ fn mirrored(mirror: bool, side: u32, place: u32) -> u32
     if mirror { side - 1 - place } else { place }
 }
 
-#[tactic(auto, unfolding(crate::specs::Sprites::straight_dot))]
-fn straight_dot(vram: &[u8], s: &Sprite, a: Attributes, q: u32, p: u32) -> Dot
+#[tactic(auto, unfolding(crate::specs::Sprites::straight_number))]
+fn straight_number(vram: &[u8], s: &Sprite, a: Attributes, q: u32, p: u32) -> u8
     requires sprite { SpriteFits s.now }
     requires vram { length vram.now ≡ 98304 }
     requires q { q < s.now.height }
     requires p { p < s.now.width }
-    ensures { result ≡ dot_straight vram.now s.now a q p }
+    ensures { result ≡ number_straight vram.now s.now a q p }
 {
     let across = mirrored(a.is_mirrored(), s.width, p);
     let down = mirrored(a.is_upside_down(), s.height, q);
-    picture_dot(vram, s, across, down)
+    picture_number(vram, s, across, down)
 }
 
 #[tactic(auto, unfolding(crate::specs::Places::turned_place))]
@@ -55,8 +55,8 @@ fn turned_place(
     (from_left.wrapping_add(from_top) / 0x100 + side / 2) % 0x100_0000
 }
 
-#[tactic(auto, unfolding(crate::specs::Sprites::turned_dot))]
-fn turned_dot(
+#[tactic(auto, unfolding(crate::specs::Sprites::turned_number))]
+fn turned_number(
     vram: &[u8],
     s: &Sprite,
     t: &Matrix,
@@ -64,17 +64,17 @@ fn turned_dot(
     box_high: u32,
     q: u32,
     p: u32,
-) -> Dot
+) -> u8
     requires sprite { SpriteFits s.now }
     requires vram { length vram.now ≡ 98304 }
-    ensures { result ≡ dot_turned vram.now s.now t.now box_wide box_high q p }
+    ensures { result ≡ number_turned vram.now s.now t.now box_wide box_high q p }
 {
     let across = turned_place(t.pa, t.pb, box_wide, box_high, s.width, p, q);
     let down = turned_place(t.pc, t.pd, box_wide, box_high, s.height, p, q);
     if across < s.width && down < s.height {
-        picture_dot(vram, s, across, down)
+        picture_number(vram, s, across, down)
     } else {
-        Dot::CLEAR
+        0
     }
 }
 
@@ -87,12 +87,12 @@ fn draw_straight(vram: &[u8], s: &Sprite, a: Attributes, q: u32, span: Span, dot
     requires within { span.first + (span.end - span.start) ≤ s.now.width }
     requires dots { span.end ≤ length dots.old }
     ensures before { (x : ℕ) (d : Dot) → x < span.start → slice_index_or dots.new x d ≡ slice_index_or dots.old x d }
-    ensures drawn { (x : ℕ) (d : Dot) → span.start ≤ x → x < span.end → slice_index_or dots.new x d ≡ dot_over (slice_index_or dots.old x d) (dot_straight vram.now s.now a q (span.first + (x - span.start))) }
+    ensures drawn { (x : ℕ) (d : Dot) → span.start ≤ x → x < span.end → slice_index_or dots.new x d ≡ dot_over (slice_index_or dots.old x d) (numbered_dot s.now (number_straight vram.now s.now a q (span.first + (x - span.start)))) }
     ensures after { (x : ℕ) (d : Dot) → span.end ≤ x → slice_index_or dots.new x d ≡ slice_index_or dots.old x d }
 {
     for x in span.start..span.end {
         let p = span.first + (x - span.start) as u32;
-        put_over(dots, x, straight_dot(vram, s, a, q, p));
+        put_number(dots, x, s, straight_number(vram, s, a, q, p));
     }
 }
 
@@ -112,19 +112,24 @@ fn draw_turned(
     requires within { span.first + (span.end - span.start) ≤ 128 }
     requires dots { span.end ≤ length dots.old }
     ensures before { (x : ℕ) (d : Dot) → x < span.start → slice_index_or dots.new x d ≡ slice_index_or dots.old x d }
-    ensures drawn { (x : ℕ) (d : Dot) → span.start ≤ x → x < span.end → slice_index_or dots.new x d ≡ dot_over (slice_index_or dots.old x d) (dot_turned vram.now s.now t.now (box_width a) (box_height a) q (span.first + (x - span.start))) }
+    ensures drawn { (x : ℕ) (d : Dot) → span.start ≤ x → x < span.end → slice_index_or dots.new x d ≡ dot_over (slice_index_or dots.old x d) (numbered_dot s.now (number_turned vram.now s.now t.now (box_width a) (box_height a) q (span.first + (x - span.start)))) }
     ensures after { (x : ℕ) (d : Dot) → span.end ≤ x → slice_index_or dots.new x d ≡ slice_index_or dots.old x d }
 {
     let box_wide = a.box_width();
     let box_high = a.box_height();
     for x in span.start..span.end {
         let p = span.first + (x - span.start) as u32;
-        put_over(dots, x, turned_dot(vram, s, t, box_wide, box_high, q, p));
+        put_number(
+            dots,
+            x,
+            s,
+            turned_number(vram, s, t, box_wide, box_high, q, p),
+        );
     }
 }
 
 /// Draws the row `q` of the box of a sprite.
-#[tactic(auto, unfolding(crate::specs::Sprites::box_dot))]
+#[tactic(auto, unfolding(crate::specs::Sprites::box_number))]
 fn draw_box(
     m: Mapping,
     vram: &[u8],
@@ -141,7 +146,7 @@ fn draw_box(
     requires within { span.first + (span.end - span.start) ≤ box_width a }
     requires dots { span.end ≤ length dots.old }
     ensures before { (x : ℕ) (d : Dot) → x < span.start → slice_index_or dots.new x d ≡ slice_index_or dots.old x d }
-    ensures drawn { (x : ℕ) (d : Dot) → span.start ≤ x → x < span.end → slice_index_or dots.new x d ≡ dot_over (slice_index_or dots.old x d) (dot_of_box m vram.now oam.now a q (span.first + (x - span.start))) }
+    ensures drawn { (x : ℕ) (d : Dot) → span.start ≤ x → x < span.end → slice_index_or dots.new x d ≡ dot_over (slice_index_or dots.old x d) (numbered_dot (sprite_of m a) (number_of_box m vram.now oam.now a q (span.first + (x - span.start)))) }
     ensures after { (x : ℕ) (d : Dot) → span.end ≤ x → slice_index_or dots.new x d ≡ slice_index_or dots.old x d }
 {
     let s = Sprite::of(m, a);

@@ -3,6 +3,7 @@
 ghost use Rattle.std.specs.Prelude.{◌≡◌, ◌<◌, ◌≤◌};
 
 use crate::attributes::{Attributes, SpriteMode};
+use gba_ppu_dot::DotKind;
 use gba_ppu_reg::PictureRegisters;
 use gba_word::bit;
 
@@ -44,11 +45,13 @@ pub struct Sprite {
     /// The first entry of its palette.
     pub palette_start: u16,
     pub priority: u8,
-    pub mode: SpriteMode,
+    pub kind: DotKind,
+    /// Whether its dots are the sprite window, and aren't seen.
+    pub in_window: bool,
 }
 
 impl Sprite {
-    ghost use Rattle.gba_ppu_obj.specs.Tiles.{first_in_rows as first_even, SpriteFits, palette_start as palette_from, sprite_of, tile_units as units_of};
+    ghost use Rattle.gba_ppu_obj.specs.Tiles.{first_in_rows as first_even, kind_of as kind_by, SpriteFits, palette_start as palette_from, sprite_of, tile_units as units_of};
 
     fn tile_units(a: Attributes) -> u32
         ensures value { result ≡ units_of a }
@@ -80,6 +83,15 @@ impl Sprite {
         }
     }
 
+    fn kind_of(mode: SpriteMode) -> DotKind
+        ensures { result ≡ kind_by mode }
+    {
+        match mode {
+            SpriteMode::SemiTransparent => DotKind::Semi,
+            _ => DotKind::Plain,
+        }
+    }
+
     /// That of attributes.
     pub fn of(m: Mapping, a: Attributes) -> Sprite
         ensures value { result ≡ sprite_of m a }
@@ -104,7 +116,8 @@ impl Sprite {
             with_bitmap: m.with_bitmap,
             palette_start: Sprite::palette_start(a),
             priority: a.priority(),
-            mode: a.mode(),
+            kind: Sprite::kind_of(a.mode()),
+            in_window: matches!(a.mode(), SpriteMode::Window),
         }
     }
 }

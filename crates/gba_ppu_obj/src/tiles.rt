@@ -1,11 +1,9 @@
 //! The tiles of sprites.
 
 ghost use Rattle.std.specs.Prelude.{◌≡◌, ◌<◌, length};
-ghost use Rattle.gba_ppu_obj.specs.Tiles.{SpriteFits, byte_number, dot_number as number_of, nibble_number, numbered_dot as dot_of, picture_dot as dot_at, shown_dot as dot_shown, tile_number as number_of_tile};
+ghost use Rattle.gba_ppu_obj.specs.Tiles.{SpriteFits, byte_number, dot_number as number_of, nibble_number, picture_number as number_at, tile_number as number_of_tile};
 
-use crate::attributes::SpriteMode;
 use crate::sprite::Sprite;
-use gba_ppu_dot::{Dot, DotKind};
 use gba_word::bits;
 
 #[tactic(auto, unfolding(crate::specs::Tiles::tile_number))]
@@ -56,52 +54,18 @@ fn dot_number(vram: &[u8], s: &Sprite, tile: u32, column: u32, row: u32) -> u8
     }
 }
 
-fn shown_dot(s: &Sprite, kind: DotKind, number: u8) -> Dot
-    requires { SpriteFits s.now }
-    ensures { result ≡ dot_shown s.now kind number }
-{
-    Dot {
-        opaque: true,
-        entry: s.palette_start + u16::from(number),
-        direct: false,
-        priority: s.priority,
-        kind,
-        window: false,
-    }
-}
-
-/// A dot by its number.
-#[tactic(auto, unfolding(crate::specs::Tiles::numbered_dot))]
-fn numbered_dot(s: &Sprite, number: u8) -> Dot
-    requires { SpriteFits s.now }
-    ensures { result ≡ dot_of s.now number }
-{
-    if number == 0 {
-        return Dot::CLEAR;
-    }
-    match s.mode {
-        SpriteMode::Normal => shown_dot(s, DotKind::Plain, number),
-        SpriteMode::SemiTransparent => shown_dot(s, DotKind::Semi, number),
-        SpriteMode::Window => Dot {
-            window: true,
-            ..Dot::CLEAR
-        },
-        SpriteMode::Prohibited => Dot::CLEAR,
-    }
-}
-
-/// The dot at a place of the picture.
-#[tactic(auto, unfolding(crate::specs::Tiles::picture_dot))]
-pub fn picture_dot(vram: &[u8], s: &Sprite, across: u32, down: u32) -> Dot
+/// The number at a place of the picture.
+#[tactic(auto, unfolding(crate::specs::Tiles::picture_number))]
+pub fn picture_number(vram: &[u8], s: &Sprite, across: u32, down: u32) -> u8
     requires sprite { SpriteFits s.now }
     requires vram { length vram.now ≡ 98304 }
     requires across { across < 64 }
     requires down { down < 64 }
-    ensures { result ≡ dot_at vram.now s.now across down }
+    ensures { result ≡ number_at vram.now s.now across down }
 {
     let tile = tile_number(s, across, down);
     if s.with_bitmap && tile < 512 {
-        return Dot::CLEAR;
+        return 0;
     }
-    numbered_dot(s, dot_number(vram, s, tile, across % 8, down % 8))
+    dot_number(vram, s, tile, across % 8, down % 8)
 }
