@@ -4,7 +4,9 @@
 mod bytes;
 mod control;
 mod dot;
+mod line;
 
 pub use bytes::half_at;
 pub use control::BackgroundControl;
 pub use dot::{Dot, DotKind};
+pub use line::clear_line;

@@ -1,0 +1,259 @@
+//! Windows.
+
+use crate::scene::{BACK, BLUE, Case, GREEN, RED, SPRITE, WHITE, YELLOW, try_case};
+use std::test::Fail;
+
+/// The line, registers, and colours at places.
+type Line = (u32, &'static [(u32, u16)], &'static [(usize, u16)]);
+
+/// Background 0 shows in the window alone. Sides that are turned round, that reach past the edge, that are empty, and that
+/// begin past the edge, across in each window and down.
+const SIDES: [Line; 16] = [
+    (
+        0,
+        &[(0x000, 0x2100), (0x040, 0xC832), (0x044, 0x00A0)],
+        &[(0, BACK), (49, BACK), (199, BACK), (200, RED), (239, RED)],
+    ),
+    (
+        0,
+        &[(0x000, 0x2100), (0x040, 0x10F1), (0x044, 0x00A0)],
+        &[(15, BACK), (16, RED), (239, RED)],
+    ),
+    (
+        0,
+        &[(0x000, 0x2100), (0x040, 0x10FF), (0x044, 0x00A0)],
+        &[(15, BACK), (16, RED), (239, RED)],
+    ),
+    (
+        0,
+        &[(0x000, 0x2100), (0x040, 0x5050), (0x044, 0x00A0)],
+        &[(79, BACK), (80, BACK), (81, BACK)],
+    ),
+    (
+        0,
+        &[(0x000, 0x2100), (0x040, 0xF1F2), (0x044, 0x00A0)],
+        &[(0, BACK), (239, BACK)],
+    ),
+    (
+        0,
+        &[(0x000, 0x2100), (0x040, 0x1014), (0x044, 0x00A0)],
+        &[(15, BACK), (16, RED), (19, RED), (20, BACK)],
+    ),
+    (
+        99,
+        &[(0x000, 0x2100), (0x040, 0x00F0), (0x044, 0x6432)],
+        &[(0, BACK)],
+    ),
+    (
+        100,
+        &[(0x000, 0x2100), (0x040, 0x00F0), (0x044, 0x6432)],
+        &[(0, RED)],
+    ),
+    (
+        159,
+        &[(0x000, 0x2100), (0x040, 0x00F0), (0x044, 0x6432)],
+        &[(0, RED)],
+    ),
+    (
+        49,
+        &[(0x000, 0x2100), (0x040, 0x00F0), (0x044, 0x6432)],
+        &[(0, BACK)],
+    ),
+    (
+        159,
+        &[(0x000, 0x2100), (0x040, 0x00F0), (0x044, 0x0AA1)],
+        &[(0, RED)],
+    ),
+    (
+        9,
+        &[(0x000, 0x2100), (0x040, 0x00F0), (0x044, 0x0AA1)],
+        &[(0, BACK)],
+    ),
+    (
+        19,
+        &[(0x000, 0x2100), (0x040, 0x00F0), (0x044, 0x0A14)],
+        &[(0, RED), (239, RED)],
+    ),
+    (
+        20,
+        &[(0x000, 0x2100), (0x040, 0x00F0), (0x044, 0x0A14)],
+        &[(0, BACK)],
+    ),
+    (
+        0,
+        &[(0x000, 0x4100), (0x042, 0xC832), (0x046, 0x00A0)],
+        &[(199, BACK), (200, RED), (239, RED)],
+    ),
+    (
+        20,
+        &[(0x000, 0x4100), (0x042, 0x00F0), (0x046, 0x0A14)],
+        &[(0, BACK)],
+    ),
+];
+
+#[test]
+fn windows_hold_what_is_between_their_sides(rt: HostRuntime) -> Result<(), Fail> {
+    for (line, registers, colours) in &SIDES {
+        let mut all = Vec::new(rt.alloc());
+        all.push((0x048, 0x0101))?;
+        all.extend_from_slice(registers)?;
+        let case = Case {
+            line: *line,
+            registers: &all,
+            objects: &[],
+            entries: &[],
+            colours: *colours,
+        };
+        try_case(&rt, rt.alloc(), &case)?;
+    }
+    Ok(())
+}
+
+/// A sprite of the window is at 20. Window 0 comes before window 1, that before the sprite window, and that before what is
+/// outside; each layer has its bit; the sprite window needs sprites to be on; without windows everything shows.
+const CHOICES: [Line; 12] = [
+    (
+        10,
+        &[
+            (0x000, 0x6100),
+            (0x040, 0x0A14),
+            (0x042, 0x0A1E),
+            (0x044, 0x00A0),
+            (0x046, 0x00A0),
+            (0x048, 0x0100),
+        ],
+        &[
+            (9, BACK),
+            (10, BACK),
+            (19, BACK),
+            (20, RED),
+            (29, RED),
+            (30, BACK),
+        ],
+    ),
+    (
+        10,
+        &[(0x000, 0x9100), (0x04A, 0x0100)],
+        &[(19, BACK), (20, RED), (27, RED), (28, BACK)],
+    ),
+    (
+        10,
+        &[(0x000, 0x9100), (0x04A, 0x0001)],
+        &[(19, RED), (20, BACK), (28, RED)],
+    ),
+    (10, &[(0x000, 0x8100), (0x04A, 0x0100)], &[(20, BACK)]),
+    (
+        10,
+        &[
+            (0x000, 0xD100),
+            (0x042, 0x1418),
+            (0x046, 0x00A0),
+            (0x048, 0x0000),
+            (0x04A, 0x0100),
+        ],
+        &[(20, BACK), (23, BACK), (24, RED), (28, BACK)],
+    ),
+    (
+        10,
+        &[
+            (0x000, 0xB100),
+            (0x040, 0x1418),
+            (0x044, 0x00A0),
+            (0x048, 0x0000),
+            (0x04A, 0x0100),
+        ],
+        &[(20, BACK), (24, RED)],
+    ),
+    (
+        10,
+        &[(0x000, 0x1100), (0x04A, 0x0000)],
+        &[(20, RED), (100, RED)],
+    ),
+    (
+        10,
+        &[
+            (0x000, 0x2F00),
+            (0x040, 0x00F0),
+            (0x044, 0x00A0),
+            (0x048, 0x0002),
+        ],
+        &[(0, GREEN)],
+    ),
+    (
+        10,
+        &[
+            (0x000, 0x2F00),
+            (0x040, 0x00F0),
+            (0x044, 0x00A0),
+            (0x048, 0x0004),
+        ],
+        &[(0, BLUE)],
+    ),
+    (
+        10,
+        &[
+            (0x000, 0x2F00),
+            (0x040, 0x00F0),
+            (0x044, 0x00A0),
+            (0x048, 0x0008),
+        ],
+        &[(0, WHITE)],
+    ),
+    (
+        10,
+        &[
+            (0x000, 0x2F00),
+            (0x040, 0x00F0),
+            (0x044, 0x00A0),
+            (0x048, 0x0010),
+        ],
+        &[(0, BACK)],
+    ),
+    (
+        10,
+        &[
+            (0x000, 0x3100),
+            (0x040, 0x0018),
+            (0x044, 0x00A0),
+            (0x048, 0x0001),
+            (0x04A, 0x0011),
+        ],
+        &[(23, RED), (24, RED), (40, RED), (50, YELLOW)],
+    ),
+];
+
+#[test]
+fn the_first_window_decides(rt: HostRuntime) -> Result<(), Fail> {
+    for (line, registers, colours) in &CHOICES {
+        let case = Case {
+            line: *line,
+            registers: *registers,
+            objects: &[(3, 0x080A, 0x0014, 0x0000), (4, 0x000A, 0x0032, 0x0000)],
+            entries: &[],
+            colours: *colours,
+        };
+        try_case(&rt, rt.alloc(), &case)?;
+    }
+    Ok(())
+}
+
+/// A sprite that a window doesn't let show, and one that it does.
+#[test]
+fn sprites_show_where_their_bit_is_set(rt: HostRuntime) -> Result<(), Fail> {
+    let registers = [
+        (0x000, 0x3100),
+        (0x040, 0x0018),
+        (0x044, 0x00A0),
+        (0x048, 0x0001),
+        (0x04A, 0x0011),
+    ];
+    let case = Case {
+        line: 10,
+        registers: &registers,
+        objects: &[SPRITE],
+        entries: &[],
+        colours: &[(20, RED), (23, RED), (24, YELLOW), (27, YELLOW), (28, RED)],
+    };
+    try_case(&rt, rt.alloc(), &case)?;
+    Ok(())
+}

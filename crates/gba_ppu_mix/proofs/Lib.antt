@@ -1,0 +1,3 @@
+pub mod Foremost
+pub mod Pixels
+pub mod Runs

@@ -1,0 +1,6 @@
+pub mod Blending
+pub mod Foremost
+pub mod Layers
+pub mod Mixing
+pub mod Stacks
+pub mod Windows

@@ -1,0 +1,161 @@
+//! Blending.
+
+ghost use Rattle.std.specs.Prelude.{◌≡◌, ◌≤◌, ◌<◌, length};
+ghost use Rattle.gba_ppu_mix.specs.Blending.{alone as alone_by, blending_of, changed_alone as changed_alone_by, coefficient as coefficient_of, effect_of as effect_by, is_alpha, is_blended as is_blended_by, is_changed as is_changed_by, is_semi as is_semi_kind, is_target as is_target_of, stack_colour as colour_of_stack};
+ghost use Rattle.gba_ppu_mix.specs.Stacks.{dots_at};
+
+use crate::colours::{both, brighter, colour_of, darker};
+use crate::lines::{Lines, dot_of};
+use crate::stacks::{Layer, Stack, layer_bit};
+use gba_ppu_dot::{Dot, DotKind};
+use gba_ppu_reg::PictureRegisters;
+use gba_word::{bit, bits};
+
+/// What is done to a first target (GBATEK, LCD I/O Color Special Effects).
+#[derive(Clone, Copy, Debug, PartialEq, Eq)]
+pub enum Effect {
+    Unchanged,
+    Alpha,
+    Brighter,
+    Darker,
+}
+
+/// BLDCNT, BLDALPHA and BLDY. The coefficients are from 0 to 16.
+#[derive(Clone, Copy, Debug, PartialEq, Eq)]
+pub struct Blending {
+    /// Backgrounds 0 to 3, sprites and the backdrop, from the lowest of six bits up.
+    pub first_targets: u32,
+    pub second_targets: u32,
+    pub effect: Effect,
+    pub eva: u32,
+    pub evb: u32,
+    pub evy: u32,
+}
+
+fn effect_of(number: u32) -> Effect
+    ensures { result ≡ effect_by number }
+{
+    match number {
+        0 => Effect::Unchanged,
+        1 => Effect::Alpha,
+        2 => Effect::Brighter,
+        _ => Effect::Darker,
+    }
+}
+
+fn coefficient(half: u16, low: u32) -> u32
+    requires { low ≤ 11 }
+    ensures { result ≡ coefficient_of half low }
+{
+    bits(u32::from(half), low, 5).min(16)
+}
+
+#[tactic(auto, unfolding(crate::specs::Blending::alone))]
+fn alone(effect: Effect, evy: u32, colour: u16) -> u16
+    requires { evy ≤ 16 }
+    ensures { result ≡ alone_by effect evy colour }
+{
+    match effect {
+        Effect::Unchanged | Effect::Alpha => colour,
+        Effect::Brighter => brighter(evy, colour),
+        Effect::Darker => darker(evy, colour),
+    }
+}
+
+fn is_target(targets: u32, layer: Layer) -> bool
+    ensures { result ≡ is_target_of targets layer }
+{
+    bit(targets, layer_bit(layer))
+}
+
+impl Effect {
+    fn is_alpha(self) -> bool
+        ensures { result ≡ is_alpha self }
+    {
+        matches!(self, Effect::Alpha)
+    }
+}
+
+fn is_semi(kind: DotKind) -> bool
+    ensures { result ≡ is_semi_kind kind }
+{
+    matches!(kind, DotKind::Semi)
+}
+
+impl Blending {
+    /// That of the registers.
+    pub fn of(r: &PictureRegisters) -> Blending
+        ensures value { result ≡ blending_of r.now }
+        ensures eva { result.eva ≤ 16 }
+        ensures evb { result.evb ≤ 16 }
+        ensures evy { result.evy ≤ 16 }
+    {
+        let control = u32::from(r.kept(0x050));
+        let alpha = r.kept(0x052);
+        Blending {
+            first_targets: bits(control, 0, 6),
+            second_targets: bits(control, 8, 6),
+            effect: effect_of(bits(control, 6, 2)),
+            eva: coefficient(alpha, 0),
+            evb: coefficient(alpha, 8),
+            evy: coefficient(r.kept(0x054), 0),
+        }
+    }
+
+    fn is_changed(&self, effects: bool, layer: Layer) -> bool
+        ensures { result ≡ is_changed_by self.now effects layer }
+    {
+        effects && is_target(self.first_targets, layer)
+    }
+
+    fn is_blended(&self, effects: bool, layer: Layer, dot: Dot) -> bool
+        ensures { result ≡ is_blended_by self.now effects layer dot }
+    {
+        is_semi(dot.kind) || (self.is_changed(effects, layer) && self.effect.is_alpha())
+    }
+
+    fn changed_alone(&self, palette: &[u8], effects: bool, layer: Layer, dot: Dot) -> u16
+        requires palette { length palette.now ≡ 1024 }
+        requires evy { self.now.evy ≤ 16 }
+        ensures { result ≡ changed_alone_by palette.now self.now effects layer dot }
+    {
+        let colour = colour_of(palette, dot);
+        if self.is_changed(effects, layer) {
+            alone(self.effect, self.evy, colour)
+        } else {
+            colour
+        }
+    }
+
+    /// The colour of the foremost layer at a place over the layer behind it.
+    #[tactic(auto, unfolding(crate::specs::Blending::stack_colour))]
+    pub fn stack_colour(
+        &self,
+        palette: &[u8],
+        effects: bool,
+        lines: &Lines,
+        x: usize,
+        stack: Stack,
+    ) -> u16
+        requires palette { length palette.now ≡ 1024 }
+        requires eva { self.now.eva ≤ 16 }
+        requires evb { self.now.evb ≤ 16 }
+        requires evy { self.now.evy ≤ 16 }
+        requires place { x < 240 }
+        ensures { result ≡ colour_of_stack palette.now self.now effects (dots_at lines.now x) stack }
+    {
+        let top = dot_of(lines, x, stack.top.layer);
+        let is_second_target = is_target(self.second_targets, stack.second.layer);
+        if is_second_target && self.is_blended(effects, stack.top.layer, top) {
+            let below = dot_of(lines, x, stack.second.layer);
+            both(
+                self.eva,
+                self.evb,
+                colour_of(palette, top),
+                colour_of(palette, below),
+            )
+        } else {
+            self.changed_alone(palette, effects, stack.top.layer, top)
+        }
+    }
+}

@@ -1,0 +1,8 @@
+//! Laws over the definitions. Each is the contract of a function that takes no value.
+
+ghost use Rattle.gba_ppu_mix.specs.Foremost.{HasForemostOfLayers};
+
+/// A stack has the two foremost of the layers that show, the backdrop and nothing behind it.
+pub fn the_two_foremost_are_kept()
+    ensures { HasForemostOfLayers }
+{}

@@ -1,0 +1,13 @@
+#![tactic(auto)]
+//! The colours of a line: the layers behind one another, windows and blending.
+
+mod blending;
+mod colours;
+pub mod laws;
+mod layers;
+mod line;
+mod lines;
+mod stacks;
+mod windows;
+
+pub use line::mix_line;

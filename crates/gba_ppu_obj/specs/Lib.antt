@@ -1,0 +1,6 @@
+pub mod Attributes
+pub mod Order
+pub mod Places
+pub mod Seen
+pub mod Sprites
+pub mod Tiles
