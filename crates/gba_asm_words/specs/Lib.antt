@@ -1,0 +1,5 @@
+pub mod Kinds
+pub mod Tokens
+pub mod Numbers
+pub mod Names
+pub mod Readers
