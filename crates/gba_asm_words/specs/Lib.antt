@@ -3,3 +3,4 @@ pub mod Tokens
 pub mod Numbers
 pub mod Names
 pub mod Readers
+pub mod Lists

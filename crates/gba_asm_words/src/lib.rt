@@ -3,12 +3,14 @@
 //! Contracts see [`Tokens`] as a list of tokens. A reader takes its tokens from the front, or refuses the line.
 
 mod kinds;
+mod lists;
 mod numbers;
 mod readers;
 mod registers;
 mod tokens;
 
 pub use kinds::{AsmError, AsmKind};
+pub use lists::list_at;
 pub use numbers::number_in;
 pub use readers::Target;
 pub use registers::{is_label, register_in};
