@@ -8,7 +8,7 @@ use crate::tails::{Suffix, split_condition, suffix_in, whole_condition};
 use gba_arm_table::{CompareOp, ComputeOp, Condition, HalfKind};
 
 /// The first letters of a name, before its condition.
-#[derive(Clone, Copy, Debug, PartialEq, Eq)]
+#[derive(Clone, Copy)]
 pub(crate) enum Base {
     Compute(ComputeOp),
     Compare(CompareOp),
@@ -24,7 +24,7 @@ pub(crate) enum Base {
 }
 
 /// A name without its condition.
-#[derive(Clone, Copy, Debug, PartialEq, Eq)]
+#[derive(Clone, Copy)]
 pub(crate) enum Mnemonic {
     Compute { op: ComputeOp, set: bool },
     Compare { op: CompareOp },
@@ -43,7 +43,7 @@ pub(crate) enum Mnemonic {
 }
 
 /// The name of a statement.
-#[derive(Clone, Copy, Debug, PartialEq, Eq)]
+#[derive(Clone, Copy)]
 pub(crate) struct ArmName {
     pub(crate) cond: Condition,
     pub(crate) mnemonic: Mnemonic,

@@ -6,7 +6,7 @@ ghost use Rattle.gba_asm_arm.specs.Tails.{condition_first, condition_of, conditi
 use gba_arm_table::Condition;
 
 /// What follows the condition of a name.
-#[derive(Clone, Copy, Debug, PartialEq, Eq)]
+#[derive(Clone, Copy)]
 pub(crate) enum Suffix {
     /// Nothing.
     Plain,
@@ -28,7 +28,7 @@ pub(crate) enum Suffix {
 
 /// The condition that two letters name (ARM Architecture Reference Manual, A3.2).
 #[tactic(auto, unfolding(crate::specs::Tails::condition_of))]
-pub(crate) fn condition_in(name: &[u8]) -> Option<Condition>
+pub fn condition_in(name: &[u8]) -> Option<Condition>
     ensures { result ≡ condition_of name.now }
 {
     if name == b"eq".as_slice() {
