@@ -1,5 +1,5 @@
 -- The first token of some bytes.
-use Rattle.std.proofs.Common.{◌≡◌, ℕ, ◌<◌, Bool, true, false, cond, not, ◌&&◌, List, [], ◌∷◌, ◌++◌, length, take, drop, refl, ap, sym, ◌∙◌, arith}
+use Rattle.std.proofs.Common.{◌≡◌, ℕ, ◌+◌, ◌≤◌, ◌<◌, Bool, true, false, cond, not, ◌&&◌, List, [], ◌∷◌, ◌++◌, length, take, drop, refl, ap, sym, ◌∙◌, arith}
 use Rattle.std.specs.List.{list_all, prefix_len}
 use Rattle.std.proofs.lemmas.Bool.Decides.{nat_tests}
 use Rattle.gba_text.specs.Words.{is_blank}
@@ -92,3 +92,22 @@ pub split_word : (bs text : List ℕ) (first : ℕ) (others : List ℕ) → text
     → let n = prefix_len is_word_byte text in tokens bs ≡ Word (take n text) ∷ tokens (drop n text)
 split_word bs text first others cut pieces some =
     tokens-blanks bs text cut ∙ rw pieces (token_word first others some)
+
+onto_word-few : (b : ℕ) (ts : List Token) → length (onto_word b ts) ≤ length ts + 1
+onto_word-few b [] = omega arith
+onto_word-few b (Word w ∷ ts) = omega arith
+onto_word-few b (Mark m ∷ ts) = omega arith
+
+few_by : (b n : ℕ) (ts : List Token) → length ts ≤ n → (s t u : Bool)
+    → length (cond s ts (cond t (Mark b ∷ ts) (cond u (onto_word b ts) (Word (b ∷ []) ∷ ts)))) ≤ n + 1
+few_by b n ts h true t u = omega arith
+few_by b n ts h false true u = omega arith
+few_by b n ts h false false true = omega (arith, onto_word-few b ts)
+few_by b n ts h false false false = omega arith
+
+-- there are no more tokens than bytes
+pub tokens-few : (bs : List ℕ) → length (tokens bs) ≤ length bs
+unfolding tokens
+tokens-few [] = omega arith
+tokens-few (b ∷ bs) =
+    omega (arith, few_by b (length bs) (tokens bs) (tokens-few bs) (is_blank b) (not (is_word_byte b)) (goes_on bs))

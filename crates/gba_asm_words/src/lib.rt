@@ -12,6 +12,6 @@ mod tokens;
 pub use kinds::{AsmError, AsmKind};
 pub use lists::list_at;
 pub use numbers::number_in;
-pub use readers::Target;
+pub use readers::{Target, target_in};
 pub use registers::{is_label, register_in};
 pub use tokens::{Token, Tokens, code_of, fault_in};

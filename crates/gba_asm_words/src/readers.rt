@@ -19,7 +19,7 @@ pub enum Target<'a> {
 
 /// What a word leads to: it spells a number or a label.
 #[tactic(auto, unfolding(crate::specs::Readers::target_of))]
-fn target_in(word: &[u8]) -> Option<Target<'_>>
+pub fn target_in(word: &[u8]) -> Option<Target<'_>>
     ensures { option_map target_value result ≡ target_of word.now }
 {
     match number_in(word) {

@@ -22,6 +22,7 @@ pub enum Token<'a> {
 }
 
 /// The tokens of a line that aren't read yet.
+#[derive(Drop)]
 pub struct Tokens<'a> {
     left: &'a [u8],
 }
