@@ -1,2 +1,3 @@
 pub mod CountedItems
 pub mod Passes
+pub mod Relation

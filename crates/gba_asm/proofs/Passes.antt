@@ -1,5 +1,5 @@
 -- The two passes over the lines of a source.
-use Rattle.std.proofs.Common.{◌≡◌, ◌≤◌, ℕ, ◌+◌, Bool, true, false, cond, ◌&&◌, nat_lt, List, [], ◌∷◌, ◌++◌, length, Option, Some, None, Result, Ok, Err, refl, sym, ap, ◌∙◌, length-take, append_assoc, subst, arith}
+use Rattle.std.proofs.Common.{◌≡◌, ◌≤◌, ℕ, ◌+◌, Bool, true, false, cond, ◌&&◌, nat_lt, List, [], ◌∷◌, ◌++◌, length, Some, None, Result, Ok, Err, refl, sym, ap, ◌∙◌, length-take, append_assoc, subst, arith}
 use Rattle.std.proofs.lemmas.List.{append-nil}
 use Rattle.std.specs.List.{list_all, prefix_len}
 use Rattle.std.specs.Map.{update}
@@ -76,7 +76,7 @@ pub found_more : (source : List ℕ) (f g : Labels) (old new : Reading) (p q : P
     → q ≡ place_after p line → AreFound source g new.number q new.lines
 found_more source f g old new p q line h o added moved = λ name.
     let known : g ≡ with_label (old.number + 1) p.address (label_of line) f =
-      same_labels g _ (rw o.number at added) in
+    same_labels g _ (rw o.number at added) in
     let here : labels_from f old.number p (line ∷ new.lines) name ≡ labels_of source name = rw o.lines at (h name) in
     rw (known, moved, o.number) (ap (λ (k : Labels). k name) (sym (labels_from-more f old.number p line new.lines)) ∙ here)
 
@@ -132,13 +132,13 @@ few_tokens line rest sound same =
     let cut = length-take (prefix_len no_semicolon line) line in
     omega (arith, ap length same, split_few (tokens (code_of line)), tokens-few (code_of line), short, cut)
 
-lines_give-more : (f : Labels) (n : ℕ) (p : Place) (line : List ℕ) (ls : List (List ℕ))
+pub lines_give-more : (f : Labels) (n : ℕ) (p : Place) (line : List ℕ) (ls : List (List ℕ))
     → lines_give f n p (line ∷ ls) ≡ then_lines (n + 1) (line_bytes f (n + 1) p line) (lines_give f (n + 1)
     (place_after p line) ls)
 unfolding lines_give
 lines_give-more f n p line ls = refl
 
-lines_give-end : (f : Labels) (n : ℕ) (p : Place) → lines_give f n p [] ≡ Ok []
+pub lines_give-end : (f : Labels) (n : ℕ) (p : Place) → lines_give f n p [] ≡ Ok []
 unfolding lines_give
 lines_give-end f n p = refl
 

@@ -1,5 +1,5 @@
 -- How the program's answers agree with the definitions.
-use Rattle.std.specs.Prelude.{◌≡◌, ℕ, List, Option, Some, None, Result, Ok, Err}
+use Rattle.std.specs.Prelude.{◌≡◌, ℕ, List, Result, Ok, Err}
 use Rattle.std.specs.BTreeMap.{BTreeMap, get_by}
 use Rattle.std.specs.Cmp.Lexicographic.{slice_cmp}
 use Rattle.std.specs.Ordering.{nat_cmp}
@@ -13,6 +13,7 @@ use Rattle.gba_asm.specs.declared.kinds.LineRefused.TheVariants as line
 use Rattle.gba_asm.specs.declared.labels.LabelPlace.{LabelPlace}
 use Rattle.gba_asm.specs.declared.statements.SizedStatement.{SizedStatement}
 use Rattle.gba_asm.specs.Assembly.{onto, error_at}
+use Rattle.gba_asm.specs.Language as language
 use Rattle.gba_asm.specs.Places.{Labels}
 use Rattle.gba_asm.specs.Statements.{Statement, statement_value, size_of}
 
@@ -42,3 +43,9 @@ Assembles view (Err refused.NoMemory) defined = Unit {0}
 abbrev pub refused_at : ℕ → LineRefused → AsmRefused
 refused_at number (line.Kind kind) = refused.Source (error_at number kind)
 refused_at number line.NoMemory = refused.NoMemory
+
+-- the source comes to the bytes, or its refusal is this; want of memory is free
+abbrev pub IsSaid : {X : Type 0} → (X → List ℕ) → List ℕ → Result X AsmRefused → Type 0
+IsSaid view source (Ok x) = language.Says source (Ok (view x))
+IsSaid view source (Err (refused.Source e)) = language.Says source (Err e)
+IsSaid view source (Err refused.NoMemory) = Unit {0}

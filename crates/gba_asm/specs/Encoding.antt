@@ -1,10 +1,8 @@
 -- The bytes of statements.
-use Rattle.std.specs.Prelude.{ℕ, ◌%◌, ◌^◌, nat_lt, Bool, true, false, ◌==◌, List, [], ◌∷◌, ◌++◌, replicate, Option, Some, None, Result, Ok, Err, if◌then◌else◌}
+use Rattle.std.specs.Prelude.{ℕ, ◌%◌, ◌^◌, nat_lt, Bool, ◌==◌, List, [], ◌∷◌, ◌++◌, replicate, Option, Some, None, Result, Ok, Err, if◌then◌else◌}
 use Rattle.std.specs.Int.{w16, w32, to_le_bytes}
 use Rattle.gba_arm_table.specs.declared.encoding.EncodeError.{EncodeError}
-use Rattle.gba_arm_table.specs.declared.operation.ArmOp.{ArmOp}
 use Rattle.gba_arm_table.specs.Encoding.{encoding as arm_encoding}
-use Rattle.gba_thumb_table.specs.declared.operation.ThumbOp.{ThumbOp}
 use Rattle.gba_thumb_table.specs.Encoding.{encoding as thumb_encoding}
 use Rattle.gba_asm_words.specs.declared.kinds.AsmKind.{AsmKind}
 use Rattle.gba_asm_words.specs.declared.kinds.AsmKind.TheVariants as kind

@@ -3,4 +3,5 @@ pub mod Statements
 pub mod Places
 pub mod Encoding
 pub mod Assembly
+pub mod Language
 pub mod Answers

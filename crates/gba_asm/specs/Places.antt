@@ -1,5 +1,5 @@
 -- Where lines stand, and where their labels are.
-use Rattle.std.specs.Prelude.{ℕ, ◌+◌, Bool, true, false, not, nat_le, ◌==◌, List, [], ◌∷◌, Option, Some, None, Result, Ok, Err, if◌then◌else◌}
+use Rattle.std.specs.Prelude.{ℕ, ◌+◌, Bool, false, not, nat_le, ◌==◌, List, [], ◌∷◌, Option, Some, None, Result, Ok, Err, if◌then◌else◌}
 use Rattle.std.specs.Str.{bytes_eq}
 use Rattle.gba_text.specs.Lines.{lines}
 use Rattle.gba_asm_words.specs.declared.kinds.AsmKind.{AsmKind}

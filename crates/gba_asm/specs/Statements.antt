@@ -1,8 +1,8 @@
 -- What a line says: a label, and a statement.
-use Rattle.std.specs.Prelude.{ℕ, ◌+◌, ◌-◌, ◌*◌, ◌%◌, ◌≡◌, Bool, true, false, ◌&&◌, List, [], ◌∷◌, Option, Some, None, is_some, Result, Ok, Err, if◌then◌else◌}
+use Rattle.std.specs.Prelude.{ℕ, ◌-◌, ◌*◌, ◌%◌, Bool, true, false, ◌&&◌, List, [], ◌∷◌, Option, Some, None, Result, Ok, Err, if◌then◌else◌}
 use Rattle.gba_asm_words.specs.declared.kinds.AsmKind.{AsmKind}
 use Rattle.gba_asm_words.specs.declared.kinds.AsmKind.TheVariants as kind
-use Rattle.gba_asm_words.specs.Kinds.{◌>>=◌, holds}
+use Rattle.gba_asm_words.specs.Kinds.{◌>>=◌}
 use Rattle.gba_asm_words.specs.Names.{is_label}
 use Rattle.gba_asm_words.specs.Readers.{begins, other_tokens, end_at, number_at}
 use Rattle.gba_asm_words.specs.Tokens.{Token, Word, Mark, tokens, code_of, fault_of}

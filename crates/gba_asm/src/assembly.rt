@@ -2,7 +2,7 @@
 
 ghost use Rattle.std.specs.Prelude.{◌≡◌, ℕ, List, IfOk};
 ghost use Rattle.gba_text.specs.Lines.{lines};
-ghost use Rattle.gba_asm.specs.Answers.{Adds, Assembles, labels_in, refused_at};
+ghost use Rattle.gba_asm.specs.Answers.{Adds, Assembles, IsSaid, labels_in, refused_at};
 ghost use Rattle.gba_asm.specs.Assembly.{assembly_of, line_bytes, lines_give};
 ghost use Rattle.gba_asm.specs.Places.{labels_of, place_after, start};
 
@@ -73,10 +73,8 @@ fn add_lines<'a>(
     Ok(image)
 }
 
-/// The bytes of a source, or its first refused line, with line 0 where the source has more than 1,073,741,824 bytes. It
-/// takes memory for the labels and for the bytes.
 #[tactic(auto, unfolding(crate::specs::Assembly::assembly_of))]
-pub fn assemble(alloc: Global, source: &[u8]) -> Result<Vec<u8>, AsmRefused>
+fn assemble_lines(alloc: Global, source: &[u8]) -> Result<Vec<u8>, AsmRefused>
     ensures { Assembles (λ image. image.items) result (assembly_of source.now) }
 {
     if source.len() > LONGEST_SOURCE {
@@ -87,4 +85,13 @@ pub fn assemble(alloc: Global, source: &[u8]) -> Result<Vec<u8>, AsmRefused>
     }
     let labels = find_labels(alloc, source)?;
     add_lines(alloc, &labels, source)
+}
+
+/// The bytes of a source, or its first refused line, with line 0 where the source has more than 1,073,741,824 bytes. It
+/// takes memory for the labels and for the bytes.
+pub fn assemble(alloc: Global, source: &[u8]) -> Result<Vec<u8>, AsmRefused>
+    ensures said { IsSaid (λ image. image.items) source.now result }
+    ensures bytes { Assembles (λ image. image.items) result (assembly_of source.now) }
+{
+    assemble_lines(alloc, source)
 }

@@ -6,6 +6,7 @@ mod directives;
 mod encoding;
 mod kinds;
 mod labels;
+pub mod laws;
 mod places;
 mod statements;
 

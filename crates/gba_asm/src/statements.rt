@@ -83,7 +83,10 @@ fn data<'a>(width: Width, tokens: &mut Tokens<'a>) -> Result<SizedStatement<'a>,
         return Err(AsmKind::Operand);
     }
     let count = count_words(&mut Tokens::new(items));
-    Ok(sized(Statement::Data { width, items }, u64::from(bytes_of(width) * count)))
+    Ok(sized(
+        Statement::Data { width, items },
+        u64::from(bytes_of(width) * count),
+    ))
 }
 
 /// What a directive says with its operands.

@@ -1,6 +1,5 @@
 -- The least turn that gives a number.
-use Rattle.std.proofs.Common.{◌≡◌, ◌≤◌, ◌<◌, ℕ, suc, ◌+◌, ◌-◌, Some, None, nat_lt, lt-ltb, le-ltb, refl, arith}
-use Rattle.gba_asm_arm.specs.declared.operands.Turned.{Turned}
+use Rattle.std.proofs.Common.{◌≡◌, ◌≤◌, ◌<◌, ℕ, suc, ◌+◌, ◌-◌, Some, None, lt-ltb, le-ltb, refl, arith}
 use Rattle.gba_asm_arm.specs.Operands.{least_turn, least_turn_from, turned_back}
 
 pub turn_first : (number : ℕ) → least_turn_from 16 0 number ≡ least_turn number

@@ -6,7 +6,6 @@ use Rattle.gba_arm_table.specs.declared.operation.CompareOp.{CompareOp}
 use Rattle.gba_arm_table.specs.declared.operation.CompareOp.TheVariants.{Tst, Teq, Cmp, Cmn}
 use Rattle.gba_arm_table.specs.declared.operation.ComputeOp.{ComputeOp}
 use Rattle.gba_arm_table.specs.declared.operation.ComputeOp.TheVariants.{And, Eor, Sub, Rsb, Add, Adc, Sbc, Rsc, Orr, Mov, Bic, Mvn}
-use Rattle.gba_arm_table.specs.declared.operation.HalfKind.{HalfKind}
 use Rattle.gba_arm_table.specs.declared.operation.HalfKind.TheVariants.{StoreHalf, LoadHalf, LoadSignedByte, LoadSignedHalf}
 use Rattle.gba_asm_words.specs.Names.{first_some}
 use Rattle.gba_asm_arm.specs.declared.names.ArmName.{ArmName}

@@ -1,5 +1,5 @@
 -- The operands of ARM statements but for addresses. Where a number has no encoding, an operand is None.
-use Rattle.std.specs.Prelude.{ℕ, zero, suc, ◌+◌, ◌*◌, ◌%◌, nat_le, nat_lt, Bool, true, false, ◌&&◌, ◌==◌, List, [], ◌∷◌, length, take, drop, codes, Option, Some, None, option_map, Result, Ok, Err, if◌then◌else◌}
+use Rattle.std.specs.Prelude.{ℕ, zero, suc, ◌+◌, ◌*◌, ◌%◌, nat_le, nat_lt, Bool, true, false, ◌&&◌, ◌==◌, List, [], ◌∷◌, length, take, drop, codes, Option, Some, None, option_map, Result, Ok, if◌then◌else◌}
 use Rattle.std.specs.Int.{w32, rotate_left}
 use Rattle.std.specs.Str.{bytes_eq}
 use Rattle.gba_word.specs.declared.kinds.Shift.{Shift}
@@ -9,7 +9,6 @@ use Rattle.gba_arm_table.specs.declared.operation.Operand.TheVariants as operand
 use Rattle.gba_arm_table.specs.declared.operation.Source.{Source}
 use Rattle.gba_arm_table.specs.declared.operation.Source.TheVariants as source
 use Rattle.gba_asm_words.specs.declared.kinds.AsmKind.{AsmKind}
-use Rattle.gba_asm_words.specs.declared.kinds.AsmKind.TheVariants as kind
 use Rattle.gba_asm_words.specs.Kinds.{◌>>=◌}
 use Rattle.gba_asm_words.specs.Readers.{Taken, taken, word_at, begins, other_tokens, mark_at, or_operand, register_at, number_at}
 use Rattle.gba_asm_words.specs.Tokens.{Token}
@@ -78,7 +77,7 @@ unfoldable pub shifted_by : ℕ → Shift → List Token → Result (Taken (Opti
 shifted_by rm kind tokens =
     if begins 35 tokens
     then number_at (other_tokens tokens)
-      >>= (λ n. Ok (taken (option_map (fixed rm kind) (amount_of kind n.value)) n.tokens))
+    >>= (λ n. Ok (taken (option_map (fixed rm kind) (amount_of kind n.value)) n.tokens))
     else register_at tokens >>= (λ rs. Ok (taken (Some (operand.ByRegister rm kind rs.value)) rs.tokens))
 
 unfoldable pub shifted_as : ℕ → ShiftName → List Token → Result (Taken (Option Operand)) AsmKind

@@ -1,5 +1,5 @@
 -- The operation of an ARM statement at its address.
-use Rattle.std.specs.Prelude.{ℕ, ◌+◌, ◌-◌, ◌/◌, ◌%◌, ◌^◌, Bool, true, false, nat_lt, ◌==◌, Option, Some, None, option_map, ℤ, pos, negsuc, if◌then◌else◌}
+use Rattle.std.specs.Prelude.{ℕ, ◌+◌, ◌-◌, ◌/◌, ◌%◌, ◌^◌, Bool, true, false, nat_lt, ◌==◌, Option, Some, None, ℤ, pos, negsuc, if◌then◌else◌}
 use Rattle.gba_arm_table.specs.declared.operation.ArmOp.{ArmOp}
 use Rattle.gba_arm_table.specs.declared.operation.ArmOp.TheVariants as op
 use Rattle.gba_arm_table.specs.declared.operation.Condition.{Condition}

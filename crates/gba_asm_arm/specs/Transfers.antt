@@ -1,6 +1,5 @@
 -- The addresses of loads and stores. Where a number has no encoding, an offset is None.
-use Rattle.std.specs.Prelude.{ℕ, Bool, true, false, not, ◌&&◌, ◌||◌, List, Option, Some, None, option_map, Result, Ok, Err, if◌then◌else◌}
-use Rattle.gba_word.specs.declared.kinds.Shift.{Shift}
+use Rattle.std.specs.Prelude.{ℕ, Bool, true, false, not, ◌||◌, List, Option, Some, option_map, Result, Ok, if◌then◌else◌}
 use Rattle.gba_word.specs.declared.kinds.Shift.TheVariants.{Lsl, Ror}
 use Rattle.gba_arm_table.specs.declared.operation.ArmOp.{ArmOp}
 use Rattle.gba_arm_table.specs.declared.operation.ArmOp.TheVariants as op

@@ -349,10 +349,7 @@ fn take_write_status<'a>(
 
 /// `#N`.
 #[tactic(auto, unfolding(crate::specs::Forms::interrupt_form))]
-fn take_interrupt<'a>(
-    cond: Condition,
-    tokens: &mut Tokens<'a>,
-) -> Result<ArmStatement<'a>, AsmKind>
+fn take_interrupt<'a>(cond: Condition, tokens: &mut Tokens<'a>) -> Result<ArmStatement<'a>, AsmKind>
     ensures { Agrees statement_value result (interrupt_form cond tokens.old) }
 {
     let comment = tokens.immediate()?;
@@ -375,10 +372,7 @@ fn take_branch<'a>(
 
 /// `rm`.
 #[tactic(auto, unfolding(crate::specs::Forms::exchange_form))]
-fn take_exchange<'a>(
-    cond: Condition,
-    tokens: &mut Tokens<'a>,
-) -> Result<ArmStatement<'a>, AsmKind>
+fn take_exchange<'a>(cond: Condition, tokens: &mut Tokens<'a>) -> Result<ArmStatement<'a>, AsmKind>
     ensures { Agrees statement_value result (exchange_form cond tokens.old) }
 {
     let rm = tokens.register()?;
@@ -425,10 +419,7 @@ fn take_form<'a>(
 /// What an ARM statement's name says with the tokens after it. Refused is a name that no statement has (`Unknown`), and
 /// then operands that aren't one of its forms (`Operand`).
 #[tactic(auto, unfolding(crate::specs::Forms::arm_statement))]
-pub fn arm_statement<'a>(
-    word: &[u8],
-    tokens: &mut Tokens<'a>,
-) -> Result<ArmStatement<'a>, AsmKind>
+pub fn arm_statement<'a>(word: &[u8], tokens: &mut Tokens<'a>) -> Result<ArmStatement<'a>, AsmKind>
     ensures { Agrees statement_value result (arm_statement_of word.now tokens.old) }
 {
     match arm_name(word) {

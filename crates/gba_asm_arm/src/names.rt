@@ -26,19 +26,45 @@ pub(crate) enum Base {
 /// A name without its condition.
 #[derive(Clone, Copy)]
 pub(crate) enum Mnemonic {
-    Compute { op: ComputeOp, set: bool },
-    Compare { op: CompareOp },
-    Multiply { accumulate: bool, set: bool },
-    MultiplyLong { signed: bool, accumulate: bool, set: bool },
+    Compute {
+        op: ComputeOp,
+        set: bool,
+    },
+    Compare {
+        op: CompareOp,
+    },
+    Multiply {
+        accumulate: bool,
+        set: bool,
+    },
+    MultiplyLong {
+        signed: bool,
+        accumulate: bool,
+        set: bool,
+    },
     /// LDR and STR of a word or a byte; with `user` the forms with T.
-    Transfer { load: bool, byte: bool, user: bool },
-    Half { kind: HalfKind },
-    Block { load: bool, pre: bool, up: bool },
-    Swap { byte: bool },
+    Transfer {
+        load: bool,
+        byte: bool,
+        user: bool,
+    },
+    Half {
+        kind: HalfKind,
+    },
+    Block {
+        load: bool,
+        pre: bool,
+        up: bool,
+    },
+    Swap {
+        byte: bool,
+    },
     ReadStatus,
     WriteStatus,
     Interrupt,
-    Branch { link: bool },
+    Branch {
+        link: bool,
+    },
     Exchange,
 }
 

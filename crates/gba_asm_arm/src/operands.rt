@@ -145,7 +145,11 @@ fn take_shifted_by(rm: u8, kind: Shift, tokens: &mut Tokens<'_>) -> Result<Optio
 }
 
 #[tactic(auto, unfolding(crate::specs::Operands::shifted_as))]
-fn take_shifted_as(rm: u8, name: ShiftName, tokens: &mut Tokens<'_>) -> Result<Option<Operand>, AsmKind>
+fn take_shifted_as(
+    rm: u8,
+    name: ShiftName,
+    tokens: &mut Tokens<'_>,
+) -> Result<Option<Operand>, AsmKind>
     ensures { Takes (λ operand. operand) result tokens.new (shifted_as rm name tokens.old) }
 {
     match name {

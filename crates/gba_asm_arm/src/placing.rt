@@ -50,7 +50,11 @@ fn load(cond: Condition, rd: u8, distance: u32) -> ArmOp
     ensures { result ≡ load_of cond rd distance }
 {
     let up = is_forward(distance);
-    let value = if up { distance } else { distance.wrapping_neg() };
+    let value = if up {
+        distance
+    } else {
+        distance.wrapping_neg()
+    };
     ArmOp::Transfer {
         cond,
         load: true,
@@ -87,7 +91,11 @@ impl<'a> ArmStatement<'a> {
             ArmStatement::Branch { cond, link, .. } => {
                 branch(*cond, *link, distance(address, target))
             }
-            ArmStatement::Load { cond, rd, .. } => Some(load(*cond, *rd, distance(address, target))),
+            ArmStatement::Load { cond, rd, .. } => Some(load(
+                *cond,
+                *rd,
+                distance(address, target),
+            )),
         }
     }
 }

@@ -78,7 +78,10 @@ fn data_processing_is_encoded(rt: HostRuntime) {
         (b"movls r0, r1", 0x91A00001),
     ];
     for (source, word) in cases {
-        assert!(rt; gives_word(rt.alloc(), source, word), "{source:?} isn't {word:08x}");
+        assert!(rt;
+            gives_word(rt.alloc(), source, word),
+            "{source:?} isn't {word:08x}"
+        );
     }
 }
 
@@ -126,7 +129,10 @@ fn comparisons_and_moves_are_encoded(rt: HostRuntime) {
         (b"add r0, r15, #8", 0xE28F0008),
     ];
     for (source, word) in cases {
-        assert!(rt; gives_word(rt.alloc(), source, word), "{source:?} isn't {word:08x}");
+        assert!(rt;
+            gives_word(rt.alloc(), source, word),
+            "{source:?} isn't {word:08x}"
+        );
     }
 }
 
@@ -154,7 +160,10 @@ fn multiplies_are_encoded(rt: HostRuntime) {
         (b"smlalges r5, r6, r7, r8", 0xA0F65897),
     ];
     for (source, word) in cases {
-        assert!(rt; gives_word(rt.alloc(), source, word), "{source:?} isn't {word:08x}");
+        assert!(rt;
+            gives_word(rt.alloc(), source, word),
+            "{source:?} isn't {word:08x}"
+        );
     }
 }
 
@@ -214,7 +223,10 @@ fn words_and_bytes_are_loaded(rt: HostRuntime) {
         (b"strmibt r0, [r1], -r2", 0x46610002),
     ];
     for (source, word) in cases {
-        assert!(rt; gives_word(rt.alloc(), source, word), "{source:?} isn't {word:08x}");
+        assert!(rt;
+            gives_word(rt.alloc(), source, word),
+            "{source:?} isn't {word:08x}"
+        );
     }
 }
 
@@ -252,7 +264,10 @@ fn the_other_transfers_are_encoded(rt: HostRuntime) {
         (b"str r15, [r0]", 0xE580F000),
     ];
     for (source, word) in cases {
-        assert!(rt; gives_word(rt.alloc(), source, word), "{source:?} isn't {word:08x}");
+        assert!(rt;
+            gives_word(rt.alloc(), source, word),
+            "{source:?} isn't {word:08x}"
+        );
     }
 }
 
@@ -310,7 +325,10 @@ fn blocks_swaps_and_status_are_encoded(rt: HostRuntime) {
         (b"swieq #0x123456", 0x0F123456),
     ];
     for (source, word) in cases {
-        assert!(rt; gives_word(rt.alloc(), source, word), "{source:?} isn't {word:08x}");
+        assert!(rt;
+            gives_word(rt.alloc(), source, word),
+            "{source:?} isn't {word:08x}"
+        );
     }
 }
 
@@ -363,6 +381,9 @@ fn what_numbers_lead_to_is_encoded(rt: HostRuntime) {
         (b"ldmia r1, {r3-r3, r3, r0}", 0xE8910009),
     ];
     for (source, word) in cases {
-        assert!(rt; gives_word(rt.alloc(), source, word), "{source:?} isn't {word:08x}");
+        assert!(rt;
+            gives_word(rt.alloc(), source, word),
+            "{source:?} isn't {word:08x}"
+        );
     }
 }

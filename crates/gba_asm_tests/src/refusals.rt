@@ -71,7 +71,10 @@ fn what_isnt_of_the_language_is_unknown(rt: HostRuntime) {
         b"mov r0, r1 \x00",
     ];
     for source in cases {
-        assert!(rt; refuses(rt.alloc(), source, 1, AsmKind::Unknown), "{source:?}");
+        assert!(rt;
+            refuses(rt.alloc(), source, 1, AsmKind::Unknown),
+            "{source:?}"
+        );
     }
 }
 
@@ -99,7 +102,10 @@ fn names_of_the_other_state_are_unknown(rt: HostRuntime) {
         b"bnv 0",
     ];
     for source in cases {
-        assert!(rt; refuses_thumb(rt.alloc(), source, AsmKind::Unknown), "{source:?}");
+        assert!(rt;
+            refuses_thumb(rt.alloc(), source, AsmKind::Unknown),
+            "{source:?}"
+        );
     }
 }
 
@@ -177,7 +183,10 @@ fn operands_of_no_form_are_refused(rt: HostRuntime) {
         b"strh r0, 8",
     ];
     for source in cases {
-        assert!(rt; refuses(rt.alloc(), source, 1, AsmKind::Operand), "{source:?}");
+        assert!(rt;
+            refuses(rt.alloc(), source, 1, AsmKind::Operand),
+            "{source:?}"
+        );
     }
 }
 
@@ -255,7 +264,10 @@ fn other_operands_of_no_form_are_refused(rt: HostRuntime) {
         b"mov! r0, r1",
     ];
     for source in cases {
-        assert!(rt; refuses(rt.alloc(), source, 1, AsmKind::Operand), "{source:?}");
+        assert!(rt;
+            refuses(rt.alloc(), source, 1, AsmKind::Operand),
+            "{source:?}"
+        );
     }
 }
 
@@ -343,7 +355,10 @@ fn thumb_operands_of_no_form_are_refused(rt: HostRuntime) {
         b"swi",
     ];
     for source in cases {
-        assert!(rt; refuses_thumb(rt.alloc(), source, AsmKind::Operand), "{source:?}");
+        assert!(rt;
+            refuses_thumb(rt.alloc(), source, AsmKind::Operand),
+            "{source:?}"
+        );
     }
 }
 
@@ -389,7 +404,10 @@ fn numbers_without_an_encoding_are_out_of_range(rt: HostRuntime) {
         b".byte 1, 256",
     ];
     for source in cases {
-        assert!(rt; refuses(rt.alloc(), source, 1, AsmKind::Range), "{source:?}");
+        assert!(rt;
+            refuses(rt.alloc(), source, 1, AsmKind::Range),
+            "{source:?}"
+        );
     }
 }
 
@@ -438,7 +456,10 @@ fn thumb_numbers_without_an_encoding_are_out_of_range(rt: HostRuntime) {
         b"bl 1",
     ];
     for source in cases {
-        assert!(rt; refuses_thumb(rt.alloc(), source, AsmKind::Range), "{source:?}");
+        assert!(rt;
+            refuses_thumb(rt.alloc(), source, AsmKind::Range),
+            "{source:?}"
+        );
     }
 }
 
@@ -477,7 +498,11 @@ fn the_first_refused_line_decides(rt: HostRuntime) {
         (b".space 4294967295", 1, AsmKind::Size),
         (b".space 33554432\n.byte 1", 2, AsmKind::Size),
         (b".space 33554431\n.half 1", 2, AsmKind::Size),
-        (b".space 33554428\nmov r0, r0\n.align\nmov r0, r0", 4, AsmKind::Size),
+        (
+            b".space 33554428\nmov r0, r0\n.align\nmov r0, r0",
+            4,
+            AsmKind::Size,
+        ),
         (b".space 33554432\nmov r0", 2, AsmKind::Operand),
         (b".space 33554432\nfoo", 2, AsmKind::Unknown),
         (b".space 33554432\n.word nowhere", 2, AsmKind::Size),

@@ -63,9 +63,15 @@ fn labels_lead_to_what_follows_them(rt: HostRuntime) -> Result<(), Fail> {
         ),
         (b"_1 : b _1", &[0xEAFFFFFE]),
         (b"mov: b mov\nr0: ldr r0, r0", &[0xEAFFFFFE, 0xE51F0008]),
-        (b"ldr r1, x\nstr r1, [r2]\nx: .word x", &[0xE59F1000, 0xE5821000, 8]),
+        (
+            b"ldr r1, x\nstr r1, [r2]\nx: .word x",
+            &[0xE59F1000, 0xE5821000, 8],
+        ),
         (b".word x, 7, x\nx:", &[12, 7, 12]),
-        (b".thumb\nb x\nbl x\n.half 0\nx: .arm\nb x", &[0xF000E002, 0x0000F801, 0xEAFFFFFE]),
+        (
+            b".thumb\nb x\nbl x\n.half 0\nx: .arm\nb x",
+            &[0xF000E002, 0x0000F801, 0xEAFFFFFE],
+        ),
         (b"a: .word b\nb: .word a", &[4, 0]),
     ];
     for (source, words) in cases {

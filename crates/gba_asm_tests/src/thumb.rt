@@ -68,7 +68,10 @@ fn thumb_statements_are_encoded(rt: HostRuntime) {
         (b"ldr r1, [r2, #4]", 0x6851),
     ];
     for (source, half) in cases {
-        assert!(rt; gives_half(rt.alloc(), source, half), "{source:?} isn't {half:04x}");
+        assert!(rt;
+            gives_half(rt.alloc(), source, half),
+            "{source:?} isn't {half:04x}"
+        );
     }
 }
 
@@ -114,7 +117,10 @@ fn the_other_thumb_statements_are_encoded(rt: HostRuntime) {
         (b"swi #255", 0xDFFF),
     ];
     for (source, half) in cases {
-        assert!(rt; gives_half(rt.alloc(), source, half), "{source:?} isn't {half:04x}");
+        assert!(rt;
+            gives_half(rt.alloc(), source, half),
+            "{source:?} isn't {half:04x}"
+        );
     }
 }
 
@@ -145,7 +151,10 @@ fn the_form_as_written_picks_the_format(rt: HostRuntime) {
         (b"bgt 0", 0xDCFE),
     ];
     for (source, half) in cases {
-        assert!(rt; gives_half(rt.alloc(), source, half), "{source:?} isn't {half:04x}");
+        assert!(rt;
+            gives_half(rt.alloc(), source, half),
+            "{source:?} isn't {half:04x}"
+        );
     }
 }
 

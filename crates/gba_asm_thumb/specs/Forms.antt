@@ -10,7 +10,7 @@ use Rattle.gba_asm_words.specs.declared.kinds.AsmKind.{AsmKind}
 use Rattle.gba_asm_words.specs.declared.kinds.AsmKind.TheVariants as kind
 use Rattle.gba_asm_words.specs.Kinds.{◌>>=◌, holds}
 use Rattle.gba_asm_words.specs.Lists.{list_at}
-use Rattle.gba_asm_words.specs.Readers.{Taken, taken, begins, other_tokens, mark_at, end_at, register_at, number_at, immediate_at, next_immediate_at, target_at}
+use Rattle.gba_asm_words.specs.Readers.{Taken, begins, other_tokens, mark_at, end_at, register_at, number_at, immediate_at, target_at}
 use Rattle.gba_asm_words.specs.Tokens.{Token}
 use Rattle.gba_asm_arm.specs.Operands.{amount_of}
 use Rattle.gba_asm_thumb.specs.declared.names.Access.{Access}

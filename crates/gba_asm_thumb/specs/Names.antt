@@ -1,13 +1,11 @@
 -- The names of Thumb statements.
-use Rattle.std.specs.Prelude.{ℕ, Bool, true, false, nat_lt, ◌==◌, List, [], ◌∷◌, codes, Option, Some, None, option_map, if◌then◌else◌}
+use Rattle.std.specs.Prelude.{ℕ, true, false, nat_lt, ◌==◌, List, [], ◌∷◌, codes, Option, Some, None, option_map, if◌then◌else◌}
 use Rattle.std.specs.Str.{bytes_eq}
 use Rattle.gba_word.specs.declared.kinds.Shift.TheVariants.{Lsl, Lsr, Asr}
 use Rattle.gba_arm_table.specs.declared.operation.Condition.{Condition}
-use Rattle.gba_arm_table.specs.declared.operation.Condition.TheVariants.{Always}
 use Rattle.gba_arm_table.specs.Numbers.{condition_number}
 use Rattle.gba_asm_words.specs.Names.{first_some}
 use Rattle.gba_asm_arm.specs.Tails.{condition_of}
-use Rattle.gba_asm_thumb.specs.declared.names.Access.{Access}
 use Rattle.gba_asm_thumb.specs.declared.names.Access.TheVariants as access
 use Rattle.gba_asm_thumb.specs.declared.names.ThumbName.{ThumbName}
 use Rattle.gba_asm_thumb.specs.declared.names.ThumbName.TheVariants as name

@@ -73,7 +73,11 @@ fn scaled(number: u32, unit: u32) -> Option<u16>
         return None;
     }
     let units = number / unit;
-    if units < 0x1_0000 { Some(units as u16) } else { None }
+    if units < 0x1_0000 {
+        Some(units as u16)
+    } else {
+        None
+    }
 }
 
 /// The numbers of the shifts in format 4.
@@ -133,10 +137,7 @@ fn take_shift_rest<'a>(
 
 /// `rd, rs, #n` and `rd, rs`.
 #[tactic(auto, unfolding(crate::specs::Forms::shift_form))]
-fn take_shift<'a>(
-    shift: Shift,
-    tokens: &mut Tokens<'a>,
-) -> Result<ThumbStatement<'a>, AsmKind>
+fn take_shift<'a>(shift: Shift, tokens: &mut Tokens<'a>) -> Result<ThumbStatement<'a>, AsmKind>
     ensures { Agrees statement_value result (shift_form shift tokens.old) }
 {
     let rd = take_low_register(tokens)?;
@@ -146,10 +147,7 @@ fn take_shift<'a>(
 
 /// `rd, rs`.
 #[tactic(auto, unfolding(crate::specs::Forms::two_register_form))]
-fn take_two_registers<'a>(
-    op: u16,
-    tokens: &mut Tokens<'a>,
-) -> Result<ThumbStatement<'a>, AsmKind>
+fn take_two_registers<'a>(op: u16, tokens: &mut Tokens<'a>) -> Result<ThumbStatement<'a>, AsmKind>
     ensures { Agrees statement_value result (two_register_form op tokens.old) }
 {
     let rd = take_low_register(tokens)?;
@@ -159,11 +157,7 @@ fn take_two_registers<'a>(
 
 /// A number after `#`.
 #[tactic(auto, unfolding(crate::specs::Forms::number_form))]
-fn take_number<'a>(
-    op: u16,
-    rd: u16,
-    tokens: &mut Tokens<'a>,
-) -> Result<ThumbStatement<'a>, AsmKind>
+fn take_number<'a>(op: u16, rd: u16, tokens: &mut Tokens<'a>) -> Result<ThumbStatement<'a>, AsmKind>
     ensures { Agrees statement_value result (number_form op rd tokens.old) }
 {
     if !is_low(rd) {
@@ -187,20 +181,14 @@ fn high(op: u16, rd: u16, rs: u16) -> ThumbOp
 }
 
 #[tactic(auto, unfolding(crate::specs::Forms::move_register))]
-fn take_move_register<'a>(
-    rd: u16,
-    tokens: &mut Tokens<'a>,
-) -> Result<ThumbStatement<'a>, AsmKind>
+fn take_move_register<'a>(rd: u16, tokens: &mut Tokens<'a>) -> Result<ThumbStatement<'a>, AsmKind>
     ensures { Agrees statement_value result (move_register rd tokens.old) }
 {
     let rs = take_register(tokens)?;
     whole(Some(high(2, rd, rs)), tokens)
 }
 
-fn take_move_rest<'a>(
-    rd: u16,
-    tokens: &mut Tokens<'a>,
-) -> Result<ThumbStatement<'a>, AsmKind>
+fn take_move_rest<'a>(rd: u16, tokens: &mut Tokens<'a>) -> Result<ThumbStatement<'a>, AsmKind>
     ensures { Agrees statement_value result (move_rest rd tokens.old) }
 {
     if tokens.takes(b'#') {
@@ -211,9 +199,7 @@ fn take_move_rest<'a>(
 
 /// `rd, #n` and `rd, rs`.
 #[tactic(auto, unfolding(crate::specs::Forms::move_form))]
-fn take_move<'a>(
-    tokens: &mut Tokens<'a>,
-) -> Result<ThumbStatement<'a>, AsmKind>
+fn take_move<'a>(tokens: &mut Tokens<'a>) -> Result<ThumbStatement<'a>, AsmKind>
     ensures { Agrees statement_value result (move_form tokens.old) }
 {
     let rd = take_register(tokens)?;
@@ -243,10 +229,7 @@ fn take_compare_register<'a>(
     whole(Some(compared(rd, rs)), tokens)
 }
 
-fn take_compare_rest<'a>(
-    rd: u16,
-    tokens: &mut Tokens<'a>,
-) -> Result<ThumbStatement<'a>, AsmKind>
+fn take_compare_rest<'a>(rd: u16, tokens: &mut Tokens<'a>) -> Result<ThumbStatement<'a>, AsmKind>
     ensures { Agrees statement_value result (compare_rest rd tokens.old) }
 {
     if tokens.takes(b'#') {
@@ -257,9 +240,7 @@ fn take_compare_rest<'a>(
 
 /// `rd, #n` and `rd, rs`.
 #[tactic(auto, unfolding(crate::specs::Forms::compare_form))]
-fn take_compare<'a>(
-    tokens: &mut Tokens<'a>,
-) -> Result<ThumbStatement<'a>, AsmKind>
+fn take_compare<'a>(tokens: &mut Tokens<'a>) -> Result<ThumbStatement<'a>, AsmKind>
     ensures { Agrees statement_value result (compare_form tokens.old) }
 {
     let rd = take_register(tokens)?;
@@ -269,10 +250,7 @@ fn take_compare<'a>(
 
 /// `sp, #n`.
 #[tactic(auto, unfolding(crate::specs::Forms::adjust_form))]
-fn take_adjustment<'a>(
-    s: bool,
-    tokens: &mut Tokens<'a>,
-) -> Result<ThumbStatement<'a>, AsmKind>
+fn take_adjustment<'a>(s: bool, tokens: &mut Tokens<'a>) -> Result<ThumbStatement<'a>, AsmKind>
     ensures { Agrees statement_value result (adjust_form s tokens.old) }
 {
     let number = tokens.number()?;
@@ -387,20 +365,14 @@ fn take_add_third<'a>(
 }
 
 #[tactic(auto, unfolding(crate::specs::Forms::add_register))]
-fn take_add_register<'a>(
-    rd: u16,
-    tokens: &mut Tokens<'a>,
-) -> Result<ThumbStatement<'a>, AsmKind>
+fn take_add_register<'a>(rd: u16, tokens: &mut Tokens<'a>) -> Result<ThumbStatement<'a>, AsmKind>
     ensures { Agrees statement_value result (add_register rd tokens.old) }
 {
     let rs = take_register(tokens)?;
     take_add_third(rd, rs, tokens)
 }
 
-fn take_add_rest<'a>(
-    rd: u16,
-    tokens: &mut Tokens<'a>,
-) -> Result<ThumbStatement<'a>, AsmKind>
+fn take_add_rest<'a>(rd: u16, tokens: &mut Tokens<'a>) -> Result<ThumbStatement<'a>, AsmKind>
     ensures { Agrees statement_value result (add_rest rd tokens.old) }
 {
     if tokens.takes(b'#') {
@@ -411,9 +383,7 @@ fn take_add_rest<'a>(
 
 /// `rd, #n`, `sp, #n`, `rd, rs`, `rd, rs, rn`, `rd, rs, #n`, `rd, sp, #n` and `rd, pc, #n`.
 #[tactic(auto, unfolding(crate::specs::Forms::add_form))]
-fn take_add<'a>(
-    tokens: &mut Tokens<'a>,
-) -> Result<ThumbStatement<'a>, AsmKind>
+fn take_add<'a>(tokens: &mut Tokens<'a>) -> Result<ThumbStatement<'a>, AsmKind>
     ensures { Agrees statement_value result (add_form tokens.old) }
 {
     let rd = take_register(tokens)?;
@@ -471,10 +441,7 @@ fn take_subtract_register<'a>(
     take_subtract_last(rd, rs, tokens)
 }
 
-fn take_subtract_rest<'a>(
-    rd: u16,
-    tokens: &mut Tokens<'a>,
-) -> Result<ThumbStatement<'a>, AsmKind>
+fn take_subtract_rest<'a>(rd: u16, tokens: &mut Tokens<'a>) -> Result<ThumbStatement<'a>, AsmKind>
     ensures { Agrees statement_value result (subtract_rest rd tokens.old) }
 {
     if tokens.takes(b'#') {
@@ -485,9 +452,7 @@ fn take_subtract_rest<'a>(
 
 /// `rd, #n`, `sp, #n`, `rd, rs, rn` and `rd, rs, #n`.
 #[tactic(auto, unfolding(crate::specs::Forms::subtract_form))]
-fn take_subtract<'a>(
-    tokens: &mut Tokens<'a>,
-) -> Result<ThumbStatement<'a>, AsmKind>
+fn take_subtract<'a>(tokens: &mut Tokens<'a>) -> Result<ThumbStatement<'a>, AsmKind>
     ensures { Agrees statement_value result (subtract_form tokens.old) }
 {
     let rd = take_register(tokens)?;
@@ -497,9 +462,7 @@ fn take_subtract<'a>(
 
 /// `rs`.
 #[tactic(auto, unfolding(crate::specs::Forms::exchange_form))]
-fn take_exchange<'a>(
-    tokens: &mut Tokens<'a>,
-) -> Result<ThumbStatement<'a>, AsmKind>
+fn take_exchange<'a>(tokens: &mut Tokens<'a>) -> Result<ThumbStatement<'a>, AsmKind>
     ensures { Agrees statement_value result (exchange_form tokens.old) }
 {
     let rs = take_register(tokens)?;
@@ -563,12 +526,7 @@ fn by_low(
     }
 }
 
-fn by_stack(
-    l: bool,
-    access: Access,
-    rd: u16,
-    number: u32,
-) -> Result<Option<ThumbOp>, AsmKind>
+fn by_stack(l: bool, access: Access, rd: u16, number: u32) -> Result<Option<ThumbOp>, AsmKind>
     ensures { Agrees (λ op. op) result (by_stack_of l access rd number) }
 {
     match access {
@@ -577,12 +535,7 @@ fn by_stack(
     }
 }
 
-fn by_counter(
-    load: bool,
-    access: Access,
-    rd: u16,
-    number: u32,
-) -> Result<Option<ThumbOp>, AsmKind>
+fn by_counter(load: bool, access: Access, rd: u16, number: u32) -> Result<Option<ThumbOp>, AsmKind>
     ensures { Agrees (λ op. op) result (by_counter_of load access rd number) }
 {
     match (load, access) {
@@ -715,10 +668,7 @@ fn take_stack<'a>(
 
 /// `rb!, {LIST}`.
 #[tactic(auto, unfolding(crate::specs::Forms::block_form))]
-fn take_block<'a>(
-    l: bool,
-    tokens: &mut Tokens<'a>,
-) -> Result<ThumbStatement<'a>, AsmKind>
+fn take_block<'a>(l: bool, tokens: &mut Tokens<'a>) -> Result<ThumbStatement<'a>, AsmKind>
     ensures { Agrees statement_value result (block_form l tokens.old) }
 {
     let rb = take_low_register(tokens)?;
@@ -733,9 +683,7 @@ fn take_block<'a>(
 
 /// `#n`.
 #[tactic(auto, unfolding(crate::specs::Forms::interrupt_form))]
-fn take_interrupt<'a>(
-    tokens: &mut Tokens<'a>,
-) -> Result<ThumbStatement<'a>, AsmKind>
+fn take_interrupt<'a>(tokens: &mut Tokens<'a>) -> Result<ThumbStatement<'a>, AsmKind>
     ensures { Agrees statement_value result (interrupt_form tokens.old) }
 {
     let number = tokens.immediate()?;
@@ -745,9 +693,7 @@ fn take_interrupt<'a>(
 
 /// `TARGET`.
 #[tactic(auto, unfolding(crate::specs::Forms::branch_form))]
-fn take_branch<'a>(
-    tokens: &mut Tokens<'a>,
-) -> Result<ThumbStatement<'a>, AsmKind>
+fn take_branch<'a>(tokens: &mut Tokens<'a>) -> Result<ThumbStatement<'a>, AsmKind>
     ensures { Agrees statement_value result (branch_form tokens.old) }
 {
     let target = tokens.target()?;
@@ -757,10 +703,7 @@ fn take_branch<'a>(
 
 /// `TARGET`.
 #[tactic(auto, unfolding(crate::specs::Forms::branch_if_form))]
-fn take_branch_if<'a>(
-    cond: u16,
-    tokens: &mut Tokens<'a>,
-) -> Result<ThumbStatement<'a>, AsmKind>
+fn take_branch_if<'a>(cond: u16, tokens: &mut Tokens<'a>) -> Result<ThumbStatement<'a>, AsmKind>
     ensures { Agrees statement_value result (branch_if_form cond tokens.old) }
 {
     let target = tokens.target()?;
@@ -770,9 +713,7 @@ fn take_branch_if<'a>(
 
 /// `TARGET`.
 #[tactic(auto, unfolding(crate::specs::Forms::call_form))]
-fn take_call<'a>(
-    tokens: &mut Tokens<'a>,
-) -> Result<ThumbStatement<'a>, AsmKind>
+fn take_call<'a>(tokens: &mut Tokens<'a>) -> Result<ThumbStatement<'a>, AsmKind>
     ensures { Agrees statement_value result (call_form tokens.old) }
 {
     let target = tokens.target()?;
@@ -782,10 +723,7 @@ fn take_call<'a>(
 
 /// The form of each name. PUSH takes r14 too, and POP r15.
 #[tactic(auto, unfolding(crate::specs::Forms::form_of))]
-fn take_form<'a>(
-    name: ThumbName,
-    tokens: &mut Tokens<'a>,
-) -> Result<ThumbStatement<'a>, AsmKind>
+fn take_form<'a>(name: ThumbName, tokens: &mut Tokens<'a>) -> Result<ThumbStatement<'a>, AsmKind>
     ensures { Agrees statement_value result (form_of name tokens.old) }
 {
     match name {

@@ -79,21 +79,45 @@ fn access_in(word: &[u8]) -> Option<ThumbName>
     ensures { result ≡ access_of word.now }
 {
     if word == b"ldr".as_slice() {
-        Some(ThumbName::Transfer { load: true, access: Access::Word })
+        Some(ThumbName::Transfer {
+            load: true,
+            access: Access::Word,
+        })
     } else if word == b"ldrb".as_slice() {
-        Some(ThumbName::Transfer { load: true, access: Access::Byte })
+        Some(ThumbName::Transfer {
+            load: true,
+            access: Access::Byte,
+        })
     } else if word == b"ldrh".as_slice() {
-        Some(ThumbName::Transfer { load: true, access: Access::Half })
+        Some(ThumbName::Transfer {
+            load: true,
+            access: Access::Half,
+        })
     } else if word == b"ldrsb".as_slice() {
-        Some(ThumbName::Transfer { load: true, access: Access::SignedByte })
+        Some(ThumbName::Transfer {
+            load: true,
+            access: Access::SignedByte,
+        })
     } else if word == b"ldrsh".as_slice() {
-        Some(ThumbName::Transfer { load: true, access: Access::SignedHalf })
+        Some(ThumbName::Transfer {
+            load: true,
+            access: Access::SignedHalf,
+        })
     } else if word == b"str".as_slice() {
-        Some(ThumbName::Transfer { load: false, access: Access::Word })
+        Some(ThumbName::Transfer {
+            load: false,
+            access: Access::Word,
+        })
     } else if word == b"strb".as_slice() {
-        Some(ThumbName::Transfer { load: false, access: Access::Byte })
+        Some(ThumbName::Transfer {
+            load: false,
+            access: Access::Byte,
+        })
     } else if word == b"strh".as_slice() {
-        Some(ThumbName::Transfer { load: false, access: Access::Half })
+        Some(ThumbName::Transfer {
+            load: false,
+            access: Access::Half,
+        })
     } else {
         None
     }

@@ -1,8 +1,7 @@
 -- What `parse` gives of words of digits.
-use Rattle.std.proofs.Common.{◌≡◌, ◌≢◌, ℕ, ◌<◌, ◌^◌, Bool, true, false, ◌&&◌, cond, List, [], ◌∷◌, length, nat_le, nat_lt, get_or, Result, Ok, Err, Some, None, refl, ap, arith, rules}
-use Rattle.std.specs.Char.{is_ascii_hexdigit}
+use Rattle.std.proofs.Common.{◌≡◌, ℕ, ◌<◌, ◌^◌, Bool, true, false, ◌&&◌, cond, List, length, nat_le, nat_lt, Result, Ok, Err, Some, None, refl, arith, rules}
 use Rattle.std.specs.Result.{OkIff, result_ok}
-use Rattle.std.specs.Str.Parse.{AllDigits, ParsesUnsigned, digits_value}
+use Rattle.std.specs.Str.Parse.{ParsesUnsigned, digits_value}
 use Rattle.std.proofs.lemmas.Bool.Decides.{nat_tests}
 use Rattle.std.proofs.lemmas.Str.Parse.{numerals_by_value, parse_digits, without_leading_plus_none}
 use Rattle.gba_text.specs.Numbers.{all_digits, all_hex_digits}
@@ -16,10 +15,10 @@ by_range : {E : Type 0} (r : Result ℕ E) (word : List ℕ) (value : ℕ) (all 
 by_range (Ok n) word value all e some h = grind (arith, nat_tests)
 by_range (Err r) word value all e some h =
     by_test (nat_lt value (2 ^ 32)) refl where
-  by_test : (t : Bool) → nat_lt value (2 ^ 32) ≡ t
-      → None ≡ cond (nat_le 1 (length word) && all && nat_lt value (2 ^ 32)) (Some value) None
-  by_test true u = absurd (h (some, grind (arith, nat_tests)))
-  by_test false u = grind (arith, nat_tests)
+      by_test : (t : Bool) → nat_lt value (2 ^ 32) ≡ t
+          → None ≡ cond (nat_le 1 (length word) && all && nat_lt value (2 ^ 32)) (Some value) None
+      by_test true u = absurd (h (some, grind (arith, nat_tests)))
+      by_test false u = grind (arith, nat_tests)
 
 pub decimal-parsed : {E : Type 0} (word : List ℕ) (r : Result ℕ E) → ParsesUnsigned 32 10 word r → all_digits word ≡ true
     → 0 < length word → result_ok r ≡ decimal_of word

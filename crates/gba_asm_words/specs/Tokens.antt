@@ -1,5 +1,5 @@
 -- The tokens of a line: words and marks. Blanks part them, and `;` ends them.
-use Rattle.std.specs.Prelude.{ℕ, Bool, true, false, nat_lt, not, ◌&&◌, ◌||◌, ◌==◌, List, [], ◌∷◌, length, take, Option, Some, None, if◌then◌else◌}
+use Rattle.std.specs.Prelude.{ℕ, Bool, false, nat_lt, not, ◌||◌, ◌==◌, List, [], ◌∷◌, length, take, Option, Some, None, if◌then◌else◌}
 use Rattle.std.specs.Char.{is_ascii_alphanumeric}
 use Rattle.std.specs.List.{list_all, prefix_len}
 use Rattle.gba_text.specs.Words.{is_blank, longest_line}

@@ -1,6 +1,6 @@
-use Rattle.std.proofs.Common.{◌≡◌, ◌∙◌, ℕ, List, sym}
+use Rattle.std.proofs.Common.{ℕ, List}
 use Rattle.gba_asm.specs.Answers.{labels_in}
-use Rattle.gba_asm.proofs.Passes.{opens, given_first, given_more, given_all, assembles_refused}
+use Rattle.gba_asm.proofs.Passes.{opens, given_more, given_all, assembles_refused}
 use Rattle.gba_asm.proofs.assembly.add_lines.Goals as goal
 
 pub loop-line-preserved : goal.loop-line-preserved

@@ -1,4 +1,4 @@
-use Rattle.std.proofs.Common.{◌≡◌, ◌∙◌, sym, arith}
+use Rattle.std.proofs.Common.{◌∙◌, sym}
 use Rattle.gba_asm_words.specs.Tokens.{token_value}
 use Rattle.gba_asm.proofs.CountedItems.{are_items-end, are_items-more, are_items-refused}
 use Rattle.gba_asm.proofs.directives.are_items.Goals as goal

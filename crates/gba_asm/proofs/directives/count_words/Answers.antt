@@ -1,5 +1,3 @@
-use Rattle.std.proofs.Common.{◌≡◌}
-use Rattle.gba_asm_words.specs.Tokens.{Mark}
 use Rattle.gba_asm.proofs.CountedItems.{counts_end, counts_word, counts_mark}
 use Rattle.gba_asm.proofs.directives.count_words.Goals as goal
 

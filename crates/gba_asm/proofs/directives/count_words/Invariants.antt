@@ -1,5 +1,4 @@
-use Rattle.std.proofs.Common.{◌≡◌, ◌+◌, ◌≤◌, length}
-use Rattle.gba_asm.specs.Directives.{count_words}
+use Rattle.std.proofs.Common.{length}
 use Rattle.gba_asm.proofs.CountedItems.{IsCounting}
 use Rattle.gba_asm.proofs.directives.count_words.Given as goal
 

@@ -1,4 +1,4 @@
-use Rattle.std.proofs.Common.{◌≡◌, ◌∙◌, sym, ap}
+use Rattle.std.proofs.Common.{◌∙◌, sym, ap}
 use Rattle.gba_asm.specs.Answers.{labels_in}
 use Rattle.gba_asm.specs.Assembly.{onto}
 use Rattle.gba_asm.specs.Encoding.{items_bytes}

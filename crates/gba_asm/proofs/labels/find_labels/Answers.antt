@@ -1,4 +1,4 @@
-use Rattle.std.proofs.Common.{◌≡◌, ◌∙◌, sym}
+use Rattle.std.proofs.Common.{◌∙◌}
 use Rattle.gba_asm.specs.Answers.{labels_in}
 use Rattle.gba_asm.specs.Statements.{line_says}
 use Rattle.gba_asm.proofs.Passes.{opens, found_first, found_more, found_all, place_after-is}

@@ -1,4 +1,4 @@
-use Rattle.std.proofs.Common.{◌≡◌, ap, sym, arith}
+use Rattle.std.proofs.Common.{arith}
 use Rattle.gba_asm.proofs.Passes.{few_tokens}
 use Rattle.gba_asm.proofs.statements.read_line.Goals as goal
 

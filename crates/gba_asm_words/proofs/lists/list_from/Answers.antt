@@ -1,4 +1,4 @@
-use Rattle.std.proofs.Common.{◌≡◌, ◌∙◌, sym, arith, rules}
+use Rattle.std.proofs.Common.{◌∙◌, arith}
 use Rattle.gba_asm_words.specs.Tokens.{token_value}
 use Rattle.gba_asm_words.proofs.ListSteps.{list_from-closed, list_from-short, list_from-more, list_from-refused}
 use Rattle.gba_asm_words.proofs.lists.list_from.Goals as goal

@@ -1,4 +1,4 @@
-use Rattle.std.proofs.Common.{◌≡◌, ◌≤◌, ◌+◌, ◌*◌, ◌^◌, ◌<◌, pow_mono, pow-add, arith}
+use Rattle.std.proofs.Common.{◌≡◌, ◌≤◌, ◌+◌, ◌*◌, ◌^◌, pow_mono, pow-add, arith}
 use Rattle.gba_asm_words.proofs.lists.range_bits.Goals as goal
 
 pub overflow_sub-result : goal.overflow_sub-result

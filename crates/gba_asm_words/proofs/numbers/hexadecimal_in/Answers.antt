@@ -1,4 +1,4 @@
-use Rattle.std.proofs.Common.{sym, ◌∙◌, arith}
+use Rattle.std.proofs.Common.{◌∙◌, arith}
 use Rattle.gba_text.proofs.Numerals.{IsAscii-from_hex_digits}
 use Rattle.gba_asm_words.proofs.Numerals.{hexadecimal-parsed}
 use Rattle.gba_asm_words.proofs.numbers.hexadecimal_in.Goals as goal

@@ -1,6 +1,6 @@
-use Rattle.std.proofs.Common.{rules, ◌≡◌, ◌∙◌, List, [], ◌∷◌, drop, take, sym, ap, arith}
+use Rattle.std.proofs.Common.{◌≡◌, ◌∙◌, [], ◌∷◌, ap, arith}
 use Rattle.std.proofs.lemmas.List.{nil_from_length}
-use Rattle.gba_asm_words.specs.Tokens.{tokens, is_word_byte}
+use Rattle.gba_asm_words.specs.Tokens.{tokens}
 use Rattle.gba_asm_words.proofs.FirstTokens.{tokens_none, tokens-blanks, split_mark, split_word}
 use Rattle.gba_asm_words.proofs.tokens.split_token.Goals as goal
 
