@@ -41,7 +41,7 @@ pub parsed_digits : {E : Type 0} (word : List ℕ) (r : Result ℕ E) → Parses
 parsed_digits word r h all = parse_digits (numerals_by_value (λ ds. all_digits ds
     ≡ true) (search rules)) 64 word r h all
 
-AllDigits-from_hex : (word : List ℕ) → all_hex_digits word ≡ true → AllDigits 16 word
+pub AllDigits-from_hex : (word : List ℕ) → all_hex_digits word ≡ true → AllDigits 16 word
 AllDigits-from_hex [] h = tt
 AllDigits-from_hex (d ∷ ds) h = (
   hexdigit-value d (first_of_all (is_ascii_hexdigit d)
@@ -49,7 +49,7 @@ AllDigits-from_hex (d ∷ ds) h = (
   AllDigits-from_hex ds (rest_of_all (is_ascii_hexdigit d) (all_hex_digits ds) h),
 )
 
-no_sign : (word : List ℕ) → all_hex_digits word ≡ true → get_or word 0 0 ≢ 43
+pub no_sign : (word : List ℕ) → all_hex_digits word ≡ true → get_or word 0 0 ≢ 43
 no_sign [] h = omega arith
 no_sign (d ∷ ds) h = hexdigit-sign d (first_of_all (is_ascii_hexdigit d) (all_hex_digits ds) h)
 

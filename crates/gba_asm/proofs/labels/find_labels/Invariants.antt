@@ -1,0 +1,10 @@
+use Rattle.std.proofs.Common.{length}
+use Rattle.gba_asm.specs.Answers.{labels_in}
+use Rattle.gba_asm.proofs.Passes.{AreFound}
+use Rattle.gba_asm.proofs.labels.find_labels.Given as goal
+
+abbrev pub invariant-loop-line : goal.invariant-loop-line
+invariant-loop-line l = AreFound l.source (labels_in l.labels.places) l.cursor.number l.place l.cursor.lines
+
+abbrev pub decreases-loop-line : goal.decreases-loop-line
+decreases-loop-line l = length l.cursor.lines

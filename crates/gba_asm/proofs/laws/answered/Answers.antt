@@ -1,0 +1,5 @@
+use Rattle.gba_asm.proofs.Relation.{says}
+use Rattle.gba_asm.proofs.laws.answered.Goals as goal
+
+pub returns : goal.returns
+returns c = record { law = says }

@@ -1,0 +1,7 @@
+pub mod Directives
+pub mod Statements
+pub mod Places
+pub mod Encoding
+pub mod Assembly
+pub mod Language
+pub mod Answers

@@ -1,0 +1,4 @@
+pub mod Names
+pub mod Statement
+pub mod Forms
+pub mod Placing

@@ -1,0 +1,3 @@
+pub mod FirstTokens
+pub mod Numerals
+pub mod ListSteps
