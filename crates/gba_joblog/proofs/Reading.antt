@@ -5,9 +5,8 @@ use Rattle.std.proofs.lemmas.List.{length-take, take_all}
 use Rattle.gba_joblog.specs.declared.kinds.JobKind.TheVariants.{Long}
 use Rattle.gba_text.specs.Lines.{lines, begins_with_feed, onto_front}
 use Rattle.gba_text.specs.Reading.{Reading as Place, first_of, with_line, next_line}
-use Rattle.gba_joblog.specs.Draft.{Draft, nothing_said}
-use Rattle.gba_joblog.specs.Job.{WholeJob}
-use Rattle.gba_joblog.specs.Language.{lines_say, job_at_end, said_with, error_at, job_of, longest_job}
+use Rattle.gba_joblog.specs.Files.{Language, lines_say, answer_of, error_at}
+use Rattle.gba_joblog.specs.Language.{job_of, jobs, longest_job}
 use Rattle.gba_joblog.specs.Answers.{Parses, Reads}
 use Rattle.gba_joblog.specs.declared.kinds.ParseRefused.{ParseRefused}
 use Rattle.gba_joblog.specs.declared.kinds.ParseRefused.TheVariants as refusal
@@ -15,45 +14,48 @@ use Rattle.gba_joblog.specs.declared.kinds.JobError.{JobError}
 use Rattle.gba_joblog.specs.declared.kinds.JobKind.{JobKind}
 
 -- so many lines of a file are read, and lead to what is said; these lines are left
-pub record IsReading (bytes : List ℕ) (number : ℕ) (d : Draft) (rest : List (List ℕ)) : Type 0 where
-  pub said : lines_say number d rest ≡ lines_say 0 nothing_said (lines bytes)
+pub record IsReading {S A : Type 0} (language : Language S A) (bytes : List ℕ) (number : ℕ) (d : S) (rest : List (List ℕ)) : Type 0 where
+  pub said : lines_say language number d rest ≡ lines_say language 0 language.nothing (lines bytes)
   pub count : number + length rest ≡ length (lines bytes)
 
-pub lines_say-more : (number : ℕ) (d : Draft) (line : List ℕ) (rest : List (List ℕ)) (e : Draft)
-    → said_with (number + 1) d line ≡ Ok e
-    → lines_say number d (line ∷ rest) ≡ lines_say (number + 1) e rest
+pub lines_say-more : {S A : Type 0} (language : Language S A) (number : ℕ) (d : S) (line : List ℕ)
+    (rest : List (List ℕ)) (e : S) → language.with_line (number + 1) d line ≡ Ok e
+    → lines_say language number d (line ∷ rest) ≡ lines_say language (number + 1) e rest
 unfolding lines_say
-lines_say-more number d line rest e h = rw h refl
+lines_say-more language number d line rest e h = rw h refl
 
-pub lines_say-error_at : (number : ℕ) (d : Draft) (line : List ℕ) (rest : List (List ℕ)) (kind : JobKind)
-    → said_with (number + 1) d line ≡ Err kind
-    → lines_say number d (line ∷ rest) ≡ Err (error_at (number + 1) kind)
+pub lines_say-error_at : {S A : Type 0} (language : Language S A) (number : ℕ) (d : S) (line : List ℕ)
+    (rest : List (List ℕ)) (kind : JobKind) → language.with_line (number + 1) d line ≡ Err kind
+    → lines_say language number d (line ∷ rest) ≡ Err (error_at (number + 1) kind)
 unfolding lines_say
-lines_say-error_at number d line rest kind h = rw h refl
+lines_say-error_at language number d line rest kind h = rw h refl
 
-pub lines_say-end : (number : ℕ) (d : Draft) → lines_say number d [] ≡ job_at_end number d
+pub lines_say-end : {S A : Type 0} (language : Language S A) (number : ℕ) (d : S)
+    → lines_say language number d [] ≡ language.at_end number d
 unfolding lines_say
-lines_say-end number d = refl
+lines_say-end language number d = refl
 
 -- one line more
-pub went_on : (bytes : List ℕ) (number : ℕ) (d : Draft) (line : List ℕ) (rest : List (List ℕ)) (e : Draft)
-    → IsReading bytes number d (line ∷ rest)
-    → said_with (number + 1) d line ≡ Ok e → IsReading bytes (number + 1) e rest
-went_on bytes number d line rest e h s =
-    let more = lines_say-more number d line rest e s in
+pub went_on : {S A : Type 0} (language : Language S A) (bytes : List ℕ) (number : ℕ) (d : S) (line : List ℕ)
+    (rest : List (List ℕ)) (e : S) → IsReading language bytes number d (line ∷ rest)
+    → language.with_line (number + 1) d line ≡ Ok e → IsReading language bytes (number + 1) e rest
+went_on language bytes number d line rest e h s =
+    let more = lines_say-more language number d line rest e s in
     record { said = sym more ∙ h.said; count = omega (arith, h.count) }
 
 -- a line is refused
-pub stopped : (bytes : List ℕ) (number : ℕ) (d : Draft) (line : List ℕ) (rest : List (List ℕ)) (kind : JobKind)
-    → IsReading bytes number d (line ∷ rest)
-    → said_with (number + 1) d line ≡ Err kind
-    → lines_say 0 nothing_said (lines bytes) ≡ Err (error_at (number + 1) kind)
-stopped bytes number d line rest kind h s = sym h.said ∙ lines_say-error_at number d line rest kind s
+pub stopped : {S A : Type 0} (language : Language S A) (bytes : List ℕ) (number : ℕ) (d : S) (line : List ℕ)
+    (rest : List (List ℕ)) (kind : JobKind) → IsReading language bytes number d (line ∷ rest)
+    → language.with_line (number + 1) d line ≡ Err kind
+    → lines_say language 0 language.nothing (lines bytes) ≡ Err (error_at (number + 1) kind)
+stopped language bytes number d line rest kind h s =
+    sym h.said ∙ lines_say-error_at language number d line rest kind s
 
 -- no line is left
-pub ended : (bytes : List ℕ) (number : ℕ) (d : Draft) → IsReading bytes number d []
-    → lines_say 0 nothing_said (lines bytes) ≡ job_at_end number d
-ended bytes number d h = sym h.said ∙ lines_say-end number d
+pub ended : {S A : Type 0} (language : Language S A) (bytes : List ℕ) (number : ℕ) (d : S)
+    → IsReading language bytes number d []
+    → lines_say language 0 language.nothing (lines bytes) ≡ language.at_end number d
+ended language bytes number d h = sym h.said ∙ lines_say-end language number d
 
 onto-few : (b : ℕ) (pieces : List (List ℕ)) → length (onto_front b pieces) ≤ length pieces + 1
 onto-few b [] = omega arith
@@ -82,75 +84,86 @@ closes : (ls : List (List ℕ)) → None ≡ first_of ls → ls ≡ []
 closes [] e = refl
 closes (l ∷ ls) e = absurd cc
 
-pub reads_on : (bytes : List ℕ) (old new : Place) (d e : Draft) (line : List ℕ) (number : ℕ) (rest : List (List ℕ))
-    → IsReading bytes old.number d old.lines
-    → Some line ≡ first_of old.lines → new ≡ next_line old → said_with new.number d line ≡ Ok e
-    → number ≡ new.number → rest ≡ new.lines → IsReading bytes number e rest
-reads_on bytes old new d e line number rest h first state said same left =
+pub reads_on : {S A : Type 0} (language : Language S A) (bytes : List ℕ) (old new : Place) (d e : S) (line : List ℕ)
+    (number : ℕ) (rest : List (List ℕ)) → IsReading language bytes old.number d old.lines
+    → Some line ≡ first_of old.lines → new ≡ next_line old → language.with_line new.number d line ≡ Ok e
+    → number ≡ new.number → rest ≡ new.lines → IsReading language bytes number e rest
+reads_on language bytes old new d e line number rest h first state said same left =
     let o = opens old.lines old line first in
     let count : new.number ≡ old.number + 1 = ap (λ (r : Place). r.number) state ∙ o.1 in
     let lines_are : old.lines ≡ line ∷ new.lines = o.0 ∙ ap (λ (r : Place). line ∷ r.lines) (sym state) in
-    let here : IsReading bytes old.number d (line ∷ new.lines) = rw lines_are at h in
-    rw (same, left, count) (went_on bytes old.number d line new.lines e here (rw count at said))
+    let here : IsReading language bytes old.number d (line ∷ new.lines) = rw lines_are at h in
+    rw (same, left, count) (went_on language bytes old.number d line new.lines e here (rw count at said))
 
-pub reads_refused : (bytes : List ℕ) (old new : Place) (d : Draft) (line : List ℕ) (kind : JobKind)
-    → IsReading bytes old.number d old.lines
-    → Some line ≡ first_of old.lines → new ≡ next_line old → said_with new.number d line ≡ Err kind
-    → lines_say 0 nothing_said (lines bytes) ≡ Err (error_at new.number kind)
-reads_refused bytes old new d line kind h first state said =
+pub reads_refused : {S A : Type 0} (language : Language S A) (bytes : List ℕ) (old new : Place) (d : S)
+    (line : List ℕ) (kind : JobKind) → IsReading language bytes old.number d old.lines
+    → Some line ≡ first_of old.lines → new ≡ next_line old → language.with_line new.number d line ≡ Err kind
+    → lines_say language 0 language.nothing (lines bytes) ≡ Err (error_at new.number kind)
+reads_refused language bytes old new d line kind h first state said =
     let o = opens old.lines old line first in
     let count : new.number ≡ old.number + 1 = ap (λ (r : Place). r.number) state ∙ o.1 in
     let lines_are : old.lines ≡ line ∷ new.lines = o.0 ∙ ap (λ (r : Place). line ∷ r.lines) (sym state) in
-    let here : IsReading bytes old.number d (line ∷ new.lines) = rw lines_are at h in
-    rw count (stopped bytes old.number d line new.lines kind here (rw count at said))
+    let here : IsReading language bytes old.number d (line ∷ new.lines) = rw lines_are at h in
+    rw count (stopped language bytes old.number d line new.lines kind here (rw count at said))
 
-pub reads_end : (bytes : List ℕ) (old new : Place) (d : Draft) → IsReading bytes old.number d old.lines
-    → None ≡ first_of old.lines → new ≡ next_line old
-    → (lines_say 0 nothing_said (lines bytes) ≡ job_at_end new.number d) × (new.number ≡ length (lines bytes))
-reads_end bytes old new d h first state =
+pub reads_end : {S A : Type 0} (language : Language S A) (bytes : List ℕ) (old new : Place) (d : S)
+    → IsReading language bytes old.number d old.lines → None ≡ first_of old.lines → new ≡ next_line old
+    → (lines_say language 0 language.nothing (lines bytes) ≡ language.at_end new.number d)
+    × (new.number ≡ length (lines bytes))
+reads_end language bytes old new d h first state =
     let none : old.lines ≡ [] = closes old.lines first in
     let same : new ≡ old = state ∙ ap (λ ls. with_line ls old) none in
-    let here : IsReading bytes old.number d [] = rw none at h in
-    rw same (ended bytes old.number d here, omega (arith, here.count))
+    let here : IsReading language bytes old.number d [] = rw none at h in
+    rw same (ended language bytes old.number d here, omega (arith, here.count))
 
-pub job_of-lines : (bytes : List ℕ) (answer : Result WholeJob JobError) → length bytes ≤ longest_job
-    → lines_say 0 nothing_said (lines bytes) ≡ answer → job_of bytes ≡ answer
-unfolding job_of
-job_of-lines bytes answer short h = rw (le-ltb _ _ short) h
+pub answer_of-lines : {S A : Type 0} (language : Language S A) (bytes : List ℕ) (answer : Result A JobError)
+    → length bytes ≤ language.longest
+    → lines_say language 0 language.nothing (lines bytes) ≡ answer → answer_of language bytes ≡ answer
+unfolding answer_of
+answer_of-lines language bytes answer short h = rw (le-ltb _ _ short) h
 
-pub job_of-long : (bytes : List ℕ) → longest_job < length bytes → job_of bytes ≡ Err (error_at 0 Long)
-unfolding job_of
-job_of-long bytes long = rw (lt-ltb _ _ long) refl
+pub answer_of-long : {S A : Type 0} (language : Language S A) (bytes : List ℕ) → language.longest < length bytes
+    → answer_of language bytes ≡ Err (error_at 0 Long)
+unfolding answer_of
+answer_of-long language bytes long = rw (lt-ltb _ _ long) refl
 
 -- a refusal while a line is read is that of the file
-pub refuses : {X : Type 0} (view : X → WholeJob) (bytes : List ℕ) (old new : Place) (d said : Draft) (line : List ℕ)
-    (r : ParseRefused) → length bytes ≤ longest_job
-    → IsReading bytes old.number d old.lines → Some line ≡ first_of old.lines → new ≡ next_line old
-    → Reads {T = Unit {0}} (Err r) new.number said (said_with new.number d line) → Parses view (Err r) (job_of bytes)
-refuses view bytes old new d said line (refusal.Job e) short h first state reads =
-    let all = job_of-lines bytes (Err (error_at new.number e.kind)) short
-    (reads_refused bytes old new d line e.kind h first state reads.0) in
+pub refuses : {S A X : Type 0} (language : Language S A) (view : X → A) (bytes : List ℕ) (old new : Place)
+    (d said : S) (line : List ℕ) (r : ParseRefused) → length bytes ≤ language.longest
+    → IsReading language bytes old.number d old.lines → Some line ≡ first_of old.lines → new ≡ next_line old
+    → Reads {T = Unit {0}} (Err r) new.number said (language.with_line new.number d line)
+    → Parses view (Err r) (answer_of language bytes)
+refuses language view bytes old new d said line (refusal.Job e) short h first state reads =
+    let all = answer_of-lines language bytes (Err (error_at new.number e.kind)) short
+    (reads_refused language bytes old new d line e.kind h first state reads.0) in
     all ∙ ap (λ number. Err (error_at number e.kind)) (sym reads.1)
-refuses view bytes old new d said line refusal.NoMemory short h first state reads = tt
+refuses language view bytes old new d said line refusal.NoMemory short h first state reads = tt
 
 -- the whole file is read
-pub finishes : (bytes : List ℕ) (old new : Place) (d : Draft) (answer : Result WholeJob JobError)
-    → length bytes ≤ longest_job → IsReading bytes old.number d old.lines
-    → None ≡ first_of old.lines → new ≡ next_line old → job_at_end new.number d ≡ answer → job_of bytes ≡ answer
-finishes bytes old new d answer short h first state end =
-    job_of-lines bytes answer short ((reads_end bytes old new d h first state).0 ∙ end)
+pub finishes : {S A : Type 0} (language : Language S A) (bytes : List ℕ) (old new : Place) (d : S)
+    (answer : Result A JobError) → length bytes ≤ language.longest → IsReading language bytes old.number d old.lines
+    → None ≡ first_of old.lines → new ≡ next_line old → language.at_end new.number d ≡ answer
+    → answer_of language bytes ≡ answer
+finishes language bytes old new d answer short h first state end =
+    answer_of-lines language bytes answer short ((reads_end language bytes old new d h first state).0 ∙ end)
 
--- a file of a job's length has few lines
-pub reads_few : (bytes : List ℕ) (old new : Place) (d : Draft) → length bytes ≤ longest_job
-    → IsReading bytes old.number d old.lines
-    → None ≡ first_of old.lines → new ≡ next_line old → new.number ≤ longest_job
-reads_few bytes old new d short h first state =
-    omega (arith, lines-few bytes, (reads_end bytes old new d h first state).1)
+-- a file that isn't too long has few lines
+pub reads_few : {S A : Type 0} (language : Language S A) (bytes : List ℕ) (old new : Place) (d : S)
+    → length bytes ≤ language.longest → IsReading language bytes old.number d old.lines
+    → None ≡ first_of old.lines → new ≡ next_line old → new.number ≤ language.longest
+reads_few language bytes old new d short h first state =
+    omega (arith, lines-few bytes, (reads_end language bytes old new d h first state).1)
 
--- one byte more than the longest job tells what the whole file says
-pub job_of-take : (bytes : List ℕ) → job_of (take (longest_job + 1) bytes) ≡ job_of bytes
-job_of-take bytes = elim (cases_lt longest_job (length bytes)) [
-  | inl long ↦ job_of-long (take (longest_job + 1) bytes) (omega (arith, length-take (longest_job + 1) bytes))
-      ∙ sym (job_of-long bytes long)
-  | inr short ↦ ap job_of (take_all (longest_job + 1) bytes (omega arith))
+-- one byte more than the longest file tells what the whole file says
+pub answer_of-take : {S A : Type 0} (language : Language S A) (bytes : List ℕ)
+    → answer_of language (take (language.longest + 1) bytes) ≡ answer_of language bytes
+answer_of-take language bytes = elim (cases_lt language.longest (length bytes)) [
+  | inl long ↦ answer_of-long language (take (language.longest + 1) bytes)
+      (omega (arith, length-take (language.longest + 1) bytes))
+      ∙ sym (answer_of-long language bytes long)
+  | inr short ↦ ap (answer_of language) (take_all (language.longest + 1) bytes (omega arith))
 ]
+
+pub job_of-take : (bytes : List ℕ) → job_of (take (longest_job + 1) bytes) ≡ job_of bytes
+unfolding job_of
+job_of-take bytes = answer_of-take jobs bytes

@@ -1,31 +1,32 @@
 -- Every job that is read is sound: each line keeps what is said so far sound.
-use Rattle.std.proofs.Common.{◌≡◌, ◌≤◌, ◌^◌, ℕ, ◌+◌, Bool, true, false, cond, not, List, [], ◌∷◌, ◌++◌, length, nat_lt, ◌&&◌, Option, Some, None, Result, Ok, Err, refl, ap, sym, subst, ◌∙◌, arith}
+use Rattle.std.proofs.Common.{◌≡◌, ◌≤◌, ◌^◌, ℕ, ◌+◌, Bool, true, false, cond, not, List, [], ◌∷◌, ◌++◌, length, Option, Some, None, Result, Ok, Err, refl, ap, sym, subst, ◌∙◌}
 use Rattle.std.specs.Prelude.{IfOk, IfSome, is_some, slice_set}
-use Rattle.std.specs.Str.Parse.{digits_value}
 use Rattle.std.proofs.lemmas.List.{length-set}
-use Rattle.std.proofs.lemmas.Bool.Decides.{nat_tests}
+use Rattle.std.proofs.lemmas.Bool.{false≢true}
 use Rattle.gba_text.specs.Lines.{lines}
-use Rattle.gba_text.specs.Numbers.{number_of, is_number, is_within}
-use Rattle.gba_text.specs.Reading.{rest_of}
-use Rattle.gba_text.specs.Words.{words, longest_line}
-use Rattle.gba_joblog.specs.Answers.{IsSaid, Parses}
+use Rattle.gba_text.specs.Words.{words}
+use Rattle.gba_joblog.specs.Answers.{Parses}
+use Rattle.gba_joblog.specs.Changes.{change_at}
 use Rattle.gba_joblog.specs.Draft.{Draft, nothing_said, silent_console}
+use Rattle.gba_joblog.specs.Files.{Leads, EndsIn, is_said}
 use Rattle.gba_joblog.specs.Job.{ConsoleJob, WholeJob}
 use Rattle.gba_joblog.specs.Kinds.{◌>>=◌, holds}
-use Rattle.gba_joblog.specs.Language.{Leads, EndsIn, line_says, said_with, first_word, words_say, keyword_says, statement_of, unless_ended, is_comment, plus_statement_if, job_at_end, job_at_place, job_with, job_of, usual_delay}
+use Rattle.gba_joblog.specs.Language.{jobs, line_says, said_with, words_say, words_say_if, keyword_says, statement_of, unless_ended, plus_statement_if, job_at_end, job_at_place, job_with, job_of, usual_delay}
 use Rattle.gba_joblog.specs.Names.{is_name}
-use Rattle.gba_joblog.specs.Operands.{Words, Taken, word_at, number_in, number_at, name_in, name_of, name_at, player_at, version_at, out_kind_at, end_at, or_refused, operand}
+use Rattle.gba_joblog.specs.Operands.{Words, Taken, word_at, number_at, name_in, name_of, name_at, player_at, version_at, out_kind_at, end_at}
 use Rattle.gba_joblog.specs.Soundness.{IsFile, IsPartOfConsole, IsConsole, IsJob}
-use Rattle.gba_joblog.specs.Statements.{Statement, Version, Cycles, Console, Bios, Cart, Save, Out, End, keyword_of, refusal_at, arguments, plus_statement, at_start, in_console, before_console, plain_file, plain_output, place_of, asks_for}
+use Rattle.gba_joblog.specs.Statements.{Statement, Version, Cycles, Console, Bios, Cart, Save, Keys, Key, Out, End, keyword_of, refusal_at, keys_refusal, without_changes, without_file, once, arguments, plus_statement, at_start, in_console, before_console, plain_file, plain_output, place_of, asks_for}
 use Rattle.gba_joblog.specs.declared.draft.Place.{Place}
 use Rattle.gba_joblog.specs.declared.draft.Place.TheVariants.{Start, Head, Inside, Ended}
+use Rattle.gba_joblog.specs.declared.job.KeyChange.{KeyChange}
 use Rattle.gba_joblog.specs.declared.kinds.ParseRefused.{ParseRefused}
-use Rattle.gba_joblog.specs.declared.kinds.ParseRefused.TheVariants as refusal
 use Rattle.gba_joblog.specs.declared.kinds.JobKind.{JobKind}
-use Rattle.gba_joblog.specs.declared.kinds.JobKind.TheVariants.{Repeated, Missing, Long}
+use Rattle.gba_joblog.specs.declared.kinds.JobKind.TheVariants.{Repeated, Missing}
 use Rattle.gba_joblog.specs.declared.statement.Keyword.{Keyword}
 use Rattle.gba_joblog.specs.declared.statement.Keyword.TheVariants as keyword
 use Rattle.gba_joblog.proofs.Relation.{says}
+use Rattle.gba_joblog.proofs.SoundChanges.{none, change_at-keeps}
+use Rattle.gba_joblog.proofs.Steps.{bind-ok, ok-is, some-is, held-true, error_at-some, number_at-range}
 
 abbrev pub InRange : ℕ → Type 0
 InRange cycles = (1 ≤ cycles) × (cycles ≤ 2 ^ 31)
@@ -43,22 +44,10 @@ pub record IsDraft (d : Draft) : Type 0 where
   consoles : AreConsoles d.place d.consoles
 
 silent : IsPartOfConsole silent_console
-silent = record { bios = tt; cart = tt; save = tt; keys = refl; changes = refl; five = refl }
+silent = record { bios = tt; cart = tt; save = tt; keys = tt; changes = none; apart = λ _. refl; five = refl }
 
 pub begins : IsDraft nothing_said
 begins = record { cycles = tt; last = silent; consoles = refl }
-
--- what a step gave and what the steps after it made of that
-bind-ok : {A B : Type 0} (r : Result A JobKind) (f : A → Result B JobKind) (y : B) → (r >>= f) ≡ Ok y
-    → (x : A) × (r ≡ Ok x) × (f x ≡ Ok y)
-bind-ok (Ok x) f y h = (x, refl, h)
-bind-ok (Err kind) f y h = absurd cc
-
-ok-is : {A E : Type 0} (x y : A) → ◌≡◌ {A = Result A E} (Ok x) (Ok y) → x ≡ y
-ok-is x y h = cc
-
-some-is : {A : Type 0} (x y : A) → Some x ≡ Some y → x ≡ y
-some-is x y h = cc
 
 starts : (place : Place) → at_start place ≡ None → place ≡ Start
 starts Start h = refl
@@ -78,33 +67,20 @@ insides Head refusal h = absurd cc
 insides Inside refusal h = refl
 insides Ended refusal h = absurd cc
 
-held-true : (b : Bool) (kind : JobKind) (x : Bool) → holds b kind ≡ Ok x → b ≡ true
-held-true true kind x h = refl
-held-true false kind x h = absurd cc
+stands : (place : Place) (refusal : Option JobKind) → in_console place refusal ≡ None → refusal ≡ None
+stands Start refusal h = absurd cc
+stands Head refusal h = absurd cc
+stands Inside refusal h = h
+stands Ended refusal h = absurd cc
 
-number-range : (least most n : ℕ) (word : List ℕ) → number_of least most word ≡ Some n → (least ≤ n) × (n ≤ most)
-unfolding number_of
-number-range least most n word h = by_test (is_number word && is_within least most (digits_value 10 word)) refl h where
-  by_test : (t : Bool) → (is_number word && is_within least most (digits_value 10 word)) ≡ t
-      → cond t (Some (digits_value 10 word)) None ≡ Some n → (least ≤ n) × (n ≤ most)
-  by_test true e s =
-      let same : digits_value 10 word ≡ n = cc in
-      let low : least ≤ digits_value 10 word = grind (arith, nat_tests) in
-      let high : digits_value 10 word ≤ most = grind (arith, nat_tests) in
-      (omega arith, omega arith)
-  by_test false e s = absurd cc
+no_changes : (changes : List KeyChange) (refusal : Option JobKind) → without_changes changes refusal ≡ None
+    → changes ≡ []
+no_changes [] refusal h = refl
+no_changes (c ∷ changes) refusal h = absurd cc
 
-error_at-some : {T : Type 0} (kind : JobKind) (words : Words) (o : Option T) (t : Taken T)
-    → or_refused kind words o ≡ Ok t → o ≡ Some t.value
-error_at-some kind words (Some x) t h = let same : operand x words ≡ t = cc in ap (λ t. Some t.value) same
-error_at-some kind words None t h = absurd cc
-
-number_at-range : (least most : ℕ) (ws : Words) (t : Taken ℕ) → number_at least most ws ≡ Ok t
-    → (least ≤ t.value) × (t.value ≤ most)
-unfolding number_at
-number_at-range least most ws t h =
-    let b = bind-ok (word_at ws) (number_in least most) t h in
-    number-range least most t.value b.0.value (error_at-some _ _ (number_of least most b.0.value) t b.2)
+no_file : (said : Bool) → without_file said ≡ None → said ≡ false
+no_file true h = absurd cc
+no_file false h = refl
 
 name-is : (word name : List ℕ) → name_of word ≡ Some name → is_name name ≡ true
 name-is word name h = by_test (is_name word) refl h where
@@ -153,8 +129,8 @@ keeps n d keyword.Bios ws s h place e =
         cart = h.last.cart;
         save = h.last.save;
         keys = h.last.keys;
-        changes =
-            h.last.changes;
+        changes = h.last.changes;
+        apart = h.last.apart;
         five = h.last.five;
       };
       consoles = h.consoles;
@@ -171,8 +147,8 @@ keeps n d keyword.Cart ws s h place e =
         cart = file;
         save = h.last.save;
         keys = h.last.keys;
-        changes =
-            h.last.changes;
+        changes = h.last.changes;
+        apart = h.last.apart;
         five = h.last.five;
       };
       consoles = h.consoles;
@@ -189,8 +165,46 @@ keeps n d keyword.Save ws s h place e =
         cart = h.last.cart;
         save = file;
         keys = h.last.keys;
-        changes =
-            h.last.changes;
+        changes = h.last.changes;
+        apart = h.last.apart;
+        five = h.last.five;
+      };
+      consoles = h.consoles;
+    })
+keeps n d keyword.Keys ws s h place e =
+    let b = bind-ok (name_at ws) (λ name. end_at name.words >>= (λ _. Ok (Keys name.value))) s e in
+    let c = bind-ok (end_at b.0.words) (λ _. Ok (Keys b.0.value)) s b.2 in
+    let same : s ≡ Keys b.0.value = sym (ok-is (Keys b.0.value) s c.2) in
+    let file : IsFile (plain_file b.0.value n) = record { named = name_at-is ws b.0 b.1; plain = refl } in
+    let alone : d.last.changes ≡ [] =
+    no_changes d.last.changes (once (is_some d.last.keys)) (stands d.place (keys_refusal d.last) place) in
+    rw same (record {
+      cycles = h.cycles;
+      last = record {
+        bios = h.last.bios;
+        cart = h.last.cart;
+        save = h.last.save;
+        keys = file;
+        changes = h.last.changes;
+        apart = λ _. alone;
+        five = h.last.five;
+      };
+      consoles = h.consoles;
+    })
+keeps n d keyword.Key ws s h place e =
+    let b = bind-ok (change_at d.last.changes ws) (λ change. Ok (Key change)) s e in
+    let same : s ≡ Key b.0 = sym (ok-is (Key b.0) s b.2) in
+    let alone : is_some d.last.keys ≡ false =
+    no_file (is_some d.last.keys) (stands d.place (without_file (is_some d.last.keys)) place) in
+    rw same (record {
+      cycles = h.cycles;
+      last = record {
+        bios = h.last.bios;
+        cart = h.last.cart;
+        save = h.last.save;
+        keys = h.last.keys;
+        changes = change_at-keeps d.last.changes ws b.0 h.last.changes b.1;
+        apart = λ there. absurd (false≢true (sym alone ∙ there));
         five = h.last.five;
       };
       consoles = h.consoles;
@@ -212,8 +226,8 @@ keeps n d keyword.Out ws s h place e =
         cart = h.last.cart;
         save = h.last.save;
         keys = h.last.keys;
-        changes =
-            h.last.changes;
+        changes = h.last.changes;
+        apart = h.last.apart;
         five = five;
       };
       consoles = h.consoles;
@@ -258,24 +272,23 @@ by_keyword : (d : Draft) (ws : Words) (s : Statement) (o : Option Keyword) → k
 by_keyword d ws s None h = absurd cc
 by_keyword d ws s (Some k) h = by_place d k ws s (refusal_at d k) refl h
 
-by_words : (d : Draft) (ws : Words) (s : Statement) (o : Option (List ℕ)) → words_say d ws o ≡ Ok (Some s)
-    → IsStatement d s
-by_words d ws s None h = absurd cc
-by_words d ws s (Some word) h = by_keyword d ws s (keyword_of word) (not-ended d.place (keyword_says d ws
-    (keyword_of word)) s h)
+by_words : (d : Draft) (ws : Words) (s : Statement) → words_say d ws ≡ Ok (Some s) → IsStatement d s
+by_words d ws s h =
+    let b = bind-ok (word_at ws) (λ word. unless_ended d.place (keyword_says d word.words (keyword_of word.value)))
+    (Some s) h in
+    by_keyword d b.0.words s (keyword_of b.0.value) (not-ended d.place (keyword_says d b.0.words
+    (keyword_of b.0.value)) s b.2)
 
-by_text : (d : Draft) (line : List ℕ) (s : Statement) (long comment : Bool)
-    → cond long (Err Long) (cond comment (Ok None) (first_word line (words line) >>= words_say d (rest_of
-    (words line)))) ≡ Ok (Some s) → IsStatement d s
-by_text d line s true comment h = absurd cc
-by_text d line s false true h = absurd cc
-by_text d line s false false h =
-    let b = bind-ok (first_word line (words line)) (words_say d (rest_of (words line))) (Some s) h in
-    by_words d (rest_of (words line)) s b.0 b.2
+by_said : (d : Draft) (ws : Words) (s : Statement) (said : Bool) → words_say_if d ws said ≡ Ok (Some s)
+    → IsStatement d s
+by_said d ws s true h = by_words d ws s h
+by_said d ws s false h = absurd cc
 
 says-statement : (d : Draft) (line : List ℕ) (s : Statement) → line_says d line ≡ Ok (Some s) → IsStatement d s
 unfolding line_says
-says-statement d line s h = by_text d line s (nat_lt longest_line (length line)) (is_comment line) h
+says-statement d line s h =
+    let b = bind-ok (is_said line) (words_say_if d (words line)) (Some s) h in
+    by_said d (words line) s b.0 b.2
 
 with_statement : (n : ℕ) (d : Draft) (line : List ℕ) (o : Option Statement) → IsDraft d → line_says d line ≡ Ok o
     → IsDraft (plus_statement_if n d o)
@@ -290,7 +303,7 @@ line-keeps n d e line h said =
     let b = bind-ok (line_says d line) (λ statement. Ok (plus_statement_if n d statement)) e said in
     subst IsDraft (ok-is (plus_statement_if n d b.0) e b.2) (with_statement n d line b.0 h b.1)
 
-lines-keep : (n : ℕ) (d e : Draft) (ls : List (List ℕ)) → IsDraft d → Leads n d ls e → IsDraft e
+lines-keep : (n : ℕ) (d e : Draft) (ls : List (List ℕ)) → IsDraft d → Leads jobs n d ls e → IsDraft e
 unfolding Leads
 lines-keep n d e [] h leads = subst IsDraft leads h
 lines-keep n d e (line ∷ ls) h leads = lines-keep (n + 1) leads.0 e ls (line-keeps
@@ -323,17 +336,11 @@ at-end n d job h end = by_end d d.place n job h.cycles h.consoles end
 
 -- each job that is read is sound
 pub sound : (bytes : List ℕ) (job : WholeJob) → job_of bytes ≡ Ok job → IsJob job
+unfolding job_of
 sound bytes job h =
-    let ends : EndsIn bytes (Ok job) = rw h at (says bytes) in
+    let ends : EndsIn jobs bytes (Ok job) = rw h at (says jobs bytes) in
     at-end (length (lines bytes)) ends.said job (lines-keep 0 nothing_said ends.said
     (lines bytes) begins ends.leads) ends.end
-
--- what the function says of an answer, the relation says too
-pub is_said : {X : Type 0} (view : X → WholeJob) (bytes : List ℕ) (answer : Result X ParseRefused)
-    → Parses view answer (job_of bytes) → IsSaid view bytes answer
-is_said view bytes (Ok x) h = rw h at (says bytes)
-is_said view bytes (Err (refusal.Job e)) h = rw h at (says bytes)
-is_said view bytes (Err refusal.NoMemory) h = tt
 
 pub is_sound : {X : Type 0} (view : X → WholeJob) (bytes : List ℕ) (answer : Result X ParseRefused)
     → Parses view answer (job_of bytes) → IfOk answer (λ x. IsJob (view x))

@@ -3,8 +3,11 @@ pub mod Job
 pub mod Names
 pub mod Draft
 pub mod Operands
+pub mod Changes
 pub mod Statements
+pub mod Files
 pub mod Language
+pub mod KeyFile
 pub mod Soundness
 pub mod Clash
 pub mod Views

@@ -1,8 +1,8 @@
 -- The words after a line's first one, from left to right: each reader takes the next word, or says why it can't.
-use Rattle.std.specs.Prelude.{ℕ, Bool, true, ◌==◌, List, [], ◌∷◌, codes, Option, Some, None, Result, Ok, Err, if◌then◌else◌}
+use Rattle.std.specs.Prelude.{ℕ, Bool, true, nat_lt, ◌==◌, List, [], ◌∷◌, codes, Option, Some, None, Result, Ok, Err, if◌then◌else◌}
 use Rattle.std.specs.Str.{bytes_eq}
 use Rattle.std.specs.Str.Parse.{digits_value}
-use Rattle.gba_text.specs.Numbers.{is_number, number_of}
+use Rattle.gba_text.specs.Numbers.{is_number, number_of, hex_number_of}
 use Rattle.gba_joblog.specs.Kinds.{◌>>=◌}
 use Rattle.gba_joblog.specs.Names.{is_name}
 use Rattle.gba_joblog.specs.declared.job.OutKind.{OutKind}
@@ -36,6 +36,18 @@ number_in least most t = or_refused Number t.words (number_of least most t.value
 -- a number from `least` to `most`
 unfoldable pub number_at : ℕ → ℕ → Words → Result (Taken ℕ) JobKind
 number_at least most words = word_at words >>= number_in least most
+
+-- one bit for each of the ten keys
+abbrev pub keys_within : Option ℕ → Option ℕ
+keys_within None = None
+keys_within (Some keys) = if nat_lt keys 1024 then Some keys else None
+
+abbrev pub keys_in : Taken (List ℕ) → Result (Taken ℕ) JobKind
+keys_in t = or_refused Number t.words (keys_within (hex_number_of 3 t.value))
+
+-- the pressed keys as three hexadecimal digits, below 400h
+unfoldable pub keys_at : Words → Result (Taken ℕ) JobKind
+keys_at words = word_at words >>= keys_in
 
 abbrev pub name_of : List ℕ → Option (List ℕ)
 name_of word = if is_name word then Some word else None

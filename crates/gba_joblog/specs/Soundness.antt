@@ -1,21 +1,38 @@
--- What holds of every job that is read.
-use Rattle.std.specs.Prelude.{◌≡◌, ◌≤◌, ◌^◌, ℕ, true, List, [], ◌∷◌, length, None, IfSome, IsSome, Ok}
+-- What holds of every job, and of every key file's changes, that is read.
+use Rattle.std.specs.Prelude.{◌≡◌, ◌≤◌, ◌<◌, ◌^◌, ℕ, true, List, [], ◌∷◌, length, None, IfSome, IsSome, Ok}
+use Rattle.std.specs.List.{All}
+use Rattle.std.specs.List.Sorted.{IsNonDecreasingBy}
+use Rattle.gba_joblog.specs.Changes.{most_changes}
 use Rattle.gba_joblog.specs.Job.{ConsoleJob, NamedFile, WholeJob}
 use Rattle.gba_joblog.specs.Language.{job_of, usual_delay}
+use Rattle.gba_joblog.specs.KeyFile.{keys_of}
 use Rattle.gba_joblog.specs.Names.{is_name}
+use Rattle.gba_joblog.specs.declared.job.KeyChange.{KeyChange}
 
 -- a file with a name of 1 to 200 bytes, and so far without a digest
 pub record IsFile (file : NamedFile) : Type 0 where
   pub named : is_name file.name ≡ true
   pub plain : file.digest ≡ None
 
+-- a change at a clock below 2^38 of keys below 400h
+pub record IsChange (change : KeyChange) : Type 0 where
+  pub early : change.clock < 2 ^ 38
+  pub keys : change.keys < 1024
+
+-- at most 1,000,000 changes, whose clocks don't fall
+pub record AreChanges (changes : List KeyChange) : Type 0 where
+  pub each : All IsChange changes
+  pub rising : IsNonDecreasingBy (λ change. change.clock) changes
+  pub few : length changes ≤ most_changes
+
 -- what the lines of a console, all of them or some, say
 pub record IsPartOfConsole (console : ConsoleJob) : Type 0 where
   pub bios : IfSome console.bios IsFile
   pub cart : IfSome console.cart IsFile
   pub save : IfSome console.save IsFile
-  pub keys : console.keys ≡ None
-  pub changes : console.changes ≡ []
+  pub keys : IfSome console.keys IsFile
+  pub changes : AreChanges console.changes
+  pub apart : IsSome console.keys → console.changes ≡ []
   pub five : length console.outs ≡ 5
 
 -- a whole console has its BIOS image
@@ -35,3 +52,7 @@ pub record IsJob (job : WholeJob) : Type 0 where
 -- each job that a file says is sound
 abbrev pub IsSoundLanguage : Type 0
 IsSoundLanguage = (bytes : List ℕ) (job : WholeJob) → job_of bytes ≡ Ok job → IsJob job
+
+-- the changes that a key file says are sound
+abbrev pub KeysAreSound : Type 0
+KeysAreSound = (bytes : List ℕ) (changes : List KeyChange) → keys_of bytes ≡ Ok changes → AreChanges changes

@@ -1,12 +1,14 @@
 -- The table of statements. Each keyword has its spelling, its place, its operands, and what it says.
 use Rattle.std.specs.Prelude.{ℕ, ◌^◌, Bool, true, false, List, [], ◌∷◌, ◌++◌, length, codes, not, Option, Some, None, Result, Ok, is_some, slice_get, slice_set, if◌then◌else◌}
 use Rattle.std.specs.Str.{bytes_eq}
+use Rattle.gba_joblog.specs.Changes.{change_at}
 use Rattle.gba_joblog.specs.Draft.{Draft, silent_console}
 use Rattle.gba_joblog.specs.Job.{ConsoleJob, NamedFile}
 use Rattle.gba_joblog.specs.Kinds.{◌>>=◌, holds}
 use Rattle.gba_joblog.specs.Operands.{Words, number_at, name_at, player_at, version_at, out_kind_at, end_at}
 use Rattle.gba_joblog.specs.declared.draft.Place.{Place}
 use Rattle.gba_joblog.specs.declared.draft.Place.TheVariants.{Start, Head, Inside, Ended}
+use Rattle.gba_joblog.specs.declared.job.KeyChange.{KeyChange}
 use Rattle.gba_joblog.specs.declared.job.OutKind.{OutKind}
 use Rattle.gba_joblog.specs.declared.job.OutKind.TheVariants as output
 use Rattle.gba_joblog.specs.declared.job.OutLine.{OutLine}
@@ -23,6 +25,8 @@ pub data Statement : Type 0 where
   Bios : List ℕ → Statement
   Cart : List ℕ → Statement
   Save : List ℕ → Statement
+  Keys : List ℕ → Statement
+  Key : KeyChange → Statement
   Out : OutKind → Statement
   End : Statement
 
@@ -35,6 +39,8 @@ keyword_of word =
     else if bytes_eq word (codes "bios") then Some keyword.Bios
     else if bytes_eq word (codes "cart") then Some keyword.Cart
     else if bytes_eq word (codes "save") then Some keyword.Save
+    else if bytes_eq word (codes "keys") then Some keyword.Keys
+    else if bytes_eq word (codes "key") then Some keyword.Key
     else if bytes_eq word (codes "out") then Some keyword.Out
     else if bytes_eq word (codes "end") then Some keyword.End
     else None
@@ -57,6 +63,19 @@ in_console Inside refusal = refusal
 in_console Start _ = Some kind.Order
 in_console Head _ = Some kind.Order
 in_console Ended _ = Some kind.Order
+
+-- a console whose keys come by `key` lines has no `keys` line, and no console has two
+abbrev pub without_changes : List KeyChange → Option JobKind → Option JobKind
+without_changes [] refusal = refusal
+without_changes (_ ∷ _) _ = Some kind.Order
+
+abbrev pub keys_refusal : ConsoleJob → Option JobKind
+keys_refusal console = without_changes console.changes (once (is_some console.keys))
+
+-- a console whose keys come from a file has no `key` line
+abbrev pub without_file : Bool → Option JobKind
+without_file true = Some kind.Order
+without_file false = None
 
 -- `gbalink` is the first line, and stands nowhere else
 abbrev pub at_start : Place → Option JobKind
@@ -81,6 +100,8 @@ refusal_at d keyword.Console = before_console d.place (is_some d.cycles)
 refusal_at d keyword.Bios = in_console d.place (once (is_some d.last.bios))
 refusal_at d keyword.Cart = in_console d.place (once (is_some d.last.cart))
 refusal_at d keyword.Save = in_console d.place (once (is_some d.last.save))
+refusal_at d keyword.Keys = in_console d.place (keys_refusal d.last)
+refusal_at d keyword.Key = in_console d.place (without_file (is_some d.last.keys))
 refusal_at d keyword.Out = in_console d.place None
 refusal_at d keyword.End = in_console d.place None
 
@@ -127,6 +148,13 @@ arguments d keyword.Save words = do
   name ← name_at words
   _ ← end_at name.words
   Ok (Save name.value)
+arguments d keyword.Keys words = do
+  name ← name_at words
+  _ ← end_at name.words
+  Ok (Keys name.value)
+arguments d keyword.Key words = do
+  change ← change_at d.last.changes words
+  Ok (Key change)
 arguments d keyword.Out words = do
   out ← out_kind_at words
   _ ← holds (not (asks_for d.last out.value)) kind.Repeated
@@ -152,6 +180,8 @@ plus_statement line Console d = record d { place = Inside }
 plus_statement line (Bios name) d = record d { last = record d.last { bios = Some (plain_file name line) } }
 plus_statement line (Cart name) d = record d { last = record d.last { cart = Some (plain_file name line) } }
 plus_statement line (Save name) d = record d { last = record d.last { save = Some (plain_file name line) } }
+plus_statement line (Keys name) d = record d { last = record d.last { keys = Some (plain_file name line) } }
+plus_statement line (Key change) d = record d { last = record d.last { changes = d.last.changes ++ change ∷ [] } }
 plus_statement line (Out out) d =
     record d { last = record d.last { outs = slice_set d.last.outs (place_of out) (Some plain_output) } }
 plus_statement line End d = record d { place = Ended; consoles = d.consoles ++ d.last ∷ []; last = silent_console }

@@ -1,7 +1,7 @@
 use Rattle.std.specs.Prelude.{map, option_map, string_bytes}
 use Rattle.gba_joblog.specs.Draft.{Draft}
 use Rattle.gba_joblog.specs.Job.{ConsoleJob, NamedFile, WholeJob}
-use Rattle.gba_joblog.specs.Statements.{Statement, Version, Cycles, Console, Bios, Cart, Save, Out, End}
+use Rattle.gba_joblog.specs.Statements.{Statement, Version, Cycles, Console, Bios, Cart, Save, Keys, Key, Out, End}
 use Rattle.gba_joblog.specs.declared.draft.DraftJob.{DraftJob}
 use Rattle.gba_joblog.specs.declared.job.FileLine.{FileLine}
 use Rattle.gba_joblog.specs.declared.job.Job.{Job}
@@ -41,5 +41,7 @@ statement_value line.Console = Console
 statement_value (line.Bios name) = Bios name.now
 statement_value (line.Cart name) = Cart name.now
 statement_value (line.Save name) = Save name.now
+statement_value (line.Keys name) = Keys name.now
+statement_value (line.Key change) = Key change
 statement_value (line.Out out) = Out out
 statement_value line.End = End

@@ -113,6 +113,15 @@ impl DraftJob {
                 self.last.save = Some(file);
                 Ok(())
             }
+            Line::Keys(name) => {
+                let file = plain_file(alloc, name, number)?;
+                self.last.keys = Some(file);
+                Ok(())
+            }
+            Line::Key(change) => {
+                self.last.changes.push(change)?;
+                Ok(())
+            }
             Line::Out(out) => {
                 self.last.outs[out.place()] = Some(OutLine { digest: None });
                 Ok(())

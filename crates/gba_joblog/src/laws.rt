@@ -1,7 +1,8 @@
-//! Laws of the job language. Each function takes no value and answers nothing; its contract is its law.
+//! Laws of the job language and of key files. Each function takes no value and answers nothing; its contract is its law.
 
+ghost use Rattle.gba_joblog.specs.KeyFile.{KeysAreAnswered, KeysHaveOneAnswer};
 ghost use Rattle.gba_joblog.specs.Language.{HasOneAnswer, IsAnswered};
-ghost use Rattle.gba_joblog.specs.Soundness.{IsSoundLanguage};
+ghost use Rattle.gba_joblog.specs.Soundness.{IsSoundLanguage, KeysAreSound};
 
 /// Every file says a job or has a refusal, the one that the function `job_of` gives.
 pub fn answered()
@@ -16,4 +17,20 @@ pub fn one_answer()
 /// Every job that is read is in the ranges of the language and has one console with its BIOS image.
 pub fn sound()
     ensures law { IsSoundLanguage }
+{}
+
+/// Every key file says changes or has a refusal, the one that the function `keys_of` gives.
+pub fn keys_answered()
+    ensures law { KeysAreAnswered }
+{}
+
+/// No key file says two lists of changes, or changes and a refusal, or has two refusals.
+pub fn keys_one_answer()
+    ensures law { KeysHaveOneAnswer }
+{}
+
+/// A key file that is read has at most 1,000,000 changes, of keys below 400h, and their clocks don't fall and are below
+/// 2^38.
+pub fn keys_sound()
+    ensures law { KeysAreSound }
 {}

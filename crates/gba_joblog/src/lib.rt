@@ -1,14 +1,17 @@
 #![tactic(auto)]
-//! The job language: `Job::parse` reads a job or names the first refused line, and `Job::clash` finds an output file
-//! that would be the job or one of its inputs.
+//! The job language: `Job::parse` reads a job or names the first refused line, `parse_keys` does so with a file of key
+//! changes, and `Job::clash` finds an output file that would be the job or one of its inputs.
 //!
 //! Contracts see a [`Job`] as numbers and lists, and a name as its bytes (`specs/Job.antt`).
 
+mod changes;
 mod clash;
 mod draft;
 mod job;
+mod key_file;
 mod kinds;
 pub mod laws;
+mod lines;
 mod names;
 mod operands;
 mod parse;
@@ -17,6 +20,7 @@ mod statement;
 mod tests;
 
 pub use job::{FileLine, Job, JobConsole, KeyChange, OutKind, OutLine};
+pub use key_file::{LONGEST_KEYS, parse_keys};
 pub use kinds::{JobError, JobKind, ParseRefused};
 pub use names::is_name;
 pub use parse::LONGEST_JOB;

@@ -4,7 +4,7 @@ ghost use Rattle.std.specs.Prelude.{◌≡◌, ◌<◌, true};
 ghost use Rattle.gba_text.specs.Numbers.{all_digits, is_number as is_number_of};
 ghost use Rattle.gba_text.specs.Words.{fault_of};
 ghost use Rattle.gba_joblog.specs.Answers.{Agrees, Takes};
-ghost use Rattle.gba_joblog.specs.Operands.{end_at as end_at_of, name_at as name_at_of, number_at as number_at_of, other_player as other_player_of, out_kind_at as out_kind_at_of, player_at as player_at_of, version_at as version_at_of, word_at as word_at_of};
+ghost use Rattle.gba_joblog.specs.Operands.{end_at as end_at_of, keys_at as keys_at_of, name_at as name_at_of, number_at as number_at_of, other_player as other_player_of, out_kind_at as out_kind_at_of, player_at as player_at_of, version_at as version_at_of, word_at as word_at_of};
 
 use crate::job::OutKind;
 use crate::kinds::JobKind;
@@ -13,6 +13,12 @@ use gba_text::Cursor;
 
 /// The most digits of a number.
 const MOST_DIGITS: usize = 20;
+
+/// The digits of pressed keys.
+const KEY_DIGITS: u32 = 3;
+
+/// One more than the greatest value of pressed keys, which are ten bits.
+const KEYS_END: u64 = 0x400;
 
 /// The next word of the line.
 #[tactic(auto, unfolding(gba_text::specs::Reading::next_word))]
@@ -42,6 +48,23 @@ pub(crate) fn number_at(cursor: &mut Cursor<'_>, least: u64, most: u64) -> Resul
 {
     match cursor.number(least, most) {
         Ok(number) => Ok(number),
+        Err(refusal) => Err(JobKind::of_text(refusal.kind)),
+    }
+}
+
+/// The next word as pressed keys: three hexadecimal digits, below 400h.
+#[tactic(auto, unfolding(gba_text::specs::Reading::next_word, gba_text::specs::Reading::next_hex_number, crate::specs::Operands::keys_at))]
+pub(crate) fn keys_at(cursor: &mut Cursor<'_>) -> Result<u16, JobKind>
+    requires given { 0 < cursor.old.number }
+    requires sound { fault_of cursor.old.line ≡ None }
+    ensures word { Takes (λ keys. keys) result cursor.new.words (keys_at_of cursor.old.words) }
+    ensures number { cursor.new.number ≡ cursor.old.number }
+    ensures line { cursor.new.line ≡ cursor.old.line }
+    ensures lines { cursor.new.lines ≡ cursor.old.lines }
+{
+    match cursor.hex_number(KEY_DIGITS) {
+        Ok(keys) if keys < KEYS_END => Ok(keys as u16),
+        Ok(_) => Err(JobKind::Number),
         Err(refusal) => Err(JobKind::of_text(refusal.kind)),
     }
 }

@@ -1,66 +1,34 @@
 //! The lines of a job, one after another.
 
-ghost use Rattle.std.specs.Prelude.{◌≡◌, ◌+◌, ◌<◌, ◌≤◌, ◌^◌, length, IfOk, OnOk, Some, None, option_map};
-ghost use Rattle.gba_text.specs.Reading.{rest_of};
+ghost use Rattle.std.specs.Prelude.{◌≡◌, ◌<◌, IfOk, None, option_map};
 ghost use Rattle.gba_text.specs.Words.{fault_of, words};
 ghost use Rattle.gba_joblog.specs.Answers.{Agrees, IsSaid, Parses, Reads};
-ghost use Rattle.gba_joblog.specs.Language.{first_word as first_word_of, is_comment as is_comment_of, job_of, line_says as line_says_of, said_with, words_say as words_say_of};
+ghost use Rattle.gba_joblog.specs.Language.{job_of, jobs, line_says as line_says_of, said_with, words_say as words_say_of};
 ghost use Rattle.gba_joblog.specs.Soundness.{IsJob};
 ghost use Rattle.gba_joblog.specs.Views.{draft_value, job_value, statement_value};
 
 use crate::draft::{DraftJob, Place};
 use crate::job::Job;
-use crate::kinds::{JobError, JobKind, ParseRefused};
+use crate::kinds::{JobKind, ParseRefused};
+use crate::lines::{is_said, make_refusal};
+use crate::operands::word_at;
 use crate::statement::{Line, arguments, keyword_of, refusal_at};
-use gba_text::{Cursor, TextKind};
+use gba_text::Cursor;
 use std::alloc::Global;
 
 /// The most bytes of a job.
 pub const LONGEST_JOB: usize = 134_217_728;
 
-/// The most bytes of a line.
-const LONGEST_LINE: usize = 400;
-
-fn make_refusal(line: u64, kind: JobKind) -> ParseRefused
-    ensures { result ≡ ParseRefused.Job (record { line = line; kind = kind }) }
-{
-    ParseRefused::Job(JobError { line, kind })
-}
-
-/// The first word of a line of at most 400 bytes that isn't a comment; None where it has none.
-#[tactic(auto, unfolding(gba_text::specs::Reading::next_word, gba_text::specs::Words::fault_of))]
-fn first_word<'a>(cursor: &mut Cursor<'a>) -> Result<Option<&'a [u8]>, JobKind>
-    requires given { 0 < cursor.old.number }
-    requires short { length cursor.old.line ≤ 400 }
-    ensures word { Agrees (option_map (λ w. w.now)) result (first_word_of cursor.old.line cursor.old.words) }
-    ensures rest { OnOk result (cursor.new.words ≡ rest_of cursor.old.words) }
-    ensures sound { OnOk result (fault_of cursor.old.line ≡ None) }
-    ensures number { cursor.new.number ≡ cursor.old.number }
-    ensures line { cursor.new.line ≡ cursor.old.line }
-    ensures lines { cursor.new.lines ≡ cursor.old.lines }
-{
-    match cursor.word() {
-        Ok(word) => Ok(Some(word)),
-        Err(refusal) => match refusal.kind {
-            TextKind::Missing => Ok(None),
-            _ => Err(JobKind::Byte),
-        },
-    }
-}
-
-/// What a line says with its first word and the others.
-fn words_say<'a>(
-    draft: &DraftJob,
-    word: &[u8],
-    cursor: &mut Cursor<'a>,
-) -> Result<Option<Line<'a>>, JobKind>
+/// What the words of a line say, the first of which is the keyword.
+fn words_say<'a>(draft: &DraftJob, cursor: &mut Cursor<'a>) -> Result<Option<Line<'a>>, JobKind>
     requires given { 0 < cursor.old.number }
     requires sound { fault_of cursor.old.line ≡ None }
     ensures says { Agrees (option_map statement_value) result
-        (words_say_of (draft_value draft.now) cursor.old.words (Some word.now)) }
+        (words_say_of (draft_value draft.now) cursor.old.words) }
     ensures number { cursor.new.number ≡ cursor.old.number }
     ensures lines { cursor.new.lines ≡ cursor.old.lines }
 {
+    let word = word_at(cursor)?;
     if draft.place == Place::Ended {
         return Err(JobKind::Extra);
     }
@@ -72,15 +40,6 @@ fn words_say<'a>(
     }
     let line = arguments(draft, keyword, cursor)?;
     Ok(Some(line))
-}
-
-fn is_comment(line: &[u8]) -> bool
-    ensures { result ≡ is_comment_of line.now }
-{
-    match line.first() {
-        Some(byte) => *byte == b'#',
-        None => false,
-    }
 }
 
 /// What the line that the cursor gave last says after the lines before it; None where it is skipped.
@@ -97,16 +56,10 @@ fn line_says<'a>(
     ensures number { cursor.new.number ≡ cursor.old.number }
     ensures lines { cursor.new.lines ≡ cursor.old.lines }
 {
-    if line.len() > LONGEST_LINE {
-        return Err(JobKind::Long);
-    }
-    if is_comment(line) {
+    if !is_said(line, cursor)? {
         return Ok(None);
     }
-    match first_word(cursor)? {
-        Some(word) => words_say(draft, word, cursor),
-        None => Ok(None),
-    }
+    words_say(draft, cursor)
 }
 
 /// Reads one line more, the line that the cursor gave last.
@@ -136,7 +89,7 @@ fn read_line(
 }
 
 /// The job that the bytes say.
-#[tactic(auto, unfolding(crate::specs::Language::job_of))]
+#[tactic(auto, unfolding(crate::specs::Language::job_of, crate::specs::Files::answer_of))]
 fn read_job(alloc: Global, bytes: &[u8]) -> Result<Job, ParseRefused>
     ensures job { Parses job_value result (job_of bytes.now) }
 {
@@ -159,10 +112,10 @@ fn read_job(alloc: Global, bytes: &[u8]) -> Result<Job, ParseRefused>
 
 impl Job {
     /// Reads a job. Refused is the first line that isn't of the language, or the whole file with line 0 where it has
-    /// more than 134,217,728 bytes. It takes memory for the names alone. A job that is read has one console with its
-    /// BIOS image, and each name has 1 to 200 bytes.
+    /// more than 134,217,728 bytes. It takes memory for the names and the key changes alone. A job that is read has one
+    /// console with its BIOS image, and each name has 1 to 200 bytes.
     pub fn parse(alloc: Global, bytes: &[u8]) -> Result<Job, ParseRefused>
-        ensures said { IsSaid job_value bytes.now result }
+        ensures said { IsSaid jobs job_value bytes.now result }
         ensures job { Parses job_value result (job_of bytes.now) }
         ensures sound { IfOk result (λ job. IsJob (job_value job)) }
     {

@@ -3,11 +3,12 @@
 ghost use Rattle.std.specs.Prelude.{◌≡◌, ◌<◌};
 ghost use Rattle.gba_text.specs.Words.{fault_of};
 ghost use Rattle.gba_joblog.specs.Answers.{Agrees};
-ghost use Rattle.gba_joblog.specs.Statements.{arguments as arguments_of, keyword_of as keyword_spelled, refusal_at as refusal_at_of};
-ghost use Rattle.gba_joblog.specs.Views.{draft_value, statement_value};
+ghost use Rattle.gba_joblog.specs.Statements.{arguments as arguments_of, keys_refusal as keys_refusal_of, keyword_of as keyword_spelled, refusal_at as refusal_at_of};
+ghost use Rattle.gba_joblog.specs.Views.{console_value, draft_value, statement_value};
 
+use crate::changes::change_at;
 use crate::draft::{DraftJob, Place};
-use crate::job::OutKind;
+use crate::job::{JobConsole, KeyChange, OutKind};
 use crate::kinds::JobKind;
 use crate::operands::{end_at, name_at, number_at, out_kind_at, player_at, version_at};
 use gba_text::Cursor;
@@ -24,6 +25,8 @@ pub(crate) enum Keyword {
     Bios,
     Cart,
     Save,
+    Keys,
+    Key,
     Out,
     End,
 }
@@ -37,6 +40,8 @@ pub(crate) enum Line<'a> {
     Bios(&'a str),
     Cart(&'a str),
     Save(&'a str),
+    Keys(&'a str),
+    Key(KeyChange),
     Out(OutKind),
     End,
 }
@@ -58,6 +63,10 @@ pub(crate) fn keyword_of(word: &[u8]) -> Option<Keyword>
         Some(Keyword::Cart)
     } else if word == b"save".as_slice() {
         Some(Keyword::Save)
+    } else if word == b"keys".as_slice() {
+        Some(Keyword::Keys)
+    } else if word == b"key".as_slice() {
+        Some(Keyword::Key)
     } else if word == b"out".as_slice() {
         Some(Keyword::Out)
     } else if word == b"end".as_slice() {
@@ -65,6 +74,19 @@ pub(crate) fn keyword_of(word: &[u8]) -> Option<Keyword>
     } else {
         None
     }
+}
+
+/// Why a console's line `keys` may not stand here, if so.
+fn keys_refusal(console: &JobConsole) -> Option<JobKind>
+    ensures { result ≡ keys_refusal_of (console_value console.now) }
+{
+    if !console.changes.is_empty() {
+        return Some(JobKind::Order);
+    }
+    if console.keys.is_some() {
+        return Some(JobKind::Repeated);
+    }
+    None
 }
 
 /// Why a line may not stand here, if so.
@@ -82,8 +104,15 @@ pub(crate) fn refusal_at(draft: &DraftJob, keyword: Keyword) -> Option<JobKind>
         (Keyword::Bios, Place::Inside) if draft.last.bios.is_some() => Some(JobKind::Repeated),
         (Keyword::Cart, Place::Inside) if draft.last.cart.is_some() => Some(JobKind::Repeated),
         (Keyword::Save, Place::Inside) if draft.last.save.is_some() => Some(JobKind::Repeated),
+        (Keyword::Keys, Place::Inside) => keys_refusal(&draft.last),
+        (Keyword::Key, Place::Inside) if draft.last.keys.is_some() => Some(JobKind::Order),
         (
-            Keyword::Bios | Keyword::Cart | Keyword::Save | Keyword::Out | Keyword::End,
+            Keyword::Bios
+            | Keyword::Cart
+            | Keyword::Save
+            | Keyword::Key
+            | Keyword::Out
+            | Keyword::End,
             Place::Inside,
         ) => None,
         _ => Some(JobKind::Order),
@@ -134,6 +163,15 @@ pub(crate) fn arguments<'a>(
             let name = name_at(cursor)?;
             end_at(cursor)?;
             Ok(Line::Save(name))
+        }
+        Keyword::Keys => {
+            let name = name_at(cursor)?;
+            end_at(cursor)?;
+            Ok(Line::Keys(name))
+        }
+        Keyword::Key => {
+            let change = change_at(&draft.last.changes, cursor)?;
+            Ok(Line::Key(change))
         }
         Keyword::Out => {
             let out = out_kind_at(cursor)?;

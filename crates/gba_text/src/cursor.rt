@@ -104,6 +104,15 @@ impl<'a> Cursor<'a> {
         }
     }
 
+    /// The next word of the line that was given last, which stays to be taken. Refused is what `word` refuses.
+    pub fn peek(&self) -> Result<&'a [u8], TextError>
+        requires { 0 < self.now.number }
+        ensures { Gives (λ w. w.now) self.now.number result (next_word self.now) }
+    {
+        let (word, _) = self.piece()?;
+        Ok(word)
+    }
+
     /// The next word of the line that was given last. Refused are, in this order: a line of more than 400 bytes, a line
     /// with a byte that isn't of words, and the end of the line. A refused call leaves the cursor as it was.
     pub fn word(&mut self) -> Result<&'a [u8], TextError>

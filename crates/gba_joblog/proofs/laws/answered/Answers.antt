@@ -1,5 +1,7 @@
+use Rattle.gba_joblog.specs.Language.{jobs, job_of}
 use Rattle.gba_joblog.proofs.Relation.{says}
 use Rattle.gba_joblog.proofs.laws.answered.Goals as goal
 
 pub returns : goal.returns
-returns c = record { law = says }
+unfolding job_of
+returns c = record { law = says jobs }
