@@ -7,12 +7,13 @@ ghost use Rattle.gba_joblog.specs.Views.{console_value};
 
 use std::alloc::Global;
 
-/// At a clock the pressed keys change.
+/// From a clock on, these keys are pressed and no others.
 #[derive(Clone, Copy, Debug, PartialEq, Eq)]
 pub struct KeyChange {
-    /// In cycles since reset.
+    /// In cycles of 16,777,216 Hz since reset; below 2^38 where it is read.
     pub clock: u64,
-    /// One bit for each key in the order of KEYINPUT (GBATEK, GBA Keypad Input), 1 for pressed.
+    /// One bit for each key in the order of KEYINPUT (GBATEK, GBA Keypad Input), but 1 for pressed; below 400h where it
+    /// is read.
     pub keys: u16,
 }
 
@@ -40,7 +41,9 @@ pub struct JobConsole {
     pub bios: Option<FileLine>,
     pub cart: Option<FileLine>,
     pub save: Option<FileLine>,
+    /// The key file, where the job names one; then `changes` is empty as the job is read.
     pub keys: Option<FileLine>,
+    /// The key changes of the job's own lines, in their order, by clocks that don't fall; at most 1,000,000.
     pub changes: Vec<KeyChange>,
     /// The outputs in the order frames, samples, words, state, save.
     pub outs: [Option<OutLine>; 5],

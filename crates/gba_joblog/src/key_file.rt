@@ -87,8 +87,9 @@ fn read_keys(alloc: Global, bytes: &[u8]) -> Result<Vec<KeyChange>, ParseRefused
     Ok(changes)
 }
 
-/// Reads a key file: lines of a clock and the keys that are pressed from then on. Refused is the first line that isn't
-/// so, or the whole file with line 0 where it has more than 33,554,432 bytes.
+/// Reads a key file of this project's profile: on each line a change's clock and keys, in the order of the lines.
+/// Refused is the first line that isn't so, or the whole file with line 0 where it has more than 33,554,432 bytes. The
+/// 1,000,001st change is refused as `Long` where its line is otherwise right. An empty file has no change.
 pub fn parse_keys(alloc: Global, bytes: &[u8]) -> Result<Vec<KeyChange>, ParseRefused>
     ensures said { IsSaid key_files (λ changes. changes.items) bytes.now result }
     ensures keys { Parses (λ changes. changes.items) result (keys_of bytes.now) }

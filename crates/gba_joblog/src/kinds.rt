@@ -1,4 +1,4 @@
-//! Why a job is refused.
+//! Why a job or a key file is refused.
 
 ghost use Rattle.std.specs.Prelude.{◌≡◌, Some};
 ghost use Rattle.gba_joblog.specs.Kinds.{kind_name, kind_of_text, refusal_text};
@@ -8,21 +8,22 @@ use std::alloc::AllocError;
 use std::error::Error;
 use std::fmt;
 
-/// What is wrong with a line of a job. On one line the tests come in this order: `Long`; `Byte`; for the first word
-/// `Word`, `Order` and `Repeated`; the other words from left to right; `Missing` or `Extra`.
+/// What is wrong with a line of a job or a key file. On one line the tests come in this order: `Long`; `Byte`; in a job
+/// for the first word `Word`, `Order` and `Repeated`; the other words from left to right; `Missing` or `Extra`; and
+/// `Long` once more for a key change too many.
 #[derive(Clone, Copy, Debug, PartialEq, Eq)]
 pub enum JobKind {
     /// A byte may not stand there.
     Byte,
     /// A word isn't one of those that may stand there.
     Word,
-    /// A number isn't spelled so, or is out of its range.
+    /// A number or a change's keys aren't spelled so, or are out of their range.
     Number,
     /// A name isn't a name.
     Name,
     /// The digits aren't 64 hexadecimal digits. No line states a digest yet.
     Digest,
-    /// A line stands where it may not, or a console isn't the next one.
+    /// A line stands where it may not, a console isn't the next one, or a change's clock is less than the one before it.
     Order,
     /// A line that may stand once stands again.
     Repeated,
@@ -30,7 +31,8 @@ pub enum JobKind {
     Missing,
     /// A word follows a whole line, or a line follows `end`.
     Extra,
-    /// A line has more than 400 bytes, or the file more than 134,217,728.
+    /// A line has more than 400 bytes, a job more than 134,217,728, a key file more than 33,554,432, or a console more
+    /// than 1,000,000 key changes.
     Long,
     /// An output file would be the job or one of its inputs.
     Clash,
@@ -76,7 +78,7 @@ impl fmt::Display for JobKind {
     }
 }
 
-/// The first refused line of a job, and why it is refused.
+/// The first refused line of a job or a key file, and why it is refused.
 #[derive(Clone, Copy, Debug, PartialEq, Eq)]
 pub struct JobError {
     /// The line's number, from 1; one past the last line where the file ends too early; 0 where the file is too long.
@@ -96,7 +98,7 @@ impl fmt::Display for JobError {
 
 impl Error for JobError {}
 
-/// Why a job can't be read: it isn't of the language, or memory is wanting.
+/// Why a job or a key file can't be read: it isn't of its language, or memory is wanting.
 #[derive(Clone, Copy, Debug, PartialEq, Eq)]
 pub enum ParseRefused {
     Job(JobError),

@@ -180,14 +180,10 @@ fn hexadecimal_numbers_have_just_so_many_digits(rt: HostRuntime) {
 fn a_refusal_tells_its_line_and_leaves_the_cursor(rt: HostRuntime) {
     let mut cursor = Cursor::new(b"# \xff\n\n a b 7\r\nlast");
     assert!(rt; cursor.line().is_some());
-    assert_eq!(rt; cursor.peek(), refused(1, TextKind::Byte));
     assert_eq!(rt; cursor.word(), refused(1, TextKind::Byte));
     assert!(rt; cursor.line().is_some());
-    assert_eq!(rt; cursor.peek(), refused(2, TextKind::Missing));
     assert_eq!(rt; cursor.word(), refused(2, TextKind::Missing));
     assert!(rt; cursor.line().is_some());
-    assert_eq!(rt; cursor.peek(), Ok(b"a".as_slice()));
-    assert_eq!(rt; cursor.peek(), Ok(b"a".as_slice()));
     assert_eq!(rt; cursor.word(), Ok(b"a".as_slice()));
     assert_eq!(rt; cursor.number(0, 9), refused(3, TextKind::Number));
     assert_eq!(rt; cursor.hex_number(2), refused(3, TextKind::Number));
@@ -198,6 +194,19 @@ fn a_refusal_tells_its_line_and_leaves_the_cursor(rt: HostRuntime) {
     assert_eq!(rt; cursor.word(), Ok(b"last".as_slice()));
     assert_eq!(rt; cursor.line(), None);
     assert_eq!(rt; cursor.word(), refused(4, TextKind::Missing));
+}
+
+#[test]
+fn a_look_at_a_word_takes_nothing(rt: HostRuntime) {
+    let mut cursor = Cursor::new(b" a b\n\t\n# \xff");
+    assert!(rt; cursor.line().is_some());
+    assert_eq!(rt; cursor.peek(), Ok(b"a".as_slice()));
+    assert_eq!(rt; cursor.word(), Ok(b"a".as_slice()));
+    assert_eq!(rt; cursor.peek(), Ok(b"b".as_slice()));
+    assert!(rt; cursor.line().is_some());
+    assert_eq!(rt; cursor.peek(), refused(2, TextKind::Missing));
+    assert!(rt; cursor.line().is_some());
+    assert_eq!(rt; cursor.peek(), refused(3, TextKind::Byte));
 }
 
 #[test]
