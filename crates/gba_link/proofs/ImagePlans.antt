@@ -8,7 +8,8 @@ use Rattle.gba_command.proofs.Plans.{goes-then, goes-stop}
 use Rattle.gba_image.specs.declared.error.ImageError.{ImageError}
 use Rattle.gba_image.specs.declared.images.ConsoleImages.{ConsoleImages}
 use Rattle.gba_joblog.specs.Job.{ConsoleJob}
-use Rattle.gba_link.specs.CommandPlan.{bios_plan, checked, image_plan, images_plan, judged}
+use Rattle.gba_console.specs.declared.keys.KeyState.{KeyState}
+use Rattle.gba_link.specs.CommandPlan.{bios_plan, checked, image_plan, images_plan, judged, keys_plan}
 
 module _ {Store X : Type 0} (gives : List ℕ → ℕ → Result (List ℕ) ReadError → Store → Store → Type 0)
     (kept : List ℕ → X) (name : List ℕ) (most : ℕ) (long : ImageError) (fault : List ℕ → Option ImageError) where
@@ -61,3 +62,9 @@ pub same-console : {Store : Type 0} (gives : List ℕ → ℕ → Result (List �
     → GoesTo gives (images_plan other) old new end
 same-console gives one other old new end is goes =
     subst (λ (console : ConsoleJob). GoesTo gives (images_plan console) old new end) is goes
+
+pub same-keys : {Store : Type 0} (gives : List ℕ → ℕ → Result (List ℕ) ReadError → Store → Store → Type 0) (one other : ConsoleJob)
+    (old new : Store) (end : Result (List KeyState) Stop) → one ≡ other → GoesTo gives (keys_plan one) old new end
+    → GoesTo gives (keys_plan other) old new end
+same-keys gives one other old new end is goes =
+    subst (λ (console : ConsoleJob). GoesTo gives (keys_plan console) old new end) is goes

@@ -8,13 +8,16 @@ use Rattle.gba_command.specs.Reading.{Gives, GoesTo}
 use Rattle.gba_command.specs.Writing.{Run}
 use Rattle.gba_command.proofs.Plans.{Names, refused-named, refuses-alone}
 use Rattle.gba_joblog.specs.Clash.{clash_of}
+use Rattle.gba_console.specs.declared.keys.KeyState.{KeyState}
 use Rattle.gba_joblog.specs.Job.{NamedFile, WholeJob}
+use Rattle.gba_joblog.specs.KeyFile.{keys_of}
+use Rattle.gba_joblog.specs.declared.job.KeyChange.{KeyChange}
 use Rattle.gba_joblog.specs.Language.{job_of}
 use Rattle.gba_joblog.specs.declared.kinds.JobError.{JobError}
 use Rattle.gba_image.specs.Checks.{bios_fault, cartridge_fault, save_fault}
 use Rattle.gba_image.specs.declared.error.ImageError.{ImageError}
 use Rattle.gba_image.specs.declared.error.ImageError.TheVariants.{BiosLength, TooLong, SaveLength}
-use Rattle.gba_link.specs.CommandPlan.{after_bios, after_cart, after_images, after_save, any_cart_plan, any_save_plan, bios_plan, checked, command_plan, console_of, image_plan, images, job_or_refusal, name_in, present, run_plan, unless_clash, whole, without_clash}
+use Rattle.gba_link.specs.CommandPlan.{after_bios, after_cart, after_images, after_keys, after_save, any_cart_plan, any_keys_plan, any_save_plan, bios_plan, checked, command_plan, console_of, image_plan, images, job_or_refusal, key_file_plan, key_states, keys_or_fault, keys_or_refusal, name_in, present, run_plan, unless_clash, whole, without_clash}
 use Rattle.gba_link.specs.Words.{Command}
 
 abbrev refused_as : (X : Type 0) → Cause → Result X Cause
@@ -50,6 +53,23 @@ any-save-apart : {Y : Type 0} (file : Option NamedFile) (following : Option (Lis
 any-save-apart None following rest h = rest None h
 any-save-apart (Some file) following rest h = image-apart present file.name 32768 SaveLength save_fault following rest h
 
+keys-not-words : (name : List ℕ) (said : Result (List KeyChange) JobError) → keys_or_fault name said ≡ Err Words → ⊥
+keys-not-words name (Ok changes) h = cc
+keys-not-words name (Err error) h = cc
+
+key-file-apart : {Y : Type 0} (name : List ℕ) (following : List KeyState → Plan Y)
+    → ((x : List KeyState) → Names Words (following x) → ⊥) → Names Words (bind (key_file_plan name) following) → ⊥
+unfolding Names
+key-file-apart name following rest (inl h) = cc
+key-file-apart name following rest (inr h) =
+    judgement-apart (keys_or_refusal name h.0) following (keys-not-words name (keys_of h.0)) rest h.1
+
+any-keys-apart : {Y : Type 0} (changes : List KeyChange) (file : Option NamedFile) (following : List KeyState → Plan Y)
+    → ((x : List KeyState) → Names Words (following x) → ⊥)
+    → Names Words (bind (any_keys_plan changes file) following) → ⊥
+any-keys-apart changes None following rest h = rest (key_states changes) h
+any-keys-apart changes (Some file) following rest h = key-file-apart file.name following rest h
+
 -- plans one after another, however they are put together
 names-together : {X Y Z : Type 0} (plan : Plan X) (next : X → Plan Y) (last : Y → Plan Z)
     → Names Words (bind (bind plan next) last) → Names Words (bind plan (λ x. bind (next x) last))
@@ -64,7 +84,8 @@ unfolding Names
 run-named command job h =
     let console = console_of job in
     let last = after_images command job in
-    let at-end : (bios : List ℕ) (cart save : Option (List ℕ)) → Names Words (last (images bios cart save)) → ⊥ = λ bios cart save k. k in
+    let at-end : (bios : List ℕ) (cart save : Option (List ℕ)) → Names Words (last (images bios cart save)) → ⊥ = λ bios cart save k.
+    any-keys-apart console.changes console.keys (after_keys command job (images bios cart save)) (λ keys none. none) k in
     let at-save : (bios : List ℕ) (cart : Option (List ℕ)) → Names Words (bind (after_cart console bios cart) last) → ⊥ = λ bios cart k.
     any-save-apart console.save (λ save. last (images bios cart save)) (at-end bios cart)
     (names-together (any_save_plan console.save) (after_save bios cart) last k) in

@@ -1,9 +1,10 @@
-use Rattle.std.specs.Prelude.{ℕ, Bool, List, [], ◌∷◌, ◌++◌, Option, Some, None, Result, Ok, Err, if◌then◌else◌}
+use Rattle.std.specs.Prelude.{ℕ, Bool, List, [], ◌∷◌, ◌++◌, map, Option, Some, None, Result, Ok, Err, if◌then◌else◌}
 use Rattle.gba_command.specs.Cause.{Cause, Words, Job, Image}
 use Rattle.gba_command.specs.Plan.{Plan, Done, Refuse, bind, file, judgement}
 use Rattle.gba_command.specs.Writing.{Output, Run}
 use Rattle.gba_console.specs.Machine.{Machine, reset}
 use Rattle.gba_console.specs.Run.{run_to}
+use Rattle.gba_console.specs.declared.keys.KeyState.{KeyState}
 use Rattle.gba_image.specs.Checks.{bios_fault, cartridge_fault, save_fault}
 use Rattle.gba_image.specs.declared.error.ImageError.{ImageError}
 use Rattle.gba_image.specs.declared.error.ImageError.TheVariants.{BiosLength, TooLong, SaveLength}
@@ -11,8 +12,11 @@ use Rattle.gba_image.specs.declared.images.ConsoleImages.{ConsoleImages}
 use Rattle.gba_joblog.specs.Clash.{clash_of, output_file}
 use Rattle.gba_joblog.specs.Draft.{silent_console}
 use Rattle.gba_joblog.specs.Job.{ConsoleJob, NamedFile, WholeJob}
-use Rattle.gba_joblog.specs.Language.{job_of, longest_job, error_at}
+use Rattle.gba_joblog.specs.KeyFile.{keys_of, longest_keys}
+use Rattle.gba_joblog.specs.Files.{error_at}
+use Rattle.gba_joblog.specs.Language.{job_of, longest_job}
 use Rattle.gba_joblog.specs.Statements.{asks_for}
+use Rattle.gba_joblog.specs.declared.job.KeyChange.{KeyChange}
 use Rattle.gba_joblog.specs.declared.job.OutKind.TheVariants.{State, Save}
 use Rattle.gba_joblog.specs.declared.kinds.JobError.{JobError}
 use Rattle.gba_joblog.specs.declared.kinds.JobKind.TheVariants.{Long, Clash}
@@ -101,6 +105,33 @@ after_bios console bios = bind (any_cart_plan console.cart) (after_cart console 
 abbrev pub images_plan : ConsoleJob → Plan ConsoleImages
 images_plan console = bind (bios_plan (name_in console.bios)) (after_bios console)
 
+-- The changes of a console's keys: those that the job says, or those of its key file, which is read and judged.
+abbrev pub key_state : KeyChange → KeyState
+key_state change = record { clock = change.clock; keys = change.keys }
+
+abbrev pub key_states : List KeyChange → List KeyState
+key_states changes = map key_state changes
+
+abbrev pub keys_or_fault : List ℕ → Result (List KeyChange) JobError → Result (List KeyState) Cause
+keys_or_fault name (Ok changes) = Ok (key_states changes)
+keys_or_fault name (Err error) = Err (Job name error)
+
+abbrev pub keys_or_refusal : List ℕ → List ℕ → Result (List KeyState) Cause
+keys_or_refusal name bytes = keys_or_fault name (keys_of bytes)
+
+abbrev pub judged_keys : List ℕ → List ℕ → Plan (List KeyState)
+judged_keys name bytes = judgement (keys_or_refusal name bytes)
+
+abbrev pub key_file_plan : List ℕ → Plan (List KeyState)
+key_file_plan name = bind (file name longest_keys (Job name (error_at 0 Long))) (judged_keys name)
+
+abbrev pub any_keys_plan : List KeyChange → Option NamedFile → Plan (List KeyState)
+any_keys_plan changes None = Done (key_states changes)
+any_keys_plan changes (Some file) = key_file_plan file.name
+
+abbrev pub keys_plan : ConsoleJob → Plan (List KeyState)
+keys_plan console = any_keys_plan console.changes console.keys
+
 -- the names of the state file and of the save under OUT
 abbrev pub state_name : List ℕ → List ℕ
 state_name out = output_file out 0 State
@@ -120,20 +151,24 @@ written command job m = record {
   summary = summary m;
 }
 
--- the run of a job with these images: a console from its reset to the first step boundary at or past the job's cycles
-abbrev pub result_of_run : Command → WholeJob → ConsoleImages → Run
-result_of_run command job images =
-    written command job (run_to job.cycles (reset images.bios images.cart images.save []))
+-- the run of a job with these images and these changes of the keys: a console from its reset to the first step boundary
+-- at or past the job's cycles
+abbrev pub result_of_run : Command → WholeJob → ConsoleImages → List KeyState → Run
+result_of_run command job images keys =
+    written command job (run_to job.cycles (reset images.bios images.cart images.save keys))
 
--- what follows the bytes of JOB, and what the job with its images comes to
+-- what follows the bytes of JOB, and what the job with its images and its keys comes to
 abbrev pub after_job : Command → List ℕ → Plan WholeJob
 after_job command bytes = judgement (job_or_refusal command bytes)
 
 abbrev pub job_plan : Command → Plan WholeJob
 job_plan command = bind (file command.job longest_job (job_refusal command (error_at 0 Long))) (after_job command)
 
+abbrev pub after_keys : Command → WholeJob → ConsoleImages → List KeyState → Plan Run
+after_keys command job images keys = Done (result_of_run command job images keys)
+
 abbrev pub after_images : Command → WholeJob → ConsoleImages → Plan Run
-after_images command job images = Done (result_of_run command job images)
+after_images command job images = bind (keys_plan (console_of job)) (after_keys command job images)
 
 abbrev pub run_plan : Command → WholeJob → Plan Run
 run_plan command job = bind (images_plan (console_of job)) (after_images command job)

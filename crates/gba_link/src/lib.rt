@@ -11,6 +11,7 @@ ghost use Rattle.gba_command.specs.Writing.{Run, sink_state};
 ghost use Rattle.gba_link.specs.CommandPlan.{plan_of};
 
 mod images;
+mod keys;
 pub mod laws;
 mod run;
 mod words;
@@ -27,9 +28,9 @@ use std::thread::Threads;
 /// |---|---|---|
 /// | 0 | the summary | the run is done and its files are written |
 /// | 2 | `words` | the words aren't `run JOB OUT` |
-/// | 3 | `absent NAME` | JOB or an image, the next file to read, isn't there |
+/// | 3 | `absent NAME` | JOB, an image or a key file, the next file to read, isn't there |
 /// | 4 | `store NAME` | the store failed in the read of the next file |
-/// | 5 | `job NAME line L KIND` | JOB isn't of the job language, or an output file would be JOB or an input |
+/// | 5 | `job NAME line L KIND` | JOB or a key file isn't of its language, or an output file would be JOB or an input |
 /// | 6 | `image NAME KIND` | the image fails its check; KIND is the first reason |
 /// | 9 | `sink NAME` | the sink failed |
 /// | 10 | `memory` | memory was wanting; it may come in place of any other, and hides no absence and no fault |

@@ -11,9 +11,10 @@ ghost use Rattle.gba_link.specs.Words.{Command};
 ghost use Rattle.gba_link.specs.Views.{command_value};
 
 use crate::images::read_images;
+use crate::keys::read_keys;
 use crate::words::{RunWords, command_of};
 use gba_command::{Cause, OutputFile, Outputs, Refusal, name_in_report, read_file};
-use gba_console::Console;
+use gba_console::{Console, KeyState};
 use gba_image::ConsoleImages;
 use gba_joblog::{
     FileLine, Job, JobConsole, JobError, JobKind, LONGEST_JOB, OutKind, ParseRefused,
@@ -227,27 +228,29 @@ fn outputs_of(room: OutputRoom, names: OutputNames, job: &Job, console: &Console
     }
 }
 
-/// Runs a console from these images, and makes what is written. All memory is taken before the first step.
+/// Runs a console from these images with these changes of its keys, and makes what is written. All memory is taken before
+/// the first step.
 fn run_images(
     alloc: Global,
     names: OutputNames,
     job: &Job,
     images: ConsoleImages,
+    keys: Vec<KeyState>,
 ) -> Result<Outputs, AllocError>
     requires { IsJob (job_value job.now) }
     ensures { (command : Command) → string_bytes names.state ≡ state_name_of command.out
         → string_bytes names.save ≡ save_name_of command.out
-        → IfOk result (λ outputs. run_value outputs ≡ result_of_run command (job_value job.now) images) }
+        → IfOk result (λ outputs. run_value outputs ≡ result_of_run command (job_value job.now) images keys.items) }
 {
     let room = make_room(alloc)?;
-    let Ok(mut console) = Console::new(alloc, images, Vec::new(alloc)) else {
+    let Ok(mut console) = Console::new(alloc, images, keys) else {
         return Err(AllocError);
     };
     console.run_to(job.cycles);
     Ok(outputs_of(room, names, job, &console))
 }
 
-/// Reads the images of a job and runs it.
+/// Reads the images and the key file of a job and runs it.
 fn run_job<S: Store>(
     alloc: Global,
     store: &mut S,
@@ -261,7 +264,8 @@ fn run_job<S: Store>(
         store.old store.new (end_of run_value result) }
 {
     let images = read_images(alloc, store, console_of(job))?;
-    match run_images(alloc, names, job, images) {
+    let keys = read_keys(alloc, store, console_of(job))?;
+    match run_images(alloc, names, job, images, keys) {
         Ok(outputs) => Ok(outputs),
         Err(_) => Err(Refusal::NoMemory),
     }

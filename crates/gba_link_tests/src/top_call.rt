@@ -648,3 +648,158 @@ fn a_save_is_written_as_it_was_read(rt: HostRuntime) -> Result<(), Fail> {
     );
     Ok(())
 }
+
+/// What the lines of a console's keys and its key file lead to: the status, the report, and the bytes of KEYINPUT at the
+/// end, empty where nothing is written and where its row of registers is 0.
+#[derive(Clone, Copy)]
+struct KeyCase<'a> {
+    lines: &'a str,
+    file: Option<&'a [u8]>,
+    status: u8,
+    report: &'a str,
+    input: &'a str,
+}
+
+const DONE: &str = "console 0 clock 9 frames 0 samples 0 words 0\n";
+
+fn key_files(alloc: Global, case: &KeyCase<'_>) -> Result<Vec<StoredFile>, Fail> {
+    let lines = case.lines;
+    let job = format!(in alloc; "gbalink 1\ncycles 9\nconsole 0\nbios b\n{lines}out state\nend\n")?;
+    let mut files = vec![in alloc;
+        stored(alloc, "j", Vec::from_slice(alloc, job.as_bytes())?)?,
+        stored(alloc, "b", image(alloc, LOOP, 16_384)?)?,
+    ]?;
+    if let Some(bytes) = case.file {
+        files.push(stored(alloc, "k", Vec::from_slice(alloc, bytes)?)?)?;
+    }
+    Ok(files)
+}
+
+/// Changes of the keys come from the job's lines or from its key file, which is read and judged after the images; a key
+/// file's refusal names the key file.
+#[test]
+fn keys_are_read(rt: HostRuntime) -> Result<(), Fail> {
+    let alloc = rt.alloc();
+    for case in [
+        KeyCase {
+            lines: "",
+            file: None,
+            status: 0,
+            report: DONE,
+            input: "ff03",
+        },
+        KeyCase {
+            lines: "key 0 001\nkey 3 005\nkey 7 000\n",
+            file: None,
+            status: 0,
+            report: DONE,
+            input: "fa03",
+        },
+        KeyCase {
+            lines: "keys k\n",
+            file: Some(b"# start\n0 001\n\n6 3FF\n"),
+            status: 0,
+            report: DONE,
+            input: "",
+        },
+        KeyCase {
+            lines: "keys k\n",
+            file: Some(b""),
+            status: 0,
+            report: DONE,
+            input: "ff03",
+        },
+        KeyCase {
+            lines: "keys k\n",
+            file: None,
+            status: 3,
+            report: "absent k\n",
+            input: "",
+        },
+        KeyCase {
+            lines: "keys k\n",
+            file: Some(b"5 001\n4 000\n"),
+            status: 5,
+            report: "job k line 2 Order\n",
+            input: "",
+        },
+        KeyCase {
+            lines: "keys k\n",
+            file: Some(b"\n0 400\n"),
+            status: 5,
+            report: "job k line 2 Number\n",
+            input: "",
+        },
+        KeyCase {
+            lines: "key 5 001\nkey 4 000\n",
+            file: None,
+            status: 5,
+            report: "job j line 6 Order\n",
+            input: "",
+        },
+        KeyCase {
+            lines: "keys g.0.state\n",
+            file: None,
+            status: 5,
+            report: "job j line 5 Clash\n",
+            input: "",
+        },
+    ] {
+        let mut store = MemoryStore::new(key_files(alloc, &case)?, Vec::new(alloc));
+        let mut out = MemorySink::new(alloc, Vec::new(alloc), Vec::new(alloc));
+        let said = words(alloc, &["run", "j", "g"])?;
+        let answer = gba_link(&rt, alloc, said.as_slice(), &mut store, &mut out, &NoGate);
+        assert_eq!(rt; answer, case.status);
+        assert_eq!(rt;
+            out.bytes("-").unwrap_or(b"".as_slice()),
+            case.report.as_bytes()
+        );
+        let state = text_of(alloc, out.bytes("g.0.state"))?;
+        let input = case.input;
+        let line = format!(in alloc;
+            "\nmem io 000120 00000000000000000000000000000000{input}0000"
+        )?;
+        let shown = state.as_str().contains(line.as_str());
+        assert_eq!(rt; shown, !input.is_empty(), "of {input}");
+    }
+    Ok(())
+}
+
+/// A key file of 33,554,433 bytes is one too long, and one whose read fails is told by its name.
+#[test]
+fn long_and_failing_key_files(rt: HostRuntime) -> Result<(), Fail> {
+    let alloc = rt.alloc();
+    let case = KeyCase {
+        lines: "keys k\n",
+        file: None,
+        status: 5,
+        report: "job k line 0 Long\n",
+        input: "",
+    };
+    let mut files = key_files(alloc, &case)?;
+    files.push(stored(alloc, "k", vec![in alloc; b'\n'; 33_554_433]?)?)?;
+    let mut store = MemoryStore::new(files, Vec::new(alloc));
+    let mut out = MemorySink::new(alloc, Vec::new(alloc), Vec::new(alloc));
+    let said = words(alloc, &["run", "j", "g"])?;
+    assert_eq!(rt;
+        gba_link(&rt, alloc, said.as_slice(), &mut store, &mut out, &NoGate),
+        5
+    );
+    assert_eq!(rt;
+        out.bytes("-").unwrap_or(b"".as_slice()),
+        case.report.as_bytes()
+    );
+    let mut files = key_files(alloc, &case)?;
+    files.push(stored(alloc, "k", Vec::from_slice(alloc, b"0 001")?)?)?;
+    let mut store = MemoryStore::new(files, vec![in alloc; 3]?);
+    let mut out = MemorySink::new(alloc, Vec::new(alloc), Vec::new(alloc));
+    assert_eq!(rt;
+        gba_link(&rt, alloc, said.as_slice(), &mut store, &mut out, &NoGate),
+        4
+    );
+    assert_eq!(rt;
+        out.bytes("-").unwrap_or(b"".as_slice()),
+        b"store k\n".as_slice()
+    );
+    Ok(())
+}

@@ -5,7 +5,8 @@ use Rattle.gba_command.specs.Plan.{bind, file}
 use Rattle.gba_command.specs.Reading.{Gives}
 use Rattle.gba_command.proofs.Plans.{goes-lacks, goes-then, goes-stop, goes-judged}
 use Rattle.gba_link.specs.CommandPlan.{job_or_refusal, after_job, command_plan, job_refusal, run_plan}
-use Rattle.gba_joblog.specs.Language.{longest_job, error_at}
+use Rattle.gba_joblog.specs.Files.{error_at}
+use Rattle.gba_joblog.specs.Language.{longest_job}
 use Rattle.gba_joblog.specs.Views.{job_value}
 use Rattle.gba_joblog.specs.declared.kinds.JobKind.TheVariants.{Long}
 use Rattle.gba_link.specs.Views.{command_value}

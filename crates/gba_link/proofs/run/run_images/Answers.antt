@@ -1,7 +1,6 @@
-use Rattle.std.proofs.Common.{List, ◌∙◌, ap}
-use Rattle.gba_console.specs.Machine.{Machine, reset}
+use Rattle.std.proofs.Common.{◌∙◌, ap}
+use Rattle.gba_console.specs.Machine.{Machine}
 use Rattle.gba_console.specs.Run.{run_to}
-use Rattle.gba_console.specs.declared.keys.KeyState.{KeyState}
 use Rattle.gba_joblog.specs.Views.{job_value}
 use Rattle.gba_link.specs.CommandPlan.{written}
 use Rattle.gba_link.proofs.run.run_images.Goals as goal
@@ -9,9 +8,6 @@ use Rattle.gba_link.proofs.run.run_images.Goals as goal
 pub returns : goal.returns
 returns c = λ command state save.
     let job = job_value c.args.job.now in
-    let images = c.args.images in
-    let start = c.in-Ok.ensures
-    ∙ ap (λ (keys : List KeyState). reset images.bios images.cart images.save keys) c.new.ensures.items in
     c.outputs_of.ensures command state save
     ∙ ap (λ (m : Machine). written command job m)
-    (c.run_to.ensures ∙ ap (λ (m : Machine). run_to job.cycles m) start)
+    (c.run_to.ensures ∙ ap (λ (m : Machine). run_to job.cycles m) c.in-Ok.ensures)
