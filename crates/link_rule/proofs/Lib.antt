@@ -5,3 +5,7 @@ pub mod Looking
 pub mod Fetching
 pub mod Putting
 pub mod Publishing
+pub mod Seats
+pub mod Opening
+pub mod Resting
+pub mod Decoding
