@@ -28,12 +28,12 @@ use Rattle.link_rule.proofs.Putting.{own_shows}
 pub record IsWritten (written flag : ℕ) : Type 0 where
   pub cases : ((written ≡ 0) × (flag ≡ 0)) ⊎ ((written ≡ 2) × (flag ≡ 1))
 
-unlooked_at : (peers : List Peer) (j : ℕ) → peer_at (map unlooked peers) j ≡ unlooked (peer_at peers j)
+pub unlooked_at : (peers : List Peer) (j : ℕ) → peer_at (map unlooked peers) j ≡ unlooked (peer_at peers j)
 unlooked_at [] j = refl
 unlooked_at (p ∷ ps) zero = refl
 unlooked_at (p ∷ ps) (suc j) = unlooked_at ps j
 
-tells_cases : (o : Option Signal) → (o ≡ None) ⊎ ((x : Signal) × (o ≡ Some x))
+pub tells_cases : (o : Option Signal) → (o ≡ None) ⊎ ((x : Signal) × (o ≡ Some x))
 tells_cases None = inl refl
 tells_cases (Some x) = inr (x, refl)
 

@@ -1,0 +1,5 @@
+pub mod Seats
+pub mod Looking
+pub mod Fetching
+pub mod Putting
+pub mod Publishing

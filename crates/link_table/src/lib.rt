@@ -1,0 +1,13 @@
+#![tactic(auto)]
+//! The table that consoles on threads share: each publishes its clock and its signals there, and reads those of its
+//! peers.
+
+mod key;
+mod law;
+mod seat;
+mod shared;
+
+pub use key::Key;
+pub use link_script as laws;
+pub use seat::{Look, Seat};
+pub use shared::Shared;
