@@ -1,4 +1,4 @@
-use Rattle.std.specs.Prelude.{ℕ, ◌≡◌, ◌+◌, ◌*◌, ◌%◌, ◌^◌, List, slice_index}
+use Rattle.std.specs.Prelude.{ℕ, ◌≡◌, ◌+◌, ◌*◌, ◌-◌, ◌/◌, ◌%◌, ◌^◌, List, slice_index}
 use Rattle.link_node.specs.declared.signal.Signal.{Signal}
 use Rattle.link_node.specs.Packing.{packed_head, packed_words}
 
@@ -16,6 +16,11 @@ ring_place i n = 8193 * i + 1 + 2 * (n % 4096)
 -- a clock word: the clock in bits 0 to 39, the number of signals sent, modulo 2^24, above
 abbrev pub clock_word : ℕ → ℕ → ℕ
 clock_word clock count = clock + 2 ^ 40 * (count % 2 ^ 24)
+
+-- the whole count of a clock word, by the number of signals that were fetched: the word's 24 bits are those of a number
+-- from there on
+abbrev pub count_of : ℕ → ℕ → ℕ
+count_of word taken = taken + (word / 2 ^ 40 + 2 ^ 24 - taken % 2 ^ 24) % 2 ^ 24
 
 -- how many words there are
 abbrev pub word_count : ℕ

@@ -3,3 +3,5 @@ pub mod Looking
 pub mod Fetching
 pub mod Putting
 pub mod Publishing
+pub mod Openings
+pub mod Dealings

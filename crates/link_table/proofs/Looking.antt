@@ -9,7 +9,7 @@ use Rattle.link_order.proofs.Numbers.{same_or_apart}
 use Rattle.link_script.specs.Script.{Script}
 use Rattle.link_rule.specs.declared.view.Peer.{Peer}
 use Rattle.link_rule.specs.declared.view.Progress.{Progress}
-use Rattle.link_rule.specs.Words.{clock_place}
+use Rattle.link_rule.specs.Words.{clock_place, count_of}
 use Rattle.link_rule.specs.Rule.{peer_at, seat_of, IsPlaced, holds}
 use Rattle.link_rule.specs.Steps.{with_peer, looked, Looks, LooksAt, looks}
 use Rattle.link_rule.proofs.Looking.{look_allowed, peer_here, peer_there}
@@ -32,10 +32,6 @@ may_look {N = N} kind plain table_key slots word peer s h other word_is =
     (clock_place peer) (λ n. n) (looks (script_of kind plain) (step slots (clock_place peer) 0 0 none) m)) (sym h.me_is)
     (look_allowed (script_of kind plain) table_key h.key slots s.place.id s.player peer h.made
     (subst (λ (n : ℕ). peer < n) h.players_is other.below) other.apart))
-
--- the count that the code makes of the word
-abbrev pub count_of : ℕ → ℕ → ℕ
-count_of word taken = taken + (word / 2 ^ 40 + 2 ^ 24 - taken % 2 ^ 24) % 2 ^ 24
 
 -- what the seat has learnt
 pub record HasLooked {N C : Type 0} (kind : NodeKind C) (plain : N → C) (key : Key N) (player peer : ℕ) (after : Mine N)

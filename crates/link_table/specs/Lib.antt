@@ -1,2 +1,4 @@
 pub mod Text
 pub mod Seated
+pub mod Opening
+

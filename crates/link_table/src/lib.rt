@@ -4,8 +4,10 @@
 
 mod key;
 mod law;
+mod opening;
 mod seat;
 mod shared;
+mod words;
 
 pub use key::Key;
 pub use link_script as laws;

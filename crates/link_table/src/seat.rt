@@ -5,11 +5,13 @@ ghost use Rattle.link_order.specs.Cut.{hop};
 ghost use Rattle.link_table.specs.declared.key.Key.{Key};
 
 use crate::key::Key;
-use atomic_table::Seat as Place;
 use link_node::Node;
 use link_order::hop;
 use link_rule::View;
 use std::marker::Model;
+
+/// A place at the atomic table.
+pub(crate) type Place<N> = atomic_table::Seat<(), View<Key<N>>>;
 
 /// What a look tells: a peer's clock and how many signals it has sent since the opening.
 #[derive(Clone, Copy, Debug, PartialEq, Eq)]
@@ -22,7 +24,7 @@ pub struct Look {
 /// and how many signals of each peer were fetched.
 #[derive(Drop)]
 pub struct Seat<N: Node> {
-    pub(crate) place: Place<(), View<Key<N>>>,
+    pub(crate) place: Place<N>,
     pub(crate) player: u32,
     pub(crate) players: u32,
     pub(crate) delay: u64,

@@ -3,9 +3,7 @@
 ghost use Rattle.std.specs.Prelude.{ℕ, ◌≡◌, ◌≢◌, ◌+◌, ◌*◌, ◌%◌, ◌<◌, ◌≤◌, ◌^◌, [], ◌∷◌, Some, IsSome, slice_get};
 ghost use Rattle.link_order.specs.NodeKind.{kind_of};
 ghost use Rattle.link_node.specs.Due.{FitsWidths};
-ghost use Rattle.link_node.specs.Packing.{signal_in};
 ghost use Rattle.link_script.specs.Script.{told};
-ghost use Rattle.link_rule.specs.Words.{clock_place, ring_place};
 ghost use Rattle.link_rule.specs.Rule.{peer_at, IsNextSignal};
 ghost use Rattle.link_rule.specs.Steps.{Looks, with_peer, fetched, with_written, MayPublish, Publishes};
 ghost use Rattle.link_table.specs.declared.key.Key.{Key};
@@ -15,8 +13,9 @@ ghost use Rattle.link_table.specs.Seated.{with_made};
 use crate::key::Key;
 use crate::law::{Law, Looking, Publishing, Putting, ReadingBody, ReadingHead};
 use crate::seat::{Look, Seat};
+use crate::words::{clock_place, count_of, ring_place, signal_of};
 use atomic_table::Table;
-use link_node::{Node, Signal, pack, unpack};
+use link_node::{Node, Signal, pack};
 use link_rule::View;
 use std::alloc::Global;
 use std::marker::Model;
@@ -39,33 +38,6 @@ impl<N: Node> Model for Shared<N> {
     ghost invariant = { λ s. s.table.shared.table_id.words ≡ word_count };
 }
 
-/// Where player i's clock word stands.
-fn clock_place(player: u32) -> usize
-    requires { player < 4 }
-    ensures { result ≡ clock_place player }
-{
-    8193 * player as usize
-}
-
-/// Where the first word of player i's signal of this number stands.
-fn ring_place(player: u32, number: u64) -> usize
-    requires { player < 4 }
-    ensures { result ≡ ring_place player number }
-{
-    8193 * player as usize + 1 + 2 * (number % 4096) as usize
-}
-
-/// The signal of two words.
-fn signal_of(head: u64, body: u64) -> Signal
-    requires { IsSome (signal_in head body) }
-    ensures { Some result ≡ signal_in head body }
-{
-    match unpack(head, body) {
-        Some(signal) => signal,
-        None => unreachable!(),
-    }
-}
-
 impl<N: Node> Shared<N> {
     /// Loads a peer's clock word. The whole count comes from the number of fetched signals and the word's 24 bits, since
     /// fewer than 4,096 aren't fetched.
@@ -82,11 +54,9 @@ impl<N: Node> Shared<N> {
             .table
             .shared
             .load::<Looking<N>>(&mut seat.place, clock_place(peer));
-        let taken = seat.taken[peer as usize];
-        let low = word / (1 << 40);
         Look {
             clock: word % (1 << 40),
-            count: taken + (low + (1 << 24) - taken % (1 << 24)) % (1 << 24),
+            count: count_of(word, seat.taken[peer as usize]),
         }
     }
 

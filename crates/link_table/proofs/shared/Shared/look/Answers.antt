@@ -1,10 +1,12 @@
-use Rattle.std.proofs.Common.{ℕ, ◌≡◌, ◌+◌, ◌*◌, ◌%◌, ◌/◌, ◌<◌, ◌≤◌, ◌^◌, arith}
+use Rattle.std.proofs.Common.{ℕ, ◌≡◌, ◌+◌, ◌*◌, ◌%◌, ◌/◌, ◌<◌, ◌≤◌, ◌^◌, arith, subst, sym}
 use Rattle.std.specs.Prelude.{slice_index}
 use Rattle.link_order.specs.NodeKind.{NodeKind, kind_of}
+use Rattle.link_rule.specs.Words.{count_of}
 use Rattle.link_rule.specs.Steps.{Looks}
 use Rattle.link_table.specs.Text.{script_of}
+use Rattle.link_table.specs.Seated.{first_made}
 use Rattle.link_table.proofs.Seats.{seen_after, said, is_other, own_table}
-use Rattle.link_table.proofs.Looking.{may_look, has_looked, looked_seat, count_of}
+use Rattle.link_table.proofs.Looking.{may_look, has_looked, looked_seat}
 use Rattle.link_table.proofs.shared.Shared.look.Goals as goal
 
 pub load-word-requires : goal.load-word-requires
@@ -19,8 +21,8 @@ load-word-requires g c =
     may_look kind g.N.Node.plain c.self.inside.table.shared.key c.self.inside.table.shared.table_id.slots
     c.clock_place.result c.args.peer c.seat.inside c.seat.invariant other c.clock_place.ensures)
 
-pub overflow_add-result-2 : goal.overflow_add-result-2
-overflow_add-result-2 g c =
+pub count_of-requires : goal.count_of-requires
+count_of-requires g c =
     let kind : NodeKind g.N.Node.Record = kind_of g.N.Node.clock g.N.Node.was g.N.Node.next in
     let other = is_other c.seat.inside c.args.seat.now c.args.peer c.seat.view_is c.requires.below c.requires.other in
     let l = has_looked kind g.N.Node.plain c.self.inside.table.shared.table_id.slots c.clock_place.result c.args.peer
@@ -54,7 +56,9 @@ returns-clause-look g c key keys =
     let l = has_looked kind g.N.Node.plain c.self.inside.table.shared.table_id.slots c.clock_place.result c.args.peer
     c.load-word.result c.seat.inside c.load-word.new.seat.me c.seat.invariant other c.clock_place.ensures
     c.load-word.ensures.2 in
-    said kind g.N.Node.plain c.seat.inside c.load-word.new.seat.me c.args.seat.now l.made
+    subst (λ (n : ℕ). Looks (script_of kind g.N.Node.plain key) c.args.seat.now.player c.args.peer c.args.seat.now.made
+    (c.load-word.result % 2 ^ 40) n (first_made c.load-word.new.seat.me.0.records)) (sym c.count_of.ensures)
+    (said kind g.N.Node.plain c.seat.inside c.load-word.new.seat.me c.args.seat.now l.made
     (λ k i old new. Looks (script_of kind g.N.Node.plain k) i c.args.peer old (c.load-word.result % 2 ^ 40)
     (count_of c.load-word.result (slice_index c.seat.inside.taken c.args.peer)) new) c.seat.invariant c.seat.view_is
-    l.seat l.looks key keys
+    l.seat l.looks key keys)
