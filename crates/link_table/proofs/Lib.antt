@@ -5,3 +5,4 @@ pub mod Putting
 pub mod Publishing
 pub mod Openings
 pub mod Dealings
+pub mod Beginnings
