@@ -6,3 +6,4 @@ pub mod Publishing
 pub mod Openings
 pub mod Dealings
 pub mod Beginnings
+pub mod Unitings

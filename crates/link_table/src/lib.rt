@@ -3,12 +3,14 @@
 //! peers.
 
 mod key;
+mod joined;
 mod law;
 mod opening;
 mod seat;
 mod shared;
 mod words;
 
+pub use joined::Joined;
 pub use key::Key;
 pub use link_script as laws;
 pub use seat::{Look, Seat};

@@ -1,7 +1,10 @@
 //! A player's seat at the table.
 
 ghost use Rattle.std.specs.Prelude.{ℕ, ◌≡◌, ◌≢◌, ◌<◌, ◌≤◌, [], ◌∷◌};
+ghost use Rattle.link_order.specs.NodeKind.{kind_of};
 ghost use Rattle.link_order.specs.Cut.{hop};
+ghost use Rattle.link_rule.specs.Rule.{peer_at};
+ghost use Rattle.link_table.specs.Uniting.{IsPlaceOf};
 ghost use Rattle.link_table.specs.declared.key.Key.{Key};
 
 use crate::key::Key;
@@ -72,5 +75,29 @@ impl<N: Node> Seat<N> {
         ensures short { result ≤ 1024 }
     {
         hop(self.delay, peer as usize, self.player as usize)
+    }
+
+    /// How many signals of a player were fetched.
+    pub(crate) fn taken(&self, peer: usize) -> u64
+        requires { peer < 4 }
+        ensures { result ≡ (peer_at self.now.made.peers peer).taken }
+    {
+        self.taken[peer]
+    }
+
+    /// The seat's place at the atomic table.
+    pub(crate) fn into_place(self) -> Place<N>
+        ensures { IsPlaceOf (kind_of N.clock N.was N.next) N.plain self result.table_id result.me }
+    {
+        let Seat {
+            place,
+            player: _,
+            players: _,
+            delay: _,
+            sent: _,
+            written: _,
+            taken: _,
+        } = self;
+        place
     }
 }
