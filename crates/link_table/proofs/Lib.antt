@@ -7,3 +7,4 @@ pub mod Openings
 pub mod Dealings
 pub mod Beginnings
 pub mod Unitings
+pub mod Restings

@@ -52,11 +52,14 @@ fn keep_taken<N: Node>(fetched: &mut [u64; 16], i: usize, seat: &Seat<N>)
 
 /// How many signals of each player each seat has fetched.
 fn taken_of<N: Node>(seats: &[Seat<N>]) -> [u64; 16]
-    requires { length seats.now ≤ 4 }
-    ensures { AreTaken seats.now result (length seats.now) }
+    requires some { 0 < length seats.now }
+    requires all { (seat : SeatState (Key N)) → slice_get seats.now 0 ≡ Some seat → seat.players ≡ length seats.now }
+    ensures taken { AreTaken seats.now result (length seats.now) }
+    ensures wide { length result ≡ 16 }
 {
+    let count = seats[0].count() as usize;
     let mut fetched = [0; 16];
-    for i in 0..seats.len() {
+    for i in 0..count {
         keep_taken(&mut fetched, i, &seats[i]);
     }
     fetched
@@ -74,4 +77,52 @@ fn unite<N: Node>(shared: &Shared<N>, seats: Vec<Seat<N>>) -> Place<N>
         shared.table.shared.join_seat::<AllPlayers>(&mut place, next);
     }
     place
+}
+
+impl<N: Node> Shared<N> {
+    /// Joins the seats of all players, in their order.
+    pub fn meet(&self, seats: Vec<Seat<N>>) -> Joined<N>
+        requires { MayMeet self.now seats.items }
+        ensures table { result.table ≡ self.now }
+        ensures seats { AreMet seats.items result }
+        ensures met { (key : Key N) → result.key ≡ key ∷ [] →
+            Met (script_of (kind_of N.clock N.was N.next) N.plain key) result.made }
+    {
+        let fetched = taken_of(&seats);
+        let mut place = unite(self, seats);
+        self.table.shared.load::<Resting<N>>(&mut place, 0);
+        Joined { place, fetched }
+    }
+
+    /// Loads a peer's clock word and fetches the first of its signals that the player hasn't fetched. None where it has
+    /// fetched all that the peer sent.
+    pub fn rest(&self, joined: &mut Joined<N>, player: u32, peer: u32) -> Option<Signal>
+        requires table { joined.old.table ≡ self.now }
+        requires player { player < length joined.old.made }
+        requires peer { peer < length joined.old.made }
+        requires other { peer ≢ player }
+        ensures { (key : Key N) → joined.old.key ≡ key ∷ [] →
+            Rested (script_of (kind_of N.clock N.was N.next) N.plain key) joined.old joined.new player peer result }
+    {
+        let pair = 4 * player as usize + peer as usize;
+        let taken = joined.fetched[pair];
+        let word = self
+            .table
+            .shared
+            .load::<Resting<N>>(&mut joined.place, clock_place(peer));
+        if count_of(word, taken) == taken {
+            return None;
+        }
+        let place = ring_place(peer, taken);
+        let head = self
+            .table
+            .shared
+            .load::<Resting<N>>(&mut joined.place, place);
+        let body = self
+            .table
+            .shared
+            .load::<Resting<N>>(&mut joined.place, place + 1);
+        joined.fetched[pair] = taken + 1;
+        Some(signal_of(head, body))
+    }
 }
