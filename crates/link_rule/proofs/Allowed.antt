@@ -1,10 +1,10 @@
 -- From the rule to what the table asks of a step.
-use Rattle.std.specs.Prelude.{List, [], ◌∷◌, length, slice_index}
-use Rattle.std.proofs.Common.{ℕ, ◌≡◌, ◌<◌, arith, refl, sym, ap, ◌∙◌, subst, set}
+use Rattle.std.specs.Prelude.{List, [], ◌∷◌, slice_index}
+use Rattle.std.proofs.Common.{ℕ, ◌≡◌, sym, ap, ◌∙◌, subst, set}
 use Rattle.std.proofs.lemmas.List.{set-get_or}
 use mathlib.Core.Option.{some}
 use lib.ListN.{get_elem?}
-use Rattle.atomic_table.specs.Table.{State, Me, Allows, keeps}
+use Rattle.atomic_table.specs.Table.{Me, Allows, keeps}
 use Rattle.atomic_table.proofs.Lists.{set_again}
 use Rattle.link_script.specs.Script.{Script}
 use Rattle.link_rule.specs.declared.view.Progress.{Progress}
@@ -34,10 +34,13 @@ allow {S = S} {K = K} text key other slots id i word r f told_of Tells core tell
     let e : other ≡ key = me.same_key in
     let at2 : get_elem? st.views id ≡ some (seat_of key i r) = at ∙ ap (λ (k : K). some (seat_of k i r)) e in
     let t = core st.words st.views h at2 e in
-    let n : ℕ = slice_index st.words word in
-    (seat_of other i t.new, keeps, tt,
-    subst (λ (k : K). Ruled text key (set st.words word (f n)) (set st.views id (seat_of k i t.new))) (sym e) t.rule,
-    tell n t.new (subst (λ (k : K). Tells k n t.new) (sym e) t.tells))
+    let n : ℕ = slice_index st.words word in (
+      seat_of other i t.new,
+      keeps,
+      tt,
+      subst (λ (k : K). Ruled text key (set st.words word (f n)) (set st.views id (seat_of k i t.new))) (sym e) t.rule,
+      tell n t.new (subst (λ (k : K). Tells k n t.new) (sym e) t.tells),
+    )
 
 -- a load that leaves the seat's view
 pub allow_still : {S K : Type 0} (text : K → Script) (key : K) (slots id word : ℕ) (v : View K)
@@ -47,11 +50,14 @@ pub allow_still : {S K : Type 0} (text : K → Script) (key : K) (slots id word 
     → Allows (holds text key) slots id (v, []) word (λ n. n) told_of
 allow_still {S = S} {K = K} text key slots id word v told_of tell st h homes at small =
     let words_are : set st.words word (slice_index st.words word) ≡ st.words = set-get_or st.words word 0 in
-    let views_are : set st.views id v ≡ st.views = set_again st.views id v at in
-    (v, keeps, tt,
-    subst (λ (w : List ℕ). Ruled text key w (set st.views id v)) (sym words_are)
-    (subst (λ (u : List (View K)). Ruled text key st.words u) (sym views_are) h),
-    tell st.words st.views h at)
+    let views_are : set st.views id v ≡ st.views = set_again st.views id v at in (
+      v,
+      keeps,
+      tt,
+      subst (λ (w : List ℕ). Ruled text key w (set st.views id v)) (sym words_are)
+          (subst (λ (u : List (View K)). Ruled text key st.words u) (sym views_are) h),
+      tell st.words st.views h at,
+    )
 
 -- two seats of one player that are the same
 pub same_seat : {K : Type 0} (k l : K) (i j : ℕ) (r o : Progress) → seat_of k i r ≡ seat_of l j o
@@ -66,6 +72,8 @@ pub tell_seat : {S K : Type 0} (k l : K) (i j : ℕ) (r o new : Progress) (P : K
     → seat_of k i r ≡ seat_of l j o → P k i r new
     → Becomes {S = S} (seat_of k i r, []) (seat_of k i new, []) l j (P l j o)
 tell_seat {S = S} {K = K} k l i j r o new P e told =
-    let t = same_seat k l i j r o e in
-    (new, (λ p. (seat_of (t.0 p) (t.1 p) new, [])),
-    subst (λ (z : K × ℕ × Progress). P z.0 z.1 z.2 new) (λ p. (t.0 p, t.1 p, t.2 p)) told)
+    let t = same_seat k l i j r o e in (
+      new,
+      (λ p. (seat_of (t.0 p) (t.1 p) new, [])),
+      subst (λ (z : K × ℕ × Progress). P z.0 z.1 z.2 new) (λ p. (t.0 p, t.1 p, t.2 p)) told,
+    )

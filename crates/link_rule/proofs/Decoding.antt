@@ -1,5 +1,5 @@
 -- A clock word read back, and the whole count from its 24 bits.
-use Rattle.std.proofs.Common.{ℕ, ◌≡◌, ◌+◌, ◌-◌, ◌*◌, ◌/◌, ◌%◌, ◌<◌, ◌≤◌, ◌^◌, arith, div-add-mod', mod-lt}
+use Rattle.std.proofs.Common.{ℕ, ◌≡◌, ◌+◌, ◌-◌, ◌/◌, ◌%◌, ◌<◌, ◌≤◌, ◌^◌, arith, div-add-mod', mod-lt}
 use Rattle.link_rule.specs.Words.{clock_word}
 
 pub clock_part : (clock count : ℕ) → clock < 2 ^ 40 → clock_word clock count % 2 ^ 40 ≡ clock

@@ -1,20 +1,20 @@
 -- The two loads of a fetch keep the rule, and what they tell.
-use Rattle.std.specs.Prelude.{List, [], ◌∷◌, length, Some, slice_get, slice_index}
-use Rattle.std.proofs.Common.{ℕ, suc, ◌≡◌, ◌≢◌, ◌+◌, ◌*◌, ◌%◌, ◌<◌, ◌≤◌, arith, refl, sym, ap, ◌∙◌, subst, set, mod-lt}
+use Rattle.std.specs.Prelude.{List, [], Some, slice_get, slice_index}
+use Rattle.std.proofs.Common.{ℕ, ◌≡◌, ◌≢◌, ◌+◌, ◌<◌, ◌≤◌, arith, refl, sym, ap, ◌∙◌, subst, set}
 use Rattle.std.proofs.lemmas.List.{set-get_or}
 use mathlib.Core.Option.{some, none}
 use lib.ListN.{get_elem?}
-use Rattle.atomic_table.specs.Table.{State, Me, Allows, step}
+use Rattle.atomic_table.specs.Table.{Allows, step}
 use Rattle.link_node.specs.declared.signal.Signal.{Signal}
-use Rattle.link_script.specs.Script.{Script, now, sent, told, IsSoundScript}
+use Rattle.link_script.specs.Script.{Script, sent, told, IsSoundScript}
 use Rattle.link_script.proofs.Scripts.{sent_up, sent_there}
 use Rattle.link_rule.specs.declared.view.Peer.{Peer}
 use Rattle.link_rule.specs.declared.view.Progress.{Progress}
 use Rattle.link_rule.specs.declared.view.View.{View}
-use Rattle.link_rule.specs.Words.{clock_place, ring_place, HasSignal}
+use Rattle.link_rule.specs.Words.{ring_place, HasSignal}
 use Rattle.link_rule.specs.Rule.{peer_at, Knows, Ruled, seat_of, holds}
-use Rattle.link_rule.specs.Steps.{with_peer, fetched, ReadsHead, ReadsBody, reads_head, reads_body}
-use Rattle.link_rule.proofs.Places.{InRing, in_ring}
+use Rattle.link_rule.specs.Steps.{with_peer, fetched, ReadsBody, reads_head, reads_body}
+use Rattle.link_rule.proofs.Places.{in_ring}
 use Rattle.link_rule.proofs.Kept.{here}
 use Rattle.link_rule.proofs.Allowed.{Stepped, allow, allow_still, same_seat, tell_seat}
 use Rattle.link_rule.proofs.Looking.{concerned, known_better, raised, base_cases}
@@ -39,7 +39,8 @@ next_stands text key words views id i j r h at below apart left =
     let up : sent s j k.seen.at ≤ sent s j o.steps = sent_up s h.sound j k.seen.at o.steps below k.seen.past in
     let seen_count : p.count ≡ sent s j k.seen.at = k.seen.count_is in
     let less : p.taken < o.sent = omega arith in
-    let few : o.sent ≤ p.taken + s.hop i j + s.hop j i + 511 = k.few in
+    let few : o.sent ≤ p.taken + s.hop i j + s.hop j i + 511
+    = omega (arith, k.few) in
     let there : s.hop i j ≤ 1024 = h.sound.short_delay i j c.player below (λ e. apart (sym e)) in
     let back : s.hop j i ≤ 1024 = h.sound.short_delay j i below c.player apart in
     let x = sent_there s j p.taken o.steps (omega arith) in
@@ -55,19 +56,21 @@ pub head_allowed : {S K : Type 0} (text : K → Script) (key other : K) (slots i
 head_allowed {S = S} {K = K} text key other slots id i j r =
     allow_still text key slots id (ring_place j (peer_at r.peers j).taken) (seat_of other i r)
     (reads_head text (step slots (ring_place j (peer_at r.peers j).taken) 0 0 none) (seat_of other i r, []))
-    (λ words views h at.
-    (refl, λ l a b old e word lb away left.
-    let me = here text key words views id other i r h at in
-    let t = same_seat other l i a r old e in
-    let at2 : get_elem? views id ≡ some (seat_of l a old) = at ∙ ap some e in
-    let l_is : l ≡ key = sym t.0 ∙ me.same_key in
-    let h2 : Ruled text l words views = subst (λ (k : K). Ruled text k words views) (sym l_is) h in
-    let x = next_stands text l words views id a b old h2 at2 lb away left in
-    record {
-      signal = x.signal;
-      stands = x.stands;
-      found_is = ap (slice_index words) word ∙ x.has.head;
-    }))
+    (λ words views h at. (
+      refl,
+      λ l a b old e word lb away left.
+          let me = here text key words views id other i r h at in
+          let t = same_seat other l i a r old e in
+          let at2 : get_elem? views id ≡ some (seat_of l a old) = at ∙ ap some e in
+          let l_is : l ≡ key = sym t.0 ∙ me.same_key in
+          let h2 : Ruled text l words views = subst (λ (k : K). Ruled text k words views) (sym l_is) h in
+          let x = next_stands text l words views id a b old h2 at2 lb away left in
+          record {
+            signal = x.signal;
+            stands = x.stands;
+            found_is = ap (slice_index words) word ∙ x.has.head;
+          },
+    ))
 
 body_core : {K : Type 0} (text : K → Script) (key : K) (words : List ℕ) (views : List (View K)) (id i j : ℕ)
     (r : Progress) → Ruled text key words views → get_elem? views id ≡ some (seat_of key i r)

@@ -1,11 +1,11 @@
 -- The rule is kept when one seat of one player moves.
-use Rattle.std.specs.Prelude.{List, [], ◌∷◌, ◌++◌, length, Some, None, slice_get, slice_index}
-use Rattle.std.proofs.Common.{ℕ, zero, suc, ◌≡◌, ◌≢◌, ◌+◌, ◌*◌, ◌<◌, ◌≤◌, ◌⊎◌, inl, inr, arith, refl, sym, ap, ◌∙◌, subst, set}
+use Rattle.std.specs.Prelude.{List, [], ◌∷◌, length, Some, slice_get}
+use Rattle.std.proofs.Common.{ℕ, zero, suc, ◌≡◌, ◌≢◌, ◌+◌, ◌<◌, inl, inr, arith, refl, sym, ap, ◌∙◌, subst, set}
 use mathlib.Core.Option.{some}
 use lib.ListN.{get_elem?}
 use Rattle.atomic_table.proofs.Lists.{at_set}
 use Rattle.link_order.proofs.Numbers.{put, put_same, put_other, same_or_apart}
-use Rattle.link_script.specs.Script.{Script, IsSoundScript}
+use Rattle.link_script.specs.Script.{Script}
 use Rattle.link_rule.specs.declared.view.Progress.{Progress}
 use Rattle.link_rule.specs.declared.view.View.{View}
 use Rattle.link_rule.specs.Words.{word_count}

@@ -1,26 +1,25 @@
 -- A look keeps the rule, and what it tells.
-use Rattle.std.specs.Prelude.{List, [], ◌∷◌, length, Some, slice_get, slice_index, if◌then◌else◌, ◌==◌}
-use Rattle.std.proofs.Common.{ℕ, zero, suc, ◌≡◌, ◌≢◌, ◌+◌, ◌-◌, ◌*◌, ◌<◌, ◌≤◌, ◌^◌, ◌⊎◌, inl, inr, arith, refl, sym, ap, ◌∙◌}
+use Rattle.std.specs.Prelude.{List, [], length, slice_index, if◌then◌else◌, ◌==◌}
+use Rattle.std.proofs.Common.{ℕ, zero, suc, ◌≡◌, ◌≢◌, ◌+◌, ◌<◌, ◌≤◌, ◌⊎◌, inl, inr, arith, refl, sym, ap, ◌∙◌}
 use Rattle.std.proofs.Common.{subst, set, true, false}
 use Rattle.std.proofs.lemmas.Bool.{cases_lt}
 use Rattle.std.proofs.lemmas.Bool.Decides.{nat_tests}
 use Rattle.std.proofs.lemmas.List.{set-get_or, get_or-set_same, get_or-set_other, length-set}
 use mathlib.Core.Option.{some, none}
 use lib.ListN.{get_elem?}
-use Rattle.atomic_table.specs.Table.{State, Me, Allows, step}
-use Rattle.link_node.specs.declared.signal.Signal.{Signal}
+use Rattle.atomic_table.specs.Table.{Allows, step}
 use Rattle.link_order.proofs.Numbers.{same_or_apart}
-use Rattle.link_script.specs.Script.{Script, now, sent, told, IsSoundScript}
+use Rattle.link_script.specs.Script.{Script, now, sent, IsSoundScript}
 use Rattle.link_script.proofs.Lines.{Told}
 use Rattle.link_script.proofs.Scripts.{now_up, sent_up, now_small, sent_small, signal_late, signal_is}
 use Rattle.link_rule.specs.declared.view.Peer.{Peer}
 use Rattle.link_rule.specs.declared.view.Progress.{Progress}
 use Rattle.link_rule.specs.declared.view.View.{View}
-use Rattle.link_rule.specs.Words.{clock_place, clock_word}
-use Rattle.link_rule.specs.Rule.{no_peer, peer_at, IsSeen, IsPlaced, Shows, Knows, KnowsOf, Ruled, seat_of, holds}
-use Rattle.link_rule.specs.Steps.{with_peer, looked, Looks, LooksAt, looks, Becomes}
-use Rattle.link_rule.proofs.Kept.{here, Here, moved}
-use Rattle.link_rule.proofs.Allowed.{Stepped, allow, same_seat, tell_seat}
+use Rattle.link_rule.specs.Words.{clock_place}
+use Rattle.link_rule.specs.Rule.{no_peer, peer_at, IsSeen, Shows, Knows, KnowsOf, Ruled, seat_of, holds}
+use Rattle.link_rule.specs.Steps.{with_peer, looked, LooksAt, looks}
+use Rattle.link_rule.proofs.Kept.{here, moved}
+use Rattle.link_rule.proofs.Allowed.{Stepped, allow, tell_seat}
 
 -- what was seen of one player was changed
 pub peer_here : (r : Progress) (j : ℕ) (p : Peer) → j < length r.peers → peer_at (with_peer r j p).peers j ≡ p
@@ -168,7 +167,8 @@ look_core text key words views id i j r h at below apart =
     let clock_later : now s j k.seen.at ≤ clock = now_up s sound j k.seen.at o.steps below seen_past in
     let count_later : sent s j k.seen.at ≤ sent s j o.steps = sent_up s sound j k.seen.at o.steps below seen_past in
     let got : p.taken ≤ o.sent = omega (arith, k.fetched) in
-    let few : o.sent ≤ p.taken + s.hop i j + s.hop j i + 511 = k.few in
+    let few : o.sent ≤ p.taken + s.hop i j + s.hop j i + 511
+    = omega (arith, k.few) in
     let there : s.hop i j ≤ 1024 = sound.short_delay i j c.player below (λ e. apart (sym e)) in
     let back : s.hop j i ≤ 1024 = sound.short_delay j i below c.player apart in
     let better : Knows s i j r.steps q o.steps o.sent

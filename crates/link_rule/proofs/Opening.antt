@@ -1,14 +1,13 @@
 -- The rule holds at the opening.
-use Rattle.std.specs.Prelude.{List, [], ◌∷◌, length, Some, None, slice_get, slice_index}
-use Rattle.std.proofs.Common.{ℕ, zero, suc, ◌≡◌, ◌≢◌, ◌+◌, ◌<◌, ◌≤◌, arith, refl, sym, ap, ◌∙◌, subst}
+use Rattle.std.specs.Prelude.{List, [], ◌∷◌, length, Some, slice_get}
+use Rattle.std.proofs.Common.{ℕ, zero, suc, ◌≡◌, ◌≢◌, ◌<◌, ◌≤◌, arith, refl, sym, ap, ◌∙◌, subst}
 use mathlib.Core.Option.{some, some-injective, some-ne-none}
 use lib.ListN.{get_elem?}
-use Rattle.link_script.specs.Script.{Script, now, sent, IsSoundScript}
+use Rattle.link_script.specs.Script.{Script, now, IsSoundScript}
 use Rattle.link_script.proofs.Scripts.{signal_late}
 use Rattle.link_rule.specs.declared.view.Peer.{Peer}
 use Rattle.link_rule.specs.declared.view.Progress.{Progress}
 use Rattle.link_rule.specs.declared.view.View.{View}
-use Rattle.link_rule.specs.Words.{clock_place, clock_word}
 use Rattle.link_rule.specs.Rule.{peer_at, Shows, Knows, KnowsOf, IsSeated, Ruled, opening_peer, opening_progress}
 use Rattle.link_rule.specs.Rule.{opening_records, first_view, AreOpening}
 

@@ -1,12 +1,12 @@
 -- Where words stand: what a store leaves as it was.
 use Rattle.std.specs.Prelude.{List, length, slice_index}
-use Rattle.std.proofs.Common.{ℕ, ◌≡◌, ◌≢◌, ◌+◌, ◌*◌, ◌%◌, ◌<◌, ◌≤◌, ◌⊎◌, inl, inr, arith, refl, sym, ap, ◌∙◌, subst}
-use Rattle.std.proofs.Common.{get_or, set, mod-lt}
-use Rattle.std.proofs.lemmas.List.{get_or-set_same, get_or-set_other, length-set}
+use Rattle.std.proofs.Common.{ℕ, ◌≡◌, ◌≢◌, ◌+◌, ◌%◌, ◌<◌, ◌≤◌, arith, ◌∙◌}
+use Rattle.std.proofs.Common.{set, mod-lt}
+use Rattle.std.proofs.lemmas.List.{get_or-set_same, get_or-set_other}
 use Rattle.link_node.specs.declared.signal.Signal.{Signal}
 use Rattle.link_script.specs.Script.{Script}
 use Rattle.link_rule.specs.declared.view.Progress.{Progress}
-use Rattle.link_rule.specs.Words.{clock_place, ring_place, clock_word, word_count, HasSignal}
+use Rattle.link_rule.specs.Words.{clock_place, ring_place, HasSignal}
 use Rattle.link_rule.specs.Rule.{Shows}
 use Rattle.atomic_table.proofs.Lists.{one_turn}
 

@@ -1,26 +1,26 @@
 -- A publish keeps the rule, and what it tells.
 use Rattle.std.specs.Prelude.{List, [], ◌∷◌, length, map, Option, None, Some, IfSome, IsSome, slice_get, slice_index, option_to_list}
-use Rattle.std.proofs.Common.{ℕ, zero, suc, ◌≡◌, ◌≢◌, ◌+◌, ◌*◌, ◌<◌, ◌≤◌, ◌⊎◌, inl, inr, arith, refl, sym, ap, ◌∙◌, subst, set}
+use Rattle.std.proofs.Common.{ℕ, zero, suc, ◌≡◌, ◌≢◌, ◌+◌, ◌<◌, ◌≤◌, ◌⊎◌, inl, inr, arith, refl, sym, ap, ◌∙◌, subst, set}
 use Rattle.std.proofs.lemmas.Bool.{cases_lt}
 use Rattle.std.proofs.lemmas.List.{length-set, length-map}
 use Rattle.std.proofs.lemmas.Option.{slice_get_within}
 use mathlib.Core.Option.{some, none}
 use lib.ListN.{get_elem?}
-use Rattle.atomic_table.specs.Table.{State, Me, Allows, step}
+use Rattle.atomic_table.specs.Table.{Allows, step}
 use Rattle.link_node.specs.declared.signal.Signal.{Signal}
 use Rattle.link_order.specs.Way.{Move}
 use Rattle.link_script.specs.Script.{Script, now, sent, told, IsSoundScript, IsSoundMove, IsBorne}
-use Rattle.link_script.proofs.Scripts.{now_up, sent_up, now_next, sent_next, sent_here, sent_there, signal_early}
+use Rattle.link_script.proofs.Scripts.{now_up, now_next, sent_next, sent_here, sent_there}
 use Rattle.link_script.proofs.Scripts.{signals_apart, signal_is}
 use Rattle.link_rule.specs.declared.view.Peer.{Peer}
 use Rattle.link_rule.specs.declared.view.Progress.{Progress}
 use Rattle.link_rule.specs.declared.view.View.{View}
-use Rattle.link_rule.specs.Words.{clock_place, ring_place, clock_word, HasSignal, word_count}
-use Rattle.link_rule.specs.Rule.{no_peer, peer_at, IsNextSignal, Shows, Knows, KnowsOf, Ruled, seat_of, holds}
-use Rattle.link_rule.specs.Steps.{unlooked, stepped_on, IsAllowed, MayPublish, Publishes, publishes}
-use Rattle.link_rule.proofs.Places.{in_ring, left, stored, signal_left, same_left, shows_same}
+use Rattle.link_rule.specs.Words.{clock_place, ring_place, clock_word, HasSignal}
+use Rattle.link_rule.specs.Rule.{peer_at, IsNextSignal, Shows, Knows, KnowsOf, Ruled, seat_of, holds}
+use Rattle.link_rule.specs.Steps.{unlooked, stepped_on, MayPublish, Publishes, publishes}
+use Rattle.link_rule.proofs.Places.{in_ring, stored, signal_left, same_left, shows_same}
 use Rattle.link_rule.proofs.Kept.{here, moved}
-use Rattle.link_rule.proofs.Allowed.{Stepped, allow, same_seat, tell_seat}
+use Rattle.link_rule.proofs.Allowed.{Stepped, allow, tell_seat}
 use Rattle.link_rule.proofs.Looking.{concerned}
 use Rattle.link_rule.proofs.Putting.{own_shows}
 
@@ -60,10 +60,10 @@ written_of s words i r m flag own stands whole flags =
     elim flags.cases [
       | inl t ↦ elim (tells_cases m.tells) [
         | inl quiet ↦ record {
-            count_is = t.1 ∙ ap (λ (o : Option Signal). length (option_to_list o)) (sym quiet);
-            tells = λ some. absurd (some t.0);
-            has = λ x e. let z : None ≡ Some x = sym quiet ∙ e in cc;
-          }
+          count_is = t.1 ∙ ap (λ (o : Option Signal). length (option_to_list o)) (sym quiet);
+          tells = λ some. absurd (some t.0);
+          has = λ x e. let z : None ≡ Some x = sym quiet ∙ e in cc;
+        }
         | inr loud ↦
             let two : r.written ≡ 2 = whole (some_is m.tells loud.0 loud.1) in
             let none : r.written ≡ 0 = t.0 in

@@ -1,21 +1,21 @@
 -- The two stores of a signal keep the rule, and what they tell.
-use Rattle.std.specs.Prelude.{List, [], ◌∷◌, length, Some, slice_get, slice_index}
-use Rattle.std.proofs.Common.{ℕ, suc, ◌≡◌, ◌≢◌, ◌+◌, ◌*◌, ◌%◌, ◌<◌, ◌≤◌, arith, refl, sym, ap, ◌∙◌, subst, set}
+use Rattle.std.specs.Prelude.{List, [], length, Some, slice_get}
+use Rattle.std.proofs.Common.{ℕ, suc, ◌≡◌, ◌≢◌, ◌+◌, ◌%◌, ◌<◌, ◌≤◌, arith, sym, ap, ◌∙◌, subst, set}
 use Rattle.std.proofs.lemmas.List.{length-set}
 use mathlib.Core.Option.{some, none}
 use lib.ListN.{get_elem?}
-use Rattle.atomic_table.specs.Table.{State, Me, Allows, step}
+use Rattle.atomic_table.specs.Table.{Allows, step}
 use Rattle.link_node.specs.declared.signal.Signal.{Signal}
 use Rattle.link_node.specs.Packing.{packed_head, packed_words}
-use Rattle.link_script.specs.Script.{Script, now, sent, told}
+use Rattle.link_script.specs.Script.{Script, told}
 use Rattle.link_rule.specs.declared.view.Progress.{Progress}
 use Rattle.link_rule.specs.declared.view.View.{View}
-use Rattle.link_rule.specs.Words.{clock_place, ring_place, HasSignal, word_count}
-use Rattle.link_rule.specs.Rule.{IsNextSignal, Shows, KnowsOf, Ruled, seat_of, holds}
+use Rattle.link_rule.specs.Words.{clock_place, ring_place, HasSignal}
+use Rattle.link_rule.specs.Rule.{IsNextSignal, Shows, Ruled, seat_of, holds}
 use Rattle.link_rule.specs.Steps.{with_written, puts}
 use Rattle.link_rule.proofs.Places.{in_ring, rings_apart, left, stored, signal_left, same_left, shows_same}
 use Rattle.link_rule.proofs.Kept.{here, moved}
-use Rattle.link_rule.proofs.Allowed.{Stepped, allow, same_seat, tell_seat}
+use Rattle.link_rule.proofs.Allowed.{Stepped, allow, tell_seat}
 use Rattle.link_rule.proofs.Looking.{concerned}
 
 -- a word of the ring entry after those that were sent

@@ -1,16 +1,13 @@
 -- What a seat of all players knows, and what it reads.
 use Rattle.std.specs.Prelude.{List, [], ◌∷◌, length, Some, slice_get, slice_index}
-use Rattle.std.proofs.Common.{ℕ, zero, suc, ◌≡◌, ◌≢◌, ◌+◌, ◌<◌, ◌≤◌, arith, refl, sym, ap, ◌∙◌, subst}
+use Rattle.std.proofs.Common.{ℕ, ◌≡◌, ◌+◌, ◌<◌, arith, refl, sym, ap, ◌∙◌, subst}
 use mathlib.Core.Option.{some, none}
 use lib.ListN.{get_elem?}
-use Rattle.std.proofs.lemmas.Option.{slice_get_within}
-use Rattle.atomic_table.specs.Table.{State, Me, Allows, step}
-use Rattle.link_script.specs.Script.{Script, now, IsSoundScript}
-use Rattle.link_script.proofs.Scripts.{now_up}
+use Rattle.atomic_table.specs.Table.{Allows, step}
+use Rattle.link_script.specs.Script.{Script}
 use Rattle.link_rule.specs.declared.view.Progress.{Progress}
 use Rattle.link_rule.specs.declared.view.View.{View}
-use Rattle.link_rule.specs.Words.{clock_place, ring_place}
-use Rattle.link_rule.specs.Rule.{peer_at, IsPlaced, Shows, KnowsOf, Ruled, holds}
+use Rattle.link_rule.specs.Rule.{IsPlaced, Shows, KnowsOf, Ruled, holds}
 use Rattle.link_rule.specs.Steps.{Met, Rests, rests}
 
 -- record q of a seat that plays from player 0 on is that of player q
@@ -26,8 +23,11 @@ is_of text key other words views id v h at keys first q x there =
     let s = h.seats id v at q x there in
     let place : v.first + q ≡ q = omega arith in
     let both : other ∷ [] ≡ key ∷ [] = sym keys ∙ s.key_is in
-    record { key_is = cc; player = subst (λ (n : ℕ). n < (text key).players) place s.player;
-      made_is = ap h.made (sym place) ∙ sym s.made_is }
+    record {
+      key_is = cc;
+      player = subst (λ (n : ℕ). n < (text key).players) place s.player;
+      made_is = ap h.made (sym place) ∙ sym s.made_is;
+    }
 
 met : {K : Type 0} (text : K → Script) (key other : K) (words : List ℕ) (views : List (View K)) (id : ℕ) (v : View K)
     → Ruled text key words views → get_elem? views id ≡ some v → v.key ≡ other ∷ [] → v.first ≡ 0
@@ -67,7 +67,8 @@ pub rest_allowed : {S K : Type 0} (text : K → Script) (key : K) (slots id word
 rest_allowed {S = S} {K = K} text key slots id word v =
     Rattle.link_rule.proofs.Allowed.allow_still text key slots id word v
     (rests text (step slots word 0 0 none) (v, []))
-    (λ words views h at.
-    (refl,
-    (λ other keys first count. met text key other words views id v h at keys first count),
-    (λ other j o keys first there. reads text key other words views id v word h at keys first j o there)))
+    (λ words views h at. (
+      refl,
+      (λ other keys first count. met text key other words views id v h at keys first count),
+      (λ other j o keys first there. reads text key other words views id v word h at keys first j o there),
+    ))

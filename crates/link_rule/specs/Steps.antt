@@ -1,6 +1,6 @@
-use Rattle.std.specs.Prelude.{ℕ, ◌≡◌, ◌≢◌, ◌+◌, ◌*◌, ◌<◌, ◌≤◌, ◌^◌, ◌==◌, if◌then◌else◌, List, [], ◌∷◌, Some, length, map}
+use Rattle.std.specs.Prelude.{ℕ, ◌≡◌, ◌≢◌, ◌+◌, ◌<◌, ◌≤◌, ◌^◌, ◌==◌, if◌then◌else◌, List, [], ◌∷◌, Some, length, map}
 use Rattle.std.specs.Prelude.{slice_get, slice_set, option_to_list, IsSome}
-use Rattle.std.proofs.Common.{zero, suc}
+use Rattle.std.proofs.Common.{suc}
 use Rattle.atomic_table.specs.Table.{Me, Step}
 use Rattle.link_node.specs.declared.signal.Signal.{Signal}
 use Rattle.link_node.specs.Packing.{packed_head, packed_words}
@@ -10,7 +10,7 @@ use Rattle.link_rule.specs.declared.view.Peer.{Peer}
 use Rattle.link_rule.specs.declared.view.Progress.{Progress}
 use Rattle.link_rule.specs.declared.view.View.{View}
 use Rattle.link_rule.specs.Words.{clock_place, ring_place, clock_word}
-use Rattle.link_rule.specs.Rule.{peer_at, seat_of, IsNextSignal, IsPlaced, KnowsOf}
+use Rattle.link_rule.specs.Rule.{peer_at, seat_of, IsPlaced, KnowsOf}
 
 -- this project's profile: what each step on a word of the table tells the seat that makes it
 

@@ -1,12 +1,11 @@
 -- A new table's script is sound, and its words are those of the opening.
-use Rattle.std.specs.Prelude.{List, [], ◌∷◌, length, map, slice_index}
-use Rattle.std.proofs.Common.{ℕ, ◌≡◌, ◌≢◌, ◌<◌, ◌≤◌, ◌^◌, arith, refl, sym, ap, ◌∙◌, subst}
+use Rattle.std.specs.Prelude.{List, [], length, map}
+use Rattle.std.proofs.Common.{ℕ, ◌≡◌, ◌≤◌, ◌^◌, arith, sym, ap, ◌∙◌, subst}
 use Rattle.std.proofs.lemmas.List.{length-map}
 use Rattle.link_order.specs.NodeKind.{NodeKind, IsLawful}
-use Rattle.link_order.specs.Cut.{Cut, plain_cut, count, clock_at, IsSound, IsCable}
-use Rattle.link_script.specs.Script.{Script, script, IsSoundScript}
+use Rattle.link_order.specs.Cut.{Cut, plain_cut, count, IsSound, IsCable}
+use Rattle.link_script.specs.Script.{IsSoundScript}
 use Rattle.link_script.proofs.Scripts.{scripts}
-use Rattle.link_rule.specs.Words.{clock_place}
 use Rattle.link_rule.specs.Rule.{AreOpening, first_view}
 use Rattle.link_table.specs.declared.key.Key.{Key}
 use Rattle.link_table.specs.Text.{script_of}

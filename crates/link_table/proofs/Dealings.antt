@@ -1,10 +1,10 @@
 -- Seats dealt out one after another.
 use Rattle.std.specs.Prelude.{List, [], ◌∷◌, ◌++◌, length, Some, slice_get}
-use Rattle.std.proofs.Common.{ℕ, zero, suc, ◌≡◌, ◌≢◌, ◌+◌, ◌-◌, ◌<◌, ◌≤◌, ◌⊎◌, inl, inr, arith, refl, sym, ap, ◌∙◌, subst}
+use Rattle.std.proofs.Common.{ℕ, zero, suc, ◌≡◌, ◌+◌, ◌-◌, ◌<◌, ◌≤◌, ◌⊎◌, inl, inr, arith, refl, sym, ap, ◌∙◌, subst}
 use Rattle.std.proofs.lemmas.List.{length_push}
 use Rattle.atomic_table.specs.Seated.{TableId}
 use Rattle.link_order.specs.NodeKind.{NodeKind}
-use Rattle.link_rule.specs.Rule.{seat_of, opening_progress, opening_records, first_of, others_of}
+use Rattle.link_rule.specs.Rule.{seat_of, opening_progress, first_of, others_of}
 use Rattle.link_table.specs.declared.key.Key.{Key}
 use Rattle.link_table.specs.Text.{script_of}
 use Rattle.link_table.specs.Seated.{SeatState}

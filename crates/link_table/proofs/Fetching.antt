@@ -1,11 +1,10 @@
 -- What the two loads of a fetch ask of the table, and what they make of the seat.
-use Rattle.std.specs.Prelude.{List, [], ◌∷◌, length, Option, Some, IsSome, slice_get, slice_index, slice_set}
-use Rattle.std.proofs.Common.{ℕ, ◌≡◌, ◌≢◌, ◌+◌, ◌*◌, ◌%◌, ◌<◌, ◌≤◌, ◌^◌, arith, refl, sym, ap, ◌∙◌, subst, inl, inr}
+use Rattle.std.specs.Prelude.{[], length, Some, slice_get, slice_index, slice_set}
+use Rattle.std.proofs.Common.{ℕ, ◌≡◌, ◌+◌, ◌<◌, ◌≤◌, ◌^◌, arith, sym, ap, ◌∙◌, subst, inl, inr}
 use Rattle.std.proofs.lemmas.List.{length-set, get_or-set_same, get_or-set_other}
 use mathlib.Core.Option.{none}
-use Rattle.atomic_table.specs.Table.{Me, Allows, step}
+use Rattle.atomic_table.specs.Table.{Allows, step}
 use Rattle.link_node.specs.declared.signal.Signal.{Signal}
-use Rattle.link_node.specs.Due.{FitsWidths}
 use Rattle.link_node.specs.Packing.{packed_head, packed_words, signal_in}
 use Rattle.link_node.proofs.PackingLemmas.{packs}
 use Rattle.link_order.specs.NodeKind.{NodeKind}
@@ -22,8 +21,8 @@ use Rattle.link_rule.proofs.Fetching.{head_allowed, body_allowed}
 use Rattle.link_table.specs.declared.key.Key.{Key}
 use Rattle.link_table.specs.declared.seat.Seat.TheInside.{Inside}
 use Rattle.link_table.specs.Text.{script_of}
-use Rattle.link_table.specs.Seated.{SeatState, state_of, with_made, IsSeat}
-use Rattle.link_table.proofs.Seats.{Mine, Place, moved_on, IsAfter, IsOther, own_made, seen_made, still_seat}
+use Rattle.link_table.specs.Seated.{SeatState, state_of, IsSeat}
+use Rattle.link_table.proofs.Seats.{Mine, Place, IsAfter, IsOther, own_made}
 
 -- the number of the signal that comes next of a peer, of whom something is left
 pub record IsNext (made : Progress) (peer index : ℕ) : Type 0 where

@@ -1,16 +1,16 @@
 -- What a look asks of the table, and what it makes of the seat.
-use Rattle.std.specs.Prelude.{List, [], ◌∷◌, length, slice_index}
-use Rattle.std.proofs.Common.{ℕ, ◌≡◌, ◌≢◌, ◌+◌, ◌-◌, ◌*◌, ◌/◌, ◌%◌, ◌<◌, ◌≤◌, ◌^◌, arith, refl, sym, ap, ◌∙◌, subst, inl, inr}
+use Rattle.std.specs.Prelude.{[], length, slice_index}
+use Rattle.std.proofs.Common.{ℕ, ◌≡◌, ◌+◌, ◌-◌, ◌/◌, ◌%◌, ◌<◌, ◌≤◌, ◌^◌, arith, sym, ap, ◌∙◌, subst, inl, inr}
 use Rattle.std.proofs.lemmas.List.{length-set}
 use mathlib.Core.Option.{none}
-use Rattle.atomic_table.specs.Table.{Me, Allows, step}
+use Rattle.atomic_table.specs.Table.{Allows, step}
 use Rattle.link_order.specs.NodeKind.{NodeKind}
 use Rattle.link_order.proofs.Numbers.{same_or_apart}
 use Rattle.link_script.specs.Script.{Script}
 use Rattle.link_rule.specs.declared.view.Peer.{Peer}
 use Rattle.link_rule.specs.declared.view.Progress.{Progress}
 use Rattle.link_rule.specs.Words.{clock_place, count_of}
-use Rattle.link_rule.specs.Rule.{peer_at, seat_of, IsPlaced, holds}
+use Rattle.link_rule.specs.Rule.{peer_at, seat_of, holds}
 use Rattle.link_rule.specs.Steps.{with_peer, looked, Looks, LooksAt, looks}
 use Rattle.link_rule.proofs.Looking.{look_allowed, peer_here, peer_there}
 use Rattle.link_rule.proofs.Decoding.{clock_part, count_part, whole_count}

@@ -1,10 +1,9 @@
 -- The words of a table at the opening, its limit and its seats.
 use Rattle.std.specs.Prelude.{List, [], ◌∷◌, length, map, slice_index}
-use Rattle.std.proofs.Common.{ℕ, ◌≡◌, ◌≢◌, ◌+◌, ◌*◌, ◌<◌, ◌≤◌, ◌^◌, arith, refl, sym, ap, ◌∙◌, subst, set, inl, inr, zero, suc, ◌⊎◌, get_or}
+use Rattle.std.proofs.Common.{ℕ, ◌≡◌, ◌≢◌, ◌+◌, ◌<◌, ◌≤◌, ◌^◌, arith, refl, sym, ap, ◌∙◌, subst, set, inl, inr, zero, suc, ◌⊎◌, get_or}
 use Rattle.std.proofs.lemmas.List.{length-set, get_or-set_same, get_or-set_other}
-use Rattle.std.proofs.lemmas.Bool.{cases_lt}
 use Rattle.link_order.proofs.Numbers.{same_or_apart}
-use Rattle.link_rule.specs.Words.{clock_place, word_count}
+use Rattle.link_rule.specs.Words.{clock_place}
 use Rattle.link_table.specs.Opening.{IsLeast, HasClocks}
 
 -- the least of the first `count` numbers, and of one more
@@ -61,33 +60,33 @@ pub least_more : (numbers : List ℕ) (least number new i : ℕ) → i < length 
 least_more numbers least number new i below is small cases h =
     elim cases [
       | inl t ↦ record {
-          none_below = λ k less.
-              elim (same_or_apart k i) [
-                | inl e ↦
-                    let a : slice_index numbers k ≡ number = ap (slice_index numbers) e ∙ sym is in
-                    omega (arith, t.1)
-                | inr n ↦
-                    let a : least ≤ slice_index numbers k = h.none_below k (let b : k ≢ i = n in omega arith) in
-                    omega (arith, t.0, t.1)
-              ];
-          place = i;
-          within = below;
-          one_of = sym is ∙ sym t.1;
-          small = omega (arith, t.1);
-        }
+        none_below = λ k less.
+            elim (same_or_apart k i) [
+              | inl e ↦
+                  let a : slice_index numbers k ≡ number = ap (slice_index numbers) e ∙ sym is in
+                  omega (arith, t.1)
+              | inr n ↦
+                  let a : least ≤ slice_index numbers k = h.none_below k (let b : k ≢ i = n in omega arith) in
+                  omega (arith, t.0, t.1)
+            ];
+        place = i;
+        within = below;
+        one_of = sym is ∙ sym t.1;
+        small = omega (arith, t.1);
+      }
       | inr t ↦ record {
-          none_below = λ k less.
-              elim (same_or_apart k i) [
-                | inl e ↦
-                    let a : slice_index numbers k ≡ number = ap (slice_index numbers) e ∙ sym is in
-                    omega (arith, t.0, t.1)
-                | inr n ↦
-                    let a : least ≤ slice_index numbers k = h.none_below k (let b : k ≢ i = n in omega arith) in
-                    omega (arith, t.1)
-              ];
-          place = h.place;
-          within = h.within;
-          one_of = h.one_of ∙ sym t.1;
-          small = omega (arith, h.small, t.1);
-        }
+        none_below = λ k less.
+            elim (same_or_apart k i) [
+              | inl e ↦
+                  let a : slice_index numbers k ≡ number = ap (slice_index numbers) e ∙ sym is in
+                  omega (arith, t.0, t.1)
+              | inr n ↦
+                  let a : least ≤ slice_index numbers k = h.none_below k (let b : k ≢ i = n in omega arith) in
+                  omega (arith, t.1)
+            ];
+        place = h.place;
+        within = h.within;
+        one_of = h.one_of ∙ sym t.1;
+        small = omega (arith, h.small, t.1);
+      }
     ]

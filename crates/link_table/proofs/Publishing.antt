@@ -1,13 +1,13 @@
 -- What the store of a clock word asks of the table, and what it makes of the seat.
-use Rattle.std.specs.Prelude.{Bool, List, [], ◌∷◌, length, map, Option, None, Some, IfSome, IsSome, slice_get, slice_index}
-use Rattle.std.specs.Prelude.{true, false, if◌then◌else◌, option_to_list}
-use Rattle.std.proofs.Common.{ℕ, suc, ◌≡◌, ◌≢◌, ◌+◌, ◌*◌, ◌%◌, ◌<◌, ◌≤◌, ◌^◌, ◌⊎◌, arith, refl, sym, ap, ◌∙◌, subst, inl, inr}
+use Rattle.std.specs.Prelude.{[], length, Option, None, Some, IsSome}
+use Rattle.std.specs.Prelude.{false, if◌then◌else◌, option_to_list}
+use Rattle.std.proofs.Common.{ℕ, ◌≡◌, ◌+◌, ◌<◌, ◌≤◌, ◌^◌, arith, refl, sym, ap, ◌∙◌, subst, inl, inr}
 use Rattle.std.proofs.lemmas.Bool.{cases_Bool}
 use Rattle.std.proofs.lemmas.List.{length-map}
 use Rattle.std.proofs.lemmas.Option.{slice_get_within}
 use mathlib.Core.Option.{none}
 use mir.Val.{bool_byte}
-use Rattle.atomic_table.specs.Table.{Me, Allows, step}
+use Rattle.atomic_table.specs.Table.{Allows, step}
 use Rattle.link_node.specs.declared.signal.Signal.{Signal}
 use Rattle.link_order.specs.NodeKind.{NodeKind}
 use Rattle.link_order.specs.Way.{Move}
@@ -16,7 +16,7 @@ use Rattle.link_script.proofs.Scripts.{sent_small, sent_next}
 use Rattle.link_rule.specs.declared.view.Peer.{Peer}
 use Rattle.link_rule.specs.declared.view.Progress.{Progress}
 use Rattle.link_rule.specs.Words.{clock_place, clock_word}
-use Rattle.link_rule.specs.Rule.{peer_at, seat_of, holds}
+use Rattle.link_rule.specs.Rule.{seat_of, holds}
 use Rattle.link_rule.specs.Steps.{unlooked, stepped_on, MayPublish, Publishes, publishes}
 use Rattle.link_rule.proofs.Publishing.{IsWritten, publish_allowed, unlooked_at, tells_cases}
 use Rattle.link_table.specs.declared.key.Key.{Key}
@@ -31,11 +31,11 @@ pub is_written : {N C : Type 0} (kind : NodeKind C) (plain : N → C) (s : Insid
 is_written kind plain s flag h is =
     elim (cases_Bool s.written) [
       | inl set ↦ record {
-          cases = inr (h.written_is ∙ ap (λ b. if b then 2 else 0) set, is ∙ ap bool_byte set);
-        }
+        cases = inr (h.written_is ∙ ap (λ b. if b then 2 else 0) set, is ∙ ap bool_byte set);
+      }
       | inr clear ↦ record {
-          cases = inl (h.written_is ∙ ap (λ b. if b then 2 else 0) clear, is ∙ ap bool_byte clear);
-        }
+        cases = inl (h.written_is ∙ ap (λ b. if b then 2 else 0) clear, is ∙ ap bool_byte clear);
+      }
     ]
 
 -- the numbers that the code makes fit 64 bits

@@ -1,8 +1,8 @@
 -- What the two stores of a signal ask of the table, and what they make of the seat.
-use Rattle.std.specs.Prelude.{List, [], ◌∷◌, Option, Some, IfSome, slice_get, true}
-use Rattle.std.proofs.Common.{ℕ, suc, ◌≡◌, ◌≢◌, ◌+◌, ◌*◌, ◌%◌, ◌<◌, ◌≤◌, ◌^◌, arith, refl, sym, ap, ◌∙◌, subst}
+use Rattle.std.specs.Prelude.{[], ◌∷◌, Option, IfSome, true}
+use Rattle.std.proofs.Common.{ℕ, suc, ◌≡◌, ◌+◌, ◌<◌, ◌^◌, arith, refl, sym, ap, ◌∙◌, subst}
 use mathlib.Core.Option.{none}
-use Rattle.atomic_table.specs.Table.{Me, Allows, step}
+use Rattle.atomic_table.specs.Table.{Allows, step}
 use Rattle.link_node.specs.declared.signal.Signal.{Signal}
 use Rattle.link_node.specs.Due.{FitsWidths}
 use Rattle.link_node.specs.Packing.{packed_head, packed_words}

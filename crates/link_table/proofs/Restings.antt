@@ -1,13 +1,13 @@
 -- What a joined seat knows, and what is left to fetch.
-use Rattle.std.specs.Prelude.{List, [], ◌∷◌, length, map, Option, None, Some, IsSome, slice_get, slice_index, slice_set}
-use Rattle.std.proofs.Common.{ℕ, zero, suc, ◌≡◌, ◌≢◌, ◌+◌, ◌-◌, ◌*◌, ◌%◌, ◌<◌, ◌≤◌, ◌^◌, ◌⊎◌, inl, inr, arith, refl, sym, ap, ◌∙◌, subst}
+use Rattle.std.specs.Prelude.{List, [], ◌∷◌, length, map, Some, slice_get, slice_index, slice_set}
+use Rattle.std.proofs.Common.{ℕ, zero, suc, ◌≡◌, ◌≢◌, ◌+◌, ◌-◌, ◌%◌, ◌<◌, ◌≤◌, ◌^◌, inl, inr, arith, refl, sym, ap, ◌∙◌, subst}
 use Rattle.std.proofs.lemmas.List.{length-map, length-set, get_or-set_same, get_or-set_other}
 use Rattle.std.proofs.lemmas.Option.{slice_get_within}
 use mathlib.Core.Option.{none}
 use Rattle.atomic_table.specs.Seated.{TableId}
-use Rattle.atomic_table.specs.Table.{Me, Allows, step}
+use Rattle.atomic_table.specs.Table.{Allows, step}
 use Rattle.link_node.specs.declared.signal.Signal.{Signal}
-use Rattle.link_node.specs.Packing.{packed_head, packed_words, signal_in}
+use Rattle.link_node.specs.Packing.{packed_head, signal_in}
 use Rattle.link_node.proofs.PackingLemmas.{packs}
 use Rattle.link_order.specs.NodeKind.{NodeKind}
 use Rattle.link_order.proofs.Numbers.{same_or_apart}
@@ -18,14 +18,14 @@ use Rattle.link_rule.specs.declared.view.Progress.{Progress}
 use Rattle.link_rule.specs.Words.{clock_place, ring_place, clock_word, count_of}
 use Rattle.link_rule.specs.Rule.{peer_at, KnowsOf, holds}
 use Rattle.link_rule.specs.Steps.{Met, Rests, rests}
-use Rattle.link_rule.proofs.Decoding.{clock_part, count_part, whole_count}
+use Rattle.link_rule.proofs.Decoding.{count_part, whole_count}
 use Rattle.link_rule.proofs.Resting.{rest_allowed}
 use Rattle.link_table.specs.declared.key.Key.{Key}
 use Rattle.link_table.specs.declared.joined.Joined.TheInside.{Inside}
 use Rattle.link_table.specs.Text.{script_of}
 use Rattle.link_table.specs.Seated.{SeatState}
 use Rattle.link_table.specs.Uniting.{made_of, pair_place, AreTaken, IsUnited}
-use Rattle.link_table.specs.Joining.{JoinedState, joined_state, with_fetched, AreFetched, IsJoined, IsRest}
+use Rattle.link_table.specs.Joining.{JoinedState, joined_state, with_fetched, IsJoined}
 use Rattle.link_table.proofs.Seats.{Mine, Place}
 
 -- a load by a seat of all players is allowed

@@ -1,6 +1,6 @@
 -- What holds of a seat, from its fields to what contracts see and back.
 use Rattle.std.specs.Prelude.{[], ◌∷◌}
-use Rattle.std.proofs.Common.{ℕ, ◌≡◌, ◌≢◌, ◌<◌, ◌≤◌, arith, refl, sym, ap, ◌∙◌, subst}
+use Rattle.std.proofs.Common.{ℕ, ◌≡◌, ◌≢◌, ◌<◌, sym, ap, ◌∙◌, subst}
 use Rattle.atomic_table.specs.Seated.{TableId}
 use Rattle.atomic_table.specs.Table.{Me}
 use Rattle.atomic_table.specs.declared.shared.Seat.{Seat}
@@ -10,7 +10,6 @@ use Rattle.link_rule.specs.declared.view.View.{View}
 use Rattle.link_rule.specs.Rule.{seat_of}
 use Rattle.link_table.specs.declared.key.Key.{Key}
 use Rattle.link_table.specs.declared.seat.Seat.TheInside.{Inside}
-use Rattle.link_table.specs.Text.{script_of}
 use Rattle.link_table.specs.Seated.{SeatState, with_made, first_made, state_of, IsSeat}
 
 -- a seat's own view, and its place at the table

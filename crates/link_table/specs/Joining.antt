@@ -1,12 +1,10 @@
-use Rattle.std.specs.Prelude.{ℕ, ◌≡◌, ◌≢◌, ◌+◌, ◌*◌, ◌<◌, ◌≤◌, List, [], ◌∷◌, Option, None, Some, length, map}
+use Rattle.std.specs.Prelude.{ℕ, ◌≡◌, ◌≢◌, ◌+◌, ◌<◌, ◌≤◌, List, [], ◌∷◌, Option, None, Some, length, map}
 use Rattle.std.specs.Prelude.{slice_get, slice_set, slice_index}
 use Rattle.atomic_table.specs.Seated.{TableId}
-use Rattle.atomic_table.specs.Table.{Me}
 use Rattle.link_node.specs.declared.signal.Signal.{Signal}
 use Rattle.link_order.specs.NodeKind.{NodeKind}
 use Rattle.link_script.specs.Script.{Script, told, IsSoundScript}
 use Rattle.link_rule.specs.declared.view.Progress.{Progress}
-use Rattle.link_rule.specs.declared.view.View.{View}
 use Rattle.link_rule.specs.Rule.{peer_at}
 use Rattle.link_rule.specs.Steps.{Met}
 use Rattle.link_table.specs.declared.key.Key.{Key}

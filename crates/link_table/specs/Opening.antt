@@ -1,12 +1,12 @@
-use Rattle.std.specs.Prelude.{ℕ, ◌≡◌, ◌≢◌, ◌+◌, ◌*◌, ◌<◌, ◌≤◌, ◌^◌, List, [], ◌∷◌, Some, length, map, slice_get, slice_index}
+use Rattle.std.specs.Prelude.{ℕ, ◌≡◌, ◌<◌, ◌≤◌, ◌^◌, List, [], ◌∷◌, Some, length, map, slice_get, slice_index}
 use Rattle.atomic_table.specs.Seated.{TableId}
 use Rattle.atomic_table.specs.Table.{Me}
 use Rattle.link_order.specs.NodeKind.{NodeKind}
 use Rattle.link_order.specs.Cut.{Cut}
-use Rattle.link_script.specs.Script.{Script, IsSoundScript}
+use Rattle.link_script.specs.Script.{IsSoundScript}
 use Rattle.link_rule.specs.declared.view.View.{View}
 use Rattle.link_rule.specs.Words.{clock_place, word_count}
-use Rattle.link_rule.specs.Rule.{seat_of, opening_progress, opening_records}
+use Rattle.link_rule.specs.Rule.{opening_progress, opening_records}
 use Rattle.link_table.specs.declared.key.Key.{Key}
 use Rattle.link_table.specs.Text.{script_of}
 use Rattle.link_table.specs.Seated.{SeatState}
@@ -56,11 +56,14 @@ pub record IsCommon {N C : Type 0} (kind : NodeKind C) (plain : N → C) (key : 
 pub record IsUndealt {N C : Type 0} (kind : NodeKind C) (plain : N → C) (key : Key N) (me : Me (Unit {0}) (View (Key N)))
     (first left : ℕ) : Type 0
   where
-    pub me_is : me ≡ (record {
-      key = key ∷ [];
-      first = first;
-      records = opening_records (script_of kind plain key) left;
-    }, [])
+    pub me_is : me ≡ (
+      record {
+        key = key ∷ [];
+        first = first;
+        records = opening_records (script_of kind plain key) left;
+      },
+      [],
+    )
 
 -- a new table: its key has the cut and the least limit of the cut's nodes, its script is sound, and there is a seat for
 -- each console

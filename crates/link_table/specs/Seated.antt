@@ -1,7 +1,7 @@
-use Rattle.std.specs.Prelude.{ℕ, Bool, ◌≡◌, ◌≢◌, ◌+◌, ◌*◌, ◌<◌, ◌≤◌, List, [], ◌∷◌, length, map, slice_index, if◌then◌else◌}
+use Rattle.std.specs.Prelude.{ℕ, ◌≡◌, ◌<◌, ◌≤◌, List, [], ◌∷◌, length, slice_index, if◌then◌else◌}
 use Rattle.atomic_table.specs.Seated.{TableId}
 use Rattle.link_order.specs.NodeKind.{NodeKind}
-use Rattle.link_script.specs.Script.{Script, IsSoundScript}
+use Rattle.link_script.specs.Script.{IsSoundScript}
 use Rattle.link_rule.specs.declared.view.Progress.{Progress}
 use Rattle.link_rule.specs.Rule.{peer_at, seat_of, IsPlaced}
 use Rattle.link_table.specs.declared.key.Key.{Key}

@@ -1,6 +1,5 @@
-use Rattle.std.specs.Prelude.{ℕ, List}
 use Rattle.link_order.specs.NodeKind.{NodeKind}
-use Rattle.link_order.specs.Cut.{Cut, plain_cut}
+use Rattle.link_order.specs.Cut.{plain_cut}
 use Rattle.link_script.specs.Script.{Script, script}
 use Rattle.link_table.specs.declared.key.Key.{Key}
 

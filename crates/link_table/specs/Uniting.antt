@@ -2,7 +2,7 @@ use Rattle.std.specs.Prelude.{ℕ, ◌≡◌, ◌+◌, ◌*◌, ◌<◌, List, [
 use Rattle.atomic_table.specs.Seated.{TableId}
 use Rattle.atomic_table.specs.Table.{Me}
 use Rattle.link_order.specs.NodeKind.{NodeKind}
-use Rattle.link_script.specs.Script.{Script, IsSoundScript}
+use Rattle.link_script.specs.Script.{IsSoundScript}
 use Rattle.link_rule.specs.declared.view.Progress.{Progress}
 use Rattle.link_rule.specs.declared.view.View.{View}
 use Rattle.link_rule.specs.Rule.{peer_at, seat_of}

@@ -74,7 +74,10 @@ fn unite<N: Node>(shared: &Shared<N>, seats: Vec<Seat<N>>) -> Place<N>
     let mut place = rest.remove(0).into_place();
     while !rest.is_empty() {
         let next = rest.remove(0).into_place();
-        shared.table.shared.join_seat::<AllPlayers>(&mut place, next);
+        shared
+            .table
+            .shared
+            .join_seat::<AllPlayers>(&mut place, next);
     }
     place
 }

@@ -2,8 +2,8 @@
 //! The table that consoles on threads share: each publishes its clock and its signals there, and reads those of its
 //! peers.
 
-mod key;
 mod joined;
+mod key;
 mod law;
 mod opening;
 mod seat;

@@ -1,5 +1,5 @@
 use Rattle.std.specs.Prelude.{List, length}
-use Rattle.std.proofs.Common.{ℕ, ◌≡◌, ◌<◌, ◌≤◌, arith, sym, ap, ◌∙◌, subst}
+use Rattle.std.proofs.Common.{◌<◌, arith, sym, ◌∙◌, subst}
 use Rattle.link_order.specs.NodeKind.{NodeKind, kind_of}
 use Rattle.link_rule.proofs.Seats.{join_allowed}
 use Rattle.link_table.specs.declared.key.Key.{Key}
@@ -17,10 +17,14 @@ join_seat-requires g c =
     let f : Follows c.loop-shared.place c.into_place-next.result c.args.shared.now
     = follows kind g.N.Node.plain c.args.shared.now c.args.seats.items c.loop-shared.place c.into_place-next.result
     c.loop-shared.rest.items c.remove-in-loop-shared.result c.loop-shared.invariant some
-    c.remove-in-loop-shared.ensures.value c.into_place-next.ensures in
-    (f.own_table ∙ sym c.shared.view_is, f.table_is ∙ sym c.shared.view_is, f.empty, omega (arith, words),
-    join_allowed (script_of kind g.N.Node.plain) c.shared.inside.table.shared.key c.loop-shared.place.id
-    c.into_place-next.result.id c.loop-shared.place.me.0 c.into_place-next.result.me.0 f.some f.after)
+    c.remove-in-loop-shared.ensures.value c.into_place-next.ensures in (
+      f.own_table ∙ sym c.shared.view_is,
+      f.table_is ∙ sym c.shared.view_is,
+      f.empty,
+      omega (arith, words),
+      join_allowed (script_of kind g.N.Node.plain) c.shared.inside.table.shared.key c.loop-shared.place.id
+          c.into_place-next.result.id c.loop-shared.place.me.0 c.into_place-next.result.me.0 f.some f.after,
+    )
 
 pub loop-shared-preserved : goal.loop-shared-preserved
 loop-shared-preserved g c =

@@ -1,12 +1,12 @@
 use Rattle.std.specs.Prelude.{List, [], ◌∷◌, ◌++◌}
-use Rattle.std.proofs.Common.{ℕ, ◌≡◌, ◌+◌, ◌-◌, ◌<◌, ◌≤◌, arith, sym, ap, ◌∙◌, subst}
+use Rattle.std.proofs.Common.{ℕ, ◌≡◌, ◌+◌, ◌-◌, arith, sym, ap, ◌∙◌, subst}
 use Rattle.link_order.specs.NodeKind.{NodeKind, kind_of}
 use Rattle.link_rule.specs.Rule.{seat_of, opening_progress}
 use Rattle.link_rule.proofs.Seats.{split_allowed}
 use Rattle.link_table.specs.declared.key.Key.{Key}
 use Rattle.link_table.specs.Text.{script_of}
 use Rattle.link_table.specs.Seated.{SeatState}
-use Rattle.link_table.specs.Opening.{AreDealt, opening_seat}
+use Rattle.link_table.specs.Opening.{AreDealt}
 use Rattle.link_table.proofs.Seats.{Place}
 use Rattle.link_table.proofs.Dealings.{IsDealing, undealt_first, last_seat, own_key, taken_is, dealing_on, dealt_more}
 use Rattle.link_table.proofs.opening.deal.Goals as goal
@@ -14,20 +14,23 @@ use Rattle.link_table.proofs.opening.deal.Goals as goal
 pub split_seat-others-requires : goal.split_seat-others-requires
 split_seat-others-requires g c =
     let kind : NodeKind g.N.Node.Record = kind_of g.N.Node.clock g.N.Node.was g.N.Node.next in
-    let words = c.shared.invariant in
-    (c.loop-player.invariant.table_is ∙ c.requires.table ∙ sym c.shared.view_is,
-    omega (arith, words),
-    split_allowed (script_of kind g.N.Node.plain) c.shared.inside.table.shared.key c.loop-player.place.id
-    c.loop-player.place.me.0)
+    let words = c.shared.invariant in (
+      c.loop-player.invariant.table_is ∙ c.requires.table ∙ sym c.shared.view_is,
+      omega (arith, words),
+      split_allowed (script_of kind g.N.Node.plain) c.shared.inside.table.shared.key c.loop-player.place.id
+          c.loop-player.place.me.0,
+    )
 
 pub take_seat-requires-clause-common : goal.take_seat-requires-clause-common
 take_seat-requires-clause-common g c =
     let kind : NodeKind g.N.Node.Record = kind_of g.N.Node.clock g.N.Node.was g.N.Node.next in
-    let less = c.loop-player-test.true in
-    (c.loop-player.invariant.key, c.loop-player.invariant.common,
-    ap (λ (p : Place g.row.N.Denot). p.me) c.replace-first.ensures.value
-    ∙ undealt_first kind g.N.Node.plain c.loop-player.invariant.key c.loop-player.place.me _ _ _
-    c.loop-player.invariant.undealt (omega arith) c.split_seat-others.ensures.2)
+    let less = c.loop-player-test.true in (
+      c.loop-player.invariant.key,
+      c.loop-player.invariant.common,
+      ap (λ (p : Place g.row.N.Denot). p.me) c.replace-first.ensures.value
+          ∙ undealt_first kind g.N.Node.plain c.loop-player.invariant.key c.loop-player.place.me _ _ _
+          c.loop-player.invariant.undealt (omega arith) c.split_seat-others.ensures.2,
+    )
 
 pub loop-player-preserved : goal.loop-player-preserved
 loop-player-preserved g c =

@@ -1,5 +1,5 @@
 use Rattle.std.specs.Prelude.{List, [], ◌∷◌, length, map}
-use Rattle.std.proofs.Common.{ℕ, ◌≡◌, ◌≤◌, sym, ap, ◌∙◌, subst, refl}
+use Rattle.std.proofs.Common.{ℕ, ◌≡◌, sym, ap, ◌∙◌, subst}
 use Rattle.atomic_table.specs.Seated.{TableId}
 use Rattle.link_order.specs.NodeKind.{NodeKind, IsLawful, kind_of}
 use Rattle.link_order.specs.Cut.{Cut}
@@ -7,8 +7,7 @@ use Rattle.link_rule.specs.Rule.{Ruled, first_view}
 use Rattle.link_rule.proofs.Opening.{opens}
 use Rattle.link_table.specs.declared.key.Key.{Key}
 use Rattle.link_table.specs.Text.{script_of}
-use Rattle.link_table.specs.Seated.{SeatState}
-use Rattle.link_table.specs.Opening.{IsCommon, IsLeast, AreDealt, IsUndealt}
+use Rattle.link_table.specs.Opening.{IsLeast, AreDealt, IsUndealt}
 use Rattle.link_table.proofs.Beginnings.{IsOpen, is_open, sound_text, opening_text, players_text, undealt_whole}
 use Rattle.link_table.proofs.shared.Shared.begin.Goals as goal
 
@@ -49,17 +48,18 @@ deal-requires-clause-common g c =
     c.nodes-nodes.ensures.value c.nodes-nodes.ensures.cable c.nodes-nodes.ensures.sound c.least_limit.ensures.small
     c.in_ok-words.ensures in
     let nodes_are : c.nodes-nodes.result.now ≡ key.cut.value.consoles
-    = c.nodes-nodes.ensures.value ∙ ap (λ (d : Cut g.row.N.Denot). d.consoles) (sym c.of.ensures) in
-    (key,
-    record {
-      players_is = ap length nodes_are ∙ players_text kind g.N.Node.plain key;
-      sound = sound_text kind law g.N.Node.plain key c.in_ok-words.words.items h;
-      delay_is = c.delay.ensures.value ∙ ap (λ (d : Cut g.row.N.Denot). d.delay) (sym c.of.ensures);
-      some_delay = c.delay.ensures.some;
-      short_delay = c.delay.ensures.short;
-    },
-    undealt_whole kind g.N.Node.plain key c.in_ok-table.place.me (length c.nodes-nodes.result.now)
-    (ap length nodes_are ∙ players_text kind g.N.Node.plain key) (c.in_ok-table.ensures {u = tt}).4)
+    = c.nodes-nodes.ensures.value ∙ ap (λ (d : Cut g.row.N.Denot). d.consoles) (sym c.of.ensures) in (
+      key,
+      record {
+        players_is = ap length nodes_are ∙ players_text kind g.N.Node.plain key;
+        sound = sound_text kind law g.N.Node.plain key c.in_ok-words.words.items h;
+        delay_is = c.delay.ensures.value ∙ ap (λ (d : Cut g.row.N.Denot). d.delay) (sym c.of.ensures);
+        some_delay = c.delay.ensures.some;
+        short_delay = c.delay.ensures.short;
+      },
+      undealt_whole kind g.N.Node.plain key c.in_ok-table.place.me (length c.nodes-nodes.result.now)
+          (ap length nodes_are ∙ players_text kind g.N.Node.plain key) (c.in_ok-table.ensures {u = tt}).4,
+    )
 
 pub returns : goal.returns
 returns g c =

@@ -1,5 +1,5 @@
 use Rattle.std.specs.Prelude.{Option, IsSome, Some, slice_get}
-use Rattle.std.proofs.Common.{ℕ, ◌≡◌, ◌+◌, ◌*◌, ◌%◌, ◌<◌, ◌≤◌, ◌^◌, arith, refl, sym, ap, ◌∙◌, subst}
+use Rattle.std.proofs.Common.{◌≡◌, arith, refl, sym, ap, ◌∙◌, subst}
 use Rattle.link_node.specs.declared.signal.Signal.{Signal}
 use Rattle.link_order.specs.NodeKind.{NodeKind, kind_of}
 use Rattle.link_rule.specs.declared.view.Progress.{Progress}
@@ -22,11 +22,12 @@ load-head-requires g c =
     let four = c.seat.invariant.sound.at_most_four in
     let players = c.seat.invariant.players_is in
     let words = c.self.invariant in
-    let ring = in_ring c.args.peer c.args.index in
-    (own_table c.seat.inside c.args.seat.now _ c.args.self.now c.seat.view_is c.self.view_is c.requires.table,
-    omega (arith, other.below, four, players, words, ring.before, c.ring_place-place.ensures),
-    may_head kind g.N.Node.plain c.self.inside.table.shared.key c.self.inside.table.shared.table_id.slots
-    c.ring_place-place.result c.args.peer c.args.index c.seat.inside c.seat.invariant c.ring_place-place.ensures next)
+    let ring = in_ring c.args.peer c.args.index in (
+      own_table c.seat.inside c.args.seat.now _ c.args.self.now c.seat.view_is c.self.view_is c.requires.table,
+      omega (arith, other.below, four, players, words, ring.before, c.ring_place-place.ensures),
+      may_head kind g.N.Node.plain c.self.inside.table.shared.key c.self.inside.table.shared.table_id.slots
+          c.ring_place-place.result c.args.peer c.args.index c.seat.inside c.seat.invariant c.ring_place-place.ensures next,
+    )
 
 pub load-body-requires : goal.load-body-requires
 load-body-requires g c =
@@ -37,13 +38,14 @@ load-body-requires g c =
     let four = c.seat.invariant.sound.at_most_four in
     let players = c.seat.invariant.players_is in
     let words = c.self.invariant in
-    let ring = in_ring c.args.peer c.args.index in
-    (c.load-head.ensures.0
-    ∙ own_table c.seat.inside c.args.seat.now _ c.args.self.now c.seat.view_is c.self.view_is c.requires.table,
-    omega (arith, other.below, four, players, words, ring.before, c.ring_place-place.ensures),
-    may_body kind g.N.Node.plain c.self.inside.table.shared.key c.self.inside.table.shared.table_id.slots
-    c.ring_place-place.result c.args.peer c.args.index c.seat.inside c.load-head.new.seat c.seat.invariant other
-    c.ring_place-place.ensures next c.load-head.ensures.2.0)
+    let ring = in_ring c.args.peer c.args.index in (
+      c.load-head.ensures.0
+          ∙ own_table c.seat.inside c.args.seat.now _ c.args.self.now c.seat.view_is c.self.view_is c.requires.table,
+      omega (arith, other.below, four, players, words, ring.before, c.ring_place-place.ensures),
+      may_body kind g.N.Node.plain c.self.inside.table.shared.key c.self.inside.table.shared.table_id.slots
+          c.ring_place-place.result c.args.peer c.args.index c.seat.inside c.load-head.new.seat c.seat.invariant other
+          c.ring_place-place.ensures next c.load-head.ensures.2.0,
+    )
 
 pub overflow_add-seat : goal.overflow_add-seat
 overflow_add-seat g c =

@@ -1,4 +1,4 @@
-use Rattle.std.proofs.Common.{ℕ, ◌≡◌, ◌+◌, ◌*◌, ◌%◌, ◌/◌, ◌<◌, ◌≤◌, ◌^◌, arith, subst, sym}
+use Rattle.std.proofs.Common.{ℕ, ◌%◌, ◌^◌, arith, subst, sym}
 use Rattle.std.specs.Prelude.{slice_index}
 use Rattle.link_order.specs.NodeKind.{NodeKind, kind_of}
 use Rattle.link_rule.specs.Words.{count_of}
@@ -15,11 +15,12 @@ load-word-requires g c =
     let other = is_other c.seat.inside c.args.seat.now c.args.peer c.seat.view_is c.requires.below c.requires.other in
     let four = c.seat.invariant.sound.at_most_four in
     let players = c.seat.invariant.players_is in
-    let words = c.self.invariant in
-    (own_table c.seat.inside c.args.seat.now _ c.args.self.now c.seat.view_is c.self.view_is c.requires.table,
-    omega (arith, other.below, four, players, words, c.clock_place.ensures),
-    may_look kind g.N.Node.plain c.self.inside.table.shared.key c.self.inside.table.shared.table_id.slots
-    c.clock_place.result c.args.peer c.seat.inside c.seat.invariant other c.clock_place.ensures)
+    let words = c.self.invariant in (
+      own_table c.seat.inside c.args.seat.now _ c.args.self.now c.seat.view_is c.self.view_is c.requires.table,
+      omega (arith, other.below, four, players, words, c.clock_place.ensures),
+      may_look kind g.N.Node.plain c.self.inside.table.shared.key c.self.inside.table.shared.table_id.slots
+          c.clock_place.result c.args.peer c.seat.inside c.seat.invariant other c.clock_place.ensures,
+    )
 
 pub count_of-requires : goal.count_of-requires
 count_of-requires g c =

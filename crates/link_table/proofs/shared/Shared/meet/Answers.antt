@@ -1,9 +1,7 @@
-use Rattle.std.specs.Prelude.{List, [], ◌∷◌, length, Some, slice_get}
-use Rattle.std.proofs.Common.{ℕ, ◌≡◌, ◌<◌, arith, sym, ap, ◌∙◌, subst, refl}
+use Rattle.std.specs.Prelude.{List, length}
+use Rattle.std.proofs.Common.{arith, sym, ap, ◌∙◌, subst}
 use Rattle.link_order.specs.NodeKind.{NodeKind, kind_of}
-use Rattle.link_rule.specs.Steps.{Met}
 use Rattle.link_table.specs.declared.key.Key.{Key}
-use Rattle.link_table.specs.Text.{script_of}
 use Rattle.link_table.specs.Seated.{SeatState}
 use Rattle.link_table.specs.Uniting.{AreTaken}
 use Rattle.link_table.proofs.Seats.{Mine}
@@ -13,10 +11,12 @@ use Rattle.link_table.proofs.shared.Shared.meet.Goals as goal
 pub load-requires : goal.load-requires
 load-requires g c =
     let kind : NodeKind g.N.Node.Record = kind_of g.N.Node.clock g.N.Node.was g.N.Node.next in
-    let words = c.self.invariant in
-    (c.unite-place.ensures.table_is ∙ sym c.self.view_is, omega (arith, words),
-    may_rest kind g.N.Node.plain c.self.inside.table.shared.key c.self.inside.table.shared.table_id.slots
-    c.unite-place.result.id 0 c.unite-place.result.me (ap (λ (m : Mine g.row.N.Denot). m.1) c.unite-place.ensures.me_is))
+    let words = c.self.invariant in (
+      c.unite-place.ensures.table_is ∙ sym c.self.view_is,
+      omega (arith, words),
+      may_rest kind g.N.Node.plain c.self.inside.table.shared.key c.self.inside.table.shared.table_id.slots
+          c.unite-place.result.id 0 c.unite-place.result.me (ap (λ (m : Mine g.row.N.Denot). m.1) c.unite-place.ensures.me_is),
+    )
 
 pub invariant_of-result : goal.invariant_of-result
 invariant_of-result g c =

@@ -1,4 +1,4 @@
-use Rattle.std.proofs.Common.{ℕ, ◌≡◌, ◌+◌, ◌*◌, ◌%◌, ◌<◌, ◌≤◌, ◌^◌, arith, sym, ap, ◌∙◌, refl, mod-lt}
+use Rattle.std.proofs.Common.{◌+◌, arith, refl}
 use Rattle.link_order.specs.NodeKind.{NodeKind, kind_of}
 use Rattle.link_rule.specs.Words.{clock_word}
 use Rattle.link_rule.specs.Steps.{MayPublish, Publishes}
@@ -37,11 +37,12 @@ store-requires g c =
     let four = c.seat.invariant.sound.at_most_four in
     let players = c.seat.invariant.players_is in
     let below = c.seat.invariant.below in
-    let words = c.self.invariant in
-    (own_table c.seat.inside c.args.seat.now _ c.args.self.now c.seat.view_is c.self.view_is c.requires.table,
-    omega (arith, below, four, players, words, c.clock_place.ensures),
-    may_publish kind g.N.Node.plain c.self.inside.table.shared.key c.self.inside.table.shared.table_id.slots
-    c.clock_place.result _ c.from.result c.args.clock c.seat.inside c.seat.invariant may w c.clock_place.ensures refl)
+    let words = c.self.invariant in (
+      own_table c.seat.inside c.args.seat.now _ c.args.self.now c.seat.view_is c.self.view_is c.requires.table,
+      omega (arith, below, four, players, words, c.clock_place.ensures),
+      may_publish kind g.N.Node.plain c.self.inside.table.shared.key c.self.inside.table.shared.table_id.slots
+          c.clock_place.result _ c.from.result c.args.clock c.seat.inside c.seat.invariant may w c.clock_place.ensures refl,
+    )
 
 pub invariant_of-seat : goal.invariant_of-seat
 invariant_of-seat g c =

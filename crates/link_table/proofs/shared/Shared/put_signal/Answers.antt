@@ -1,4 +1,4 @@
-use Rattle.std.proofs.Common.{ℕ, ◌≡◌, ◌+◌, ◌*◌, ◌%◌, ◌<◌, ◌≤◌, ◌^◌, arith, sym, ap, ◌∙◌}
+use Rattle.std.proofs.Common.{◌+◌, arith, sym, ap, ◌∙◌}
 use Rattle.link_order.specs.NodeKind.{NodeKind, kind_of}
 use Rattle.link_rule.specs.declared.view.Progress.{Progress}
 use Rattle.link_rule.specs.Steps.{with_written}
@@ -27,12 +27,13 @@ store-requires g c =
     let players = c.seat.invariant.players_is in
     let below = c.seat.invariant.below in
     let words = c.self.invariant in
-    let ring = in_ring c.seat.inside.player c.seat.inside.sent in
-    (own_table c.seat.inside c.args.seat.now _ c.args.self.now c.seat.view_is c.self.view_is c.requires.table,
-    omega (arith, below, four, players, words, ring.before, c.ring_place-place.ensures),
-    may_put_head kind g.N.Node.plain c.self.inside.table.shared.key c.self.inside.table.shared.table_id.slots
-    c.ring_place-place.result _ c.args.signal.now c.seat.inside c.seat.invariant p c.ring_place-place.ensures
-    c.pack-head.ensures.head)
+    let ring = in_ring c.seat.inside.player c.seat.inside.sent in (
+      own_table c.seat.inside c.args.seat.now _ c.args.self.now c.seat.view_is c.self.view_is c.requires.table,
+      omega (arith, below, four, players, words, ring.before, c.ring_place-place.ensures),
+      may_put_head kind g.N.Node.plain c.self.inside.table.shared.key c.self.inside.table.shared.table_id.slots
+          c.ring_place-place.result _ c.args.signal.now c.seat.inside c.seat.invariant p c.ring_place-place.ensures
+          c.pack-head.ensures.head,
+    )
 
 pub store-requires-2 : goal.store-requires-2
 store-requires-2 g c =
@@ -45,13 +46,14 @@ store-requires-2 g c =
     let players = c.seat.invariant.players_is in
     let below = c.seat.invariant.below in
     let words = c.self.invariant in
-    let ring = in_ring c.seat.inside.player c.seat.inside.sent in
-    (c.store.ensures.0
-    ∙ own_table c.seat.inside c.args.seat.now _ c.args.self.now c.seat.view_is c.self.view_is c.requires.table,
-    omega (arith, below, four, players, words, ring.before, c.ring_place-place.ensures),
-    may_put_tail kind g.N.Node.plain c.self.inside.table.shared.key c.self.inside.table.shared.table_id.slots
-    c.ring_place-place.result _ c.args.signal.now c.seat.inside c.store.new.seat c.seat.invariant p half
-    c.ring_place-place.ensures c.pack-head.ensures.words)
+    let ring = in_ring c.seat.inside.player c.seat.inside.sent in (
+      c.store.ensures.0
+          ∙ own_table c.seat.inside c.args.seat.now _ c.args.self.now c.seat.view_is c.self.view_is c.requires.table,
+      omega (arith, below, four, players, words, ring.before, c.ring_place-place.ensures),
+      may_put_tail kind g.N.Node.plain c.self.inside.table.shared.key c.self.inside.table.shared.table_id.slots
+          c.ring_place-place.result _ c.args.signal.now c.seat.inside c.store.new.seat c.seat.invariant p half
+          c.ring_place-place.ensures c.pack-head.ensures.words,
+    )
 
 pub invariant_of-seat : goal.invariant_of-seat
 invariant_of-seat g c =
