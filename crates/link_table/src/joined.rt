@@ -9,7 +9,7 @@ ghost use Rattle.link_table.specs.declared.key.Key.{Key};
 ghost use Rattle.link_table.specs.Text.{script_of};
 ghost use Rattle.link_table.specs.Seated.{SeatState};
 ghost use Rattle.link_table.specs.Uniting.{MayMeet, AreTaken, pair_place, IsUnited};
-ghost use Rattle.link_table.specs.Joining.{AreMet, Rested};
+ghost use Rattle.link_table.specs.Joining.{AreMet, Rested, with_fetched};
 
 use crate::key::Key;
 use crate::law::{AllPlayers, Resting};
@@ -104,7 +104,8 @@ impl<N: Node> Shared<N> {
         requires player { player < length joined.old.made }
         requires peer { peer < length joined.old.made }
         requires other { peer ≢ player }
-        ensures { (key : Key N) → joined.old.key ≡ key ∷ [] →
+        ensures same { joined.new ≡ with_fetched joined.old joined.new.fetched }
+        ensures rest { (key : Key N) → joined.old.key ≡ key ∷ [] →
             Rested (script_of (kind_of N.clock N.was N.next) N.plain key) joined.old joined.new player peer result }
     {
         let pair = 4 * player as usize + peer as usize;

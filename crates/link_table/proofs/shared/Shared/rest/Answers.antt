@@ -38,8 +38,8 @@ count_of-requires g c =
     c.joined.invariant p c.clock_place.ensures c.load-word.ensures.2 in
     omega (arith, p.small, count)
 
-pub returns-then-count_of-taken : goal.returns-then-count_of-taken
-returns-then-count_of-taken g c key keys o there =
+pub returns-then-count_of-taken-clause-rest : goal.returns-then-count_of-taken-clause-rest
+returns-then-count_of-taken-clause-rest g c key keys o there =
     let kind : NodeKind g.N.Node.Record = kind_of g.N.Node.clock g.N.Node.was g.N.Node.next in
     let p = are_pair kind g.N.Node.plain c.joined.inside c.args.joined.now c.args.player c.args.peer c.joined.invariant
     c.joined.view_is c.requires.player c.requires.peer c.requires.other in
@@ -123,8 +123,8 @@ invariant_of-joined-2 g c =
     (c.load-body.ensures.2.0 ∙ c.load-head.ensures.2.0 ∙ c.load-word.ensures.2.0)
     (omega (arith, got, count, other, c.count_of.ensures))
 
-pub returns : goal.returns
-returns g c key keys o there =
+pub returns-clause-rest : goal.returns-clause-rest
+returns-clause-rest g c key keys o there =
     let kind : NodeKind g.N.Node.Record = kind_of g.N.Node.clock g.N.Node.was g.N.Node.next in
     let p = are_pair kind g.N.Node.plain c.joined.inside c.args.joined.now c.args.player c.args.peer c.joined.invariant
     c.joined.view_is c.requires.player c.requires.peer c.requires.other in
@@ -157,3 +157,16 @@ returns g c key keys o there =
           (c.load-body.ensures.2.0 ∙ c.load-head.ensures.2.0 ∙ c.load-word.ensures.2.0)
           ∙ ap (λ (l : List ℕ). with_fetched c.args.joined.now (slice_set l pair (slice_index l pair + 1))) fetched,
     )
+
+pub returns-then-count_of-taken-clause-same : goal.returns-then-count_of-taken-clause-same
+returns-then-count_of-taken-clause-same g c =
+    same_joined c.joined.inside c.load-word.new.seat c.joined.inside.fetched c.args.joined.now c.joined.view_is
+    c.load-word.ensures.0 c.load-word.ensures.2.0
+
+pub returns-clause-same : goal.returns-clause-same
+returns-clause-same g c =
+    let pair : ℕ = pair_place c.args.player c.args.peer in
+    same_joined c.joined.inside c.load-body.new.seat (slice_set c.joined.inside.fetched pair
+    (slice_index c.joined.inside.fetched pair + 1)) c.args.joined.now c.joined.view_is
+    (c.load-body.ensures.0 ∙ c.load-head.ensures.0 ∙ c.load-word.ensures.0)
+    (c.load-body.ensures.2.0 ∙ c.load-head.ensures.2.0 ∙ c.load-word.ensures.2.0)
