@@ -247,7 +247,7 @@ way_step {C = C} kind law until ps cut i k at =
       fits = subst (λ (o : Option Signal). IfSome o FitsWidths) tells (law.fits a.x (due_at kind m i));
     }
 
-told_in-append : (xs ys : List Move) → told_in (xs ++ ys) ≡ told_in xs ++ told_in ys
+pub told_in-append : (xs ys : List Move) → told_in (xs ++ ys) ≡ told_in xs ++ told_in ys
 told_in-append [] ys = refl
 told_in-append (x ∷ xs) ys =
     ap (λ (l : List Signal). option_to_list x.tells ++ l) (told_in-append xs ys)

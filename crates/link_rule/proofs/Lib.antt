@@ -1,0 +1,11 @@
+pub mod Places
+pub mod Kept
+pub mod Allowed
+pub mod Looking
+pub mod Fetching
+pub mod Putting
+pub mod Publishing
+pub mod Seats
+pub mod Opening
+pub mod Resting
+pub mod Decoding

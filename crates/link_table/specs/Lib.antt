@@ -1,0 +1,5 @@
+pub mod Text
+pub mod Seated
+pub mod Opening
+pub mod Uniting
+pub mod Joining

@@ -1,0 +1,47 @@
+use Rattle.std.specs.Prelude.{Some, length, option_to_list}
+use Rattle.std.proofs.Common.{◌+◌, ◌*◌, ◌<◌, arith, sym, ap, ◌∙◌}
+use Rattle.link_table.specs.declared.key.Key.{Key}
+use Rattle.link_table.specs.Seated.{SeatState}
+use Rattle.link_table_tests.specs.declared.ticker.Ticker.{Ticker}
+use Rattle.link_table_tests.specs.Ticking.{Ticked}
+use Rattle.link_table_tests.proofs.Stepping.{MayGo, may_go, told_next, publish_next}
+use Rattle.link_table_tests.proofs.Lookings.{stepped}
+use Rattle.link_table_tests.proofs.console.Console.step.Goals as goal
+
+pub tell-requires-clause-next : goal.tell-requires-clause-next
+tell-requires-clause-next g c =
+    let early : c.self.inside.node.clock < c.self.inside.node.limit = omega arith in
+    let ahead : c.self.inside.node.clock < c.self.inside.seen + c.delay-delay.result = omega arith in
+    let go : MayGo c.self.inside.node c.self.inside.seat c.self.invariant.key
+    = may_go c.self.inside.node c.self.inside.seat c.self.inside.peer c.self.inside.seen c.self.inside.taken
+    c.self.inside.count c.delay-delay.result c.self.invariant early
+    (c.delay-delay.ensures.value c.self.invariant.key c.self.invariant.key_is) ahead in
+    told_next c.self.inside.node c.self.inside.seat c.self.inside.peer c.self.inside.seen c.self.inside.taken
+    c.self.inside.count c.self.invariant go c.turn-signal.result c.turn-signal.ensures.signal
+
+pub publish-requires-clause-next : goal.publish-requires-clause-next
+publish-requires-clause-next g c =
+    let early : c.self.inside.node.clock < c.self.inside.node.limit = omega arith in
+    let ahead : c.self.inside.node.clock < c.self.inside.seen + c.delay-delay.result = omega arith in
+    let go : MayGo c.self.inside.node c.self.inside.seat c.self.invariant.key
+    = may_go c.self.inside.node c.self.inside.seat c.self.inside.peer c.self.inside.seen c.self.inside.taken
+    c.self.inside.count c.delay-delay.result c.self.invariant early
+    (c.delay-delay.ensures.value c.self.invariant.key c.self.invariant.key_is) ahead in
+    publish_next c.self.inside.node c.self.inside.seat c.tell.new.seat c.self.inside.peer c.self.inside.seen
+    c.self.inside.taken c.self.inside.count c.self.invariant go c.turn-signal.result c.turn-signal.ensures.signal
+    c.tell.ensures c.turn-signal.new.self.clock (ap (λ (r : Ticked). r.clock) c.turn-signal.ensures.node)
+
+pub invariant_of-self : goal.invariant_of-self
+invariant_of-self g c =
+    let early : c.self.inside.node.clock < c.self.inside.node.limit = omega arith in
+    let ahead : c.self.inside.node.clock < c.self.inside.seen + c.delay-delay.result = omega arith in
+    let go : MayGo c.self.inside.node c.self.inside.seat c.self.invariant.key
+    = may_go c.self.inside.node c.self.inside.seat c.self.inside.peer c.self.inside.seen c.self.inside.taken
+    c.self.inside.count c.delay-delay.result c.self.invariant early
+    (c.delay-delay.ensures.value c.self.invariant.key c.self.invariant.key_is) ahead in
+    stepped c.self.inside.node c.turn-signal.new.self c.self.inside.seat c.tell.new.seat c.publish.new.seat
+    c.self.inside.peer c.self.inside.seen c.self.inside.taken c.self.inside.count c.self.invariant
+    (go.goes_on ∙ ap Some (sym c.turn-signal.ensures.node)) c.turn-signal.ensures.limit
+    (2 * length (option_to_list c.turn-signal.result)) c.tell.ensures c.publish.ensures.seat
+    (c.publish.ensures.step c.self.invariant.key
+    (ap (λ (z : SeatState (Key Ticker)). z.key) c.tell.ensures ∙ c.self.invariant.key_is))
