@@ -207,8 +207,15 @@ impl Console {
         enough();
         let end = until.min(self.due());
         let mut left = end.saturating_sub(self.clock());
-        while left > 0 && self.is_calm() {
-            left = left.saturating_sub(u64::from(self.step_plainly()));
+        if left == 0 {
+            return;
+        }
+        while self.is_calm() {
+            let cycles = u64::from(self.step_plainly());
+            if cycles >= left {
+                return;
+            }
+            left -= cycles;
         }
     }
 

@@ -1,4 +1,5 @@
-use Rattle.std.proofs.Common.{◌≡◌, ℕ, true, false, refl}
+use Rattle.std.proofs.Common.{◌≡◌, ℕ, Bool, true, false, refl}
+use Rattle.gba_bus.specs.Prices.{price}
 use Rattle.gba_bus.specs.Regions.{region_of}
 use Rattle.gba_bus.specs.declared.region.Region.{Region}
 use Rattle.gba_bus.specs.declared.region.Region.TheVariants.{Bios, Inner, Rom0, Rom1, Rom2}
@@ -44,4 +45,14 @@ pub inner_written : (b : Board) (address : ℕ) (width : Width) (value : ℕ) �
 unfolding board_written
 inner_written b address width value e = rw (inner-not-io (region_of address) e) refl
 
-pub ruleset told_accesses = (bios_read, inner_read, rom_read, inner_written)
+inner-costs : (region : Region) (width : Width) (sequential : Bool) (waits : ℕ) → is_inner region ≡ true
+    → price region width sequential waits ≡ 1
+unfolding price
+inner-costs Inner width sequential waits e = refl
+inner-costs _ width sequential waits e = cc
+
+pub inner_price : (address waits : ℕ) (width : Width) (sequential : Bool) → is_inner (region_of address) ≡ true
+    → price (region_of address) width sequential waits ≡ 1
+inner_price address waits width sequential e = inner-costs (region_of address) width sequential waits e
+
+pub ruleset told_accesses = (bios_read, inner_read, rom_read, inner_written, inner_price)

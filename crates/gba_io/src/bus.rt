@@ -12,6 +12,9 @@ use gba_devices::laws::writes_keep;
 /// The mode of the picture, until its registers come: with 0 the tiles of sprites begin at 10000h in the VRAM.
 const PICTURE_MODE: u32 = 0;
 
+/// What an access to the inner RAM costs, of any kind: it is quick enough to be told without a look at the prices.
+const INNER_PRICE: u32 = 1;
+
 /// Whether an address is one of the I/O registers.
 fn is_in_io(address: u32) -> bool
     ensures { result ≡ is_io (region_of address) }
@@ -112,33 +115,6 @@ impl Board {
         }
         self.read_anywhere(address, address, width)
     }
-
-    /// What an instruction reads, the inner RAM after one test.
-    #[tactic(auto, using(crate::proofs::Telling::told_accesses))]
-    #[inline]
-    fn read(&mut self, from: u32, address: u32, width: Width) -> u32
-        ensures value { result ≡ board_read self.old from address width }
-        ensures same { self.new ≡ self.old }
-    {
-        if is_in_inner(address) {
-            self.memory.load_inner(address, width)
-        } else {
-            self.read_anywhere(from, address, width)
-        }
-    }
-
-    /// Writes, the inner RAM after one test.
-    #[tactic(auto, using(crate::proofs::Telling::told_accesses))]
-    #[inline]
-    fn write(&mut self, address: u32, width: Width, value: u32)
-        ensures { self.new ≡ board_written self.old address width value }
-    {
-        if is_in_inner(address) {
-            self.memory.store_inner(address, width, value);
-        } else {
-            self.write_anywhere(address, width, value);
-        }
-    }
 }
 
 impl Bus for Board {
@@ -182,16 +158,23 @@ impl Bus for Board {
         self.prices.price(address, width, sequential)
     }
 
+    #[tactic(auto, using(crate::proofs::Telling::told_accesses))]
     fn load(&mut self, from: u32, address: u32, width: Width, sequential: bool) -> (u32, u32) {
-        (
-            self.read(from, address, width),
-            self.prices.price(address, width, sequential),
-        )
+        if is_in_inner(address) {
+            return (self.memory.load_inner(address, width), INNER_PRICE);
+        }
+        let price = self.prices.price(address, width, sequential);
+        (self.read_anywhere(from, address, width), price)
     }
 
+    #[tactic(auto, using(crate::proofs::Telling::told_accesses))]
     fn store(&mut self, address: u32, width: Width, value: u32, sequential: bool) -> u32 {
+        if is_in_inner(address) {
+            self.memory.store_inner(address, width, value);
+            return INNER_PRICE;
+        }
         let price = self.prices.price(address, width, sequential);
-        self.write(address, width, value);
+        self.write_anywhere(address, width, value);
         price
     }
 }

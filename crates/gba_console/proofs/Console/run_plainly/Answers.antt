@@ -1,18 +1,30 @@
-use Rattle.std.proofs.Common.{◌≤◌, ◌∙◌, ℕ, sym, ap, subst, arith}
+use Rattle.std.proofs.Common.{◌<◌, ◌≤◌, ◌∙◌, ℕ, ap, subst, sym, arith}
 use Rattle.gba_console.specs.Keys.{due_of}
+use Rattle.gba_console.specs.Machine.{clock_of}
 use Rattle.gba_console.proofs.Rises.{run-step}
 use Rattle.gba_console.proofs.Console.run_plainly.Goals as goal
 
-pub loop-left-preserved : goal.loop-left-preserved
-loop-left-preserved c =
-    let before = c.loop-left.self in
-    let step = c.step_plainly.ensures in (
-      run-step c.enough.ensures c.args.until before c.step_plainly.new.self
-          (omega (arith, c.loop-left.invariant.2, c.loop-left.invariant.3, c.loop-left-test.true))
-          (omega (arith, step.clock, step.some)) step.step
-          ∙ c.loop-left.invariant.0,
-      omega (arith, step.clock, c.loop-left.invariant.1),
-      omega (arith, step.clock, c.loop-left.invariant.2),
-      c.loop-left.invariant.3,
-      subst (λ (n : ℕ). c.min-end.result ≤ n) (ap due_of (sym step.keys)) c.loop-left.invariant.4,
+pub returns-then-cycles-left-clause-same_end : goal.returns-then-cycles-left-clause-same_end
+returns-then-cycles-left-clause-same_end c =
+    let before = c.loop-self.self in
+    let step = c.step_plainly.ensures in
+    let held = c.loop-self.invariant in
+    let early : clock_of before < c.args.until = omega (arith, held.2, held.3, held.5) in
+    run-step c.enough.ensures c.args.until before c.step_plainly.new.self early (omega (arith, step.clock, step.some)) step.step
+    ∙ held.0
+
+pub loop-self-preserved : goal.loop-self-preserved
+loop-self-preserved c =
+    let before = c.loop-self.self in
+    let step = c.step_plainly.ensures in
+    let held = c.loop-self.invariant in
+    let early : clock_of before < c.args.until = omega (arith, held.2, held.3, held.5) in (
+      run-step c.enough.ensures c.args.until before c.step_plainly.new.self early (omega (arith, step.clock, step.some))
+          step.step
+          ∙ held.0,
+      omega (arith, step.clock, held.1),
+      omega (arith, step.clock, held.2),
+      held.3,
+      subst (λ (n : ℕ). c.min-end.result ≤ n) (ap due_of (sym step.keys)) held.4,
+      omega arith,
     )

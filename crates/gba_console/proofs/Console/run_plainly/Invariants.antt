@@ -1,14 +1,14 @@
-use Rattle.std.proofs.Common.{◌≡◌, ◌-◌, ◌≤◌}
+use Rattle.std.proofs.Common.{◌≡◌, ◌+◌, ◌≤◌}
 use Rattle.gba_console.specs.Keys.{due_of}
 use Rattle.gba_console.specs.Machine.{clock_of}
 use Rattle.gba_console.specs.Run.{run_to}
 use Rattle.gba_console.proofs.Console.run_plainly.Given as goal
 
--- what is left of the run leads to the same end, and so many cycles are left before a step may be no plain one
-abbrev pub invariant-loop-left : goal.invariant-loop-left
-invariant-loop-left l =
+-- what is left of the run leads to the same end, and some cycles are left before a step may be no plain one
+abbrev pub invariant-loop-self : goal.invariant-loop-self
+invariant-loop-self l =
     (run_to l.until l.self ≡ run_to l.until l.fn.self) × (clock_of l.fn.self ≤ clock_of l.self)
-    × (l.left ≡ l.end - clock_of l.self) × (l.end ≤ l.until) × (l.end ≤ due_of l.self.keys)
+    × (clock_of l.self + l.left ≡ l.end) × (l.end ≤ l.until) × (l.end ≤ due_of l.self.keys) × (1 ≤ l.left)
 
-abbrev pub decreases-loop-left : goal.decreases-loop-left
-decreases-loop-left l = l.left
+abbrev pub decreases-loop-self : goal.decreases-loop-self
+decreases-loop-self l = l.left
