@@ -1,5 +1,5 @@
 -- What steps that are read one after another gave, and the operands among them.
-use Rattle.std.proofs.Common.{◌≡◌, ◌≤◌, ◌<◌, ℕ, Bool, true, false, cond, List, length, eqb, ◌&&◌, ltb, nat_lt, Option, Some, None, Result, Ok, Err, refl, ap, arith}
+use Rattle.std.proofs.Common.{◌≡◌, ◌≤◌, ◌<◌, ℕ, Bool, true, false, cond, List, ◌&&◌, nat_lt, Option, Some, None, Result, Ok, Err, refl, ap, arith}
 use Rattle.std.specs.Str.Parse.{digits_value}
 use Rattle.std.proofs.lemmas.Bool.Decides.{nat_tests}
 use Rattle.gba_text.specs.Numbers.{number_of, hex_number_of, is_number, is_within}
