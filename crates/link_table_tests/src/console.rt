@@ -12,7 +12,6 @@ use crate::ticker::Ticker;
 use link_node::{Node, Signal};
 use link_table::{Look, Seat, Shared};
 use std::marker::Model;
-use std::process::Abort;
 
 /// A node with its seat. It keeps the clock of the last look whose signals are all fetched, how many signals of the other
 /// it has fetched, and how many it has seen.
@@ -79,35 +78,36 @@ impl Console {
         look
     }
 
-    /// The first signal of the other that isn't fetched.
-    pub fn fetch(&mut self, rt: &impl Abort, shared: &Shared<Ticker>) -> Signal
+    /// The first signal of the other that isn't fetched, if the last look counted one.
+    pub fn fetch(&mut self, shared: &Shared<Ticker>) -> Option<Signal>
         requires { self.old.table ≡ shared.now }
         ensures { self.new ≡ self.old }
     {
-        assert!(rt; self.taken < self.count);
+        if self.taken >= self.count {
+            return None;
+        }
         let signal = shared.fetch(&mut self.seat, self.peer, self.taken);
         self.taken += 1;
-        signal
+        Some(signal)
     }
 
-    /// The node's next step, which is told and published. It must be allowed.
-    pub fn step(&mut self, rt: &impl Abort, shared: &Shared<Ticker>)
+    /// The node's next step, which is told and published. It answers false, and nothing is done, where the step isn't
+    /// allowed yet.
+    pub fn step(&mut self, shared: &Shared<Ticker>) -> bool
         requires { self.old.table ≡ shared.now }
         ensures { self.new ≡ self.old }
     {
         let delay = self.seat.delay(self.peer);
-        assert!(rt; self.seen < 1 << 40);
-        assert!(rt; self.node.clock < self.node.limit);
-        assert!(rt; self.node.clock < self.seen + delay);
+        if self.seen >= 1 << 40 || self.node.clock >= self.node.limit {
+            return false;
+        }
+        if self.node.clock >= self.seen + delay {
+            return false;
+        }
         let signal = self.node.turn(&[]);
         tell(shared, &mut self.seat, signal);
         shared.publish(&mut self.seat, self.node.clock);
-    }
-
-    /// Whether the next step is allowed.
-    pub fn may_step(&self) -> bool {
-        self.node.clock < self.node.limit
-            && self.node.clock < self.seen.saturating_add(self.seat.delay(self.peer))
+        true
     }
 
     /// The clock of the node.

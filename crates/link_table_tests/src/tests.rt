@@ -46,19 +46,17 @@ fn steps(rt: &impl Abort, shared: &Shared<Ticker>, console: &mut Console, count:
     ensures { console.new ≡ console.old }
 {
     for index in 0..count {
-        console.step(rt, shared);
+        assert!(rt; console.step(shared));
     }
 }
 
 /// As many steps as are allowed, at most so many.
-fn advance(rt: &impl Abort, shared: &Shared<Ticker>, console: &mut Console, most: u64)
+fn advance(shared: &Shared<Ticker>, console: &mut Console, most: u64)
     requires { console.old.table ≡ shared.now }
     ensures { console.new ≡ console.old }
 {
     for index in 0..most {
-        if console.may_step() {
-            console.step(rt, shared);
-        }
+        console.step(shared);
     }
 }
 
@@ -75,8 +73,8 @@ fn catch_up(
 {
     let look = console.look(shared);
     for number in fetched..look.count {
-        let signal = console.fetch(rt, shared);
-        assert_eq!(rt; signal, told(number.saturating_mul(pace)));
+        let signal = console.fetch(shared);
+        assert_eq!(rt; signal, Some(told(number.saturating_mul(pace))));
     }
     console.look(shared);
     look.count
@@ -102,11 +100,11 @@ fn a_look_tells_steps_and_a_fetch_the_signal(rt: HostRuntime) -> Result<(), Fail
     let before = own.look(&shared);
     steps(&rt, &shared, &mut other, 3);
     let after = own.look(&shared);
-    let signal = own.fetch(&rt, &shared);
+    let signal = own.fetch(&shared);
     let again = own.look(&shared);
     assert_eq!(rt; before, Look { clock: 0, count: 0 });
     assert_eq!(rt; after, Look { clock: 9, count: 1 });
-    assert_eq!(rt; signal, told(0));
+    assert_eq!(rt; signal, Some(told(0)));
     assert_eq!(rt; again, after, "a look that sees nothing new");
     Ok(())
 }
@@ -127,9 +125,9 @@ fn play(
     let mut fetched = 0;
     let mut heard = 0;
     for round in 0..rounds {
-        advance(rt, shared, own, 2_000);
+        advance(shared, own, 2_000);
         fetched = catch_up(rt, shared, other, fetched, 1);
-        advance(rt, shared, other, 3 * (round % 2) + 1);
+        advance(shared, other, 3 * (round % 2) + 1);
         heard = catch_up(rt, shared, own, heard, pace);
     }
     fetched
@@ -205,12 +203,12 @@ fn what_was_not_fetched_is_left_in_order(rt: HostRuntime) -> Result<(), Fail> {
     let (shared, mut own, mut other) = two_consoles(&rt, rt.alloc(), first, second, 16)?;
     steps(&rt, &shared, &mut own, 5);
     let look = other.look(&shared);
-    let none = other.fetch(&rt, &shared);
-    let one = other.fetch(&rt, &shared);
+    let none = other.fetch(&shared);
+    let one = other.fetch(&shared);
     steps(&rt, &shared, &mut own, 3);
     steps(&rt, &shared, &mut other, 2);
     assert_eq!(rt; look, Look { clock: 5, count: 5 });
-    assert!(rt; none == told(0) && one == told(1));
+    assert!(rt; none == Some(told(0)) && one == Some(told(1)));
     let mut joined = meet_both(rt.alloc(), &shared, own, other)?;
     rest_of(&rt, &shared, &mut joined, 1, 0, 2, 8, 1);
     rest_of(&rt, &shared, &mut joined, 0, 1, 0, 2, 3);

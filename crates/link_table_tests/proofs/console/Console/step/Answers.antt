@@ -9,7 +9,7 @@ use Rattle.link_table_tests.proofs.Lookings.{stepped}
 use Rattle.link_table_tests.proofs.console.Console.step.Goals as goal
 
 pub tell-requires-clause-next : goal.tell-requires-clause-next
-tell-requires-clause-next g c =
+tell-requires-clause-next c =
     let early : c.self.inside.node.clock < c.self.inside.node.limit = omega arith in
     let ahead : c.self.inside.node.clock < c.self.inside.seen + c.delay-delay.result = omega arith in
     let go : MayGo c.self.inside.node c.self.inside.seat c.self.invariant.key
@@ -20,7 +20,7 @@ tell-requires-clause-next g c =
     c.self.inside.count c.self.invariant go c.turn-signal.result c.turn-signal.ensures.signal
 
 pub publish-requires-clause-next : goal.publish-requires-clause-next
-publish-requires-clause-next g c =
+publish-requires-clause-next c =
     let early : c.self.inside.node.clock < c.self.inside.node.limit = omega arith in
     let ahead : c.self.inside.node.clock < c.self.inside.seen + c.delay-delay.result = omega arith in
     let go : MayGo c.self.inside.node c.self.inside.seat c.self.invariant.key
@@ -32,7 +32,7 @@ publish-requires-clause-next g c =
     c.tell.ensures c.turn-signal.new.self.clock (ap (λ (r : Ticked). r.clock) c.turn-signal.ensures.node)
 
 pub invariant_of-self : goal.invariant_of-self
-invariant_of-self g c =
+invariant_of-self c =
     let early : c.self.inside.node.clock < c.self.inside.node.limit = omega arith in
     let ahead : c.self.inside.node.clock < c.self.inside.seen + c.delay-delay.result = omega arith in
     let go : MayGo c.self.inside.node c.self.inside.seat c.self.invariant.key
