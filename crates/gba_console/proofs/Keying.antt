@@ -4,32 +4,32 @@ use Rattle.std.proofs.Math.ListN.{drop_of_length-le}
 use Rattle.std.proofs.lemmas.Bool.Decides.{nat_tests}
 use Rattle.std.proofs.lemmas.List.{drop_more}
 use Rattle.gba_devices.specs.Registers.{keyed}
-use Rattle.gba_io.specs.Board.{Board, board_keyed}
+use Rattle.gba_io.specs.Core.{Core, core_keyed}
 use Rattle.gba_console.specs.Keys.{after_keys, due_of, keys_left}
 use Rattle.gba_console.specs.declared.keys.KeyState.{KeyState}
 
 -- Changes of the keys, one after another.
 
-either-clock : (test : Bool) (clock : ℕ) (one other : Board) → one.devices.clock ≡ clock → other.devices.clock ≡ clock
+either-clock : (test : Bool) (clock : ℕ) (one other : Core) → one.devices.clock ≡ clock → other.devices.clock ≡ clock
     → (if test then one else other).devices.clock ≡ clock
 either-clock true clock one other here there = here
 either-clock false clock one other here there = there
 
-keyed-clock : (keys : ℕ) (b : Board) → (board_keyed keys b).devices.clock ≡ b.devices.clock
+keyed-clock : (keys : ℕ) (b : Core) → (core_keyed keys b).devices.clock ≡ b.devices.clock
 unfolding keyed
 keyed-clock keys b = refl
 
 -- they leave the clock
-pub keys-clock : (clock : ℕ) (changes : List KeyState) (b : Board)
+pub keys-clock : (clock : ℕ) (changes : List KeyState) (b : Core)
     → (after_keys clock changes b).devices.clock ≡ b.devices.clock
 unfolding after_keys
 keys-clock clock [] b = refl
 keys-clock clock (change ∷ changes) b =
-    either-clock (nat_le change.clock clock) b.devices.clock (after_keys clock changes (board_keyed change.keys b)) b
-    (keys-clock clock changes (board_keyed change.keys b) ∙ keyed-clock change.keys b) refl
+    either-clock (nat_le change.clock clock) b.devices.clock (after_keys clock changes (core_keyed change.keys b)) b
+    (keys-clock clock changes (core_keyed change.keys b) ∙ keyed-clock change.keys b) refl
 
 -- none is due
-pub keys-early : (clock : ℕ) (changes : List KeyState) (b : Board) → clock < due_of changes
+pub keys-early : (clock : ℕ) (changes : List KeyState) (b : Core) → clock < due_of changes
     → after_keys clock changes b ≡ b
 unfolding after_keys
 keys-early clock [] b early = refl
@@ -45,8 +45,8 @@ left-early clock (change ∷ changes) early =
     rw test refl
 
 -- the next one is
-pub keys-due : (clock : ℕ) (change : KeyState) (changes : List KeyState) (b : Board) → change.clock ≤ clock
-    → after_keys clock (change ∷ changes) b ≡ after_keys clock changes (board_keyed change.keys b)
+pub keys-due : (clock : ℕ) (change : KeyState) (changes : List KeyState) (b : Core) → change.clock ≤ clock
+    → after_keys clock (change ∷ changes) b ≡ after_keys clock changes (core_keyed change.keys b)
 unfolding after_keys
 keys-due clock change changes b due =
     let test : nat_le change.clock clock ≡ true = grind (arith, nat_tests) in
@@ -67,7 +67,7 @@ from : (changes : List KeyState) (next : ℕ) → next < length changes
     → drop next changes ≡ change_at changes next ∷ drop (next + 1) changes
 from changes next inside = drop_more changes next (record { clock = 0; keys = 0 }) inside
 
-pub early-at : (clock : ℕ) (changes : List KeyState) (next : ℕ) (b : Board) → next < length changes
+pub early-at : (clock : ℕ) (changes : List KeyState) (next : ℕ) (b : Core) → next < length changes
     → clock < (change_at changes next).clock → b ≡ after_keys clock (drop next changes) b
 early-at clock changes next b inside early =
     rw (from changes next inside)
@@ -79,8 +79,8 @@ left-at clock changes next inside early =
     rw (from changes next inside)
     (sym (left-early clock (change_at changes next ∷ drop (next + 1) changes) early))
 
-pub due-at : (clock : ℕ) (changes : List KeyState) (next : ℕ) (b c : Board) → next < length changes
-    → (change_at changes next).clock ≤ clock → c ≡ board_keyed (change_at changes next).keys b
+pub due-at : (clock : ℕ) (changes : List KeyState) (next : ℕ) (b c : Core) → next < length changes
+    → (change_at changes next).clock ≤ clock → c ≡ core_keyed (change_at changes next).keys b
     → after_keys clock (drop (next + 1) changes) c ≡ after_keys clock (drop next changes) b
 due-at clock changes next b c inside due same =
     rw (from changes next inside, same)
@@ -92,7 +92,7 @@ pub due-left-at : (clock : ℕ) (changes : List KeyState) (next : ℕ) → next 
 due-left-at clock changes next inside due =
     rw (from changes next inside) (sym (left-due clock (change_at changes next) (drop (next + 1) changes) due))
 
-pub none-at : (clock : ℕ) (changes : List KeyState) (next : ℕ) (b : Board) → length changes ≤ next
+pub none-at : (clock : ℕ) (changes : List KeyState) (next : ℕ) (b : Core) → length changes ≤ next
     → b ≡ after_keys clock (drop next changes) b
 unfolding after_keys
 none-at clock changes next b past = rw (drop_of_length-le changes past) refl

@@ -1,5 +1,5 @@
 use Rattle.std.specs.Prelude.{ℕ, ◌-◌, ◌^◌, List, [], ◌∷◌, nat_le, if◌then◌else◌}
-use Rattle.gba_io.specs.Board.{Board, board_keyed}
+use Rattle.gba_io.specs.Core.{Core, core_keyed}
 use Rattle.gba_console.specs.declared.keys.KeyState.{KeyState}
 
 -- The key changes that a step which begins at `clock` applies: those at the front of the list whose clock isn't above
@@ -7,10 +7,10 @@ use Rattle.gba_console.specs.declared.keys.KeyState.{KeyState}
 -- profile).
 
 -- a board once they are applied
-unfoldable pub after_keys : ℕ → List KeyState → Board → Board
+unfoldable pub after_keys : ℕ → List KeyState → Core → Core
 after_keys clock [] b = b
 after_keys clock (change ∷ changes) b =
-    if nat_le change.clock clock then after_keys clock changes (board_keyed change.keys b) else b
+    if nat_le change.clock clock then after_keys clock changes (core_keyed change.keys b) else b
 
 -- the changes that are left
 unfoldable pub keys_left : ℕ → List KeyState → List KeyState

@@ -2,10 +2,11 @@ use Rattle.std.specs.Prelude.{◌≡◌, ◌≤◌, ◌<◌, ◌+◌, ℕ, zero,
 use Rattle.gba_console.specs.Machine.{Machine, clock_of}
 use Rattle.gba_console.specs.Step.{next}
 
--- Each step raises the clock by 1 to 512 cycles, whatever the console's numbers are.
+-- Each step raises the clock by 1 to 512 cycles, whatever the console's numbers are, and leaves the end of its room.
 pub record StepPasses (m : Machine) : Type 0 where
   pub raised : clock_of m < clock_of (next m)
   pub short : clock_of (next m) ≤ clock_of m + 512
+  pub until : (next m).board.made.until ≡ m.board.made.until
 
 -- steps while the clock is below `until`, at most `most` of them
 unfoldable pub run : ℕ → ℕ → Machine → Machine

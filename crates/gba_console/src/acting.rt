@@ -1,16 +1,16 @@
 //! What a step does before its devices move.
 
 ghost use Rattle.std.specs.Prelude.{◌≡◌, ◌<◌, length, not};
-ghost use Rattle.gba_console.specs.Step.{acted, awake_done, enters, entry_done, execution_of_half, execution_of_word, half_done, idles, in_thumb, instruction_done, word_done};
+ghost use Rattle.gba_console.specs.Step.{acted, awake_done, enters, entry_done, execution_of_half, execution_of_word, half_done, idles, in_thumb, instruction_done, undisturbed_done, word_done};
 ghost use Rattle.gba_exec_transfers.specs.Done.{Leaves};
-ghost use Rattle.gba_io.specs.Bus.{board_read};
+ghost use Rattle.gba_io.specs.Bus.{core_read};
 ghost use Rattle.gba_bus.specs.declared.width.Width.TheVariants.{Half, Word};
 
 use gba_arm_exec as arm;
 use gba_arm_exec::Decoded as DecodedWord;
 use gba_bus::{Bus, Width};
 use gba_exec_registers::{Site, jump_price};
-use gba_io::Board;
+use gba_io::Core;
 use gba_psr::{Exception, Registers};
 use gba_thumb_exec as thumb;
 use gba_thumb_exec::DecodedHalf;
@@ -46,35 +46,35 @@ pub(crate) fn in_thumb(registers: &Registers) -> bool
 
 // The word at an address, as an instruction.
 #[inline(always)]
-fn word_at(board: &mut Board, address: u32) -> u32
-    ensures value { result ≡ board_read board.old address address Word }
-    ensures same { board.new ≡ board.old }
+fn word_at(core: &mut Core, address: u32) -> u32
+    ensures value { result ≡ core_read core.old address address Word }
+    ensures same { core.new ≡ core.old }
 {
-    board.code(address, Width::Word)
+    core.code(address, Width::Word)
 }
 
 // The halfword at an address, as an instruction.
 #[inline(always)]
-fn half_at(board: &mut Board, address: u32) -> u16
-    ensures value { result ≡ board_read board.old address address Half }
-    ensures same { board.new ≡ board.old }
+fn half_at(core: &mut Core, address: u32) -> u16
+    ensures value { result ≡ core_read core.old address address Half }
+    ensures same { core.new ≡ core.old }
 {
-    board.code(address, Width::Half) as u16
+    core.code(address, Width::Half) as u16
 }
 
 // Executes the word at r15.
 #[inline(always)]
-fn step_word(registers: &mut Registers, board: &mut Board, words: &mut [DecodedWord]) -> u32
+fn step_word(registers: &mut Registers, core: &mut Core, words: &mut [DecodedWord]) -> u32
     requires { length words.old ≡ 4096 }
-    ensures { Leaves (word_done registers.old board.old) registers.new board.new result }
+    ensures { Leaves (word_done registers.old core.old) registers.new core.new result }
 {
     let address = registers.get(15);
-    let word = word_at(board, address);
+    let word = word_at(core, address);
     let one = &words[place_of_word(address)];
     if one.word == word {
-        arm::execute_decoded(registers, board, one)
+        arm::execute_decoded(registers, core, one)
     } else {
-        first_word(registers, board, words, word)
+        first_word(registers, core, words, word)
     }
 }
 
@@ -82,30 +82,30 @@ fn step_word(registers: &mut Registers, board: &mut Board, words: &mut [DecodedW
 #[inline(never)]
 fn first_word(
     registers: &mut Registers,
-    board: &mut Board,
+    core: &mut Core,
     words: &mut [DecodedWord],
     word: u32,
 ) -> u32
     requires { length words.old ≡ 4096 }
-    ensures { Leaves (execution_of_word word registers.old board.old) registers.new board.new result }
+    ensures { Leaves (execution_of_word word registers.old core.old) registers.new core.new result }
 {
     let place = place_of_word(registers.get(15));
-    arm::execute_first(registers, board, words, place, word)
+    arm::execute_first(registers, core, words, place, word)
 }
 
 // Executes the halfword at r15.
 #[inline(always)]
-fn step_half(registers: &mut Registers, board: &mut Board, halves: &mut [DecodedHalf]) -> u32
+fn step_half(registers: &mut Registers, core: &mut Core, halves: &mut [DecodedHalf]) -> u32
     requires { length halves.old ≡ 4096 }
-    ensures { Leaves (half_done registers.old board.old) registers.new board.new result }
+    ensures { Leaves (half_done registers.old core.old) registers.new core.new result }
 {
     let address = registers.get(15);
-    let half = half_at(board, address);
+    let half = half_at(core, address);
     let one = &halves[place_of_half(address)];
     if one.half == half {
-        thumb::execute_decoded(registers, board, one)
+        thumb::execute_decoded(registers, core, one)
     } else {
-        first_half(registers, board, halves, half)
+        first_half(registers, core, halves, half)
     }
 }
 
@@ -113,15 +113,15 @@ fn step_half(registers: &mut Registers, board: &mut Board, halves: &mut [Decoded
 #[inline(never)]
 fn first_half(
     registers: &mut Registers,
-    board: &mut Board,
+    core: &mut Core,
     halves: &mut [DecodedHalf],
     half: u16,
 ) -> u32
     requires { length halves.old ≡ 4096 }
-    ensures { Leaves (execution_of_half half registers.old board.old) registers.new board.new result }
+    ensures { Leaves (execution_of_half half registers.old core.old) registers.new core.new result }
 {
     let place = place_of_half(registers.get(15));
-    thumb::execute_first(registers, board, halves, place, half)
+    thumb::execute_first(registers, core, halves, place, half)
 }
 
 /// Executes the instruction at r15, a halfword in Thumb state, and else a word. It has one caller, into which all of it
@@ -130,18 +130,18 @@ fn first_half(
 #[inline(always)]
 pub(crate) fn execute(
     registers: &mut Registers,
-    board: &mut Board,
+    core: &mut Core,
     words: &mut [DecodedWord],
     halves: &mut [DecodedHalf],
 ) -> u32
     requires words { length words.old ≡ 4096 }
     requires halves { length halves.old ≡ 4096 }
-    ensures { Leaves (instruction_done registers.old board.old) registers.new board.new result }
+    ensures { Leaves (instruction_done registers.old core.old) registers.new core.new result }
 {
     if in_thumb(registers) {
-        step_half(registers, board, halves)
+        step_half(registers, core, halves)
     } else {
-        step_word(registers, board, words)
+        step_word(registers, core, words)
     }
 }
 
@@ -149,47 +149,47 @@ pub(crate) fn execute(
 #[tactic(auto, unfolding(crate::specs::Step::instruction_done))]
 fn execute_anew(
     registers: &mut Registers,
-    board: &mut Board,
+    core: &mut Core,
     words: &mut [DecodedWord],
     halves: &mut [DecodedHalf],
 ) -> u32
     requires words { length words.old ≡ 4096 }
     requires halves { length halves.old ≡ 4096 }
-    ensures { Leaves (instruction_done registers.old board.old) registers.new board.new result }
+    ensures { Leaves (instruction_done registers.old core.old) registers.new core.new result }
 {
     let address = registers.get(15);
     if in_thumb(registers) {
-        let half = half_at(board, address);
-        first_half(registers, board, halves, half)
+        let half = half_at(core, address);
+        first_half(registers, core, halves, half)
     } else {
-        let word = word_at(board, address);
-        first_word(registers, board, words, word)
+        let word = word_at(core, address);
+        first_word(registers, core, words, word)
     }
 }
 
 /// Whether a halted console stays so.
-fn idles(board: &Board) -> bool
-    ensures { result ≡ idles board.now }
+fn idles(core: &Core) -> bool
+    ensures { result ≡ idles core.now }
 {
-    board.halted() && !board.pending()
+    core.halted() && !core.pending()
 }
 
 /// Whether an interrupt is entered.
-fn enters(registers: &Registers, board: &Board) -> bool
-    ensures { result ≡ enters registers.now board.now }
+fn enters(registers: &Registers, core: &Core) -> bool
+    ensures { result ≡ enters registers.now core.now }
 {
-    !bit(registers.cpsr(), 7) && board.master() && board.pending()
+    !bit(registers.cpsr(), 7) && core.master() && core.pending()
 }
 
 /// Enters an interrupt.
-fn enter(registers: &mut Registers, board: &mut Board) -> u32
-    ensures { Leaves (entry_done registers.old board.old) registers.new board.new result }
+fn enter(registers: &mut Registers, core: &mut Core) -> u32
+    ensures { Leaves (entry_done registers.old core.old) registers.new core.new result }
 {
     let site = Site {
         address: registers.get(15),
         thumb: in_thumb(registers),
     };
-    let cycles = jump_price(board, site);
+    let cycles = jump_price(core, site);
     registers.enter(Exception::Interrupt, site.address.wrapping_add(4));
     cycles
 }
@@ -197,37 +197,54 @@ fn enter(registers: &mut Registers, board: &mut Board) -> u32
 // What a step does where the halt has ended.
 fn act_awake(
     registers: &mut Registers,
-    board: &mut Board,
+    core: &mut Core,
     words: &mut [DecodedWord],
     halves: &mut [DecodedHalf],
 ) -> u32
     requires words { length words.old ≡ 4096 }
     requires halves { length halves.old ≡ 4096 }
-    ensures { Leaves (awake_done registers.old board.old) registers.new board.new result }
+    ensures { Leaves (awake_done registers.old core.old) registers.new core.new result }
 {
-    if enters(registers, board) {
-        enter(registers, board)
+    if enters(registers, core) {
+        enter(registers, core)
     } else {
-        execute_anew(registers, board, words, halves)
+        execute_anew(registers, core, words, halves)
     }
 }
 
-/// What a step does once its keys are applied: it idles, enters an interrupt or executes an instruction.
+// What a step does where no DMA channel is active: it idles, enters an interrupt or executes an instruction.
+fn act_undisturbed(
+    registers: &mut Registers,
+    core: &mut Core,
+    words: &mut [DecodedWord],
+    halves: &mut [DecodedHalf],
+) -> u32
+    requires words { length words.old ≡ 4096 }
+    requires halves { length halves.old ≡ 4096 }
+    ensures { Leaves (undisturbed_done registers.old core.old) registers.new core.new result }
+{
+    if idles(core) {
+        return IDLE_CYCLES;
+    }
+    core.wake();
+    act_awake(registers, core, words, halves)
+}
+
+/// What a step does once its keys are applied: a DMA unit, or what the processor does.
 #[tactic(auto, unfolding(crate::specs::Step::acted))]
 #[inline(never)]
 pub(crate) fn act(
     registers: &mut Registers,
-    board: &mut Board,
+    core: &mut Core,
     words: &mut [DecodedWord],
     halves: &mut [DecodedHalf],
 ) -> u32
     requires words { length words.old ≡ 4096 }
     requires halves { length halves.old ≡ 4096 }
-    ensures { Leaves (acted registers.old board.old) registers.new board.new result }
+    ensures { Leaves (acted registers.old core.old) registers.new core.new result }
 {
-    if idles(board) {
-        return IDLE_CYCLES;
+    match core.dma_unit() {
+        Some(cycles) => cycles,
+        None => act_undisturbed(registers, core, words, halves),
     }
-    board.wake();
-    act_awake(registers, board, words, halves)
 }

@@ -3,7 +3,7 @@
 ghost use Rattle.std.specs.Prelude.{◌≡◌, ◌+◌, ◌≤◌, drop, length, vec_len};
 ghost use Rattle.gba_console.specs.Keys.{after_keys, keys_left};
 
-use gba_io::Board;
+use gba_io::Core;
 
 /// A change of the keys: from its clock on, in cycles since reset, these are pressed, 1 for pressed: A, B, Select, Start,
 /// Right, Left, Up, Down, R, L are bits 0 to 9.
@@ -15,9 +15,9 @@ pub struct KeyState {
 
 /// Applies the changes that a step which begins at `clock` applies, of those from `applied` on. Answers how many of all
 /// are applied then.
-pub(crate) fn apply(clock: u64, changes: &[KeyState], applied: usize, board: &mut Board) -> usize
+pub(crate) fn apply(clock: u64, changes: &[KeyState], applied: usize, core: &mut Core) -> usize
     requires { applied ≤ length changes.now }
-    ensures board { board.new ≡ after_keys clock (drop applied changes.now) board.old }
+    ensures core { core.new ≡ after_keys clock (drop applied changes.now) core.old }
     ensures left { drop result changes.now ≡ keys_left clock (drop applied changes.now) }
     ensures most { result ≤ length changes.now }
 {
@@ -27,7 +27,7 @@ pub(crate) fn apply(clock: u64, changes: &[KeyState], applied: usize, board: &mu
         if change.clock > clock {
             return next;
         }
-        board.set_keys(change.keys);
+        core.set_keys(change.keys);
         next += 1;
     }
     next

@@ -5,28 +5,27 @@ ghost use Rattle.gba_console.specs.Passing.{ActsPass};
 ghost use Rattle.gba_console.specs.Run.{IsEnough, Reaches, StepPasses};
 
 use gba_arm_exec::laws::{cycles_of_a_word, words_keep};
-use gba_devices::laws::cycles_pass;
-use gba_io::Board;
-use gba_io::laws::writes_keep_clock;
+use gba_io::Core;
+use gba_io::laws::{board_passes, writes_keep_clock};
 use gba_thumb_exec::laws::{cycles_of_a_halfword, halfwords_keep};
 
 /// What a step does before its devices move takes from 1 to 512 cycles, and leaves the clock.
 pub(crate) fn acts_pass()
     ensures { ActsPass }
 {
-    cycles_of_a_word::<Board>();
-    cycles_of_a_halfword::<Board>();
-    words_keep::<Board>();
-    halfwords_keep::<Board>();
+    cycles_of_a_word::<Core>();
+    cycles_of_a_halfword::<Core>();
+    words_keep::<Core>();
+    halfwords_keep::<Core>();
     writes_keep_clock();
 }
 
-/// Each step raises the clock by 1 to 512 cycles, whatever the console's numbers are.
+/// Each step raises the clock by 1 to 512 cycles, whatever the console's numbers are, and leaves the end of its room.
 pub fn steps_pass()
     ensures { (m : Machine) → StepPasses m }
 {
     acts_pass();
-    cycles_pass();
+    board_passes();
 }
 
 /// A run ends with a clock at or past its end: the bound on its steps cuts none off.

@@ -10,9 +10,10 @@ pub mod laws;
 
 use acting::{DECODED, act, execute};
 use gba_arm_exec::{Decoded as DecodedWord, decode_word};
-use gba_devices::laws::{calm_has_begun, cycles_pass};
+use gba_devices::laws::calm_has_begun;
 use gba_image::ConsoleImages;
-use gba_io::Board;
+use gba_io::laws::board_passes;
+use gba_io::{Board, Counts, Room};
 use gba_psr::Registers;
 use gba_terms::NoMemory;
 use gba_thumb_exec::{DecodedHalf, decode_half};
@@ -66,7 +67,7 @@ pub struct Console {
 impl Model for Console {
     ghost use Rattle.gba_console.specs.Keys.{due_of};
     ghost use Rattle.gba_console.specs.Machine.{Machine};
-    ghost use Rattle.std.specs.Prelude.{◌≡◌, ◌≤◌, drop, vec_len};
+    ghost use Rattle.std.specs.Prelude.{◌≡◌, ◌/◌, ◌^◌, ◌≤◌, drop, vec_len};
 
     ghost Value = { Machine };
 
@@ -74,29 +75,33 @@ impl Model for Console {
 
     ghost invariant = { λ c.
         (vec_len c.words ≡ 4096) × (vec_len c.halves ≡ 4096) × (c.applied ≤ vec_len c.keys)
-        × (c.due ≡ due_of (drop c.applied c.keys.items)) };
+        × (c.due ≡ due_of (drop c.applied c.keys.items))
+        × (c.board.made.pairs ≡ c.board.core.devices.clock / 512) × (c.board.made.until ≤ 2 ^ 39) };
 }
 
 impl Console {
     ghost use Rattle.std.specs.Prelude.{◌≡◌, ◌+◌, ◌≤◌, ◌<◌, ◌^◌, IfOk, true};
     ghost use Rattle.gba_console.specs.Keys.{due_of};
-    ghost use Rattle.gba_console.specs.Machine.{clock_of, reset};
+    ghost use Rattle.gba_console.specs.Machine.{clock_of, reset, samples_taken};
     ghost use Rattle.gba_console.specs.Run.{run_to};
     ghost use Rattle.gba_console.specs.Step.{next};
     ghost use Rattle.gba_devices.specs.State.{is_calm};
 
     /// A console at reset, at clock 0, from its images and the changes of its keys, which are dropped on refusal. It
-    /// takes the memory of its RAM and of the decoded instructions, and no more later.
+    /// takes the memory of its RAM, of the decoded instructions and of all that it keeps of what it makes in the steps
+    /// which begin below `room.until`, and no more later.
     pub fn new(
         alloc: Global,
         images: ConsoleImages,
         keys: Vec<KeyState>,
+        room: Room,
     ) -> Result<Console, NoMemory>
-        ensures { IfOk result (λ console. console ≡ reset images.bios images.cart images.save keys.items) }
+        requires { room.until ≤ 2 ^ 39 }
+        ensures { IfOk result (λ console. console ≡ reset images.bios images.cart images.save keys.items room) }
     {
         Ok(Console {
             registers: Registers::reset(),
-            board: Board::new(alloc, images)?,
+            board: Board::new(alloc, images, room)?,
             due: due_after(keys.as_slice(), 0),
             keys,
             applied: 0,
@@ -109,7 +114,14 @@ impl Console {
     pub fn clock(&self) -> u64
         ensures { result ≡ clock_of self.now }
     {
-        self.board.clock()
+        self.board.core.clock()
+    }
+
+    /// The end of its room: the last step begins below this clock.
+    pub fn until(&self) -> u64
+        ensures { result ≡ self.now.board.made.until }
+    {
+        self.board.made.until()
     }
 
     /// The 37 registers in the order of the state file.
@@ -119,19 +131,43 @@ impl Console {
         self.registers.all()
     }
 
-    /// The memories and the devices.
+    /// The memories, the devices and what they made.
     pub fn board(&self) -> &Board
         ensures { result.now ≡ self.now.board }
     {
         &self.board
     }
 
-    /// Makes a step. The clock is below 2^40 because a run ends below 2^39 and a step takes at most 512 cycles.
+    /// The pairs of samples, left then right, 16 bits each in two's complement, low byte first: 32,768 pairs a second.
+    /// Empty where they aren't kept.
+    pub fn samples(&self) -> &[u8]
+        ensures { result.now ≡ self.now.board.made.samples }
+    {
+        self.board.made.samples()
+    }
+
+    /// Takes the pairs of samples out. None is kept from then on.
+    pub fn take_samples(&mut self, alloc: Global) -> Vec<u8>
+        ensures taken { result.items ≡ self.old.board.made.samples }
+        ensures left { self.new ≡ samples_taken self.old }
+    {
+        self.board.made.take_samples(alloc)
+    }
+
+    /// How much was made, whether it is kept or not.
+    pub fn counts(&self) -> Counts
+        ensures { result.samples ≡ self.now.board.made.pairs }
+    {
+        self.board.made.counts()
+    }
+
+    /// Makes a step, of 1 to 512 cycles, which begins below the end of the room.
     pub fn step(&mut self)
-        requires { clock_of self.old < 2 ^ 40 }
+        requires { clock_of self.old < self.old.board.made.until }
         ensures step { self.new ≡ next self.old }
         ensures raised { clock_of self.old < clock_of self.new }
         ensures short { clock_of self.new ≤ clock_of self.old + 512 }
+        ensures until { self.new.board.made.until ≡ self.old.board.made.until }
     {
         steps_pass();
         self.step_fully();
@@ -141,17 +177,23 @@ impl Console {
     #[tactic(auto, unfolding(crate::specs::Step::next))]
     #[inline(never)]
     fn step_fully(&mut self)
-        requires { clock_of self.old < 2 ^ 40 }
+        requires { clock_of self.old < self.old.board.made.until }
         ensures { self.new ≡ next self.old }
     {
         acts_pass();
-        let clock = self.board.clock();
-        self.board.begin();
-        self.applied = apply(clock, self.keys.as_slice(), self.applied, &mut self.board);
+        board_passes();
+        let clock = self.board.core.clock();
+        self.board.core.begin();
+        self.applied = apply(
+            clock,
+            self.keys.as_slice(),
+            self.applied,
+            &mut self.board.core,
+        );
         self.due = due_after(self.keys.as_slice(), self.applied);
         let cycles = act(
             &mut self.registers,
-            &mut self.board,
+            &mut self.board.core,
             self.words.as_mut_slice(),
             self.halves.as_mut_slice(),
         );
@@ -161,20 +203,21 @@ impl Console {
     /// Makes a step where nothing asks for more than an instruction, and answers its cycles.
     #[inline(always)]
     fn step_plainly(&mut self) -> u32
-        requires clock { clock_of self.old < 2 ^ 40 }
-        requires calm { is_calm self.old.board.devices ≡ true }
+        requires clock { clock_of self.old < self.old.board.made.until }
+        requires calm { is_calm self.old.board.core.devices ≡ true }
         requires early { clock_of self.old < due_of self.old.keys }
         ensures step { self.new ≡ next self.old }
         ensures keys { self.new.keys ≡ self.old.keys }
         ensures clock { clock_of self.new ≡ clock_of self.old + result }
         ensures some { 1 ≤ result }
+        ensures until { self.new.board.made.until ≡ self.old.board.made.until }
     {
         acts_pass();
         calm_has_begun();
-        cycles_pass();
+        board_passes();
         let cycles = execute(
             &mut self.registers,
-            &mut self.board,
+            &mut self.board.core,
             self.words.as_mut_slice(),
             self.halves.as_mut_slice(),
         );
@@ -185,9 +228,9 @@ impl Console {
     /// Whether nothing but the keys may ask for more than an instruction.
     #[inline(always)]
     fn is_calm(&self) -> bool
-        ensures { result ≡ is_calm self.now.board.devices }
+        ensures { result ≡ is_calm self.now.board.core.devices }
     {
-        self.board.is_calm()
+        self.board.core.is_calm()
     }
 
     /// The clock of the next change of the keys, or one that no run reaches.
@@ -200,9 +243,10 @@ impl Console {
     /// Makes steps while they are plain and the clock is below `until`.
     #[inline(never)]
     fn run_plainly(&mut self, until: u64)
-        requires { until ≤ 2 ^ 39 }
+        requires { until ≤ self.old.board.made.until }
         ensures same_end { run_to until self.new ≡ run_to until self.old }
         ensures later { clock_of self.old ≤ clock_of self.new }
+        ensures until { self.new.board.made.until ≡ self.old.board.made.until }
     {
         enough();
         let end = until.min(self.due());
@@ -219,10 +263,11 @@ impl Console {
         }
     }
 
-    /// Makes steps until the clock is at least `until`, which is at most 2^39.
+    /// Makes steps until the clock is at least `until`, which is no more than the end of the room.
     pub fn run_to(&mut self, until: u64)
-        requires { until ≤ 2 ^ 39 }
-        ensures { self.new ≡ run_to until self.old }
+        requires { until ≤ self.old.board.made.until }
+        ensures run { self.new ≡ run_to until self.old }
+        ensures until { self.new.board.made.until ≡ self.old.board.made.until }
     {
         enough();
         while self.clock() < until {

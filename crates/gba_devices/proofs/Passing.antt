@@ -1,6 +1,8 @@
-use Rattle.std.proofs.Common.{◌≡◌, ℕ, zero, suc, ◌+◌, ◌≤◌, ◌∙◌, refl, sym, ap, arith, add-zero}
-use Rattle.gba_timer.specs.Skipping.{SkipsCycles as TimersSkipCycles}
-use Rattle.gba_devices.specs.Cycles.{CyclesPass, SkipsCycles, after_cycles, device_cycle, quiet, skipped}
+use Rattle.std.proofs.Common.{◌≡◌, ℕ, zero, suc, Bool, true, false, ◌+◌, ◌≤◌, ◌∙◌, refl, ap, arith, add-zero}
+use Rattle.std.specs.Prelude.{◌||◌}
+use Rattle.std.proofs.lemmas.Bool.Decides.{nat_tests}
+use Rattle.gba_timer.specs.Skipping.{SkipsCycles as TimersSkipCycles, quiet as quiet_timers}
+use Rattle.gba_devices.specs.Cycles.{CyclePasses, CyclesPass, SkipsCycles, after_cycles, device_cycle, makes_pair, makes_within, quiet, rung, skipped}
 use Rattle.gba_devices.specs.State.{Devices}
 
 -- Cycles one after another, and cycles at once.
@@ -16,12 +18,31 @@ after-sum (suc count) more d =
     let sum : suc (count + more) ≡ suc count + more = omega arith in
     ap device_cycle (after-sum count more d) ∙ ap (λ n. after_cycles n d) sum
 
+pub cycle-keeps : (d : Devices) → CyclePasses d
+unfolding device_cycle rung
+cycle-keeps d = record { clock = refl; waits = refl; priced = refl }
+
 pub cycles-pass : (count : ℕ) (d : Devices) → CyclesPass count d
-unfolding after_cycles device_cycle
+unfolding after_cycles
 cycles-pass zero d = record { clock = omega arith; waits = refl; priced = refl }
 cycles-pass (suc count) d =
     let before = cycles-pass count d in
-    record { clock = omega (arith, before.clock); waits = before.waits; priced = before.priced }
+    let last = cycle-keeps (after_cycles count d) in
+    record {
+      clock = omega (arith, last.clock, before.clock);
+      waits = last.waits ∙ before.waits;
+      priced = last.priced ∙ before.priced;
+    }
+
+-- no pair is made in quiet cycles
+no-pair : (count : ℕ) (d : Devices) → count + 1 ≤ quiet d → makes_pair (skipped count d) ≡ false
+unfolding quiet
+no-pair count d within = grind (arith, nat_tests)
+
+neither : (one other : Bool) → one ≡ false → other ≡ false → (one || other) ≡ false
+neither false false here there = refl
+neither true other here there = cc
+neither false true here there = cc
 
 module _ (timers : TimersSkipCycles) where
   skip-none : (d : Devices) → skipped 0 d ≡ d
@@ -29,10 +50,11 @@ module _ (timers : TimersSkipCycles) where
 
   cycle-skipped : (count : ℕ) (d : Devices) → count + 1 ≤ quiet d
       → device_cycle (skipped count d) ≡ skipped (count + 1) d
-  unfolding device_cycle quiet
+  unfolding device_cycle rung quiet
   cycle-skipped count d within =
       let sum : d.clock + count + 1 ≡ d.clock + (count + 1) = omega arith in
-      rw (timers.silent count d.timers within, timers.next count d.timers within, sum) refl
+      let least : count + 1 ≤ quiet_timers d.timers = omega (arith, within) in
+      rw (timers.silent count d.timers least, timers.next count d.timers least, sum) refl
 
   skips-all : (count more : ℕ) (d : Devices) → more + count ≤ quiet d
       → after_cycles count (skipped more d) ≡ skipped (more + count) d
@@ -44,18 +66,14 @@ module _ (timers : TimersSkipCycles) where
       ∙ cycle-skipped (more + count) d (omega (arith, within))
       ∙ ap (λ n. skipped n d) sum
 
+  makes-none : (count more : ℕ) (d : Devices) → more + count ≤ quiet d → makes_within count (skipped more d) ≡ false
+  unfolding makes_within
+  makes-none zero more d within = refl
+  makes-none (suc count) more d within =
+      neither (makes_within count (skipped more d)) (makes_pair (after_cycles count (skipped more d)))
+      (makes-none count more d (omega (arith, within)))
+      (ap makes_pair (skips-all count more d (omega (arith, within)))
+      ∙ no-pair (more + count) d (omega (arith, within)))
+
   pub skips : SkipsCycles
-  skips = record { none = skip-none; pass = skips-all }
-
-module _ (skips : SkipsCycles) where
-  -- quiet cycles from nothing owed
-  pub quiet-cycles : (count : ℕ) (d : Devices) → count ≤ quiet d → after_cycles count d ≡ skipped count d
-  quiet-cycles count d within =
-      let sum : 0 + count ≡ count = omega arith in
-      ap (after_cycles count) (sym (skips.none d)) ∙ skips.pass count 0 d (omega (arith, within)) ∙ ap (λ n. skipped n d) sum
-
-  pub one-more : (count : ℕ) (d : Devices) → count ≤ quiet d → device_cycle (skipped count d) ≡ after_cycles (count + 1) d
-  unfolding after_cycles
-  one-more count d within =
-      let sum : suc count ≡ count + 1 = omega arith in
-      ap device_cycle (sym (quiet-cycles count d within)) ∙ ap (λ n. after_cycles n d) sum
+  skips = record { none = skip-none; pass = skips-all; silent = makes-none }

@@ -1,10 +1,17 @@
-use Rattle.std.specs.Prelude.{◌≡◌, ℕ, zero, suc, ◌+◌, ◌*◌, ◌≤◌, ◌==◌, bit_or, if◌then◌else◌}
+use Rattle.std.specs.Prelude.{◌≡◌, ℕ, zero, suc, Bool, false, ◌+◌, ◌-◌, ◌*◌, ◌%◌, ◌≤◌, ◌==◌, ◌||◌, bit_or, min, if◌then◌else◌}
+use Rattle.gba_terms.specs.Bits.{bit}
+use Rattle.gba_dma.specs.Channels.{FourChannels, after_trigger}
+use Rattle.gba_dma.specs.declared.event.DmaEvent.{DmaEvent}
+use Rattle.gba_dma.specs.declared.event.DmaEvent.TheVariants.{QueueA, QueueB}
 use Rattle.gba_irq.specs.declared.interrupts.Interrupts.{Interrupts}
+use Rattle.gba_sound.specs.Queues.{after_overflow, asked}
+use Rattle.gba_sound.specs.declared.asked.Asked.{Asked}
 use Rattle.gba_timer.specs.Skipping.{after_skip, quiet as quiet_timers}
 use Rattle.gba_timer.specs.Timers.{cycle as timer_cycle, overflow_mark, requests}
 use Rattle.gba_devices.specs.State.{Devices}
 
--- A device cycle: the clock rises by 1, and the timers move, from 0 to 3, which request their interrupts in that cycle.
+-- A device cycle: the clock rises by 1; the timers move, from 0 to 3, and request their interrupts in that cycle; then
+-- the sound queues of timers 0 and 1 take bytes where these overflowed, and ask for DMA.
 
 -- the requests of timers that overflow, from bit 3 of IF up
 abbrev pub with_timer_requests : ℕ → Devices → Interrupts
@@ -16,29 +23,62 @@ with_timer_requests mark d =
 abbrev pub moved : Devices → Devices
 moved d = record d { clock = d.clock + 1; timers = timer_cycle d.timers }
 
+-- queues that ask trigger the channels which serve them
+abbrev pub asked_one : Bool → DmaEvent → FourChannels → FourChannels
+asked_one asks event cs = if asks then after_trigger event cs else cs
+
+unfoldable pub asked_by : Asked → FourChannels → FourChannels
+asked_by queues cs = asked_one queues.b QueueB (asked_one queues.a QueueA cs)
+
+-- timer 0 or 1 overflowed, or didn't
+unfoldable pub rung : ℕ → Bool → Devices → Devices
+rung timer rings d = record d {
+  sound = if rings then after_overflow timer d.sound else d.sound;
+  channels = if rings then asked_by (asked timer d.sound) d.channels else d.channels;
+}
+
 unfoldable pub device_cycle : Devices → Devices
-device_cycle d = record (moved d) { interrupts = with_timer_requests (overflow_mark d.timers) (moved d) }
+device_cycle d =
+    rung 1 (bit (overflow_mark d.timers) 1)
+    (rung 0 (bit (overflow_mark d.timers) 0)
+    (record (moved d) { interrupts = with_timer_requests (overflow_mark d.timers) (moved d) }))
 
 -- so many cycles
 unfoldable pub after_cycles : ℕ → Devices → Devices
 after_cycles zero d = d
 after_cycles (suc count) d = device_cycle (after_cycles count d)
 
--- Cycles in which nothing happens can be skipped at once: for so many, 512 at most, surely nothing does.
+-- whether the next cycle makes a pair of samples: where the new clock is a multiple of 512
+abbrev pub makes_pair : Devices → Bool
+makes_pair d = (d.clock + 1) % 512 == 0
+
+-- whether one of so many cycles makes something
+unfoldable pub makes_within : ℕ → Devices → Bool
+makes_within zero d = false
+makes_within (suc count) d = makes_within count d || makes_pair (after_cycles count d)
+
+-- Cycles in which nothing happens can be skipped at once: for so many, 511 at most, surely nothing does.
 unfoldable pub quiet : Devices → ℕ
-quiet d = quiet_timers d.timers
+quiet d = min (quiet_timers d.timers) (511 - d.clock % 512)
 
 abbrev pub skipped : ℕ → Devices → Devices
 skipped count d = record d { clock = d.clock + count; timers = after_skip count d.timers }
 
--- Within the quiet cycles skipping is stepping.
+-- Within the quiet cycles skipping is stepping, and nothing is made.
 pub record SkipsCycles : Type 0 where
   pub none : (d : Devices) → skipped 0 d ≡ d
   pub pass : (count more : ℕ) (d : Devices) → more + count ≤ quiet d
       → after_cycles count (skipped more d) ≡ skipped (more + count) d
+  pub silent : (count more : ℕ) (d : Devices) → more + count ≤ quiet d → makes_within count (skipped more d) ≡ false
 
 -- what all cycles do: the clock rises by their number, and WAITCNT and the prices stay
 pub record CyclesPass (count : ℕ) (d : Devices) : Type 0 where
   pub clock : (after_cycles count d).clock ≡ d.clock + count
   pub waits : (after_cycles count d).waits ≡ d.waits
   pub priced : (after_cycles count d).priced ≡ d.priced
+
+-- the same of one cycle
+pub record CyclePasses (d : Devices) : Type 0 where
+  pub clock : (device_cycle d).clock ≡ d.clock + 1
+  pub waits : (device_cycle d).waits ≡ d.waits
+  pub priced : (device_cycle d).priced ≡ d.priced

@@ -3,12 +3,14 @@ use Rattle.gba_terms.specs.Bits.{bit, field}
 use Rattle.gba_bus.specs.declared.width.Width.{Width}
 use Rattle.gba_bus.specs.declared.width.Width.TheVariants.{Byte, Half, Word}
 use Rattle.gba_register.specs.Rows.{Row, row, row_at}
+use Rattle.gba_dma.specs.Channels.{dma_kept, dma_read, dma_written}
 use Rattle.gba_irq.specs.Interrupts.{interrupt_kept, interrupt_read, interrupt_written}
 use Rattle.gba_irq.specs.Keypad.{becomes_true, keypad_read, with_control, with_pressed}
 use Rattle.gba_irq.specs.declared.interrupts.Interrupts.{Interrupts}
+use Rattle.gba_sound.specs.Queues.{after_word, sound_read, sound_written}
 use Rattle.gba_timer.specs.Timers.{timer_kept, timer_read, timer_written}
 use Rattle.gba_devices.specs.declared.registers.Owner.{Owner}
-use Rattle.gba_devices.specs.declared.registers.Owner.TheVariants.{TimerBlock, KeyBlock, InterruptBlock, WaitControl, PostFlag, Nobody}
+use Rattle.gba_devices.specs.declared.registers.Owner.TheVariants.{SoundBlock, DmaBlock, TimerBlock, KeyBlock, InterruptBlock, WaitControl, PostFlag, Nobody}
 use Rattle.gba_devices.specs.State.{Devices}
 
 -- The I/O registers (GBATEK, GBA I/O Map), by their offsets from 04000000h. Each device has its own rows; here are those
@@ -20,7 +22,9 @@ system_rows = row 0x204 0x5fff 0x5fff ∷ row 0x300 0x0001 0x0001 ∷ []
 -- whose halfword an offset is
 unfoldable pub owner_of : ℕ → Owner
 owner_of offset =
-    if nat_le 0x100 offset && nat_lt offset 0x110 then TimerBlock
+    if nat_le 0x080 offset && nat_lt offset 0x08a then SoundBlock
+    else if nat_le 0x0b0 offset && nat_lt offset 0x0e0 then DmaBlock
+    else if nat_le 0x100 offset && nat_lt offset 0x110 then TimerBlock
     else if nat_le 0x130 offset && nat_lt offset 0x134 then KeyBlock
     else if offset == 0x204 then WaitControl
     else if nat_le 0x200 offset && nat_lt offset 0x20a then InterruptBlock
@@ -32,6 +36,8 @@ truth_number set = if set then 1 else 0
 
 -- what a halfword reads
 abbrev pub read_of : Owner → ℕ → Devices → ℕ
+read_of SoundBlock offset d = sound_read offset d.sound
+read_of DmaBlock offset d = dma_read offset d.channels
 read_of TimerBlock offset d = timer_read offset d.timers
 read_of KeyBlock offset d = keypad_read offset d.keys
 read_of InterruptBlock offset d = interrupt_read offset d.interrupts
@@ -43,8 +49,10 @@ unfoldable pub half_read : ℕ → Devices → ℕ
 half_read offset d = read_of (owner_of offset) offset d % 2 ^ 16
 
 -- what a write of one byte keeps of the halfword's other byte: of a timer's first halfword that of the reload, of IF
--- nothing, and else what is stored
+-- and of SOUNDCNT_H's reset bits nothing, and else what is stored
 abbrev pub kept_of : Owner → ℕ → Devices → ℕ
+kept_of SoundBlock offset d = sound_read offset d.sound
+kept_of DmaBlock offset d = dma_kept offset d.channels
 kept_of TimerBlock offset d = timer_kept offset d.timers
 kept_of KeyBlock offset d = keypad_read offset d.keys
 kept_of InterruptBlock offset d = interrupt_kept offset d.interrupts
@@ -55,9 +63,10 @@ kept_of Nobody offset d = 0
 unfoldable pub half_kept : ℕ → Devices → ℕ
 half_kept offset d = kept_of (owner_of offset) offset d
 
--- what is stored at a halfword, and of bits that are only read what they read; of a timer's first halfword that is the
--- reload
+-- what is stored at a halfword, also where it doesn't read, and of bits that are only read what they read; of a timer's
+-- first halfword that is the reload
 abbrev pub stored_of : Owner → ℕ → Devices → ℕ
+stored_of DmaBlock offset d = dma_kept offset d.channels
 stored_of TimerBlock offset d = timer_kept offset d.timers
 stored_of owner offset d = read_of owner offset d
 
@@ -86,6 +95,8 @@ with_key_control value d = record d {
 -- What a write of a halfword leaves; `lanes` has the bits of the bytes that are written, and `value` the whole halfword.
 -- A write that covers byte 301h halts (GBATEK, HALTCNT; that Stop is a halt too is this project's profile).
 abbrev pub written_of : Owner → ℕ → ℕ → ℕ → Devices → Devices
+written_of SoundBlock offset value lanes d = record d { sound = sound_written offset value d.sound }
+written_of DmaBlock offset value lanes d = record d { channels = dma_written offset value d.channels }
 written_of TimerBlock offset value lanes d = record d { timers = timer_written offset value d.timers }
 written_of KeyBlock offset value lanes d = if offset == 0x132 then with_key_control value d else d
 written_of InterruptBlock offset value lanes d = record d { interrupts = interrupt_written offset value d.interrupts }
@@ -108,12 +119,28 @@ io_loaded offset Byte d = field (half_read (offset - offset % 2) d) (8 * (offset
 io_loaded offset Half d = half_read (offset - offset % 2) d
 io_loaded offset Word d = half_read (offset - offset % 4) d + 2 ^ 16 * half_read (offset - offset % 4 + 2) d
 
+-- A word that is written at 0A0h or 0A4h goes into queue A or B; narrower writes there are dropped (this project's
+-- profile).
+abbrev pub is_queue : ℕ → Bool
+is_queue offset = (offset == 0x0a0) || (offset == 0x0a4)
+
+abbrev pub queue_of : ℕ → ℕ
+queue_of offset = if offset == 0x0a0 then 0 else 1
+
+abbrev pub halves_written : ℕ → ℕ → Devices → Devices
+halves_written offset value d =
+    half_written (offset + 2) (field value 16 16) 0xffff (half_written offset (field value 0 16) 0xffff d)
+
+abbrev pub word_written : ℕ → ℕ → Devices → Devices
+word_written offset value d =
+    if is_queue offset
+    then record d { sound = after_word (queue_of offset) (field value 0 32) d.sound }
+    else halves_written offset value d
+
 -- what an access of this width leaves
 abbrev pub io_stored : ℕ → Width → ℕ → Devices → Devices
 io_stored offset Byte value d =
     if offset % 2 == 0 then half_written offset (field value 0 8) 0x00ff d
     else half_written (offset - 1) (2 ^ 8 * field value 0 8) 0xff00 d
 io_stored offset Half value d = half_written (offset - offset % 2) (field value 0 16) 0xffff d
-io_stored offset Word value d =
-    half_written (offset - offset % 4 + 2) (field value 16 16) 0xffff
-    (half_written (offset - offset % 4) (field value 0 16) 0xffff d)
+io_stored offset Word value d = word_written (offset - offset % 4) value d

@@ -1,14 +1,19 @@
-use Rattle.std.specs.Prelude.{ℕ, Bool, false, not, ◌&&◌, ◌==◌}
+use Rattle.std.specs.Prelude.{ℕ, Bool, false, not, ◌+◌, ◌^◌, ◌&&◌, ◌==◌, bit_or, if◌then◌else◌}
+use Rattle.gba_dma.specs.Channel.{requests_interrupt}
+use Rattle.gba_dma.specs.Channels.{FourChannels, after_unit_at, channel_at, channels_at_reset, is_moving}
 use Rattle.gba_irq.specs.Interrupts.{is_pending}
 use Rattle.gba_irq.specs.Keypad.{Keys}
 use Rattle.gba_irq.specs.declared.interrupts.Interrupts.{Interrupts}
+use Rattle.gba_sound.specs.Queues.{DirectSound, sound_at_reset}
 use Rattle.gba_timer.specs.Timers.{FourTimers, timers_at_reset}
 
--- The devices of a board: the clock in cycles since reset, the timers, the interrupts, the keypad, WAITCNT, the WAITCNT
--- by which the accesses of this step are priced, POSTFLG, and the halt.
+-- The devices of a board: the clock in cycles since reset, the timers, direct sound, the DMA channels, the interrupts,
+-- the keypad, WAITCNT, the WAITCNT by which the accesses of this step are priced, POSTFLG, and the halt.
 pub record Devices : Type 0 where
   pub clock : ℕ
   pub timers : FourTimers
+  pub sound : DirectSound
+  pub channels : FourChannels
   pub interrupts : Interrupts
   pub keys : Keys
   pub waits : ℕ
@@ -27,6 +32,8 @@ abbrev pub devices_at_reset : Devices
 devices_at_reset = record {
   clock = 0;
   timers = timers_at_reset;
+  sound = sound_at_reset;
+  channels = channels_at_reset;
   interrupts = interrupts_at_reset;
   keys = keys_at_reset;
   waits = 0;
@@ -43,10 +50,22 @@ begun d = record d { priced = d.waits }
 abbrev pub woken : Devices → Devices
 woken d = record d { halted = false }
 
+-- A unit of a DMA channel ends. Where it ends a run that asks for it, the channel's interrupt is requested: bits 8 to 11
+-- of IF are those of channels 0 to 3 (GBATEK, GBA Interrupt Control).
+abbrev pub with_dma_request : ℕ → FourChannels → ℕ → ℕ
+with_dma_request number cs raised =
+    if requests_interrupt (channel_at number cs) then bit_or raised (2 ^ (8 + number)) else raised
+
+unfoldable pub after_dma_unit : ℕ → Devices → Devices
+after_dma_unit number d = record d {
+  channels = after_unit_at number d.channels;
+  interrupts = record d.interrupts { raised = with_dma_request number d.channels d.interrupts.raised };
+}
+
 -- an interrupt asks for its entry, as far as devices decide it: IME is set, and an enabled interrupt is requested
 abbrev pub asks_entry : Devices → Bool
 asks_entry d = d.interrupts.master && is_pending d.interrupts
 
--- nothing asks for more than an instruction: no halt, no entry, and the prices are those of WAITCNT
+-- nothing asks for more than an instruction: no halt, no entry, no DMA, and the prices are those of WAITCNT
 abbrev pub is_calm : Devices → Bool
-is_calm d = not d.halted && not (asks_entry d) && (d.waits == d.priced)
+is_calm d = not d.halted && not (asks_entry d) && not (is_moving d.channels) && (d.waits == d.priced)

@@ -3,12 +3,14 @@
 ghost use Rattle.std.specs.Prelude.{◌≡◌, ◌+◌, ◌≤◌, ◌<◌, ◌^◌};
 
 use crate::laws::{skips_cycles, writes_keep};
+use crate::registers::{Owner, owner_of};
 use crate::set::DeviceSet;
 use gba_bus::Width;
-use gba_timer::Timer;
+use gba_dma::{Channel, Unit};
+use gba_timer::{Timer, Timers};
 use std::marker::Model;
 
-/// The devices of a board: clock, timers, interrupts, keypad, WAITCNT, POSTFLG and the halt. They owe the cycles of past
+/// The devices of a board: clock, timers, direct sound, DMA channels, interrupts, keypad, WAITCNT, POSTFLG and the halt. They owe the cycles of past
 /// steps, in which surely nothing happened. Contracts see the devices once these have passed.
 #[derive(Debug, Drop)]
 pub struct Devices {
@@ -34,32 +36,27 @@ impl Model for Devices {
 }
 
 impl Devices {
-    ghost use Rattle.std.specs.Prelude.{◌≡◌, ◌+◌, ◌*◌, ◌≤◌, ◌<◌, ◌^◌};
+    ghost use Rattle.std.specs.Prelude.{◌≡◌, ◌+◌, ◌*◌, ◌≤◌, ◌<◌, ◌^◌, length, true, false, IfSome};
+    ghost use Rattle.gba_dma.specs.Channels.{channel_at, next_unit};
     ghost use Rattle.gba_irq.specs.Interrupts.{is_pending};
+    ghost use Rattle.gba_sound.specs.Queues.{left_sample, queue_at, right_sample};
     ghost use Rattle.gba_timer.specs.Timers.{timer_at};
-    ghost use Rattle.gba_devices.specs.Cycles.{after_cycles, quiet, skipped};
+    ghost use Rattle.gba_devices.specs.Cycles.{after_cycles, device_cycle, makes_pair, makes_within, quiet, skipped};
     ghost use Rattle.gba_devices.specs.Registers.{half_stored, io_loaded, io_stored, keyed};
-    ghost use Rattle.gba_devices.specs.State.{begun, devices_at_reset, is_calm, woken};
-
-    /// The devices as they stand, which owe nothing.
-    fn of(set: DeviceSet) -> Devices
-        requires { set.clock < 2 ^ 63 }
-        ensures { result ≡ set }
-    {
-        skips_cycles();
-        Devices {
-            set,
-            debt: 0,
-            horizon: set.quiet().min(511),
-            calm: set.is_calm(),
-        }
-    }
+    ghost use Rattle.gba_devices.specs.State.{after_dma_unit, begun, devices_at_reset, is_calm, woken};
 
     /// The devices at reset.
     pub fn new() -> Devices
         ensures { result ≡ devices_at_reset }
     {
-        Devices::of(DeviceSet::new())
+        skips_cycles();
+        let set = DeviceSet::new();
+        Devices {
+            debt: 0,
+            horizon: set.quiet(),
+            calm: set.is_calm(),
+            set,
+        }
     }
 
     /// The clock: cycles of 16,777,216 Hz since reset.
@@ -113,14 +110,13 @@ impl Devices {
         self.calm
     }
 
-    /// The devices once what they owe has passed.
-    fn settled(&self) -> DeviceSet
-        ensures value { result ≡ self.now }
-        ensures clock { result.clock < 2 ^ 63 }
+    #[tactic(auto, unfolding(crate::specs::Cycles::quiet))]
+    fn timers(&self) -> Timers
+        ensures { result ≡ self.now.timers }
     {
-        let mut set = self.set;
-        set.skip(self.debt);
-        set
+        let mut timers = self.set.timers();
+        timers.skip(self.debt);
+        timers
     }
 
     /// A timer by its number, which is below 4.
@@ -128,14 +124,69 @@ impl Devices {
         requires { number < 4 }
         ensures { result ≡ timer_at number self.now.timers }
     {
-        self.settled().timer(number)
+        self.timers().timer(number)
+    }
+
+    /// A DMA channel by its number, which is below 4.
+    pub fn channel(&self, number: u32) -> Channel
+        requires { number < 4 }
+        ensures { result ≡ channel_at number self.now.channels }
+    {
+        self.set.channel(number)
+    }
+
+    /// The current byte of sound queue A or B, which are 0 and 1: a signed sample.
+    pub fn queue_current(&self, queue: u32) -> u8
+        requires { queue < 2 }
+        ensures { result ≡ (queue_at queue self.now.sound).current }
+    {
+        self.set.queue_current(queue)
+    }
+
+    /// The bytes that sound queue A or B holds, oldest first.
+    pub fn queue(&self, queue: u32) -> &[u8]
+        requires { queue < 2 }
+        ensures bytes { result.now ≡ (queue_at queue self.now.sound).bytes }
+        ensures most { length result.now ≤ 32 }
+    {
+        self.set.queue(queue)
+    }
+
+    /// The unit that DMA does next, of the lowest active channel. None exactly where none is active.
+    pub fn next_unit(&self) -> Option<Unit>
+        ensures unit { result ≡ next_unit self.now.channels }
+        ensures channel { IfSome result (λ unit. unit.channel < 4) }
+    {
+        self.set.next_unit()
+    }
+
+    /// Ends a unit of a DMA channel, which is below 4. Nothing changes where it isn't active.
+    #[tactic(auto, unfolding(crate::specs::Cycles::quiet, crate::specs::State::after_dma_unit))]
+    pub fn end_unit(&mut self, channel: u32)
+        requires { channel < 4 }
+        ensures { self.new ≡ after_dma_unit channel self.old }
+    {
+        self.set.end_unit(channel);
+        self.calm = self.set.is_calm();
+    }
+
+    /// What the sound queues sound like, left then right, each from -16,384 to 16,256.
+    pub fn sample(&self) -> (i16, i16)
+        ensures left { result.0 ≡ left_sample self.now.sound }
+        ensures right { result.1 ≡ right_sample self.now.sound }
+    {
+        self.set.sample()
     }
 
     /// What is stored at the halfword of an offset from 04000000h; of bits that are only read, what they read.
+    #[tactic(auto, unfolding(crate::specs::Registers::half_stored))]
     pub fn half_stored(&self, offset: u32) -> u16
         ensures { result ≡ half_stored offset self.now }
     {
-        self.settled().half_stored(offset)
+        match owner_of(offset) {
+            Owner::TimerBlock => self.timers().kept(offset),
+            _ => self.set.half_stored(offset),
+        }
     }
 
     /// What an access reads at an offset from 04000000h, which is below 400h.
@@ -145,9 +196,11 @@ impl Devices {
         ensures value { result ≡ io_loaded offset width self.old }
         ensures same { self.new ≡ self.old }
     {
-        let set = self.settled();
-        *self = Devices::of(set);
-        set.load(offset, width)
+        skips_cycles();
+        self.set.skip(self.debt);
+        self.debt = 0;
+        self.horizon = self.set.quiet();
+        self.set.load(offset, width)
     }
 
     /// Writes the low bits of a value, as many as the width has, at an offset from 04000000h, which is below 400h.
@@ -156,10 +209,13 @@ impl Devices {
         requires { offset < 0x400 }
         ensures { self.new ≡ io_stored offset width value self.old }
     {
+        skips_cycles();
         writes_keep();
-        let mut set = self.settled();
-        set.store(offset, width, value);
-        *self = Devices::of(set);
+        self.set.skip(self.debt);
+        self.debt = 0;
+        self.set.store(offset, width, value);
+        self.horizon = self.set.quiet();
+        self.calm = self.set.is_calm();
     }
 
     /// Begins a step: its accesses take the prices of WAITCNT as it is.
@@ -189,29 +245,53 @@ impl Devices {
         self.calm = self.set.is_calm();
     }
 
-    /// Moves by so many cycles, in which something may happen.
-    #[inline(never)]
-    fn pass(&mut self, cycles: u32)
-        requires { self.old.clock < 2 ^ 61 }
-        ensures { self.new ≡ after_cycles cycles self.old }
-    {
-        let mut set = self.settled();
-        set.pass(cycles);
-        *self = Devices::of(set);
-    }
-
-    /// Moves by the cycles of a step.
+    /// Moves by so many cycles where surely nothing happens in them, and answers whether it did.
     #[inline]
-    pub fn advance(&mut self, cycles: u32)
+    pub fn owe(&mut self, cycles: u32) -> bool
         requires few { cycles ≤ 512 }
         requires clock { self.old.clock < 2 ^ 61 }
-        ensures { self.new ≡ after_cycles cycles self.old }
+        ensures owed { result ≡ true → (self.new ≡ after_cycles cycles self.old) × (makes_within cycles self.old ≡ false) }
+        ensures left { result ≡ false → self.new ≡ self.old }
     {
         skips_cycles();
-        if self.debt + cycles <= self.horizon {
-            self.debt += cycles;
-        } else {
-            self.pass(cycles);
+        if self.debt + cycles > self.horizon {
+            return false;
         }
+        self.debt += cycles;
+        true
+    }
+
+    /// Moves by as many of so many cycles as surely nothing happens in, and answers how many.
+    pub fn pass_quietly(&mut self, most: u32) -> u32
+        requires { self.old.clock < 2 ^ 61 }
+        ensures devices { self.new ≡ after_cycles result self.old }
+        ensures silent { makes_within result self.old ≡ false }
+        ensures most { result ≤ most }
+    {
+        skips_cycles();
+        let count = most.min(self.horizon - self.debt);
+        self.debt += count;
+        count
+    }
+
+    /// Whether the next cycle makes a pair of samples: whether the new clock is a multiple of 512.
+    pub fn makes_pair(&self) -> bool
+        ensures { result ≡ makes_pair self.now }
+    {
+        (self.clock() + 1) % 512 == 0
+    }
+
+    /// One cycle, whatever happens in it.
+    #[inline(never)]
+    pub fn cycle(&mut self)
+        requires { self.old.clock < 2 ^ 61 }
+        ensures { self.new ≡ device_cycle self.old }
+    {
+        skips_cycles();
+        self.set.skip(self.debt);
+        self.debt = 0;
+        self.set.cycle();
+        self.horizon = self.set.quiet();
+        self.calm = self.set.is_calm();
     }
 }

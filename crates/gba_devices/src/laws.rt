@@ -1,14 +1,14 @@
 //! Laws over the definitions. Each is the contract of a function that takes no value.
 
 ghost use Rattle.std.specs.Prelude.{ℕ};
-ghost use Rattle.gba_devices.specs.Cycles.{CyclesPass, SkipsCycles};
+ghost use Rattle.gba_devices.specs.Cycles.{CyclePasses, CyclesPass, SkipsCycles};
 ghost use Rattle.gba_devices.specs.Fits.{ReadsFit};
 ghost use Rattle.gba_devices.specs.Keeping.{CalmHasBegun, WritesKeep};
 ghost use Rattle.gba_devices.specs.State.{Devices};
 
 use gba_timer::laws::skips_cycles as timers_skip_cycles;
 
-/// Within the quiet cycles skipping is stepping.
+/// Within the quiet cycles skipping is stepping, and nothing is made.
 pub fn skips_cycles()
     ensures { SkipsCycles }
 {
@@ -18,6 +18,11 @@ pub fn skips_cycles()
 /// Cycles raise the clock by their number, and leave WAITCNT and the prices.
 pub fn cycles_pass()
     ensures { (count : ℕ) (d : Devices) → CyclesPass count d }
+{}
+
+/// The same of one cycle.
+pub fn cycle_keeps()
+    ensures { (d : Devices) → CyclePasses d }
 {}
 
 /// What is read has zeros above its width.

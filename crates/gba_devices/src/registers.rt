@@ -6,6 +6,8 @@ ghost use Rattle.gba_devices.specs.Registers.{merged, owner_of};
 /// Which device a halfword of the I/O registers belongs to.
 #[derive(Clone, Copy, Debug, PartialEq, Eq)]
 pub(crate) enum Owner {
+    SoundBlock,
+    DmaBlock,
     TimerBlock,
     KeyBlock,
     InterruptBlock,
@@ -19,7 +21,11 @@ pub(crate) enum Owner {
 pub(crate) fn owner_of(offset: u32) -> Owner
     ensures { result ≡ owner_of offset }
 {
-    if 0x100 <= offset && offset < 0x110 {
+    if 0x080 <= offset && offset < 0x08A {
+        Owner::SoundBlock
+    } else if 0x0B0 <= offset && offset < 0x0E0 {
+        Owner::DmaBlock
+    } else if 0x100 <= offset && offset < 0x110 {
         Owner::TimerBlock
     } else if 0x130 <= offset && offset < 0x134 {
         Owner::KeyBlock

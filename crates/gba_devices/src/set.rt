@@ -4,10 +4,11 @@ ghost use Rattle.std.specs.Prelude.{◌≡◌};
 ghost use Rattle.gba_devices.specs.Registers.{system_rows};
 ghost use Rattle.gba_register.specs.Rows.{row_at};
 
-use crate::laws::skips_cycles;
 use crate::registers::{Owner, merged, owner_of};
 use gba_bus::Width;
+use gba_dma::{Channel, Channels, DmaEvent, Unit};
 use gba_irq::{Interrupts, Keypad};
+use gba_sound::Queues;
 use gba_timer::{Timer, Timers};
 use gba_word::{bit, bits};
 use std::marker::Model;
@@ -30,10 +31,12 @@ fn post_bits() -> u16
 }
 
 /// The devices of a board. Contracts see the record of the same numbers.
-#[derive(Clone, Copy, Debug)]
+#[derive(Debug, Drop)]
 pub(crate) struct DeviceSet {
     clock: u64,
     timers: Timers,
+    queues: Queues,
+    channels: Channels,
     interrupts: Interrupts,
     keypad: Keypad,
     waits: u16,
@@ -50,19 +53,10 @@ impl Model for DeviceSet {
     ghost view = { λ d. record {
       clock = d.clock;
       timers = d.timers;
+      sound = d.queues;
+      channels = d.channels;
       interrupts = d.interrupts;
       keys = d.keypad;
-      waits = d.waits;
-      priced = d.priced;
-      posted = d.posted;
-      halted = d.halted;
-    } };
-
-    ghost inverse = { λ d. record {
-      clock = d.clock;
-      timers = d.timers;
-      interrupts = d.interrupts;
-      keypad = d.keys;
       waits = d.waits;
       priced = d.priced;
       posted = d.posted;
@@ -71,14 +65,16 @@ impl Model for DeviceSet {
 }
 
 impl DeviceSet {
-    ghost use Rattle.std.specs.Prelude.{◌≡◌, ◌+◌, ◌*◌, ◌^◌, ◌≤◌, ◌<◌, ◌||◌, bit_or};
+    ghost use Rattle.std.specs.Prelude.{◌≡◌, ◌+◌, ◌*◌, ◌^◌, ◌≤◌, ◌<◌, ◌||◌, bit_or, length, IfSome};
     ghost use Rattle.gba_terms.specs.Bits.{bit};
     ghost use Rattle.gba_bus.specs.declared.width.Width.TheVariants.{Byte};
+    ghost use Rattle.gba_dma.specs.Channels.{channel_at, next_unit};
     ghost use Rattle.gba_irq.specs.Interrupts.{is_pending};
-    ghost use Rattle.gba_timer.specs.Timers.{requests, timer_at};
-    ghost use Rattle.gba_devices.specs.Cycles.{after_cycles, device_cycle, quiet, skipped, with_timer_requests};
-    ghost use Rattle.gba_devices.specs.Registers.{half_kept, half_read, half_stored, half_written, io_loaded, io_stored, keyed, with_key_control, with_key_request};
-    ghost use Rattle.gba_devices.specs.State.{asks_entry, begun, devices_at_reset, is_calm, woken};
+    ghost use Rattle.gba_sound.specs.Queues.{left_sample, queue_at, right_sample};
+    ghost use Rattle.gba_timer.specs.Timers.{requests};
+    ghost use Rattle.gba_devices.specs.Cycles.{asked_by, device_cycle, quiet, rung, skipped, with_timer_requests};
+    ghost use Rattle.gba_devices.specs.Registers.{half_kept, half_read, half_stored, half_written, halves_written, io_loaded, io_stored, keyed, with_key_control, with_key_request, word_written};
+    ghost use Rattle.gba_devices.specs.State.{after_dma_unit, asks_entry, begun, devices_at_reset, is_calm, with_dma_request, woken};
 
     /// The devices at reset.
     pub(crate) fn new() -> DeviceSet
@@ -87,6 +83,8 @@ impl DeviceSet {
         DeviceSet {
             clock: 0,
             timers: Timers::new(),
+            queues: Queues::new(),
+            channels: Channels::new(),
             interrupts: Interrupts::new(),
             keypad: Keypad::new(),
             waits: 0,
@@ -132,12 +130,62 @@ impl DeviceSet {
         self.interrupts.pending()
     }
 
-    /// A timer by its number, which is below 4.
-    pub(crate) fn timer(&self, number: u32) -> Timer
-        requires { number < 4 }
-        ensures { result ≡ timer_at number self.now.timers }
+    pub(crate) fn timers(&self) -> Timers
+        ensures { result ≡ self.now.timers }
     {
-        self.timers.timer(number)
+        self.timers
+    }
+
+    /// A DMA channel by its number, which is below 4.
+    pub(crate) fn channel(&self, number: u32) -> Channel
+        requires { number < 4 }
+        ensures { result ≡ channel_at number self.now.channels }
+    {
+        self.channels.channel(number)
+    }
+
+    /// The current byte of queue A or B, 0 or 1.
+    pub(crate) fn queue_current(&self, queue: u32) -> u8
+        requires { queue < 2 }
+        ensures { result ≡ (queue_at queue self.now.sound).current }
+    {
+        self.queues.current(queue)
+    }
+
+    /// The bytes that queue A or B holds, oldest first.
+    pub(crate) fn queue(&self, queue: u32) -> &[u8]
+        requires { queue < 2 }
+        ensures bytes { result.now ≡ (queue_at queue self.now.sound).bytes }
+        ensures most { length result.now ≤ 32 }
+    {
+        self.queues.held(queue)
+    }
+
+    /// The unit that DMA does next.
+    pub(crate) fn next_unit(&self) -> Option<Unit>
+        ensures unit { result ≡ next_unit self.now.channels }
+        ensures channel { IfSome result (λ unit. unit.channel < 4) }
+    {
+        self.channels.next_unit()
+    }
+
+    /// Ends a unit of a DMA channel, which is below 4.
+    #[tactic(auto, unfolding(crate::specs::State::after_dma_unit))]
+    pub(crate) fn end_unit(&mut self, channel: u32)
+        requires { channel < 4 }
+        ensures { self.new ≡ after_dma_unit channel self.old }
+    {
+        if let Some(number) = self.channels.unit_done_of(channel) {
+            self.interrupts.raise(8 + number);
+        }
+    }
+
+    /// What the queues sound like, left then right.
+    pub(crate) fn sample(&self) -> (i16, i16)
+        ensures left { result.0 ≡ left_sample self.now.sound }
+        ensures right { result.1 ≡ right_sample self.now.sound }
+    {
+        self.queues.sample()
     }
 
     fn asks_entry(&self) -> bool
@@ -150,7 +198,10 @@ impl DeviceSet {
     pub(crate) fn is_calm(&self) -> bool
         ensures { result ≡ is_calm self.now }
     {
-        !self.halted && !self.asks_entry() && self.waits == self.priced
+        !self.halted
+            && !self.asks_entry()
+            && !self.channels.is_moving()
+            && self.waits == self.priced
     }
 
     /// Takes the prices of WAITCNT as it is.
@@ -197,6 +248,8 @@ impl DeviceSet {
         ensures { result ≡ half_read offset self.now }
     {
         match owner_of(offset) {
+            Owner::SoundBlock => self.queues.read(offset),
+            Owner::DmaBlock => self.channels.read(offset),
             Owner::TimerBlock => self.timers.read(offset),
             Owner::KeyBlock => self.keypad.read(offset),
             Owner::InterruptBlock => self.interrupts.read(offset),
@@ -212,6 +265,8 @@ impl DeviceSet {
         ensures { result ≡ half_kept offset self.now }
     {
         match owner_of(offset) {
+            Owner::SoundBlock => self.queues.read(offset),
+            Owner::DmaBlock => self.channels.kept(offset),
             Owner::TimerBlock => self.timers.kept(offset),
             Owner::KeyBlock => self.keypad.read(offset),
             Owner::InterruptBlock => self.interrupts.kept(offset),
@@ -227,6 +282,8 @@ impl DeviceSet {
         ensures { result ≡ half_stored offset self.now }
     {
         match owner_of(offset) {
+            Owner::SoundBlock => self.queues.read(offset),
+            Owner::DmaBlock => self.channels.kept(offset),
             Owner::TimerBlock => self.timers.kept(offset),
             Owner::KeyBlock => self.keypad.read(offset),
             Owner::InterruptBlock => self.interrupts.read(offset),
@@ -251,6 +308,8 @@ impl DeviceSet {
     {
         let value = merged(self.half_kept(offset), value, lanes);
         match owner_of(offset) {
+            Owner::SoundBlock => self.queues.write(offset, value),
+            Owner::DmaBlock => self.channels.write(offset, value),
             Owner::TimerBlock => self.timers.write(offset, value),
             Owner::KeyBlock => {
                 if offset == 0x132 {
@@ -297,6 +356,31 @@ impl DeviceSet {
         }
     }
 
+    /// Writes a word as two halfwords, the lower first.
+    fn store_halves(&mut self, offset: u32, value: u32)
+        requires { offset < 0x400 }
+        ensures { self.new ≡ halves_written offset value self.old }
+    {
+        self.half_write(offset, bits(value, 0, 16) as u16, 0xFFFF);
+        self.half_write(offset + 2, bits(value, 16, 16) as u16, 0xFFFF);
+    }
+
+    /// Writes a word at an aligned offset, which goes into a queue at its address.
+    fn store_word(&mut self, offset: u32, value: u32)
+        requires { offset < 0x400 }
+        ensures { self.new ≡ word_written offset value self.old }
+    {
+        match offset {
+            0x0A0 => {
+                self.queues.push_word(0, value);
+            }
+            0x0A4 => {
+                self.queues.push_word(1, value);
+            }
+            _ => self.store_halves(offset, value),
+        }
+    }
+
     /// Writes the low bits of a value, as many as the width has.
     pub(crate) fn store(&mut self, offset: u32, width: Width, value: u32)
         requires { offset < 0x400 }
@@ -305,11 +389,7 @@ impl DeviceSet {
         match width {
             Width::Byte => self.store_byte(offset, value),
             Width::Half => self.half_write(offset - offset % 2, bits(value, 0, 16) as u16, 0xFFFF),
-            Width::Word => {
-                let low = offset - offset % 4;
-                self.half_write(low, bits(value, 0, 16) as u16, 0xFFFF);
-                self.half_write(low + 2, bits(value, 16, 16) as u16, 0xFFFF);
-            }
+            Width::Word => self.store_word(offset - offset % 4, value),
         }
     }
 
@@ -322,24 +402,44 @@ impl DeviceSet {
         }
     }
 
+    /// The queues of a timer that overflows take bytes, and ask for DMA.
+    #[tactic(auto, unfolding(crate::specs::Cycles::rung, crate::specs::Cycles::asked_by))]
+    fn ring(&mut self, timer: u32, rings: bool)
+        ensures { self.new ≡ rung timer rings self.old }
+    {
+        if !rings {
+            return;
+        }
+        let asked = self.queues.overflow(timer);
+        if asked.a {
+            self.channels.trigger(DmaEvent::QueueA);
+        }
+        if asked.b {
+            self.channels.trigger(DmaEvent::QueueB);
+        }
+    }
+
     /// One device cycle.
-    #[tactic(auto, unfolding(crate::specs::Cycles::device_cycle))]
-    fn cycle(&mut self)
+    #[tactic(auto, unfolding(crate::specs::Cycles::device_cycle, crate::specs::Cycles::rung))]
+    pub(crate) fn cycle(&mut self)
         requires { self.old.clock < 2 ^ 63 }
-        ensures { self.new ≡ device_cycle self.old }
+        ensures devices { self.new ≡ device_cycle self.old }
+        ensures clock { self.new.clock ≡ self.old.clock + 1 }
     {
         self.clock += 1;
         let mark = self.timers.cycle();
         self.request_timers(mark);
+        self.ring(0, bit(u32::from(mark), 0));
+        self.ring(1, bit(u32::from(mark), 1));
     }
 
-    /// For how many cycles, 512 at most, surely nothing happens.
+    /// For how many cycles, 511 at most, surely nothing happens.
     #[tactic(auto, unfolding(crate::specs::Cycles::quiet))]
     pub(crate) fn quiet(&self) -> u32
         ensures value { result ≡ quiet self.now }
-        ensures most { result ≤ 512 }
+        ensures most { result ≤ 511 }
     {
-        self.timers.quiet()
+        self.timers.quiet().min(511 - (self.clock % 512) as u32)
     }
 
     /// So many quiet cycles at once.
@@ -351,38 +451,5 @@ impl DeviceSet {
     {
         self.clock += u64::from(count);
         self.timers.skip(count);
-    }
-
-    /// Moves by some of so many cycles: the quiet ones at once, and the next. Answers how many.
-    #[tactic(auto, unfolding(crate::specs::Cycles::device_cycle))]
-    fn pass_some(&mut self, most: u32) -> u32
-        requires one { 1 ≤ most }
-        requires clock { self.old.clock < 2 ^ 62 }
-        ensures devices { self.new ≡ after_cycles result self.old }
-        ensures clock { self.new.clock ≡ self.old.clock + result }
-        ensures least { 1 ≤ result }
-        ensures most { result ≤ most }
-    {
-        skips_cycles();
-        let quiet = self.quiet();
-        if most <= quiet {
-            self.skip(most);
-            return most;
-        }
-        self.skip(quiet);
-        self.cycle();
-        quiet + 1
-    }
-
-    /// Moves by so many cycles.
-    pub(crate) fn pass(&mut self, cycles: u32)
-        requires { self.old.clock < 2 ^ 61 }
-        ensures devices { self.new ≡ after_cycles cycles self.old }
-        ensures clock { self.new.clock ≡ self.old.clock + cycles }
-    {
-        let mut left = cycles;
-        while left > 0 {
-            left -= self.pass_some(left);
-        }
     }
 }

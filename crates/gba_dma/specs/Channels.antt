@@ -1,4 +1,4 @@
-use Rattle.std.specs.Prelude.{ℕ, ◌+◌, ◌-◌, ◌*◌, ◌==◌, Bool, ◌&&◌, nat_le, nat_lt, List, [], ◌∷◌, Option, None, Some, option_map, bit_and, if◌then◌else◌}
+use Rattle.std.specs.Prelude.{ℕ, ◌+◌, ◌-◌, ◌*◌, ◌==◌, Bool, ◌&&◌, ◌||◌, nat_le, nat_lt, List, [], ◌∷◌, Option, None, Some, option_map, bit_and, if◌then◌else◌}
 use Rattle.std.specs.Option.{option_map_or}
 use Rattle.gba_register.specs.Rows.{Row, row, row_at}
 use Rattle.gba_dma.specs.declared.channel.Channel.{Channel}
@@ -38,6 +38,10 @@ lowest_active cs =
     else if cs.channel2.active then Some 2
     else if cs.channel3.active then Some 3
     else None
+
+-- whether any is active
+abbrev pub is_moving : FourChannels → Bool
+is_moving cs = cs.channel0.active || cs.channel1.active || cs.channel2.active || cs.channel3.active
 
 abbrev pub next_unit : FourChannels → Option DmaUnit
 next_unit cs = option_map (λ number. unit_of number (channel_at number cs)) (lowest_active cs)

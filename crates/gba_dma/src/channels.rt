@@ -56,8 +56,8 @@ fn read_mask(offset: u32) -> u16
 }
 
 impl Channels {
-    ghost use Rattle.std.specs.Prelude.{◌≡◌, ◌<◌};
-    ghost use Rattle.gba_dma.specs.Channels.{after_lowest_unit, after_trigger, after_unit_at, channel_at, channels_at_reset, dma_kept, dma_read, dma_written, interrupt_at, lowest_active, lowest_interrupt, next_unit};
+    ghost use Rattle.std.specs.Prelude.{◌≡◌, ◌<◌, IfSome};
+    ghost use Rattle.gba_dma.specs.Channels.{after_lowest_unit, after_trigger, after_unit_at, channel_at, channels_at_reset, dma_kept, dma_read, dma_written, interrupt_at, is_moving, lowest_active, lowest_interrupt, next_unit};
 
     /// The channels at reset.
     pub fn new() -> Channels
@@ -146,9 +146,17 @@ impl Channels {
         }
     }
 
+    /// Whether any channel is active.
+    pub fn is_moving(&self) -> bool
+        ensures { result ≡ is_moving self.now }
+    {
+        self.channel0.active || self.channel1.active || self.channel2.active || self.channel3.active
+    }
+
     /// The unit that is to be done next, of the lowest active channel. None exactly where no channel is active.
     pub fn next_unit(&self) -> Option<Unit>
-        ensures { result ≡ next_unit self.now }
+        ensures unit { result ≡ next_unit self.now }
+        ensures channel { IfSome result (λ unit. unit.channel < 4) }
     {
         match self.lowest_active() {
             None => None,

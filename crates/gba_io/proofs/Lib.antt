@@ -1,2 +1,3 @@
+pub mod Cycling
 pub mod Keeping
 pub mod Telling

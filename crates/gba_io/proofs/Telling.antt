@@ -6,8 +6,8 @@ use Rattle.gba_bus.specs.declared.region.Region.TheVariants.{Bios, Inner, Rom0, 
 use Rattle.gba_bus.specs.declared.width.Width.{Width}
 use Rattle.gba_mem.specs.Loads.{is_bios, is_inner, is_rom, load}
 use Rattle.gba_mem.specs.Stores.{store}
-use Rattle.gba_io.specs.Board.{Board}
-use Rattle.gba_io.specs.Bus.{board_read, board_written, is_io}
+use Rattle.gba_io.specs.Core.{Core}
+use Rattle.gba_io.specs.Bus.{core_read, core_written, is_io}
 
 -- What is read and written where a test has told that an address is no register's.
 
@@ -25,24 +25,24 @@ rom-not-io Rom1 e = refl
 rom-not-io Rom2 e = refl
 rom-not-io _ e = cc
 
-pub bios_read : (b : Board) (from address : ℕ) (width : Width) → is_bios (region_of address) ≡ true
-    → board_read b from address width ≡ load b.memory from address width
-unfolding board_read
+pub bios_read : (b : Core) (from address : ℕ) (width : Width) → is_bios (region_of address) ≡ true
+    → core_read b from address width ≡ load b.memory from address width
+unfolding core_read
 bios_read b from address width e = rw (bios-not-io (region_of address) e) refl
 
-pub inner_read : (b : Board) (from address : ℕ) (width : Width) → is_inner (region_of address) ≡ true
-    → board_read b from address width ≡ load b.memory from address width
-unfolding board_read
+pub inner_read : (b : Core) (from address : ℕ) (width : Width) → is_inner (region_of address) ≡ true
+    → core_read b from address width ≡ load b.memory from address width
+unfolding core_read
 inner_read b from address width e = rw (inner-not-io (region_of address) e) refl
 
-pub rom_read : (b : Board) (from address : ℕ) (width : Width) → is_rom (region_of address) ≡ true
-    → board_read b from address width ≡ load b.memory from address width
-unfolding board_read
+pub rom_read : (b : Core) (from address : ℕ) (width : Width) → is_rom (region_of address) ≡ true
+    → core_read b from address width ≡ load b.memory from address width
+unfolding core_read
 rom_read b from address width e = rw (rom-not-io (region_of address) e) refl
 
-pub inner_written : (b : Board) (address : ℕ) (width : Width) (value : ℕ) → is_inner (region_of address) ≡ true
-    → board_written b address width value ≡ record b { memory = store 0 b.memory address width value }
-unfolding board_written
+pub inner_written : (b : Core) (address : ℕ) (width : Width) (value : ℕ) → is_inner (region_of address) ≡ true
+    → core_written b address width value ≡ record b { memory = store 0 b.memory address width value }
+unfolding core_written
 inner_written b address width value e = rw (inner-not-io (region_of address) e) refl
 
 inner-costs : (region : Region) (width : Width) (sequential : Bool) (waits : ℕ) → is_inner region ≡ true

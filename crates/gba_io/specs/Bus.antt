@@ -8,11 +8,11 @@ use Rattle.gba_bus.specs.declared.width.Width.{Width}
 use Rattle.gba_devices.specs.Registers.{io_loaded, io_stored}
 use Rattle.gba_mem.specs.Loads.{load}
 use Rattle.gba_mem.specs.Stores.{store}
-use Rattle.gba_io.specs.Board.{Board}
+use Rattle.gba_io.specs.Core.{Core}
 
--- A board as a bus (GBATEK, GBA Memory Map): the I/O registers are those of the devices, and all else is memory. Prices
--- are those of WAITCNT as it was at the start of the step (this project's profile). Until the picture's registers come,
--- its mode is 0.
+-- The core of a board as a bus (GBATEK, GBA Memory Map): the I/O registers are those of the devices, and all else is
+-- memory. Prices are those of WAITCNT as it was at the start of the step (this project's profile). Until the picture's
+-- registers come, its mode is 0.
 
 abbrev pub is_io : Region → Bool
 is_io Io = true
@@ -23,28 +23,28 @@ abbrev pub io_offset : ℕ → ℕ
 io_offset address = address - 0x04000000
 
 -- what an instruction at `from` reads at an address
-unfoldable pub board_read : Board → ℕ → ℕ → Width → ℕ
-board_read b from address width =
+unfoldable pub core_read : Core → ℕ → ℕ → Width → ℕ
+core_read b from address width =
     if is_io (region_of address) then io_loaded (io_offset address) width b.devices
     else load b.memory from address width
 
 -- what a write leaves
-unfoldable pub board_written : Board → ℕ → Width → ℕ → Board
-board_written b address width value =
+unfoldable pub core_written : Core → ℕ → Width → ℕ → Core
+core_written b address width value =
     if is_io (region_of address)
     then record b { devices = io_stored (io_offset address) width value b.devices }
     else record b { memory = store 0 b.memory address width value }
 
-abbrev pub board_price : Price Board
-board_price b address width sequential = price (region_of address) width sequential b.devices.priced
+abbrev pub core_price : Price Core
+core_price b address width sequential = price (region_of address) width sequential b.devices.priced
 
-abbrev pub board_code : Code Board
-board_code b address width = record { value = board_read b address address width; after = b }
+abbrev pub core_code : Code Core
+core_code b address width = record { value = core_read b address address width; after = b }
 
-abbrev pub board_load : Load Board
-board_load b from address width sequential =
-    record { value = board_read b from address width; price = board_price b address width sequential; after = b }
+abbrev pub core_load : Load Core
+core_load b from address width sequential =
+    record { value = core_read b from address width; price = core_price b address width sequential; after = b }
 
-abbrev pub board_store : Store Board
-board_store b address width value sequential =
-    record { price = board_price b address width sequential; after = board_written b address width value }
+abbrev pub core_store : Store Core
+core_store b address width value sequential =
+    record { price = core_price b address width sequential; after = core_written b address width value }

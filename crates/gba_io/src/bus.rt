@@ -1,11 +1,11 @@
-//! The board as a bus.
+//! The core of a board as a bus.
 
 ghost use Rattle.std.specs.Prelude.{◌≡◌, ◌<◌, true};
 ghost use Rattle.gba_bus.specs.Regions.{region_of};
-ghost use Rattle.gba_io.specs.Bus.{board_read, board_written, io_offset, is_io};
+ghost use Rattle.gba_io.specs.Bus.{core_read, core_written, io_offset, is_io};
 ghost use Rattle.gba_mem.specs.Loads.{is_bios, is_inner, is_rom};
 
-use crate::Board;
+use crate::Core;
 use gba_bus::{Bus, Region, Width, region_of};
 use gba_devices::laws::writes_keep;
 
@@ -65,15 +65,15 @@ fn offset_of(address: u32) -> u32
     address - 0x0400_0000
 }
 
-impl Board {
+impl Core {
     ghost use Rattle.std.specs.Prelude.{◌≡◌};
-    ghost use Rattle.gba_io.specs.Bus.{board_read, board_written};
+    ghost use Rattle.gba_io.specs.Bus.{core_read, core_written};
 
     /// What an instruction reads at an address that may be a register's.
-    #[tactic(auto, unfolding(crate::specs::Bus::board_read))]
+    #[tactic(auto, unfolding(crate::specs::Bus::core_read))]
     #[inline(never)]
     fn read_anywhere(&mut self, from: u32, address: u32, width: Width) -> u32
-        ensures value { result ≡ board_read self.old from address width }
+        ensures value { result ≡ core_read self.old from address width }
         ensures same { self.new ≡ self.old }
     {
         if is_in_io(address) {
@@ -84,10 +84,10 @@ impl Board {
     }
 
     /// Writes at an address that may be a register's.
-    #[tactic(auto, unfolding(crate::specs::Bus::board_written))]
+    #[tactic(auto, unfolding(crate::specs::Bus::core_written))]
     #[inline(never)]
     fn write_anywhere(&mut self, address: u32, width: Width, value: u32)
-        ensures { self.new ≡ board_written self.old address width value }
+        ensures { self.new ≡ core_written self.old address width value }
     {
         writes_keep();
         if is_in_io(address) {
@@ -101,7 +101,7 @@ impl Board {
     #[tactic(auto, using(crate::proofs::Telling::told_accesses))]
     #[inline]
     fn read_code(&mut self, address: u32, width: Width) -> u32
-        ensures value { result ≡ board_read self.old address address width }
+        ensures value { result ≡ core_read self.old address address width }
         ensures same { self.new ≡ self.old }
     {
         if is_in_bios(address) {
@@ -117,38 +117,38 @@ impl Board {
     }
 }
 
-impl Bus for Board {
-    ghost use Rattle.gba_io.specs.Board.{Board};
-    ghost use Rattle.gba_io.specs.Bus.{board_code, board_load, board_price, board_store};
+impl Bus for Core {
+    ghost use Rattle.gba_io.specs.Core.{Core};
+    ghost use Rattle.gba_io.specs.Bus.{core_code, core_load, core_price, core_store};
     ghost use Rattle.gba_io.specs.BusLaws.{
-      board_code_fits,
-      board_code_prices,
-      board_load_prices,
-      board_loads_fit,
-      board_store_prices,
+      core_code_fits,
+      core_code_prices,
+      core_load_prices,
+      core_loads_fit,
+      core_store_prices,
     };
 
-    ghost State = { Board };
+    ghost State = { Core };
 
     ghost state = { λ board. board };
 
-    ghost code_of = { board_code };
+    ghost code_of = { core_code };
 
-    ghost code_price_of = { board_price };
+    ghost code_price_of = { core_price };
 
-    ghost load_of = { board_load };
+    ghost load_of = { core_load };
 
-    ghost store_of = { board_store };
+    ghost store_of = { core_store };
 
-    ghost code_prices = { board_code_prices };
+    ghost code_prices = { core_code_prices };
 
-    ghost load_prices = { board_load_prices };
+    ghost load_prices = { core_load_prices };
 
-    ghost store_prices = { board_store_prices };
+    ghost store_prices = { core_store_prices };
 
-    ghost code_fits = { board_code_fits };
+    ghost code_fits = { core_code_fits };
 
-    ghost loads_fit = { board_loads_fit };
+    ghost loads_fit = { core_loads_fit };
 
     fn code(&mut self, address: u32, width: Width) -> u32 {
         self.read_code(address, width)

@@ -6,7 +6,7 @@ use Rattle.gba_text.specs.Numbers.{is_number, number_of, hex_number_of}
 use Rattle.gba_joblog.specs.Kinds.{◌>>=◌}
 use Rattle.gba_joblog.specs.Names.{is_name}
 use Rattle.gba_joblog.specs.declared.job.OutKind.{OutKind}
-use Rattle.gba_joblog.specs.declared.job.OutKind.TheVariants.{State, Save}
+use Rattle.gba_joblog.specs.declared.job.OutKind.TheVariants.{Samples, State, Save}
 use Rattle.gba_joblog.specs.declared.kinds.JobKind.{JobKind}
 use Rattle.gba_joblog.specs.declared.kinds.JobKind.TheVariants.{Word, Number, Name, Order, Missing, Extra}
 
@@ -73,7 +73,8 @@ version_at words = word_at words >>= version_in
 -- the outputs that can be asked for so far
 abbrev pub out_kind_of : List ℕ → Option OutKind
 out_kind_of word =
-    if bytes_eq word (codes "state") then Some State
+    if bytes_eq word (codes "samples") then Some Samples
+    else if bytes_eq word (codes "state") then Some State
     else if bytes_eq word (codes "save") then Some Save
     else None
 

@@ -114,6 +114,9 @@ pub(crate) fn out_kind_at(cursor: &mut Cursor<'_>) -> Result<OutKind, JobKind>
     ensures lines { cursor.new.lines ≡ cursor.old.lines }
 {
     let word = word_at(cursor)?;
+    if word == b"samples".as_slice() {
+        return Ok(OutKind::Samples);
+    }
     if word == b"state".as_slice() {
         return Ok(OutKind::State);
     }

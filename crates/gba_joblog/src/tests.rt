@@ -117,7 +117,7 @@ fn is_file(file: &Option<FileLine>, name: &str, line: u64) -> bool {
 #[test]
 fn cartridges_and_saves_are_read(rt: HostRuntime) {
     let text =
-        b"gbalink 1\ncycles 1\nconsole 0\nout save\nsave s\ncart c.gba\nbios b\nout state\nend\n";
+        b"gbalink 1\ncycles 1\nconsole 0\nout save\nsave s\ncart c.gba\nbios b\nout state\nout samples\nend\n";
     let plain = Some(OutLine { digest: None });
     match Job::parse(rt.alloc(), text) {
         Ok(job) => {
@@ -127,7 +127,7 @@ fn cartridges_and_saves_are_read(rt: HostRuntime) {
             assert!(rt; is_file(&console.bios, "b", 7));
             assert!(rt; is_file(&console.cart, "c.gba", 6));
             assert!(rt; is_file(&console.save, "s", 5));
-            assert_eq!(rt; console.outs, [None, None, None, plain, plain]);
+            assert_eq!(rt; console.outs, [None, plain, None, plain, plain]);
         }
         Err(_) => assert!(rt; false),
     }

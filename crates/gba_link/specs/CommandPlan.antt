@@ -17,11 +17,12 @@ use Rattle.gba_joblog.specs.Files.{error_at}
 use Rattle.gba_joblog.specs.Language.{job_of, longest_job}
 use Rattle.gba_joblog.specs.Statements.{asks_for}
 use Rattle.gba_joblog.specs.declared.job.KeyChange.{KeyChange}
-use Rattle.gba_joblog.specs.declared.job.OutKind.TheVariants.{State, Save}
+use Rattle.gba_joblog.specs.declared.job.OutKind.TheVariants.{Samples, State, Save}
 use Rattle.gba_joblog.specs.declared.kinds.JobError.{JobError}
 use Rattle.gba_joblog.specs.declared.kinds.JobKind.TheVariants.{Long, Clash}
 use Rattle.gba_link.specs.Words.{Command, command_of}
-use Rattle.gba_output.specs.StateFile.{save_file, state_file, summary}
+use Rattle.gba_io.specs.declared.made.Room.{Room}
+use Rattle.gba_output.specs.StateFile.{samples_file, save_file, state_file, summary}
 
 -- JOB is refused at a line
 abbrev pub job_refusal : Command → JobError → Cause
@@ -132,30 +133,47 @@ any_keys_plan changes (Some file) = key_file_plan file.name
 abbrev pub keys_plan : ConsoleJob → Plan (List KeyState)
 keys_plan console = any_keys_plan console.changes console.keys
 
--- the names of the state file and of the save under OUT
+-- the names of the files under OUT
+pub record OutNames : Type 0 where
+  pub samples : List ℕ
+  pub state : List ℕ
+  pub save : List ℕ
+
+abbrev pub samples_name : List ℕ → List ℕ
+samples_name out = output_file out 0 Samples
+
 abbrev pub state_name : List ℕ → List ℕ
 state_name out = output_file out 0 State
 
 abbrev pub save_name : List ℕ → List ℕ
 save_name out = output_file out 0 Save
 
--- what a run writes: its state file and its save where the job asks for them, and its summary
+abbrev pub names_of : List ℕ → OutNames
+names_of out = record { samples = samples_name out; state = state_name out; save = save_name out }
+
+-- what a run writes: its samples, its state file and its save where the job asks for them, and its summary
 abbrev pub output_if : Bool → List ℕ → List ℕ → List Output
 output_if asked name bytes = if asked then record { name = name; bytes = bytes } ∷ [] else []
 
-abbrev pub written : Command → WholeJob → Machine → Run
-written command job m = record {
+abbrev pub written : OutNames → WholeJob → Machine → Run
+written names job m = record {
   outputs =
-      output_if (asks_for (console_of job) State) (state_name command.out) (state_file m)
-      ++ output_if (asks_for (console_of job) Save) (save_name command.out) (save_file m);
+      (output_if (asks_for (console_of job) Samples) names.samples (samples_file m)
+      ++ output_if (asks_for (console_of job) State) names.state (state_file m))
+      ++ output_if (asks_for (console_of job) Save) names.save (save_file m);
   summary = summary m;
 }
 
+-- what of a console is kept beside its state: the samples where they are asked for, in the steps that begin before the
+-- job's cycles are over
+abbrev pub room_of : WholeJob → Room
+room_of job = record { until = job.cycles; samples = asks_for (console_of job) Samples }
+
 -- the run of a job with these images and these changes of the keys: a console from its reset to the first step boundary
 -- at or past the job's cycles
-abbrev pub result_of_run : Command → WholeJob → ConsoleImages → List KeyState → Run
-result_of_run command job images keys =
-    written command job (run_to job.cycles (reset images.bios images.cart images.save keys))
+abbrev pub result_of_run : OutNames → WholeJob → ConsoleImages → List KeyState → Run
+result_of_run names job images keys =
+    written names job (run_to job.cycles (reset images.bios images.cart images.save keys (room_of job)))
 
 -- what follows the bytes of JOB, and what the job with its images and its keys comes to
 abbrev pub after_job : Command → List ℕ → Plan WholeJob
@@ -165,7 +183,7 @@ abbrev pub job_plan : Command → Plan WholeJob
 job_plan command = bind (file command.job longest_job (job_refusal command (error_at 0 Long))) (after_job command)
 
 abbrev pub after_keys : Command → WholeJob → ConsoleImages → List KeyState → Plan Run
-after_keys command job images keys = Done (result_of_run command job images keys)
+after_keys command job images keys = Done (result_of_run (names_of command.out) job images keys)
 
 abbrev pub after_images : Command → WholeJob → ConsoleImages → Plan Run
 after_images command job images = bind (keys_plan (console_of job)) (after_keys command job images)

@@ -5,8 +5,8 @@ ghost use Rattle.gba_command.specs.Reading.{Gives, GoesTo};
 ghost use Rattle.gba_command.specs.Views.{Agrees, end_of, output_value, run_value};
 ghost use Rattle.gba_joblog.specs.Soundness.{IsConsole, IsFile, IsJob};
 ghost use Rattle.gba_joblog.specs.Views.{console_value, file_value, job_value};
-ghost use Rattle.gba_link.specs.CommandPlan.{job_or_refusal, written, command_plan, console_of as console_said, name_in, output_if, plan_of, result_of_run, run_plan, save_name as save_name_of, state_name as state_name_of};
-ghost use Rattle.gba_output.specs.StateFile.{save_file, state_file};
+ghost use Rattle.gba_link.specs.CommandPlan.{job_or_refusal, names_of, written, command_plan, console_of as console_said, name_in, output_if, plan_of, result_of_run, room_of as room_said, run_plan, samples_name as samples_name_of, save_name as save_name_of, state_name as state_name_of};
+ghost use Rattle.gba_output.specs.StateFile.{samples_file, save_file, state_file, summary as summary_of};
 ghost use Rattle.gba_link.specs.Words.{Command};
 ghost use Rattle.gba_link.specs.Views.{command_value};
 
@@ -16,12 +16,14 @@ use crate::words::{RunWords, command_of};
 use gba_command::{Cause, OutputFile, Outputs, Refusal, name_in_report, read_file};
 use gba_console::{Console, KeyState};
 use gba_image::ConsoleImages;
+use gba_io::Room;
 use gba_joblog::{
     FileLine, Job, JobConsole, JobError, JobKind, LONGEST_JOB, OutKind, ParseRefused,
 };
 use gba_output::{SAVE_ROOM, STATE_ROOM, summary, write_save, write_state};
 use gba_store::Store;
 use std::alloc::{AllocError, Global};
+use std::marker::Model;
 
 /// The job that the bytes say, where no output file is JOB or one of the job's inputs.
 fn accepted_job(alloc: Global, command: &RunWords<'_>, bytes: &[u8]) -> Result<Job, Refusal>
@@ -49,13 +51,38 @@ fn accepted_job(alloc: Global, command: &RunWords<'_>, bytes: &[u8]) -> Result<J
     }
 }
 
-/// The names of the files that a run may write.
+/// The names of the files that a run may write. Contracts see the record of their bytes.
 #[derive(Drop)]
 struct OutputNames {
+    samples: String,
     state: String,
     save: String,
-    ghost short_state: { string_len state ≤ 200 },
-    ghost short_save: { string_len save ≤ 200 },
+}
+
+impl Model for OutputNames {
+    ghost use Rattle.std.specs.Prelude.{◌≤◌, string_bytes, string_len};
+    ghost use Rattle.gba_link.specs.CommandPlan.{OutNames};
+
+    ghost Value = { OutNames };
+
+    ghost view = { λ names. record {
+      samples = string_bytes names.samples;
+      state = string_bytes names.state;
+      save = string_bytes names.save;
+    } };
+
+    ghost invariant = { λ names.
+        (string_len names.samples ≤ 200) × (string_len names.state ≤ 200) × (string_len names.save ≤ 200) };
+}
+
+/// The name of the samples under OUT.
+fn make_samples_name(alloc: Global, out: &str) -> Result<String, AllocError>
+    requires { length out.now ≤ 180 }
+    ensures name { IfOk result (λ name. string_bytes name ≡ samples_name_of out.now) }
+    ensures short { IfOk result (λ name. string_len name ≤ 200) }
+{
+    let name = format!(in alloc; "{out}.0.samples")?;
+    Ok(name)
 }
 
 /// The name of the state file under OUT.
@@ -81,30 +108,34 @@ fn make_save_name(alloc: Global, out: &str) -> Result<String, AllocError>
 /// The names of the files under OUT.
 fn make_names(alloc: Global, out: &str) -> Result<OutputNames, AllocError>
     requires { length out.now ≤ 180 }
-    ensures state { IfOk result (λ names. string_bytes names.state ≡ state_name_of out.now) }
-    ensures save { IfOk result (λ names. string_bytes names.save ≡ save_name_of out.now) }
+    ensures { IfOk result (λ names. names ≡ names_of out.now) }
 {
+    let samples = make_samples_name(alloc, out)?;
     let state = make_state_name(alloc, out)?;
     let save = make_save_name(alloc, out)?;
-    Ok(OutputNames { state, save })
+    Ok(OutputNames {
+        samples,
+        state,
+        save,
+    })
 }
 
-/// The room of what a run writes, taken before its first step.
+/// The room of what a run writes beside what its console keeps, taken before its first step.
 #[derive(Drop)]
 struct OutputRoom {
     files: Vec<OutputFile>,
     state: Vec<u8>,
     save: Vec<u8>,
     ghost no_file: { files.items ≡ [] },
-    ghost two_files: { 2 ≤ vec_capacity files },
+    ghost three_files: { 3 ≤ vec_capacity files },
     ghost no_state: { state.items ≡ [] },
-    ghost state_room: { 1041162 ≤ vec_capacity state },
+    ghost state_room: { 1041502 ≤ vec_capacity state },
     ghost no_save: { save.items ≡ [] },
     ghost save_room: { 32768 ≤ vec_capacity save },
 }
 
 fn make_room(alloc: Global) -> Result<OutputRoom, AllocError> {
-    let files = Vec::with_capacity(alloc, 2)?;
+    let files = Vec::with_capacity(alloc, 3)?;
     let state = Vec::with_capacity(alloc, STATE_ROOM)?;
     let save = Vec::with_capacity(alloc, SAVE_ROOM)?;
     Ok(OutputRoom { files, state, save })
@@ -155,6 +186,30 @@ fn add_file(files: &mut Vec<OutputFile>, file: OutputFile)
     }
 }
 
+/// Adds the samples of a console, where they are asked for, and takes them out.
+fn add_samples(
+    alloc: Global,
+    files: &mut Vec<OutputFile>,
+    asked: bool,
+    name: String,
+    console: &mut Console,
+)
+    requires one_file { vec_len files.old < vec_capacity files.old }
+    requires named { string_len name ≤ 200 }
+    ensures files { map output_value files.new.items
+        ≡ map output_value files.old.items ++ output_if asked (string_bytes name) (samples_file console.old) }
+    ensures state { state_file console.new ≡ state_file console.old }
+    ensures save { save_file console.new ≡ save_file console.old }
+    ensures summary { summary_of console.new ≡ summary_of console.old }
+    ensures len { vec_len files.new ≤ vec_len files.old + 1 }
+    ensures room { vec_capacity files.old ≤ vec_capacity files.new }
+{
+    if asked {
+        let bytes = console.take_samples(alloc);
+        add_file(files, OutputFile { name, bytes });
+    }
+}
+
 /// Adds the state file of a console, where it is asked for.
 fn add_state(
     files: &mut Vec<OutputFile>,
@@ -165,7 +220,7 @@ fn add_state(
 )
     requires one_file { vec_len files.old < vec_capacity files.old }
     requires no_byte { state.items ≡ [] }
-    requires state_room { 1041162 ≤ vec_capacity state }
+    requires state_room { 1041502 ≤ vec_capacity state }
     requires named { string_len name ≤ 200 }
     ensures files { map output_value files.new.items
         ≡ map output_value files.old.items ++ output_if asked (string_bytes name) (state_file console.now) }
@@ -200,31 +255,53 @@ fn add_save(
 }
 
 /// What a run of a job writes that ends with this console, into the room for it.
-fn outputs_of(room: OutputRoom, names: OutputNames, job: &Job, console: &Console) -> Outputs
+fn outputs_of(
+    alloc: Global,
+    room: OutputRoom,
+    names: OutputNames,
+    job: &Job,
+    mut console: Console,
+) -> Outputs
     requires { IsJob (job_value job.now) }
-    ensures { (command : Command) → string_bytes names.state ≡ state_name_of command.out
-        → string_bytes names.save ≡ save_name_of command.out
-        → run_value result ≡ written command (job_value job.now) console.now }
+    ensures { run_value result ≡ written names (job_value job.now) console }
 {
     let asks = console_of(job);
     let mut files = room.files;
+    add_samples(
+        alloc,
+        &mut files,
+        asks.asks_for(OutKind::Samples),
+        names.samples,
+        &mut console,
+    );
     add_state(
         &mut files,
         asks.asks_for(OutKind::State),
         names.state,
         room.state,
-        console,
+        &console,
     );
     add_save(
         &mut files,
         asks.asks_for(OutKind::Save),
         names.save,
         room.save,
-        console,
+        &console,
     );
     Outputs {
         files,
-        summary: summary(console),
+        summary: summary(&console),
+    }
+}
+
+/// What is to be kept of what the console of a job makes.
+fn room_of(job: &Job) -> Room
+    requires { IsJob (job_value job.now) }
+    ensures { result ≡ room_said (job_value job.now) }
+{
+    Room {
+        until: job.cycles,
+        samples: console_of(job).asks_for(OutKind::Samples),
     }
 }
 
@@ -238,16 +315,14 @@ fn run_images(
     keys: Vec<KeyState>,
 ) -> Result<Outputs, AllocError>
     requires { IsJob (job_value job.now) }
-    ensures { (command : Command) → string_bytes names.state ≡ state_name_of command.out
-        → string_bytes names.save ≡ save_name_of command.out
-        → IfOk result (λ outputs. run_value outputs ≡ result_of_run command (job_value job.now) images keys.items) }
+    ensures { IfOk result (λ outputs. run_value outputs ≡ result_of_run names (job_value job.now) images keys.items) }
 {
     let room = make_room(alloc)?;
-    let Ok(mut console) = Console::new(alloc, images, keys) else {
+    let Ok(mut console) = Console::new(alloc, images, keys, room_of(job)) else {
         return Err(AllocError);
     };
     console.run_to(job.cycles);
-    Ok(outputs_of(room, names, job, &console))
+    Ok(outputs_of(alloc, room, names, job, console))
 }
 
 /// Reads the images and the key file of a job and runs it.
@@ -258,8 +333,7 @@ fn run_job<S: Store>(
     job: &Job,
 ) -> Result<Outputs, Refusal>
     requires { IsJob (job_value job.now) }
-    ensures { (command : Command) → string_bytes names.state ≡ state_name_of command.out
-        → string_bytes names.save ≡ save_name_of command.out
+    ensures { (command : Command) → names ≡ names_of command.out
         → GoesTo (Gives S.Tells S.files S.Reads S.absences S.faults) (run_plan command (job_value job.now))
         store.old store.new (end_of run_value result) }
 {

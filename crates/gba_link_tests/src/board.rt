@@ -1,9 +1,9 @@
-//! The board by itself: registers, prices, timers, keys and the halt, by moves and what they must show.
+//! The board by itself: registers, prices, timers, keys, the halt, DMA and direct sound, by moves and what they must show.
 
-use crate::console::bios_of;
+use crate::console::{ROOM, bios_of};
 use Move::{
-    Advance, Begins, Calm, Clock, Halts, Kept, Keys, Load, Master, Pending, Price, Store, Timer,
-    Wakes,
+    Advance, Begins, Calm, Clock, Halts, Kept, Keys, Left, Load, Master, Pair, Pending, Price,
+    Queue, Store, Timer, Unit, Wakes,
 };
 use gba_bus::Width::{Byte, Half, Word};
 use gba_bus::{Bus, Width};
@@ -44,58 +44,99 @@ enum Move {
     Clock(u64),
     /// A timer's counter and phase.
     Timer(u32, u16, u16),
+    /// A DMA unit takes so many cycles, or none is to be done.
+    Unit(Option<u32>),
+    /// A DMA channel has so many units left.
+    Left(u32, u32),
+    /// A sound queue holds so many bytes, and this is its current one.
+    Queue(u32, usize, u8),
+    /// So many pairs of samples are made, and this is the last.
+    Pair(usize, i16, i16),
 }
 
 fn board_of(alloc: Global) -> Result<Board, Fail> {
     let images = ConsoleImages {
-        bios: bios_of(alloc, &[])?,
+        bios: bios_of(alloc, &[0x1234_5678])?,
         cart: None,
         save: None,
     };
-    Ok(Board::new(alloc, images)?)
+    Ok(Board::new(alloc, images, ROOM)?)
 }
 
 fn advance<R: Abort>(rt: &R, board: &mut Board, cycles: u32) {
     assert!(rt; cycles <= 512);
-    assert!(rt; board.clock() < 1_000_000);
+    assert!(rt; board.made.counts().samples == board.core.clock() / 512);
+    assert!(rt; board.made.until() <= 1_000_000);
+    assert!(rt; board.core.clock() + u64::from(cycles) <= board.made.until() + 511);
     board.advance(cycles);
+}
+
+fn units_left<R: Abort>(rt: &R, board: &Board, channel: u32) -> u32 {
+    assert!(rt; channel < 4);
+    board.core.channel(channel).left
+}
+
+fn queue_is<R: Abort>(rt: &R, board: &Board, queue: u32, held: usize, current: u8) {
+    assert!(rt; queue < 2);
+    assert_eq!(rt; board.core.queue(queue).len(), held);
+    assert_eq!(rt; board.core.queue_current(queue), current);
+}
+
+fn pair_is<R: Abort>(rt: &R, board: &Board, count: usize, left: i16, right: i16) {
+    let samples = board.made.samples();
+    assert_eq!(rt; board.made.counts().samples, count as u64);
+    assert_eq!(rt; samples.len(), 4 * count);
+    let [.., a, b, c, d] = samples else {
+        return assert!(rt; false);
+    };
+    assert_eq!(rt;
+        (i16::from_le_bytes([*a, *b]), i16::from_le_bytes([*c, *d])),
+        (left, right)
+    );
 }
 
 fn timer_is<R: Abort>(rt: &R, board: &Board, number: u32, counter: u16, phase: u16) {
     assert!(rt; number < 4);
-    let timer = board.timer(number);
+    let timer = board.core.timer(number);
     assert_eq!(rt; (timer.counter, timer.phase), (counter, phase));
 }
 
 fn play<R: Abort>(rt: &R, board: &mut Board, one: Move) {
     match one {
         Store(offset, width, value) => {
-            assert_eq!(rt; board.store(0x0400_0000 | offset, width, value, false), 1);
+            assert_eq!(rt;
+                board.core.store(0x0400_0000 | offset, width, value, false),
+                1
+            );
         }
         Load(offset, width, value) => {
             let address = 0x0400_0000 | offset;
             assert_eq!(rt;
-                board.load(0, address, width, false),
+                board.core.load(0, address, width, false),
                 (value, 1),
                 "at {offset}"
             );
         }
-        Kept(offset, half) => assert_eq!(rt; board.io_half(offset), half),
+        Kept(offset, half) => assert_eq!(rt; board.core.io_half(offset), half),
         Advance(cycles) => advance(rt, board, cycles),
-        Keys(pressed) => board.set_keys(pressed),
-        Begins => board.begin(),
-        Wakes => board.wake(),
-        Halts(halted) => assert_eq!(rt; board.halted(), halted),
-        Pending(pending) => assert_eq!(rt; board.pending(), pending),
-        Master(master) => assert_eq!(rt; board.master(), master),
-        Calm(calm) => assert_eq!(rt; board.is_calm(), calm),
-        Price(cycles) => assert_eq!(rt; board.code_price(0x0800_0000, Half, false), cycles),
-        Clock(clock) => assert_eq!(rt; board.clock(), clock),
+        Keys(pressed) => board.core.set_keys(pressed),
+        Begins => board.core.begin(),
+        Wakes => board.core.wake(),
+        Halts(halted) => assert_eq!(rt; board.core.halted(), halted),
+        Pending(pending) => assert_eq!(rt; board.core.pending(), pending),
+        Master(master) => assert_eq!(rt; board.core.master(), master),
+        Calm(calm) => assert_eq!(rt; board.core.is_calm(), calm),
+        Price(cycles) => assert_eq!(rt; board.core.code_price(0x0800_0000, Half, false), cycles),
+        Clock(clock) => assert_eq!(rt; board.core.clock(), clock),
         Timer(number, counter, phase) => timer_is(rt, board, number, counter, phase),
+        Unit(cycles) => assert_eq!(rt; board.core.dma_unit(), cycles),
+        Left(channel, units) => assert_eq!(rt; units_left(rt, board, channel), units),
+        Queue(queue, held, current) => queue_is(rt, board, queue, held, current),
+        Pair(count, left, right) => pair_is(rt, board, count, left, right),
     }
 }
 
-static MOVES: [&[Move]; 10] = [
+static MOVES: [&[Move]; 19] = [
     // A word over IE and IF: the one stores, ones in the other clear. Timer 0 requests bit 3.
     &[
         Store(0x100, Half, 0xFFFF),
@@ -240,6 +281,169 @@ static MOVES: [&[Move]; 10] = [
         Store(0x208, Half, 1),
         Calm(false),
     ],
+    // The scale of samples: 7Fh at full volume to both sides, then 80h at half volume. The pair comes in the cycle that
+    // makes the clock a multiple of 512.
+    &[
+        Store(0x084, Half, 0x0080),
+        Store(0x082, Half, 0x0304),
+        Store(0x0A0, Word, 0x0000_807F),
+        Store(0x100, Word, 0x0080_FFFF),
+        Queue(0, 4, 0x00),
+        Advance(1),
+        Queue(0, 3, 0x7F),
+        Store(0x102, Half, 0x0000),
+        Advance(511),
+        Pair(1, 8128, 8128),
+        Store(0x082, Half, 0x0300),
+        Store(0x102, Half, 0x0080),
+        Advance(1),
+        Store(0x102, Half, 0x0000),
+        Queue(0, 2, 0x80),
+        Advance(510),
+        Pair(1, 8128, 8128),
+        Advance(1),
+        Pair(2, -4096, -4096),
+    ],
+    // A goes left at full volume by timer 0, and B right at half volume by timer 1. The pair has the bytes that were taken
+    // in its cycle.
+    &[
+        Store(0x084, Half, 0x0080),
+        Store(0x082, Half, 0x5204),
+        Store(0x0A0, Word, 0x0000_0010),
+        Store(0x0A4, Word, 0x0000_0021),
+        Store(0x104, Word, 0x0080_FE00),
+        Store(0x100, Word, 0x0080_FE00),
+        Advance(511),
+        Queue(0, 4, 0x00),
+        Queue(1, 4, 0x00),
+        Advance(1),
+        Queue(0, 3, 0x10),
+        Queue(1, 3, 0x21),
+        Pair(1, 1024, 1056),
+    ],
+    // While the sound is off the queues take bytes, and the samples are 0.
+    &[
+        Store(0x082, Half, 0x0304),
+        Store(0x0A0, Word, 0x0302_0140),
+        Store(0x100, Word, 0x0080_FFFF),
+        Advance(1),
+        Queue(0, 3, 0x40),
+        Advance(511),
+        Queue(0, 0, 0x03),
+        Pair(1, 0, 0),
+    ],
+    // A word fits where 28 bytes are held and not where 29 are; narrower writes are dropped, and nothing reads.
+    &[
+        Store(0x0A0, Word, 0x0403_0201),
+        Store(0x0A0, Word, 0x0403_0201),
+        Store(0x0A0, Word, 0x0403_0201),
+        Store(0x0A0, Word, 0x0403_0201),
+        Store(0x0A0, Word, 0x0403_0201),
+        Store(0x0A0, Word, 0x0403_0201),
+        Store(0x0A0, Word, 0x0403_0201),
+        Queue(0, 28, 0),
+        Store(0x0A0, Half, 0x1111),
+        Store(0x0A2, Half, 0x1111),
+        Store(0x0A0, Byte, 0x11),
+        Queue(0, 28, 0),
+        Store(0x0A0, Word, 0x0403_0201),
+        Queue(0, 32, 0),
+        Store(0x0A0, Word, 0x0807_0605),
+        Queue(0, 32, 0),
+        Load(0x0A0, Word, 0),
+        Store(0x100, Word, 0x0080_FFFF),
+        Advance(3),
+        Queue(0, 29, 3),
+        Store(0x0A0, Word, 0x0807_0605),
+        Queue(0, 29, 3),
+        Advance(1),
+        Store(0x0A0, Word, 0x0807_0605),
+        Queue(0, 32, 4),
+        Queue(1, 0, 0),
+    ],
+    // An empty queue keeps its current byte, and the bits 11 and 15 of SOUNDCNT_H empty A and B.
+    &[
+        Store(0x0A0, Word, 0x0403_0201),
+        Store(0x0A4, Word, 0x0807_0605),
+        Store(0x100, Word, 0x0080_FFFF),
+        Advance(9),
+        Queue(0, 0, 4),
+        Queue(1, 0, 8),
+        Store(0x0A0, Word, 0x0403_0201),
+        Store(0x0A4, Word, 0x0807_0605),
+        Store(0x082, Half, 0x8000),
+        Queue(0, 4, 4),
+        Queue(1, 0, 0),
+        Store(0x083, Byte, 0x08),
+        Queue(0, 0, 0),
+        Load(0x082, Half, 0x0000),
+    ],
+    // A queue asks DMA1 for four words, whatever the count says, in the cycle of the overflow.
+    &[
+        Store(0x0BC, Word, 0x0200_0000),
+        Store(0x0C0, Word, 0x0400_00A0),
+        Store(0x0C4, Word, 0xB200_0001),
+        Unit(None),
+        Store(0x100, Word, 0x0080_FFF6),
+        Advance(9),
+        Unit(None),
+        Calm(true),
+        Advance(1),
+        Calm(false),
+        Left(1, 4),
+        Unit(Some(9)),
+        Unit(Some(7)),
+        Unit(Some(7)),
+        Unit(Some(7)),
+        Unit(None),
+        Calm(true),
+        Queue(0, 16, 0),
+        Kept(0x0C6, 0xB200),
+        Advance(10),
+        Queue(0, 15, 0),
+        Unit(Some(9)),
+    ],
+    // Words from the work RAM to the inner RAM: 6 + 1 + 2 cycles, and 6 + 1.
+    &[
+        Store(0x0D4, Word, 0x0200_0000),
+        Store(0x0D8, Word, 0x0300_0000),
+        Store(0x0DC, Word, 0xC400_0003),
+        Unit(Some(9)),
+        Kept(0x202, 0x0000),
+        Unit(Some(7)),
+        Unit(Some(7)),
+        Kept(0x202, 0x0800),
+        Kept(0x0DE, 0x4400),
+        Unit(None),
+    ],
+    // A channel whose own write stops it: one unit, and no interrupt.
+    &[
+        Store(0x0D4, Word, 0x0200_0000),
+        Store(0x0D8, Word, 0x0400_00DE),
+        Store(0x0DC, Word, 0xC040_0004),
+        Unit(Some(6)),
+        Unit(None),
+        Kept(0x202, 0x0000),
+        Kept(0x0DE, 0x0000),
+    ],
+    // DMA0 starts DMA3 with its first unit, and ends its run before DMA3's first. A word at 06000000h stands there first.
+    &[
+        Store(0x0200_0000, Half, 0x8000),
+        Store(0x0D4, Word, 0x0200_0000),
+        Store(0x0D8, Word, 0x0300_0000),
+        Store(0x0DC, Half, 0x0002),
+        Store(0x0B0, Word, 0x0600_0000),
+        Store(0x0B4, Word, 0x0400_00DE),
+        Store(0x0B8, Word, 0xC140_0002),
+        Unit(Some(4)),
+        Left(0, 1),
+        Left(3, 2),
+        Unit(Some(2)),
+        Kept(0x202, 0x0100),
+        Unit(Some(6)),
+        Unit(Some(4)),
+        Unit(None),
+    ],
 ];
 
 #[test]
@@ -253,12 +457,30 @@ fn registers_keep_their_table(rt: HostRuntime) -> Result<(), Fail> {
     Ok(())
 }
 
+/// A DMA unit reads 0 in the BIOS, which begins with another word.
+#[test]
+fn a_unit_reads_no_bios(rt: HostRuntime) -> Result<(), Fail> {
+    let mut board = board_of(rt.alloc())?;
+    board.core.store(0x0300_0000, Word, 0xFFFF_FFFF, false);
+    assert_eq!(rt; board.core.load(0, 0, Word, false), (0x1234_5678, 1));
+    for one in [
+        Store(0x0D4, Word, 0x0000_0000),
+        Store(0x0D8, Word, 0x0300_0000),
+        Store(0x0DC, Word, 0x8400_0001),
+        Unit(Some(4)),
+    ] {
+        play(&rt, &mut board, one);
+    }
+    assert_eq!(rt; board.core.load(0, 0x0300_0000, Word, false), (0, 1));
+    Ok(())
+}
+
 /// Memories have their sizes, and what stands in none of them reads 0.
 #[test]
 fn memories_have_their_names(rt: HostRuntime) -> Result<(), Fail> {
     let mut board = board_of(rt.alloc())?;
-    board.store(0x0300_0002, Byte, 0x5A, false);
-    board.store(0x0200_0000, Word, 0x1234_5678, false);
+    board.core.store(0x0300_0002, Byte, 0x5A, false);
+    board.core.store(0x0200_0000, Word, 0x1234_5678, false);
     for (name, length, first) in [
         (MemoryName::Io, 0, 0),
         (MemoryName::Wram, 0x4_0000, 0x78),
@@ -268,14 +490,17 @@ fn memories_have_their_names(rt: HostRuntime) -> Result<(), Fail> {
         (MemoryName::Oam, 0x400, 0),
         (MemoryName::Backup, 0x8000, 0xFF),
     ] {
-        let bytes = board.memory(name);
+        let bytes = board.core.memory(name);
         assert_eq!(rt; bytes.len(), length);
         if let Some(byte) = bytes.first() {
             assert_eq!(rt; *byte, first);
         }
     }
-    assert_eq!(rt; board.load(0, 0x0300_0000, Word, false), (0x005A_0000, 1));
-    assert_eq!(rt; board.load(0, 0x0400_0400, Word, false), (0, 1));
-    assert_eq!(rt; board.code(0x0400_0130, Half), 0x03FF);
+    assert_eq!(rt;
+        board.core.load(0, 0x0300_0000, Word, false),
+        (0x005A_0000, 1)
+    );
+    assert_eq!(rt; board.core.load(0, 0x0400_0400, Word, false), (0, 1));
+    assert_eq!(rt; board.core.code(0x0400_0130, Half), 0x03FF);
     Ok(())
 }

@@ -2,7 +2,7 @@
 
 use gba_console::{Console, KeyState};
 use gba_image::{Bios, Cartridge, ConsoleImages};
-use gba_io::MemoryName;
+use gba_io::{MemoryName, Room};
 use std::alloc::Global;
 use std::process::Abort;
 use std::test::Fail;
@@ -19,6 +19,12 @@ pub(crate) fn bios_of(alloc: Global, words: &[u32]) -> Result<Bios, Fail> {
     Ok(Bios::check(bios).map_err(|_| "no BIOS")?)
 }
 
+/// Room for a million cycles, where the samples are kept.
+pub(crate) const ROOM: Room = Room {
+    until: 1_000_000,
+    samples: true,
+};
+
 /// A console whose BIOS begins with these words, without a cartridge.
 fn console_of(alloc: Global, words: &[u32]) -> Result<Console, Fail> {
     let images = ConsoleImages {
@@ -26,7 +32,7 @@ fn console_of(alloc: Global, words: &[u32]) -> Result<Console, Fail> {
         cart: None,
         save: None,
     };
-    Ok(Console::new(alloc, images, Vec::new(alloc))?)
+    Ok(Console::new(alloc, images, Vec::new(alloc), ROOM)?)
 }
 
 /// The same, whose keys change.
@@ -36,7 +42,7 @@ fn console_with_keys(alloc: Global, words: &[u32], keys: &[KeyState]) -> Result<
         cart: None,
         save: None,
     };
-    Ok(Console::new(alloc, images, Vec::from_slice(alloc, keys)?)?)
+    Ok(Console::new(alloc, images, Vec::from_slice(alloc, keys)?, ROOM)?)
 }
 
 /// A cartridge with these words from C0h up, and 0 elsewhere but in its header.
@@ -62,16 +68,22 @@ fn console_with(alloc: Global, words: &[u32], cart: &[u32]) -> Result<Console, F
         cart: Some(cartridge_of(alloc, cart)?),
         save: None,
     };
-    Ok(Console::new(alloc, images, Vec::new(alloc))?)
+    Ok(Console::new(alloc, images, Vec::new(alloc), ROOM)?)
 }
 
 /// Makes steps, and asserts the clock after them.
 fn steps<R: Abort>(rt: &R, console: &mut Console, count: usize, clock: u64) {
     for _ in 0..count {
-        assert!(rt; console.clock() < 1_000_000);
+        assert!(rt; console.clock() < console.until());
         console.step();
     }
     assert_eq!(rt; console.clock(), clock);
+}
+
+/// Makes steps up to a clock.
+fn run<R: Abort>(rt: &R, console: &mut Console, until: u64) {
+    assert!(rt; until <= console.until());
+    console.run_to(until);
 }
 
 /// BL to 8, where BEQ isn't executed, and then B to 4000h, where no memory is: words 0 there, ANDEQ r0, r0, r0, are not
@@ -235,7 +247,7 @@ fn code_in_the_inner_ram(rt: HostRuntime) -> Result<(), Fail> {
     assert_eq!(rt; registers[0], 0);
     assert_eq!(rt; registers[5], 0x12);
     assert_eq!(rt; registers[15], 0x0300_0010);
-    let inner = console.board().memory(MemoryName::Iwram);
+    let inner = console.board().core.memory(MemoryName::Iwram);
     assert_eq!(rt; inner.len(), 0x8000);
     assert_eq!(rt; inner[8], 0x02);
     assert_eq!(rt; inner[11], 0xE3);
@@ -312,7 +324,7 @@ fn the_memory_map_has_its_prices(rt: HostRuntime) -> Result<(), Fail> {
     assert_eq!(rt; registers[10], 0x4433_2211);
     // r13 of the supervisor.
     assert_eq!(rt; registers[25], 0x5A5A_5A5A);
-    assert_eq!(rt; console.board().memory(MemoryName::Backup)[0], 0x5A);
+    assert_eq!(rt; console.board().core.memory(MemoryName::Backup)[0], 0x5A);
     Ok(())
 }
 
@@ -439,9 +451,9 @@ fn keys_change_in_their_order(rt: HostRuntime) -> Result<(), Fail> {
     ];
     let mut console = console_with_keys(rt.alloc(), &[0xEAFF_FFFE], &changes)?;
     for (clock, half) in [(3, 0x3FE), (6, 0x3FE), (9, 0x3FB), (90, 0x3FB), (93, 0x3F7)] {
-        console.run_to(clock);
+        run(&rt, &mut console, clock);
         assert_eq!(rt; console.clock(), clock);
-        assert_eq!(rt; console.board().io_half(0x130), half);
+        assert_eq!(rt; console.board().core.io_half(0x130), half);
     }
     Ok(())
 }
@@ -477,12 +489,95 @@ fn a_halt_ends(rt: HostRuntime) -> Result<(), Fail> {
         ];
         let mut console = console_of(rt.alloc(), &words)?;
         steps(&rt, &mut console, 15, 20);
-        assert!(rt; console.board().halted());
+        assert!(rt; console.board().core.halted());
         steps(&rt, &mut console, 2, 52);
         steps(&rt, &mut console, 1, clock);
-        assert!(rt; !console.board().halted());
+        assert!(rt; !console.board().core.halted());
         assert_eq!(rt; console.all()[15], at);
         assert_eq!(rt; console.all()[0], zero);
     }
+    Ok(())
+}
+
+/// DMA3 moves 65,536 words, which a count of 0 stands for, from the work RAM to the inner RAM: each is a step, the first
+/// of 6 + 1 + 2 cycles and the others of 6 + 1.
+#[test]
+fn a_count_of_0_moves_65536_units(rt: HostRuntime) -> Result<(), Fail> {
+    let words = [
+        0xE3A0_0301, // 00 MOV r0, #04000000h
+        0xE280_00D4, // 04 ADD r0, r0, #D4h
+        0xE3A0_1402, // 08 MOV r1, #02000000h
+        0xE3A0_2403, // 0C MOV r2, #03000000h
+        0xE3A0_3321, // 10 MOV r3, #84000000h: enabled, 32 bits, at once, count 0
+        0xE580_1000, // 14 STR r1, [r0]
+        0xE580_2004, // 18 STR r2, [r0, #4]
+        0xE580_3008, // 1C STR r3, [r0, #8]
+        0xEAFF_FFFE, // 20 B to itself
+    ];
+    let mut console = console_of(rt.alloc(), &words)?;
+    steps(&rt, &mut console, 8, 11);
+    steps(&rt, &mut console, 1, 20);
+    steps(&rt, &mut console, 1, 27);
+    steps(&rt, &mut console, 65_534, 27 + 65_534 * 7);
+    assert!(rt; !console.board().core.channel(3).active);
+    assert_eq!(rt; console.board().core.io_half(0xDE), 0x0400);
+    assert_eq!(rt; console.all()[15], 0x20);
+    steps(&rt, &mut console, 1, 27 + 65_534 * 7 + 3);
+    Ok(())
+}
+
+/// DMA3 writes byte 301h twice, so that its second unit is done in the halt, though an interrupt is pending: the step
+/// after it goes on.
+#[test]
+fn a_unit_wakes_nothing(rt: HostRuntime) -> Result<(), Fail> {
+    let words = [
+        0xE3A0_0301, // 00 MOV r0, #04000000h
+        0xE280_1C02, // 04 ADD r1, r0, #200h
+        0xE3A0_2008, // 08 MOV r2, #8
+        0xE1C1_20B0, // 0C STRH r2, [r1]: IE, timer 0
+        0xE280_3C01, // 10 ADD r3, r0, #100h
+        0xE3A0_48C0, // 14 MOV r4, #C00000h
+        0xE284_4CFF, // 18 ADD r4, r4, #FF00h
+        0xE284_40FF, // 1C ADD r4, r4, #FFh
+        0xE583_4000, // 20 STR r4, [r3]: timer 0 overflows in each cycle
+        0xE3A0_5402, // 24 MOV r5, #02000000h
+        0xE580_50D4, // 28 STR r5, [r0, #D4h]
+        0xE280_6C03, // 2C ADD r6, r0, #300h
+        0xE580_60D8, // 30 STR r6, [r0, #D8h]
+        0xE3A0_7102, // 34 MOV r7, #80000000h
+        0xE287_7840, // 38 ADD r7, r7, #400000h: the destination stays
+        0xE287_7002, // 3C ADD r7, r7, #2: two halfwords
+        0xE580_70DC, // 40 STR r7, [r0, #DCh]
+        0xE288_8001, // 44 ADD r8, r8, #1
+        0xEAFF_FFFE, // 48 B to itself
+    ];
+    let mut console = console_of(rt.alloc(), &words)?;
+    steps(&rt, &mut console, 17, 22);
+    // 3 + 1 + 2 cycles, and 3 + 1.
+    steps(&rt, &mut console, 1, 28);
+    assert!(rt; console.board().core.halted());
+    assert!(rt; console.board().core.pending());
+    steps(&rt, &mut console, 1, 32);
+    assert!(rt; console.board().core.halted());
+    assert_eq!(rt; console.all()[15], 0x44);
+    steps(&rt, &mut console, 1, 33);
+    assert!(rt; !console.board().core.halted());
+    assert_eq!(rt; console.all()[8], 1);
+    Ok(())
+}
+
+/// A branch to itself for 1,024 cycles: two pairs, at 512 and at 1,024, and the sound is off.
+#[test]
+fn pairs_go_with_the_clock(rt: HostRuntime) -> Result<(), Fail> {
+    let mut console = console_of(rt.alloc(), &[0xEAFF_FFFE])?;
+    for (until, clock, pairs) in [(511, 513, 1), (1023, 1023, 1), (1024, 1026, 2)] {
+        run(&rt, &mut console, until);
+        assert_eq!(rt; console.clock(), clock);
+        assert_eq!(rt; console.counts().samples, pairs);
+    }
+    assert_eq!(rt; console.samples(), [0; 8].as_slice());
+    assert_eq!(rt; console.take_samples(rt.alloc()).len(), 8);
+    assert_eq!(rt; console.samples().len(), 0);
+    assert_eq!(rt; console.counts().samples, 2);
     Ok(())
 }

@@ -5,7 +5,11 @@ use Rattle.gba_terms.specs.RegisterNames.{register_names}
 use Rattle.gba_console.specs.Machine.{Machine, clock_of}
 use Rattle.gba_devices.specs.Registers.{half_stored}
 use Rattle.gba_devices.specs.State.{Devices}
-use Rattle.gba_io.specs.Board.{Board}
+use Rattle.gba_dma.specs.Channels.{channel_at}
+use Rattle.gba_dma.specs.declared.channel.Channel.{Channel}
+use Rattle.gba_io.specs.Core.{Core}
+use Rattle.gba_sound.specs.Queue.{SoundQueue}
+use Rattle.gba_sound.specs.Queues.{queue_at}
 use Rattle.gba_timer.specs.Timers.{timer_at}
 use Rattle.gba_timer.specs.declared.timer.Timer.{Timer}
 
@@ -41,10 +45,37 @@ timer_lines d =
     timer_line 0 (timer_at 0 d.timers) ++ timer_line 1 (timer_at 1 d.timers) ++ timer_line 2 (timer_at 2 d.timers)
     ++ timer_line 3 (timer_at 3 d.timers)
 
+-- the line of a DMA channel: its number, whether a run goes on, whether the run's first unit is still to come, the inner
+-- source, the inner destination, and the units that are left
+abbrev pub channel_numbers : Channel → List ℕ
+channel_numbers c =
+    (codes " " ++ truth c.active) ++ (codes " " ++ truth c.first) ++ (codes " " ++ decimal c.inner_source)
+    ++ (codes " " ++ decimal c.inner_target) ++ (codes " " ++ decimal c.left)
+
+abbrev pub channel_line : ℕ → Channel → List ℕ
+channel_line number c = codes "dma " ++ decimal number ++ channel_numbers c ++ codes "\n"
+
+abbrev pub channel_lines : Devices → List ℕ
+channel_lines d =
+    channel_line 0 (channel_at 0 d.channels) ++ channel_line 1 (channel_at 1 d.channels)
+    ++ channel_line 2 (channel_at 2 d.channels) ++ channel_line 3 (channel_at 3 d.channels)
+
 -- bytes as two digits each
 abbrev pub hex_bytes : List ℕ → List ℕ
 hex_bytes [] = []
 hex_bytes (byte ∷ bytes) = hex 2 byte ++ hex_bytes bytes
+
+-- the line of a sound queue: its letter, its current byte, how many bytes it holds, and these, oldest first, or a dash
+abbrev pub queue_bytes : List ℕ → List ℕ
+queue_bytes bytes = if length bytes == 0 then codes "-" else hex_bytes bytes
+
+unfoldable pub queue_line : List ℕ → SoundQueue → List ℕ
+queue_line name q =
+    codes "queue " ++ name ++ codes " " ++ hex 2 q.current ++ codes " " ++ decimal (length q.bytes) ++ codes " "
+    ++ queue_bytes q.bytes ++ codes "\n"
+
+abbrev pub queue_lines : Devices → List ℕ
+queue_lines d = queue_line (codes "A") (queue_at 0 d.sound) ++ queue_line (codes "B") (queue_at 1 d.sound)
 
 -- the line of 32 bytes of a memory: its name, their offset as six digits, and the bytes
 abbrev pub memory_place : List ℕ → ℕ → List ℕ
@@ -75,7 +106,7 @@ io_bytes (suc halves) d =
     io_bytes halves d ++ (half_stored (2 * halves) d % 256 ∷ half_stored (2 * halves) d / 256 ∷ [])
 
 -- the lines of the memories that a state file has, the I/O registers first
-abbrev pub lines_of_memories : Board → List ℕ
+abbrev pub lines_of_memories : Core → List ℕ
 lines_of_memories b =
     lines_of (codes "io") (io_bytes 512 b.devices)
     ++ lines_of (codes "wram") b.memory.work ++ lines_of (codes "iwram") b.memory.inner
@@ -85,13 +116,20 @@ lines_of_memories b =
 -- the state file of the console with the number 0
 abbrev pub state_file : Machine → List ℕ
 state_file m =
-    heading (clock_of m) m.board.devices.halted ++ register_lines register_names m.registers
-    ++ timer_lines m.board.devices ++ lines_of_memories m.board
+    heading (clock_of m) m.board.core.devices.halted ++ register_lines register_names m.registers
+    ++ timer_lines m.board.core.devices ++ channel_lines m.board.core.devices ++ queue_lines m.board.core.devices
+    ++ lines_of_memories m.board.core
 
 -- its save: the bytes of the SRAM
 abbrev pub save_file : Machine → List ℕ
-save_file m = m.board.memory.sram
+save_file m = m.board.core.memory.sram
 
--- the summary of a run of one console
+-- its samples: the pairs that it kept
+abbrev pub samples_file : Machine → List ℕ
+samples_file m = m.board.made.samples
+
+-- the summary of a run of one console: its clock, and how much it made, whether it kept it or not
 abbrev pub summary : Machine → List ℕ
-summary m = codes "console 0 clock " ++ decimal (clock_of m) ++ codes " frames 0 samples 0 words 0\n"
+summary m =
+    codes "console 0 clock " ++ decimal (clock_of m) ++ codes " frames 0 samples " ++ decimal m.board.made.pairs
+    ++ codes " words 0\n"

@@ -4,19 +4,19 @@ ghost use Rattle.std.specs.Prelude.{◌≡◌, ◌+◌, ◌*◌, ◌/◌, ◌%�
 ghost use Rattle.std.specs.List.{list_all};
 ghost use Rattle.gba_terms.specs.RegisterNames.{register_names};
 ghost use Rattle.arrayvec.specs.ArrayVec.{array_vec_len};
-ghost use Rattle.gba_output.specs.StateFile.{heading, hex_bytes, io_bytes as io_bytes_of, lines_of, lines_of_memories, memory_line, memory_place, memory_row, register_line, register_lines, save_file, state_file, summary as summary_of, timer_line, timer_lines, timer_numbers, truth as truth_of};
+ghost use Rattle.gba_output.specs.StateFile.{heading, hex_bytes, io_bytes as io_bytes_of, lines_of, lines_of_memories, memory_line, memory_place, memory_row, register_line, register_lines, save_file, state_file, summary as summary_of, truth as truth_of};
 
+use crate::devices::{add_channel_lines, add_queue_lines, add_timer_lines};
 use arrayvec::ArrayVec;
 use gba_command::hexadecimal::{hex_byte, hex_offset, hex_word};
 use gba_command::{Line, add_text};
 use gba_console::Console;
-use gba_io::{Board, MemoryName};
-use gba_timer::Timer;
+use gba_io::{Core, MemoryName};
 use itoa::Buffer;
 
 /// The room of a state file in bytes: its heading has at most 96, each of the 37 registers at most 18, each timer at most
-/// 36, and each of the 12,384 lines of registers and memory 84.
-pub const STATE_ROOM: usize = 1_041_162;
+/// 36, each DMA channel at most 45, each queue at most 80, and each of the 12,384 lines of registers and memory 84.
+pub const STATE_ROOM: usize = 1_041_502;
 
 /// The bytes of a save.
 pub const SAVE_ROOM: usize = 32_768;
@@ -28,7 +28,7 @@ const IO_HALVES: u32 = 512;
 const ROW: usize = 32;
 
 /// Adds bytes where there is room for them.
-fn add(into: &mut Vec<u8>, bytes: &[u8])
+pub(crate) fn add(into: &mut Vec<u8>, bytes: &[u8])
     requires { vec_len into.old + length bytes.now ≤ vec_capacity into.old }
     ensures items { into.new.items ≡ into.old.items ++ bytes.now }
     ensures len { vec_len into.new ≡ vec_len into.old + length bytes.now }
@@ -113,7 +113,7 @@ fn add_register_lines(into: &mut Vec<u8>, registers: &[u32; 37])
 }
 
 /// A truth as a digit.
-fn truth(set: bool) -> &'static [u8]
+pub(crate) fn truth(set: bool) -> &'static [u8]
     ensures value { result.now ≡ truth_of set }
     ensures short { length result.now ≡ 1 }
 {
@@ -135,61 +135,8 @@ fn add_heading(into: &mut Vec<u8>, clock: u64, halted: bool)
     add(into, b"\n");
 }
 
-/// Adds a blank and a number.
-fn add_number(into: &mut Vec<u8>, number: u16)
-    requires { vec_len into.old + 6 ≤ vec_capacity into.old }
-    ensures items { into.new.items ≡ into.old.items ++ (codes " " ++ decimal number) }
-    ensures len { vec_len into.new ≤ vec_len into.old + 6 }
-    ensures room { vec_capacity into.old ≤ vec_capacity into.new }
-{
-    let mut buffer = Buffer::new();
-    add(into, b" ");
-    add(into, buffer.format(number).as_bytes());
-}
-
-/// Adds the numbers of a timer.
-fn add_timer_numbers(into: &mut Vec<u8>, timer: &Timer)
-    requires { vec_len into.old + 24 ≤ vec_capacity into.old }
-    ensures items { into.new.items ≡ into.old.items ++ timer_numbers timer.now }
-    ensures len { vec_len into.new ≤ vec_len into.old + 24 }
-    ensures room { vec_capacity into.old ≤ vec_capacity into.new }
-{
-    add_number(into, timer.counter);
-    add_number(into, timer.reload);
-    add_number(into, timer.control);
-    add_number(into, timer.phase);
-}
-
-/// Adds the line of a timer, whose number is below 4.
-fn add_timer_line(into: &mut Vec<u8>, number: u8, timer: &Timer)
-    requires number { number < 4 }
-    requires room { vec_len into.old + 36 ≤ vec_capacity into.old }
-    ensures items { into.new.items ≡ into.old.items ++ timer_line number timer.now }
-    ensures len { vec_len into.new ≤ vec_len into.old + 36 }
-    ensures room { vec_capacity into.old ≤ vec_capacity into.new }
-{
-    let mut buffer = Buffer::new();
-    add(into, b"timer ");
-    add(into, buffer.format(number).as_bytes());
-    add_timer_numbers(into, timer);
-    add(into, b"\n");
-}
-
-/// Adds the lines of the four timers.
-fn add_timer_lines(into: &mut Vec<u8>, board: &Board)
-    requires { vec_len into.old + 144 ≤ vec_capacity into.old }
-    ensures items { into.new.items ≡ into.old.items ++ timer_lines board.now.devices }
-    ensures len { vec_len into.new ≤ vec_len into.old + 144 }
-    ensures room { vec_capacity into.old ≤ vec_capacity into.new }
-{
-    add_timer_line(into, 0, &board.timer(0));
-    add_timer_line(into, 1, &board.timer(1));
-    add_timer_line(into, 2, &board.timer(2));
-    add_timer_line(into, 3, &board.timer(3));
-}
-
 /// Adds bytes as two digits each.
-fn add_hex_bytes(into: &mut Vec<u8>, bytes: &[u8])
+pub(crate) fn add_hex_bytes(into: &mut Vec<u8>, bytes: &[u8])
     requires { vec_len into.old + 2 * length bytes.now ≤ vec_capacity into.old }
     ensures items { into.new.items ≡ into.old.items ++ hex_bytes bytes.now }
     ensures len { vec_len into.new ≡ vec_len into.old + 2 * length bytes.now }
@@ -277,52 +224,54 @@ fn add_half(bytes: &mut ArrayVec<u8, 1024>, half: u16)
 }
 
 /// The bytes of the I/O registers.
-fn io_bytes(board: &Board) -> ArrayVec<u8, 1024>
-    ensures items { result.items ≡ io_bytes_of 512 board.now.devices }
+fn io_bytes(core: &Core) -> ArrayVec<u8, 1024>
+    ensures items { result.items ≡ io_bytes_of 512 core.now.devices }
     ensures len { array_vec_len result ≡ 1024 }
 {
     let mut bytes = ArrayVec::new();
     for half in 0..IO_HALVES {
-        add_half(&mut bytes, board.io_half(2 * half));
+        add_half(&mut bytes, core.io_half(2 * half));
     }
     bytes
 }
 
 /// Adds the lines of the I/O registers.
-fn add_io_lines(into: &mut Vec<u8>, board: &Board)
+fn add_io_lines(into: &mut Vec<u8>, core: &Core)
     requires { vec_len into.old + 2688 ≤ vec_capacity into.old }
-    ensures items { into.new.items ≡ into.old.items ++ lines_of (codes "io") (io_bytes_of 512 board.now.devices) }
+    ensures items { into.new.items ≡ into.old.items ++ lines_of (codes "io") (io_bytes_of 512 core.now.devices) }
     ensures len { vec_len into.new ≤ vec_len into.old + 2688 }
     ensures room { vec_capacity into.old ≤ vec_capacity into.new }
 {
-    let bytes = io_bytes(board);
+    let bytes = io_bytes(core);
     add_memory_lines(into, b"io", bytes.as_slice());
 }
 
 /// Adds the lines of the memories.
-fn add_memories(into: &mut Vec<u8>, board: &Board)
+fn add_memories(into: &mut Vec<u8>, core: &Core)
     requires { vec_len into.old + 1040256 ≤ vec_capacity into.old }
-    ensures { into.new.items ≡ into.old.items ++ lines_of_memories board.now }
+    ensures { into.new.items ≡ into.old.items ++ lines_of_memories core.now }
 {
-    add_io_lines(into, board);
-    add_memory_lines(into, b"wram", board.memory(MemoryName::Wram));
-    add_memory_lines(into, b"iwram", board.memory(MemoryName::Iwram));
-    add_memory_lines(into, b"palette", board.memory(MemoryName::Palette));
-    add_memory_lines(into, b"vram", board.memory(MemoryName::Vram));
-    add_memory_lines(into, b"oam", board.memory(MemoryName::Oam));
+    add_io_lines(into, core);
+    add_memory_lines(into, b"wram", core.memory(MemoryName::Wram));
+    add_memory_lines(into, b"iwram", core.memory(MemoryName::Iwram));
+    add_memory_lines(into, b"palette", core.memory(MemoryName::Palette));
+    add_memory_lines(into, b"vram", core.memory(MemoryName::Vram));
+    add_memory_lines(into, b"oam", core.memory(MemoryName::Oam));
 }
 
-/// Writes the state file of a console into an empty buffer with room for it: 1,041,162 bytes are enough for any.
+/// Writes the state file of a console into an empty buffer with room for it: 1,041,502 bytes are enough for any.
 pub fn write_state(into: &mut Vec<u8>, console: &Console)
     requires empty { into.old.items ≡ [] }
-    requires room { 1041162 ≤ vec_capacity into.old }
+    requires room { 1041502 ≤ vec_capacity into.old }
     ensures { into.new.items ≡ state_file console.now }
 {
-    let board = console.board();
-    add_heading(into, console.clock(), board.halted());
+    let core = &console.board().core;
+    add_heading(into, console.clock(), core.halted());
     add_register_lines(into, &console.all());
-    add_timer_lines(into, board);
-    add_memories(into, board);
+    add_timer_lines(into, core);
+    add_channel_lines(into, core);
+    add_queue_lines(into, core);
+    add_memories(into, core);
 }
 
 /// Writes the save of a console, its 32,768 bytes of SRAM, into an empty buffer with room for it.
@@ -331,7 +280,7 @@ pub fn write_save(into: &mut Vec<u8>, console: &Console)
     requires room { 32768 ≤ vec_capacity into.old }
     ensures { into.new.items ≡ save_file console.now }
 {
-    add(into, console.board().memory(MemoryName::Backup));
+    add(into, console.board().core.memory(MemoryName::Backup));
 }
 
 /// The summary of a run.
@@ -342,6 +291,11 @@ pub fn summary(console: &Console) -> Line
     let mut line = Line::new();
     add_text(&mut line, b"console 0 clock ");
     add_text(&mut line, buffer.format(console.clock()).as_bytes());
-    add_text(&mut line, b" frames 0 samples 0 words 0\n");
+    add_text(&mut line, b" frames 0 samples ");
+    add_text(
+        &mut line,
+        buffer.format(console.counts().samples).as_bytes(),
+    );
+    add_text(&mut line, b" words 0\n");
     line
 }

@@ -2,13 +2,30 @@ use Rattle.std.proofs.Common.{◌∙◌, sym, arith}
 use Rattle.gba_console.proofs.Rises.{run-done, run-step}
 use Rattle.gba_console.proofs.Console.run_to.Goals as goal
 
+pub run_plainly-requires : goal.run_plainly-requires
+run_plainly-requires c = omega (arith, c.requires, c.loop-self.invariant.1)
+
+pub step-requires : goal.step-requires
+step-requires c =
+    omega (
+      arith,
+      c.requires,
+      c.loop-self.invariant.1,
+      c.run_plainly.ensures.until,
+      c.clock-in-loop-self.ensures,
+      c.if-clock-until.true,
+    )
+
 pub loop-self-preserved-then-clock-until : goal.loop-self-preserved-then-clock-until
 loop-self-preserved-then-clock-until c =
-    run-step c.enough.ensures c.args.until c.run_plainly.new.self c.step.new.self
-    (omega (arith, c.clock-in-loop-self.ensures, c.if-clock-until.true)) c.step.ensures.raised c.step.ensures.step
-    ∙ c.run_plainly.ensures.same_end ∙ c.loop-self.invariant
+    let step = c.step.ensures in (
+      run-step c.enough.ensures c.args.until c.run_plainly.new.self c.step.new.self
+          (omega (arith, c.clock-in-loop-self.ensures, c.if-clock-until.true)) step.raised step.step
+          ∙ c.run_plainly.ensures.same_end ∙ c.loop-self.invariant.0,
+      step.until ∙ c.run_plainly.ensures.until ∙ c.loop-self.invariant.1,
+    )
 
-pub returns : goal.returns
-returns c =
+pub returns-clause-run : goal.returns-clause-run
+returns-clause-run c =
     sym (run-done c.args.until c.loop-self.self (omega (arith, c.clock.ensures, c.loop-self-test.false)))
-    ∙ c.loop-self.invariant
+    ∙ c.loop-self.invariant.0

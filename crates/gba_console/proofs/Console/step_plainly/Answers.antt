@@ -1,7 +1,6 @@
-use Rattle.std.proofs.Common.{◌∙◌, sym, ap, arith}
+use Rattle.std.proofs.Common.{◌∙◌, sym, arith}
 use Rattle.std.specs.Prelude.{drop}
-use Rattle.gba_io.specs.Board.{Board}
-use Rattle.gba_console.specs.Machine.{Machine, clock_of}
+use Rattle.gba_console.specs.Machine.{Machine}
 use Rattle.gba_console.specs.Step.{instruction_done}
 use Rattle.gba_console.proofs.Calm.{plain-next, put-together}
 use Rattle.gba_console.proofs.Console.step_plainly.Goals as goal
@@ -14,26 +13,15 @@ returns-clause-step c =
       board = inside.board;
       keys = drop inside.applied inside.keys.items;
     } in
-    let done = instruction_done inside.registers inside.board in
+    let done = instruction_done inside.registers inside.board.core in
     rw (← c.self.view_is)
-    (put-together done c.execute-cycles.new.registers c.execute-cycles.new.board c.advance.new.self c.execute-cycles.result
-    m c.execute-cycles.ensures.registers_left c.execute-cycles.ensures.bus_left c.execute-cycles.ensures.cycles_taken
-    c.advance.ensures
+    (put-together done c.execute-cycles.new.registers c.execute-cycles.new.core c.advance.new.self
+    c.execute-cycles.result m c.execute-cycles.ensures.registers_left c.execute-cycles.ensures.bus_left
+    c.execute-cycles.ensures.cycles_taken c.advance.ensures
     ∙ sym (plain-next c.calm_has_begun.ensures m (rw (← c.self.view_is) at c.requires.calm)
     (rw (← c.self.view_is) at c.requires.early)))
 
-pub returns-clause-clock : goal.returns-clause-clock
-returns-clause-clock c =
-    let inside = c.self.inside in
-    let clock = λ (b : Board). b.devices.clock in
-    let acts = (c.acts_pass.ensures.instructions inside.registers inside.board).clock in
-    let passed = (c.cycles_pass.ensures c.execute-cycles.result c.execute-cycles.new.board.devices).clock in
-    let moved = ap clock c.advance.ensures in
-    let done = ap clock c.execute-cycles.ensures.bus_left in
-    let start = ap clock_of c.self.view_is in
-    omega (arith, moved, passed, done, acts, start)
-
 pub returns-clause-some : goal.returns-clause-some
 returns-clause-some c =
-    let acts = (c.acts_pass.ensures.instructions c.self.inside.registers c.self.inside.board).length.least in
+    let acts = (c.acts_pass.ensures.instructions c.self.inside.registers c.self.inside.board.core).length.least in
     omega (arith, c.execute-cycles.ensures.cycles_taken, acts)

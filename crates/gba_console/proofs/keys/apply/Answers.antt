@@ -2,9 +2,9 @@ use Rattle.std.proofs.Common.{◌≤◌, ◌∙◌, arith}
 use Rattle.gba_console.proofs.Keying.{change_at, due-at, due-left-at, early-at, left-at, none-at, none-left-at}
 use Rattle.gba_console.proofs.keys.apply.Goals as goal
 
-pub returns-then-change-clock-clause-board : goal.returns-then-change-clock-clause-board
-returns-then-change-clock-clause-board c =
-    early-at c.args.clock c.args.changes.now c.loop-next.next c.loop-next.board (omega arith) c.if-change-clock.true
+pub returns-then-change-clock-clause-core : goal.returns-then-change-clock-clause-core
+returns-then-change-clock-clause-core c =
+    early-at c.args.clock c.args.changes.now c.loop-next.next c.loop-next.core (omega arith) c.if-change-clock.true
     ∙ c.loop-next.invariant.1
 
 pub returns-then-change-clock-clause-left : goal.returns-then-change-clock-clause-left
@@ -18,14 +18,14 @@ loop-next-preserved c =
     let next = c.loop-next.next in
     let due : (change_at changes next).clock ≤ c.args.clock = omega (arith, c.if-change-clock.false) in (
       omega arith,
-      due-at c.args.clock changes next c.loop-next.board c.set_keys.new.self (omega arith) due c.set_keys.ensures
+      due-at c.args.clock changes next c.loop-next.core c.set_keys.new.self (omega arith) due c.set_keys.ensures
           ∙ c.loop-next.invariant.1,
       due-left-at c.args.clock changes next (omega arith) due ∙ c.loop-next.invariant.2,
     )
 
-pub returns-clause-board : goal.returns-clause-board
-returns-clause-board c =
-    none-at c.args.clock c.args.changes.now c.loop-next.next c.loop-next.board (omega (arith, c.loop-next-test.false))
+pub returns-clause-core : goal.returns-clause-core
+returns-clause-core c =
+    none-at c.args.clock c.args.changes.now c.loop-next.next c.loop-next.core (omega (arith, c.loop-next-test.false))
     ∙ c.loop-next.invariant.1
 
 pub returns-clause-left : goal.returns-clause-left

@@ -2,11 +2,11 @@ use Rattle.std.proofs.Common.{◌≡◌, ◌-◌, ◌≤◌, drop, length}
 use Rattle.gba_console.specs.Keys.{after_keys, keys_left}
 use Rattle.gba_console.proofs.keys.apply.Given as goal
 
--- the changes from `next` on lead to the same board, and the same of them are left
+-- the changes from `next` on lead to the same core, and the same of them are left
 abbrev pub invariant-loop-next : goal.invariant-loop-next
 invariant-loop-next l =
     (l.next ≤ length l.changes)
-    × (after_keys l.clock (drop l.next l.changes) l.board ≡ after_keys l.clock (drop l.applied l.changes) l.fn.board)
+    × (after_keys l.clock (drop l.next l.changes) l.core ≡ after_keys l.clock (drop l.applied l.changes) l.fn.core)
     × (keys_left l.clock (drop l.next l.changes) ≡ keys_left l.clock (drop l.applied l.changes))
 
 abbrev pub decreases-loop-next : goal.decreases-loop-next

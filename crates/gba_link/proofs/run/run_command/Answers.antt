@@ -45,4 +45,4 @@ returns g c =
     goes-then gives (file command.job longest_job (job_refusal command (error_at 0 Long))) (λ text. bind (after_job command text) (run_plan command)) _ _ _ bytes _ (rw c.name_in_report.ensures at c.in_ok-bytes.ensures.goes)
     (goes-then gives (after_job command bytes) (run_plan command) _ _ _ job _
     (goes-judged gives job_value (job_or_refusal command bytes) (Ok c.in_ok-job.job) _ (rw c.as_slice.ensures.value at c.in_ok-job.ensures.agrees))
-    (c.run_job.ensures command c.in-Ok.ensures.state c.in-Ok.ensures.save))
+    (c.run_job.ensures command c.in-Ok.ensures))

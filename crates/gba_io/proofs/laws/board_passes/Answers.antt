@@ -1,0 +1,8 @@
+use Rattle.gba_io.proofs.Cycling.{passes, quiet-board}
+use Rattle.gba_io.proofs.laws.board_passes.Goals as goal
+
+pub returns-clause-all : goal.returns-clause-all
+returns-clause-all c = passes c.cycle_keeps.ensures
+
+pub returns-clause-quiet : goal.returns-clause-quiet
+returns-clause-quiet c = quiet-board

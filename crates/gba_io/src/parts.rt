@@ -1,0 +1,277 @@
+//! The core of a board.
+
+ghost use Rattle.std.specs.Prelude.{◌≡◌, ◌≤◌};
+ghost use Rattle.gba_io.specs.Units.{start_cycles as cycles_at_start};
+
+use gba_bus::{Bus, WaitControl};
+use gba_devices::Devices;
+use gba_devices::laws::{cycle_keeps, cycles_pass};
+use gba_dma::{Channel, Unit};
+use gba_image::ConsoleImages;
+use gba_mem::Memory;
+use gba_price_table::PriceTable;
+use gba_terms::NoMemory;
+use gba_timer::Timer;
+use std::alloc::Global;
+use std::marker::Model;
+
+/// A memory by its name in the state file. `Backup` is the SRAM, and `Io` the I/O registers, which stand in no memory.
+#[derive(Clone, Copy, Debug, PartialEq, Eq)]
+pub enum MemoryName {
+    Io,
+    Wram,
+    Iwram,
+    Palette,
+    Vram,
+    Oam,
+    Backup,
+}
+
+/// An address outside the BIOS: what reads from there reads 0 in the BIOS, and so does DMA.
+const OUTSIDE_BIOS: u32 = 0x4000;
+
+/// The cycles that the first unit of a run costs more.
+fn start_cycles(first: bool) -> u32
+    ensures value { result ≡ cycles_at_start first }
+    ensures most { result ≤ 2 }
+{
+    if first { 2 } else { 0 }
+}
+
+/// The memories and the devices of a console, which its processor sees as a bus. Contracts see the record of both.
+#[derive(Drop)]
+pub struct Core {
+    pub(crate) memory: Memory,
+    pub(crate) devices: Devices,
+    // the prices of this step
+    pub(crate) prices: PriceTable,
+}
+
+impl Model for Core {
+    ghost use Rattle.std.specs.Prelude.{◌≡◌};
+    ghost use Rattle.gba_io.specs.Core.{Core};
+
+    ghost Value = { Core };
+
+    ghost view = { λ b. record { memory = b.memory; devices = b.devices } };
+
+    ghost invariant = { λ b. b.prices ≡ b.devices.priced };
+}
+
+impl Core {
+    ghost use Rattle.std.specs.Prelude.{◌≡◌, ◌*◌, ◌^◌, ◌<◌, ◌≤◌, true, false, IfOk, length, option_map};
+    ghost use Rattle.std.specs.Option.{option_map_or};
+    ghost use Rattle.gba_dma.specs.Channels.{channel_at, next_unit};
+    ghost use Rattle.gba_devices.specs.Cycles.{makes_pair, makes_within};
+    ghost use Rattle.gba_devices.specs.Registers.{half_stored};
+    ghost use Rattle.gba_devices.specs.State.{is_calm};
+    ghost use Rattle.gba_irq.specs.Interrupts.{is_pending};
+    ghost use Rattle.gba_sound.specs.Queues.{left_sample, queue_at, right_sample};
+    ghost use Rattle.gba_timer.specs.Timers.{timer_at};
+    ghost use Rattle.gba_io.specs.Core.{core_after, core_at_start, core_begun, core_cycled, core_keyed, core_woken, length_named, memory_named};
+    ghost use Rattle.gba_io.specs.Units.{core_after_unit, unit_cycles};
+
+    /// A core at reset, at clock 0, from its images, which are dropped on refusal.
+    pub(crate) fn new(alloc: Global, images: ConsoleImages) -> Result<Core, NoMemory>
+        ensures { IfOk result (λ core. core ≡ core_at_start images.bios images.cart images.save) }
+    {
+        let waits = WaitControl { value: 0 };
+        Ok(Core {
+            memory: Memory::new(alloc, images)?,
+            devices: Devices::new(),
+            prices: PriceTable::new(&waits),
+        })
+    }
+
+    /// The clock: cycles of 16,777,216 Hz since reset.
+    pub fn clock(&self) -> u64
+        ensures value { result ≡ self.now.devices.clock }
+        ensures most { result < 2 ^ 63 }
+    {
+        self.devices.clock()
+    }
+
+    /// Whether nothing asks for more than an instruction: no halt, no interrupt that IME lets in, no
+    /// DMA, and no other prices.
+    #[inline]
+    pub fn is_calm(&self) -> bool
+        ensures { result ≡ is_calm self.now.devices }
+    {
+        self.devices.is_calm()
+    }
+
+    /// Begins a step: its accesses take the prices of WAITCNT as it is.
+    pub fn begin(&mut self)
+        ensures { self.new ≡ core_begun self.old }
+    {
+        let value = self.devices.waits();
+        if value != self.devices.priced() {
+            self.prices = PriceTable::new(&WaitControl { value });
+        }
+        self.devices.begin();
+    }
+
+    /// Makes these the pressed keys, 1 for pressed: A, B, Select, Start, Right, Left, Up, Down, R, L are bits 0 to 9.
+    #[tactic(auto, unfolding(gba_devices::specs::Registers::keyed))]
+    pub fn set_keys(&mut self, pressed: u16)
+        ensures { self.new ≡ core_keyed pressed self.old }
+    {
+        self.devices.set_keys(pressed);
+    }
+
+    /// Whether an enabled interrupt is requested: IE AND IF isn't 0.
+    pub fn pending(&self) -> bool
+        ensures { result ≡ is_pending self.now.devices.interrupts }
+    {
+        self.devices.pending()
+    }
+
+    /// IME.
+    pub fn master(&self) -> bool
+        ensures { result ≡ self.now.devices.interrupts.master }
+    {
+        self.devices.master()
+    }
+
+    /// Whether the console is halted.
+    pub fn halted(&self) -> bool
+        ensures { result ≡ self.now.devices.halted }
+    {
+        self.devices.halted()
+    }
+
+    /// Ends the halt.
+    pub fn wake(&mut self)
+        ensures { self.new ≡ core_woken self.old }
+    {
+        self.devices.wake();
+    }
+
+    /// Does a DMA unit, and answers its cycles.
+    #[tactic(auto, unfolding(crate::specs::Units::core_after_unit))]
+    fn do_unit(&mut self, unit: Unit) -> u32
+        requires { unit.channel < 4 }
+        ensures cycles { result ≡ unit_cycles unit self.old }
+        ensures core { self.new ≡ core_after_unit unit self.old }
+    {
+        let sequential = !unit.first;
+        let (value, read) = self.load(OUTSIDE_BIOS, unit.source, unit.width, sequential);
+        let written = self.store(unit.target, unit.width, value, sequential);
+        self.devices.end_unit(unit.channel);
+        read + written + start_cycles(unit.first)
+    }
+
+    /// Does one DMA unit of the lowest active channel, and answers its cycles. None exactly where no channel is active.
+    pub fn dma_unit(&mut self) -> Option<u32>
+        ensures cycles { result ≡ option_map (λ unit. unit_cycles unit self.old) (next_unit self.old.devices.channels) }
+        ensures core { self.new ≡ option_map_or (λ unit. core_after_unit unit self.old) (next_unit self.old.devices.channels) self.old }
+    {
+        match self.devices.next_unit() {
+            None => None,
+            Some(unit) => Some(self.do_unit(unit)),
+        }
+    }
+
+    /// Moves the devices by so many cycles where surely nothing happens in them, and answers whether it did.
+    #[inline]
+    pub(crate) fn owe(&mut self, cycles: u32) -> bool
+        requires few { cycles ≤ 512 }
+        requires clock { self.old.devices.clock < 2 ^ 61 }
+        ensures owed { result ≡ true → (self.new ≡ core_after cycles self.old) × (makes_within cycles self.old.devices ≡ false) }
+        ensures left { result ≡ false → self.new ≡ self.old }
+    {
+        cycles_pass();
+        self.devices.owe(cycles)
+    }
+
+    /// Moves the devices by as many of so many cycles as surely nothing happens in, and answers how many.
+    pub(crate) fn pass_quietly(&mut self, most: u32) -> u32
+        requires { self.old.devices.clock < 2 ^ 61 }
+        ensures core { self.new ≡ core_after result self.old }
+        ensures silent { makes_within result self.old.devices ≡ false }
+        ensures most { result ≤ most }
+    {
+        cycles_pass();
+        self.devices.pass_quietly(most)
+    }
+
+    /// Whether the next cycle makes a pair of samples.
+    pub(crate) fn makes_pair(&self) -> bool
+        ensures { result ≡ makes_pair self.now.devices }
+    {
+        self.devices.makes_pair()
+    }
+
+    /// A device cycle.
+    pub(crate) fn cycle(&mut self)
+        requires { self.old.devices.clock < 2 ^ 61 }
+        ensures { self.new ≡ core_cycled self.old }
+    {
+        cycle_keeps();
+        self.devices.cycle();
+    }
+
+    /// What the sound queues sound like, left then right.
+    pub(crate) fn sample(&self) -> (i16, i16)
+        ensures left { result.0 ≡ left_sample self.now.devices.sound }
+        ensures right { result.1 ≡ right_sample self.now.devices.sound }
+    {
+        self.devices.sample()
+    }
+
+    /// A DMA channel by its number, which is below 4.
+    pub fn channel(&self, number: u32) -> Channel
+        requires { number < 4 }
+        ensures { result ≡ channel_at number self.now.devices.channels }
+    {
+        self.devices.channel(number)
+    }
+
+    /// The current byte of sound queue A or B, which are 0 and 1: a signed sample.
+    pub fn queue_current(&self, queue: u32) -> u8
+        requires { queue < 2 }
+        ensures { result ≡ (queue_at queue self.now.devices.sound).current }
+    {
+        self.devices.queue_current(queue)
+    }
+
+    /// The bytes that sound queue A or B holds, oldest first, 32 at most.
+    pub fn queue(&self, queue: u32) -> &[u8]
+        requires { queue < 2 }
+        ensures bytes { result.now ≡ (queue_at queue self.now.devices.sound).bytes }
+        ensures most { length result.now ≤ 32 }
+    {
+        self.devices.queue(queue)
+    }
+
+    /// A timer by its number, which is below 4.
+    pub fn timer(&self, number: u32) -> Timer
+        requires { number < 4 }
+        ensures { result ≡ timer_at number self.now.devices.timers }
+    {
+        self.devices.timer(number)
+    }
+
+    /// What is stored at the halfword of an offset from 04000000h; of bits that are only read, what they read.
+    pub fn io_half(&self, offset: u32) -> u16
+        ensures { result ≡ half_stored offset self.now.devices }
+    {
+        self.devices.half_stored(offset)
+    }
+
+    /// The bytes of a memory from its front up, and none of the I/O registers.
+    pub fn memory(&self, name: MemoryName) -> &[u8]
+        ensures bytes { result.now ≡ memory_named name self.now.memory }
+        ensures length { length result.now ≡ length_named name }
+    {
+        match name {
+            MemoryName::Io => &[],
+            MemoryName::Wram => self.memory.work(),
+            MemoryName::Iwram => self.memory.inner(),
+            MemoryName::Palette => self.memory.palette(),
+            MemoryName::Vram => self.memory.vram(),
+            MemoryName::Oam => self.memory.oam(),
+            MemoryName::Backup => self.memory.sram(),
+        }
+    }
+}
