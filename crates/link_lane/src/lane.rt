@@ -295,7 +295,7 @@ impl<N: Node> Lane<N> {
             return None;
         }
         let nearest = self.poll(shared, polls);
-        if self.clock() < nearest.end {
+        if nearest.end > self.clock() {
             None
         } else {
             Some(nearest)
