@@ -13,7 +13,7 @@ use link_node::Incoming;
 use std::alloc::{AllocError, Global};
 use std::marker::Model;
 
-/// How many signals there is room for. At most 7,677 wait for one console.
+/// How many signals there is room for. At most 10,236 wait for one console.
 const ROOM: usize = 16384;
 
 /// The signals that wait, by arrival, then by sender, and those that were delivered last.
