@@ -12,7 +12,7 @@ abbrev pub done_of : {State : Type 0} → List ℕ → State → ℕ → Done St
 done_of file bus cycles = record { registers = file; bus = bus; cycles = cycles }
 
 module _ {State : Type 0} (price : Price State) (load : Load State) (store : Store State) where
-  loads-cons : (user : Bool) (site : Site) (number : ℕ) (rest : List ℕ) (address : ℕ) (sequential : Bool) (file : List ℕ) (bus : State) (cycles : ℕ) → loads price load store user site (number ∷ rest) address sequential (done_of file bus cycles) ≡ loads price load store user site rest ((address + 4) % 2 ^ 32) true (done_of (with_block_register user file number (load bus site.address address Word sequential).value) (load bus site.address address Word sequential).after (cycles + (load bus site.address address Word sequential).price))
+  pub loads-cons : (user : Bool) (site : Site) (number : ℕ) (rest : List ℕ) (address : ℕ) (sequential : Bool) (file : List ℕ) (bus : State) (cycles : ℕ) → loads price load store user site (number ∷ rest) address sequential (done_of file bus cycles) ≡ loads price load store user site rest ((address + 4) % 2 ^ 32) true (done_of (with_block_register user file number (load bus site.address address Word sequential).value) (load bus site.address address Word sequential).after (cycles + (load bus site.address address Word sequential).price))
   unfolding loads
   loads-cons user site number rest address sequential file bus cycles = refl
 
@@ -28,7 +28,7 @@ module _ {State : Type 0} (price : Price State) (load : Load State) (store : Sto
   loads_skip user site list number address sequential done below is =
       sym (ap (λ numbers. loads price load store user site numbers address sequential done) (registers_in_skip list number below is))
 
-  loads-nil : (user : Bool) (site : Site) (address : ℕ) (sequential : Bool) (done : Done State) → loads price load store user site [] address sequential done ≡ done
+  pub loads-nil : (user : Bool) (site : Site) (address : ℕ) (sequential : Bool) (done : Done State) → loads price load store user site [] address sequential done ≡ done
   unfolding loads
   loads-nil user site address sequential done = refl
 
@@ -45,7 +45,7 @@ module _ {State : Type 0} (price : Price State) (load : Load State) (store : Sto
       ap (λ numbers. loads price load store user site numbers address sequential done)
       (registers_in_over list number (16 - number) over) ∙ loads-nil user site address sequential done
 
-  stores-cons : (user : Bool) (site : Site) (write : Bool) (rn base number : ℕ) (rest : List ℕ) (address : ℕ) (sequential : Bool) (file : List ℕ) (bus : State) (cycles : ℕ) → stores price load store user site write rn base (number ∷ rest) address sequential (done_of file bus cycles) ≡ stores price load store user site write rn base rest ((address + 4) % 2 ^ 32) true (done_of (if sequential then file else with_write_back write rn base file) (store bus address Word (block_register user site file number) sequential).after (cycles + (store bus address Word (block_register user site file number) sequential).price))
+  pub stores-cons : (user : Bool) (site : Site) (write : Bool) (rn base number : ℕ) (rest : List ℕ) (address : ℕ) (sequential : Bool) (file : List ℕ) (bus : State) (cycles : ℕ) → stores price load store user site write rn base (number ∷ rest) address sequential (done_of file bus cycles) ≡ stores price load store user site write rn base rest ((address + 4) % 2 ^ 32) true (done_of (if sequential then file else with_write_back write rn base file) (store bus address Word (block_register user site file number) sequential).after (cycles + (store bus address Word (block_register user site file number) sequential).price))
   unfolding stores
   stores-cons user site write rn base number rest address sequential file bus cycles = refl
 
@@ -60,7 +60,7 @@ module _ {State : Type 0} (price : Price State) (load : Load State) (store : Sto
   stores_skip user site write rn base list number address sequential done below is =
       sym (ap (λ numbers. stores price load store user site write rn base numbers address sequential done) (registers_in_skip list number below is))
 
-  stores-nil : (user : Bool) (site : Site) (write : Bool) (rn base address : ℕ) (sequential : Bool) (done : Done State) → stores price load store user site write rn base [] address sequential done ≡ done
+  pub stores-nil : (user : Bool) (site : Site) (write : Bool) (rn base address : ℕ) (sequential : Bool) (done : Done State) → stores price load store user site write rn base [] address sequential done ≡ done
   unfolding stores
   stores-nil user site write rn base address sequential done = refl
 

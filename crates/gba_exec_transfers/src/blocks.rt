@@ -251,7 +251,7 @@ fn list_or_counter(list: u16) -> u32
 
 // How far the base moves.
 #[tactic(auto, unfolding(crate::specs::Blocks::span))]
-fn span_of(list: u16) -> u32
+pub(crate) fn span_of(list: u16) -> u32
     ensures { result ≡ span list }
 {
     if list == 0 { 64 } else { 4 * list.count_ones() }
@@ -266,7 +266,7 @@ fn address_of_first(block: BlockTransfer, base: u32) -> u32
 }
 
 #[tactic(auto, unfolding(crate::specs::Blocks::lowest))]
-fn lowest(block: BlockTransfer, base: u32, span: u32) -> u32
+pub(crate) fn lowest(block: BlockTransfer, base: u32, span: u32) -> u32
     ensures { result ≡ lowest block.pre block.up base span }
 {
     let from = if block.up {

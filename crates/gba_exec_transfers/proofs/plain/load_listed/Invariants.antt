@@ -1,0 +1,18 @@
+use Rattle.std.proofs.Common.{◌≡◌, ◌+◌, ◌*◌, ◌^◌, ◌<◌, ◌≤◌, false, length}
+use Rattle.gba_exec_transfers.specs.Blocks.{registers_in, loads}
+use Rattle.gba_exec_transfers.proofs.plain.load_listed.Given as goal
+
+-- what is left of the list leads to the same end
+abbrev pub invariant-listed : goal.invariant-listed
+invariant-listed g l = record {
+  small : l.left < 2 ^ 15;
+  bounded : l.total + 18 * length (registers_in l.left 0 16) ≤ l.fn.cycles + 288;
+  rest :
+      loads g.B.Bus.code_price_of g.B.Bus.load_of g.B.Bus.store_of false l.fn.site (registers_in l.left 0 16) l.address l.sequential
+      (record { registers = l.registers; bus = g.B.Bus.state l.bus; cycles = l.total })
+      ≡ loads g.B.Bus.code_price_of g.B.Bus.load_of g.B.Bus.store_of false l.fn.site (registers_in l.fn.list 0 16) l.fn.first false
+      (record { registers = l.fn.registers; bus = g.B.Bus.state l.fn.bus; cycles = l.fn.cycles });
+}
+
+abbrev pub decreases-listed : goal.decreases-listed
+decreases-listed g l = l.left
