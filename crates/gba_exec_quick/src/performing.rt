@@ -319,8 +319,6 @@ pub fn perform_quick_in_thumb<B: Bus>(
         Quick::StoreByte { rn, rd, offset } => {
             store_quick(registers, bus, site, Width::Byte, rn, rd, offset)
         }
-        Quick::LoadPlain { plain } => load_plain(registers, bus, site, plain),
-        Quick::StorePlain { plain } => store_plain(registers, bus, site, plain),
         Quick::Branch { distance } => branch(registers, bus, site, distance),
         _ => perform_any(registers, bus, site, one),
     }

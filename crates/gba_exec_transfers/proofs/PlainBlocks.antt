@@ -16,8 +16,8 @@ use Rattle.gba_exec_transfers.specs.Plain.{IsPlain, plain_of}
 use Rattle.gba_exec_transfers.specs.Singles.{offset_address, with_write_back}
 use Rattle.gba_exec_transfers.specs.declared.units.BlockTransfer.{BlockTransfer}
 use Rattle.gba_exec_transfers.specs.declared.units.PlainBlock.{PlainBlock}
-use Rattle.gba_exec_transfers.proofs.Runs.{done_of, loads-cons, loads-nil, stores-cons, stores-nil}
-use Rattle.gba_exec_transfers.proofs.Scanning.{first_of_list, first_small, none_listed}
+use Rattle.gba_exec_transfers.proofs.Runs.{done_of, stores_first}
+use Rattle.gba_exec_transfers.proofs.Scanning.{first_below}
 
 -- where a block's accesses are from a base is as far from it as from a base of 0
 first-moved : (pre up : Bool) (base span : ℕ) → base < 2 ^ 32
@@ -117,30 +117,6 @@ module _ {State : Type 0} (price : Price State) (load : Load State) (store : Sto
       let small' : register file plain.block.rn < 2 ^ 32 = rw (← n, ← b) small in
       rw (f, a, k, l, b, n) (plain-loads plain site file bus is small')
 
-  -- one register loaded
-  pub loads_first : (site : Site) (list number rest address : ℕ) (sequential : Bool) (file file' : List ℕ) (bus bus' : State)
-      (cycles cost : ℕ) → 0 < list → list < 2 ^ 15
-      → number ≡ trailing_zeros w32 list → rest ≡ bit_and list (list - 1)
-      → file' ≡ with_register file number (load bus site.address address Word sequential).value
-      → bus' ≡ (load bus site.address address Word sequential).after
-      → cost ≡ (load bus site.address address Word sequential).price
-      → loads price load store false site (registers_in rest 0 16) ((address + 4) % 2 ^ 32) true
-      (done_of file' bus' (cycles + cost))
-      ≡ loads price load store false site (registers_in list 0 16) address sequential (done_of file bus cycles)
-  unfolding with_block_register
-  loads_first site list number rest address sequential file file' bus bus' cycles cost some small n r e₁ e₂ e₃ =
-      rw (e₁, e₂, e₃, n, r)
-      (sym (ap (λ numbers. loads price load store false site numbers address sequential (done_of file bus cycles))
-      (first_of_list list some small)
-      ∙ loads-cons price load store false site (trailing_zeros w32 list) (registers_in (bit_and list (list - 1)) 0 16)
-      address sequential file bus cycles))
-
-  pub loads_done : (site : Site) (list address : ℕ) (sequential : Bool) (done : Done State) → list ≡ 0
-      → loads price load store false site (registers_in list 0 16) address sequential done ≡ done
-  loads_done site list address sequential done none =
-      ap (λ numbers. loads price load store false site numbers address sequential done) (none_listed list none)
-      ∙ loads-nil price load store false site address sequential done
-
   -- behind the first access the base is written already
   stores-behind : (site : Site) (write : Bool) (rn base : ℕ) (numbers : List ℕ) (address : ℕ) (done : Done State)
       → stores price load store false site write rn base numbers address true done
@@ -152,26 +128,6 @@ module _ {State : Type 0} (price : Price State) (load : Load State) (store : Sto
       stores-behind site write rn base rest ((address + 4) % 2 ^ 32)
       (record { registers = done.registers; bus = wrote.after; cycles = done.cycles + wrote.price })
 
-  -- one register stored
-  stores-first : (site : Site) (write : Bool) (rn base list address : ℕ) (sequential : Bool) (file : List ℕ) (bus : State)
-      (cycles : ℕ) → 0 < list → list < 2 ^ 15
-      → stores price load store false site write rn base (registers_in list 0 16) address sequential (done_of file bus cycles)
-      ≡ (let wrote = store bus address Word (register file (trailing_zeros w32 list)) sequential in
-      stores price load store false site write rn base (registers_in (bit_and list (list - 1)) 0 16)
-      ((address + 4) % 2 ^ 32) true
-      (done_of (if sequential then file else with_write_back write rn base file) wrote.after (cycles + wrote.price)))
-  stores-first site write rn base list address sequential file bus cycles some small =
-      let number = trailing_zeros w32 list in
-      let rest = registers_in (bit_and list (list - 1)) 0 16 in
-      let made : ℕ → Done State = λ value.
-          let wrote = store bus address Word value sequential in
-          stores price load store false site write rn base rest ((address + 4) % 2 ^ 32) true
-          (done_of (if sequential then file else with_write_back write rn base file) wrote.after (cycles + wrote.price)) in
-      ap (λ numbers. stores price load store false site write rn base numbers address sequential (done_of file bus cycles))
-      (first_of_list list some small)
-      ∙ stores-cons price load store false site write rn base number rest address sequential file bus cycles
-      ∙ ap made (stored-present site file number (first_small list some small))
-
   -- one register stored behind the first access
   pub stores_next : (site : Site) (list number rest address : ℕ) (file : List ℕ) (bus bus' : State) (cycles cost : ℕ)
       → 0 < list → list < 2 ^ 15
@@ -182,13 +138,11 @@ module _ {State : Type 0} (price : Price State) (load : Load State) (store : Sto
       (done_of file bus' (cycles + cost))
       ≡ stores price load store false site false 0 0 (registers_in list 0 16) address true (done_of file bus cycles)
   stores_next site list number rest address file bus bus' cycles cost some small n r e₁ e₂ =
-      rw (e₁, e₂, n, r) (sym (stores-first site false 0 0 list address true file bus cycles some small))
-
-  pub stores_done : (site : Site) (list address : ℕ) (done : Done State) → list ≡ 0
-      → stores price load store false site false 0 0 (registers_in list 0 16) address true done ≡ done
-  stores_done site list address done none =
-      ap (λ numbers. stores price load store false site false 0 0 numbers address true done) (none_listed list none)
-      ∙ stores-nil price load store false site false 0 0 address true done
+      let below : number < 15 = rw n (first_below list some small) in
+      let value = sym (stored-present site file number below) in
+      stores_first price load store false site false 0 0 list number rest address true file file bus bus' cycles cost some
+      (omega arith) n r refl (e₁ ∙ ap (λ v. (store bus address Word v true).after) value)
+      (e₂ ∙ ap (λ v. (store bus address Word v true).price) value)
 
   plain-stores : (plain : PlainBlock) (site : Site) (number rest address : ℕ) (file file' : List ℕ) (bus bus' : State)
       (cost : ℕ) → IsPlain plain → register file plain.block.rn < 2 ^ 32
@@ -206,7 +160,6 @@ module _ {State : Type 0} (price : Price State) (load : Load State) (store : Sto
       let base = register file block.rn in
       let size = span list in
       let code = code_cost price bus site false in
-      let start = aligned Word ((base + plain.first) % 2 ^ 32) in
       let target = (base + plain.moved) % 2 ^ 32 in
       let made : ℕ → ℕ → Done State = λ first moved.
           stores price load store false site block.write block.rn moved (registers_in list 0 16) (aligned Word first) false
@@ -215,13 +168,17 @@ module _ {State : Type 0} (price : Price State) (load : Load State) (store : Sto
           ap (λ p. (base + p.first) % 2 ^ 32) is.whole ∙ sym (first-moved block.pre block.up base size small) in
       let moved : target ≡ offset_address block.up base size =
           ap (λ p. (base + p.moved) % 2 ^ 32) is.whole ∙ sym (base-moved block.up base size) in
-      rw (e₁, e₂, e₃, a, n, r)
-      (stores-alone block site file bus base (listed list is.some) is.present
+      let below : number < 15 = rw n (first_below list is.some is.list) in
+      let value = sym (stored-present site file number below) in
+      stores-alone block site file bus base (listed list is.some) is.present
       (operand-present file (counter site) block.rn is.rn)
       ∙ sym (ap (λ a. made a target) first ∙ ap (made (lowest block.pre block.up base size)) moved)
-      ∙ stores-first site block.write block.rn target list start false file bus code is.some is.list
-      ∙ stores-behind site block.write block.rn target (registers_in (bit_and list (list - 1)) 0 16)
-      ((start + 4) % 2 ^ 32) _)
+      ∙ ap (λ at. stores price load store false site block.write block.rn target (registers_in list 0 16) at false
+      (done_of file bus code)) (sym a)
+      ∙ sym (stores_first price load store false site block.write block.rn target list number rest address false file file'
+      bus bus' code cost is.some (omega arith) n r e₃ (e₁ ∙ ap (λ v. (store bus address Word v false).after) value)
+      (e₂ ∙ ap (λ v. (store bus address Word v false).price) value))
+      ∙ stores-behind site block.write block.rn target (registers_in rest 0 16) ((address + 4) % 2 ^ 32) _
 
   -- STM of a plain block: its first access, the base, and the others
   pub plain_stores : (plain : PlainBlock) (site : Site) (rn list base number rest address cost code : ℕ)

@@ -88,18 +88,21 @@ place-small (suc count) (suc n) x within some small =
     (λ e. omega arith) (x % 2) (mod-lt x (zero-lt-suc 1)) refl
 
 -- the first register of a list
-pub first_small : (list : ℕ) → 0 < list → list < 2 ^ 15 → trailing_zeros w32 list < 15
-first_small list some small = place-small 15 32 list (omega arith) some small
+pub first_small : (list : ℕ) → 0 < list → list < 2 ^ 16 → trailing_zeros w32 list < 16
+first_small list some small = place-small 16 32 list (omega arith) some small
+
+pub first_below : (list : ℕ) → 0 < list → list < 2 ^ 15 → trailing_zeros w32 list < 15
+first_below list some small = place-small 15 32 list (omega arith) some small
 
 -- a list is its first register, and then the list without it
-pub first_of_list : (list : ℕ) → 0 < list → list < 2 ^ 15
+pub first_of_list : (list : ℕ) → 0 < list → list < 2 ^ 16
     → registers_in list 0 16 ≡ trailing_zeros w32 list ∷ registers_in (bit_and list (list - 1)) 0 16
 first_of_list list some small =
     let cleared = bit_and list (list - 1) in
     let whole : list / 2 ^ 0 ≡ list = omega arith in
     let left : cleared / 2 ^ 0 ≡ cleared = omega arith in
     registers_in-set_bits list 16 0 ∙ ap (set_bits 16 0) whole
-    ∙ lowest 16 32 0 list (omega arith) some (omega arith)
+    ∙ lowest 16 32 0 list (omega arith) some small
     ∙ ap₂ (λ u v. u ∷ v) (omega arith) (ap (set_bits 16 0) (sym left) ∙ sym (registers_in-set_bits cleared 16 0))
 
 -- the list without its first register is less
@@ -111,13 +114,13 @@ pub none_listed : (list : ℕ) → list ≡ 0 → registers_in list 0 16 ≡ []
 none_listed list none = registers_in_over list 0 16 (omega arith)
 
 -- a list has at most sixteen registers
-pub most_listed : (list : ℕ) → list < 2 ^ 15 → length (registers_in list 0 16) ≤ 16
+pub most_listed : (list : ℕ) → list < 2 ^ 16 → length (registers_in list 0 16) ≤ 16
 most_listed list small =
     let whole : list / 2 ^ 0 ≡ list = omega arith in
     let fits : list / 2 ^ 0 < 2 ^ 16 = omega arith in
     omega (arith, length-registers_in list 0 16 fits, ones-le 16 (list / 2 ^ 0) fits)
 
 -- and one more than without its first
-pub one_more_listed : (list : ℕ) → 0 < list → list < 2 ^ 15
+pub one_more_listed : (list : ℕ) → 0 < list → list < 2 ^ 16
     → length (registers_in list 0 16) ≡ suc (length (registers_in (bit_and list (list - 1)) 0 16))
 one_more_listed list some small = ap length (first_of_list list some small)

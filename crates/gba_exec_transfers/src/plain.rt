@@ -1,15 +1,14 @@
 //! LDM and STM of the present mode's registers without r15, with what their lists say worked out before.
 
-ghost use Rattle.std.specs.Prelude.{◌≡◌, ◌+◌, ◌-◌, ◌<◌, ◌≤◌, ◌^◌, bit_and, false, true};
-ghost use Rattle.std.specs.Int.{trailing_zeros, w32};
+ghost use Rattle.std.specs.Prelude.{◌≡◌, ◌<◌, ◌≤◌, ◌^◌, false, true};
 ghost use Rattle.gba_bus.specs.declared.width.Width.TheVariants.{Word};
-ghost use Rattle.gba_psr.specs.RegisterFile.{register, with_register};
-ghost use Rattle.gba_exec_transfers.specs.Blocks.{after_load_block, after_store_block, loads, registers_in, stores};
+ghost use Rattle.gba_psr.specs.RegisterFile.{register};
+ghost use Rattle.gba_exec_transfers.specs.Blocks.{after_load_block, after_store_block, registers_in, stores};
 ghost use Rattle.gba_exec_transfers.specs.Done.{Done, Leaves};
 ghost use Rattle.gba_exec_transfers.specs.Plain.{IsPlain, is_plain, plain_of};
 ghost use Rattle.gba_exec_transfers.specs.Singles.{with_write_back};
 
-use crate::blocks::{lowest, span_of};
+use crate::blocks::{first_of, load_list, lowest, rest_of, span_of};
 use crate::singles::offset_address;
 use crate::units::{BlockTransfer, PlainBlock};
 use gba_bus::{Bus, Width};
@@ -50,28 +49,6 @@ fn move_base(registers: &mut Registers, write: bool, rn: u8, base: u32)
     }
 }
 
-// One access of LDM: the price.
-#[inline(always)]
-fn load_one<B: Bus>(
-    registers: &mut Registers,
-    bus: &mut B,
-    site: Site,
-    number: u32,
-    address: u32,
-    sequential: bool,
-) -> u32
-    requires { number < 15 }
-    ensures registers { registers.new ≡ with_register registers.old number
-        (B.load_of (B.state bus.old) site.address address Word sequential).value }
-    ensures bus { B.state bus.new ≡ (B.load_of (B.state bus.old) site.address address Word sequential).after }
-    ensures price { result ≡ (B.load_of (B.state bus.old) site.address address Word sequential).price }
-    ensures most { result ≤ 18 }
-{
-    let (value, price) = bus.load(site.address, address, Width::Word, sequential);
-    registers.set(number, value);
-    price
-}
-
 // One access of STM: the price.
 #[inline(always)]
 fn store_one<B: Bus>(
@@ -89,56 +66,6 @@ fn store_one<B: Bus>(
     ensures most { result ≤ 18 }
 {
     bus.store(address, Width::Word, registers.get(number), sequential)
-}
-
-// The lowest register of a list.
-#[inline(always)]
-fn first_of(list: u32) -> u32
-    requires some { 0 < list }
-    requires list { list < 2 ^ 15 }
-    ensures value { result ≡ trailing_zeros w32 list }
-    ensures most { result < 15 }
-{
-    list.trailing_zeros()
-}
-
-// The list without its lowest register.
-#[inline(always)]
-fn rest_of(list: u32) -> u32
-    requires { 0 < list }
-    ensures value { result ≡ bit_and list (list - 1) }
-    ensures less { result < list }
-{
-    list & (list - 1)
-}
-
-// Loads the registers of a list. Answers `cycles` and the prices of the accesses.
-#[inline(always)]
-fn load_listed<B: Bus>(
-    registers: &mut Registers,
-    bus: &mut B,
-    site: Site,
-    list: u32,
-    first: u32,
-    cycles: u32,
-) -> u32
-    requires list { list < 2 ^ 15 }
-    requires cycles { cycles ≤ 100 }
-    ensures leaves { Leaves (loads B.code_price_of B.load_of B.store_of false site (registers_in list 0 16) first
-        false (record { registers = registers.old; bus = B.state bus.old; cycles = cycles }))
-        registers.new (B.state bus.new) result }
-{
-    let mut total = cycles;
-    let mut address = first;
-    let mut sequential = false;
-    let mut left = list;
-    'listed: while left != 0 {
-        total += load_one(registers, bus, site, first_of(left), address, sequential);
-        address = address.wrapping_add(4);
-        sequential = true;
-        left = rest_of(left);
-    }
-    total
 }
 
 // Stores the registers of a list behind a first access. Answers `cycles` and the prices of the accesses.
@@ -189,7 +116,15 @@ pub fn load_plain<B: Bus>(
         plain.block.rn,
         base.wrapping_add(plain.moved),
     );
-    load_listed(registers, bus, site, u32::from(plain.block.list), first, code + 1)
+    load_list(
+        registers,
+        bus,
+        site,
+        false,
+        u32::from(plain.block.list),
+        first,
+        code + 1,
+    )
 }
 
 /// STM of a plain block. Answers the cycles.
