@@ -7,7 +7,7 @@ ghost use Rattle.gba_arm_table.specs.Limits.{Fits};
 ghost use Rattle.gba_arm_table.specs.Table.{operation};
 ghost use Rattle.gba_exec_registers.specs.Conditions.{holds};
 ghost use Rattle.gba_exec_transfers.specs.Done.{Leaves};
-ghost use Rattle.gba_psr.specs.RegisterFile.{flags, register};
+ghost use Rattle.gba_psr.specs.RegisterFile.{flags};
 
 mod decoded;
 mod decoding;
@@ -36,24 +36,8 @@ pub fn execute<B: Bus>(registers: &mut Registers, bus: &mut B, word: u32) -> u32
 
 /// Executes a word that was decoded before, as `execute` does.
 #[inline(always)]
-pub fn execute_decoded<B: Bus>(registers: &mut Registers, bus: &mut B, one: &Decoded) -> u32
-    ensures { Leaves (execution B.code_price_of B.load_of B.store_of one.now.word registers.old (B.state bus.old))
-        registers.new (B.state bus.new) result }
-{
-    let address = registers.get(15);
-    execute_decoded_at(registers, bus, address, one)
-}
-
-/// Executes a word that was decoded before, as `execute` does, where its address is at hand.
-#[inline(always)]
 #[tactic(auto, unfolding(crate::specs::Execution::execution))]
-pub fn execute_decoded_at<B: Bus>(
-    registers: &mut Registers,
-    bus: &mut B,
-    address: u32,
-    one: &Decoded,
-) -> u32
-    requires { address ≡ register registers.old 15 }
+pub fn execute_decoded<B: Bus>(registers: &mut Registers, bus: &mut B, one: &Decoded) -> u32
     ensures { Leaves (execution B.code_price_of B.load_of B.store_of one.now.word registers.old (B.state bus.old))
         registers.new (B.state bus.new) result }
 {
@@ -61,10 +45,10 @@ pub fn execute_decoded_at<B: Bus>(
     quick_forms_fit();
     quick_forms_have_their_effect::<B>();
     let site = Site {
-        address,
+        address: registers.get(15),
         thumb: false,
     };
-    registers.set(15, address.wrapping_add(4));
+    registers.set(15, site.address.wrapping_add(4));
     if one.always || holds_now(registers, one.condition) {
         perform_quick(registers, bus, site, &one.quick)
     } else {

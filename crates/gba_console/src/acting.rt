@@ -72,7 +72,7 @@ fn step_word(registers: &mut Registers, board: &mut Board, words: &mut [DecodedW
     let word = word_at(board, address);
     let one = &words[place_of_word(address)];
     if one.word == word {
-        arm::execute_decoded_at(registers, board, address, one)
+        arm::execute_decoded(registers, board, one)
     } else {
         first_word(registers, board, words, word)
     }
@@ -103,7 +103,7 @@ fn step_half(registers: &mut Registers, board: &mut Board, halves: &mut [Decoded
     let half = half_at(board, address);
     let one = &halves[place_of_half(address)];
     if one.half == half {
-        thumb::execute_decoded_at(registers, board, address, one)
+        thumb::execute_decoded(registers, board, one)
     } else {
         first_half(registers, board, halves, half)
     }

@@ -205,6 +205,9 @@ impl Console {
         ensures later { clock_of self.old ≤ clock_of self.new }
     {
         enough();
+        if !self.is_calm() {
+            return;
+        }
         let end = until.min(self.due());
         let cycles = end.saturating_sub(self.clock());
         let mut left = cycles.min(u64::from(u32::MAX)) as u32;

@@ -92,13 +92,13 @@ module _ {State : Type 0} (price : Price State) (load : Load State) (store : Sto
       let base = register file block.rn in
       let size = span block.list in
       let made : Bool → ℕ → ℕ → Done State = λ writes first moved.
-          loads price load store false site (registers_in block.list 0 16) (aligned Word first) false
-          (done_of (with_write_back writes block.rn moved file) bus (code_cost price bus site true + 1)) in
+      loads price load store false site (registers_in block.list 0 16) (aligned Word first) false
+      (done_of (with_write_back writes block.rn moved file) bus (code_cost price bus site true + 1)) in
       let writes : plain.load_writes ≡ (block.write && not (bit block.list block.rn)) = ap (λ p. p.load_writes) is.whole in
       let first : (base + plain.first) % 2 ^ 32 ≡ lowest block.pre block.up base size =
-          ap (λ p. (base + p.first) % 2 ^ 32) is.whole ∙ sym (first-moved block.pre block.up base size small) in
+      ap (λ p. (base + p.first) % 2 ^ 32) is.whole ∙ sym (first-moved block.pre block.up base size small) in
       let moved : (base + plain.moved) % 2 ^ 32 ≡ offset_address block.up base size =
-          ap (λ p. (base + p.moved) % 2 ^ 32) is.whole ∙ sym (base-moved block.up base size) in
+      ap (λ p. (base + p.moved) % 2 ^ 32) is.whole ∙ sym (base-moved block.up base size) in
       loads-alone block site file bus base (listed block.list is.some) (counter-apart block.list is.list) is.present
       (operand-present file (counter site) block.rn is.rn)
       ∙ sym (ap (λ w. made w ((base + plain.first) % 2 ^ 32) ((base + plain.moved) % 2 ^ 32)) writes
@@ -162,12 +162,12 @@ module _ {State : Type 0} (price : Price State) (load : Load State) (store : Sto
       let code = code_cost price bus site false in
       let target = (base + plain.moved) % 2 ^ 32 in
       let made : ℕ → ℕ → Done State = λ first moved.
-          stores price load store false site block.write block.rn moved (registers_in list 0 16) (aligned Word first) false
-          (done_of file bus code) in
+      stores price load store false site block.write block.rn moved (registers_in list 0 16) (aligned Word first) false
+      (done_of file bus code) in
       let first : (base + plain.first) % 2 ^ 32 ≡ lowest block.pre block.up base size =
-          ap (λ p. (base + p.first) % 2 ^ 32) is.whole ∙ sym (first-moved block.pre block.up base size small) in
+      ap (λ p. (base + p.first) % 2 ^ 32) is.whole ∙ sym (first-moved block.pre block.up base size small) in
       let moved : target ≡ offset_address block.up base size =
-          ap (λ p. (base + p.moved) % 2 ^ 32) is.whole ∙ sym (base-moved block.up base size) in
+      ap (λ p. (base + p.moved) % 2 ^ 32) is.whole ∙ sym (base-moved block.up base size) in
       let below : number < 15 = rw n (first_below list is.some is.list) in
       let value = sym (stored-present site file number below) in
       stores-alone block site file bus base (listed list is.some) is.present

@@ -51,7 +51,7 @@ lowest (suc count) (suc n) base x within some small =
         let half : (x - 1) / 2 ≡ x / 2 = omega arith in
         let low : min (x % 2) ((x - 1) % 2) ≡ 0 = omega arith in
         let is : y ≡ x / 2 * 2 + 0 =
-            and_step x (x - 1) ∙ ap₂ (λ u v. u * 2 + v) (ap (bit_and (x / 2)) half ∙ and_self (x / 2)) low in
+        and_step x (x - 1) ∙ ap₂ (λ u v. u * 2 + v) (ap (bit_and (x / 2)) half ∙ and_self (x / 2)) low in
         let p : y % 2 ≡ 0 = omega arith in
         let q : y / 2 ≡ x / 2 = omega arith in
         ap (λ r. turn count base r (x / 2)) e
@@ -83,7 +83,7 @@ place-small (suc count) (suc n) x within some small =
     either_bit (λ r. x % 2 ≡ r → under r (count_trailing_zeros n (x / 2)) < suc count)
     (λ e.
     let rest : count_trailing_zeros n (x / 2) < count =
-        place-small count n (x / 2) (omega arith) (omega arith) (omega (arith, pow-suc 2 count)) in
+    place-small count n (x / 2) (omega arith) (omega arith) (omega (arith, pow-suc 2 count)) in
     omega arith)
     (λ e. omega arith) (x % 2) (mod-lt x (zero-lt-suc 1)) refl
 

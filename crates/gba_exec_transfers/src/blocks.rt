@@ -73,7 +73,15 @@ pub(crate) fn load_list<B: Bus>(
     let mut sequential = false;
     let mut left = list;
     'listed: while left != 0 {
-        total += load_register(registers, bus, site, user, first_of(left), address, sequential);
+        total += load_register(
+            registers,
+            bus,
+            site,
+            user,
+            first_of(left),
+            address,
+            sequential,
+        );
         address = address.wrapping_add(4);
         sequential = true;
         left = rest_of(left);

@@ -3,7 +3,6 @@
 
 ghost use Rattle.std.specs.Prelude.{◌≡◌, ◌<◌, length};
 ghost use Rattle.gba_exec_transfers.specs.Done.{Leaves};
-ghost use Rattle.gba_psr.specs.RegisterFile.{register};
 ghost use Rattle.gba_thumb_exec.specs.Execution.{execution};
 ghost use Rattle.gba_thumb_table.specs.Table.{operation};
 
@@ -38,34 +37,18 @@ pub fn execute<B: Bus>(registers: &mut Registers, bus: &mut B, half: u16) -> u32
 
 /// Executes a halfword that was decoded before, as `execute` does.
 #[inline(always)]
-pub fn execute_decoded<B: Bus>(registers: &mut Registers, bus: &mut B, one: &DecodedHalf) -> u32
-    ensures { Leaves (execution B.code_price_of B.load_of B.store_of one.now.half registers.old (B.state bus.old))
-        registers.new (B.state bus.new) result }
-{
-    let address = registers.get(15);
-    execute_decoded_at(registers, bus, address, one)
-}
-
-/// Executes a halfword that was decoded before, as `execute` does, where its address is at hand.
-#[inline(always)]
 #[tactic(auto, unfolding(crate::specs::Execution::execution))]
-pub fn execute_decoded_at<B: Bus>(
-    registers: &mut Registers,
-    bus: &mut B,
-    address: u32,
-    one: &DecodedHalf,
-) -> u32
-    requires { address ≡ register registers.old 15 }
+pub fn execute_decoded<B: Bus>(registers: &mut Registers, bus: &mut B, one: &DecodedHalf) -> u32
     ensures { Leaves (execution B.code_price_of B.load_of B.store_of one.now.half registers.old (B.state bus.old))
         registers.new (B.state bus.new) result }
 {
     forms_fit();
     forms_have_their_effect::<B>();
     let site = Site {
-        address,
+        address: registers.get(15),
         thumb: true,
     };
-    registers.set(15, address.wrapping_add(2));
+    registers.set(15, site.address.wrapping_add(2));
     perform_form(registers, bus, site, &one.form)
 }
 

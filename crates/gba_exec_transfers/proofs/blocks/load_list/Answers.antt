@@ -30,10 +30,10 @@ pub returns-clause-leaves : goal.returns-clause-leaves
 returns-clause-leaves g c =
     let none : c.listed.left ≡ 0 = omega arith in
     let whole =
-        sym (loads_done g.B.Bus.code_price_of g.B.Bus.load_of g.B.Bus.store_of c.args.user c.args.site c.listed.left
-        c.listed.address c.listed.sequential
-        (record { registers = c.listed.registers; bus = g.B.Bus.state c.listed.bus; cycles = c.listed.total }) none)
-        ∙ c.listed.invariant.rest
+    sym (loads_done g.B.Bus.code_price_of g.B.Bus.load_of g.B.Bus.store_of c.args.user c.args.site c.listed.left
+    c.listed.address c.listed.sequential
+    (record { registers = c.listed.registers; bus = g.B.Bus.state c.listed.bus; cycles = c.listed.total }) none)
+    ∙ c.listed.invariant.rest
     in
     record {
       registers_left = ap (λ done. done.registers) whole;

@@ -7,7 +7,7 @@ pub returns : goal.returns
 returns g c =
     let after = c.load_list.new in
     let Left : Done g.B.Bus.State → Type 0 = λ done.
-        Leaves done after.registers (g.B.Bus.state after.bus) c.load_list.result in
+    Leaves done after.registers (g.B.Bus.state after.bus) c.load_list.result in
     subst Left
     (sym (plain_loads g.B.Bus.code_price_of g.B.Bus.load_of g.B.Bus.store_of c.args.plain c.args.site c.from.result
     c.from-2.result c.get-base.result c.align-first.result c.code_price-code.result c.args.registers.now

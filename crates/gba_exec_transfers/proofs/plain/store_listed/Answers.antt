@@ -30,10 +30,10 @@ pub returns : goal.returns
 returns g c =
     let none : c.listed.left ≡ 0 = omega arith in
     let whole =
-        sym (stores_done g.B.Bus.code_price_of g.B.Bus.load_of g.B.Bus.store_of false c.args.site false 0 0 c.listed.left
-        c.listed.address true
-        (record { registers = c.args.registers.now; bus = g.B.Bus.state c.listed.bus; cycles = c.listed.total }) none)
-        ∙ c.listed.invariant.rest
+    sym (stores_done g.B.Bus.code_price_of g.B.Bus.load_of g.B.Bus.store_of false c.args.site false 0 0 c.listed.left
+    c.listed.address true
+    (record { registers = c.args.registers.now; bus = g.B.Bus.state c.listed.bus; cycles = c.listed.total }) none)
+    ∙ c.listed.invariant.rest
     in
     record {
       leaves =

@@ -6,7 +6,7 @@ use Rattle.gba_exec_transfers.proofs.plain.store_plain.Goals as goal
 pub returns : goal.returns
 returns g c =
     let Left : Done g.B.Bus.State → Type 0 = λ done.
-        Leaves done c.move_base.new.registers (g.B.Bus.state c.store_listed.new.bus) c.store_listed.result in
+    Leaves done c.move_base.new.registers (g.B.Bus.state c.store_listed.new.bus) c.store_listed.result in
     subst Left
     (sym (plain_stores g.B.Bus.code_price_of g.B.Bus.load_of g.B.Bus.store_of c.args.plain c.args.site c.from.result
     c.from-list.result c.get-base.result c.first_of.result c.rest_of.result c.align-first.result c.store_one-price.result
