@@ -85,7 +85,7 @@ impl Board {
     {
         let value = self.devices.waits();
         if value != self.devices.priced() {
-            self.prices = PriceTable::new(&WaitControl { value });
+            self.prices.renew(&WaitControl { value });
         }
         self.devices.begin();
     }

@@ -107,6 +107,14 @@ impl PriceTable {
         }
     }
 
+    /// Takes another wait control.
+    #[inline(never)]
+    pub fn renew(&mut self, waits: &WaitControl)
+        ensures { self.new ≡ waits.now.value }
+    {
+        *self = PriceTable::new(waits);
+    }
+
     /// The wait control.
     pub fn waits(&self) -> WaitControl
         ensures { result.value ≡ self.now }
