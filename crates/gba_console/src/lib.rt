@@ -249,13 +249,17 @@ impl Console {
         ensures until { self.new.board.made.until ≡ self.old.board.made.until }
     {
         enough();
+        if !self.is_calm() {
+            return;
+        }
         let end = until.min(self.due());
-        let mut left = end.saturating_sub(self.clock());
+        let cycles = end.saturating_sub(self.clock());
+        let mut left = cycles.min(u64::from(u32::MAX)) as u32;
         if left == 0 {
             return;
         }
         while self.is_calm() {
-            let cycles = u64::from(self.step_plainly());
+            let cycles = self.step_plainly();
             if cycles >= left {
                 return;
             }

@@ -29,10 +29,12 @@ use Rattle.gba_exec_registers.specs.declared.site.Site.{Site}
 use Rattle.gba_exec_transfers.specs.Done.{Done}
 use Rattle.gba_exec_transfers.specs.Effects.{effect, effect_of_word, internal}
 use Rattle.gba_exec_transfers.specs.Singles.{after_load, after_store, offset_address, transfer_address, transfer_distance, half_distance, unit_load, unit_store, with_transfer_base, with_write_back}
+use Rattle.gba_exec_transfers.specs.Plain.{is_plain}
+use Rattle.gba_exec_transfers.specs.declared.units.BlockTransfer.{BlockTransfer}
 use Rattle.gba_exec_transfers.specs.declared.units.LoadUnit.{LoadUnit}
 use Rattle.gba_exec_transfers.specs.declared.units.LoadUnit.TheVariants as unit
 use Rattle.gba_exec_quick.specs.Effects.{after_quick_load, after_quick_store, effect_of_quick, outcome_in, value_of, with_flags_and}
-use Rattle.gba_exec_quick.specs.Making.{compare_form, compare_number_form, compare_plain_form, compare_shifted, compute_form, compute_shifted, general_transfer, number_form, number_transfer, plain_form, plain_transfer, quick_of, quick_of_word, set_number_form, set_plain_form, set_shifted_form, signed_offset}
+use Rattle.gba_exec_quick.specs.Making.{block_form, compare_form, compare_number_form, compare_plain_form, compare_shifted, compute_form, compute_shifted, general_transfer, number_form, number_transfer, plain_form, plain_transfer, quick_of, quick_of_word, set_number_form, set_plain_form, set_shifted_form, signed_offset}
 use Rattle.gba_exec_quick.specs.declared.quick.Quick.{Quick}
 use Rattle.gba_exec_quick.specs.declared.quick.Quick.TheVariants as quick
 
@@ -488,6 +490,19 @@ module _ {State : Type 0} (price : Price State) (load : Load State) (store : Sto
   transfer-tested cond load' byte true up false rn rd distance site file bus false false n d =
       form-effect _ _ _ site file bus (rw (n, d) refl) (plain-is cond load' byte up rn rd distance site file bus n d)
 
+  -- ---- blocks
+
+  block-tested : (cond : Condition) (load' : Bool) (block : BlockTransfer) (site : Site) (file : List ℕ) (bus : State)
+      (plain : Bool) → is_plain block ≡ plain
+      → effect_of_quick price load store (block_form load' block) site file bus
+      ≡ effect price load store
+      (op.Block cond load' block.pre block.up block.user block.write block.rn block.list) site file bus
+  unfolding effect_of_quick effect
+  block-tested cond true block site file bus true is = rw is refl
+  block-tested cond false block site file bus true is = rw is refl
+  block-tested cond true block site file bus false is = rw is refl
+  block-tested cond false block site file bus false is = rw is refl
+
   -- ---- branches
 
   branch-target : (at distance : ℕ) → (at + distance % 2 ^ 32) % 2 ^ 32 ≡ (at + distance) % 2 ^ 32
@@ -510,8 +525,9 @@ module _ {State : Type 0} (price : Price State) (load : Load State) (store : Sto
   quick_of-is (op.Half cond LoadSignedByte pre up write rn rd (half_offset.Number distance)) site file bus = refl
   quick_of-is (op.Half cond LoadSignedHalf pre up write rn rd (half_offset.Number distance)) site file bus = refl
   quick_of-is (op.Half cond kind pre up write rn rd (half_offset.Plain rm)) site file bus = refl
-  quick_of-is (op.Block cond true pre up user write rn list) site file bus = refl
-  quick_of-is (op.Block cond false pre up user write rn list) site file bus = refl
+  quick_of-is (op.Block cond load' pre up user write rn list) site file bus =
+      let block : BlockTransfer = record { pre = pre; up = up; user = user; write = write; rn = rn; list = list } in
+      block-tested cond load' block site file bus (is_plain block) refl
   quick_of-is (op.Branch cond true offset) site file bus = rw (branch-target (counter site) (4 * cast_unsigned w32 offset)) refl
   quick_of-is (op.Branch cond false offset) site file bus = rw (branch-target (counter site) (4 * cast_unsigned w32 offset)) refl
   quick_of-is (op.Exchange cond rm) site file bus = refl

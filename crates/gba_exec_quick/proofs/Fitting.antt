@@ -16,8 +16,10 @@ use Rattle.gba_arm_table.specs.declared.operation.Operand.{Operand}
 use Rattle.gba_arm_table.specs.declared.operation.Operand.TheVariants as operand
 use Rattle.gba_arm_table.specs.declared.operation.TransferOffset.TheVariants as transfer_offset
 use Rattle.gba_exec_registers.specs.Processing.{compute_op_of}
+use Rattle.gba_exec_transfers.specs.Plain.{IsPlain, is_plain, plain_of}
+use Rattle.gba_exec_transfers.specs.declared.units.BlockTransfer.{BlockTransfer}
 use Rattle.gba_exec_transfers.specs.declared.units.SingleTransfer.{SingleTransfer}
-use Rattle.gba_exec_quick.specs.Making.{QuickFits, compare_form, compare_number_form, compare_plain_form, compare_shifted, compute_form, compute_shifted, general_transfer, half_form, is_lsl, number_form, number_transfer, plain_form, plain_transfer, quick_of, quick_of_word, set_number_form, set_plain_form, set_shifted_form, signed_offset}
+use Rattle.gba_exec_quick.specs.Making.{QuickFits, compare_form, compare_number_form, compare_plain_form, compare_shifted, compute_form, compute_shifted, general_block, general_transfer, half_form, is_lsl, number_form, number_transfer, plain_block, plain_form, plain_transfer, quick_of, quick_of_word, set_number_form, set_plain_form, set_shifted_form, signed_offset}
 use Rattle.gba_exec_quick.specs.declared.quick.Quick.{Quick}
 use Rattle.gba_exec_quick.specs.declared.quick.Quick.TheVariants as quick
 
@@ -149,6 +151,29 @@ half_form-fits LoadHalf one n d = (n, d)
 half_form-fits LoadSignedByte one n d = (n, d)
 half_form-fits LoadSignedHalf one n d = (n, d)
 
+plain-fits : (block : BlockTransfer) → is_plain block ≡ true → IsPlain (plain_of block)
+plain-fits block is =
+    record {
+      present = grind (arith, nat_tests);
+      rn = grind (arith, nat_tests);
+      some = grind (arith, nat_tests);
+      list = grind (arith, nat_tests);
+      whole = refl;
+    }
+
+plain_block-fits : (load : Bool) (block : BlockTransfer) → is_plain block ≡ true → QuickFits (plain_block load block)
+plain_block-fits true block is = plain-fits block is
+plain_block-fits false block is = plain-fits block is
+
+general_block-fits : (load : Bool) (block : BlockTransfer) → block.rn < 16 → QuickFits (general_block load block)
+general_block-fits true block n = n
+general_block-fits false block n = n
+
+block-fits : (load : Bool) (block : BlockTransfer) (plain : Bool) → is_plain block ≡ plain → block.rn < 16
+    → QuickFits (if plain then plain_block load block else general_block load block)
+block-fits load block true is n = plain_block-fits load block is
+block-fits load block false is n = general_block-fits load block n
+
 quick_of-fits : (whole : ArmOp) → Fits whole → QuickFits (quick_of whole)
 unfolding quick_of
 quick_of-fits (op.Compute cond kind set rn rd second) fits =
@@ -167,8 +192,9 @@ quick_of-fits (op.Half cond kind pre up write rn rd (half_offset.Number distance
     half_form-fits kind (record { pre = pre; up = up; write = write; rn = rn; rd = rd; distance = distance })
     fits.registers.0 fits.registers.1.0
 quick_of-fits (op.Half cond kind pre up write rn rd (half_offset.Plain rm)) fits = fits
-quick_of-fits (op.Block cond true pre up user write rn list) fits = fits.registers.0
-quick_of-fits (op.Block cond false pre up user write rn list) fits = fits.registers.0
+quick_of-fits (op.Block cond load pre up user write rn list) fits =
+    let block : BlockTransfer = record { pre = pre; up = up; user = user; write = write; rn = rn; list = list } in
+    block-fits load block (is_plain block) refl fits.registers.0
 quick_of-fits (op.Branch cond true offset) fits = tt
 quick_of-fits (op.Branch cond false offset) fits = tt
 quick_of-fits (op.Exchange cond rm) fits = fits

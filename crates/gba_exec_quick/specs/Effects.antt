@@ -158,6 +158,8 @@ module _ {State : Type 0} (price : Price State) (load : Load State) (store : Sto
   effect_of_quick (quick.StoreByte rn rd offset) site file bus = after_quick_store width.Byte rn rd offset site file bus
   effect_of_quick (quick.LoadSingle kind one) site file bus = after_load price load store kind one site file bus
   effect_of_quick (quick.StoreSingle kind one) site file bus = after_store price load store kind one site file bus
+  effect_of_quick (quick.LoadPlain plain) site file bus = after_load_block price load store plain.block site file bus
+  effect_of_quick (quick.StorePlain plain) site file bus = after_store_block price load store plain.block site file bus
   effect_of_quick (quick.LoadBlock block) site file bus = after_load_block price load store block site file bus
   effect_of_quick (quick.StoreBlock block) site file bus = after_store_block price load store block site file bus
   effect_of_quick (quick.Branch distance) site file bus =

@@ -16,6 +16,8 @@ use Rattle.gba_arm_table.specs.declared.operation.Operand.TheVariants as operand
 use Rattle.gba_arm_table.specs.declared.operation.TransferOffset.TheVariants as transfer_offset
 use Rattle.gba_bus.specs.declared.width.Width.TheVariants as width
 use Rattle.gba_exec_registers.specs.Processing.{compute_op_of}
+use Rattle.gba_exec_transfers.specs.Plain.{IsPlain, is_plain, plain_of}
+use Rattle.gba_exec_transfers.specs.declared.units.BlockTransfer.{BlockTransfer}
 use Rattle.gba_exec_transfers.specs.declared.units.LoadUnit.TheVariants as unit
 use Rattle.gba_exec_transfers.specs.declared.units.SingleTransfer.{SingleTransfer}
 use Rattle.gba_exec_quick.specs.declared.quick.Quick.{Quick}
@@ -136,6 +138,16 @@ half_form LoadHalf one = quick.LoadSingle unit.Half one
 half_form LoadSignedByte one = quick.LoadSingle unit.SignedByte one
 half_form LoadSignedHalf one = quick.LoadSingle unit.SignedHalf one
 
+-- a block transfer
+abbrev pub plain_block : Bool → BlockTransfer → Quick
+plain_block load block = if load then quick.LoadPlain (plain_of block) else quick.StorePlain (plain_of block)
+
+abbrev pub general_block : Bool → BlockTransfer → Quick
+general_block load block = if load then quick.LoadBlock block else quick.StoreBlock block
+
+abbrev pub block_form : Bool → BlockTransfer → Quick
+block_form load block = if is_plain block then plain_block load block else general_block load block
+
 -- the quick form of an operation
 unfoldable pub quick_of : ArmOp → Quick
 quick_of (op.Compute cond kind set rn rd second) =
@@ -149,8 +161,7 @@ quick_of (op.Transfer cond load byte pre up write rn rd (transfer_offset.Number 
 quick_of (op.Half cond kind pre up write rn rd (half_offset.Number distance)) =
     half_form kind (record { pre = pre; up = up; write = write; rn = rn; rd = rd; distance = distance })
 quick_of (op.Block cond load pre up user write rn list) =
-    if load then quick.LoadBlock (record { pre = pre; up = up; user = user; write = write; rn = rn; list = list })
-    else quick.StoreBlock (record { pre = pre; up = up; user = user; write = write; rn = rn; list = list })
+    block_form load (record { pre = pre; up = up; user = user; write = write; rn = rn; list = list })
 quick_of (op.Branch cond link offset) =
     if link then quick.BranchLink (4 * cast_unsigned w32 offset % 2 ^ 32)
     else quick.Branch (4 * cast_unsigned w32 offset % 2 ^ 32)
@@ -206,6 +217,8 @@ QuickFits (quick.StoreWord rn rd offset) = (rn < 16) × (rd < 16)
 QuickFits (quick.StoreByte rn rd offset) = (rn < 16) × (rd < 16)
 QuickFits (quick.LoadSingle unit one) = (one.rn < 16) × (one.rd < 16)
 QuickFits (quick.StoreSingle width one) = (one.rn < 16) × (one.rd < 16)
+QuickFits (quick.LoadPlain plain) = IsPlain plain
+QuickFits (quick.StorePlain plain) = IsPlain plain
 QuickFits (quick.LoadBlock block) = block.rn < 16
 QuickFits (quick.StoreBlock block) = block.rn < 16
 QuickFits (quick.Branch distance) = Unit {0}

@@ -1,18 +1,22 @@
 //! Which quick form an operation has.
 
-ghost use Rattle.std.specs.Prelude.{◌≡◌, ◌<◌};
+ghost use Rattle.std.specs.Prelude.{◌≡◌, ◌<◌, true};
+ghost use Rattle.gba_exec_transfers.specs.Plain.{is_plain};
 ghost use Rattle.gba_exec_quick.specs.Making.{
+  block_form,
   compare_form,
   compare_number_form,
   compare_plain_form,
   compare_shifted,
   compute_form,
   compute_shifted,
+  general_block,
   general_transfer,
   half_form,
   is_lsl,
   number_form,
   number_transfer,
+  plain_block,
   plain_form,
   plain_transfer,
   quick_of,
@@ -27,7 +31,7 @@ use crate::Quick;
 use gba_arm_table::{ArmOp, ComputeOp, HalfKind, HalfOffset, Operand, TransferOffset};
 use gba_bus::Width;
 use gba_exec_registers::compute_op_of;
-use gba_exec_transfers::{BlockTransfer, LoadUnit, SingleTransfer};
+use gba_exec_transfers::{BlockTransfer, LoadUnit, SingleTransfer, is_plain, plain_of};
 use gba_word::{Shift, rotate};
 
 /// The quick form of a word's operation.
@@ -140,11 +144,7 @@ fn quick_of(whole: ArmOp) -> Quick
                 rn,
                 list,
             };
-            if load {
-                Quick::LoadBlock { block }
-            } else {
-                Quick::StoreBlock { block }
-            }
+            block_form(load, block)
         }
         ArmOp::Branch { link, offset, .. } => {
             let distance = offset.cast_unsigned().wrapping_mul(4);
@@ -337,6 +337,39 @@ fn half_form(kind: HalfKind, one: SingleTransfer) -> Quick
             unit: LoadUnit::SignedHalf,
             one,
         },
+    }
+}
+
+// LDM and STM.
+fn block_form(load: bool, block: BlockTransfer) -> Quick
+    ensures { result ≡ block_form load block }
+{
+    if is_plain(block) {
+        plain_block(load, block)
+    } else {
+        general_block(load, block)
+    }
+}
+
+fn plain_block(load: bool, block: BlockTransfer) -> Quick
+    requires { is_plain block ≡ true }
+    ensures { result ≡ plain_block load block }
+{
+    let plain = plain_of(block);
+    if load {
+        Quick::LoadPlain { plain }
+    } else {
+        Quick::StorePlain { plain }
+    }
+}
+
+fn general_block(load: bool, block: BlockTransfer) -> Quick
+    ensures { result ≡ general_block load block }
+{
+    if load {
+        Quick::LoadBlock { block }
+    } else {
+        Quick::StoreBlock { block }
     }
 }
 

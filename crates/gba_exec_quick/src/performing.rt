@@ -23,7 +23,8 @@ use gba_exec_registers::{
     Outcome, Site, code_price, flags_of_outcome, jump, jump_price, operate, trap,
 };
 use gba_exec_transfers::{
-    LoadUnit, load_block, load_single, perform, store_block, store_single, unit_load, unit_store,
+    LoadUnit, load_block, load_plain, load_single, perform, store_block, store_plain, store_single,
+    unit_load, unit_store,
 };
 use gba_psr::Registers;
 use gba_word::{Shift, bit, shift, shift_within};
@@ -190,6 +191,8 @@ pub fn perform_quick<B: Bus>(registers: &mut Registers, bus: &mut B, site: Site,
         Quick::StoreByte { rn, rd, offset } => {
             store_quick(registers, bus, site, Width::Byte, rn, rd, offset)
         }
+        Quick::LoadPlain { plain } => load_plain(registers, bus, site, plain),
+        Quick::StorePlain { plain } => store_plain(registers, bus, site, plain),
         Quick::Branch { distance } => branch(registers, bus, site, distance),
         _ => perform_any(registers, bus, site, one),
     }
@@ -482,6 +485,8 @@ fn perform_any<B: Bus>(registers: &mut Registers, bus: &mut B, site: Site, one: 
         Quick::StoreByte { rn, rd, offset } => {
             store_quick(registers, bus, site, Width::Byte, rn, rd, offset)
         }
+        Quick::LoadPlain { plain } => load_plain(registers, bus, site, plain),
+        Quick::StorePlain { plain } => store_plain(registers, bus, site, plain),
         Quick::Branch { distance } => branch(registers, bus, site, distance),
         Quick::CompareShifted {
             op,

@@ -2,7 +2,7 @@
 
 use gba_arm_table::{ArmOp, ComputeOp};
 use gba_bus::Width;
-use gba_exec_transfers::{BlockTransfer, LoadUnit, SingleTransfer};
+use gba_exec_transfers::{BlockTransfer, LoadUnit, PlainBlock, SingleTransfer};
 use gba_word::Shift;
 
 /// An operation in the form in which it is performed. But for the forms that hold a transfer or the operation itself, no
@@ -249,6 +249,13 @@ pub enum Quick {
     StoreSingle {
         width: Width,
         one: SingleTransfer,
+    },
+    /// LDM and STM without the S bit and without r15, and every other one.
+    LoadPlain {
+        plain: PlainBlock,
+    },
+    StorePlain {
+        plain: PlainBlock,
     },
     LoadBlock {
         block: BlockTransfer,

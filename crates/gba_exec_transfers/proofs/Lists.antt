@@ -16,23 +16,6 @@ registers_in-suc_out : (list first count : ℕ) → bit list first ≡ false →
 unfolding registers_in
 registers_in-suc_out list first count is = rw is refl
 
--- the next register of a list of sixteen is in the list
-pub registers_in_more : (list first : ℕ) → first < 16 → bit list first ≡ true → registers_in list first (16 - first) ≡ first ∷ registers_in list (first + 1) (16 - (first + 1))
-registers_in_more list first below is =
-    let count_left : 16 - first ≡ suc (16 - (first + 1)) = omega arith in
-    ap (registers_in list first) count_left ∙ registers_in-suc_in list first (16 - (first + 1)) is
-
--- or it isn't
-pub registers_in_skip : (list first : ℕ) → first < 16 → bit list first ≡ false → registers_in list first (16 - first) ≡ registers_in list (first + 1) (16 - (first + 1))
-registers_in_skip list first below is =
-    let count_left : 16 - first ≡ suc (16 - (first + 1)) = omega arith in
-    ap (registers_in list first) count_left ∙ registers_in-suc_out list first (16 - (first + 1)) is
-
--- none is left
-pub registers_in_none : (list first : ℕ) → 16 - first ≡ 0 → registers_in list first (16 - first) ≡ []
-unfolding registers_in
-registers_in_none list first none = rw none refl
-
 ones-zero : ones 0 ≡ 0
 unfolding ones
 ones-zero = refl

@@ -3,4 +3,5 @@ pub mod Blocks
 pub mod Done
 pub mod Effects
 pub mod Keeping
+pub mod Plain
 pub mod Singles

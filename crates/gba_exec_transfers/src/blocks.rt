@@ -1,6 +1,7 @@
 //! LDM and STM.
 
-ghost use Rattle.std.specs.Prelude.{◌≡◌, ◌+◌, ◌<◌, ◌≤◌, false, if◌then◌else◌};
+ghost use Rattle.std.specs.Int.{trailing_zeros, w32};
+ghost use Rattle.std.specs.Prelude.{◌≡◌, ◌+◌, ◌-◌, ◌<◌, ◌≤◌, ◌^◌, bit_and, false, if◌then◌else◌};
 ghost use Rattle.gba_exec_transfers.specs.Blocks.{
   after_counter_load,
   after_load_block,
@@ -27,39 +28,69 @@ use gba_exec_registers::{Site, code_price, jump, read_operand};
 use gba_psr::Registers;
 use gba_word::bit;
 
-/// Loads the registers of a run. Answers `cycles` and the prices of the accesses.
-fn load_list<B: Bus>(
+// The lowest register of a list.
+#[inline(always)]
+pub(crate) fn first_of(list: u32) -> u32
+    requires some { 0 < list }
+    requires list { list < 2 ^ 16 }
+    ensures value { result ≡ trailing_zeros w32 list }
+    ensures most { result < 16 }
+    ensures below { list < 2 ^ 15 → result < 15 }
+{
+    list.trailing_zeros()
+}
+
+// A list without its lowest register.
+#[inline(always)]
+pub(crate) fn rest_of(list: u32) -> u32
+    requires { 0 < list }
+    ensures value { result ≡ bit_and list (list - 1) }
+    ensures less { result < list }
+{
+    list & (list - 1)
+}
+
+/// Loads the registers of a list, the lowest first. Answers `cycles` and the prices of the accesses.
+#[inline(always)]
+pub(crate) fn load_list<B: Bus>(
     registers: &mut Registers,
     bus: &mut B,
     site: Site,
     user: bool,
-    run: BlockRun,
+    list: u32,
+    first: u32,
     cycles: u32,
 ) -> u32
-    requires { cycles ≤ 100 }
-    ensures leaves { Leaves (loads B.code_price_of B.load_of B.store_of user site (registers_in run.list 0 16) run.first
+    requires list { list < 2 ^ 16 }
+    requires cycles { cycles ≤ 100 }
+    ensures leaves { Leaves (loads B.code_price_of B.load_of B.store_of user site (registers_in list 0 16) first
         false (record { registers = registers.old; bus = B.state bus.old; cycles = cycles }))
         registers.new (B.state bus.new) result }
     ensures most { result ≤ cycles + 288 }
 {
     let mut total = cycles;
-    let mut address = run.first;
+    let mut address = first;
     let mut sequential = false;
-    for number in 0..16 {
-        if run.list >> number == 0 {
-            break;
-        }
-        if !bit(run.list, number) {
-            continue;
-        }
-        total += load_register(registers, bus, site, user, number, address, sequential);
+    let mut left = list;
+    'listed: while left != 0 {
+        total += load_register(
+            registers,
+            bus,
+            site,
+            user,
+            first_of(left),
+            address,
+            sequential,
+        );
         address = address.wrapping_add(4);
         sequential = true;
+        left = rest_of(left);
     }
     total
 }
 
 // One access of LDM: the price.
+#[inline(always)]
 fn load_register<B: Bus>(
     registers: &mut Registers,
     bus: &mut B,
@@ -81,6 +112,7 @@ fn load_register<B: Bus>(
     price
 }
 
+#[inline(always)]
 #[tactic(auto, unfolding(crate::specs::Blocks::with_block_register))]
 fn write_block_register(registers: &mut Registers, user: bool, number: u32, value: u32)
     requires { number < 16 }
@@ -102,6 +134,7 @@ fn store_list<B: Bus>(
     run: BlockRun,
     cycles: u32,
 ) -> u32
+    requires list { run.list < 2 ^ 16 }
     requires cycles { cycles ≤ 100 }
     requires rn { block.rn < 16 }
     ensures leaves { Leaves (stores B.code_price_of B.load_of B.store_of block.user site block.write block.rn run.base
@@ -113,19 +146,21 @@ fn store_list<B: Bus>(
     let mut total = cycles;
     let mut address = run.first;
     let mut sequential = false;
-    for number in 0..16 {
-        if run.list >> number == 0 {
-            break;
-        }
-        if !bit(run.list, number) {
-            continue;
-        }
+    let mut left = run.list;
+    'listed: while left != 0 {
         total += store_register(
-            registers, bus, site, block.user, number, address, sequential,
+            registers,
+            bus,
+            site,
+            block.user,
+            first_of(left),
+            address,
+            sequential,
         );
         write_back_first(registers, sequential, block, run.base);
         address = address.wrapping_add(4);
         sequential = true;
+        left = rest_of(left);
     }
     total
 }
@@ -207,7 +242,8 @@ pub fn load_block<B: Bus>(
         bus,
         site,
         block.user && !counter_loaded,
-        run,
+        run.list,
+        run.first,
         code + 1,
     );
     conclude_load(registers, counter_loaded, block.user);
@@ -251,7 +287,7 @@ fn list_or_counter(list: u16) -> u32
 
 // How far the base moves.
 #[tactic(auto, unfolding(crate::specs::Blocks::span))]
-fn span_of(list: u16) -> u32
+pub(crate) fn span_of(list: u16) -> u32
     ensures { result ≡ span list }
 {
     if list == 0 { 64 } else { 4 * list.count_ones() }
@@ -266,7 +302,7 @@ fn address_of_first(block: BlockTransfer, base: u32) -> u32
 }
 
 #[tactic(auto, unfolding(crate::specs::Blocks::lowest))]
-fn lowest(block: BlockTransfer, base: u32, span: u32) -> u32
+pub(crate) fn lowest(block: BlockTransfer, base: u32, span: u32) -> u32
     ensures { result ≡ lowest block.pre block.up base span }
 {
     let from = if block.up {

@@ -129,6 +129,7 @@ pub fn swap<B: Bus>(registers: &mut Registers, bus: &mut B, site: Site, op: ArmO
 }
 
 // How wide a load reads.
+#[inline(always)]
 fn unit_width(kind: LoadUnit, address: u32) -> Width
     ensures { result ≡ unit_width kind address }
 {
@@ -145,6 +146,7 @@ fn unit_width(kind: LoadUnit, address: u32) -> Width
 }
 
 // What the register gets of what was read.
+#[inline(always)]
 fn unit_value(kind: LoadUnit, address: u32, read: u32) -> u32
     ensures { result ≡ unit_value kind address read }
 {
@@ -158,6 +160,7 @@ fn unit_value(kind: LoadUnit, address: u32, read: u32) -> u32
 }
 
 /// One non-sequential load: the value and the price.
+#[inline(always)]
 #[tactic(auto, unfolding(crate::specs::Singles::unit_load))]
 pub fn unit_load<B: Bus>(bus: &mut B, site: Site, kind: LoadUnit, address: u32) -> (u32, u32)
     ensures value { result.0
@@ -174,6 +177,7 @@ pub fn unit_load<B: Bus>(bus: &mut B, site: Site, kind: LoadUnit, address: u32) 
 }
 
 /// One non-sequential store: the price.
+#[inline(always)]
 #[tactic(auto, unfolding(crate::specs::Singles::unit_store))]
 pub fn unit_store<B: Bus>(bus: &mut B, width: Width, address: u32, value: u32) -> u32
     ensures price { result

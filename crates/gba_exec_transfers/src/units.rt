@@ -32,6 +32,16 @@ pub struct BlockTransfer {
     pub list: u16,
 }
 
+/// A block transfer without the S bit and without r15, with what its list says worked out: whether LDM writes the base,
+/// how far the first access is from the base, and how far the base moves, both modulo 2^32.
+#[derive(Clone, Copy)]
+pub struct PlainBlock {
+    pub block: BlockTransfer,
+    pub load_writes: bool,
+    pub first: u32,
+    pub moved: u32,
+}
+
 /// Where a block's accesses are: its registers, of which an empty list has r15 alone, the address of the lowest of
 /// them, and the base moved past them.
 #[derive(Clone, Copy)]

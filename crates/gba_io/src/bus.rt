@@ -67,11 +67,10 @@ fn offset_of(address: u32) -> u32
 
 impl Core {
     ghost use Rattle.std.specs.Prelude.{◌≡◌};
-    ghost use Rattle.gba_io.specs.Bus.{core_read, core_written};
+    ghost use Rattle.gba_io.specs.Bus.{core_load, core_read, core_store, core_written};
 
     /// What an instruction reads at an address that may be a register's.
     #[tactic(auto, unfolding(crate::specs::Bus::core_read))]
-    #[inline(never)]
     fn read_anywhere(&mut self, from: u32, address: u32, width: Width) -> u32
         ensures value { result ≡ core_read self.old from address width }
         ensures same { self.new ≡ self.old }
@@ -85,7 +84,6 @@ impl Core {
 
     /// Writes at an address that may be a register's.
     #[tactic(auto, unfolding(crate::specs::Bus::core_written))]
-    #[inline(never)]
     fn write_anywhere(&mut self, address: u32, width: Width, value: u32)
         ensures { self.new ≡ core_written self.old address width value }
     {
@@ -95,6 +93,43 @@ impl Core {
         } else {
             self.memory.store(PICTURE_MODE, address, width, value);
         }
+    }
+
+    /// A load from anywhere, behind a call, so that the code around it holds nothing for it.
+    #[inline(never)]
+    fn load_anywhere(
+        &mut self,
+        from: u32,
+        address: u32,
+        width: Width,
+        sequential: bool,
+    ) -> (u32, u32)
+        ensures value { result.0 ≡ (core_load self.old from address width sequential).value }
+        ensures price { result.1 ≡ (core_load self.old from address width sequential).price }
+        ensures after { self.new ≡ (core_load self.old from address width sequential).after }
+    {
+        let price = self.prices.price(address, width, sequential);
+        (self.read_anywhere(from, address, width), price)
+    }
+
+    /// A store to anywhere, behind a call too.
+    #[inline(never)]
+    fn store_anywhere(&mut self, address: u32, width: Width, value: u32, sequential: bool) -> u32
+        ensures price { result ≡ (core_store self.old address width value sequential).price }
+        ensures after { self.new ≡ (core_store self.old address width value sequential).after }
+    {
+        let price = self.prices.price(address, width, sequential);
+        self.write_anywhere(address, width, value);
+        price
+    }
+
+    /// An instruction read from anywhere, behind a call too.
+    #[inline(never)]
+    fn code_anywhere(&mut self, address: u32, width: Width) -> u32
+        ensures value { result ≡ core_read self.old address address width }
+        ensures same { self.new ≡ self.old }
+    {
+        self.read_anywhere(address, address, width)
     }
 
     /// What an instruction is read as, the commonest regions first, each after one test.
@@ -113,7 +148,7 @@ impl Core {
         if is_in_rom(address) {
             return self.memory.code_in_rom(address, width);
         }
-        self.read_anywhere(address, address, width)
+        self.code_anywhere(address, width)
     }
 }
 
@@ -130,7 +165,7 @@ impl Bus for Core {
 
     ghost State = { Core };
 
-    ghost state = { λ board. board };
+    ghost state = { λ core. core };
 
     ghost code_of = { core_code };
 
@@ -163,8 +198,7 @@ impl Bus for Core {
         if is_in_inner(address) {
             return (self.memory.load_inner(address, width), INNER_PRICE);
         }
-        let price = self.prices.price(address, width, sequential);
-        (self.read_anywhere(from, address, width), price)
+        self.load_anywhere(from, address, width, sequential)
     }
 
     #[tactic(auto, using(crate::proofs::Telling::told_accesses))]
@@ -173,8 +207,6 @@ impl Bus for Core {
             self.memory.store_inner(address, width, value);
             return INNER_PRICE;
         }
-        let price = self.prices.price(address, width, sequential);
-        self.write_anywhere(address, width, value);
-        price
+        self.store_anywhere(address, width, value, sequential)
     }
 }

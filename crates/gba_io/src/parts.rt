@@ -106,7 +106,7 @@ impl Core {
     {
         let value = self.devices.waits();
         if value != self.devices.priced() {
-            self.prices = PriceTable::new(&WaitControl { value });
+            self.prices.renew(&WaitControl { value });
         }
         self.devices.begin();
     }

@@ -1,12 +1,14 @@
-use Rattle.std.proofs.Common.{◌≡◌, ℕ, zero, suc, ◌/◌, ◌^◌, ◌<◌, ◌≤◌, ◌==◌, Bool, true, false, nat_lt, slice_index, if◌then◌else◌, refl, arith}
+use Rattle.std.proofs.Common.{◌≡◌, ℕ, zero, suc, ◌/◌, ◌^◌, ◌<◌, ◌≤◌, ◌==◌, Bool, true, false, nat_lt, slice_index, if◌then◌else◌, ◌++◌, ◌-◌, length, replicate, refl, ap, sym, ◌∙◌, ⊎_elim, arith}
+use Rattle.std.proofs.lemmas.Bool.{cases_lt}
 use Rattle.std.proofs.lemmas.Bool.Decides.{nat_tests}
+use Rattle.std.proofs.lemmas.List.{get_or_append_left, get_or-append_right, get_or-replicate}
 use Rattle.gba_bus.specs.Prices.{price}
 use Rattle.gba_bus.specs.Regions.{region_in_block, region_of}
 use Rattle.gba_bus.specs.declared.region.Region.{Region}
 use Rattle.gba_bus.specs.declared.region.Region.TheVariants.{Bios, Io, Other}
 use Rattle.gba_bus.specs.declared.width.Width.{Width}
 use Rattle.gba_bus.specs.declared.width.Width.TheVariants.{Byte, Half}
-use Rattle.gba_price_table.specs.Blocks.{block_prices}
+use Rattle.gba_price_table.specs.Blocks.{all_prices, block_prices}
 
 -- The table has the price of each address.
 
@@ -45,25 +47,16 @@ block-price (suc (suc (suc (suc (suc (suc (suc (suc (suc (suc (suc (suc (suc (su
 block-price (suc (suc (suc (suc (suc (suc (suc (suc (suc (suc (suc (suc (suc (suc (suc (suc n)))))))))))))))) address width
     sequential waits h = absurd (omega arith)
 
-pub kept_price : (address : ℕ) (width : Width) (sequential : Bool) (waits : ℕ) → address / 2 ^ 24 < 16
+kept_price : (address : ℕ) (width : Width) (sequential : Bool) (waits : ℕ) → address / 2 ^ 24 < 16
     → slice_index (block_prices width sequential waits) (address / 2 ^ 24)
     ≡ price (region_of address) width sequential waits
 unfolding region_of
 kept_price address width sequential waits h = block-price (address / 2 ^ 24) address width sequential waits h
 
 -- a byte costs what a halfword does
-pub byte_prices : (sequential : Bool) (waits : ℕ) → block_prices Byte sequential waits ≡ block_prices Half sequential waits
+byte_prices : (sequential : Bool) (waits : ℕ) → block_prices Byte sequential waits ≡ block_prices Half sequential waits
 unfolding block_prices price
 byte_prices sequential waits = refl
-
--- the BIOS, and what is above all memories
-pub front_price : (address : ℕ) (width : Width) (sequential : Bool) (waits : ℕ) → address < 0x4000
-    → price (region_of address) width sequential waits ≡ 1
-unfolding region_of price
-front_price address width sequential waits h =
-    let low : address / 2 ^ 24 ≡ 0 = omega arith in
-    let test : nat_lt address 0x4000 ≡ true = grind (arith, nat_tests) in
-    rw (low, test) refl
 
 apart : (block other : ℕ) → other < 16 → 16 ≤ block → (block == other) ≡ false
 apart block other low high = grind (arith, nat_tests)
@@ -91,9 +84,34 @@ past-blocks block address width sequential waits h =
     )
     refl
 
-pub high_price : (address : ℕ) (width : Width) (sequential : Bool) (waits : ℕ) → 16 ≤ address / 2 ^ 24
+-- what is above all memories
+high_price : (address : ℕ) (width : Width) (sequential : Bool) (waits : ℕ) → 16 ≤ address / 2 ^ 24
     → price (region_of address) width sequential waits ≡ 1
 unfolding region_of
 high_price address width sequential waits h = past-blocks (address / 2 ^ 24) address width sequential waits h
 
-pub ruleset block_rules = (kept_price, byte_prices, front_price, high_price)
+front-length : (width : Width) (sequential : Bool) (waits : ℕ) → length (block_prices width sequential waits) ≡ 16
+unfolding block_prices
+front-length width sequential waits = refl
+
+-- every block
+pub every_price : (address : ℕ) (width : Width) (sequential : Bool) (waits : ℕ) → address < 2 ^ 32
+    → slice_index (all_prices width sequential waits) (address / 2 ^ 24) ≡ price (region_of address) width sequential waits
+unfolding all_prices
+every_price address width sequential waits small =
+    let block = address / 2 ^ 24 in
+    let front = block_prices width sequential waits in
+    let long = front-length width sequential waits in
+    ⊎_elim
+    (λ (low : block < 16).
+    get_or_append_left front (replicate 240 1) 0 block (omega arith) ∙ kept_price address width sequential waits low)
+    (λ (high : 16 ≤ block).
+    get_or-append_right front (replicate 240 1) 16 block 0 long high
+    ∙ get_or-replicate 240 (block - 16) 1 0 (omega arith) ∙ sym (high_price address width sequential waits high))
+    (cases_lt block 16)
+
+pub all_byte_prices : (sequential : Bool) (waits : ℕ) → all_prices Byte sequential waits ≡ all_prices Half sequential waits
+unfolding all_prices
+all_byte_prices sequential waits = ap (λ front. front ++ replicate 240 1) (byte_prices sequential waits)
+
+pub ruleset block_rules = (all_byte_prices, every_price)

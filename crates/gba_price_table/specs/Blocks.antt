@@ -1,4 +1,4 @@
-use Rattle.std.specs.Prelude.{ℕ, Bool, List, [], ◌∷◌}
+use Rattle.std.specs.Prelude.{ℕ, Bool, List, [], ◌∷◌, ◌++◌, replicate}
 use Rattle.gba_bus.specs.Prices.{price}
 use Rattle.gba_bus.specs.declared.region.Region.TheVariants.{Bios, Work, Inner, Io, Palette, Vram, Oam, Rom0, Rom1, Rom2, Sram, Other}
 use Rattle.gba_bus.specs.declared.width.Width.{Width}
@@ -15,3 +15,7 @@ block_prices width sequential waits =
     ∷ price Rom1 width sequential waits ∷ price Rom1 width sequential waits
     ∷ price Rom2 width sequential waits ∷ price Rom2 width sequential waits
     ∷ price Sram width sequential waits ∷ price Sram width sequential waits ∷ []
+
+-- and in all 256 blocks: above the first sixteen there is nothing, which costs 1
+unfoldable pub all_prices : Width → Bool → ℕ → List ℕ
+all_prices width sequential waits = block_prices width sequential waits ++ replicate 240 1

@@ -1,8 +1,8 @@
 //! The table of prices.
 
-ghost use Rattle.std.specs.Prelude.{◌≡◌, ◌<◌};
+ghost use Rattle.std.specs.Prelude.{◌≡◌, ◌<◌, ◌++◌, replicate};
 ghost use Rattle.gba_bus.specs.Prices.{price};
-ghost use Rattle.gba_price_table.specs.Blocks.{block_prices};
+ghost use Rattle.gba_price_table.specs.Blocks.{all_prices, block_prices};
 
 use gba_bus::{Region, WaitControl, Width, price};
 use std::marker::Model;
@@ -43,50 +43,76 @@ fn prices(width: Width, sequential: bool, waits: &WaitControl) -> [u8; 16]
     ]
 }
 
+/// The prices in all blocks, by those in the first sixteen: what is above them costs 1.
+fn whole(front: &[u8; 16]) -> [u8; 256]
+    ensures { result ≡ front.now ++ replicate 240 1 }
+{
+    let mut all = [1; 256];
+    all[..16].copy_from_slice(front);
+    all
+}
+
+/// The prices of one kind of access in all blocks.
+#[tactic(auto, unfolding(crate::specs::Blocks::all_prices))]
+fn all_prices(width: Width, sequential: bool, waits: &WaitControl) -> [u8; 256]
+    ensures { result ≡ all_prices width sequential waits.now.value }
+{
+    whole(&prices(width, sequential, waits))
+}
+
 /// The prices under one wait control. Contracts see the number of that control, WAITCNT.
 #[derive(Drop)]
 pub struct PriceTable {
     waits: WaitControl,
     // Halfwords and bytes, then words; each first after a jump, then in a sequence.
-    half: [u8; 16],
-    next_half: [u8; 16],
-    word: [u8; 16],
-    next_word: [u8; 16],
+    half: [u8; 256],
+    next_half: [u8; 256],
+    word: [u8; 256],
+    next_word: [u8; 256],
 }
 
 impl Model for PriceTable {
     ghost use Rattle.std.specs.Prelude.{◌≡◌, ℕ, true, false};
     ghost use Rattle.gba_bus.specs.declared.width.Width.TheVariants.{Half, Word};
-    ghost use Rattle.gba_price_table.specs.Blocks.{block_prices};
+    ghost use Rattle.gba_price_table.specs.Blocks.{all_prices};
 
     ghost Value = { ℕ };
 
     ghost view = { λ t. t.waits.value };
 
     ghost invariant = { λ t.
-        (t.half ≡ block_prices Half false t.waits.value)
-        × (t.next_half ≡ block_prices Half true t.waits.value)
-        × (t.word ≡ block_prices Word false t.waits.value)
-        × (t.next_word ≡ block_prices Word true t.waits.value) };
+        (t.half ≡ all_prices Half false t.waits.value)
+        × (t.next_half ≡ all_prices Half true t.waits.value)
+        × (t.word ≡ all_prices Word false t.waits.value)
+        × (t.next_word ≡ all_prices Word true t.waits.value) };
 }
 
 impl PriceTable {
     ghost use Rattle.std.specs.Prelude.{◌≡◌, ◌<◌, slice_index};
     ghost use Rattle.gba_bus.specs.Prices.{price};
     ghost use Rattle.gba_bus.specs.Regions.{region_of};
-    ghost use Rattle.gba_price_table.specs.Blocks.{block_prices};
+    ghost use Rattle.gba_price_table.specs.Blocks.{all_prices};
 
     /// The prices under a wait control.
+    #[inline(never)]
     pub fn new(waits: &WaitControl) -> PriceTable
         ensures { result ≡ waits.now.value }
     {
         PriceTable {
             waits: *waits,
-            half: prices(Width::Half, false, waits),
-            next_half: prices(Width::Half, true, waits),
-            word: prices(Width::Word, false, waits),
-            next_word: prices(Width::Word, true, waits),
+            half: all_prices(Width::Half, false, waits),
+            next_half: all_prices(Width::Half, true, waits),
+            word: all_prices(Width::Word, false, waits),
+            next_word: all_prices(Width::Word, true, waits),
         }
+    }
+
+    /// Takes another wait control.
+    #[inline(never)]
+    pub fn renew(&mut self, waits: &WaitControl)
+        ensures { self.new ≡ waits.now.value }
+    {
+        *self = PriceTable::new(waits);
     }
 
     /// The wait control.
@@ -97,10 +123,10 @@ impl PriceTable {
     }
 
     /// The price in a block.
-    #[tactic(auto, using(crate::proofs::Blocks::byte_prices))]
+    #[tactic(auto, using(crate::proofs::Blocks::all_byte_prices))]
     fn found(&self, block: usize, width: Width, sequential: bool) -> u8
-        requires { block < 16 }
-        ensures { result ≡ slice_index (block_prices width sequential self.now) block }
+        requires { block < 256 }
+        ensures { result ≡ slice_index (all_prices width sequential self.now) block }
     {
         match width {
             Width::Byte | Width::Half => {
@@ -126,13 +152,6 @@ impl PriceTable {
     pub fn price(&self, address: u32, width: Width, sequential: bool) -> u32
         ensures { result ≡ price (region_of address) width sequential self.now }
     {
-        if address < 0x4000 {
-            return 1;
-        }
-        let block = (address >> 24) as usize;
-        if block >= 16 {
-            return 1;
-        }
-        u32::from(self.found(block, width, sequential))
+        u32::from(self.found((address >> 24) as usize, width, sequential))
     }
 }

@@ -24,11 +24,16 @@ pub fn perform_form<B: Bus>(registers: &mut Registers, bus: &mut B, site: Site, 
 {
     match one {
         Form::Quick { quick } => perform_quick_in_thumb(registers, bus, site, quick),
+        Form::BranchIf {
+            condition,
+            distance,
+        } => branch_under(registers, bus, site, *condition, *distance),
         _ => perform_near(registers, bus, site, one),
     }
 }
 
 // B under a condition.
+#[inline(always)]
 fn branch_under<B: Bus>(
     registers: &mut Registers,
     bus: &B,

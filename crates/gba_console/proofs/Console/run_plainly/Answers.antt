@@ -10,7 +10,7 @@ step_plainly-requires-clause-clock c =
     omega (arith, held.2, held.3, held.5, held.6, c.requires)
 
 pub returns-then-cycles-left-clause-until : goal.returns-then-cycles-left-clause-until
-returns-then-cycles-left-clause-until c = c.step_plainly.ensures.until ∙ c.loop-self.invariant.6
+returns-then-cycles-left-clause-until c = c.step_plainly-cycles.ensures.until ∙ c.loop-self.invariant.6
 
 pub returns-clause-until : goal.returns-clause-until
 returns-clause-until c = c.loop-self.invariant.6
@@ -18,19 +18,19 @@ returns-clause-until c = c.loop-self.invariant.6
 pub returns-then-cycles-left-clause-same_end : goal.returns-then-cycles-left-clause-same_end
 returns-then-cycles-left-clause-same_end c =
     let before = c.loop-self.self in
-    let step = c.step_plainly.ensures in
+    let step = c.step_plainly-cycles.ensures in
     let held = c.loop-self.invariant in
     let early : clock_of before < c.args.until = omega (arith, held.2, held.3, held.5) in
-    run-step c.enough.ensures c.args.until before c.step_plainly.new.self early (omega (arith, step.clock, step.some)) step.step
+    run-step c.enough.ensures c.args.until before c.step_plainly-cycles.new.self early (omega (arith, step.clock, step.some)) step.step
     ∙ held.0
 
 pub loop-self-preserved : goal.loop-self-preserved
 loop-self-preserved c =
     let before = c.loop-self.self in
-    let step = c.step_plainly.ensures in
+    let step = c.step_plainly-cycles.ensures in
     let held = c.loop-self.invariant in
     let early : clock_of before < c.args.until = omega (arith, held.2, held.3, held.5) in (
-      run-step c.enough.ensures c.args.until before c.step_plainly.new.self early (omega (arith, step.clock, step.some))
+      run-step c.enough.ensures c.args.until before c.step_plainly-cycles.new.self early (omega (arith, step.clock, step.some))
           step.step
           ∙ held.0,
       omega (arith, step.clock, held.1),

@@ -8,7 +8,7 @@ use Rattle.gba_console.proofs.Console.run_plainly.Given as goal
 abbrev pub invariant-loop-self : goal.invariant-loop-self
 invariant-loop-self l =
     (run_to l.until l.self ≡ run_to l.until l.fn.self) × (clock_of l.fn.self ≤ clock_of l.self)
-    × (clock_of l.self + l.left ≡ l.end) × (l.end ≤ l.until) × (l.end ≤ due_of l.self.keys) × (1 ≤ l.left)
+    × (clock_of l.self + l.left ≤ l.end) × (l.end ≤ l.until) × (l.end ≤ due_of l.self.keys) × (1 ≤ l.left)
     × (l.self.board.made.until ≡ l.fn.self.board.made.until)
 
 abbrev pub decreases-loop-self : goal.decreases-loop-self

@@ -1,15 +1,18 @@
-use Rattle.std.proofs.Common.{◌≡◌, ◌+◌, ◌-◌, ◌*◌, ◌≤◌, false}
+use Rattle.std.proofs.Common.{◌≡◌, ◌+◌, ◌*◌, ◌^◌, ◌<◌, ◌≤◌, false, length}
 use Rattle.gba_exec_transfers.specs.Blocks.{registers_in, loads}
 use Rattle.gba_exec_transfers.proofs.blocks.load_list.Given as goal
 
 -- what is left of the list leads to the same end
-abbrev pub invariant-loop-number : goal.invariant-loop-number
-invariant-loop-number g l = record {
-  within : l.number ≤ 16;
-  bounded : l.total ≤ l.fn.cycles + 18 * l.number;
+abbrev pub invariant-listed : goal.invariant-listed
+invariant-listed g l = record {
+  small : l.left < 2 ^ 16;
+  bounded : l.total + 18 * length (registers_in l.left 0 16) ≤ l.fn.cycles + 288;
   rest :
-      loads g.B.Bus.code_price_of g.B.Bus.load_of g.B.Bus.store_of l.fn.user l.fn.site (registers_in l.fn.run.list l.number (16 - l.number)) l.address l.sequential
+      loads g.B.Bus.code_price_of g.B.Bus.load_of g.B.Bus.store_of l.fn.user l.fn.site (registers_in l.left 0 16) l.address l.sequential
       (record { registers = l.registers; bus = g.B.Bus.state l.bus; cycles = l.total })
-      ≡ loads g.B.Bus.code_price_of g.B.Bus.load_of g.B.Bus.store_of l.fn.user l.fn.site (registers_in l.fn.run.list 0 16) l.fn.run.first false
+      ≡ loads g.B.Bus.code_price_of g.B.Bus.load_of g.B.Bus.store_of l.fn.user l.fn.site (registers_in l.fn.list 0 16) l.fn.first false
       (record { registers = l.fn.registers; bus = g.B.Bus.state l.fn.bus; cycles = l.fn.cycles });
 }
+
+abbrev pub decreases-listed : goal.decreases-listed
+decreases-listed g l = l.left
