@@ -1,0 +1,183 @@
+-- A line by itself: where the next one stands after it, and its bytes whatever its number.
+use Rattle.std.proofs.Common.{◌≡◌, ◌<◌, ℕ, ◌+◌, ◌*◌, ◌^◌, ◌/◌, ◌%◌, Bool, true, false, cond, not, List, [], ◌∷◌, ◌++◌, length, replicate, Option, Some, None, option_map, Result, Ok, Err, refl, sym, ap, ◌∙◌, subst, length-append, arith}
+use Rattle.std.specs.Int.{w16, w32, to_le_bytes}
+use Rattle.std.proofs.lemmas.List.{length-replicate}
+use Rattle.gba_arm_table.specs.Encoding.{encoding as arm_encoding}
+use Rattle.gba_thumb_table.specs.Encoding.{encoding as thumb_encoding}
+use Rattle.gba_asm_words.specs.declared.kinds.AsmKind.{AsmKind}
+use Rattle.gba_asm_words.specs.declared.kinds.AsmKind.TheVariants as kind
+use Rattle.gba_asm_words.specs.Kinds.{◌>>=◌, holds}
+use Rattle.gba_asm_words.specs.Numbers.{number_of}
+use Rattle.gba_asm_words.specs.Readers.{target_of}
+use Rattle.gba_asm_words.specs.Tokens.{Token, Word, Mark}
+use Rattle.gba_asm_thumb.specs.declared.placing.ThumbOps.{ThumbOps}
+use Rattle.gba_asm_thumb.specs.declared.placing.ThumbOps.TheVariants.{One, Two}
+use Rattle.gba_asm_thumb.specs.Placing as thumb_placing
+use Rattle.gba_asm_thumb.specs.Statement as thumb
+use Rattle.gba_asm.specs.declared.directives.Width.{Width}
+use Rattle.gba_asm.specs.declared.directives.Width.TheVariants as width
+use Rattle.gba_asm.specs.declared.places.Place.{Place}
+use Rattle.gba_asm.specs.Assembly.{line_bytes, lone_bytes}
+use Rattle.gba_asm.specs.Directives.{bytes_of, count_words}
+use Rattle.gba_asm.specs.Encoding.{item_bytes, items_bytes, data_bytes, statement_bytes, arm_word, thumb_code, thumb_bytes, encoded, aligned, in_range, address_in, address_of, below, or_operand}
+use Rattle.gba_asm.specs.Places.{Labels, no_labels, fits, place_after, past_statement, after_statement, state_after, is_repeated}
+use Rattle.gba_asm.specs.Statements.{Statement, Nothing, Mode, Data, Space, Align, Arm, Thumb, line_says, label_of, size_of, padding}
+
+-- what a step after another one gives, if it gives anything
+abbrev pub Gives : {A B : Type 0} → Result A AsmKind → (A → Result B AsmKind) → B → Type 0
+Gives {A = A} r f y = (x : A) × (r ≡ Ok x) × (f x ≡ Ok y)
+
+pub gave : {A B : Type 0} (r : Result A AsmKind) (f : A → Result B AsmKind) (y : B) → (r >>= f) ≡ Ok y → Gives r f y
+gave (Ok x) f y h = (x, refl, h)
+gave (Err kind) f y h = absurd cc
+
+item_size : (f : Labels) (w : Width) (word bytes : List ℕ) → item_bytes f w word ≡ Ok bytes → length bytes ≡ bytes_of w
+unfolding item_bytes
+item_size f width.Word word bytes h =
+    let g = gave (or_operand (target_of word) >>= address_of f) _ bytes h in
+    let same : to_le_bytes w32 g.0 ≡ bytes = cc (g.2) in
+    sym (ap length same)
+item_size f width.Half word bytes h =
+    let g = gave (or_operand (number_of word) >>= below (2 ^ 16)) _ bytes h in
+    let same : to_le_bytes w16 g.0 ≡ bytes = cc (g.2) in
+    sym (ap length same)
+item_size f width.Byte word bytes h =
+    let g = gave (or_operand (number_of word) >>= below (2 ^ 8)) _ bytes h in
+    let same : g.0 ∷ [] ≡ bytes = cc (g.2) in
+    sym (ap length same)
+
+items_size : (f : Labels) (w : Width) (items : List Token) (bytes : List ℕ) → items_bytes f w items ≡ Ok bytes
+    → length bytes ≡ bytes_of w * count_words items
+unfolding items_bytes count_words
+items_size f w [] bytes h =
+    let same : [] ≡ bytes = cc in
+    grind (arith, ap length same)
+items_size f w (Mark m ∷ items) bytes h = items_size f w items bytes h
+items_size f w (Word word ∷ items) bytes h =
+    let g = gave (item_bytes f w word) _ bytes h in
+    let g' = gave (items_bytes f w items) _ bytes g.2 in
+    let same : g.0 ++ g'.0 ≡ bytes = cc (g'.2) in
+    let first = item_size f w word g.0 g.1 in
+    let rest = items_size f w items g'.0 g'.1 in
+    omega (arith, ap length same, length-append g.0 g'.0, first, rest)
+
+ops_size : (ops : ThumbOps) → ℕ
+ops_size (One op) = 2
+ops_size (Two first second) = 4
+
+half_size : (ops : ThumbOps) (bytes : List ℕ) → thumb_bytes ops ≡ Ok bytes → length bytes ≡ ops_size ops
+unfolding ops_size
+half_size (One op) bytes h =
+    let g = gave (encoded (thumb_encoding op)) _ bytes h in
+    let same : to_le_bytes w16 g.0 ≡ bytes = cc (g.2) in
+    sym (ap length same)
+half_size (Two first second) bytes h =
+    let g = gave (encoded (thumb_encoding first)) _ bytes h in
+    let g' = gave (encoded (thumb_encoding second)) _ bytes g.2 in
+    let same : to_le_bytes w16 g.0 ++ to_le_bytes w16 g'.0 ≡ bytes = cc (g'.2) in
+    sym (ap length same)
+
+mapped_size : {A : Type 0} (o : Option A) (g : A → ThumbOps) (ops : ThumbOps) (n : ℕ) → ((x : A) → ops_size (g x) ≡ n)
+    → option_map g o ≡ Some ops → ops_size ops ≡ n
+mapped_size (Some x) g ops n each h =
+    let same : g x ≡ ops = cc in
+    subst (λ o. ops_size o ≡ n) same (each x)
+mapped_size None g ops n each h = absurd cc
+
+placed_size : (address target : ℕ) (s : thumb.ThumbStatement) (ops : ThumbOps)
+    → thumb_placing.operations_at address target s ≡ Some ops → ops_size ops ≡ thumb_placing.size_of s
+unfolding thumb_placing.operations_at ops_size
+placed_size address target (thumb.Operation op) ops h = mapped_size op _ ops 2 (λ x. refl) h
+placed_size address target (thumb.Branch t) ops h = mapped_size _ _ ops 2 (λ x. refl) h
+placed_size address target (thumb.BranchIf cond t) ops h = mapped_size _ _ ops 2 (λ x. refl) h
+placed_size address target (thumb.Call t) ops h = mapped_size _ _ ops 4 (λ x. refl) h
+
+was_in_range : {T : Type 0} (o : Option T) (x : T) → in_range o ≡ Ok x → o ≡ Some x
+was_in_range (Some y) x h = cc
+was_in_range None x h = absurd cc
+
+thumb_statement_size : (f : Labels) (address : ℕ) (s : thumb.ThumbStatement) (bytes : List ℕ) → thumb_code f address s ≡ Ok bytes
+    → length bytes ≡ thumb_placing.size_of s
+unfolding thumb_code
+thumb_statement_size f address s bytes h =
+    let t = gave (address_in f (thumb_placing.target_of s)) _ bytes h in
+    let a = gave (aligned 2 address) _ bytes t.2 in
+    let o = gave (in_range (thumb_placing.operations_at address t.0 s)) _ bytes a.2 in
+    half_size o.0 bytes o.2 ∙ placed_size address t.0 s o.0 (was_in_range _ _ o.1)
+
+-- a statement has as many bytes as its size says
+pub bytes_size : (f : Labels) (address : ℕ) (s : Statement) (bytes : List ℕ) → statement_bytes f address s ≡ Ok bytes
+    → length bytes ≡ size_of address s
+unfolding statement_bytes size_of
+bytes_size f address Nothing bytes h =
+    let same : [] ≡ bytes = cc in
+    sym (ap length same)
+bytes_size f address (Mode thumb) bytes h =
+    let same : [] ≡ bytes = cc in
+    sym (ap length same)
+bytes_size f address (Data w items) bytes h =
+    let g = gave (items_bytes f w items) _ bytes h in
+    let g' = gave (aligned (bytes_of w) address) _ bytes g.2 in
+    let same : g.0 ≡ bytes = cc (g'.2) in
+    sym (ap length same) ∙ items_size f w items g.0 g.1
+bytes_size f address (Space count) bytes h =
+    let same : replicate count 0 ≡ bytes = cc in
+    sym (ap length same) ∙ length-replicate count 0
+bytes_size f address Align bytes h =
+    let same : replicate (padding address) 0 ≡ bytes = cc in
+    sym (ap length same) ∙ length-replicate (padding address) 0
+bytes_size f address (Arm s) bytes h =
+    let g = gave (arm_word f address s) _ bytes h in
+    let same : to_le_bytes w32 g.0 ≡ bytes = cc (g.2) in
+    sym (ap length same)
+bytes_size f address (Thumb s) bytes h = thumb_statement_size f address s bytes h
+
+-- a statement with bytes leaves the state
+stays : (f : Labels) (address : ℕ) (s : Statement) (bytes : List ℕ) (thumb : Bool) → statement_bytes f address s ≡ Ok bytes
+    → 0 < length bytes → state_after thumb s ≡ thumb
+unfolding statement_bytes
+stays f address Nothing bytes thumb h some = refl
+stays f address (Mode state) bytes thumb h some =
+    let same : [] ≡ bytes = cc in
+    absurd (omega (arith, ap length same, some))
+stays f address (Data w items) bytes thumb h some = refl
+stays f address (Space count) bytes thumb h some = refl
+stays f address Align bytes thumb h some = refl
+stays f address (Arm s) bytes thumb h some = refl
+stays f address (Thumb s) bytes thumb h some = refl
+
+-- The line gives these bytes in a source without labels, whatever its number, and the next line stands behind them.
+pub record IsLone (thumb : Bool) (address : ℕ) (line bytes : List ℕ) : Type 0 where
+  pub given : (number : ℕ) → line_bytes no_labels number (record { address = address; thumb = thumb }) line ≡ Ok bytes
+  pub next : place_after (record { address = address; thumb = thumb }) line
+      ≡ record { address = address + length bytes; thumb = thumb }
+
+held : (b : Bool) (kind : AsmKind) (x : Bool) → holds b kind ≡ Ok x → b ≡ true
+held true kind x h = refl
+held false kind x h = absurd cc
+
+after_by : (p : Place) (r : Result Statement AsmKind) (s : Statement) → r ≡ Ok s → fits p.address (size_of p.address s) ≡ true
+    → past_statement p r ≡ after_statement p s
+after_by p r s e h = rw (e, h) refl
+
+given_by : (number : ℕ) (p : Place) (line : List ℕ) (s : Statement) (bytes : List ℕ) → line_says p.thumb line ≡ Ok s
+    → fits p.address (size_of p.address s) ≡ true → label_of line ≡ None
+    → statement_bytes no_labels p.address s ≡ Ok bytes → line_bytes no_labels number p line ≡ Ok bytes
+unfolding line_bytes
+given_by number p line s bytes said inside none h = rw (said, inside, none) h
+
+pub lone : (thumb : Bool) (address : ℕ) (line bytes : List ℕ) → lone_bytes thumb address line ≡ Ok bytes
+    → label_of line ≡ None → 0 < length bytes → IsLone thumb address line bytes
+unfolding lone_bytes line_bytes place_after
+lone thumb address line bytes h none some =
+    let p : Place = record { address = address; thumb = thumb } in
+    let s = gave (line_says thumb line) _ bytes h in
+    let room = gave (holds (fits address (size_of address s.0)) kind.Size) _ bytes s.2 in
+    let once = gave (holds (not (is_repeated no_labels 1 (label_of line))) kind.Repeated) _ bytes room.2 in
+    let inside = held _ _ _ room.1 in
+    let size = bytes_size no_labels address s.0 bytes once.2 in
+    record {
+      given = λ number. given_by number p line s.0 bytes s.1 inside none once.2;
+      next = after_by p (line_says thumb line) s.0 s.1 inside
+          ∙ rw (← size, stays no_labels address s.0 bytes thumb once.2 some) refl;
+    }
