@@ -1,14 +1,15 @@
 -- A line by itself: where the next one stands after it, and its bytes whatever its number.
-use Rattle.std.proofs.Common.{◌≡◌, ◌<◌, ℕ, ◌+◌, ◌*◌, ◌^◌, ◌/◌, ◌%◌, Bool, true, false, cond, not, List, [], ◌∷◌, ◌++◌, length, replicate, Option, Some, None, option_map, Result, Ok, Err, refl, sym, ap, ◌∙◌, subst, length-append, arith}
+use Rattle.std.proofs.Common.{◌≡◌, ◌<◌, ℕ, ◌+◌, ◌*◌, ◌^◌, ◌/◌, ◌%◌, Bool, true, false, cond, not, List, [], ◌∷◌, ◌++◌, length, replicate, Option, Some, None, option_map, Result, Ok, Err, refl, sym, ap, ◌∙◌, subst, length-append, codes, ◌≤◌, lt-ltb, le-leb, arith}
 use Rattle.std.specs.Int.{w16, w32, to_le_bytes}
 use Rattle.std.proofs.lemmas.List.{length-replicate}
+use Rattle.gba_text.specs.Lines.{lines}
 use Rattle.gba_arm_table.specs.Encoding.{encoding as arm_encoding}
 use Rattle.gba_thumb_table.specs.Encoding.{encoding as thumb_encoding}
 use Rattle.gba_asm_words.specs.declared.kinds.AsmKind.{AsmKind}
 use Rattle.gba_asm_words.specs.declared.kinds.AsmKind.TheVariants as kind
 use Rattle.gba_asm_words.specs.Kinds.{◌>>=◌, holds}
 use Rattle.gba_asm_words.specs.Numbers.{number_of}
-use Rattle.gba_asm_words.specs.Readers.{target_of}
+use Rattle.gba_asm_words.specs.Readers.{Address, target_of}
 use Rattle.gba_asm_words.specs.Tokens.{Token, Word, Mark}
 use Rattle.gba_asm_thumb.specs.declared.placing.ThumbOps.{ThumbOps}
 use Rattle.gba_asm_thumb.specs.declared.placing.ThumbOps.TheVariants.{One, Two}
@@ -17,11 +18,13 @@ use Rattle.gba_asm_thumb.specs.Statement as thumb
 use Rattle.gba_asm.specs.declared.directives.Width.{Width}
 use Rattle.gba_asm.specs.declared.directives.Width.TheVariants as width
 use Rattle.gba_asm.specs.declared.places.Place.{Place}
-use Rattle.gba_asm.specs.Assembly.{line_bytes, lone_bytes}
-use Rattle.gba_asm.specs.Directives.{bytes_of, count_words}
+use Rattle.gba_asm.specs.Assembly.{assembly_of, line_bytes, lines_give, lone_bytes, longest_source}
+use Rattle.gba_asm.specs.Directives.{are_items, bytes_of, count_words, directive_of}
 use Rattle.gba_asm.specs.Encoding.{item_bytes, items_bytes, data_bytes, statement_bytes, arm_word, thumb_code, thumb_bytes, encoded, aligned, in_range, address_in, address_of, below, or_operand}
-use Rattle.gba_asm.specs.Places.{Labels, no_labels, fits, place_after, past_statement, after_statement, state_after, is_repeated}
-use Rattle.gba_asm.specs.Statements.{Statement, Nothing, Mode, Data, Space, Align, Arm, Thumb, line_says, label_of, size_of, padding}
+use Rattle.gba_asm.specs.Places.{Labels, labels_from, labels_of, no_labels, start, fits, place_after, past_statement, after_statement, state_after, is_repeated}
+use Rattle.gba_asm.specs.Statements.{Statement, Nothing, Mode, Data, Space, Align, Arm, Thumb, line_says, label_of, size_of, padding, directive_form, statement_of}
+use Rattle.gba_asm.proofs.Passes.{lines_give-more, lines_give-end}
+use Rattle.gba_asm.proofs.Relation.{assembly_of-lines}
 
 -- what a step after another one gives, if it gives anything
 abbrev pub Gives : {A B : Type 0} → Result A AsmKind → (A → Result B AsmKind) → B → Type 0
@@ -181,3 +184,179 @@ lone thumb address line bytes h none some =
       next = after_by p (line_says thumb line) s.0 s.1 inside
           ∙ rw (← size, stays no_labels address s.0 bytes thumb once.2 some) refl;
     }
+
+-- Tokens that say a statement with these bytes at this address.
+pub record Tells (thumb : Bool) (address : ℕ) (tokens : List Token) (bytes : List ℕ) : Type 0 where
+  pub statement : Statement
+  pub said : statement_of thumb tokens ≡ Ok statement
+  pub inside : fits address (size_of address statement) ≡ true
+  pub given : statement_bytes no_labels address statement ≡ Ok bytes
+
+-- a line with these tokens gives the bytes
+pub told : (thumb : Bool) (address : ℕ) (line : List ℕ) (tokens : List Token) (bytes : List ℕ)
+    → line_says thumb line ≡ statement_of thumb tokens → label_of line ≡ None → Tells thumb address tokens bytes
+    → lone_bytes thumb address line ≡ Ok bytes
+unfolding lone_bytes
+told thumb address line tokens bytes same none t =
+    given_by 1 (record { address = address; thumb = thumb }) line t.statement bytes (same ∙ t.said) t.inside none t.given
+
+word_target : (word : List ℕ) (n : ℕ) → number_of word ≡ Some n → target_of word ≡ Some (Address n)
+unfolding target_of
+word_target word n h = rw h refl
+
+word_says : (thumb : Bool) (word : List ℕ) (n : ℕ) → target_of word ≡ Some (Address n)
+    → statement_of thumb (Word (codes ".word") ∷ Word word ∷ []) ≡ Ok (Data width.Word (Word word ∷ []))
+unfolding statement_of directive_of directive_form are_items
+word_says thumb word n h = rw h refl
+
+word_gives : (address : ℕ) (word : List ℕ) (n : ℕ) → target_of word ≡ Some (Address n) → address % 4 ≡ 0
+    → statement_bytes no_labels address (Data width.Word (Word word ∷ [])) ≡ Ok (to_le_bytes w32 n)
+unfolding statement_bytes items_bytes item_bytes
+word_gives address word n h a = rw (h, a) refl
+
+fits_by : (address size : ℕ) → address + size ≤ 33554432 → fits address size ≡ true
+fits_by address size h = le-leb _ _ h
+
+-- `.word` and a number
+pub word_line : (thumb : Bool) (address : ℕ) (word : List ℕ) (n : ℕ) → number_of word ≡ Some n → address % 4 ≡ 0
+    → address + 4 ≤ 33554432 → Tells thumb address (Word (codes ".word") ∷ Word word ∷ []) (to_le_bytes w32 n)
+unfolding size_of count_words
+word_line thumb address word n h a room =
+    let t = word_target word n h in
+    record {
+      statement = Data width.Word (Word word ∷ []);
+      said = word_says thumb word n t;
+      inside = fits_by address 4 room;
+      given = word_gives address word n t a;
+    }
+
+half_says : (thumb : Bool) (word : List ℕ) (n : ℕ) → number_of word ≡ Some n
+    → statement_of thumb (Word (codes ".half") ∷ Word word ∷ []) ≡ Ok (Data width.Half (Word word ∷ []))
+unfolding statement_of directive_of directive_form are_items
+half_says thumb word n h = rw h refl
+
+half_gives : (address : ℕ) (word : List ℕ) (n : ℕ) → number_of word ≡ Some n → n < 2 ^ 16 → address % 2 ≡ 0
+    → statement_bytes no_labels address (Data width.Half (Word word ∷ [])) ≡ Ok (to_le_bytes w16 n)
+unfolding statement_bytes items_bytes item_bytes
+half_gives address word n h small a = rw (h, lt-ltb _ _ small, a) refl
+
+-- `.half` and a number
+pub half_line : (thumb : Bool) (address : ℕ) (word : List ℕ) (n : ℕ) → number_of word ≡ Some n → n < 2 ^ 16
+    → address % 2 ≡ 0 → address + 2 ≤ 33554432
+    → Tells thumb address (Word (codes ".half") ∷ Word word ∷ []) (to_le_bytes w16 n)
+unfolding size_of count_words
+half_line thumb address word n h small a room = record {
+  statement = Data width.Half (Word word ∷ []);
+  said = half_says thumb word n h;
+  inside = fits_by address 2 room;
+  given = half_gives address word n h small a;
+}
+
+halves_say : (thumb : Bool) (v w : List ℕ) (m n : ℕ) → number_of v ≡ Some m → number_of w ≡ Some n
+    → statement_of thumb (Word (codes ".half") ∷ Word v ∷ Mark 44 ∷ Word w ∷ [])
+    ≡ Ok (Data width.Half (Word v ∷ Mark 44 ∷ Word w ∷ []))
+unfolding statement_of directive_of directive_form are_items
+halves_say thumb v w m n h k = rw (h, k) refl
+
+halves_give : (address : ℕ) (v w : List ℕ) (m n : ℕ) → number_of v ≡ Some m → number_of w ≡ Some n → m < 2 ^ 16 → n < 2 ^ 16
+    → address % 2 ≡ 0
+    → statement_bytes no_labels address (Data width.Half (Word v ∷ Mark 44 ∷ Word w ∷ []))
+    ≡ Ok (to_le_bytes w16 m ++ to_le_bytes w16 n)
+unfolding statement_bytes items_bytes item_bytes
+halves_give address v w m n h k small low a = rw (h, lt-ltb _ _ small, k, lt-ltb _ _ low, a) refl
+
+-- `.half` and two numbers
+pub halves_line : (thumb : Bool) (address : ℕ) (v w : List ℕ) (m n : ℕ) → number_of v ≡ Some m → number_of w ≡ Some n
+    → m < 2 ^ 16 → n < 2 ^ 16 → address % 2 ≡ 0 → address + 4 ≤ 33554432
+    → Tells thumb address (Word (codes ".half") ∷ Word v ∷ Mark 44 ∷ Word w ∷ []) (to_le_bytes w16 m ++ to_le_bytes w16 n)
+unfolding size_of count_words
+halves_line thumb address v w m n h k small low a room = record {
+  statement = Data width.Half (Word v ∷ Mark 44 ∷ Word w ∷ []);
+  said = halves_say thumb v w m n h k;
+  inside = fits_by address 4 room;
+  given = halves_give address v w m n h k small low a;
+}
+
+byte_says : (thumb : Bool) (word : List ℕ) (n : ℕ) → number_of word ≡ Some n
+    → statement_of thumb (Word (codes ".byte") ∷ Word word ∷ []) ≡ Ok (Data width.Byte (Word word ∷ []))
+unfolding statement_of directive_of directive_form are_items
+byte_says thumb word n h = rw h refl
+
+byte_gives : (address : ℕ) (word : List ℕ) (n : ℕ) → number_of word ≡ Some n → n < 2 ^ 8
+    → statement_bytes no_labels address (Data width.Byte (Word word ∷ [])) ≡ Ok (n ∷ [])
+unfolding statement_bytes items_bytes item_bytes
+byte_gives address word n h small =
+    let unit : address % 1 ≡ 0 = omega arith in
+    rw (h, lt-ltb _ _ small, unit) refl
+
+-- `.byte` and a number
+pub byte_line : (thumb : Bool) (address : ℕ) (word : List ℕ) (n : ℕ) → number_of word ≡ Some n → n < 2 ^ 8
+    → address + 1 ≤ 33554432 → Tells thumb address (Word (codes ".byte") ∷ Word word ∷ []) (n ∷ [])
+unfolding size_of count_words
+byte_line thumb address word n h small room = record {
+  statement = Data width.Byte (Word word ∷ []);
+  said = byte_says thumb word n h;
+  inside = fits_by address 1 room;
+  given = byte_gives address word n h small;
+}
+
+-- lines by themselves, one after another from this address on, with these bytes in all
+abbrev pub AreLone : Bool → ℕ → List (List ℕ) → List ℕ → Type 0
+AreLone thumb address [] bytes = bytes ≡ []
+AreLone thumb address (line ∷ lines) bytes =
+    (first : List ℕ) × (rest : List ℕ) × IsLone thumb address line first × (label_of line ≡ None)
+    × AreLone thumb (address + length first) lines rest × (bytes ≡ first ++ rest)
+
+pub lone_give : (thumb : Bool) (address number : ℕ) (ls : List (List ℕ)) (bytes : List ℕ) → AreLone thumb address ls bytes
+    → lines_give no_labels number (record { address = address; thumb = thumb }) ls ≡ Ok bytes
+lone_give thumb address number [] bytes h = lines_give-end no_labels number _ ∙ ap Ok (sym h)
+lone_give thumb address number (line ∷ ls) bytes h =
+    let lone = h.2 in
+    lines_give-more no_labels number (record { address = address; thumb = thumb }) line ls
+    ∙ rw (lone.given (number + 1), lone.next, lone_give thumb (address + length h.0) (number + 1) ls h.1 h.4, h.5) refl
+
+lone_labels : (thumb : Bool) (address number : ℕ) (ls : List (List ℕ)) (bytes : List ℕ) → AreLone thumb address ls bytes
+    → labels_from no_labels number (record { address = address; thumb = thumb }) ls ≡ no_labels
+unfolding labels_from
+lone_labels thumb address number [] bytes h = refl
+lone_labels thumb address number (line ∷ ls) bytes h =
+    let lone = h.2 in
+    rw (h.3, lone.next) (lone_labels thumb (address + length h.0) (number + 1) ls h.1 h.4)
+
+-- a source of such lines in ARM code
+pub lone_arm : (source bytes : List ℕ) → length source ≤ longest_source → AreLone false 0 (lines source) bytes
+    → assembly_of source ≡ Ok bytes
+unfolding labels_of
+lone_arm source bytes short h =
+    assembly_of-lines source short
+    ∙ ap (λ (f : Labels). lines_give f 0 start (lines source)) (lone_labels false 0 0 (lines source) bytes h)
+    ∙ lone_give false 0 0 (lines source) bytes h
+
+thumb_says : statement_of false (Word (codes ".thumb") ∷ []) ≡ Ok (Mode true)
+unfolding statement_of directive_of directive_form
+thumb_says = refl
+
+turned : (line : List ℕ) → line_says false line ≡ Ok (Mode true) → place_after start line ≡ record { address = 0; thumb = true }
+unfolding place_after size_of
+turned line h = rw h refl
+
+mode_gives : (line : List ℕ) → line_says false line ≡ Ok (Mode true) → label_of line ≡ None
+    → line_bytes no_labels 1 start line ≡ Ok []
+unfolding line_bytes size_of statement_bytes
+mode_gives line h none = rw (h, none) refl
+
+-- a source of such lines in Thumb code, after a line `.thumb`
+pub lone_thumb : (source line bytes : List ℕ) (rest : List (List ℕ)) → length source ≤ longest_source
+    → lines source ≡ line ∷ rest → line_says false line ≡ statement_of false (Word (codes ".thumb") ∷ [])
+    → label_of line ≡ None → AreLone true 0 rest bytes → assembly_of source ≡ Ok bytes
+unfolding labels_of labels_from
+lone_thumb source line bytes rest short split says none h =
+    let said = says ∙ thumb_says in
+    let found : labels_of source ≡ no_labels =
+    rw (split, none, turned line said) (lone_labels true 0 1 rest bytes h) in
+    assembly_of-lines source short
+    ∙ rw (found, split) (lines_give-more no_labels 0 start line rest ∙ rw (
+      mode_gives line said none,
+      turned line said,
+      lone_give true 0 1 rest bytes h,
+    ) refl)

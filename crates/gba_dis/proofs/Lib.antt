@@ -5,3 +5,6 @@ pub mod Numerals
 pub mod Spelling
 pub mod Lines
 pub mod Shapes
+pub mod ThumbShapes
+pub mod Data
+pub mod Back

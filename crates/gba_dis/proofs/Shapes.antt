@@ -1,4 +1,4 @@
--- Every statement's line is read as its pieces, and is short: at most 126 bytes in ARM code and 62 in Thumb code.
+-- Every statement's line is read as its pieces, and is short: at most 123 bytes in ARM code and 61 in Thumb code.
 use Rattle.std.proofs.Common.{◌≡◌, ◌<◌, ◌≤◌, ℕ, zero, suc, ◌+◌, ◌*◌, ◌-◌, ◌/◌, ◌%◌, ◌^◌, Bool, true, false, cond, not, ◌&&◌, ◌==◌, nat_lt, List, [], ◌∷◌, ◌++◌, length, codes, Option, Some, None, IfSome, refl, sym, ap, ◌∙◌, length-append, append_assoc, lit<, lit≤, arith}
 use Rattle.std.specs.List.{list_all}
 use Rattle.std.proofs.lemmas.Bool.Decides.{nat_tests}
@@ -166,7 +166,7 @@ entry_fine m n list more false true h ends rest = wider (omega arith) (after_com
 entry_fine m n list more first false h ends rest = wider (omega arith) (rest first)
 
 -- so many registers of a list, before the others
-front_fine : (j : ℕ) (m n list others more : ℕ) → more ≡ j + others → n + j ≤ 16
+pub front_fine : (j : ℕ) (m n list others more : ℕ) → more ≡ j + others → n + j ≤ 16
     → ((first : Bool) → Fine m (entries_from others (n + j) first list)) → (first : Bool)
     → Fine (5 * j + m) (entries_from more n first list)
 unfolding entries_from
@@ -199,7 +199,7 @@ pub braces_fine : {m k : ℕ} {ps : List Piece} (list : ℕ) → Fine m (entries
 braces_fine {ps = ps} list e f = rw braces_joined (after_mark 123 refl (appended e (after_mark 125 refl f) tt))
 
 -- names
-condition_letters : (c : Condition) → Letters 2 (condition_text c)
+pub condition_letters : (c : Condition) → Letters 2 (condition_text c)
 condition_letters Equal = record { all = refl; few = lit≤ tt }
 condition_letters NotEqual = record { all = refl; few = lit≤ tt }
 condition_letters CarrySet = record { all = refl; few = lit≤ tt }
@@ -307,7 +307,7 @@ fields_letters fields =
     (if_letters (bit fields 0) 1 (codes "c") (record { all = refl; few = lit≤ tt }))
 
 -- operands
-immediate_fine : {k : ℕ} {ps : List Piece} (n : ℕ) → EndsWord ps → Fine k ps → Fine (11 + k) (Mark 35 ∷ number n ∷ ps)
+pub immediate_fine : {k : ℕ} {ps : List Piece} (n : ℕ) → EndsWord ps → Fine k ps → Fine (11 + k) (Mark 35 ∷ number n ∷ ps)
 immediate_fine n ends f = wider (omega arith) (after_mark 35 refl (after_number n ends f))
 
 shifted_fine : (s : Shift) (n : ℕ) → Fine 17 (shifted s n)
@@ -418,7 +418,7 @@ block_fine rn list false user h =
     wider (lit≤ tt) (after_register rn h tt (after_comma (braces_fine list (entries_fine list) (user_fine user))))
 
 -- the line of an ARM statement
-pub arm_fine : (at : ℕ) (o : ArmOp) → Fits o → Fine 126 (arm_pieces at o)
+pub arm_fine : (at : ℕ) (o : ArmOp) → Fits o → Fine 123 (arm_pieces at o)
 unfolding arm_pieces
 arm_fine at (operation.Exchange c rm) h =
     wider (lit≤ tt) (named {j = 2} {k = 0} {base = codes "bx"} {suffix = []} c (record { all = refl; few = lit≤ tt }) (lit< tt) (record { all = refl; few = lit≤ tt })

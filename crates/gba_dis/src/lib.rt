@@ -2,6 +2,7 @@
 //! The disassembler: `disassemble` gives the listing of bytes, a source that the assembler turns into the same bytes.
 
 mod arm;
+pub mod laws;
 mod listing;
 mod pieces;
 mod thumb;

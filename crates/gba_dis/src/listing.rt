@@ -2,6 +2,7 @@
 
 ghost use Rattle.std.specs.Prelude.{◌≡◌, ◌≤◌, ◌++◌, ◌∷◌, [], IfOk, OnOk, length};
 ghost use Rattle.std.specs.Str.{bytes_eq};
+ghost use Rattle.gba_asm.specs.Language.{Says};
 ghost use Rattle.gba_dis.specs.Listing.{data_pieces, gives, heading, line_text, lines_of, listing, statement};
 ghost use Rattle.gba_dis.specs.Pieces.{text_of};
 ghost use Rattle.gba_dis.specs.Units.{bytes_of, is_thumb, units};
@@ -167,10 +168,8 @@ fn enough_room(alloc: Global, set: Set, bytes: &[u8]) -> Result<usize, AllocErro
     Ok(room)
 }
 
-/// The listing of bytes that begin at address 0, as ARM or as Thumb code: a line for each word or halfword, its
-/// statement, or its data where the statement wouldn't be assembled to the same bits there. Its memory is taken once.
 #[tactic(auto, unfolding(crate::specs::Listing::listing))]
-pub fn disassemble(alloc: Global, bytes: &[u8], set: Set) -> Result<Vec<u8>, NoMemory>
+fn list_bytes(alloc: Global, bytes: &[u8], set: Set) -> Result<Vec<u8>, NoMemory>
     requires { length bytes.now ≤ 33554432 }
     ensures { IfOk result (λ text. text.items ≡ listing set bytes.now) }
 {
@@ -179,4 +178,15 @@ pub fn disassemble(alloc: Global, bytes: &[u8], set: Set) -> Result<Vec<u8>, NoM
     add_heading(&mut text, set)?;
     add_lines(alloc, set, bytes, &mut text)?;
     Ok(text)
+}
+
+/// The listing of bytes that begin at address 0, as ARM or as Thumb code: a line for each word or halfword, its
+/// statement, or its data where the statement wouldn't be assembled to the same bits there. It takes memory once for the
+/// listing, and a few bytes beside it.
+pub fn disassemble(alloc: Global, bytes: &[u8], set: Set) -> Result<Vec<u8>, NoMemory>
+    requires { length bytes.now ≤ 33554432 }
+    ensures listing { IfOk result (λ text. text.items ≡ listing set bytes.now) }
+    ensures comes_back { IfOk result (λ text. Says text.items (Ok bytes.now)) }
+{
+    list_bytes(alloc, bytes, set)
 }
