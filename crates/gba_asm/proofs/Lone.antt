@@ -13,6 +13,8 @@ use Rattle.gba_asm_words.specs.Readers.{Address, target_of}
 use Rattle.gba_asm_words.specs.Tokens.{Token, Word, Mark}
 use Rattle.gba_asm_thumb.specs.declared.placing.ThumbOps.{ThumbOps}
 use Rattle.gba_asm_thumb.specs.declared.placing.ThumbOps.TheVariants.{One, Two}
+use Rattle.gba_thumb_table.specs.declared.operation.ThumbOp.{ThumbOp}
+use Rattle.gba_asm_thumb.specs.Forms.{thumb_statement}
 use Rattle.gba_asm_thumb.specs.Placing as thumb_placing
 use Rattle.gba_asm_thumb.specs.Statement as thumb
 use Rattle.gba_asm.specs.declared.directives.Width.{Width}
@@ -360,3 +362,53 @@ lone_thumb source line bytes rest short split says none h =
       turned line said,
       lone_give true 0 1 rest bytes h,
     ) refl)
+
+machine_said : (word : List ℕ) (ts : List Token) (s : thumb.ThumbStatement) → directive_of word ≡ None
+    → thumb_statement word ts ≡ Ok s → statement_of true (Word word ∷ ts) ≡ Ok (Thumb s)
+unfolding statement_of
+machine_said word ts s none h = rw (none, h) refl
+
+one_given : (address target half : ℕ) (s : thumb.ThumbStatement) (op : ThumbOp)
+    → address_in no_labels (thumb_placing.target_of s) ≡ Ok target
+    → thumb_placing.operations_at address target s ≡ Some (One op) → thumb_encoding op ≡ Ok half → address % 2 ≡ 0
+    → statement_bytes no_labels address (Thumb s) ≡ Ok (to_le_bytes w16 half)
+unfolding statement_bytes thumb_code
+one_given address target half s op t o e a = rw (t, a, o, e) refl
+
+-- a Thumb statement of one halfword
+pub thumb_line : (address target half : ℕ) (word : List ℕ) (ts : List Token) (s : thumb.ThumbStatement) (op : ThumbOp)
+    → directive_of word ≡ None → thumb_statement word ts ≡ Ok s
+    → address_in no_labels (thumb_placing.target_of s) ≡ Ok target
+    → thumb_placing.operations_at address target s ≡ Some (One op) → thumb_encoding op ≡ Ok half
+    → thumb_placing.size_of s ≡ 2 → address % 2 ≡ 0 → address + 2 ≤ 33554432
+    → Tells true address (Word word ∷ ts) (to_le_bytes w16 half)
+unfolding size_of
+thumb_line address target half word ts s op none h t o e size a room = record {
+  statement = Thumb s;
+  said = machine_said word ts s none h;
+  inside = rw size (fits_by address 2 room);
+  given = one_given address target half s op t o e a;
+}
+
+two_given : (address target first second : ℕ) (s : thumb.ThumbStatement) (a b : ThumbOp)
+    → address_in no_labels (thumb_placing.target_of s) ≡ Ok target
+    → thumb_placing.operations_at address target s ≡ Some (Two a b) → thumb_encoding a ≡ Ok first
+    → thumb_encoding b ≡ Ok second → address % 2 ≡ 0
+    → statement_bytes no_labels address (Thumb s) ≡ Ok (to_le_bytes w16 first ++ to_le_bytes w16 second)
+unfolding statement_bytes thumb_code
+two_given address target first second s a b t o e f even = rw (t, even, o, e, f) refl
+
+-- a Thumb statement of two halfwords
+pub call_line : (address target first second : ℕ) (word : List ℕ) (ts : List Token) (s : thumb.ThumbStatement)
+    (a b : ThumbOp) → directive_of word ≡ None → thumb_statement word ts ≡ Ok s
+    → address_in no_labels (thumb_placing.target_of s) ≡ Ok target
+    → thumb_placing.operations_at address target s ≡ Some (Two a b) → thumb_encoding a ≡ Ok first
+    → thumb_encoding b ≡ Ok second → thumb_placing.size_of s ≡ 4 → address % 2 ≡ 0 → address + 4 ≤ 33554432
+    → Tells true address (Word word ∷ ts) (to_le_bytes w16 first ++ to_le_bytes w16 second)
+unfolding size_of
+call_line address target first second word ts s a b none h t o e f size even room = record {
+  statement = Thumb s;
+  said = machine_said word ts s none h;
+  inside = rw size (fits_by address 4 room);
+  given = two_given address target first second s a b t o e f even;
+}

@@ -8,3 +8,5 @@ pub mod Shapes
 pub mod ThumbShapes
 pub mod Data
 pub mod Back
+pub mod Readers
+pub mod ThumbStatements
