@@ -119,6 +119,15 @@ abbrev whole : List Unit → List ℕ
 whole [] = []
 whole (u ∷ us) = bytes_of u ++ whole us
 
+pub statement_short : (at : ℕ) (u : Unit) → length (text_of (statement at u)) ≤ 400
+statement_short at (Word word) = omega (arith, (statement_fine at (Word word)).short)
+statement_short at (Half half) = omega (arith, (statement_fine at (Half half)).short)
+statement_short at (Call first second) = omega (arith, (statement_fine at (Call first second)).short)
+statement_short at (Byte byte) = omega (arith, (statement_fine at (Byte byte)).short)
+
+pub statement_spelled : (at : ℕ) (u : Unit) → IsSpelling (statement at u)
+statement_spelled at u = (statement_fine at u).spelled
+
 line_short : (thumb : Bool) (at : ℕ) (u : Unit) → length (line_text thumb at u) ≤ 400
 line_short thumb at u = omega (arith, (line_fine thumb at u).short, room_most u) where
   room_most : (u : Unit) → room u ≤ 123

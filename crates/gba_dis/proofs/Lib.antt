@@ -9,4 +9,6 @@ pub mod ThumbShapes
 pub mod Data
 pub mod Back
 pub mod Readers
+pub mod RegisterLists
 pub mod ThumbStatements
+pub mod Told

@@ -1,6 +1,7 @@
 -- The assembler's readers take the words of a listing for what they name.
 use Rattle.std.proofs.Common.{◌≡◌, ◌<◌, ◌≤◌, ℕ, zero, suc, ◌+◌, ◌*◌, ◌%◌, ◌^◌, Bool, true, false, cond, nat_le, nat_lt, List, [], ◌∷◌, length, Some, Ok, refl, sym, ap, ◌∙◌, lt-ltb, le-leb, lit<, lit≤, arith}
 use Rattle.std.specs.Str.Parse.{digits_value}
+use Rattle.std.proofs.Math.Nat.{mod-eq_of_lt}
 use Rattle.std.proofs.lemmas.Bool.Decides.{nat_tests}
 use Rattle.gba_terms.specs.Hexadecimal.{hex}
 use Rattle.gba_asm_words.specs.Names.{high_register_of, low_register_of, register_of}
@@ -12,7 +13,7 @@ use Rattle.gba_dis.specs.Pieces.{digit_count, digits_text, number_text, register
 use Rattle.gba_dis.proofs.Numerals.{hex_digits, hex_length, hex_value, word_back}
 
 -- a register's name is the register
-register_back : (n : ℕ) → n < 16 → register_of (register_name n) ≡ Some n
+pub register_back : (n : ℕ) → n < 16 → register_of (register_name n) ≡ Some n
 unfolding register_name register_of low_register_of high_register_of
 register_back zero h = refl
 register_back (suc zero) h = refl
@@ -61,7 +62,7 @@ digits_read c n some few h small =
     rw (long, one, hex_digits c n, t) (ap Some v)
   where
     below : (n m : ℕ) → n < m → 0 * m + n % m ≡ n
-    below n m h = omega (arith, h)
+    below n m h = omega (arith, mod-eq_of_lt h)
 
 -- the count of a number's digits
 by_count : (n b c d : ℕ) (t : Bool) → nat_lt n b ≡ t → (n < b → n < 2 ^ (4 * c)) → (b ≤ n → n < 2 ^ (4 * d))

@@ -101,7 +101,7 @@ sum_fine : (i t : Bool) (x rs rd : ℕ) → x < 16 → rs < 16 → rd < 16 → F
 sum_fine true t x rs rd h k l = two_number_fine _ rd rs x (sum_is t) l k
 sum_fine false t x rs rd h k l = three_fine _ rd rs x (sum_is t) l k h
 
-high_small : (t : Bool) (n : ℕ) → n < 8 → high_register t n < 16
+pub high_small : (t : Bool) (n : ℕ) → n < 8 → high_register t n < 16
 high_small true n h = omega (arith, h)
 high_small false n h = omega (arith, h)
 
