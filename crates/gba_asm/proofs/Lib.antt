@@ -1,3 +1,4 @@
 pub mod CountedItems
 pub mod Passes
 pub mod Relation
+pub mod Lone

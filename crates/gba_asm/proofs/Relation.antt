@@ -67,7 +67,7 @@ comes_to f n p (line ∷ ls) =
         refusal = e;
       }
 
-assembly_of-lines : (source : List ℕ) → length source ≤ longest_source
+pub assembly_of-lines : (source : List ℕ) → length source ≤ longest_source
     → assembly_of source ≡ lines_give (labels_of source) 0 start (lines source)
 unfolding assembly_of
 assembly_of-lines source short = rw (le-ltb _ _ short) refl

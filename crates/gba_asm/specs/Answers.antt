@@ -29,6 +29,12 @@ Adds (Ok _) old new defined = onto old defined ≡ Ok new
 Adds (Err (line.Kind kind)) old new defined = defined ≡ Err kind
 Adds (Err line.NoMemory) old new defined = Unit {0}
 
+-- the defined bytes of a line are added at the end, or the refusal has the defined kind; want of memory is free
+abbrev pub AddsLine : Result (Unit {0}) AsmRefused → List ℕ → List ℕ → Result (List ℕ) AsmKind → Type 0
+AddsLine (Ok _) old new defined = onto old defined ≡ Ok new
+AddsLine (Err (refused.Source e)) old new defined = defined ≡ Err e.kind
+AddsLine (Err refused.NoMemory) old new defined = Unit {0}
+
 -- the labels that a map from names to places holds
 abbrev pub labels_in : BTreeMap (Bor (List ℕ)) LabelPlace → Labels
 labels_in places name = get_by (λ k. slice_cmp nat_cmp name k.now) places

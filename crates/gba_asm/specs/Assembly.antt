@@ -1,5 +1,5 @@
 -- The bytes of a source, or its first refused line.
-use Rattle.std.specs.Prelude.{ℕ, ◌+◌, nat_lt, not, List, [], ◌∷◌, ◌++◌, length, Result, Ok, Err, if◌then◌else◌}
+use Rattle.std.specs.Prelude.{ℕ, ◌+◌, nat_lt, Bool, not, List, [], ◌∷◌, ◌++◌, length, Result, Ok, Err, if◌then◌else◌}
 use Rattle.gba_text.specs.Lines.{lines}
 use Rattle.gba_asm_words.specs.declared.kinds.AsmError.{AsmError}
 use Rattle.gba_asm_words.specs.declared.kinds.AsmKind.{AsmKind}
@@ -7,7 +7,7 @@ use Rattle.gba_asm_words.specs.declared.kinds.AsmKind.TheVariants as kind
 use Rattle.gba_asm_words.specs.Kinds.{◌>>=◌, holds}
 use Rattle.gba_asm.specs.declared.places.Place.{Place}
 use Rattle.gba_asm.specs.Encoding.{statement_bytes}
-use Rattle.gba_asm.specs.Places.{Labels, start, fits, place_after, labels_of, is_repeated}
+use Rattle.gba_asm.specs.Places.{Labels, no_labels, start, fits, place_after, labels_of, is_repeated}
 use Rattle.gba_asm.specs.Statements.{line_says, label_of, size_of}
 
 -- The bytes of the line of this number, or why it is refused. The tests in their order: the line's length, its bytes and
@@ -19,6 +19,10 @@ line_bytes labels number p line = do
   _ ← holds (fits p.address (size_of p.address s)) kind.Size
   _ ← holds (not (is_repeated labels number (label_of line))) kind.Repeated
   statement_bytes labels p.address s
+
+-- the bytes of a line by itself at this address, in ARM or in Thumb state, or why it is refused; no line has a label
+unfoldable pub lone_bytes : Bool → ℕ → List ℕ → Result (List ℕ) AsmKind
+lone_bytes thumb address line = line_bytes no_labels 1 (record { address = address; thumb = thumb }) line
 
 abbrev pub error_at : ℕ → AsmKind → AsmError
 error_at line kind = record { line = line; kind = kind }

@@ -2,8 +2,8 @@
 
 ghost use Rattle.std.specs.Prelude.{◌≡◌, ℕ, List, IfOk};
 ghost use Rattle.gba_text.specs.Lines.{lines};
-ghost use Rattle.gba_asm.specs.Answers.{Adds, Assembles, IsSaid, labels_in, refused_at};
-ghost use Rattle.gba_asm.specs.Assembly.{assembly_of, line_bytes, lines_give};
+ghost use Rattle.gba_asm.specs.Answers.{Adds, AddsLine, Assembles, IsSaid, labels_in, refused_at};
+ghost use Rattle.gba_asm.specs.Assembly.{assembly_of, line_bytes, lines_give, lone_bytes};
 ghost use Rattle.gba_asm.specs.Places.{labels_of, place_after, start};
 
 use crate::encoding::add_statement;
@@ -94,4 +94,23 @@ pub fn assemble(alloc: Global, source: &[u8]) -> Result<Vec<u8>, AsmRefused>
     ensures bytes { Assembles (λ image. image.items) result (assembly_of source.now) }
 {
     assemble_lines(alloc, source)
+}
+
+/// Adds the bytes of a line by itself at this address, in ARM or in Thumb state. No label is known, and a refusal has
+/// line 1. After a refusal or want of memory some bytes may have been added.
+#[tactic(auto, unfolding(crate::specs::Assembly::lone_bytes))]
+pub fn assemble_line(
+    alloc: Global,
+    thumb: bool,
+    address: u32,
+    line: &[u8],
+    image: &mut Vec<u8>,
+) -> Result<(), AsmRefused>
+    ensures { AddsLine result image.old.items image.new.items (lone_bytes thumb address line.now) }
+{
+    let labels = Labels::new(alloc);
+    match add_line(&labels, 1, Place { address, thumb }, line, image) {
+        Ok(_next) => Ok(()),
+        Err(refused) => Err(make_refusal(1, refused)),
+    }
 }

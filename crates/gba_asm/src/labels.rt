@@ -27,7 +27,8 @@ pub(crate) struct Labels<'a> {
 }
 
 impl<'a> Labels<'a> {
-    fn new(alloc: Global) -> Labels<'a>
+    /// No labels.
+    pub(crate) fn new(alloc: Global) -> Labels<'a>
         ensures { (name : List ℕ) → labels_in result.places name ≡ None }
     {
         Labels {

@@ -10,6 +10,6 @@ pub mod laws;
 mod places;
 mod statements;
 
-pub use assembly::{LONGEST_SOURCE, assemble};
+pub use assembly::{LONGEST_SOURCE, assemble, assemble_line};
 pub use gba_asm_words::{AsmError, AsmKind};
 pub use kinds::AsmRefused;

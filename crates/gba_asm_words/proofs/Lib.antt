@@ -1,3 +1,4 @@
 pub mod FirstTokens
 pub mod Numerals
 pub mod ListSteps
+pub mod SpelledLists

@@ -1,0 +1,14 @@
+pub mod Texts
+pub mod Digits
+pub mod FirstUnits
+pub mod Numerals
+pub mod Spelling
+pub mod Lines
+pub mod Shapes
+pub mod ThumbShapes
+pub mod Data
+pub mod Back
+pub mod Readers
+pub mod RegisterLists
+pub mod ThumbStatements
+pub mod Told

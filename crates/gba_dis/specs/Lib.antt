@@ -1,0 +1,6 @@
+pub mod Pieces
+pub mod Arm
+pub mod Thumb
+pub mod Units
+pub mod Listing
+pub mod Law

@@ -1,0 +1,18 @@
+//! Laws of listings. Each function takes no value and answers nothing; its contract is its law.
+
+ghost use Rattle.gba_dis.specs.Law.{ComesBack, TellsCalls, TellsHalfwords};
+
+/// The assembler takes the listing of any bytes that make an image, and gives these bytes.
+pub fn comes_back()
+    ensures law { ComesBack }
+{}
+
+/// In Thumb code each halfword whose statement says its operation is listed as that statement.
+pub fn tells_halfwords()
+    ensures law { TellsHalfwords }
+{}
+
+/// In Thumb code the two halves of BL are always listed as one statement.
+pub fn tells_calls()
+    ensures law { TellsCalls }
+{}

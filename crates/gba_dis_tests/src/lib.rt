@@ -1,0 +1,11 @@
+#![tactic(auto)]
+//! Tests of the disassembler: words and halfwords to their lines, whole listings, and listings assembled back.
+
+#[cfg(test)]
+mod arm;
+#[cfg(test)]
+mod listed;
+#[cfg(test)]
+mod listings;
+#[cfg(test)]
+mod thumb;
