@@ -4,8 +4,8 @@ use Rattle.gba_console.specs.Machine.{clock_of}
 use Rattle.gba_console.proofs.Rises.{run-step}
 use Rattle.gba_console.proofs.Console.run_plainly.Goals as goal
 
-pub step_plainly-requires-clause-clock : goal.step_plainly-requires-clause-clock
-step_plainly-requires-clause-clock c =
+pub step_plainly-cycles-requires-clause-clock : goal.step_plainly-cycles-requires-clause-clock
+step_plainly-cycles-requires-clause-clock c =
     let held = c.loop-self.invariant in
     omega (arith, held.2, held.3, held.5, held.6, c.requires)
 
