@@ -1,8 +1,10 @@
-use Rattle.std.proofs.Common.{◌≡◌, ℕ, zero, suc, Bool, true, false, ◌+◌, ◌≤◌, ◌∙◌, refl, ap, arith, add-zero}
+use Rattle.std.proofs.Common.{◌≡◌, ℕ, zero, suc, Bool, true, false, ◌+◌, ◌≤◌, ◌∙◌, refl, ap, arith, add-zero, if◌then◌else◌}
 use Rattle.std.specs.Prelude.{◌||◌}
 use Rattle.std.proofs.lemmas.Bool.Decides.{nat_tests}
+use Rattle.gba_ppu_reg.specs.Position.{begins_hblank, begins_line}
+use Rattle.gba_ppu_reg.specs.Skipping.{SkipsCycles as PlacesSkipCycles, quiet as quiet_place}
 use Rattle.gba_timer.specs.Skipping.{SkipsCycles as TimersSkipCycles, quiet as quiet_timers}
-use Rattle.gba_devices.specs.Cycles.{CyclePasses, CyclesPass, SkipsCycles, after_cycles, device_cycle, makes_pair, makes_within, quiet, rung, skipped}
+use Rattle.gba_devices.specs.Cycles.{CyclePasses, CyclesPass, SkipsCycles, after_cycles, at_hblank, at_line, at_place, device_cycle, makes_pair, makes_within, placed, quiet, rung, skipped, sounded}
 use Rattle.gba_devices.specs.State.{Devices}
 
 -- Cycles one after another, and cycles at once.
@@ -18,9 +20,35 @@ after-sum (suc count) more d =
     let sum : suc (count + more) ≡ suc count + more = omega arith in
     ap device_cycle (after-sum count more d) ∙ ap (λ n. after_cycles n d) sum
 
+-- what begins at a place leaves these
+record Keeps (d after : Devices) : Type 0 where
+  clock : after.clock ≡ d.clock
+  waits : after.waits ≡ d.waits
+  priced : after.priced ≡ d.priced
+
+either-keeps : (test : Bool) (d one other : Devices) → Keeps d one → Keeps d other → Keeps d (if test then one else other)
+either-keeps true d one other here there = here
+either-keeps false d one other here there = there
+
+hblank-keeps : (d : Devices) → Keeps d (at_hblank d)
+unfolding at_hblank
+hblank-keeps d = record { clock = refl; waits = refl; priced = refl }
+
+line-keeps : (d : Devices) → Keeps d (at_line d)
+unfolding at_line
+line-keeps d = record { clock = refl; waits = refl; priced = refl }
+
+place-keeps : (d : Devices) → Keeps d (at_place d)
+unfolding at_place
+place-keeps d =
+    either-keeps (begins_hblank d.place) d (at_hblank d) (if begins_line d.place then at_line d else d) (hblank-keeps d)
+    (either-keeps (begins_line d.place) d (at_line d) d (line-keeps d) (record { clock = refl; waits = refl; priced = refl }))
+
 pub cycle-keeps : (d : Devices) → CyclePasses d
-unfolding device_cycle rung
-cycle-keeps d = record { clock = refl; waits = refl; priced = refl }
+unfolding device_cycle sounded rung
+cycle-keeps d =
+    let kept = place-keeps (placed (sounded d)) in
+    record { clock = kept.clock; waits = kept.waits; priced = kept.priced }
 
 pub cycles-pass : (count : ℕ) (d : Devices) → CyclesPass count d
 unfolding after_cycles
@@ -44,17 +72,30 @@ neither false false here there = refl
 neither true other here there = cc
 neither false true here there = cc
 
-module _ (timers : TimersSkipCycles) where
+-- nothing begins at other dots
+nothing-begins : (d : Devices) → begins_hblank d.place ≡ false → begins_line d.place ≡ false → at_place d ≡ d
+unfolding at_place
+nothing-begins d no_hblank no_line = rw (no_hblank, no_line) refl
+
+module _ (timers : TimersSkipCycles) (places : PlacesSkipCycles) where
   skip-none : (d : Devices) → skipped 0 d ≡ d
-  skip-none d = rw (timers.none d.timers, add-zero) refl
+  skip-none d = rw (timers.none d.timers, places.none d.place, add-zero) refl
+
+  sounded-skipped : (count : ℕ) (d : Devices) → count + 1 ≤ quiet_timers d.timers → count + 1 ≤ quiet_place d.place
+      → placed (sounded (skipped count d)) ≡ skipped (count + 1) d
+  unfolding sounded rung
+  sounded-skipped count d least near =
+      let sum : d.clock + count + 1 ≡ d.clock + (count + 1) = omega arith in
+      rw (timers.silent count d.timers least, timers.next count d.timers least, places.next count d.place near, sum) refl
 
   cycle-skipped : (count : ℕ) (d : Devices) → count + 1 ≤ quiet d
       → device_cycle (skipped count d) ≡ skipped (count + 1) d
-  unfolding device_cycle rung quiet
+  unfolding device_cycle quiet
   cycle-skipped count d within =
-      let sum : d.clock + count + 1 ≡ d.clock + (count + 1) = omega arith in
       let least : count + 1 ≤ quiet_timers d.timers = omega (arith, within) in
-      rw (timers.silent count d.timers least, timers.next count d.timers least, sum) refl
+      let near : count + 1 ≤ quiet_place d.place = omega (arith, within) in
+      ap at_place (sounded-skipped count d least near)
+      ∙ nothing-begins (skipped (count + 1) d) (places.no_hblank count d.place near) (places.no_line count d.place near)
 
   skips-all : (count more : ℕ) (d : Devices) → more + count ≤ quiet d
       → after_cycles count (skipped more d) ≡ skipped (more + count) d

@@ -1,9 +1,13 @@
-use Rattle.std.specs.Prelude.{◌≡◌, ℕ, zero, suc, Bool, false, ◌+◌, ◌-◌, ◌*◌, ◌%◌, ◌≤◌, ◌==◌, ◌||◌, bit_or, min, if◌then◌else◌}
+use Rattle.std.specs.Prelude.{◌≡◌, ℕ, zero, suc, Bool, false, ◌+◌, ◌-◌, ◌*◌, ◌%◌, ◌≤◌, ◌==◌, ◌||◌, ◌&&◌, nat_lt, bit_or, min, if◌then◌else◌}
 use Rattle.gba_terms.specs.Bits.{bit}
 use Rattle.gba_dma.specs.Channels.{FourChannels, after_trigger}
 use Rattle.gba_dma.specs.declared.event.DmaEvent.{DmaEvent}
-use Rattle.gba_dma.specs.declared.event.DmaEvent.TheVariants.{QueueA, QueueB}
+use Rattle.gba_dma.specs.declared.event.DmaEvent.TheVariants.{VBlank, HBlank, QueueA, QueueB}
 use Rattle.gba_irq.specs.declared.interrupts.Interrupts.{Interrupts}
+use Rattle.gba_ppu_reg.specs.Position.{begins_hblank, begins_line, cycle as place_cycle, is_matched}
+use Rattle.gba_ppu_reg.specs.Registers.{Picture, after_line, after_reload, picture_kept}
+use Rattle.gba_ppu_reg.specs.Skipping.{after_skip as place_after_skip, quiet as quiet_place}
+use Rattle.gba_ppu_reg.specs.declared.position.Position.{Position}
 use Rattle.gba_sound.specs.Queues.{after_overflow, asked}
 use Rattle.gba_sound.specs.declared.asked.Asked.{Asked}
 use Rattle.gba_timer.specs.Skipping.{after_skip, quiet as quiet_timers}
@@ -11,7 +15,8 @@ use Rattle.gba_timer.specs.Timers.{cycle as timer_cycle, overflow_mark, requests
 use Rattle.gba_devices.specs.State.{Devices}
 
 -- A device cycle: the clock rises by 1; the timers move, from 0 to 3, and request their interrupts in that cycle; then
--- the sound queues of timers 0 and 1 take bytes where these overflowed, and ask for DMA.
+-- the sound queues of timers 0 and 1 take bytes where these overflowed, and ask for DMA; then the picture's place moves by
+-- a dot, with what begins there.
 
 -- the requests of timers that overflow, from bit 3 of IF up
 abbrev pub with_timer_requests : ℕ → Devices → Interrupts
@@ -37,11 +42,63 @@ rung timer rings d = record d {
   channels = if rings then asked_by (asked timer d.sound) d.channels else d.channels;
 }
 
-unfoldable pub device_cycle : Devices → Devices
-device_cycle d =
+-- One of IF's bits is requested, or isn't.
+abbrev pub with_bit : Bool → ℕ → ℕ → ℕ
+with_bit set mask raised = if set then bit_or raised mask else raised
+
+-- DISPSTAT's bits 3 to 5 ask for the interrupts of VBlank, HBlank and the matched line (GBATEK, LCD I/O Interrupts and
+-- Status)
+abbrev pub status_of : Picture → ℕ
+status_of r = picture_kept 0x004 r
+
+-- HBlank begins: it requests bit 1 of IF, and in the lines 0 to 159, which are seen, it triggers the DMA that waits for it,
+-- and the inner reference points grow.
+abbrev pub is_seen : Position → Bool
+is_seen p = nat_lt p.line 160
+
+unfoldable pub at_hblank : Devices → Devices
+at_hblank d = record d {
+  channels = if is_seen d.place then after_trigger HBlank d.channels else d.channels;
+  picture = if is_seen d.place then after_line d.picture else d.picture;
+  interrupts = record d.interrupts { raised = with_bit (bit (status_of d.picture) 4) 2 d.interrupts.raised };
+}
+
+-- A line begins: the matched one requests bit 2 of IF, and line 160 bit 0. VBlank begins in it, triggers the DMA that waits
+-- for it, and makes the inner reference points those that are written.
+abbrev pub begins_vblank : Position → Bool
+begins_vblank p = p.line == 160
+
+unfoldable pub at_line : Devices → Devices
+at_line d = record d {
+  channels = if begins_vblank d.place then after_trigger VBlank d.channels else d.channels;
+  picture = if begins_vblank d.place then after_reload d.picture else d.picture;
+  interrupts = record d.interrupts {
+    raised =
+        with_bit (begins_vblank d.place && bit (status_of d.picture) 3) 1
+        (with_bit (is_matched (status_of d.picture) d.place && bit (status_of d.picture) 5) 4 d.interrupts.raised);
+  };
+}
+
+-- what begins at the dot to which the place came
+unfoldable pub at_place : Devices → Devices
+at_place d =
+    if begins_hblank d.place then at_hblank d
+    else if begins_line d.place then at_line d
+    else d
+
+-- the place moves by a dot
+abbrev pub placed : Devices → Devices
+placed d = record d { place = place_cycle d.place }
+
+-- the timers and the queues
+unfoldable pub sounded : Devices → Devices
+sounded d =
     rung 1 (bit (overflow_mark d.timers) 1)
     (rung 0 (bit (overflow_mark d.timers) 0)
     (record (moved d) { interrupts = with_timer_requests (overflow_mark d.timers) (moved d) }))
+
+unfoldable pub device_cycle : Devices → Devices
+device_cycle d = at_place (placed (sounded d))
 
 -- so many cycles
 unfoldable pub after_cycles : ℕ → Devices → Devices
@@ -59,10 +116,14 @@ makes_within (suc count) d = makes_within count d || makes_pair (after_cycles co
 
 -- Cycles in which nothing happens can be skipped at once: for so many, 511 at most, surely nothing does.
 unfoldable pub quiet : Devices → ℕ
-quiet d = min (quiet_timers d.timers) (511 - d.clock % 512)
+quiet d = min (min (quiet_timers d.timers) (511 - d.clock % 512)) (quiet_place d.place)
 
 abbrev pub skipped : ℕ → Devices → Devices
-skipped count d = record d { clock = d.clock + count; timers = after_skip count d.timers }
+skipped count d = record d {
+  clock = d.clock + count;
+  timers = after_skip count d.timers;
+  place = place_after_skip count d.place;
+}
 
 -- Within the quiet cycles skipping is stepping, and nothing is made.
 pub record SkipsCycles : Type 0 where

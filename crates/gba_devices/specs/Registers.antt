@@ -7,10 +7,11 @@ use Rattle.gba_dma.specs.Channels.{dma_kept, dma_read, dma_written}
 use Rattle.gba_irq.specs.Interrupts.{interrupt_kept, interrupt_read, interrupt_written}
 use Rattle.gba_irq.specs.Keypad.{becomes_true, keypad_read, with_control, with_pressed}
 use Rattle.gba_irq.specs.declared.interrupts.Interrupts.{Interrupts}
+use Rattle.gba_ppu_reg.specs.Registers.{picture_kept, picture_read_at, picture_written}
 use Rattle.gba_sound.specs.Queues.{after_word, sound_read, sound_written}
 use Rattle.gba_timer.specs.Timers.{timer_kept, timer_read, timer_written}
 use Rattle.gba_devices.specs.declared.registers.Owner.{Owner}
-use Rattle.gba_devices.specs.declared.registers.Owner.TheVariants.{SoundBlock, DmaBlock, TimerBlock, KeyBlock, InterruptBlock, WaitControl, PostFlag, Nobody}
+use Rattle.gba_devices.specs.declared.registers.Owner.TheVariants.{PictureBlock, SoundBlock, DmaBlock, TimerBlock, KeyBlock, InterruptBlock, WaitControl, PostFlag, Nobody}
 use Rattle.gba_devices.specs.State.{Devices}
 
 -- The I/O registers (GBATEK, GBA I/O Map), by their offsets from 04000000h. Each device has its own rows; here are those
@@ -22,7 +23,8 @@ system_rows = row 0x204 0x5fff 0x5fff ∷ row 0x300 0x0001 0x0001 ∷ []
 -- whose halfword an offset is
 unfoldable pub owner_of : ℕ → Owner
 owner_of offset =
-    if nat_le 0x080 offset && nat_lt offset 0x08a then SoundBlock
+    if nat_lt offset 0x056 then PictureBlock
+    else if nat_le 0x080 offset && nat_lt offset 0x08a then SoundBlock
     else if nat_le 0x0b0 offset && nat_lt offset 0x0e0 then DmaBlock
     else if nat_le 0x100 offset && nat_lt offset 0x110 then TimerBlock
     else if nat_le 0x130 offset && nat_lt offset 0x134 then KeyBlock
@@ -36,6 +38,7 @@ truth_number set = if set then 1 else 0
 
 -- what a halfword reads
 abbrev pub read_of : Owner → ℕ → Devices → ℕ
+read_of PictureBlock offset d = picture_read_at offset d.place d.picture
 read_of SoundBlock offset d = sound_read offset d.sound
 read_of DmaBlock offset d = dma_read offset d.channels
 read_of TimerBlock offset d = timer_read offset d.timers
@@ -51,6 +54,7 @@ half_read offset d = read_of (owner_of offset) offset d % 2 ^ 16
 -- what a write of one byte keeps of the halfword's other byte: of a timer's first halfword that of the reload, of IF
 -- and of SOUNDCNT_H's reset bits nothing, and else what is stored
 abbrev pub kept_of : Owner → ℕ → Devices → ℕ
+kept_of PictureBlock offset d = picture_kept offset d.picture
 kept_of SoundBlock offset d = sound_read offset d.sound
 kept_of DmaBlock offset d = dma_kept offset d.channels
 kept_of TimerBlock offset d = timer_kept offset d.timers
@@ -66,6 +70,8 @@ half_kept offset d = kept_of (owner_of offset) offset d
 -- what is stored at a halfword, also where it doesn't read, and of bits that are only read what they read; of a timer's
 -- first halfword that is the reload
 abbrev pub stored_of : Owner → ℕ → Devices → ℕ
+stored_of PictureBlock offset d =
+    bit_or (picture_kept offset d.picture) (picture_read_at offset d.place d.picture)
 stored_of DmaBlock offset d = dma_kept offset d.channels
 stored_of TimerBlock offset d = timer_kept offset d.timers
 stored_of owner offset d = read_of owner offset d
@@ -95,6 +101,7 @@ with_key_control value d = record d {
 -- What a write of a halfword leaves; `lanes` has the bits of the bytes that are written, and `value` the whole halfword.
 -- A write that covers byte 301h halts (GBATEK, HALTCNT; that Stop is a halt too is this project's profile).
 abbrev pub written_of : Owner → ℕ → ℕ → ℕ → Devices → Devices
+written_of PictureBlock offset value lanes d = record d { picture = picture_written offset value d.picture }
 written_of SoundBlock offset value lanes d = record d { sound = sound_written offset value d.sound }
 written_of DmaBlock offset value lanes d = record d { channels = dma_written offset value d.channels }
 written_of TimerBlock offset value lanes d = record d { timers = timer_written offset value d.timers }

@@ -4,16 +4,21 @@ use Rattle.gba_dma.specs.Channels.{FourChannels, after_unit_at, channel_at, chan
 use Rattle.gba_irq.specs.Interrupts.{is_pending}
 use Rattle.gba_irq.specs.Keypad.{Keys}
 use Rattle.gba_irq.specs.declared.interrupts.Interrupts.{Interrupts}
+use Rattle.gba_ppu_reg.specs.Registers.{Picture, picture_at_reset}
+use Rattle.gba_ppu_reg.specs.declared.position.Position.{Position}
 use Rattle.gba_sound.specs.Queues.{DirectSound, sound_at_reset}
 use Rattle.gba_timer.specs.Timers.{FourTimers, timers_at_reset}
 
--- The devices of a board: the clock in cycles since reset, the timers, direct sound, the DMA channels, the interrupts,
--- the keypad, WAITCNT, the WAITCNT by which the accesses of this step are priced, POSTFLG, and the halt.
+-- The devices of a board: the clock in cycles since reset, the timers, direct sound, the DMA channels, the picture's place
+-- and its registers, the interrupts, the keypad, WAITCNT, the WAITCNT by which the accesses of this step are priced,
+-- POSTFLG, and the halt.
 pub record Devices : Type 0 where
   pub clock : ℕ
   pub timers : FourTimers
   pub sound : DirectSound
   pub channels : FourChannels
+  pub place : Position
+  pub picture : Picture
   pub interrupts : Interrupts
   pub keys : Keys
   pub waits : ℕ
@@ -27,6 +32,10 @@ interrupts_at_reset = record { enabled = 0; raised = 0; master = false }
 abbrev pub keys_at_reset : Keys
 keys_at_reset = record { pressed = 0; control = 0 }
 
+-- the picture begins at the first dot of the first line (this project's profile)
+abbrev pub place_at_reset : Position
+place_at_reset = record { line = 0; dot = 0 }
+
 -- the devices at reset
 abbrev pub devices_at_reset : Devices
 devices_at_reset = record {
@@ -34,6 +43,8 @@ devices_at_reset = record {
   timers = timers_at_reset;
   sound = sound_at_reset;
   channels = channels_at_reset;
+  place = place_at_reset;
+  picture = picture_at_reset;
   interrupts = interrupts_at_reset;
   keys = keys_at_reset;
   waits = 0;

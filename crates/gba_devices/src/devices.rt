@@ -2,15 +2,17 @@
 
 ghost use Rattle.std.specs.Prelude.{◌≡◌, ◌+◌, ◌≤◌, ◌<◌, ◌^◌};
 
-use crate::laws::{skips_cycles, writes_keep};
+use crate::laws::{cycle_keeps, skips_cycles, writes_keep};
 use crate::registers::{Owner, owner_of};
 use crate::set::DeviceSet;
 use gba_bus::Width;
 use gba_dma::{Channel, Unit};
+use gba_ppu_reg::{Position, Reference};
 use gba_timer::{Timer, Timers};
 use std::marker::Model;
 
-/// The devices of a board: clock, timers, direct sound, DMA channels, interrupts, keypad, WAITCNT, POSTFLG and the halt. They owe the cycles of past
+/// The devices of a board: clock, timers, direct sound, DMA channels, the picture's place and
+/// registers, interrupts, keypad, WAITCNT, POSTFLG and the halt. They owe the cycles of past
 /// steps, in which surely nothing happened. Contracts see the devices once these have passed.
 #[derive(Debug, Drop)]
 pub struct Devices {
@@ -39,6 +41,8 @@ impl Devices {
     ghost use Rattle.std.specs.Prelude.{◌≡◌, ◌+◌, ◌*◌, ◌≤◌, ◌<◌, ◌^◌, length, true, false, IfSome};
     ghost use Rattle.gba_dma.specs.Channels.{channel_at, next_unit};
     ghost use Rattle.gba_irq.specs.Interrupts.{is_pending};
+    ghost use Rattle.gba_ppu_reg.specs.Position.{IsPosition};
+    ghost use Rattle.gba_ppu_reg.specs.Registers.{picture_mode, reference_of};
     ghost use Rattle.gba_sound.specs.Queues.{left_sample, queue_at, right_sample};
     ghost use Rattle.gba_timer.specs.Timers.{timer_at};
     ghost use Rattle.gba_devices.specs.Cycles.{after_cycles, device_cycle, makes_pair, makes_within, quiet, skipped};
@@ -127,6 +131,30 @@ impl Devices {
         self.timers().timer(number)
     }
 
+    /// The place of the picture.
+    pub fn place(&self) -> Position
+        ensures place { result ≡ self.now.place }
+        ensures sound { IsPosition result }
+    {
+        self.set.place_after(self.debt)
+    }
+
+    /// The mode of the picture, from 0 to 7: bits 0 to 2 of DISPCNT.
+    pub fn mode(&self) -> u32
+        ensures { result ≡ picture_mode self.now.picture }
+    {
+        self.set.mode()
+    }
+
+    /// The inner reference point of background 2 or 3.
+    pub fn reference(&self, background: u32) -> Reference
+        requires least { 2 ≤ background }
+        requires most { background ≤ 3 }
+        ensures { result ≡ reference_of background self.now.picture }
+    {
+        self.set.reference(background)
+    }
+
     /// A DMA channel by its number, which is below 4.
     pub fn channel(&self, number: u32) -> Channel
         requires { number < 4 }
@@ -185,6 +213,7 @@ impl Devices {
     {
         match owner_of(offset) {
             Owner::TimerBlock => self.timers().kept(offset),
+            Owner::PictureBlock => self.set.picture_stored(offset, &self.place()),
             _ => self.set.half_stored(offset),
         }
     }
@@ -288,6 +317,7 @@ impl Devices {
         ensures { self.new ≡ device_cycle self.old }
     {
         skips_cycles();
+        cycle_keeps();
         self.set.skip(self.debt);
         self.debt = 0;
         self.set.cycle();

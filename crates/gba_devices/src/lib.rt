@@ -5,6 +5,7 @@
 
 mod devices;
 pub mod laws;
+mod place;
 mod registers;
 mod set;
 

@@ -6,6 +6,7 @@ ghost use Rattle.gba_devices.specs.Registers.{merged, owner_of};
 /// Which device a halfword of the I/O registers belongs to.
 #[derive(Clone, Copy, Debug, PartialEq, Eq)]
 pub(crate) enum Owner {
+    PictureBlock,
     SoundBlock,
     DmaBlock,
     TimerBlock,
@@ -21,7 +22,9 @@ pub(crate) enum Owner {
 pub(crate) fn owner_of(offset: u32) -> Owner
     ensures { result ≡ owner_of offset }
 {
-    if 0x080 <= offset && offset < 0x08A {
+    if offset < 0x056 {
+        Owner::PictureBlock
+    } else if 0x080 <= offset && offset < 0x08A {
         Owner::SoundBlock
     } else if 0x0B0 <= offset && offset < 0x0E0 {
         Owner::DmaBlock

@@ -4,10 +4,12 @@ ghost use Rattle.std.specs.Prelude.{◌≡◌};
 ghost use Rattle.gba_devices.specs.Registers.{system_rows};
 ghost use Rattle.gba_register.specs.Rows.{row_at};
 
+use crate::place::Place;
 use crate::registers::{Owner, merged, owner_of};
 use gba_bus::Width;
 use gba_dma::{Channel, Channels, DmaEvent, Unit};
 use gba_irq::{Interrupts, Keypad};
+use gba_ppu_reg::{PictureRegisters, Position, Reference};
 use gba_sound::Queues;
 use gba_timer::{Timer, Timers};
 use gba_word::{bit, bits};
@@ -37,6 +39,8 @@ pub(crate) struct DeviceSet {
     timers: Timers,
     queues: Queues,
     channels: Channels,
+    place: Place,
+    picture: PictureRegisters,
     interrupts: Interrupts,
     keypad: Keypad,
     waits: u16,
@@ -55,6 +59,8 @@ impl Model for DeviceSet {
       timers = d.timers;
       sound = d.queues;
       channels = d.channels;
+      place = d.place;
+      picture = d.picture;
       interrupts = d.interrupts;
       keys = d.keypad;
       waits = d.waits;
@@ -70,9 +76,12 @@ impl DeviceSet {
     ghost use Rattle.gba_bus.specs.declared.width.Width.TheVariants.{Byte};
     ghost use Rattle.gba_dma.specs.Channels.{channel_at, next_unit};
     ghost use Rattle.gba_irq.specs.Interrupts.{is_pending};
+    ghost use Rattle.gba_ppu_reg.specs.Position.{IsPosition};
+    ghost use Rattle.gba_ppu_reg.specs.Skipping.{after_skip as place_after_skip};
+    ghost use Rattle.gba_ppu_reg.specs.Registers.{picture_kept, picture_mode, picture_read_at, reference_of};
     ghost use Rattle.gba_sound.specs.Queues.{left_sample, queue_at, right_sample};
     ghost use Rattle.gba_timer.specs.Timers.{requests};
-    ghost use Rattle.gba_devices.specs.Cycles.{asked_by, device_cycle, quiet, rung, skipped, with_timer_requests};
+    ghost use Rattle.gba_devices.specs.Cycles.{asked_by, at_hblank, at_line, at_place, device_cycle, placed, quiet, rung, skipped, sounded, status_of, with_bit, with_timer_requests};
     ghost use Rattle.gba_devices.specs.Registers.{half_kept, half_read, half_stored, half_written, halves_written, io_loaded, io_stored, keyed, with_key_control, with_key_request, word_written};
     ghost use Rattle.gba_devices.specs.State.{after_dma_unit, asks_entry, begun, devices_at_reset, is_calm, with_dma_request, woken};
 
@@ -85,6 +94,8 @@ impl DeviceSet {
             timers: Timers::new(),
             queues: Queues::new(),
             channels: Channels::new(),
+            place: Place::new(),
+            picture: PictureRegisters::new(),
             interrupts: Interrupts::new(),
             keypad: Keypad::new(),
             waits: 0,
@@ -180,6 +191,32 @@ impl DeviceSet {
         }
     }
 
+    /// The place of the picture after so many quiet cycles.
+    #[tactic(auto, unfolding(crate::specs::Cycles::quiet))]
+    pub(crate) fn place_after(&self, count: u32) -> Position
+        requires { count ≤ quiet self.now }
+        ensures place { result ≡ place_after_skip count self.now.place }
+        ensures sound { IsPosition result }
+    {
+        self.place.after(count)
+    }
+
+    /// The mode of the picture, from 0 to 7.
+    pub(crate) fn mode(&self) -> u32
+        ensures { result ≡ picture_mode self.now.picture }
+    {
+        self.picture.mode()
+    }
+
+    /// The inner reference point of background 2 or 3.
+    pub(crate) fn reference(&self, background: u32) -> Reference
+        requires least { 2 ≤ background }
+        requires most { background ≤ 3 }
+        ensures { result ≡ reference_of background self.now.picture }
+    {
+        self.picture.reference(background)
+    }
+
     /// What the queues sound like, left then right.
     pub(crate) fn sample(&self) -> (i16, i16)
         ensures left { result.0 ≡ left_sample self.now.sound }
@@ -248,6 +285,7 @@ impl DeviceSet {
         ensures { result ≡ half_read offset self.now }
     {
         match owner_of(offset) {
+            Owner::PictureBlock => self.picture.read_at(offset, &self.place.at()),
             Owner::SoundBlock => self.queues.read(offset),
             Owner::DmaBlock => self.channels.read(offset),
             Owner::TimerBlock => self.timers.read(offset),
@@ -265,6 +303,7 @@ impl DeviceSet {
         ensures { result ≡ half_kept offset self.now }
     {
         match owner_of(offset) {
+            Owner::PictureBlock => self.picture.kept(offset),
             Owner::SoundBlock => self.queues.read(offset),
             Owner::DmaBlock => self.channels.kept(offset),
             Owner::TimerBlock => self.timers.kept(offset),
@@ -276,12 +315,21 @@ impl DeviceSet {
         }
     }
 
+    /// What is stored at a halfword of the picture's registers while the picture is at a place, and of bits that are only
+    /// read what they read.
+    pub(crate) fn picture_stored(&self, offset: u32, at: &Position) -> u16
+        ensures { result ≡ bit_or (picture_kept offset self.now.picture) (picture_read_at offset at.now self.now.picture) }
+    {
+        self.picture.kept(offset) | self.picture.read_at(offset, at)
+    }
+
     /// What is stored at a halfword, for the state file.
     #[tactic(auto, unfolding(crate::specs::Registers::half_stored, crate::specs::Registers::half_read))]
     pub(crate) fn half_stored(&self, offset: u32) -> u16
         ensures { result ≡ half_stored offset self.now }
     {
         match owner_of(offset) {
+            Owner::PictureBlock => self.picture_stored(offset, &self.place.at()),
             Owner::SoundBlock => self.queues.read(offset),
             Owner::DmaBlock => self.channels.kept(offset),
             Owner::TimerBlock => self.timers.kept(offset),
@@ -308,6 +356,7 @@ impl DeviceSet {
     {
         let value = merged(self.half_kept(offset), value, lanes);
         match owner_of(offset) {
+            Owner::PictureBlock => self.picture.write(offset, value),
             Owner::SoundBlock => self.queues.write(offset, value),
             Owner::DmaBlock => self.channels.write(offset, value),
             Owner::TimerBlock => self.timers.write(offset, value),
@@ -419,11 +468,11 @@ impl DeviceSet {
         }
     }
 
-    /// One device cycle.
-    #[tactic(auto, unfolding(crate::specs::Cycles::device_cycle, crate::specs::Cycles::rung))]
-    pub(crate) fn cycle(&mut self)
+    /// The clock, the timers and the queues move by a cycle.
+    #[tactic(auto, unfolding(crate::specs::Cycles::sounded, crate::specs::Cycles::rung))]
+    fn sound(&mut self)
         requires { self.old.clock < 2 ^ 63 }
-        ensures devices { self.new ≡ device_cycle self.old }
+        ensures devices { self.new ≡ sounded self.old }
         ensures clock { self.new.clock ≡ self.old.clock + 1 }
     {
         self.clock += 1;
@@ -433,13 +482,84 @@ impl DeviceSet {
         self.ring(1, bit(u32::from(mark), 1));
     }
 
+    /// DISPSTAT as it is stored.
+    fn status(&self) -> u32
+        ensures { result ≡ status_of self.now.picture }
+    {
+        u32::from(self.picture.kept(0x004))
+    }
+
+    /// Requests one of IF's bits, or doesn't.
+    fn request(&mut self, wanted: bool, bit: u32)
+        requires { bit < 14 }
+        ensures { self.new ≡ record self.old { interrupts = record self.old.interrupts { raised = with_bit wanted (2 ^ bit) self.old.interrupts.raised } } }
+    {
+        if wanted {
+            self.interrupts.raise(bit);
+        }
+    }
+
+    /// HBlank begins.
+    #[tactic(auto, unfolding(crate::specs::Cycles::at_hblank))]
+    fn begin_hblank(&mut self)
+        ensures { self.new ≡ at_hblank self.old }
+    {
+        let asked = bit(self.status(), 4);
+        self.request(asked, 1);
+        if self.place.at().line < 160 {
+            self.channels.trigger(DmaEvent::HBlank);
+            self.picture.next_line();
+        }
+    }
+
+    /// A line begins.
+    #[tactic(auto, unfolding(crate::specs::Cycles::at_line))]
+    fn begin_line(&mut self)
+        ensures { self.new ≡ at_line self.old }
+    {
+        let status = self.status();
+        let line = self.place.at().line;
+        self.request(line == bits(status, 8, 8) && bit(status, 5), 2);
+        self.request(line == 160 && bit(status, 3), 0);
+        if line == 160 {
+            self.channels.trigger(DmaEvent::VBlank);
+            self.picture.reload();
+        }
+    }
+
+    /// The place moves by a dot, with what begins there.
+    #[tactic(auto, unfolding(crate::specs::Cycles::at_place))]
+    fn move_place(&mut self)
+        ensures { self.new ≡ at_place (placed self.old) }
+    {
+        self.place.cycle();
+        match self.place.at().dot {
+            1006 => self.begin_hblank(),
+            0 => self.begin_line(),
+            _ => {}
+        }
+    }
+
+    /// One device cycle.
+    #[tactic(auto, unfolding(crate::specs::Cycles::device_cycle))]
+    pub(crate) fn cycle(&mut self)
+        requires { self.old.clock < 2 ^ 63 }
+        ensures { self.new ≡ device_cycle self.old }
+    {
+        self.sound();
+        self.move_place();
+    }
+
     /// For how many cycles, 511 at most, surely nothing happens.
     #[tactic(auto, unfolding(crate::specs::Cycles::quiet))]
     pub(crate) fn quiet(&self) -> u32
         ensures value { result ≡ quiet self.now }
         ensures most { result ≤ 511 }
     {
-        self.timers.quiet().min(511 - (self.clock % 512) as u32)
+        self.timers
+            .quiet()
+            .min(511 - (self.clock % 512) as u32)
+            .min(self.place.quiet())
     }
 
     /// So many quiet cycles at once.
@@ -451,5 +571,6 @@ impl DeviceSet {
     {
         self.clock += u64::from(count);
         self.timers.skip(count);
+        self.place.skip(count);
     }
 }

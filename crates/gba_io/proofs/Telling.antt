@@ -4,6 +4,7 @@ use Rattle.gba_bus.specs.Regions.{region_of}
 use Rattle.gba_bus.specs.declared.region.Region.{Region}
 use Rattle.gba_bus.specs.declared.region.Region.TheVariants.{Bios, Inner, Rom0, Rom1, Rom2}
 use Rattle.gba_bus.specs.declared.width.Width.{Width}
+use Rattle.gba_ppu_reg.specs.Registers.{picture_mode}
 use Rattle.gba_mem.specs.Loads.{is_bios, is_inner, is_rom, load}
 use Rattle.gba_mem.specs.Stores.{store}
 use Rattle.gba_io.specs.Core.{Core}
@@ -41,7 +42,7 @@ unfolding core_read
 rom_read b from address width e = rw (rom-not-io (region_of address) e) refl
 
 pub inner_written : (b : Core) (address : ℕ) (width : Width) (value : ℕ) → is_inner (region_of address) ≡ true
-    → core_written b address width value ≡ record b { memory = store 0 b.memory address width value }
+    → core_written b address width value ≡ record b { memory = store (picture_mode b.devices.picture) b.memory address width value }
 unfolding core_written
 inner_written b address width value e = rw (inner-not-io (region_of address) e) refl
 

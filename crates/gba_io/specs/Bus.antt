@@ -6,13 +6,14 @@ use Rattle.gba_bus.specs.declared.region.Region.{Region}
 use Rattle.gba_bus.specs.declared.region.Region.TheVariants.{Io}
 use Rattle.gba_bus.specs.declared.width.Width.{Width}
 use Rattle.gba_devices.specs.Registers.{io_loaded, io_stored}
+use Rattle.gba_ppu_reg.specs.Registers.{picture_mode}
 use Rattle.gba_mem.specs.Loads.{load}
 use Rattle.gba_mem.specs.Stores.{store}
 use Rattle.gba_io.specs.Core.{Core}
 
 -- The core of a board as a bus (GBATEK, GBA Memory Map): the I/O registers are those of the devices, and all else is
--- memory. Prices are those of WAITCNT as it was at the start of the step (this project's profile). Until the picture's
--- registers come, its mode is 0.
+-- memory, in whose VRAM the sprites' part begins where the picture's mode says. Prices are those of WAITCNT as it was at
+-- the start of the step (this project's profile).
 
 abbrev pub is_io : Region → Bool
 is_io Io = true
@@ -33,7 +34,7 @@ unfoldable pub core_written : Core → ℕ → Width → ℕ → Core
 core_written b address width value =
     if is_io (region_of address)
     then record b { devices = io_stored (io_offset address) width value b.devices }
-    else record b { memory = store 0 b.memory address width value }
+    else record b { memory = store (picture_mode b.devices.picture) b.memory address width value }
 
 abbrev pub core_price : Price Core
 core_price b address width sequential = price (region_of address) width sequential b.devices.priced

@@ -9,9 +9,6 @@ use crate::Core;
 use gba_bus::{Bus, Region, Width, region_of};
 use gba_devices::laws::writes_keep;
 
-/// The mode of the picture, until its registers come: with 0 the tiles of sprites begin at 10000h in the VRAM.
-const PICTURE_MODE: u32 = 0;
-
 /// What an access to the inner RAM costs, of any kind: it is quick enough to be told without a look at the prices.
 const INNER_PRICE: u32 = 1;
 
@@ -91,7 +88,8 @@ impl Core {
         if is_in_io(address) {
             self.devices.store(offset_of(address), width, value);
         } else {
-            self.memory.store(PICTURE_MODE, address, width, value);
+            let mode = self.devices.mode();
+            self.memory.store(mode, address, width, value);
         }
     }
 

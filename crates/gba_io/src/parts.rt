@@ -9,6 +9,7 @@ use gba_devices::laws::{cycle_keeps, cycles_pass};
 use gba_dma::{Channel, Unit};
 use gba_image::ConsoleImages;
 use gba_mem::Memory;
+use gba_ppu_reg::{Position, Reference};
 use gba_price_table::PriceTable;
 use gba_terms::NoMemory;
 use gba_timer::Timer;
@@ -66,6 +67,8 @@ impl Core {
     ghost use Rattle.gba_devices.specs.Registers.{half_stored};
     ghost use Rattle.gba_devices.specs.State.{is_calm};
     ghost use Rattle.gba_irq.specs.Interrupts.{is_pending};
+    ghost use Rattle.gba_ppu_reg.specs.Position.{IsPosition};
+    ghost use Rattle.gba_ppu_reg.specs.Registers.{reference_of};
     ghost use Rattle.gba_sound.specs.Queues.{left_sample, queue_at, right_sample};
     ghost use Rattle.gba_timer.specs.Timers.{timer_at};
     ghost use Rattle.gba_io.specs.Core.{core_after, core_at_start, core_begun, core_cycled, core_keyed, core_woken, length_named, memory_named};
@@ -217,6 +220,23 @@ impl Core {
         ensures right { result.1 ≡ right_sample self.now.devices.sound }
     {
         self.devices.sample()
+    }
+
+    /// The place of the picture: its line, from 0 to 227, and its dot, from 0 to 1,231.
+    pub fn place(&self) -> Position
+        ensures place { result ≡ self.now.devices.place }
+        ensures sound { IsPosition result }
+    {
+        self.devices.place()
+    }
+
+    /// The inner reference point of background 2 or 3: words, with 8 bits behind the point.
+    pub fn reference(&self, background: u32) -> Reference
+        requires least { 2 ≤ background }
+        requires most { background ≤ 3 }
+        ensures { result ≡ reference_of background self.now.devices.picture }
+    {
+        self.devices.reference(background)
     }
 
     /// A DMA channel by its number, which is below 4.

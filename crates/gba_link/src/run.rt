@@ -129,7 +129,7 @@ struct OutputRoom {
     ghost no_file: { files.items ≡ [] },
     ghost three_files: { 3 ≤ vec_capacity files },
     ghost no_state: { state.items ≡ [] },
-    ghost state_room: { 1041502 ≤ vec_capacity state },
+    ghost state_room: { 1041587 ≤ vec_capacity state },
     ghost no_save: { save.items ≡ [] },
     ghost save_room: { 32768 ≤ vec_capacity save },
 }
@@ -220,7 +220,7 @@ fn add_state(
 )
     requires one_file { vec_len files.old < vec_capacity files.old }
     requires no_byte { state.items ≡ [] }
-    requires state_room { 1041502 ≤ vec_capacity state }
+    requires state_room { 1041587 ≤ vec_capacity state }
     requires named { string_len name ≤ 200 }
     ensures files { map output_value files.new.items
         ≡ map output_value files.old.items ++ output_if asked (string_bytes name) (state_file console.now) }

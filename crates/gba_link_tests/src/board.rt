@@ -1,9 +1,10 @@
-//! The board by itself: registers, prices, timers, keys, the halt, DMA and direct sound, by moves and what they must show.
+//! The board by itself: registers, prices, timers, keys, the halt, DMA, direct sound and the picture's place, by
+//! moves and what they must show.
 
 use crate::console::{ROOM, bios_of};
 use Move::{
-    Advance, Begins, Calm, Clock, Halts, Kept, Keys, Left, Load, Master, Pair, Pending, Price,
-    Queue, Store, Timer, Unit, Wakes,
+    Advance, Begins, Calm, Clock, Halts, Kept, Keys, Left, Lines, Load, Master, Pair, Pending, Place,
+    Price, Queue, Reference, Store, Timer, Unit, Wakes,
 };
 use gba_bus::Width::{Byte, Half, Word};
 use gba_bus::{Bus, Width};
@@ -52,6 +53,12 @@ enum Move {
     Queue(u32, usize, u8),
     /// So many pairs of samples are made, and this is the last.
     Pair(usize, i16, i16),
+    /// Move the devices by so many lines.
+    Lines(u32),
+    /// The picture is at this line and dot.
+    Place(u32, u32),
+    /// The inner reference point of a background.
+    Reference(u32, u32, u32),
 }
 
 fn board_of(alloc: Global) -> Result<Board, Fail> {
@@ -69,6 +76,26 @@ fn advance<R: Abort>(rt: &R, board: &mut Board, cycles: u32) {
     assert!(rt; board.made.until() <= 1_000_000);
     assert!(rt; board.core.clock() + u64::from(cycles) <= board.made.until() + 511);
     board.advance(cycles);
+}
+
+fn advance_lines<R: Abort>(rt: &R, board: &mut Board, lines: u32) {
+    for _ in 0..lines {
+        advance(rt, board, 512);
+        advance(rt, board, 512);
+        advance(rt, board, 208);
+    }
+}
+
+fn reference_is<R: Abort>(rt: &R, board: &Board, background: u32, x: u32, y: u32) {
+    assert!(rt; 2 <= background);
+    assert!(rt; background <= 3);
+    let point = board.core.reference(background);
+    assert_eq!(rt; (point.x, point.y), (x, y));
+}
+
+fn place_is<R: Abort>(rt: &R, board: &Board, line: u32, dot: u32) {
+    let place = board.core.place();
+    assert_eq!(rt; (place.line, place.dot), (line, dot));
 }
 
 fn units_left<R: Abort>(rt: &R, board: &Board, channel: u32) -> u32 {
@@ -133,10 +160,13 @@ fn play<R: Abort>(rt: &R, board: &mut Board, one: Move) {
         Left(channel, units) => assert_eq!(rt; units_left(rt, board, channel), units),
         Queue(queue, held, current) => queue_is(rt, board, queue, held, current),
         Pair(count, left, right) => pair_is(rt, board, count, left, right),
+        Lines(lines) => advance_lines(rt, board, lines),
+        Place(line, dot) => place_is(rt, board, line, dot),
+        Reference(background, x, y) => reference_is(rt, board, background, x, y),
     }
 }
 
-static MOVES: [&[Move]; 19] = [
+static MOVES: [&[Move]; 26] = [
     // A word over IE and IF: the one stores, ones in the other clear. Timer 0 requests bit 3.
     &[
         Store(0x100, Half, 0xFFFF),
@@ -443,6 +473,142 @@ static MOVES: [&[Move]; 19] = [
         Unit(Some(6)),
         Unit(Some(4)),
         Unit(None),
+    ],
+    // HBlank begins at dot 1,006 with its interrupt, and ends with the line. Line 0 is the matched one.
+    &[
+        Store(0x004, Half, 0x0010),
+        Advance(512),
+        Advance(493),
+        Place(0, 1005),
+        Load(0x004, Half, 0x0014),
+        Kept(0x202, 0x0000),
+        Advance(1),
+        Place(0, 1006),
+        Load(0x004, Half, 0x0016),
+        Kept(0x202, 0x0002),
+        Advance(225),
+        Place(0, 1231),
+        Load(0x004, Half, 0x0016),
+        Load(0x006, Half, 0x0000),
+        Advance(1),
+        Place(1, 0),
+        Load(0x004, Half, 0x0010),
+        Load(0x006, Half, 0x0001),
+        Kept(0x004, 0x0010),
+        Kept(0x006, 0x0001),
+    ],
+    // The matched line requests where it begins, and not where it becomes the matched one.
+    &[
+        Store(0x004, Half, 0x0520),
+        Lines(4),
+        Advance(512),
+        Advance(512),
+        Advance(207),
+        Place(4, 1231),
+        Kept(0x202, 0x0000),
+        Advance(1),
+        Kept(0x202, 0x0004),
+        Load(0x004, Half, 0x0524),
+        Store(0x202, Half, 0x0004),
+        Store(0x004, Half, 0x0620),
+        Load(0x004, Half, 0x0620),
+        Store(0x004, Half, 0x0520),
+        Load(0x004, Half, 0x0524),
+        Kept(0x202, 0x0000),
+    ],
+    // VBlank from line 160 to 226, with its interrupt.
+    &[
+        Store(0x004, Half, 0x0008),
+        Lines(159),
+        Advance(512),
+        Advance(512),
+        Advance(207),
+        Kept(0x202, 0x0000),
+        Load(0x004, Half, 0x000A),
+        Advance(1),
+        Place(160, 0),
+        Kept(0x202, 0x0001),
+        Load(0x004, Half, 0x0009),
+        Lines(66),
+        Load(0x004, Half, 0x0009),
+        Lines(1),
+        Place(227, 0),
+        Load(0x004, Half, 0x0008),
+        Lines(1),
+        Place(0, 0),
+        Load(0x004, Half, 0x000C),
+        Clock(280_896),
+    ],
+    // HBlank DMA in the lines 0 to 159 alone.
+    &[
+        Store(0x0D4, Word, 0x0200_0000),
+        Store(0x0D8, Word, 0x0300_0000),
+        Store(0x0DC, Word, 0xA200_0001),
+        Advance(512),
+        Advance(493),
+        Unit(None),
+        Advance(1),
+        Unit(Some(6)),
+        Unit(None),
+        Lines(1),
+        Unit(Some(6)),
+        Unit(None),
+        Lines(158),
+        Place(159, 1006),
+        Unit(Some(6)),
+        Unit(None),
+        Lines(1),
+        Unit(None),
+        Lines(67),
+        Place(227, 1006),
+        Unit(None),
+        Lines(1),
+        Unit(Some(6)),
+    ],
+    // VBlank DMA where line 160 begins.
+    &[
+        Store(0x0D4, Word, 0x0200_0000),
+        Store(0x0D8, Word, 0x0300_0000),
+        Store(0x0DC, Word, 0x9000_0001),
+        Lines(159),
+        Advance(512),
+        Advance(512),
+        Advance(207),
+        Unit(None),
+        Advance(1),
+        Unit(Some(6)),
+        Unit(None),
+    ],
+    // The inner points grow by PB and PD where a line that is seen comes to HBlank, a write of either half makes a point
+    // the whole new one, and VBlank makes them the written ones.
+    &[
+        Store(0x022, Half, 0x0100),
+        Store(0x026, Half, 0xFF80),
+        Store(0x028, Word, 0x0000_1000),
+        Reference(2, 0x1000, 0),
+        Advance(512),
+        Advance(493),
+        Reference(2, 0x1000, 0),
+        Advance(1),
+        Reference(2, 0x1100, 0xFFFF_FF80),
+        Reference(3, 0, 0),
+        Store(0x02A, Half, 0x0FFF),
+        Reference(2, 0xFFFF_1000, 0xFFFF_FF80),
+        Lines(159),
+        Reference(2, 0xFFFF_1000 + 0x9F00, 0xFFFF_B000),
+        Advance(226),
+        Place(160, 0),
+        Reference(2, 0xFFFF_1000, 0),
+        Lines(67),
+        Reference(2, 0xFFFF_1000, 0),
+    ],
+    // A byte in the VRAM from 10000h up is dropped in mode 0, where sprites have it, and written twice in mode 3.
+    &[
+        Store(0x0201_0000, Byte, 0x5A),
+        Load(0x0201_0000, Half, 0x0000),
+        Store(0x000, Half, 0x0003),
+        Store(0x0201_0000, Byte, 0x5A),
+        Load(0x0201_0000, Half, 0x5A5A),
     ],
 ];
 

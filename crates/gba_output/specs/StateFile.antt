@@ -8,6 +8,9 @@ use Rattle.gba_devices.specs.State.{Devices}
 use Rattle.gba_dma.specs.Channels.{channel_at}
 use Rattle.gba_dma.specs.declared.channel.Channel.{Channel}
 use Rattle.gba_io.specs.Core.{Core}
+use Rattle.gba_ppu_reg.specs.Registers.{reference_of}
+use Rattle.gba_ppu_reg.specs.declared.position.Position.{Position}
+use Rattle.gba_ppu_reg.specs.declared.reference.Reference.{Reference}
 use Rattle.gba_sound.specs.Queue.{SoundQueue}
 use Rattle.gba_sound.specs.Queues.{queue_at}
 use Rattle.gba_timer.specs.Timers.{timer_at}
@@ -77,6 +80,18 @@ queue_line name q =
 abbrev pub queue_lines : Devices → List ℕ
 queue_lines d = queue_line (codes "A") (queue_at 0 d.sound) ++ queue_line (codes "B") (queue_at 1 d.sound)
 
+-- the lines of the picture's place, and of the inner reference points of backgrounds 2 and 3
+unfoldable pub position_line : Position → List ℕ
+position_line p = codes "position " ++ decimal p.line ++ codes " " ++ decimal p.dot ++ codes "\n"
+
+unfoldable pub affine_line : List ℕ → Reference → List ℕ
+affine_line name point = codes "affine " ++ name ++ codes " " ++ hex 8 point.x ++ codes " " ++ hex 8 point.y ++ codes "\n"
+
+unfoldable pub picture_lines : Devices → List ℕ
+picture_lines d =
+    position_line d.place ++ affine_line (codes "2") (reference_of 2 d.picture)
+    ++ affine_line (codes "3") (reference_of 3 d.picture)
+
 -- the line of 32 bytes of a memory: its name, their offset as six digits, and the bytes
 abbrev pub memory_place : List ℕ → ℕ → List ℕ
 memory_place name offset = codes "mem " ++ name ++ codes " " ++ hex 6 offset ++ codes " "
@@ -118,7 +133,7 @@ abbrev pub state_file : Machine → List ℕ
 state_file m =
     heading (clock_of m) m.board.core.devices.halted ++ register_lines register_names m.registers
     ++ timer_lines m.board.core.devices ++ channel_lines m.board.core.devices ++ queue_lines m.board.core.devices
-    ++ lines_of_memories m.board.core
+    ++ picture_lines m.board.core.devices ++ lines_of_memories m.board.core
 
 -- its save: the bytes of the SRAM
 abbrev pub save_file : Machine → List ℕ

@@ -1,13 +1,14 @@
-//! The lines of timers, DMA channels and sound queues.
+//! The lines of timers, DMA channels, sound queues, and of the picture's place and reference points.
 
 ghost use Rattle.std.specs.Prelude.{◌≡◌, ◌+◌, ◌≤◌, ◌<◌, ◌++◌, codes, decimal, length, vec_len, vec_capacity};
 ghost use Rattle.gba_sound.specs.Queue.{SoundQueue};
-ghost use Rattle.gba_output.specs.StateFile.{channel_line, channel_lines, channel_numbers, queue_bytes, queue_line, queue_lines, timer_line, timer_lines, timer_numbers, truth as truth_of};
+ghost use Rattle.gba_output.specs.StateFile.{affine_line, channel_line, channel_lines, channel_numbers, picture_lines, position_line, queue_bytes, queue_line, queue_lines, timer_line, timer_lines, timer_numbers, truth as truth_of};
 
 use crate::state::{add, add_hex_bytes, truth};
-use gba_command::hexadecimal::hex_byte;
+use gba_command::hexadecimal::{hex_byte, hex_word};
 use gba_dma::Channel;
 use gba_io::Core;
+use gba_ppu_reg::{Position, Reference};
 use gba_timer::Timer;
 use itoa::Buffer;
 
@@ -176,4 +177,51 @@ pub(crate) fn add_queue_lines(into: &mut Vec<u8>, core: &Core)
 {
     add_queue_line(into, b"A", core.queue_current(0), core.queue(0));
     add_queue_line(into, b"B", core.queue_current(1), core.queue(1));
+}
+
+/// Adds the line of the picture's place.
+#[tactic(auto, unfolding(crate::specs::StateFile::position_line))]
+fn add_position_line(into: &mut Vec<u8>, place: &Position)
+    requires { vec_len into.old + 31 ≤ vec_capacity into.old }
+    ensures items { into.new.items ≡ into.old.items ++ position_line place.now }
+    ensures len { vec_len into.new ≤ vec_len into.old + 31 }
+    ensures room { vec_capacity into.old ≤ vec_capacity into.new }
+{
+    let mut buffer = Buffer::new();
+    add(into, b"position ");
+    add(into, buffer.format(place.line).as_bytes());
+    add(into, b" ");
+    add(into, buffer.format(place.dot).as_bytes());
+    add(into, b"\n");
+}
+
+/// Adds the line of a background's inner reference point.
+#[tactic(auto, unfolding(crate::specs::StateFile::affine_line))]
+fn add_affine_line(into: &mut Vec<u8>, name: &[u8], point: &Reference)
+    requires name { length name.now ≡ 1 }
+    requires room { vec_len into.old + 27 ≤ vec_capacity into.old }
+    ensures items { into.new.items ≡ into.old.items ++ affine_line name.now point.now }
+    ensures len { vec_len into.new ≤ vec_len into.old + 27 }
+    ensures room { vec_capacity into.old ≤ vec_capacity into.new }
+{
+    add(into, b"affine ");
+    add(into, name);
+    add(into, b" ");
+    add(into, &hex_word(point.x));
+    add(into, b" ");
+    add(into, &hex_word(point.y));
+    add(into, b"\n");
+}
+
+/// Adds the lines of the picture's place and of the inner reference points.
+#[tactic(auto, unfolding(crate::specs::StateFile::picture_lines))]
+pub(crate) fn add_picture_lines(into: &mut Vec<u8>, core: &Core)
+    requires { vec_len into.old + 85 ≤ vec_capacity into.old }
+    ensures items { into.new.items ≡ into.old.items ++ picture_lines core.now.devices }
+    ensures len { vec_len into.new ≤ vec_len into.old + 85 }
+    ensures room { vec_capacity into.old ≤ vec_capacity into.new }
+{
+    add_position_line(into, &core.place());
+    add_affine_line(into, b"2", &core.reference(2));
+    add_affine_line(into, b"3", &core.reference(3));
 }

@@ -6,7 +6,7 @@ ghost use Rattle.gba_terms.specs.RegisterNames.{register_names};
 ghost use Rattle.arrayvec.specs.ArrayVec.{array_vec_len};
 ghost use Rattle.gba_output.specs.StateFile.{heading, hex_bytes, io_bytes as io_bytes_of, lines_of, lines_of_memories, memory_line, memory_place, memory_row, register_line, register_lines, save_file, state_file, summary as summary_of, truth as truth_of};
 
-use crate::devices::{add_channel_lines, add_queue_lines, add_timer_lines};
+use crate::devices::{add_channel_lines, add_picture_lines, add_queue_lines, add_timer_lines};
 use arrayvec::ArrayVec;
 use gba_command::hexadecimal::{hex_byte, hex_offset, hex_word};
 use gba_command::{Line, add_text};
@@ -15,8 +15,9 @@ use gba_io::{Core, MemoryName};
 use itoa::Buffer;
 
 /// The room of a state file in bytes: its heading has at most 96, each of the 37 registers at most 18, each timer at most
-/// 36, each DMA channel at most 45, each queue at most 80, and each of the 12,384 lines of registers and memory 84.
-pub const STATE_ROOM: usize = 1_041_502;
+/// 36, each DMA channel at most 45, each queue at most 80, the position
+/// and the reference points 85, and each of the 12,384 lines of registers and memory 84.
+pub const STATE_ROOM: usize = 1_041_587;
 
 /// The bytes of a save.
 pub const SAVE_ROOM: usize = 32_768;
@@ -259,10 +260,10 @@ fn add_memories(into: &mut Vec<u8>, core: &Core)
     add_memory_lines(into, b"oam", core.memory(MemoryName::Oam));
 }
 
-/// Writes the state file of a console into an empty buffer with room for it: 1,041,502 bytes are enough for any.
+/// Writes the state file of a console into an empty buffer with room for it: 1,041,587 bytes are enough for any.
 pub fn write_state(into: &mut Vec<u8>, console: &Console)
     requires empty { into.old.items ≡ [] }
-    requires room { 1041502 ≤ vec_capacity into.old }
+    requires room { 1041587 ≤ vec_capacity into.old }
     ensures { into.new.items ≡ state_file console.now }
 {
     let core = &console.board().core;
@@ -271,6 +272,7 @@ pub fn write_state(into: &mut Vec<u8>, console: &Console)
     add_timer_lines(into, core);
     add_channel_lines(into, core);
     add_queue_lines(into, core);
+    add_picture_lines(into, core);
     add_memories(into, core);
 }
 
