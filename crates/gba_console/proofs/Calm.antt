@@ -8,7 +8,7 @@ use Rattle.gba_dma.specs.Channels.{FourChannels, channel_at, is_moving, next_uni
 use Rattle.gba_dma.specs.declared.unit.Unit.{Unit as DmaUnit}
 use Rattle.gba_irq.specs.Interrupts.{is_pending}
 use Rattle.gba_devices.specs.Keeping.{CalmHasBegun}
-use Rattle.gba_devices.specs.State.{Devices, asks_entry, is_calm}
+use Rattle.gba_devices.specs.State.{Devices, asks_entry, is_calm, is_idle}
 use Rattle.gba_exec_transfers.specs.Done.{Done}
 use Rattle.gba_io.specs.Board.{board_after}
 use Rattle.gba_io.specs.declared.board.Board.{Board}
@@ -71,6 +71,50 @@ calm-acts file b calm =
     ∙ if-false (enters file b) (entry_done file b) (instruction_done file b)
     (ap (λ (e : Bool). not (bit (status file) 7) && e) parts.none ∙ and-false (not (bit (status file) 7)))
 
+-- what idle devices don't ask for
+record IsIdle (halt pending move : Bool) : Type 0 where
+  halted : halt ≡ true
+  none : pending ≡ false
+  moving : move ≡ false
+
+idle-parts : (halted pending moving same : Bool) → (halted && not pending && not moving && same) ≡ true
+    → IsIdle halted pending moving
+idle-parts true false false same idle = record { halted = refl; none = refl; moving = refl }
+idle-parts true false true same idle = cc
+idle-parts true true moving same idle = cc
+idle-parts false pending moving same idle = cc
+
+if-true : {A : Type 0} (test : Bool) (one other : A) → test ≡ true → (if test then one else other) ≡ one
+if-true true one other e = refl
+if-true false one other e = cc
+
+idles-by : (halted pending : Bool) → halted ≡ true → pending ≡ false → (halted && not pending) ≡ true
+idles-by true false e f = refl
+idles-by true true e f = cc
+idles-by false pending e f = cc
+
+idle-acts : (file : List ℕ) (b : Core) → is_idle b.devices ≡ true → acted file b ≡ idle_done file b
+unfolding acted
+idle-acts file b idle =
+    let d = b.devices in
+    let parts = idle-parts d.halted (is_pending d.interrupts) (is_moving d.channels) (d.waits == d.priced) idle in
+    ap (λ (unit : Option DmaUnit). acted_for unit file b) (no-unit d.channels parts.moving)
+    ∙ if-true (idles b) (idle_done file b) (awake_done file (core_woken b))
+    (idles-by d.halted (is_pending d.interrupts) parts.halted parts.none)
+
+-- where nothing asks for more than idling, a step is 16 cycles
+pub idle-next : CalmHasBegun → (m : Machine) → is_idle m.board.core.devices ≡ true → clock_of m < due_of m.keys
+    → next m ≡ record m { board = board_after 16 m.board }
+unfolding next
+idle-next begins m idle early =
+    let core = m.board.core in
+    let start : core_begun core ≡ core = ap (λ (d : Devices). record core { devices = d }) (begins.idle core.devices idle) in
+    let keyed : prepared m ≡ core =
+    ap (after_keys (clock_of m) m.keys) start ∙ keys-early (clock_of m) m.keys core early in
+    let done : acted m.registers (prepared m) ≡ idle_done m.registers core =
+    ap (acted m.registers) keyed ∙ idle-acts m.registers core idle in
+    rw (done, left-early (clock_of m) m.keys early) refl
+
 pub plain-next : CalmHasBegun → (m : Machine) → is_calm m.board.core.devices ≡ true → clock_of m < due_of m.keys
     → next m ≡ record {
       registers = (instruction_done m.registers m.board.core).registers;
@@ -82,7 +126,7 @@ pub plain-next : CalmHasBegun → (m : Machine) → is_calm m.board.core.devices
 unfolding next
 plain-next begins m calm early =
     let core = m.board.core in
-    let start : core_begun core ≡ core = ap (λ (d : Devices). record core { devices = d }) (begins core.devices calm) in
+    let start : core_begun core ≡ core = ap (λ (d : Devices). record core { devices = d }) (begins.calm core.devices calm) in
     let keyed : prepared m ≡ core =
     ap (after_keys (clock_of m) m.keys) start ∙ keys-early (clock_of m) m.keys core early in
     let done : acted m.registers (prepared m) ≡ instruction_done m.registers core =

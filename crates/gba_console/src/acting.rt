@@ -20,7 +20,7 @@ use gba_word::bit;
 pub(crate) const DECODED: usize = 4096;
 
 /// How many cycles a halted console idles at a time.
-const IDLE_CYCLES: u32 = 16;
+pub(crate) const IDLE_CYCLES: u32 = 16;
 
 /// Where the table of words has the one at this address. Words 16 KiB apart share a place.
 fn place_of_word(address: u32) -> usize

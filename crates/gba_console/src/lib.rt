@@ -8,7 +8,7 @@ mod acting;
 mod keys;
 pub mod laws;
 
-use acting::{DECODED, act, execute};
+use acting::{DECODED, IDLE_CYCLES, act, execute};
 use gba_arm_exec::{Decoded as DecodedWord, decode_word};
 use gba_devices::laws::calm_has_begun;
 use gba_image::ConsoleImages;
@@ -80,12 +80,12 @@ impl Model for Console {
 }
 
 impl Console {
-    ghost use Rattle.std.specs.Prelude.{◌≡◌, ◌+◌, ◌≤◌, ◌<◌, ◌^◌, IfOk, true};
+    ghost use Rattle.std.specs.Prelude.{◌≡◌, ◌+◌, ◌≤◌, ◌<◌, ◌^◌, IfOk, true, false};
     ghost use Rattle.gba_console.specs.Keys.{due_of};
     ghost use Rattle.gba_console.specs.Machine.{clock_of, reset, samples_taken};
     ghost use Rattle.gba_console.specs.Run.{run_to};
     ghost use Rattle.gba_console.specs.Step.{next};
-    ghost use Rattle.gba_devices.specs.State.{is_calm};
+    ghost use Rattle.gba_devices.specs.State.{is_calm, is_idle};
 
     /// A console at reset, at clock 0, from its images and the changes of its keys, which are dropped on refusal. It
     /// takes the memory of its RAM, of the decoded instructions and of all that it keeps of what it makes in the steps
@@ -267,6 +267,53 @@ impl Console {
         }
     }
 
+    /// Makes a step where nothing asks for more than idling, if nothing happens in its cycles, and answers whether it did.
+    #[inline(always)]
+    fn step_idly(&mut self) -> bool
+        requires clock { clock_of self.old < self.old.board.made.until }
+        requires idle { is_idle self.old.board.core.devices ≡ true }
+        requires early { clock_of self.old < due_of self.old.keys }
+        ensures step { result ≡ true → self.new ≡ next self.old }
+        ensures clock { result ≡ true → clock_of self.new ≡ clock_of self.old + 16 }
+        ensures keys { self.new.keys ≡ self.old.keys }
+        ensures idle { is_idle self.new.board.core.devices ≡ true }
+        ensures until { self.new.board.made.until ≡ self.old.board.made.until }
+        ensures left { result ≡ false → self.new ≡ self.old }
+    {
+        calm_has_begun();
+        board_passes();
+        self.board.owe(IDLE_CYCLES)
+    }
+
+    /// Whether nothing but the keys may ask for more than idling.
+    fn is_idle(&self) -> bool
+        ensures { result ≡ is_idle self.now.board.core.devices }
+    {
+        self.board.core.is_idle()
+    }
+
+    /// Idles while nothing happens and the clock is below `until`.
+    #[inline(never)]
+    fn run_idly(&mut self, until: u64)
+        requires { until ≤ self.old.board.made.until }
+        ensures same_end { run_to until self.new ≡ run_to until self.old }
+        ensures later { clock_of self.old ≤ clock_of self.new }
+        ensures until { self.new.board.made.until ≡ self.old.board.made.until }
+    {
+        enough();
+        if !self.is_idle() {
+            return;
+        }
+        let end = until.min(self.due());
+        let mut left = end.saturating_sub(self.clock());
+        while left > 0 {
+            if !self.step_idly() {
+                return;
+            }
+            left = left.saturating_sub(u64::from(IDLE_CYCLES));
+        }
+    }
+
     /// Makes steps until the clock is at least `until`, which is no more than the end of the room.
     pub fn run_to(&mut self, until: u64)
         requires { until ≤ self.old.board.made.until }
@@ -276,6 +323,7 @@ impl Console {
         enough();
         while self.clock() < until {
             self.run_plainly(until);
+            self.run_idly(until);
             if self.clock() < until {
                 self.step();
             }

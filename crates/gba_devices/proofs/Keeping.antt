@@ -5,7 +5,7 @@ use Rattle.gba_bus.specs.declared.width.Width.TheVariants.{Byte, Half, Word}
 use Rattle.gba_devices.specs.Keeping.{CalmHasBegun, WritesKeep}
 use Rattle.gba_sound.specs.Queues.{after_word}
 use Rattle.gba_devices.specs.Registers.{half_kept, half_written, halves_written, io_stored, is_queue, merged, owner_of, queue_of, with_key_control, word_written, written_of}
-use Rattle.gba_devices.specs.State.{Devices}
+use Rattle.gba_devices.specs.State.{Devices, begun}
 use Rattle.gba_devices.specs.declared.registers.Owner.{Owner}
 use Rattle.gba_devices.specs.declared.registers.Owner.TheVariants.{PictureBlock, SoundBlock, DmaBlock, TimerBlock, KeyBlock, InterruptBlock, WaitControl, PostFlag, Nobody}
 
@@ -67,7 +67,8 @@ writes-keep = record {
   priced = λ offset width value d. (access-keeps offset width value d).priced;
 }
 
+same-begun : (d : Devices) → d.waits ≡ d.priced → begun d ≡ d
+same-begun d same = rw same refl
+
 pub calm-has-begun : CalmHasBegun
-calm-has-begun d calm =
-    let same : d.waits ≡ d.priced = grind arith in
-    rw same refl
+calm-has-begun = record { calm = λ d calm. same-begun d (grind arith); idle = λ d idle. same-begun d (grind arith) }

@@ -1,13 +1,14 @@
 use Rattle.std.specs.Prelude.{◌≡◌, ℕ, true}
 use Rattle.gba_bus.specs.declared.width.Width.{Width}
 use Rattle.gba_devices.specs.Registers.{io_stored}
-use Rattle.gba_devices.specs.State.{Devices, begun, is_calm}
+use Rattle.gba_devices.specs.State.{Devices, begun, is_calm, is_idle}
 
 -- A write leaves the clock and the prices of this step.
 pub record WritesKeep : Type 0 where
   pub clock : (offset : ℕ) (width : Width) (value : ℕ) (d : Devices) → (io_stored offset width value d).clock ≡ d.clock
   pub priced : (offset : ℕ) (width : Width) (value : ℕ) (d : Devices) → (io_stored offset width value d).priced ≡ d.priced
 
--- Calm devices have the prices of this step already.
-abbrev pub CalmHasBegun : Type 0
-CalmHasBegun = (d : Devices) → is_calm d ≡ true → begun d ≡ d
+-- Calm and idle devices have the prices of this step already.
+pub record CalmHasBegun : Type 0 where
+  pub calm : (d : Devices) → is_calm d ≡ true → begun d ≡ d
+  pub idle : (d : Devices) → is_idle d ≡ true → begun d ≡ d

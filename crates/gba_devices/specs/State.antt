@@ -77,6 +77,10 @@ after_dma_unit number d = record d {
 abbrev pub asks_entry : Devices → Bool
 asks_entry d = d.interrupts.master && is_pending d.interrupts
 
+-- halted, and nothing asks for more than idling: no interrupt, no DMA, and the prices are those of WAITCNT
+abbrev pub is_idle : Devices → Bool
+is_idle d = d.halted && not (is_pending d.interrupts) && not (is_moving d.channels) && (d.waits == d.priced)
+
 -- nothing asks for more than an instruction: no halt, no entry, no DMA, and the prices are those of WAITCNT
 abbrev pub is_calm : Devices → Bool
 is_calm d = not d.halted && not (asks_entry d) && not (is_moving d.channels) && (d.waits == d.priced)

@@ -47,7 +47,7 @@ impl Devices {
     ghost use Rattle.gba_timer.specs.Timers.{timer_at};
     ghost use Rattle.gba_devices.specs.Cycles.{after_cycles, device_cycle, makes_pair, makes_within, quiet, skipped};
     ghost use Rattle.gba_devices.specs.Registers.{half_stored, io_loaded, io_stored, keyed};
-    ghost use Rattle.gba_devices.specs.State.{after_dma_unit, begun, devices_at_reset, is_calm, woken};
+    ghost use Rattle.gba_devices.specs.State.{after_dma_unit, begun, devices_at_reset, is_calm, is_idle, woken};
 
     /// The devices at reset.
     pub fn new() -> Devices
@@ -112,6 +112,13 @@ impl Devices {
         ensures { result ≡ is_calm self.now }
     {
         self.calm
+    }
+
+    /// Whether the console is halted, and nothing asks for more than idling: no interrupt, no DMA, and no other prices.
+    pub fn is_idle(&self) -> bool
+        ensures { result ≡ is_idle self.now }
+    {
+        self.set.is_idle()
     }
 
     #[tactic(auto, unfolding(crate::specs::Cycles::quiet))]
@@ -280,6 +287,7 @@ impl Devices {
         requires few { cycles ≤ 512 }
         requires clock { self.old.clock < 2 ^ 61 }
         ensures owed { result ≡ true → (self.new ≡ after_cycles cycles self.old) × (makes_within cycles self.old ≡ false) }
+        ensures idle { is_idle self.new ≡ is_idle self.old }
         ensures left { result ≡ false → self.new ≡ self.old }
     {
         skips_cycles();

@@ -37,7 +37,7 @@ pub fn writes_keep()
     ensures { WritesKeep }
 {}
 
-/// Calm devices have the prices of this step already.
+/// Calm and idle devices have the prices of this step already.
 pub fn calm_has_begun()
     ensures { CalmHasBegun }
 {}

@@ -83,7 +83,7 @@ impl DeviceSet {
     ghost use Rattle.gba_timer.specs.Timers.{requests};
     ghost use Rattle.gba_devices.specs.Cycles.{asked_by, at_hblank, at_line, at_place, device_cycle, placed, quiet, rung, skipped, sounded, status_of, with_bit, with_timer_requests};
     ghost use Rattle.gba_devices.specs.Registers.{half_kept, half_read, half_stored, half_written, halves_written, io_loaded, io_stored, keyed, with_key_control, with_key_request, word_written};
-    ghost use Rattle.gba_devices.specs.State.{after_dma_unit, asks_entry, begun, devices_at_reset, is_calm, with_dma_request, woken};
+    ghost use Rattle.gba_devices.specs.State.{after_dma_unit, asks_entry, begun, devices_at_reset, is_calm, is_idle, with_dma_request, woken};
 
     /// The devices at reset.
     pub(crate) fn new() -> DeviceSet
@@ -237,6 +237,16 @@ impl DeviceSet {
     {
         !self.halted
             && !self.asks_entry()
+            && !self.channels.is_moving()
+            && self.waits == self.priced
+    }
+
+    /// Whether it is halted, and nothing asks for more than idling.
+    pub(crate) fn is_idle(&self) -> bool
+        ensures { result ≡ is_idle self.now }
+    {
+        self.halted
+            && !self.interrupts.pending()
             && !self.channels.is_moving()
             && self.waits == self.priced
     }

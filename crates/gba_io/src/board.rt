@@ -14,7 +14,8 @@ pub struct Board {
 }
 
 impl Board {
-    ghost use Rattle.std.specs.Prelude.{◌≡◌, ◌≤◌, ◌^◌, IfOk};
+    ghost use Rattle.std.specs.Prelude.{◌≡◌, ◌<◌, ◌≤◌, ◌^◌, true, false, IfOk};
+    ghost use Rattle.gba_devices.specs.State.{is_idle};
     ghost use Rattle.gba_io.specs.Board.{HasRoom, board_after, board_at_start, board_cycle};
 
     /// A board at reset, at clock 0, from its images, which are dropped on refusal. The room for what it makes is taken
@@ -73,6 +74,19 @@ impl Board {
         }
     }
 
+    /// Moves by so many cycles where surely nothing happens in them, and answers whether it did.
+    #[inline]
+    pub fn owe(&mut self, cycles: u32) -> bool
+        requires few { cycles ≤ 512 }
+        requires clock { self.old.core.devices.clock < 2 ^ 61 }
+        ensures owed { result ≡ true → self.new ≡ board_after cycles self.old }
+        ensures idle { is_idle self.new.core.devices ≡ is_idle self.old.core.devices }
+        ensures left { result ≡ false → self.new ≡ self.old }
+    {
+        board_passes();
+        self.core.owe(cycles)
+    }
+
     /// Moves by the cycles of a step.
     #[inline]
     pub fn advance(&mut self, cycles: u32)
@@ -80,8 +94,7 @@ impl Board {
         requires room { HasRoom cycles self.old }
         ensures { self.new ≡ board_after cycles self.old }
     {
-        board_passes();
-        if !self.core.owe(cycles) {
+        if !self.owe(cycles) {
             self.pass(cycles);
         }
     }

@@ -65,7 +65,7 @@ impl Core {
     ghost use Rattle.gba_dma.specs.Channels.{channel_at, next_unit};
     ghost use Rattle.gba_devices.specs.Cycles.{makes_pair, makes_within};
     ghost use Rattle.gba_devices.specs.Registers.{half_stored};
-    ghost use Rattle.gba_devices.specs.State.{is_calm};
+    ghost use Rattle.gba_devices.specs.State.{is_calm, is_idle};
     ghost use Rattle.gba_irq.specs.Interrupts.{is_pending};
     ghost use Rattle.gba_ppu_reg.specs.Position.{IsPosition};
     ghost use Rattle.gba_ppu_reg.specs.Registers.{reference_of};
@@ -101,6 +101,13 @@ impl Core {
         ensures { result ≡ is_calm self.now.devices }
     {
         self.devices.is_calm()
+    }
+
+    /// Whether the console is halted, and nothing asks for more than idling: no interrupt, no DMA, and no other prices.
+    pub fn is_idle(&self) -> bool
+        ensures { result ≡ is_idle self.now.devices }
+    {
+        self.devices.is_idle()
     }
 
     /// Begins a step: its accesses take the prices of WAITCNT as it is.
@@ -181,6 +188,7 @@ impl Core {
         requires few { cycles ≤ 512 }
         requires clock { self.old.devices.clock < 2 ^ 61 }
         ensures owed { result ≡ true → (self.new ≡ core_after cycles self.old) × (makes_within cycles self.old.devices ≡ false) }
+        ensures idle { is_idle self.new.devices ≡ is_idle self.old.devices }
         ensures left { result ≡ false → self.new ≡ self.old }
     {
         cycles_pass();
