@@ -3,8 +3,8 @@
 
 use crate::console::{ROOM, bios_of};
 use Move::{
-    Advance, Begins, Calm, Clock, Halts, Kept, Keys, Left, Lines, Load, Master, Pair, Pending, Place,
-    Price, Queue, Reference, Store, Timer, Unit, Wakes,
+    Advance, Begins, Calm, Clock, Halts, Kept, Keys, Left, Lines, Load, Master, Pair, Pending,
+    Place, Price, Queue, Reference, Store, Timer, Unit, Wakes,
 };
 use gba_bus::Width::{Byte, Half, Word};
 use gba_bus::{Bus, Width};
