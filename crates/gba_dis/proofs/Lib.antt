@@ -12,3 +12,7 @@ pub mod Readers
 pub mod RegisterLists
 pub mod ThumbStatements
 pub mod Told
+pub mod ArmNames
+pub mod ArmStatements
+pub mod ArmTransfers
+pub mod ArmTold

@@ -1,5 +1,6 @@
 -- The assembler reads a list of registers as it is listed.
-use Rattle.std.proofs.Common.{◌≡◌, ◌<◌, ◌≤◌, ℕ, zero, suc, ◌+◌, ◌-◌, ◌/◌, ◌%◌, ◌^◌, Bool, true, false, cond, ◌==◌, nat_le, nat_lt, List, [], ◌∷◌, ◌++◌, codes, Some, Ok, refl, sym, ap, ◌∙◌, lt-ltb, le-leb, lit<, arith}
+use Rattle.std.proofs.Common.{◌≡◌, ◌<◌, ◌≤◌, ℕ, zero, suc, ◌+◌, ◌-◌, ◌/◌, ◌%◌, ◌^◌, Bool, true, false, cond, ◌==◌, nat_le, nat_lt, List, [], ◌∷◌, ◌++◌, codes, Some, Ok, refl, sym, ap, ◌∙◌, lt-ltb, le-leb, lit<, append_assoc, arith}
+use Rattle.std.proofs.lemmas.List.{append-nil}
 use Rattle.std.proofs.lemmas.Bool.Decides.{nat_tests}
 use Rattle.gba_terms.specs.Bits.{bit}
 use Rattle.gba_thumb_table.specs.declared.operation.ThumbOp.TheVariants.{Format14, Format15}
@@ -16,7 +17,7 @@ use Rattle.gba_dis.specs.Thumb.{stack_list}
 use Rattle.gba_dis.proofs.Readers.{low_read, register_back}
 use Rattle.gba_dis.proofs.Spelling.{tokens_of}
 
-tokens_append : (ps qs : List Piece) → tokens_of (ps ++ qs) ≡ tokens_of ps ++ tokens_of qs
+pub tokens_append : (ps qs : List Piece) → tokens_of (ps ++ qs) ≡ tokens_of ps ++ tokens_of qs
 tokens_append [] qs = refl
 tokens_append (Name w ∷ ps) qs = ap (λ ts. Word w ∷ ts) (tokens_append ps qs)
 tokens_append (Plain w ∷ ps) qs = ap (λ ts. Word w ∷ ts) (tokens_append ps qs)
@@ -39,15 +40,23 @@ tokens_listed (suc more) n list first =
     listed_by n first (bit list n) (entries_from more (n + 1) false list) (entries_from more (n + 1) first list) _ _
     (tokens_listed more (n + 1) list false) (tokens_listed more (n + 1) list first)
 
-braces_tokens : (list : ℕ)
-    → tokens_of (braces list) ≡ token.Mark 123 ∷ (listed register_name 16 0 true list ++ token.Mark 125 ∷ [])
+braces_tokens : (list : ℕ) (ps : List Piece)
+    → tokens_of (braces list ++ ps)
+    ≡ token.Mark 123 ∷ (listed register_name 16 0 true list ++ token.Mark 125 ∷ tokens_of ps)
 unfolding braces
-braces_tokens list =
-    ap (λ ts. token.Mark 123 ∷ ts) (tokens_append (entries list) (Mark 125 ∷ [])
-    ∙ ap (λ ts. ts ++ token.Mark 125 ∷ []) (tokens_listed 16 0 list true))
+braces_tokens list ps =
+    ap (λ qs. tokens_of (Mark 123 ∷ qs)) (append_assoc (entries list) (Mark 125 ∷ []) ps)
+    ∙ ap (λ ts. token.Mark 123 ∷ ts) (tokens_append (entries list) (Mark 125 ∷ ps)
+    ∙ ap (λ ts. ts ++ token.Mark 125 ∷ tokens_of ps) (tokens_listed 16 0 list true))
 
-pub braces_read : (list : ℕ) → list < 2 ^ 16 → list_at (tokens_of (braces list)) ≡ Ok (taken list [])
-braces_read list h = ap list_at (braces_tokens list) ∙ list_spelled register_name register_back list [] h
+-- a list in braces, before other pieces
+pub list_read : (list : ℕ) (ps : List Piece) → list < 2 ^ 16
+    → list_at (tokens_of (braces list ++ ps)) ≡ Ok (taken list (tokens_of ps))
+list_read list ps h =
+    ap list_at (braces_tokens list ps) ∙ list_spelled register_name register_back list (tokens_of ps) h
+
+braces_read : (list : ℕ) → list < 2 ^ 16 → list_at (tokens_of (braces list)) ≡ Ok (taken list [])
+braces_read list h = ap (λ ps. list_at (tokens_of ps)) (sym (append-nil (braces list))) ∙ list_read list [] h
 
 pub push_said : (r : Bool) (list : ℕ) → list < 256
     → thumb_statement (codes "push") (tokens_of (braces (stack_list false r list))) ≡ Ok (Operation (Some (Format14 false r list)))
