@@ -112,7 +112,7 @@ fn queue_is<R: Abort>(rt: &R, board: &Board, queue: u32, held: usize, current: u
 fn pair_is<R: Abort>(rt: &R, board: &Board, count: usize, left: i16, right: i16) {
     let samples = board.made.samples();
     assert_eq!(rt; board.made.counts().samples, count as u64);
-    assert_eq!(rt; samples.len(), 4 * count);
+    assert_eq!(rt; samples.len() / 4, count);
     let [.., a, b, c, d] = samples else {
         return assert!(rt; false);
     };
