@@ -166,6 +166,12 @@ fn play<R: Abort>(rt: &R, board: &mut Board, one: Move) {
     }
 }
 
+fn play_all<R: Abort>(rt: &R, board: &mut Board, moves: &[Move]) {
+    for one in moves {
+        play(rt, board, *one);
+    }
+}
+
 static MOVES: [&[Move]; 26] = [
     // A word over IE and IF: the one stores, ones in the other clear. Timer 0 requests bit 3.
     &[
@@ -616,9 +622,7 @@ static MOVES: [&[Move]; 26] = [
 fn registers_keep_their_table(rt: HostRuntime) -> Result<(), Fail> {
     for moves in MOVES {
         let mut board = board_of(rt.alloc())?;
-        for one in moves {
-            play(&rt, &mut board, *one);
-        }
+        play_all(&rt, &mut board, moves);
     }
     Ok(())
 }
