@@ -206,7 +206,7 @@ fn memory_map(rt: HostRuntime) -> Result<(), Fail> {
     ] {
         let mut console = console_of(rt.alloc(), &words)?;
         for _ in 0..count {
-            assert!(rt; console.clock() < 1_000_000);
+            assert!(rt; console.clock() < console.until());
             console.step();
         }
         assert_eq!(rt; console.all()[0], result);
