@@ -425,10 +425,10 @@ fn a_key_interrupts(rt: HostRuntime) -> Result<(), Fail> {
         let changes = [KeyState { clock: at, keys: 1 }];
         let mut console = console_with_keys(rt.alloc(), &words, &changes)?;
         steps(&rt, &mut console, 12, 15);
-        console.run_to(clock - 3);
+        run(&rt, &mut console, clock - 3);
         assert_eq!(rt; console.clock(), clock - 3);
         assert_eq!(rt; console.all()[15], 0x30);
-        console.step();
+        steps(&rt, &mut console, 1, clock);
         let registers = console.all();
         assert_eq!(rt; console.clock(), clock);
         assert_eq!(rt; registers[15], 0x18);
