@@ -1,5 +1,5 @@
 -- Where nothing asks for more, a step is an instruction.
-use Rattle.std.proofs.Common.{◌≡◌, ℕ, ◌<◌, Bool, true, false, List, refl, ◌∙◌, ap, sym, if◌then◌else◌}
+use Rattle.std.proofs.Common.{◌≡◌, ℕ, ◌<◌, Bool, true, false, List, [], refl, ◌∙◌, ap, sym, if◌then◌else◌}
 use Rattle.std.specs.Prelude.{not, ◌&&◌, ◌||◌, ◌==◌, Option, None, Some, option_map}
 use Rattle.gba_terms.specs.Bits.{bit}
 use Rattle.gba_psr.specs.RegisterFile.{status}
@@ -8,14 +8,23 @@ use Rattle.gba_dma.specs.Channels.{FourChannels, channel_at, is_moving, next_uni
 use Rattle.gba_dma.specs.declared.unit.Unit.{Unit as DmaUnit}
 use Rattle.gba_irq.specs.Interrupts.{is_pending}
 use Rattle.gba_devices.specs.Keeping.{CalmHasBegun}
-use Rattle.gba_devices.specs.State.{Devices, asks_entry, is_calm, is_idle}
+use Rattle.gba_devices.specs.State.{Devices, asks_entry, begun, is_calm, is_idle}
 use Rattle.gba_exec_transfers.specs.Done.{Done}
 use Rattle.gba_io.specs.Board.{board_after}
 use Rattle.gba_io.specs.declared.board.Board.{Board}
-use Rattle.gba_io.specs.Core.{Core, core_begun, core_woken}
-use Rattle.gba_console.specs.Keys.{after_keys, due_of}
+use Rattle.gba_io.specs.Cable.{after_transfer, board_ended}
+use Rattle.gba_io.specs.Core.{Core, core_begun, core_is_idle, core_woken}
+use Rattle.gba_io.specs.Ended.{with_transfer}
+use Rattle.gba_serial.specs.Apart.{StaysQuiet, next_end}
+use Rattle.gba_serial.specs.End.{ended}
+use Rattle.gba_serial.specs.SerialUnit.{SerialUnit}
+use Rattle.gba_serial.specs.Tell.{has_news, silent}
+use Rattle.gba_serial.specs.declared.transfer.Transfer.{Transfer}
+use Rattle.gba_console.specs.Keys.{after_keys, due_of, keys_left}
+use Rattle.gba_console.specs.declared.keys.KeyState.{KeyState}
 use Rattle.gba_console.specs.Machine.{Machine, clock_of}
-use Rattle.gba_console.specs.Step.{acted, acted_for, awake_done, enters, entry_done, idle_done, idles, instruction_done, next, prepared}
+use Rattle.gba_console.specs.Step.{acted, acted_for, awake_done, enters, entry_done, idle_done, heard, idles, instruction_done, next, stepped}
+use Rattle.gba_console.specs.Waiting.{IsPlain}
 use Rattle.gba_console.proofs.Keying.{keys-early, left-early}
 
 -- what calm devices don't ask for
@@ -102,43 +111,97 @@ idle-acts file b idle =
     ∙ if-true (idles b) (idle_done file b) (awake_done file (core_woken b))
     (idles-by d.halted (is_pending d.interrupts) parts.halted parts.none)
 
--- where nothing asks for more than idling, a step is 16 cycles
-pub idle-next : CalmHasBegun → (m : Machine) → is_idle m.board.core.devices ≡ true → clock_of m < due_of m.keys
-    → next m ≡ record m { board = board_after 16 m.board }
-unfolding next
-idle-next begins m idle early =
-    let core = m.board.core in
-    let start : core_begun core ≡ core = ap (λ (d : Devices). record core { devices = d }) (begins.idle core.devices idle) in
-    let keyed : prepared m ≡ core =
-    ap (after_keys (clock_of m) m.keys) start ∙ keys-early (clock_of m) m.keys core early in
-    let done : acted m.registers (prepared m) ≡ idle_done m.registers core =
-    ap (acted m.registers) keyed ∙ idle-acts m.registers core idle in
-    rw (done, left-early (clock_of m) m.keys early) refl
+-- A step that begins where no transfer ends, and after a step that told nothing, hears nothing.
+none-ends : StaysQuiet → (clock : ℕ) (b : Board) → clock < next_end b.core.serial → board_ended clock b ≡ b
+none-ends quiet clock b before =
+    let u = b.core.serial in
+    ap (λ (one : Option Transfer). record b {
+      core = record b.core { devices = after_transfer one b.core.devices; serial = ended clock u };
+      ended = with_transfer one b.ended;
+    }) (quiet.ending clock u before)
+    ∙ ap (λ (v : SerialUnit). record b { core = record b.core { serial = v } }) (quiet.ended clock u before)
 
-pub plain-next : CalmHasBegun → (m : Machine) → is_calm m.board.core.devices ≡ true → clock_of m < due_of m.keys
+begun-same : (core : Core) → begun core.devices ≡ core.devices → silent core.serial ≡ core.serial → core_begun core ≡ core
+begun-same core devices serial =
+    ap (λ (d : Devices). record core { devices = d; serial = silent core.serial }) devices
+    ∙ ap (λ (u : SerialUnit). record core { serial = u }) serial
+
+heard-none : StaysQuiet → (m : Machine) → begun m.board.core.devices ≡ m.board.core.devices
+    → has_news m.board.core.serial ≡ false → clock_of m < next_end m.board.core.serial → heard [] m ≡ m.board
+heard-none quiet m devices told before =
+    let b = m.board in
+    ap (λ (core : Core). board_ended (clock_of m) (record b { core = core }))
+    (begun-same b.core devices (quiet.silent b.core.serial told))
+    ∙ none-ends quiet (clock_of m) b before
+
+and-first : (one other : Bool) → (one && other) ≡ true → one ≡ true
+and-first true other both = refl
+and-first false other both = both
+
+pub not-second : (one other : Bool) → (one && not other) ≡ true → other ≡ false
+not-second true false both = refl
+not-second true true both = sym both
+not-second false other both = cc
+
+-- what such a step leaves
+step-is : (m : Machine) (done : Done Core) → heard [] m ≡ m.board → clock_of m < due_of m.keys
+    → acted m.registers m.board.core ≡ done
+    → next m ≡ record {
+      registers = done.registers;
+      board = board_after done.cycles (record m.board { core = done.bus });
+      keys = m.keys;
+      was = clock_of m;
+    }
+unfolding stepped
+step-is m done here early acts =
+    let left = keys_left (clock_of m) m.keys in
+    let put = λ (b : Board) (some : Done Core) (keys : List KeyState).
+    let after : Machine = record {
+      registers = some.registers;
+      board = board_after some.cycles (record b { core = some.bus });
+      keys = keys;
+      was = clock_of m;
+    } in after in
+    ap (λ (b : Board). put b (acted m.registers (after_keys (clock_of m) m.keys b.core)) left) here
+    ∙ ap (λ (core : Core). put m.board (acted m.registers core) left)
+    (keys-early (clock_of m) m.keys m.board.core early)
+    ∙ ap (λ (some : Done Core). put m.board some left) acts
+    ∙ ap (put m.board done) (left-early (clock_of m) m.keys early)
+
+-- where nothing asks for more than idling, a step is 16 cycles
+pub idle-next : CalmHasBegun → StaysQuiet → (m : Machine) → core_is_idle m.board.core ≡ true
+    → clock_of m < due_of m.keys → clock_of m < next_end m.board.core.serial
+    → next m ≡ record m { board = board_after 16 m.board; was = clock_of m }
+idle-next begins quiet m idle early before =
+    let core = m.board.core in
+    let devices = and-first (is_idle core.devices) (not (has_news core.serial)) idle in
+    let told = not-second (is_idle core.devices) (has_news core.serial) idle in
+    step-is m (idle_done m.registers core) (heard-none quiet m (begins.idle core.devices devices) told before) early
+    (idle-acts m.registers core devices)
+
+pub plain-next : CalmHasBegun → StaysQuiet → (m : Machine) → IsPlain m
     → next m ≡ record {
       registers = (instruction_done m.registers m.board.core).registers;
       board =
           board_after (instruction_done m.registers m.board.core).cycles
           (record m.board { core = (instruction_done m.registers m.board.core).bus });
       keys = m.keys;
+      was = clock_of m;
     }
-unfolding next
-plain-next begins m calm early =
+plain-next begins quiet m plain =
     let core = m.board.core in
-    let start : core_begun core ≡ core = ap (λ (d : Devices). record core { devices = d }) (begins.calm core.devices calm) in
-    let keyed : prepared m ≡ core =
-    ap (after_keys (clock_of m) m.keys) start ∙ keys-early (clock_of m) m.keys core early in
-    let done : acted m.registers (prepared m) ≡ instruction_done m.registers core =
-    ap (acted m.registers) keyed ∙ calm-acts m.registers core calm in
-    rw (done, left-early (clock_of m) m.keys early) refl
+    let devices = and-first (is_calm core.devices) (not (has_news core.serial)) plain.calm in
+    let told = not-second (is_calm core.devices) (has_news core.serial) plain.calm in
+    step-is m (instruction_done m.registers core) (heard-none quiet m (begins.calm core.devices devices) told plain.ends)
+    plain.keys (calm-acts m.registers core devices)
 
 -- what an instruction leaves, put together
-pub put-together : (done : Done Core) (file : List ℕ) (mid : Core) (after : Board) (cycles : ℕ) (m : Machine)
+pub put-together : (done : Done Core) (file : List ℕ) (mid : Core) (after : Board) (cycles was clock : ℕ) (m : Machine)
     → file ≡ done.registers → mid ≡ done.bus → cycles ≡ done.cycles
-    → after ≡ board_after cycles (record m.board { core = mid })
-    → (record m { registers = file; board = after }) ≡ (record m {
+    → after ≡ board_after cycles (record m.board { core = mid }) → was ≡ clock
+    → (record m { registers = file; board = after; was = was }) ≡ (record m {
       registers = done.registers;
       board = board_after done.cycles (record m.board { core = done.bus });
+      was = clock;
     })
-put-together done file mid after cycles m one two three four = rw (four, one, two, three) refl
+put-together done file mid after cycles was clock m one two three four five = rw (four, one, two, three, five) refl

@@ -1,32 +1,13 @@
-use Rattle.std.proofs.Common.{◌≡◌, ℕ, ◌+◌, ◌<◌, ◌≤◌, Bool, true, false, List, [], ◌∷◌, length, drop, get_or, refl, sym, ◌∙◌, arith, if◌then◌else◌}
+use Rattle.std.proofs.Common.{◌≡◌, ℕ, ◌+◌, ◌<◌, ◌≤◌, true, false, List, [], ◌∷◌, length, drop, get_or, refl, sym, arith}
 use Rattle.std.specs.Prelude.{nat_le}
 use Rattle.std.proofs.Math.ListN.{drop_of_length-le}
 use Rattle.std.proofs.lemmas.Bool.Decides.{nat_tests}
 use Rattle.std.proofs.lemmas.List.{drop_more}
-use Rattle.gba_devices.specs.Registers.{keyed}
 use Rattle.gba_io.specs.Core.{Core, core_keyed}
 use Rattle.gba_console.specs.Keys.{after_keys, due_of, keys_left}
 use Rattle.gba_console.specs.declared.keys.KeyState.{KeyState}
 
 -- Changes of the keys, one after another.
-
-either-clock : (test : Bool) (clock : ℕ) (one other : Core) → one.devices.clock ≡ clock → other.devices.clock ≡ clock
-    → (if test then one else other).devices.clock ≡ clock
-either-clock true clock one other here there = here
-either-clock false clock one other here there = there
-
-keyed-clock : (keys : ℕ) (b : Core) → (core_keyed keys b).devices.clock ≡ b.devices.clock
-unfolding keyed
-keyed-clock keys b = refl
-
--- they leave the clock
-pub keys-clock : (clock : ℕ) (changes : List KeyState) (b : Core)
-    → (after_keys clock changes b).devices.clock ≡ b.devices.clock
-unfolding after_keys
-keys-clock clock [] b = refl
-keys-clock clock (change ∷ changes) b =
-    either-clock (nat_le change.clock clock) b.devices.clock (after_keys clock changes (core_keyed change.keys b)) b
-    (keys-clock clock changes (core_keyed change.keys b) ∙ keyed-clock change.keys b) refl
 
 -- none is due
 pub keys-early : (clock : ℕ) (changes : List KeyState) (b : Core) → clock < due_of changes

@@ -1,173 +1,169 @@
--- What a step does takes from 1 to 512 cycles, and leaves the clock.
-use Rattle.std.proofs.Common.{◌≡◌, ℕ, Bool, true, false, List, refl, ◌/◌, ◌<◌, ◌≤◌, ◌^◌, ◌∙◌, sym, ap, subst, arith, if◌then◌else◌}
-use Rattle.std.specs.Prelude.{not, nat_eq, Option, None, Some}
-use Rattle.std.proofs.lemmas.Bool.Decides.{nat_tests}
-use Rattle.gba_bus.specs.declared.width.Width.TheVariants.{Half, Word}
-use Rattle.gba_dma.specs.Channels.{next_unit}
-use Rattle.gba_dma.specs.declared.unit.Unit.{Unit as DmaUnit}
-use Rattle.gba_devices.specs.State.{after_dma_unit}
-use Rattle.gba_exec_registers.specs.Access.{code_width}
-use Rattle.gba_exec_transfers.specs.Done.{Done, IsStepLength}
-use Rattle.gba_exec_transfers.specs.Keeping.{LoadsKeep, StoresKeep}
-use Rattle.gba_io.specs.Board.{BoardPasses, HasRoom, board_after}
-use Rattle.gba_io.specs.Core.{Core, core_begun, core_woken}
-use Rattle.gba_io.specs.Units.{core_after_unit, start_cycles, unit_ended, unit_stored, unit_value}
+-- What a step leaves is sound again.
+use Rattle.std.proofs.Common.{◌≡◌, ℕ, refl, ◌+◌, ◌-◌, ◌*◌, ◌/◌, ◌<◌, ◌≤◌, ◌^◌, ◌∙◌, length, sym, ap, subst, arith}
+use Rattle.gba_exec_transfers.specs.Done.{Done}
+use Rattle.gba_io.specs.Board.{BoardPasses, HasRoom, IsInStep, board_after}
+use Rattle.gba_io.specs.Cable.{EndsFit}
+use Rattle.gba_io.specs.Core.{Core}
+use Rattle.gba_io.specs.Drawing.{cycles_early, cycles_in, lines_drawn}
+use Rattle.gba_io.specs.Ended.{Ended}
+use Rattle.gba_io.specs.Made.{without_frames, without_samples}
+use Rattle.gba_ppu_reg.specs.Position.{IsPosition}
+use Rattle.gba_ppu_reg.specs.declared.position.Position.{Position}
 use Rattle.gba_io.specs.declared.board.Board.{Board}
-use Rattle.gba_io.specs.Bus.{core_load, core_store}
-use Rattle.gba_io.specs.BusLaws.{core_code_prices}
-use Rattle.gba_io.specs.Keeping.{WritesKeepClock}
-use Rattle.gba_console.specs.Machine.{Machine, clock_of}
-use Rattle.gba_console.specs.Passing.{ActsPass, Passes}
-use Rattle.gba_console.specs.Run.{StepPasses}
-use Rattle.gba_console.specs.Step.{acted, acted_for, awake_done, enters, entry_done, execution_of_half, execution_of_word, half_done, idle_done, idles, in_thumb, instruction, instruction_done, next, next_site, prepared, undisturbed_done, unit_done, word_done}
-use Rattle.gba_console.proofs.Keying.{keys-clock}
+use Rattle.gba_serial.specs.Apart.{next_end}
+use Rattle.gba_serial.specs.SerialUnit.{SerialUnit}
+use Rattle.gba_console.specs.Passing.{KeepsCourse, Passes}
+use Rattle.gba_console.specs.Waiting.{IsSound}
 
--- how long words and halfwords take over a board, and what they keep of it
-abbrev pub TakesSteps : (ℕ → List ℕ → Core → Done Core) → Type 0
-TakesSteps execution = (one : ℕ) (file : List ℕ) (b : Core) → IsStepLength (execution one file b).cycles
-
-abbrev pub KeepsTests : (ℕ → List ℕ → Core → Done Core) → Type 0
-KeepsTests execution =
-    (test : Core → Bool) → LoadsKeep core_load test → StoresKeep core_store test
-    → (one : ℕ) (file : List ℕ) (b : Core) → test b ≡ true → test (execution one file b).bus ≡ true
-
--- the test that a board has this clock
-abbrev has_clock : ℕ → Core → Bool
-has_clock clock b = nat_eq b.devices.clock clock
-
-is-clock : (clock : ℕ) (b : Core) → has_clock clock b ≡ true → b.devices.clock ≡ clock
-is-clock clock b test = grind (arith, nat_tests)
-
-clock-is : (clock : ℕ) (b : Core) → b.devices.clock ≡ clock → has_clock clock b ≡ true
-clock-is clock b same = grind (arith, nat_tests)
-
-module _ (writes : WritesKeepClock) where
-  stores-keep : (clock : ℕ) → StoresKeep core_store (has_clock clock)
-  stores-keep clock b address width value sequential test =
-      clock-is clock (core_store b address width value sequential).after
-      (writes b address width value ∙ is-clock clock b test)
-
-  loads-keep : (clock : ℕ) → LoadsKeep core_load (has_clock clock)
-  loads-keep clock b from address width sequential test = test
-
-  kept-clock : (execution : ℕ → List ℕ → Core → Done Core) → KeepsTests execution
-      → (one : ℕ) (file : List ℕ) (b : Core) → (execution one file b).bus.devices.clock ≡ b.devices.clock
-  kept-clock execution keeps one file b =
-      is-clock b.devices.clock (execution one file b).bus
-      (keeps (has_clock b.devices.clock) (loads-keep b.devices.clock) (stores-keep b.devices.clock) one file b
-      (clock-is b.devices.clock b refl))
-
-either-passes : (test : Bool) (b : Core) (one other : Done Core) → Passes b one → Passes b other
-    → Passes b (if test then one else other)
-either-passes true b one other here there = here
-either-passes false b one other here there = there
-
-entry-length : (file : List ℕ) (b : Core) → IsStepLength (entry_done file b).cycles
-entry-length file b =
-    let site = next_site file in
-    let first = core_code_prices b site.address (code_width site) true in
-    let second = core_code_prices b site.address (code_width site) false in
-    record { least = omega (arith, first.least); most = omega (arith, first.most, second.most) }
-
--- a unit costs two accesses, and its write leaves the clock
-start-few : (first : Bool) → start_cycles first ≤ 2
-start-few true = omega arith
-start-few false = omega arith
-
-unit-clock : (channel : ℕ) (b : Core) → (unit_ended channel b).devices.clock ≡ b.devices.clock
-unfolding after_dma_unit
-unit-clock channel b = refl
-
-unit-passes : WritesKeepClock → (unit : DmaUnit) (file : List ℕ) (b : Core) → Passes b (unit_done unit file b)
-unfolding core_after_unit
-unit-passes writes unit file b =
-    let read = core_code_prices b unit.source unit.width (not unit.first) in
-    let written = core_code_prices b unit.target unit.width (not unit.first) in
+-- a board is in step with another core of the same time, and with what was made in the same time
+pub core-in-step : (b : Board) (core : Core) (ended : Ended) → core.devices.clock ≡ b.core.devices.clock
+    → core.devices.place ≡ b.core.devices.place → IsInStep b → IsInStep (record b { core = core; ended = ended })
+core-in-step b core ended clock place step =
+    let is_position = λ (q : Position). IsPosition q in
+    let frames = λ (n : ℕ) (q : Position). n + cycles_early q ≡ 280896 * b.made.frame_count + cycles_in q in
+    let drawn = λ (q : Position). length b.made.drawn ≡ 480 * lines_drawn q in
     record {
-      length = record {
-        least = omega (arith, read.least, written.least);
-        most = omega (arith, read.most, written.most, start-few unit.first);
-      };
-      clock = unit-clock unit.channel (unit_stored unit b) ∙ writes b unit.target unit.width (unit_value unit b);
+      place = subst is_position (sym place) step.place;
+      pairs = step.pairs ∙ ap (λ n. n / 512) (sym clock);
+      frames =
+          subst (λ (n : ℕ). frames n core.devices.place) (sym clock)
+          (subst (frames b.core.devices.clock) (sym place) step.frames);
+      drawn = subst drawn (sym place) step.drawn;
     }
 
-module _ (writes : WritesKeepClock)
-    (words : TakesSteps execution_of_word) (halves : TakesSteps execution_of_half)
-    (words_keep : KeepsTests execution_of_word) (halves_keep : KeepsTests execution_of_half) where
-  word-passes : (file : List ℕ) (b : Core) → Passes b (word_done file b)
-  word-passes file b =
-      let one = instruction Word file b in
-      record { length = words one file b; clock = kept-clock writes execution_of_word words_keep one file b }
+-- what is kept changes nothing of that
+pub samples-sound : (was : ℕ) (b : Board) → IsSound was b → IsSound was (record b { made = without_samples b.made })
+samples-sound was b sound = record {
+  step = record { place = sound.step.place; pairs = sound.step.pairs; frames = sound.step.frames; drawn = sound.step.drawn };
+  ends = record { past = sound.ends.past; next = sound.ends.next; seat = sound.ends.seat; few = sound.ends.few };
+  clock = sound.clock;
+  few = sound.few;
+  same = sound.same;
+}
 
-  half-passes : (file : List ℕ) (b : Core) → Passes b (half_done file b)
-  half-passes file b =
-      let one = instruction Half file b in
-      record { length = halves one file b; clock = kept-clock writes execution_of_half halves_keep one file b }
-
-  instruction-passes : (file : List ℕ) (b : Core) → Passes b (instruction_done file b)
-  unfolding instruction_done
-  instruction-passes file b =
-      either-passes (in_thumb file) b (half_done file b) (word_done file b) (half-passes file b) (word-passes file b)
-
-  awake-passes : (file : List ℕ) (b : Core) → Passes b (awake_done file b)
-  awake-passes file b =
-      either-passes (enters file b) b (entry_done file b) (instruction_done file b)
-      (record { length = entry-length file b; clock = refl }) (instruction-passes file b)
-
-  woken-passes : (file : List ℕ) (b : Core) → Passes b (awake_done file (core_woken b))
-  woken-passes file b =
-      let there = awake-passes file (core_woken b) in
-      record { length = there.length; clock = there.clock }
-
-  undisturbed-passes : (file : List ℕ) (b : Core) → Passes b (undisturbed_done file b)
-  undisturbed-passes file b =
-      either-passes (idles b) b (idle_done file b) (awake_done file (core_woken b))
-      (record { length = record { least = omega arith; most = omega arith }; clock = refl })
-      (woken-passes file b)
-
-  for-passes : (unit : Option DmaUnit) (file : List ℕ) (b : Core) → Passes b (acted_for unit file b)
-  for-passes (Some unit) file b = unit-passes writes unit file b
-  for-passes None file b = undisturbed-passes file b
-
-  act-passes : (file : List ℕ) (b : Core) → Passes b (acted file b)
-  unfolding acted
-  act-passes file b = for-passes (next_unit b.devices.channels) file b
-
-  pub acts-pass : ActsPass
-  acts-pass = record { instructions = instruction-passes; all = act-passes }
-
-pub steps-pass : ActsPass → ((count : ℕ) (b : Board) → BoardPasses count b) → (m : Machine) → StepPasses m
-unfolding next
-steps-pass acts cycles m =
-    let done = acted m.registers (prepared m) in
-    let act = acts.all m.registers (prepared m) in
-    let start = keys-clock (clock_of m) m.keys (core_begun m.board.core) in
-    let moved = cycles done.cycles (record m.board { core = done.bus }) in
-    record {
-      raised = omega (arith, act.length.least, act.clock, start, moved.clock);
-      short = omega (arith, act.length.most, act.clock, start, moved.clock);
-      until = moved.until;
-    }
+pub frames-sound : (was : ℕ) (b : Board) → IsSound was b → IsSound was (record b { made = without_frames b.made })
+frames-sound was b sound = record {
+  step = record { place = sound.step.place; pairs = sound.step.pairs; frames = sound.step.frames; drawn = sound.step.drawn };
+  ends = record { past = sound.ends.past; next = sound.ends.next; seat = sound.ends.seat; few = sound.ends.few };
+  clock = sound.clock;
+  few = sound.few;
+  same = sound.same;
+}
 
 -- there is room for a step that begins below the end
-pub has-room : (b : Board) (core : Core) (cycles : ℕ) → core.devices.clock ≡ b.core.devices.clock → cycles ≤ 512
-    → b.made.pairs ≡ b.core.devices.clock / 512 → b.core.devices.clock < b.made.until → b.made.until ≤ 2 ^ 39
-    → HasRoom cycles (record b { core = core })
-has-room b core cycles same short pairs early few = record {
-  pairs = pairs ∙ ap (λ n. n / 512) (sym same);
+pub has-room : (b : Board) (cycles clock : ℕ) → b.core.devices.clock ≡ clock → cycles ≤ 512 → IsInStep b
+    → clock < b.made.until → b.made.until ≤ 2 ^ 39 → HasRoom cycles b
+has-room b cycles clock same short step early few = record {
+  step = step;
   end = omega (arith, same, short, early);
   few = few;
 }
 
--- what then holds again
-pub record Stays (b : Board) : Type 0 where
-  pub pairs : b.made.pairs ≡ b.core.devices.clock / 512
-  pub few : b.made.until ≤ 2 ^ 39
+-- what a step does leaves room for the transfers that end
+pub acted-fit : (clock : ℕ) (b : Board) (core : Core) → EndsFit clock b → b.core.devices.clock ≡ clock
+    → KeepsCourse b.core core → EndsFit clock (record b { core = core })
+acted-fit clock b core fits same keeps = record {
+  past = fits.past;
+  next = keeps.next (512 * (b.ended.count + 1)) fits.seat (omega (arith, fits.past, same)) fits.next;
+  seat = keeps.seat fits.seat;
+  few = fits.few;
+}
 
-pub ends : (cycles : ℕ) (b after : Board) → after ≡ board_after cycles b → BoardPasses cycles b → HasRoom cycles b
-    → Stays after
-ends cycles b after e passes room =
-    subst Stays (sym e) (record {
-      pairs = passes.pairs room.pairs ∙ ap (λ n. n / 512) (sym passes.clock);
+-- what then holds again, where the step began at a clock
+pub sound-after : (clock cycles : ℕ) (b after : Board) → after ≡ board_after cycles b → BoardPasses cycles b
+    → HasRoom cycles b → EndsFit clock b → b.ended.until ≡ b.made.until → IsSound clock after
+sound-after clock cycles b after e passes room fits same =
+    subst (IsSound clock) (sym e) (record {
+      step = passes.step room.step;
+      ends = record {
+        past = let count = ap (λ (ended : Ended). ended.count) passes.ended in omega (arith, count, fits.past);
+        next =
+            (let count = ap (λ (ended : Ended). ended.count) passes.ended in
+            let next = ap next_end passes.serial in
+            omega (arith, count, next, fits.next));
+        seat = let count = ap (λ (u : SerialUnit). u.count) passes.serial in omega (arith, count, fits.seat);
+        few = let until = ap (λ (ended : Ended). ended.until) passes.ended in omega (arith, until, fits.few);
+      };
+      clock = omega (arith, passes.clock, passes.until, room.end);
       few = omega (arith, passes.until, room.few);
+      same =
+          (let until = ap (λ (ended : Ended). ended.until) passes.ended in omega (arith, until, passes.until, same));
     })
+
+-- a step that began at a clock keeps that clock
+pub step-was : (clock cycles : ℕ) (b after : Board) → after ≡ board_after cycles b → BoardPasses cycles b
+    → b.core.devices.clock ≡ clock → after.core.devices.clock - cycles ≡ clock
+step-was clock cycles b after e passes same =
+    let ends = ap (λ (b : Board). b.core.devices.clock) e in omega (arith, ends, passes.clock, same)
+
+-- what is kept from one core is kept from another of the same time and with the same serial unit
+pub keeps-from : (one other core : Core) → other.serial ≡ one.serial → other.devices.clock ≡ one.devices.clock
+    → other.devices.place ≡ one.devices.place → KeepsCourse other core → KeepsCourse one core
+keeps-from one other core unit clock place keeps =
+    let count = ap (λ (u : SerialUnit). u.count) unit in
+    let next = ap next_end unit in
+    record {
+      place = keeps.place ∙ place;
+      next = λ bound seat soon before.
+          keeps.next bound (omega (arith, seat, count)) (omega (arith, soon, clock)) (omega (arith, before, next));
+      seat = λ seat. keeps.seat (omega (arith, seat, count));
+    }
+
+-- What a step leaves is sound: `core` is what it did to a board that is ready for it.
+pub record IsReady (clock : ℕ) (b : Board) : Type 0 where
+  pub same : b.core.devices.clock ≡ clock
+  pub fits : EndsFit clock b
+  pub step : IsInStep b
+  pub early : clock < b.made.until
+  pub few : b.made.until ≤ 2 ^ 39
+  pub until : b.ended.until ≡ b.made.until
+
+pub ready-room : (clock cycles : ℕ) (b : Board) (core : Core) → IsReady clock b → core.devices.clock ≡ clock
+    → KeepsCourse b.core core → cycles ≤ 512 → HasRoom cycles (record b { core = core })
+ready-room clock cycles b core ready same keeps short =
+    has-room (record b { core = core }) cycles clock same short
+    (core-in-step b core b.ended (same ∙ sym ready.same) keeps.place ready.step) ready.early ready.few
+
+pub step-sound : (clock cycles : ℕ) (b after : Board) (core : Core) → IsReady clock b → core.devices.clock ≡ clock
+    → KeepsCourse b.core core → cycles ≤ 512 → after ≡ board_after cycles (record b { core = core })
+    → BoardPasses cycles (record b { core = core }) → IsSound (after.core.devices.clock - cycles) after
+step-sound clock cycles b after core ready same keeps short e passes =
+    subst (λ n. IsSound n after) (sym (step-was clock cycles (record b { core = core }) after e passes same))
+    (sound-after clock cycles (record b { core = core }) after e passes (ready-room clock cycles b core ready same keeps short)
+    (acted-fit clock b core ready.fits ready.same keeps) ready.until)
+
+-- a sound board is ready for a plain step
+pub sound-ready : (was : ℕ) (b : Board) → IsSound was b → was ≤ b.core.devices.clock → b.core.devices.clock < b.made.until
+    → IsReady b.core.devices.clock b
+sound-ready was b sound after early = record {
+  same = refl;
+  fits = record {
+    past = omega (arith, sound.ends.past, after);
+    next = sound.ends.next;
+    seat = sound.ends.seat;
+    few = sound.ends.few;
+  };
+  step = sound.step;
+  early = early;
+  few = sound.few;
+  until = sound.same;
+}
+
+-- what an instruction leaves, where it is known by what it leaves
+pub left-ends : (before core : Core) (done : Done Core) → core ≡ done.bus → Passes before done → KeepsCourse before core
+left-ends before core done e passes =
+    let P : Core → Type 0 = λ c. KeepsCourse before c in subst P (sym e) passes.course
+
+pub left-clock : (before core : Core) (done : Done Core) → core ≡ done.bus → Passes before done
+    → core.devices.clock ≡ before.devices.clock
+left-clock before core done e passes = ap (λ (c : Core). c.devices.clock) e ∙ passes.clock
+
+-- what a step leaves has no nearer end
+pub ends-after : (cycles bound : ℕ) (b after : Board) (core : Core) → after ≡ board_after cycles (record b { core = core })
+    → BoardPasses cycles (record b { core = core }) → KeepsCourse b.core core → 1 ≤ b.core.serial.count
+    → bound ≤ b.core.devices.clock + 512 → bound ≤ next_end b.core.serial → bound ≤ next_end after.core.serial
+ends-after cycles bound b after core e passes keeps seat soon before =
+    let kept = keeps.next bound seat soon before in
+    let same = ap (λ (b : Board). next_end b.core.serial) e in
+    let serial = ap next_end passes.serial in
+    omega (arith, kept, same, serial)

@@ -1,12 +1,12 @@
 -- Each step raises the clock, so a run reaches its end.
-use Rattle.std.proofs.Common.{◌≡◌, ℕ, zero, suc, ◌+◌, ◌-◌, ◌<◌, ◌≤◌, Bool, true, false, refl, sym, ap, ◌∙◌, arith}
+use Rattle.std.proofs.Common.{◌≡◌, ℕ, zero, suc, ◌+◌, ◌-◌, ◌<◌, ◌≤◌, Bool, [], true, false, refl, sym, ap, ◌∙◌, arith}
 use Rattle.std.specs.Prelude.{nat_lt, if◌then◌else◌}
 use Rattle.std.proofs.lemmas.Bool.Decides.{nat_tests}
 use Rattle.gba_console.specs.Machine.{Machine, clock_of}
 use Rattle.gba_console.specs.Run.{IsEnough, StepPasses, run, run_to}
 use Rattle.gba_console.specs.Step.{next}
 
-module _ (passes : (m : Machine) → StepPasses m) where
+module _ (passes : (m : Machine) → StepPasses [] m) where
   by-test : (most until : ℕ) (m : Machine) (test : Bool) → nat_lt (clock_of m) until ≡ test
       → (until ≤ clock_of (next m) + most → until ≤ clock_of (run most until (next m)))
       → until ≤ clock_of m + suc most → until ≤ clock_of (if test then run most until (next m) else m)
@@ -67,3 +67,13 @@ run-step enough until m n below raised step =
     enough until until fewer n (omega arith) (omega (arith, raised))
     ∙ ap (run fewer until) step
     ∙ sym (ap (λ most. run most until m) some ∙ run-more fewer until m below)
+
+-- a console that is past the start of a step, and from which the run that this step ends goes on alike, is what the step
+-- leaves
+pub one-step : ((m : Machine) → StepPasses [] m) → IsEnough → (m n : Machine) → clock_of m < clock_of n
+    → run_to (clock_of m + 1) n ≡ run_to (clock_of m + 1) m → n ≡ next m
+one-step passes enough m n later same =
+    let raised = (passes m).raised in
+    sym (run-done (clock_of m + 1) n (omega arith)) ∙ same
+    ∙ sym (run-step enough (clock_of m + 1) m (next m) (omega arith) raised refl)
+    ∙ run-done (clock_of m + 1) (next m) (omega (arith, raised))

@@ -1,5 +1,9 @@
+pub mod Alone
 pub mod Keys
 pub mod Machine
+pub mod NodeLaws
 pub mod Passing
 pub mod Run
 pub mod Step
+pub mod StepLaws
+pub mod Waiting

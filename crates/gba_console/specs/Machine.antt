@@ -1,27 +1,52 @@
 use Rattle.std.specs.Prelude.{ℕ, List, Option}
 use Rattle.gba_psr.specs.RegisterFile.{reset_file}
 use Rattle.gba_io.specs.Board.{board_at_start}
-use Rattle.gba_io.specs.Made.{without_samples}
+use Rattle.gba_io.specs.Ended.{without_words}
+use Rattle.gba_io.specs.Made.{without_frames, without_samples}
 use Rattle.gba_io.specs.declared.board.Board.{Board}
 use Rattle.gba_io.specs.declared.made.Room.{Room}
 use Rattle.gba_console.specs.declared.keys.KeyState.{KeyState}
 
--- a console: its 37 registers in the order of the register names, its board, and the key changes that aren't applied
--- yet, in their order
+-- a console: its 37 registers in the order of the register names, its board, the key changes that aren't applied yet, in
+-- their order, and the clock at which the last step began, 0 before the first
 pub record Machine : Type 0 where
   pub registers : List ℕ
   pub board : Board
   pub keys : List KeyState
+  pub was : ℕ
 
 -- its clock in cycles since reset
 abbrev pub clock_of : Machine → ℕ
 clock_of m = m.board.core.devices.clock
 
--- a console at reset, from a BIOS, a cartridge, a save, the changes of its keys and what is to be kept of what it makes
-abbrev pub reset : List ℕ → Option (List ℕ) → Option (List ℕ) → List KeyState → Room → Machine
-reset bios cart save keys room =
-    record { registers = reset_file; board = board_at_start bios cart save room; keys = keys }
+-- the clock from which on no step begins, and the console but for it: no step depends on it
+abbrev pub limit_of : Machine → ℕ
+limit_of m = m.board.made.until
+
+abbrev pub board_without_limit : Board → Board
+board_without_limit b = record b { made = record b.made { until = 0 }; ended = record b.ended { until = 0 } }
+
+abbrev pub without_limit : Machine → Machine
+without_limit m = record m { board = board_without_limit m.board }
+
+-- a console at reset, from its player number, the number of consoles and the delay of the cable, a BIOS, a cartridge, a
+-- save, the changes of its keys and what is to be kept of what it makes
+abbrev pub reset : ℕ → ℕ → ℕ → List ℕ → Option (List ℕ) → Option (List ℕ) → List KeyState → Room → Machine
+reset player count delay bios cart save keys room = record {
+  registers = reset_file;
+  board = board_at_start player count delay bios cart save room;
+  keys = keys;
+  was = 0;
+}
+
+-- its whole frames are taken out
+abbrev pub frames_taken : Machine → Machine
+frames_taken m = record m { board = record m.board { made = without_frames m.board.made } }
 
 -- its pairs of samples are taken out
 abbrev pub samples_taken : Machine → Machine
 samples_taken m = record m { board = record m.board { made = without_samples m.board.made } }
+
+-- its transfers are taken out
+abbrev pub words_taken : Machine → Machine
+words_taken m = record m { board = record m.board { ended = without_words m.board.ended } }

@@ -1,12 +1,17 @@
-use Rattle.std.specs.Prelude.{◌≡◌, ◌≤◌, ◌<◌, ◌+◌, ℕ, zero, suc, nat_lt, if◌then◌else◌}
+use Rattle.std.specs.Prelude.{◌≡◌, ◌≤◌, ◌<◌, ◌+◌, ℕ, zero, suc, nat_lt, List, if◌then◌else◌}
+use Rattle.gba_serial.specs.Tell.{outgoing}
+use Rattle.link_node.specs.declared.signal.Incoming.{Incoming}
 use Rattle.gba_console.specs.Machine.{Machine, clock_of}
-use Rattle.gba_console.specs.Step.{next}
+use Rattle.gba_console.specs.Step.{next, stepped, told}
 
--- Each step raises the clock by 1 to 512 cycles, whatever the console's numbers are, and leaves the end of its room.
-pub record StepPasses (m : Machine) : Type 0 where
-  pub raised : clock_of m < clock_of (next m)
-  pub short : clock_of (next m) ≤ clock_of m + 512
-  pub until : (next m).board.made.until ≡ m.board.made.until
+-- Each step raises the clock by 1 to 512 cycles, whatever the console's numbers are and whatever it takes, keeps its own
+-- start, and leaves the end of its room. What it tells can be read from the serial unit after it.
+pub record StepPasses (dues : List Incoming) (m : Machine) : Type 0 where
+  pub raised : clock_of m < clock_of (stepped dues m)
+  pub short : clock_of (stepped dues m) ≤ clock_of m + 512
+  pub was : (stepped dues m).was ≡ clock_of m
+  pub until : (stepped dues m).board.made.until ≡ m.board.made.until
+  pub tells : told dues m ≡ outgoing (clock_of m) (stepped dues m).board.core.serial
 
 -- steps while the clock is below `until`, at most `most` of them
 unfoldable pub run : ℕ → ℕ → Machine → Machine

@@ -1,4 +1,4 @@
-use Rattle.std.specs.Prelude.{ℕ, ◌+◌, ◌%◌, ◌^◌, Bool, not, ◌&&◌, List, Option, None, Some, if◌then◌else◌}
+use Rattle.std.specs.Prelude.{ℕ, ◌+◌, ◌%◌, ◌^◌, Bool, not, ◌&&◌, List, [], ◌∷◌, Option, None, Some, if◌then◌else◌}
 use Rattle.gba_terms.specs.Bits.{bit}
 use Rattle.gba_bus.specs.declared.width.Width.{Width}
 use Rattle.gba_bus.specs.declared.width.Width.TheVariants.{Half, Word}
@@ -15,9 +15,14 @@ use Rattle.gba_dma.specs.Channels.{next_unit}
 use Rattle.gba_dma.specs.declared.unit.Unit.{Unit as DmaUnit}
 use Rattle.gba_devices.specs.State.{asks_entry}
 use Rattle.gba_io.specs.Board.{board_after}
+use Rattle.gba_io.specs.Cable.{board_ended, board_taken}
+use Rattle.gba_io.specs.declared.board.Board.{Board}
 use Rattle.gba_io.specs.Core.{Core, core_begun, core_woken}
 use Rattle.gba_io.specs.Bus.{core_load, core_price, core_read, core_store}
 use Rattle.gba_io.specs.Units.{core_after_unit, unit_cycles}
+use Rattle.gba_serial.specs.Tell.{outgoing}
+use Rattle.link_node.specs.declared.signal.Incoming.{Incoming}
+use Rattle.link_node.specs.declared.signal.Signal.{Signal}
 use Rattle.gba_console.specs.Keys.{after_keys, keys_left}
 use Rattle.gba_console.specs.Machine.{Machine, clock_of}
 
@@ -92,18 +97,46 @@ acted_for None file b = undisturbed_done file b
 unfoldable pub acted : List ℕ → Core → Done Core
 acted file b = acted_for (next_unit b.devices.channels) file b
 
--- the core at the start of a step: its prices are those of WAITCNT as it is then, and the keys that are due change
-abbrev pub prepared : Machine → Core
-prepared m = after_keys (clock_of m) m.keys (core_begun m.board.core)
+-- the board once the signals that are due are taken, one after another
+abbrev pub all_taken : List Incoming → Board → Board
+all_taken [] b = b
+all_taken (due ∷ dues) b = all_taken dues (board_taken due b)
+
+-- The board at the start of a step: its prices are those of WAITCNT as it is then, and what the last step told is told.
+-- The due signals are taken, and then a transfer ends whose end is at most the clock.
+abbrev pub board_begun : Board → Board
+board_begun b = record b { core = core_begun b.core }
+
+abbrev pub heard : List Incoming → Machine → Board
+heard dues m = board_ended (clock_of m) (all_taken dues (board_begun m.board))
+
+-- its core once the keys that are due changed
+abbrev pub prepared : List Incoming → Machine → Core
+prepared dues m = after_keys (clock_of m) m.keys (heard dues m).core
+
+abbrev pub done_in : List Incoming → Machine → Done Core
+done_in dues m = acted m.registers (prepared dues m)
 
 -- a console after what a step did: the devices move by its cycles, and make what they make
-abbrev pub moved : Machine → Done Core → Machine
-moved m done = record {
+abbrev pub moved : Board → Machine → Done Core → Machine
+moved b m done = record {
   registers = done.registers;
-  board = board_after done.cycles (record m.board { core = done.bus });
+  board = board_after done.cycles (record b { core = done.bus });
   keys = keys_left (clock_of m) m.keys;
+  was = clock_of m;
 }
 
--- A step.
-unfoldable pub next : Machine → Machine
-next m = moved m (acted m.registers (prepared m))
+-- A step that takes these signals, and what it tells: that is known before the devices move.
+unfoldable pub stepped : List Incoming → Machine → Machine
+stepped dues m = moved (heard dues m) m (done_in dues m)
+
+unfoldable pub told : List Incoming → Machine → Option Signal
+told dues m = outgoing (clock_of m) (done_in dues m).bus.serial
+
+-- a step with nothing due
+abbrev pub next : Machine → Machine
+next m = stepped [] m
+
+-- a step as the cable sees it
+abbrev pub node_next : Machine → List Incoming → Machine × Option Signal
+node_next m dues = (stepped dues m, told dues m)

@@ -1,15 +1,19 @@
 //! Laws over the definitions. Each is the contract of a function that takes no value.
 
+ghost use Rattle.std.specs.Prelude.{List};
+ghost use Rattle.link_node.specs.declared.signal.Incoming.{Incoming};
+ghost use Rattle.gba_console.specs.Alone.{RunsAlone};
 ghost use Rattle.gba_console.specs.Machine.{Machine};
 ghost use Rattle.gba_console.specs.Passing.{ActsPass};
 ghost use Rattle.gba_console.specs.Run.{IsEnough, Reaches, StepPasses};
 
 use gba_arm_exec::laws::{cycles_of_a_word, words_keep};
 use gba_io::Core;
-use gba_io::laws::{board_passes, writes_keep_clock};
+use gba_io::laws::{board_passes, writes_keep_ends, writes_keep_time};
 use gba_thumb_exec::laws::{cycles_of_a_halfword, halfwords_keep};
 
-/// What a step does before its devices move takes from 1 to 512 cycles, and leaves the clock.
+/// What a step does before its devices move takes from 1 to 512 cycles, leaves the clock and the picture's
+/// place, and brings no near end.
 pub(crate) fn acts_pass()
     ensures { ActsPass }
 {
@@ -17,12 +21,14 @@ pub(crate) fn acts_pass()
     cycles_of_a_halfword::<Core>();
     words_keep::<Core>();
     halfwords_keep::<Core>();
-    writes_keep_clock();
+    writes_keep_time();
+    writes_keep_ends();
 }
 
-/// Each step raises the clock by 1 to 512 cycles, whatever the console's numbers are, and leaves the end of its room.
+/// Each step raises the clock by 1 to 512 cycles, whatever the console's numbers are and whatever it takes, keeps its own
+/// start, and leaves the end of its room.
 pub fn steps_pass()
-    ensures { (m : Machine) → StepPasses m }
+    ensures { (dues : List Incoming) (m : Machine) → StepPasses dues m }
 {
     acts_pass();
     board_passes();
@@ -40,4 +46,11 @@ pub fn enough()
     ensures { IsEnough }
 {
     steps_pass();
+}
+
+/// The global order's run of a console alone is its own run.
+pub fn runs_alone()
+    ensures { RunsAlone }
+{
+    enough();
 }

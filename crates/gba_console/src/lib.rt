@@ -1,25 +1,31 @@
 #![tactic(auto)]
-//! A console: registers, a board and changes of the keys, and one step of it.
+//! A console: registers, a board and changes of the keys, one step of it, and the console as a node of the cable.
 
 ghost use Rattle.std.specs.Prelude.{◌≡◌, ◌+◌, ◌<◌, IfOk, drop, length, vec_len};
 ghost use Rattle.gba_console.specs.Keys.{due_of};
 
 mod acting;
+mod hearing;
 mod keys;
 pub mod laws;
+mod node;
 
 use acting::{DECODED, IDLE_CYCLES, act, execute};
 use gba_arm_exec::{Decoded as DecodedWord, decode_word};
 use gba_devices::laws::calm_has_begun;
 use gba_image::ConsoleImages;
-use gba_io::laws::board_passes;
+use gba_io::laws::{board_passes, ends_stay_fit};
 use gba_io::{Board, Counts, Room};
 use gba_psr::Registers;
+use gba_serial::Transfer;
+use gba_serial::laws::stays_quiet;
 use gba_terms::NoMemory;
 use gba_thumb_exec::{DecodedHalf, decode_half};
+use hearing::take_all;
 pub use keys::KeyState;
 use keys::apply;
 use laws::{acts_pass, enough, steps_pass};
+use link_node::{Incoming, Signal};
 use std::alloc::{AllocError, Global};
 use std::marker::Model;
 
@@ -59,6 +65,8 @@ pub struct Console {
     keys: Vec<KeyState>,
     applied: usize,
     due: u64,
+    // The cycles of the last step.
+    last: u32,
     // Words and halfwords that were decoded at their addresses. An entry counts only where it is the one that is read.
     words: Vec<DecodedWord>,
     halves: Vec<DecodedHalf>,
@@ -67,44 +75,63 @@ pub struct Console {
 impl Model for Console {
     ghost use Rattle.gba_console.specs.Keys.{due_of};
     ghost use Rattle.gba_console.specs.Machine.{Machine};
-    ghost use Rattle.std.specs.Prelude.{◌≡◌, ◌/◌, ◌^◌, ◌≤◌, drop, vec_len};
+    ghost use Rattle.gba_console.specs.Waiting.{IsSound};
+    ghost use Rattle.std.specs.Prelude.{◌≡◌, ◌-◌, ◌≤◌, drop, vec_len};
 
     ghost Value = { Machine };
 
-    ghost view = { λ c. record { registers = c.registers; board = c.board; keys = drop c.applied c.keys.items } };
+    ghost view = { λ c. record {
+      registers = c.registers;
+      board = c.board;
+      keys = drop c.applied c.keys.items;
+      was = c.board.core.devices.clock - c.last;
+    } };
 
     ghost invariant = { λ c.
         (vec_len c.words ≡ 4096) × (vec_len c.halves ≡ 4096) × (c.applied ≤ vec_len c.keys)
-        × (c.due ≡ due_of (drop c.applied c.keys.items))
-        × (c.board.made.pairs ≡ c.board.core.devices.clock / 512) × (c.board.made.until ≤ 2 ^ 39) };
+        × (c.due ≡ due_of (drop c.applied c.keys.items)) × (c.last ≤ c.board.core.devices.clock)
+        × IsSound (c.board.core.devices.clock - c.last) c.board };
 }
 
 impl Console {
-    ghost use Rattle.std.specs.Prelude.{◌≡◌, ◌+◌, ◌≤◌, ◌<◌, ◌^◌, IfOk, true, false};
+    ghost use Rattle.std.specs.Prelude.{ℕ, ◌≡◌, ◌+◌, ◌*◌, ◌≤◌, ◌<◌, ◌^◌, IfOk, IsTrue, All, [], length, true, false};
     ghost use Rattle.gba_console.specs.Keys.{due_of};
-    ghost use Rattle.gba_console.specs.Machine.{clock_of, reset, samples_taken};
+    ghost use Rattle.gba_console.specs.Machine.{clock_of, frames_taken, reset, samples_taken, words_taken};
     ghost use Rattle.gba_console.specs.Run.{run_to};
-    ghost use Rattle.gba_console.specs.Step.{next};
-    ghost use Rattle.gba_devices.specs.State.{is_calm, is_idle};
+    ghost use Rattle.gba_console.specs.Step.{next, stepped, told};
+    ghost use Rattle.gba_console.specs.Waiting.{IsPlain};
+    ghost use Rattle.gba_io.specs.Core.{core_is_calm, core_is_idle};
+    ghost use Rattle.gba_serial.specs.Apart.{next_end};
+    ghost use Rattle.link_node.specs.Due.{InOrder, IsDue};
 
-    /// A console at reset, at clock 0, from its images and the changes of its keys, which are dropped on refusal. It
-    /// takes the memory of its RAM, of the decoded instructions and of all that it keeps of what it makes in the steps
-    /// which begin below `room.until`, and no more later.
+    /// A console at reset, at clock 0, of a player below `count`, on a cable of 1 to 4 consoles whose signals take `delay`
+    /// cycles, from 1 to 1,024, from its images and the changes of its keys, which are dropped on refusal. It takes the
+    /// memory of its RAM, of the decoded instructions and of all that it keeps of what it makes in the steps which begin
+    /// below `room.until`, and no more later.
     pub fn new(
         alloc: Global,
+        player: u32,
+        count: u32,
+        delay: u64,
         images: ConsoleImages,
         keys: Vec<KeyState>,
         room: Room,
     ) -> Result<Console, NoMemory>
-        requires { room.until ≤ 2 ^ 39 }
-        ensures { IfOk result (λ console. console ≡ reset images.bios images.cart images.save keys.items room) }
+        requires player { player < count }
+        requires count { count ≤ 4 }
+        requires least_delay { 1 ≤ delay }
+        requires most_delay { delay ≤ 1024 }
+        requires until { room.until ≤ 2 ^ 39 }
+        ensures { IfOk result (λ console. console
+            ≡ reset player count delay images.bios images.cart images.save keys.items room) }
     {
         Ok(Console {
             registers: Registers::reset(),
-            board: Board::new(alloc, images, room)?,
+            board: Board::new(alloc, player, count, delay, images, room)?,
             due: due_after(keys.as_slice(), 0),
             keys,
             applied: 0,
+            last: 0,
             words: words_of(alloc, DECODED)?,
             halves: halves_of(alloc, DECODED)?,
         })
@@ -112,14 +139,23 @@ impl Console {
 
     /// The clock: cycles of 16,777,216 Hz since reset.
     pub fn clock(&self) -> u64
-        ensures { result ≡ clock_of self.now }
+        ensures value { result ≡ clock_of self.now }
+        ensures small { result ≤ 2 ^ 39 + 511 }
     {
         self.board.core.clock()
     }
 
+    /// The clock at which the last step began, 0 before the first.
+    pub fn was(&self) -> u64
+        ensures { result ≡ self.now.was }
+    {
+        self.board.core.clock() - u64::from(self.last)
+    }
+
     /// The end of its room: the last step begins below this clock.
     pub fn until(&self) -> u64
-        ensures { result ≡ self.now.board.made.until }
+        ensures value { result ≡ self.now.board.made.until }
+        ensures small { result ≤ 2 ^ 39 }
     {
         self.board.made.until()
     }
@@ -154,14 +190,49 @@ impl Console {
         self.board.made.take_samples(alloc)
     }
 
-    /// How much was made, whether it is kept or not.
-    pub fn counts(&self) -> Counts
-        ensures { result.samples ≡ self.now.board.made.pairs }
+    /// The whole frames, each of 160 lines of 240 colours: 16 bits each, low byte first, of which the lowest five are red,
+    /// the next green and then blue. Empty where they aren't kept.
+    pub fn frames(&self) -> &[u8]
+        ensures { result.now ≡ self.now.board.made.frames }
     {
-        self.board.made.counts()
+        self.board.made.frames()
     }
 
-    /// Makes a step, of 1 to 512 cycles, which begins below the end of the room.
+    /// Takes the whole frames out. None is kept from then on.
+    pub fn take_frames(&mut self, alloc: Global) -> Vec<u8>
+        ensures taken { result.items ≡ self.old.board.made.frames }
+        ensures left { self.new ≡ frames_taken self.old }
+    {
+        self.board.made.take_frames(alloc)
+    }
+
+    /// The transfers that ended, in the order of their ends, which are at least 512 cycles apart. Empty where they aren't
+    /// kept.
+    pub fn words(&self) -> &[Transfer]
+        ensures words { result.now ≡ self.now.board.ended.words }
+        ensures few { 512 * length result.now ≤ self.now.board.made.until + 511 }
+    {
+        self.board.words()
+    }
+
+    /// Takes the transfers out. None is kept from then on.
+    pub fn take_words(&mut self, alloc: Global) -> Vec<Transfer>
+        ensures taken { result.items ≡ self.old.board.ended.words }
+        ensures left { self.new ≡ words_taken self.old }
+    {
+        self.board.take_words(alloc)
+    }
+
+    /// How much was made, whether it is kept or not.
+    pub fn counts(&self) -> Counts
+        ensures frames { result.frames ≡ self.now.board.made.frame_count }
+        ensures samples { result.samples ≡ self.now.board.made.pairs }
+        ensures words { result.words ≡ self.now.board.ended.count }
+    {
+        self.board.counts()
+    }
+
+    /// Makes a step, of 1 to 512 cycles, which begins below the end of the room. Nothing is due in it.
     pub fn step(&mut self)
         requires { clock_of self.old < self.old.board.made.until }
         ensures step { self.new ≡ next self.old }
@@ -170,20 +241,103 @@ impl Console {
         ensures until { self.new.board.made.until ≡ self.old.board.made.until }
     {
         steps_pass();
-        self.step_fully();
+        let _ = self.step_fully(&[]);
     }
 
-    /// Makes a step, whatever is asked for.
-    #[tactic(auto, unfolding(crate::specs::Step::next))]
+    /// Makes a step that takes the signals which are due, and answers what it tells.
+    pub fn step_with(&mut self, due: &[Incoming]) -> Option<Signal>
+        requires below { clock_of self.old < self.old.board.made.until }
+        requires ordered { InOrder due.now }
+        requires taken { All (IsDue self.old.was (clock_of self.old)) due.now }
+        ensures step { self.new ≡ stepped due.now self.old }
+        ensures signal { result ≡ told due.now self.old }
+        ensures until { self.new.board.made.until ≡ self.old.board.made.until }
+    {
+        steps_pass();
+        if due.is_empty() && self.is_plain() {
+            self.step_once()
+        } else {
+            self.step_seldom(due)
+        }
+    }
+
+    /// Whether nothing asks for more than an instruction.
+    fn is_plain(&self) -> bool
+        ensures { IsTrue result → IsPlain self.now }
+    {
+        let clock = self.clock();
+        self.is_calm() && clock < self.due() && clock < self.next_end()
+    }
+
+    /// Makes a plain step, and answers what it tells.
+    fn step_once(&mut self) -> Option<Signal>
+        requires below { clock_of self.old < self.old.board.made.until }
+        requires plain { IsPlain self.old }
+        ensures step { self.new ≡ next self.old }
+        ensures signal { result ≡ told [] self.old }
+    {
+        steps_pass();
+        stays_quiet();
+        enough();
+        let clock = self.clock();
+        self.make_steps(1);
+        if self.is_calm() {
+            return None;
+        }
+        self.board.core.signal(clock)
+    }
+
+    /// Makes a step that isn't plain, behind a call, so that the code around it holds nothing for it.
     #[inline(never)]
-    fn step_fully(&mut self)
+    fn step_seldom(&mut self, due: &[Incoming]) -> Option<Signal>
+        requires below { clock_of self.old < self.old.board.made.until }
+        requires ordered { InOrder due.now }
+        requires taken { All (IsDue self.old.was (clock_of self.old)) due.now }
+        ensures step { self.new ≡ stepped due.now self.old }
+        ensures signal { result ≡ told due.now self.old }
+        ensures until { self.new.board.made.until ≡ self.old.board.made.until }
+    {
+        steps_pass();
+        if due.is_empty() && self.idle_once() {
+            return None;
+        }
+        self.step_fully(due)
+    }
+
+    /// Idles for a step if nothing asks for more, and answers whether it did. Such a step tells nothing.
+    fn idle_once(&mut self) -> bool
         requires { clock_of self.old < self.old.board.made.until }
-        ensures { self.new ≡ next self.old }
+        ensures step { result ≡ true → self.new ≡ next self.old }
+        ensures silent { result ≡ true → told [] self.old ≡ None }
+        ensures left { result ≡ false → self.new ≡ self.old }
+        ensures until { self.new.board.made.until ≡ self.old.board.made.until }
+    {
+        steps_pass();
+        stays_quiet();
+        let clock = self.clock();
+        if !self.is_idle() || self.due() <= clock || self.next_end() <= clock {
+            return false;
+        }
+        self.step_idly()
+    }
+
+    /// Makes a step, whatever is asked for, and answers what it tells.
+    #[tactic(auto, unfolding(crate::specs::Step::stepped, crate::specs::Step::told))]
+    #[inline(never)]
+    fn step_fully(&mut self, due: &[Incoming]) -> Option<Signal>
+        requires below { clock_of self.old < self.old.board.made.until }
+        requires ordered { InOrder due.now }
+        requires taken { All (IsDue self.old.was (clock_of self.old)) due.now }
+        ensures step { self.new ≡ stepped due.now self.old }
+        ensures signal { result ≡ told due.now self.old }
     {
         acts_pass();
         board_passes();
+        ends_stay_fit();
         let clock = self.board.core.clock();
         self.board.core.begin();
+        take_all(&mut self.board, due);
+        self.board.end_due();
         self.applied = apply(
             clock,
             self.keys.as_slice(),
@@ -197,23 +351,28 @@ impl Console {
             self.words.as_mut_slice(),
             self.halves.as_mut_slice(),
         );
+        let signal = self.board.outgoing();
+        self.last = cycles;
         self.board.advance(cycles);
+        signal
     }
 
-    /// Makes a step where nothing asks for more than an instruction, and answers its cycles.
+    /// Makes a plain step, and answers its cycles. No transfer ends in it, and none that begins in it ends soon.
     #[inline(always)]
     fn step_plainly(&mut self) -> u32
         requires clock { clock_of self.old < self.old.board.made.until }
-        requires calm { is_calm self.old.board.core.devices ≡ true }
-        requires early { clock_of self.old < due_of self.old.keys }
+        requires plain { IsPlain self.old }
         ensures step { self.new ≡ next self.old }
         ensures keys { self.new.keys ≡ self.old.keys }
+        ensures ends { (bound : ℕ) → bound ≤ clock_of self.old + 512 → bound ≤ next_end self.old.board.core.serial
+            → bound ≤ next_end self.new.board.core.serial }
         ensures clock { clock_of self.new ≡ clock_of self.old + result }
         ensures some { 1 ≤ result }
         ensures until { self.new.board.made.until ≡ self.old.board.made.until }
     {
         acts_pass();
         calm_has_begun();
+        stays_quiet();
         board_passes();
         let cycles = execute(
             &mut self.registers,
@@ -221,14 +380,15 @@ impl Console {
             self.words.as_mut_slice(),
             self.halves.as_mut_slice(),
         );
+        self.last = cycles;
         self.board.advance(cycles);
         cycles
     }
 
-    /// Whether nothing but the keys may ask for more than an instruction.
+    /// Whether nothing but the keys and the end of a transfer may ask for more than an instruction.
     #[inline(always)]
     fn is_calm(&self) -> bool
-        ensures { result ≡ is_calm self.now.board.core.devices }
+        ensures { result ≡ core_is_calm self.now.board.core }
     {
         self.board.core.is_calm()
     }
@@ -240,6 +400,38 @@ impl Console {
         self.due
     }
 
+    /// The clock at which the transfer ends that runs, or one that no run reaches.
+    fn next_end(&self) -> u64
+        ensures { result ≡ next_end self.now.board.core.serial }
+    {
+        self.board.core.serial().next_end()
+    }
+
+    /// Makes plain steps until something asks for more or `most` cycles have passed, from 1 to 512. In these cycles no keys
+    /// change and no transfer ends.
+    #[inline(never)]
+    fn make_steps(&mut self, most: u32)
+        requires some { 1 ≤ most }
+        requires few { most ≤ 512 }
+        requires until { clock_of self.old + most ≤ self.old.board.made.until }
+        requires keys { clock_of self.old + most ≤ due_of self.old.keys }
+        requires ends { clock_of self.old + most ≤ next_end self.old.board.core.serial }
+        requires calm { core_is_calm self.old.board.core ≡ true }
+        ensures same_end { (until : ℕ) → clock_of self.old + most ≤ until → run_to until self.new ≡ run_to until self.old }
+        ensures later { clock_of self.old < clock_of self.new }
+        ensures until { self.new.board.made.until ≡ self.old.board.made.until }
+    {
+        enough();
+        let mut left = most;
+        loop {
+            let cycles = self.step_plainly();
+            if cycles >= left || !self.is_calm() {
+                return;
+            }
+            left -= cycles;
+        }
+    }
+
     /// Makes steps while they are plain and the clock is below `until`.
     #[inline(never)]
     fn run_plainly(&mut self, until: u64)
@@ -248,22 +440,13 @@ impl Console {
         ensures later { clock_of self.old ≤ clock_of self.new }
         ensures until { self.new.board.made.until ≡ self.old.board.made.until }
     {
-        enough();
-        if !self.is_calm() {
-            return;
-        }
-        let end = until.min(self.due());
-        let cycles = end.saturating_sub(self.clock());
-        let mut left = cycles.min(u64::from(u32::MAX)) as u32;
-        if left == 0 {
-            return;
-        }
         while self.is_calm() {
-            let cycles = self.step_plainly();
-            if cycles >= left {
+            let end = until.min(self.due()).min(self.next_end());
+            let most = end.saturating_sub(self.clock()).min(512) as u32;
+            if most == 0 {
                 return;
             }
-            left -= cycles;
+            self.make_steps(most);
         }
     }
 
@@ -271,23 +454,30 @@ impl Console {
     #[inline(always)]
     fn step_idly(&mut self) -> bool
         requires clock { clock_of self.old < self.old.board.made.until }
-        requires idle { is_idle self.old.board.core.devices ≡ true }
+        requires idle { core_is_idle self.old.board.core ≡ true }
         requires early { clock_of self.old < due_of self.old.keys }
+        requires ends { clock_of self.old < next_end self.old.board.core.serial }
         ensures step { result ≡ true → self.new ≡ next self.old }
         ensures clock { result ≡ true → clock_of self.new ≡ clock_of self.old + 16 }
         ensures keys { self.new.keys ≡ self.old.keys }
-        ensures idle { is_idle self.new.board.core.devices ≡ true }
+        ensures serial { self.new.board.core.serial ≡ self.old.board.core.serial }
+        ensures idle { core_is_idle self.new.board.core ≡ true }
         ensures until { self.new.board.made.until ≡ self.old.board.made.until }
         ensures left { result ≡ false → self.new ≡ self.old }
     {
         calm_has_begun();
+        stays_quiet();
         board_passes();
-        self.board.owe(IDLE_CYCLES)
+        if !self.board.owe(IDLE_CYCLES) {
+            return false;
+        }
+        self.last = IDLE_CYCLES;
+        true
     }
 
-    /// Whether nothing but the keys may ask for more than idling.
+    /// Whether nothing but the keys and the end of a transfer may ask for more than idling.
     fn is_idle(&self) -> bool
-        ensures { result ≡ is_idle self.now.board.core.devices }
+        ensures { result ≡ core_is_idle self.now.board.core }
     {
         self.board.core.is_idle()
     }
@@ -304,7 +494,7 @@ impl Console {
         if !self.is_idle() {
             return;
         }
-        let end = until.min(self.due());
+        let end = until.min(self.due()).min(self.next_end());
         let mut left = end.saturating_sub(self.clock());
         while left > 0 {
             if !self.step_idly() {
@@ -314,7 +504,7 @@ impl Console {
         }
     }
 
-    /// Makes steps until the clock is at least `until`, which is no more than the end of the room.
+    /// Makes steps until the clock is at least `until`, which is no more than the end of the room. Nothing is due in them.
     pub fn run_to(&mut self, until: u64)
         requires { until ≤ self.old.board.made.until }
         ensures run { self.new ≡ run_to until self.old }

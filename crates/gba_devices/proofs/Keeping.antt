@@ -14,6 +14,7 @@ use Rattle.gba_devices.specs.declared.registers.Owner.TheVariants.{PictureBlock,
 -- what a write of a halfword keeps
 record Keeps (d after : Devices) : Type 0 where
   clock : after.clock ≡ d.clock
+  place : after.place ≡ d.place
   priced : after.priced ≡ d.priced
 
 either-keeps : (test : Bool) (d one other : Devices) → Keeps d one → Keeps d other → Keeps d (if test then one else other)
@@ -21,17 +22,17 @@ either-keeps true d one other here there = here
 either-keeps false d one other here there = there
 
 owner-keeps : (owner : Owner) (offset value lanes : ℕ) (d : Devices) → Keeps d (written_of owner offset value lanes d)
-owner-keeps PictureBlock offset value lanes d = record { clock = refl; priced = refl }
-owner-keeps SoundBlock offset value lanes d = record { clock = refl; priced = refl }
-owner-keeps DmaBlock offset value lanes d = record { clock = refl; priced = refl }
-owner-keeps TimerBlock offset value lanes d = record { clock = refl; priced = refl }
+owner-keeps PictureBlock offset value lanes d = record { clock = refl; place = refl; priced = refl }
+owner-keeps SoundBlock offset value lanes d = record { clock = refl; place = refl; priced = refl }
+owner-keeps DmaBlock offset value lanes d = record { clock = refl; place = refl; priced = refl }
+owner-keeps TimerBlock offset value lanes d = record { clock = refl; place = refl; priced = refl }
 owner-keeps KeyBlock offset value lanes d =
     either-keeps (offset == 0x132) d (with_key_control value d) d
-    (record { clock = refl; priced = refl }) (record { clock = refl; priced = refl })
-owner-keeps InterruptBlock offset value lanes d = record { clock = refl; priced = refl }
-owner-keeps WaitControl offset value lanes d = record { clock = refl; priced = refl }
-owner-keeps PostFlag offset value lanes d = record { clock = refl; priced = refl }
-owner-keeps Nobody offset value lanes d = record { clock = refl; priced = refl }
+    (record { clock = refl; place = refl; priced = refl }) (record { clock = refl; place = refl; priced = refl })
+owner-keeps InterruptBlock offset value lanes d = record { clock = refl; place = refl; priced = refl }
+owner-keeps WaitControl offset value lanes d = record { clock = refl; place = refl; priced = refl }
+owner-keeps PostFlag offset value lanes d = record { clock = refl; place = refl; priced = refl }
+owner-keeps Nobody offset value lanes d = record { clock = refl; place = refl; priced = refl }
 
 half-keeps : (offset value lanes : ℕ) (d : Devices) → Keeps d (half_written offset value lanes d)
 unfolding half_written
@@ -43,13 +44,13 @@ halves-keep offset value d =
     let low = half_written offset (field value 0 16) 0xffff d in
     let first = half-keeps offset (field value 0 16) 0xffff d in
     let second = half-keeps (offset + 2) (field value 16 16) 0xffff low in
-    record { clock = second.clock ∙ first.clock; priced = second.priced ∙ first.priced }
+    record { clock = second.clock ∙ first.clock; place = second.place ∙ first.place; priced = second.priced ∙ first.priced }
 
 word-keeps : (offset value : ℕ) (d : Devices) → Keeps d (word_written offset value d)
 word-keeps offset value d =
     either-keeps (is_queue offset) d
     (record d { sound = after_word (queue_of offset) (field value 0 32) d.sound }) (halves_written offset value d)
-    (record { clock = refl; priced = refl }) (halves-keep offset value d)
+    (record { clock = refl; place = refl; priced = refl }) (halves-keep offset value d)
 
 access-keeps : (offset : ℕ) (width : Width) (value : ℕ) (d : Devices) → Keeps d (io_stored offset width value d)
 access-keeps offset Byte value d =
@@ -64,6 +65,7 @@ access-keeps offset Word value d = word-keeps (offset - offset % 4) value d
 pub writes-keep : WritesKeep
 writes-keep = record {
   clock = λ offset width value d. (access-keeps offset width value d).clock;
+  place = λ offset width value d. (access-keeps offset width value d).place;
   priced = λ offset width value d. (access-keeps offset width value d).priced;
 }
 

@@ -1,10 +1,10 @@
 use Rattle.std.proofs.Common.{◌≡◌, ℕ, zero, suc, Bool, true, false, ◌+◌, ◌≤◌, ◌∙◌, refl, ap, arith, add-zero, if◌then◌else◌}
-use Rattle.std.specs.Prelude.{◌||◌}
+use Rattle.std.specs.Prelude.{◌||◌, ◌&&◌}
 use Rattle.std.proofs.lemmas.Bool.Decides.{nat_tests}
 use Rattle.gba_ppu_reg.specs.Position.{begins_hblank, begins_line}
-use Rattle.gba_ppu_reg.specs.Skipping.{SkipsCycles as PlacesSkipCycles, quiet as quiet_place}
+use Rattle.gba_ppu_reg.specs.Skipping.{SkipsCycles as PlacesSkipCycles, after_skip as place_after_skip, quiet as quiet_place}
 use Rattle.gba_timer.specs.Skipping.{SkipsCycles as TimersSkipCycles, quiet as quiet_timers}
-use Rattle.gba_devices.specs.Cycles.{CyclePasses, CyclesPass, SkipsCycles, after_cycles, at_hblank, at_line, at_place, device_cycle, makes_pair, makes_within, placed, quiet, rung, skipped, sounded}
+use Rattle.gba_devices.specs.Cycles.{CyclePasses, CyclesPass, SkipsCycles, after_cycles, at_hblank, at_line, at_place, device_cycle, draws_at, draws_line, is_seen, makes_pair, makes_within, placed, quiet, rung, skipped, sounded}
 use Rattle.gba_devices.specs.State.{Devices}
 
 -- Cycles one after another, and cycles at once.
@@ -23,6 +23,7 @@ after-sum (suc count) more d =
 -- what begins at a place leaves these
 record Keeps (d after : Devices) : Type 0 where
   clock : after.clock ≡ d.clock
+  place : after.place ≡ d.place
   waits : after.waits ≡ d.waits
   priced : after.priced ≡ d.priced
 
@@ -32,23 +33,23 @@ either-keeps false d one other here there = there
 
 hblank-keeps : (d : Devices) → Keeps d (at_hblank d)
 unfolding at_hblank
-hblank-keeps d = record { clock = refl; waits = refl; priced = refl }
+hblank-keeps d = record { clock = refl; place = refl; waits = refl; priced = refl }
 
 line-keeps : (d : Devices) → Keeps d (at_line d)
 unfolding at_line
-line-keeps d = record { clock = refl; waits = refl; priced = refl }
+line-keeps d = record { clock = refl; place = refl; waits = refl; priced = refl }
 
 place-keeps : (d : Devices) → Keeps d (at_place d)
 unfolding at_place
 place-keeps d =
     either-keeps (begins_hblank d.place) d (at_hblank d) (if begins_line d.place then at_line d else d) (hblank-keeps d)
-    (either-keeps (begins_line d.place) d (at_line d) d (line-keeps d) (record { clock = refl; waits = refl; priced = refl }))
+    (either-keeps (begins_line d.place) d (at_line d) d (line-keeps d) (record { clock = refl; place = refl; waits = refl; priced = refl }))
 
 pub cycle-keeps : (d : Devices) → CyclePasses d
 unfolding device_cycle sounded rung
 cycle-keeps d =
     let kept = place-keeps (placed (sounded d)) in
-    record { clock = kept.clock; waits = kept.waits; priced = kept.priced }
+    record { clock = kept.clock; place = kept.place; waits = kept.waits; priced = kept.priced }
 
 pub cycles-pass : (count : ℕ) (d : Devices) → CyclesPass count d
 unfolding after_cycles
@@ -71,6 +72,10 @@ neither : (one other : Bool) → one ≡ false → other ≡ false → (one || o
 neither false false here there = refl
 neither true other here there = cc
 neither false true here there = cc
+
+not-there : (one other : Bool) → one ≡ false → (one && other) ≡ false
+not-there false other none = refl
+not-there true other none = cc
 
 -- nothing begins at other dots
 nothing-begins : (d : Devices) → begins_hblank d.place ≡ false → begins_line d.place ≡ false → at_place d ≡ d
@@ -107,14 +112,25 @@ module _ (timers : TimersSkipCycles) (places : PlacesSkipCycles) where
       ∙ cycle-skipped (more + count) d (omega (arith, within))
       ∙ ap (λ n. skipped n d) sum
 
+  draws-none : (count : ℕ) (d : Devices) → count + 1 ≤ quiet d → draws_line (skipped count d) ≡ false
+  unfolding quiet
+  draws-none count d within =
+      let near : count + 1 ≤ quiet_place d.place = omega (arith, within) in
+      ap draws_at (places.next count d.place near)
+      ∙ not-there (begins_hblank (place_after_skip (count + 1) d.place)) (is_seen (place_after_skip (count + 1) d.place))
+      (places.no_hblank count d.place near)
+
   makes-none : (count more : ℕ) (d : Devices) → more + count ≤ quiet d → makes_within count (skipped more d) ≡ false
   unfolding makes_within
   makes-none zero more d within = refl
   makes-none (suc count) more d within =
-      neither (makes_within count (skipped more d)) (makes_pair (after_cycles count (skipped more d)))
+      let last = after_cycles count (skipped more d) in
+      let quietly = skips-all count more d (omega (arith, within)) in
+      neither (makes_within count (skipped more d)) (makes_pair last || draws_line last)
       (makes-none count more d (omega (arith, within)))
-      (ap makes_pair (skips-all count more d (omega (arith, within)))
-      ∙ no-pair (more + count) d (omega (arith, within)))
+      (neither (makes_pair last) (draws_line last)
+      (ap makes_pair quietly ∙ no-pair (more + count) d (omega (arith, within)))
+      (ap draws_line quietly ∙ draws-none (more + count) d (omega (arith, within))))
 
   pub skips : SkipsCycles
   skips = record { none = skip-none; pass = skips-all; silent = makes-none }

@@ -109,10 +109,17 @@ after_cycles (suc count) d = device_cycle (after_cycles count d)
 abbrev pub makes_pair : Devices → Bool
 makes_pair d = (d.clock + 1) % 512 == 0
 
+-- whether the next cycle draws a line of the picture: where HBlank begins in a line that is seen
+abbrev pub draws_at : Position → Bool
+draws_at p = begins_hblank p && is_seen p
+
+abbrev pub draws_line : Devices → Bool
+draws_line d = draws_at (place_cycle d.place)
+
 -- whether one of so many cycles makes something
 unfoldable pub makes_within : ℕ → Devices → Bool
 makes_within zero d = false
-makes_within (suc count) d = makes_within count d || makes_pair (after_cycles count d)
+makes_within (suc count) d = makes_within count d || (makes_pair (after_cycles count d) || draws_line (after_cycles count d))
 
 -- Cycles in which nothing happens can be skipped at once: for so many, 511 at most, surely nothing does.
 unfoldable pub quiet : Devices → ℕ
@@ -138,8 +145,9 @@ pub record CyclesPass (count : ℕ) (d : Devices) : Type 0 where
   pub waits : (after_cycles count d).waits ≡ d.waits
   pub priced : (after_cycles count d).priced ≡ d.priced
 
--- the same of one cycle
+-- the same of one cycle, in which the picture's place moves by a dot
 pub record CyclePasses (d : Devices) : Type 0 where
   pub clock : (device_cycle d).clock ≡ d.clock + 1
+  pub place : (device_cycle d).place ≡ place_cycle d.place
   pub waits : (device_cycle d).waits ≡ d.waits
   pub priced : (device_cycle d).priced ≡ d.priced

@@ -2,4 +2,5 @@ pub mod Cycles
 pub mod Fits
 pub mod Keeping
 pub mod Registers
+pub mod Requests
 pub mod State

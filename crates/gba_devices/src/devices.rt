@@ -2,12 +2,14 @@
 
 ghost use Rattle.std.specs.Prelude.{◌≡◌, ◌+◌, ◌≤◌, ◌<◌, ◌^◌};
 
+mod requests;
+
 use crate::laws::{cycle_keeps, skips_cycles, writes_keep};
 use crate::registers::{Owner, owner_of};
 use crate::set::DeviceSet;
 use gba_bus::Width;
 use gba_dma::{Channel, Unit};
-use gba_ppu_reg::{Position, Reference};
+use gba_ppu_reg::{PictureRegisters, Position, Reference};
 use gba_timer::{Timer, Timers};
 use std::marker::Model;
 
@@ -45,7 +47,7 @@ impl Devices {
     ghost use Rattle.gba_ppu_reg.specs.Registers.{picture_mode, reference_of};
     ghost use Rattle.gba_sound.specs.Queues.{left_sample, queue_at, right_sample};
     ghost use Rattle.gba_timer.specs.Timers.{timer_at};
-    ghost use Rattle.gba_devices.specs.Cycles.{after_cycles, device_cycle, makes_pair, makes_within, quiet, skipped};
+    ghost use Rattle.gba_devices.specs.Cycles.{after_cycles, device_cycle, draws_line, makes_pair, makes_within, quiet, skipped};
     ghost use Rattle.gba_devices.specs.Registers.{half_stored, io_loaded, io_stored, keyed};
     ghost use Rattle.gba_devices.specs.State.{after_dma_unit, begun, devices_at_reset, is_calm, is_idle, woken};
 
@@ -288,6 +290,7 @@ impl Devices {
         requires clock { self.old.clock < 2 ^ 61 }
         ensures owed { result ≡ true → (self.new ≡ after_cycles cycles self.old) × (makes_within cycles self.old ≡ false) }
         ensures idle { is_idle self.new ≡ is_idle self.old }
+        ensures calm { is_calm self.new ≡ is_calm self.old }
         ensures left { result ≡ false → self.new ≡ self.old }
     {
         skips_cycles();
@@ -303,6 +306,7 @@ impl Devices {
         requires { self.old.clock < 2 ^ 61 }
         ensures devices { self.new ≡ after_cycles result self.old }
         ensures silent { makes_within result self.old ≡ false }
+        ensures calm { is_calm self.new ≡ is_calm self.old }
         ensures most { result ≤ most }
     {
         skips_cycles();
@@ -316,6 +320,22 @@ impl Devices {
         ensures { result ≡ makes_pair self.now }
     {
         (self.clock() + 1) % 512 == 0
+    }
+
+    /// Whether the next cycle draws a line of the picture: whether HBlank begins in it, in a line from 0 to 159.
+    pub fn draws_line(&self) -> bool
+        ensures { result ≡ draws_line self.now }
+    {
+        let mut place = self.place();
+        place.cycle();
+        place.dot == 1006 && place.line < 160
+    }
+
+    /// The registers of the picture.
+    pub fn picture(&self) -> &PictureRegisters
+        ensures { result.now ≡ self.now.picture }
+    {
+        self.set.picture()
     }
 
     /// One cycle, whatever happens in it.

@@ -22,7 +22,7 @@ pub fn cycles_pass()
     ensures { (count : ℕ) (d : Devices) → CyclesPass count d }
 {}
 
-/// The same of one cycle.
+/// The same of one cycle, in which the picture's place moves by a dot.
 pub fn cycle_keeps()
     ensures { (d : Devices) → CyclePasses d }
 {}
@@ -32,7 +32,7 @@ pub fn reads_fit()
     ensures { ReadsFit }
 {}
 
-/// A write of a register leaves the clock and the prices of this step.
+/// A write of a register leaves the clock, the picture's place and the prices of this step.
 pub fn writes_keep()
     ensures { WritesKeep }
 {}

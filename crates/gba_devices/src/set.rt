@@ -4,6 +4,8 @@ ghost use Rattle.std.specs.Prelude.{◌≡◌};
 ghost use Rattle.gba_devices.specs.Registers.{system_rows};
 ghost use Rattle.gba_register.specs.Rows.{row_at};
 
+mod requests;
+
 use crate::place::Place;
 use crate::registers::{Owner, merged, owner_of};
 use gba_bus::Width;
@@ -206,6 +208,13 @@ impl DeviceSet {
         ensures { result ≡ picture_mode self.now.picture }
     {
         self.picture.mode()
+    }
+
+    /// The registers of the picture.
+    pub(crate) fn picture(&self) -> &PictureRegisters
+        ensures { result.now ≡ self.now.picture }
+    {
+        &self.picture
     }
 
     /// The inner reference point of background 2 or 3.

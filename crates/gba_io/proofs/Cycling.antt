@@ -1,12 +1,18 @@
-use Rattle.std.proofs.Common.{◌≡◌, ℕ, zero, suc, Bool, true, false, ◌+◌, ◌/◌, ◌%◌, ◌∙◌, refl, sym, subst, ap, arith, if◌then◌else◌}
-use Rattle.std.specs.Prelude.{◌==◌, ◌||◌}
+use Rattle.std.proofs.Common.{◌≡◌, ℕ, ℤ, zero, suc, Bool, true, false, ◌+◌, ◌*◌, ◌/◌, ◌%◌, ◌∙◌, List, [], ◌++◌, length, refl, sym, subst, ap, arith, if◌then◌else◌}
+use Rattle.std.specs.Prelude.{◌==◌, ◌||◌, ◌&&◌}
 use Rattle.std.proofs.lemmas.Bool.Decides.{nat_tests}
-use Rattle.gba_devices.specs.Cycles.{CyclePasses, after_cycles, device_cycle, makes_pair, makes_within}
+use Rattle.std.proofs.lemmas.List.{length-append}
+use Rattle.gba_devices.specs.Cycles.{CyclePasses, after_cycles, device_cycle, draws_at, draws_line, makes_pair, makes_within}
 use Rattle.gba_devices.specs.State.{Devices}
-use Rattle.gba_io.specs.Board.{BoardPasses, HasRoom, QuietBoard, board_after, board_cycle, made_in_cycle}
+use Rattle.gba_ppu_reg.specs.Position.{IsPosition, cycle as place_cycle}
+use Rattle.gba_ppu_reg.specs.declared.position.Position.{Position}
+use Rattle.gba_sound.specs.Queues.{left_sample, right_sample}
+use Rattle.gba_io.specs.Board.{BoardPasses, HasRoom, IsInStep, QuietBoard, board_after, board_cycle, line_in_cycle, made_in_cycle}
 use Rattle.gba_io.specs.Core.{Core, core_after, core_cycled}
-use Rattle.gba_io.specs.Made.{Made}
+use Rattle.gba_io.specs.Drawing.{cycles_early, cycles_in, ends_frame, line_bytes, lines_drawn}
+use Rattle.gba_io.specs.Made.{Made, with_line, with_pair}
 use Rattle.gba_io.specs.declared.board.Board.{Board}
+use Rattle.gba_io.proofs.Drawing.{frames-go, line-length, lines-go, place-sound}
 
 -- Cycles of a board, one after another.
 
@@ -32,15 +38,48 @@ pairs-in : (clock pairs : ℕ) → pairs ≡ clock / 512
     → (if (clock + 1) % 512 == 0 then pairs + 1 else pairs) ≡ (clock + 1) / 512
 pairs-in clock pairs same = grind (arith, nat_tests)
 
+-- a line that is drawn is one more, and the last one ends the frame
+drawn-in : (draws ends : Bool) (count next : ℕ) (drawn line : List ℕ) → length line ≡ 480 → length drawn ≡ 480 * count
+    → (if draws then (if ends then 0 else count + 1) else count) ≡ next
+    → length (if draws then (if ends then [] else drawn ++ line) else drawn) ≡ 480 * next
+drawn-in true true count next drawn line whole before same = omega (arith, same)
+drawn-in true false count next drawn line whole before same =
+    length-append drawn line ∙ omega (arith, whole, before, same)
+drawn-in false ends count next drawn line whole before same = omega (arith, before, same)
+
 module _ (keeps : (d : Devices) → CyclePasses d) where
+  -- a cycle keeps what is made in step
+  step-in : (b : Board) → IsInStep b → IsInStep (board_cycle b)
+  unfolding board_cycle
+  step-in b step =
+      let d = b.core.devices in
+      let p = d.place in
+      let kept = keeps d in
+      let place = λ (q : Position). IsPosition q in
+      let frames = λ (clock : ℕ) (q : Position). clock + cycles_early q
+      ≡ 280896 * (if draws_at (place_cycle p) && ends_frame p then b.made.frame_count + 1 else b.made.frame_count) + cycles_in q in
+      let drawn = λ (q : Position). length (line_in_cycle b.core b.made).drawn ≡ 480 * lines_drawn q in
+      record {
+        place = subst place (sym kept.place) (place-sound p step.place);
+        pairs = pairs-in d.clock b.made.pairs step.pairs ∙ ap (λ n. n / 512) (sym kept.clock);
+        frames =
+            subst (λ (clock : ℕ). frames clock (device_cycle d).place) (sym kept.clock)
+            (subst (frames (d.clock + 1)) (sym kept.place) (frames-go d.clock b.made.frame_count p step.place step.frames));
+        drawn = subst drawn (sym kept.place)
+            (drawn-in (draws_at (place_cycle p)) (ends_frame p) (lines_drawn p) (lines_drawn (place_cycle p)) b.made.drawn
+            (line_bytes p.line b.core) (line-length p.line b.core) step.drawn (lines-go p step.place));
+      }
+
   pub passes : (cycles : ℕ) (b : Board) → BoardPasses cycles b
   unfolding board_after after_cycles board_cycle
   passes zero b = record {
     memory = refl;
+    serial = refl;
+    ended = refl;
     devices = refl;
     clock = omega arith;
     until = refl;
-    pairs = λ same. same ∙ ap (λ n. n / 512) (omega arith);
+    step = λ step. step;
   }
   passes (suc count) b =
       let before = passes count b in
@@ -48,13 +87,12 @@ module _ (keeps : (d : Devices) → CyclePasses d) where
       let last = (keeps mid.core.devices).clock in
       record {
         memory = before.memory;
+        serial = before.serial;
+        ended = before.ended;
         devices = ap device_cycle before.devices;
         clock = omega (arith, last, before.clock);
         until = before.until;
-        pairs = λ same.
-            pairs-in mid.core.devices.clock mid.made.pairs
-            (before.pairs same ∙ ap (λ n. n / 512) (sym before.clock))
-            ∙ ap (λ n. n / 512) (omega (arith, before.clock));
+        step = λ step. step-in mid (before.step step);
       }
 
 none-of : (one other : Bool) → (one || other) ≡ false → one ≡ false
@@ -65,26 +103,40 @@ nor-other : (one other : Bool) → (one || other) ≡ false → other ≡ false
 nor-other false other none = none
 nor-other true other none = cc
 
-none-in-cycle : (c : Core) (m : Made) → makes_pair c.devices ≡ false → made_in_cycle c m ≡ m
-none-in-cycle c m none = rw none refl
+no-line : (draws ends : Bool) (line : List ℕ) (m : Made) → draws ≡ false → with_line draws ends line m ≡ m
+no-line false ends line m none = refl
+no-line true ends line m none = cc
+
+no-pair : (makes : Bool) (left right : ℤ) (m : Made) → makes ≡ false → with_pair makes left right m ≡ m
+no-pair false left right m none = refl
+no-pair true left right m none = cc
+
+none-in-cycle : (c : Core) (m : Made) → makes_pair c.devices ≡ false → draws_line c.devices ≡ false
+    → made_in_cycle c m ≡ m
+none-in-cycle c m no_pair no_line =
+    let sound = (device_cycle c.devices).sound in
+    no-pair (makes_pair c.devices) (left_sample sound) (right_sample sound) (line_in_cycle c m) no_pair
+    ∙ no-line (draws_line c.devices) (ends_frame c.devices.place) (line_bytes c.devices.place.line c) m no_line
 
 pub quiet-board : QuietBoard
 unfolding board_after after_cycles makes_within board_cycle
 quiet-board zero b none = refl
 quiet-board (suc count) b none =
     let d = b.core.devices in
-    let earlier = none-of (makes_within count d) (makes_pair (after_cycles count d)) none in
-    let last = nor-other (makes_within count d) (makes_pair (after_cycles count d)) none in
+    let pair = makes_pair (after_cycles count d) in
+    let line = draws_line (after_cycles count d) in
+    let earlier = none-of (makes_within count d) (pair || line) none in
+    let last = nor-other (makes_within count d) (pair || line) none in
     ap board_cycle (quiet-board count b earlier)
-    ∙ ap (λ (m : Made). record { core = core_cycled (core_after count b.core); made = m })
-    (none-in-cycle (core_after count b.core) b.made last)
+    ∙ ap (λ (m : Made). record b { core = core_cycled (core_after count b.core); made = m })
+    (none-in-cycle (core_after count b.core) b.made (none-of pair line last) (nor-other pair line last))
 
 -- the room that is left after some of the cycles
 pub room-left : (some rest cycles : ℕ) (b after : Board) → rest + some ≡ cycles → after ≡ board_after some b
     → BoardPasses some b → HasRoom cycles b → HasRoom rest after
-room-left some rest cycles b after whole e passes room =
+room-left some rest cycles b after whole e passed room =
     subst (HasRoom rest) (sym e) (record {
-      pairs = passes.pairs room.pairs ∙ ap (λ n. n / 512) (sym passes.clock);
-      end = omega (arith, whole, passes.clock, passes.until, room.end);
-      few = omega (arith, passes.until, room.few);
+      step = passed.step room.step;
+      end = omega (arith, whole, passed.clock, passed.until, room.end);
+      few = omega (arith, passed.until, room.few);
     })

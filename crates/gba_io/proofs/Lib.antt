@@ -1,3 +1,5 @@
 pub mod Cycling
+pub mod Drawing
+pub mod Ending
 pub mod Keeping
 pub mod Telling

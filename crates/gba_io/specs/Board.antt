@@ -1,46 +1,70 @@
-use Rattle.std.specs.Prelude.{◌≡◌, ℕ, zero, suc, false, ◌+◌, ◌/◌, ◌^◌, ◌≤◌, List, Option}
-use Rattle.gba_devices.specs.Cycles.{after_cycles, device_cycle, makes_pair, makes_within}
+use Rattle.std.specs.Prelude.{◌≡◌, ℕ, zero, suc, false, ◌+◌, ◌*◌, ◌/◌, ◌^◌, ◌≤◌, List, length, Option}
+use Rattle.gba_devices.specs.Cycles.{after_cycles, device_cycle, draws_line, makes_pair, makes_within}
+use Rattle.gba_ppu_reg.specs.Position.{IsPosition}
 use Rattle.gba_sound.specs.Queues.{left_sample, right_sample}
 use Rattle.gba_io.specs.Core.{Core, core_after, core_at_start, core_cycled}
-use Rattle.gba_io.specs.Made.{Made, none_made, with_pair}
+use Rattle.gba_io.specs.Drawing.{cycles_early, cycles_in, ends_frame, line_bytes, lines_drawn}
+use Rattle.gba_io.specs.Ended.{none_ended}
+use Rattle.gba_io.specs.Made.{Made, none_made, with_line, with_pair}
 use Rattle.gba_io.specs.declared.board.Board.{Board}
 use Rattle.gba_io.specs.declared.made.Room.{Room}
 
--- A board: its core, which the processor sees as a bus, and what it has made.
+-- A board: its core, which the processor sees as a bus, what it has made, and the transfers that ended.
 
--- a board at reset, from a BIOS, a cartridge and a save
-abbrev pub board_at_start : List ℕ → Option (List ℕ) → Option (List ℕ) → Room → Board
-board_at_start bios cart save room = record { core = core_at_start bios cart save; made = none_made room }
+-- a board at reset, from its player number, the number of consoles and the delay of the cable, a BIOS, a cartridge and a
+-- save
+abbrev pub board_at_start : ℕ → ℕ → ℕ → List ℕ → Option (List ℕ) → Option (List ℕ) → Room → Board
+board_at_start player count delay bios cart save room = record {
+  core = core_at_start player count delay bios cart save;
+  made = none_made room;
+  ended = none_ended room;
+}
 
--- What a cycle makes: where the new clock is a multiple of 512 a pair of samples, once the queues have taken their bytes.
-abbrev pub made_in_cycle : Core → Made → Made
-made_in_cycle c m =
+-- What a cycle makes: where HBlank begins a line of the picture, and where the new clock is a multiple of 512 a pair of
+-- samples, once the queues have taken their bytes.
+abbrev pub line_in_cycle : Core → Made → Made
+line_in_cycle c m =
+    with_line (draws_line c.devices) (ends_frame c.devices.place) (line_bytes c.devices.place.line c) m
+
+abbrev pub pair_in_cycle : Core → Made → Made
+pair_in_cycle c m =
     let sound = (device_cycle c.devices).sound in
     with_pair (makes_pair c.devices) (left_sample sound) (right_sample sound) m
 
+abbrev pub made_in_cycle : Core → Made → Made
+made_in_cycle c m = pair_in_cycle c (line_in_cycle c m)
+
 -- a cycle, and so many of them
 unfoldable pub board_cycle : Board → Board
-board_cycle b = record { core = core_cycled b.core; made = made_in_cycle b.core b.made }
+board_cycle b = record b { core = core_cycled b.core; made = made_in_cycle b.core b.made }
 
 unfoldable pub board_after : ℕ → Board → Board
 board_after zero b = b
 board_after (suc count) b = board_cycle (board_after count b)
 
--- There is room for what so many cycles make: the pairs are those of the clock, and the cycles begin below the end of the
--- room.
-pub record HasRoom (cycles : ℕ) (b : Board) : Type 0 where
+-- What a board has made is in step with its clock: the pairs, the whole frames, and the bytes of the lines that are drawn
+-- of the present one.
+pub record IsInStep (b : Board) : Type 0 where
+  pub place : IsPosition b.core.devices.place
   pub pairs : b.made.pairs ≡ b.core.devices.clock / 512
+  pub frames : b.core.devices.clock + cycles_early b.core.devices.place ≡ 280896 * b.made.frame_count + cycles_in b.core.devices.place
+  pub drawn : length b.made.drawn ≡ 480 * lines_drawn b.core.devices.place
+
+-- There is room for what so many cycles make: it is in step, and the cycles begin below the end of the room.
+pub record HasRoom (cycles : ℕ) (b : Board) : Type 0 where
+  pub step : IsInStep b
   pub end : b.core.devices.clock + cycles ≤ b.made.until + 511
   pub few : b.made.until ≤ 2 ^ 39
 
 -- what all cycles do
 pub record BoardPasses (cycles : ℕ) (b : Board) : Type 0 where
   pub memory : (board_after cycles b).core.memory ≡ b.core.memory
+  pub serial : (board_after cycles b).core.serial ≡ b.core.serial
+  pub ended : (board_after cycles b).ended ≡ b.ended
   pub devices : (board_after cycles b).core.devices ≡ after_cycles cycles b.core.devices
   pub clock : (board_after cycles b).core.devices.clock ≡ b.core.devices.clock + cycles
   pub until : (board_after cycles b).made.until ≡ b.made.until
-  pub pairs : b.made.pairs ≡ b.core.devices.clock / 512
-      → (board_after cycles b).made.pairs ≡ (b.core.devices.clock + cycles) / 512
+  pub step : IsInStep b → IsInStep (board_after cycles b)
 
 -- Cycles that make nothing only move the core.
 abbrev pub QuietBoard : Type 0

@@ -10,9 +10,10 @@ use Rattle.gba_ppu_reg.specs.Registers.{picture_mode}
 use Rattle.gba_mem.specs.Loads.{load}
 use Rattle.gba_mem.specs.Stores.{store}
 use Rattle.gba_io.specs.Core.{Core}
+use Rattle.gba_io.specs.SerialRegisters.{is_serial, serial_loaded, serial_stored_at}
 
--- The core of a board as a bus (GBATEK, GBA Memory Map): the I/O registers are those of the devices, and all else is
--- memory, in whose VRAM the sprites' part begins where the picture's mode says. Prices are those of WAITCNT as it was at
+-- The core of a board as a bus (GBATEK, GBA Memory Map): the I/O registers are those of the devices and of the serial
+-- unit, and all else is memory, in whose VRAM the sprites' part begins where the picture's mode says. Prices are those of WAITCNT as it was at
 -- the start of the step (this project's profile).
 
 abbrev pub is_io : Region → Bool
@@ -23,17 +24,27 @@ is_io _ = false
 abbrev pub io_offset : ℕ → ℕ
 io_offset address = address - 0x04000000
 
+-- what a register reads, and what a write of one leaves: the serial unit's are written at the clock of the step
+unfoldable pub register_loaded : ℕ → Width → Core → ℕ
+register_loaded offset width b =
+    if is_serial offset then serial_loaded offset width b.serial else io_loaded offset width b.devices
+
+unfoldable pub register_stored : ℕ → Width → ℕ → Core → Core
+register_stored offset width value b =
+    if is_serial offset
+    then record b { serial = serial_stored_at b.devices.clock offset width value b.serial }
+    else record b { devices = io_stored offset width value b.devices }
+
 -- what an instruction at `from` reads at an address
 unfoldable pub core_read : Core → ℕ → ℕ → Width → ℕ
 core_read b from address width =
-    if is_io (region_of address) then io_loaded (io_offset address) width b.devices
+    if is_io (region_of address) then register_loaded (io_offset address) width b
     else load b.memory from address width
 
 -- what a write leaves
 unfoldable pub core_written : Core → ℕ → Width → ℕ → Core
 core_written b address width value =
-    if is_io (region_of address)
-    then record b { devices = io_stored (io_offset address) width value b.devices }
+    if is_io (region_of address) then register_stored (io_offset address) width value b
     else record b { memory = store (picture_mode b.devices.picture) b.memory address width value }
 
 abbrev pub core_price : Price Core

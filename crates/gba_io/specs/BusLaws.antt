@@ -9,7 +9,8 @@ use Rattle.gba_devices.specs.Registers.{io_loaded}
 use Rattle.gba_mem.specs.Fits.{load-fits}
 use Rattle.gba_mem.specs.Loads.{load}
 use Rattle.gba_io.specs.Core.{Core}
-use Rattle.gba_io.specs.Bus.{core_code, core_load, core_price, core_read, core_store, io_offset, is_io}
+use Rattle.gba_io.specs.Bus.{core_code, core_load, core_price, core_read, core_store, io_offset, is_io, register_loaded}
+use Rattle.gba_io.specs.SerialRegisters.{is_serial, serial-fits, serial_loaded}
 
 -- That a core keeps what every bus keeps, for the laws of the trait.
 
@@ -28,12 +29,18 @@ either-fits : (test : Bool) (width : Width) (one other : ℕ) → FitsWidth widt
 either-fits true width one other here there = here
 either-fits false width one other here there = there
 
+register-fits : (offset : ℕ) (width : Width) (b : Core) → FitsWidth width (register_loaded offset width b)
+unfolding register_loaded
+register-fits offset width b =
+    either-fits (is_serial offset) width (serial_loaded offset width b.serial) (io_loaded offset width b.devices)
+    (serial-fits offset width b.serial) (reads-fit offset width b.devices)
+
 read-fits : (b : Core) (from address : ℕ) (width : Width) → FitsWidth width (core_read b from address width)
 unfolding core_read
 read-fits b from address width =
-    either-fits (is_io (region_of address)) width (io_loaded (io_offset address) width b.devices)
+    either-fits (is_io (region_of address)) width (register_loaded (io_offset address) width b)
     (load b.memory from address width)
-    (reads-fit (io_offset address) width b.devices)
+    (register-fits (io_offset address) width b)
     (load-fits b.memory from address width)
 
 pub core_code_fits : CodeFits core_code

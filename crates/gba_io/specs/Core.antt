@@ -1,23 +1,45 @@
-use Rattle.std.specs.Prelude.{ℕ, List, [], Option}
-use Rattle.gba_devices.specs.Registers.{keyed}
-use Rattle.gba_devices.specs.State.{Devices, begun, devices_at_reset, woken}
+use Rattle.std.specs.Prelude.{ℕ, ◌*◌, Bool, not, ◌&&◌, List, [], Option, if◌then◌else◌}
+use Rattle.gba_devices.specs.Registers.{half_stored, keyed}
+use Rattle.gba_devices.specs.State.{Devices, begun, devices_at_reset, is_calm, is_idle, woken}
 use Rattle.gba_devices.specs.Cycles.{after_cycles, device_cycle}
 use Rattle.gba_mem.specs.Memories.{Memories, at_start}
+use Rattle.gba_io.specs.SerialRegisters.{is_serial}
+use Rattle.gba_serial.specs.Registers.{serial_stored}
+use Rattle.gba_serial.specs.SerialUnit.{SerialUnit, serial_at_reset}
+use Rattle.gba_serial.specs.Tell.{has_news, silent}
 use Rattle.gba_io.specs.declared.parts.MemoryName.{MemoryName}
 use Rattle.gba_io.specs.declared.parts.MemoryName.TheVariants.{Io, Wram, Iwram, Palette, Vram, Oam, Backup}
 
--- the core of a board: the memories and the devices
+-- the core of a board: the memories, the devices and the serial unit
 pub record Core : Type 0 where
   pub memory : Memories
   pub devices : Devices
+  pub serial : SerialUnit
 
--- a core at reset, from a BIOS, a cartridge and a save
-abbrev pub core_at_start : List ℕ → Option (List ℕ) → Option (List ℕ) → Core
-core_at_start bios cart save = record { memory = at_start bios cart save; devices = devices_at_reset }
+-- a core at reset, from its player number, the number of consoles and the delay of the cable, a BIOS, a cartridge and a
+-- save
+abbrev pub core_at_start : ℕ → ℕ → ℕ → List ℕ → Option (List ℕ) → Option (List ℕ) → Core
+core_at_start player count delay bios cart save = record {
+  memory = at_start bios cart save;
+  devices = devices_at_reset;
+  serial = serial_at_reset player count (2 * delay);
+}
 
--- what a step asks of it besides its accesses, which the devices alone answer
+-- What a step asks of it besides its accesses. At its start the prices become those of WAITCNT, and what the last step
+-- told is told.
 abbrev pub core_begun : Core → Core
-core_begun b = record b { devices = begun b.devices }
+core_begun b = record b { devices = begun b.devices; serial = silent b.serial }
+
+-- nothing asks for more than an instruction, or for more than idling; nor has the last step told anything
+abbrev pub core_is_calm : Core → Bool
+core_is_calm b = is_calm b.devices && not (has_news b.serial)
+
+abbrev pub core_is_idle : Core → Bool
+core_is_idle b = is_idle b.devices && not (has_news b.serial)
+
+-- what is stored at a halfword of the I/O registers
+unfoldable pub core_half_stored : ℕ → Core → ℕ
+core_half_stored offset b = if is_serial offset then serial_stored offset b.serial else half_stored offset b.devices
 
 abbrev pub core_woken : Core → Core
 core_woken b = record b { devices = woken b.devices }

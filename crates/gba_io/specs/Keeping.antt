@@ -3,8 +3,12 @@ use Rattle.gba_bus.specs.declared.width.Width.{Width}
 use Rattle.gba_io.specs.Core.{Core}
 use Rattle.gba_io.specs.Bus.{core_written}
 
--- a write leaves the clock
-abbrev pub WritesKeepClock : Type 0
-WritesKeepClock =
-    (b : Core) (address : ℕ) (width : Width) (value : ℕ)
-    → (core_written b address width value).devices.clock ≡ b.devices.clock
+-- The clock and the picture's place are the same.
+pub record IsSameTime (before after : Core) : Type 0 where
+  pub clock : after.devices.clock ≡ before.devices.clock
+  pub place : after.devices.place ≡ before.devices.place
+
+-- A write leaves both.
+abbrev pub WritesKeepTime : Type 0
+WritesKeepTime =
+    (b : Core) (address : ℕ) (width : Width) (value : ℕ) → IsSameTime b (core_written b address width value)

@@ -1,7 +1,11 @@
 pub mod Board
 pub mod Bus
 pub mod BusLaws
+pub mod Cable
 pub mod Core
+pub mod Drawing
+pub mod Ended
 pub mod Keeping
 pub mod Made
+pub mod SerialRegisters
 pub mod Units

@@ -2,11 +2,16 @@ use Rattle.std.specs.Prelude.{ℕ, ℤ, Bool, false, ◌+◌, ◌&&◌, List, []
 use Rattle.std.specs.Int.{w16, cast_unsigned, to_le_bytes}
 use Rattle.gba_io.specs.declared.made.Room.{Room}
 
--- What a console makes beside its state: pairs of samples. Their bytes are kept where they are asked for, and the pairs
--- are counted anyway. `until` is the clock up to which there is room.
+-- What a console makes beside its state: whole frames of the picture, and pairs of samples. Their bytes are kept where they
+-- are asked for, and both are counted anyway. The lines that are drawn of the present frame are kept always. `until` is the
+-- clock up to which there is room.
 pub record Made : Type 0 where
+  pub keeps_frames : Bool
   pub keeps_samples : Bool
   pub until : ℕ
+  pub drawn : List ℕ
+  pub frames : List ℕ
+  pub frame_count : ℕ
   pub samples : List ℕ
   pub pairs : ℕ
 
@@ -21,10 +26,39 @@ with_pair makes left right m = record m {
   pairs = if makes then m.pairs + 1 else m.pairs;
 }
 
+-- the frame is whole, and the next one has no line yet
+abbrev pub frame_ended : Made → Made
+frame_ended m = record m {
+  drawn = [];
+  frames = if m.keeps_frames then m.frames ++ m.drawn else m.frames;
+  frame_count = m.frame_count + 1;
+}
+
+-- A line is drawn, or none. With the last line of the screen the frame is whole.
+abbrev pub with_line : Bool → Bool → List ℕ → Made → Made
+with_line draws ends line m = record m {
+  drawn = if draws then (if ends then [] else m.drawn ++ line) else m.drawn;
+  frames = if draws && (ends && m.keeps_frames) then m.frames ++ (m.drawn ++ line) else m.frames;
+  frame_count = if draws && ends then m.frame_count + 1 else m.frame_count;
+}
+
 -- nothing is made yet
 abbrev pub none_made : Room → Made
-none_made room = record { keeps_samples = room.samples; until = room.until; samples = []; pairs = 0 }
+none_made room = record {
+  keeps_frames = room.frames;
+  keeps_samples = room.samples;
+  until = room.until;
+  drawn = [];
+  frames = [];
+  frame_count = 0;
+  samples = [];
+  pairs = 0;
+}
 
 -- the pairs are taken out, and none is kept from then on
 abbrev pub without_samples : Made → Made
 without_samples m = record m { keeps_samples = false; samples = [] }
+
+-- the whole frames are taken out, and none is kept from then on
+abbrev pub without_frames : Made → Made
+without_frames m = record m { keeps_frames = false; frames = [] }

@@ -1,33 +1,71 @@
 //! The board.
 
 use crate::laws::board_passes;
-use crate::{Core, Counts, Made, Room};
+use crate::{Core, Ended, Made, Room};
 use gba_image::ConsoleImages;
 use gba_terms::NoMemory;
 use std::alloc::Global;
 
-/// A board: its core, and what it has made.
+/// A board: its core, what it has made, and the transfers that ended.
 #[derive(Drop)]
 pub struct Board {
     pub core: Core,
     pub made: Made,
+    pub ended: Ended,
 }
 
 impl Board {
-    ghost use Rattle.std.specs.Prelude.{◌≡◌, ◌<◌, ◌≤◌, ◌^◌, true, false, IfOk};
+    ghost use Rattle.std.specs.Prelude.{◌≡◌, ◌+◌, ◌<◌, ◌≤◌, ◌^◌, true, false, IfOk};
+    ghost use Rattle.gba_devices.specs.Cycles.{draws_line};
     ghost use Rattle.gba_devices.specs.State.{is_idle};
-    ghost use Rattle.gba_io.specs.Board.{HasRoom, board_after, board_at_start, board_cycle};
+    ghost use Rattle.gba_io.specs.Board.{HasRoom, board_after, board_at_start, board_cycle, line_in_cycle};
 
-    /// A board at reset, at clock 0, from its images, which are dropped on refusal. The room for what it makes is taken
-    /// now.
-    pub fn new(alloc: Global, images: ConsoleImages, room: Room) -> Result<Board, NoMemory>
-        requires { room.until ≤ 2 ^ 39 }
-        ensures { IfOk result (λ board. board ≡ board_at_start images.bios images.cart images.save room) }
+    /// A board at reset, at clock 0, of a player below `count`, on a cable of 1 to 4 consoles whose signals take `delay`
+    /// cycles, from 1 to 1,024. Its images are dropped on refusal. The room for what it makes and for the transfers that
+    /// end is taken now.
+    pub fn new(
+        alloc: Global,
+        player: u32,
+        count: u32,
+        delay: u64,
+        images: ConsoleImages,
+        room: Room,
+    ) -> Result<Board, NoMemory>
+        requires player { player < count }
+        requires count { count ≤ 4 }
+        requires least_delay { 1 ≤ delay }
+        requires most_delay { delay ≤ 1024 }
+        requires until { room.until ≤ 2 ^ 39 }
+        ensures { IfOk result (λ board. board ≡ board_at_start player count delay images.bios images.cart images.save room) }
     {
         Ok(Board {
-            core: Core::new(alloc, images)?,
+            core: Core::new(alloc, player, count, delay, images)?,
             made: Made::new(alloc, room)?,
+            ended: Ended::new(alloc, room)?,
         })
+    }
+
+    /// Draws the line in which HBlank is about to begin.
+    #[inline(never)]
+    fn draw_line(&mut self)
+        requires drawn { draws_line self.old.core.devices ≡ true }
+        requires room { HasRoom 1 self.old }
+        ensures { self.new ≡ record self.old { made = line_in_cycle self.old.core self.old.made } }
+    {
+        let line = self.core.place().line;
+        let mut colours = [0; 240];
+        self.core.draw(line, &mut colours);
+        self.made.add_line(&colours, line == 159);
+    }
+
+    /// Draws a line where HBlank is about to begin in one.
+    fn draw_due(&mut self)
+        requires { HasRoom 1 self.old }
+        ensures { self.new ≡ record self.old { made = line_in_cycle self.old.core self.old.made } }
+    {
+        if self.core.draws_line() {
+            self.draw_line();
+        }
     }
 
     /// A cycle of the devices, and what it makes.
@@ -36,6 +74,7 @@ impl Board {
         requires { HasRoom 1 self.old }
         ensures { self.new ≡ board_cycle self.old }
     {
+        self.draw_due();
         let makes_pair = self.core.makes_pair();
         self.core.cycle();
         if makes_pair {
@@ -78,9 +117,10 @@ impl Board {
     #[inline]
     pub fn owe(&mut self, cycles: u32) -> bool
         requires few { cycles ≤ 512 }
-        requires clock { self.old.core.devices.clock < 2 ^ 61 }
+        requires clock { self.old.core.devices.clock + cycles < 2 ^ 40 }
         ensures owed { result ≡ true → self.new ≡ board_after cycles self.old }
         ensures idle { is_idle self.new.core.devices ≡ is_idle self.old.core.devices }
+        ensures serial { self.new.core.serial ≡ self.old.core.serial }
         ensures left { result ≡ false → self.new ≡ self.old }
     {
         board_passes();

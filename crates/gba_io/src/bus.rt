@@ -6,6 +6,8 @@ ghost use Rattle.gba_io.specs.Bus.{core_read, core_written, io_offset, is_io};
 ghost use Rattle.gba_mem.specs.Loads.{is_bios, is_inner, is_rom};
 
 use crate::Core;
+use crate::parts::is_calm;
+use crate::serial::{self, is_serial};
 use gba_bus::{Bus, Region, Width, region_of};
 use gba_devices::laws::writes_keep;
 
@@ -63,8 +65,38 @@ fn offset_of(address: u32) -> u32
 }
 
 impl Core {
-    ghost use Rattle.std.specs.Prelude.{◌≡◌};
-    ghost use Rattle.gba_io.specs.Bus.{core_load, core_read, core_store, core_written};
+    ghost use Rattle.std.specs.Prelude.{◌≡◌, ◌<◌};
+    ghost use Rattle.gba_io.specs.Bus.{core_load, core_read, core_store, core_written, register_loaded, register_stored};
+
+    /// What a register reads.
+    #[tactic(auto, unfolding(crate::specs::Bus::register_loaded))]
+    fn load_register(&mut self, offset: u32, width: Width) -> u32
+        requires { offset < 0x400 }
+        ensures value { result ≡ register_loaded offset width self.old }
+        ensures same { self.new ≡ self.old }
+    {
+        if is_serial(offset) {
+            serial::load(&self.serial, offset, width)
+        } else {
+            self.devices.load(offset, width)
+        }
+    }
+
+    /// Writes a register. The serial unit's are written at the clock of the step.
+    #[tactic(auto, unfolding(crate::specs::Bus::register_stored))]
+    fn store_register(&mut self, offset: u32, width: Width, value: u32)
+        requires { offset < 0x400 }
+        ensures { self.new ≡ register_stored offset width value self.old }
+    {
+        writes_keep();
+        if is_serial(offset) {
+            let clock = self.devices.clock();
+            serial::store(&mut self.serial, clock, offset, width, value);
+        } else {
+            self.devices.store(offset, width, value);
+        }
+        self.calm = is_calm(&self.devices, &self.serial);
+    }
 
     /// What an instruction reads at an address that may be a register's.
     #[tactic(auto, unfolding(crate::specs::Bus::core_read))]
@@ -73,7 +105,7 @@ impl Core {
         ensures same { self.new ≡ self.old }
     {
         if is_in_io(address) {
-            self.devices.load(offset_of(address), width)
+            self.load_register(offset_of(address), width)
         } else {
             self.memory.load(from, address, width)
         }
@@ -84,9 +116,8 @@ impl Core {
     fn write_anywhere(&mut self, address: u32, width: Width, value: u32)
         ensures { self.new ≡ core_written self.old address width value }
     {
-        writes_keep();
         if is_in_io(address) {
-            self.devices.store(offset_of(address), width, value);
+            self.store_register(offset_of(address), width, value);
         } else {
             let mode = self.devices.mode();
             self.memory.store(mode, address, width, value);

@@ -2,23 +2,41 @@
 
 ghost use Rattle.std.specs.Prelude.{ℕ};
 ghost use Rattle.gba_io.specs.Board.{BoardPasses, QuietBoard};
-ghost use Rattle.gba_io.specs.Keeping.{WritesKeepClock};
+ghost use Rattle.gba_io.specs.Cable.{EndsStayFit, WritesKeepEnds};
+ghost use Rattle.gba_io.specs.Keeping.{WritesKeepTime};
 ghost use Rattle.gba_io.specs.declared.board.Board.{Board};
 
 use gba_devices::laws::{cycle_keeps, writes_keep};
+use gba_serial::laws::{ends_apart, stays_seated};
 
-/// A write leaves the clock.
-pub fn writes_keep_clock()
-    ensures { WritesKeepClock }
+/// A write leaves the clock and the picture's place.
+pub fn writes_keep_time()
+    ensures { WritesKeepTime }
 {
     writes_keep();
 }
 
-/// Cycles leave the memories, move the devices, and make the pairs of samples that the clock says; those in which nothing
-/// is made only move the devices.
+/// Cycles leave the memories, move the devices, and make the frames and the pairs of samples that the clock says; those in
+/// which nothing is made only move the devices.
 pub fn board_passes()
     ensures all { (cycles : ℕ) (b : Board) → BoardPasses cycles b }
     ensures quiet { QuietBoard }
 {
     cycle_keeps();
+}
+
+/// Signals and ends leave room for all transfers that end before the end of the room.
+pub fn ends_stay_fit()
+    ensures { EndsStayFit }
+{
+    ends_apart();
+    stays_seated();
+}
+
+/// A write brings no end that is nearer than 512 cycles.
+pub fn writes_keep_ends()
+    ensures { WritesKeepEnds }
+{
+    ends_apart();
+    stays_seated();
 }

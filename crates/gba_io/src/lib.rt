@@ -1,12 +1,18 @@
 #![tactic(auto)]
-//! The board of a console: its memories and its devices, as the bus of its processor, and what it makes.
+//! The board of a console: its memories, its devices and its serial unit, as the bus of its processor, what it makes, and
+//! what the cable does to it.
 
 mod board;
 mod bus;
+mod cable;
+mod ended;
+mod in_step;
 pub mod laws;
 mod made;
 mod parts;
+mod serial;
 
 pub use board::Board;
+pub use ended::Ended;
 pub use made::{Counts, Made, Room};
 pub use parts::{Core, MemoryName};

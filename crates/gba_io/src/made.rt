@@ -1,6 +1,7 @@
 //! What a board has made.
 
-ghost use Rattle.std.specs.Prelude.{◌≡◌, ◌+◌, ◌++◌, ◌≤◌, length, vec_len, vec_capacity};
+ghost use Rattle.std.specs.Prelude.{◌≡◌, ◌+◌, ◌*◌, ◌/◌, ◌^◌, ◌++◌, ◌≤◌, length, vec_len, vec_capacity};
+ghost use Rattle.gba_io.specs.Drawing.{colours_bytes};
 ghost use Rattle.gba_io.specs.Made.{sample_bytes};
 
 use gba_terms::NoMemory;
@@ -13,22 +14,35 @@ use std::mem::replace;
 #[derive(Clone, Copy, Debug, PartialEq, Eq)]
 pub struct Room {
     pub until: u64,
+    /// Whether the whole frames are kept: 76,800 bytes each.
+    pub frames: bool,
     /// Whether the pairs of samples are kept.
     pub samples: bool,
+    /// Whether the transfers that ended are kept.
+    pub words: bool,
 }
 
 /// How much was made, whether it is kept or not.
 #[derive(Clone, Copy, Debug, PartialEq, Eq)]
 pub struct Counts {
+    /// The whole frames.
+    pub frames: u64,
     /// The pairs of samples.
     pub samples: u64,
+    /// The transfers that ended.
+    pub words: u64,
 }
 
 /// What a board has made. The room for all of it is taken at once.
 #[derive(Drop)]
 pub struct Made {
+    keeps_frames: bool,
     keeps_samples: bool,
     until: u64,
+    // the lines of the present frame, and the frames that are whole
+    drawn: Vec<u8>,
+    frames: Vec<u8>,
+    frame_count: u64,
     samples: Vec<u8>,
     pairs: u64,
 }
@@ -40,15 +54,58 @@ impl Model for Made {
     ghost Value = { Made };
 
     ghost view = { λ m. record {
+      keeps_frames = m.keeps_frames;
       keeps_samples = m.keeps_samples;
       until = m.until;
+      drawn = m.drawn.items;
+      frames = m.frames.items;
+      frame_count = m.frame_count;
       samples = m.samples.items;
       pairs = m.pairs;
     } };
 
     ghost invariant = { λ m.
         (m.keeps_samples ≡ true → 4 * ((m.until + 511) / 512) ≤ vec_capacity m.samples)
-        × (vec_len m.samples ≤ 4 * m.pairs) × (m.until ≤ 2 ^ 39) };
+        × (vec_len m.samples ≤ 4 * m.pairs) × (m.until ≤ 2 ^ 39)
+        × (m.keeps_frames ≡ true → 76800 * ((m.until + 84513) / 280896) ≤ vec_capacity m.frames)
+        × (vec_len m.frames ≤ 76800 * m.frame_count) × (76800 ≤ vec_capacity m.drawn) };
+}
+
+/// The bytes of a frame: 160 lines of 240 colours.
+const FRAME: usize = 76_800;
+
+/// The frames that are whole at the end of a room: one at clock 196,894, and one each 280,896 cycles from there on.
+fn whole_frames(until: u64) -> u64
+    requires { until ≤ 2 ^ 39 }
+    ensures { result ≡ (until + 84513) / 280896 }
+{
+    (until + 84_513) / 280_896
+}
+
+/// Adds the colours of a line, for which there is room.
+fn add_colours(bytes: &mut Vec<u8>, colours: &[u16])
+    requires { vec_len bytes.old + 2 * length colours.now ≤ vec_capacity bytes.old }
+    ensures items { bytes.new.items ≡ bytes.old.items ++ colours_bytes colours.now }
+    ensures len { vec_len bytes.new ≡ vec_len bytes.old + 2 * length colours.now }
+    ensures room { vec_capacity bytes.old ≤ vec_capacity bytes.new }
+{
+    for colour in colours {
+        if bytes.extend_from_slice(&colour.to_le_bytes()).is_err() {
+            unreachable!()
+        }
+    }
+}
+
+/// Adds bytes, for which there is room.
+fn add_bytes(bytes: &mut Vec<u8>, more: &[u8])
+    requires { vec_len bytes.old + length more.now ≤ vec_capacity bytes.old }
+    ensures items { bytes.new.items ≡ bytes.old.items ++ more.now }
+    ensures len { vec_len bytes.new ≡ vec_len bytes.old + length more.now }
+    ensures room { vec_capacity bytes.old ≤ vec_capacity bytes.new }
+{
+    if bytes.extend_from_slice(more).is_err() {
+        unreachable!()
+    }
 }
 
 /// Adds a sample, for which there is room.
@@ -64,8 +121,9 @@ fn add_sample(samples: &mut Vec<u8>, sample: i16)
 }
 
 impl Made {
-    ghost use Rattle.std.specs.Prelude.{◌≡◌, ◌+◌, ◌/◌, ◌<◌, ◌≤◌, ◌^◌, true, IfOk};
-    ghost use Rattle.gba_io.specs.Made.{none_made, with_pair, without_samples};
+    ghost use Rattle.std.specs.Prelude.{◌≡◌, ◌+◌, ◌/◌, ◌<◌, ◌≤◌, ◌^◌, length, true, IfOk};
+    ghost use Rattle.gba_io.specs.Drawing.{colours_bytes};
+    ghost use Rattle.gba_io.specs.Made.{frame_ended, none_made, with_line, with_pair, without_frames, without_samples};
 
     /// Nothing yet, with room for all that is kept until `room.until` and one step more.
     pub(crate) fn new(alloc: Global, room: Room) -> Result<Made, NoMemory>
@@ -77,9 +135,18 @@ impl Made {
         } else {
             0
         };
+        let frames = if room.frames {
+            whole_frames(room.until)
+        } else {
+            0
+        };
         Ok(Made {
+            keeps_frames: room.frames,
             keeps_samples: room.samples,
             until: room.until,
+            drawn: Vec::with_capacity(alloc, FRAME)?,
+            frames: Vec::with_capacity(alloc, FRAME * frames as usize)?,
+            frame_count: 0,
             samples: Vec::with_capacity(alloc, 4 * pairs as usize)?,
             pairs: 0,
         })
@@ -90,6 +157,30 @@ impl Made {
         ensures { result ≡ self.now.until }
     {
         self.until
+    }
+
+    /// The whole frames, each of 160 lines of 240 colours: 16 bits each, low byte first, of which the lowest five are red,
+    /// the next green and then blue. Empty where they aren't kept.
+    pub fn frames(&self) -> &[u8]
+        ensures { result.now ≡ self.now.frames }
+    {
+        self.frames.as_slice()
+    }
+
+    /// Takes the whole frames out. None is kept from then on.
+    pub fn take_frames(&mut self, alloc: Global) -> Vec<u8>
+        ensures taken { result.items ≡ self.old.frames }
+        ensures left { self.new ≡ without_frames self.old }
+    {
+        self.keeps_frames = false;
+        replace(&mut self.frames, Vec::new(alloc))
+    }
+
+    /// How many bytes of the present frame are drawn.
+    pub(crate) fn drawn_length(&self) -> usize
+        ensures { result ≡ length self.now.drawn }
+    {
+        self.drawn.len()
     }
 
     /// The pairs of samples, left then right, 16 bits each in two's complement, low byte first: 32,768 pairs a second.
@@ -109,12 +200,16 @@ impl Made {
         replace(&mut self.samples, Vec::new(alloc))
     }
 
-    /// How much was made.
-    pub fn counts(&self) -> Counts
-        ensures { result.samples ≡ self.now.pairs }
+    /// How much was made, where so many transfers ended.
+    pub(crate) fn counts(&self, words: u64) -> Counts
+        ensures frames { result.frames ≡ self.now.frame_count }
+        ensures samples { result.samples ≡ self.now.pairs }
+        ensures words { result.words ≡ words }
     {
         Counts {
+            frames: self.frame_count,
             samples: self.pairs,
+            words,
         }
     }
 
@@ -127,6 +222,32 @@ impl Made {
         if self.keeps_samples {
             add_sample(&mut self.samples, left);
             add_sample(&mut self.samples, right);
+        }
+    }
+
+    /// Ends the frame: its lines are all drawn.
+    fn end_frame(&mut self)
+        requires drawn { length self.old.drawn ≤ 76800 }
+        requires room { self.old.frame_count < (self.old.until + 84513) / 280896 }
+        ensures { self.new ≡ frame_ended self.old }
+    {
+        self.frame_count += 1;
+        if self.keeps_frames {
+            add_bytes(&mut self.frames, self.drawn.as_slice());
+        }
+        self.drawn.clear();
+    }
+
+    /// Adds the line of 240 colours that is drawn. With the last one the frame is whole.
+    pub(crate) fn add_line(&mut self, colours: &[u16], ends: bool)
+        requires colours { length colours.now ≡ 240 }
+        requires drawn { length self.old.drawn ≤ 76320 }
+        requires room { ends ≡ true → self.old.frame_count < (self.old.until + 84513) / 280896 }
+        ensures { self.new ≡ with_line true ends (colours_bytes colours.now) self.old }
+    {
+        add_colours(&mut self.drawn, colours);
+        if ends {
+            self.end_frame();
         }
     }
 }

@@ -1,16 +1,22 @@
 //! The core of a board.
 
 ghost use Rattle.std.specs.Prelude.{◌≡◌, ◌≤◌};
+ghost use Rattle.std.specs.Prelude.{◌&&◌, not};
+ghost use Rattle.gba_devices.specs.State.{is_calm as are_calm};
 ghost use Rattle.gba_io.specs.Units.{start_cycles as cycles_at_start};
+ghost use Rattle.gba_serial.specs.Tell.{has_news};
 
+use crate::serial::is_serial;
 use gba_bus::{Bus, WaitControl};
 use gba_devices::Devices;
 use gba_devices::laws::{cycle_keeps, cycles_pass};
 use gba_dma::{Channel, Unit};
 use gba_image::ConsoleImages;
 use gba_mem::Memory;
+use gba_ppu_mix::mix_line;
 use gba_ppu_reg::{Position, Reference};
 use gba_price_table::PriceTable;
+use gba_serial::Serial;
 use gba_terms::NoMemory;
 use gba_timer::Timer;
 use std::alloc::Global;
@@ -39,49 +45,78 @@ fn start_cycles(first: bool) -> u32
     if first { 2 } else { 0 }
 }
 
-/// The memories and the devices of a console, which its processor sees as a bus. Contracts see the record of both.
+/// Whether nothing asks for more than an instruction, nor has the last step told anything.
+pub(crate) fn is_calm(devices: &Devices, serial: &Serial) -> bool
+    ensures { result ≡ (are_calm devices.now && not (has_news serial.now)) }
+{
+    devices.is_calm() && !serial.has_news()
+}
+
+/// The memories, the devices and the serial unit of a console, which its processor sees as a bus. Contracts see the record
+/// of the three.
 #[derive(Drop)]
 pub struct Core {
     pub(crate) memory: Memory,
     pub(crate) devices: Devices,
+    pub(crate) serial: Serial,
+    // whether nothing asks for more than an instruction
+    pub(crate) calm: bool,
     // the prices of this step
     pub(crate) prices: PriceTable,
 }
 
 impl Model for Core {
-    ghost use Rattle.std.specs.Prelude.{◌≡◌};
+    ghost use Rattle.std.specs.Prelude.{◌≡◌, ◌<◌, ◌^◌, ◌&&◌, not};
+    ghost use Rattle.gba_devices.specs.State.{is_calm};
     ghost use Rattle.gba_io.specs.Core.{Core};
+    ghost use Rattle.gba_serial.specs.Tell.{has_news};
 
     ghost Value = { Core };
 
-    ghost view = { λ b. record { memory = b.memory; devices = b.devices } };
+    ghost view = { λ b. record { memory = b.memory; devices = b.devices; serial = b.serial } };
 
-    ghost invariant = { λ b. b.prices ≡ b.devices.priced };
+    ghost invariant = { λ b.
+        (b.prices ≡ b.devices.priced) × (b.calm ≡ (is_calm b.devices && not (has_news b.serial)))
+        × (b.devices.clock < 2 ^ 40) };
 }
 
 impl Core {
-    ghost use Rattle.std.specs.Prelude.{◌≡◌, ◌*◌, ◌^◌, ◌<◌, ◌≤◌, true, false, IfOk, length, option_map};
+    ghost use Rattle.std.specs.Prelude.{◌≡◌, ◌+◌, ◌*◌, ◌^◌, ◌<◌, ◌≤◌, true, false, IfOk, length, option_map};
     ghost use Rattle.std.specs.Option.{option_map_or};
     ghost use Rattle.gba_dma.specs.Channels.{channel_at, next_unit};
-    ghost use Rattle.gba_devices.specs.Cycles.{makes_pair, makes_within};
-    ghost use Rattle.gba_devices.specs.Registers.{half_stored};
-    ghost use Rattle.gba_devices.specs.State.{is_calm, is_idle};
+    ghost use Rattle.gba_devices.specs.Cycles.{draws_line, makes_pair, makes_within};
+    ghost use Rattle.gba_devices.specs.State.{is_idle};
     ghost use Rattle.gba_irq.specs.Interrupts.{is_pending};
     ghost use Rattle.gba_ppu_reg.specs.Position.{IsPosition};
     ghost use Rattle.gba_ppu_reg.specs.Registers.{reference_of};
     ghost use Rattle.gba_sound.specs.Queues.{left_sample, queue_at, right_sample};
     ghost use Rattle.gba_timer.specs.Timers.{timer_at};
-    ghost use Rattle.gba_io.specs.Core.{core_after, core_at_start, core_begun, core_cycled, core_keyed, core_woken, length_named, memory_named};
+    ghost use Rattle.gba_io.specs.Core.{core_after, core_at_start, core_begun, core_cycled, core_half_stored, core_is_calm, core_is_idle, core_keyed, core_woken, length_named, memory_named};
+    ghost use Rattle.gba_io.specs.Drawing.{line_colours};
     ghost use Rattle.gba_io.specs.Units.{core_after_unit, unit_cycles};
 
     /// A core at reset, at clock 0, from its images, which are dropped on refusal.
-    pub(crate) fn new(alloc: Global, images: ConsoleImages) -> Result<Core, NoMemory>
-        ensures { IfOk result (λ core. core ≡ core_at_start images.bios images.cart images.save) }
+    pub(crate) fn new(
+        alloc: Global,
+        player: u32,
+        count: u32,
+        delay: u64,
+        images: ConsoleImages,
+    ) -> Result<Core, NoMemory>
+        requires player { player < count }
+        requires count { count ≤ 4 }
+        requires least_delay { 1 ≤ delay }
+        requires most_delay { delay ≤ 1024 }
+        ensures { IfOk result (λ core. core ≡ core_at_start player count delay images.bios images.cart images.save) }
     {
         let waits = WaitControl { value: 0 };
+        let devices = Devices::new();
+        let serial = Serial::new(player, count, delay);
         Ok(Core {
             memory: Memory::new(alloc, images)?,
-            devices: Devices::new(),
+            calm: is_calm(&devices, &serial),
+            devices,
+            serial,
             prices: PriceTable::new(&waits),
         })
     }
@@ -89,28 +124,29 @@ impl Core {
     /// The clock: cycles of 16,777,216 Hz since reset.
     pub fn clock(&self) -> u64
         ensures value { result ≡ self.now.devices.clock }
-        ensures most { result < 2 ^ 63 }
+        ensures most { result < 2 ^ 40 }
     {
         self.devices.clock()
     }
 
     /// Whether nothing asks for more than an instruction: no halt, no interrupt that IME lets in, no
-    /// DMA, and no other prices.
+    /// DMA, no other prices, and the last step told the peers nothing.
     #[inline]
     pub fn is_calm(&self) -> bool
-        ensures { result ≡ is_calm self.now.devices }
+        ensures { result ≡ core_is_calm self.now }
     {
-        self.devices.is_calm()
+        self.calm
     }
 
-    /// Whether the console is halted, and nothing asks for more than idling: no interrupt, no DMA, and no other prices.
+    /// Whether the console is halted, and nothing asks for more than idling: no interrupt, no DMA, no other prices, and
+    /// the last step told the peers nothing.
     pub fn is_idle(&self) -> bool
-        ensures { result ≡ is_idle self.now.devices }
+        ensures { result ≡ core_is_idle self.now }
     {
-        self.devices.is_idle()
+        self.devices.is_idle() && !self.serial.has_news()
     }
 
-    /// Begins a step: its accesses take the prices of WAITCNT as it is.
+    /// Begins a step: its accesses take the prices of WAITCNT as it is, and what the last step told is told.
     pub fn begin(&mut self)
         ensures { self.new ≡ core_begun self.old }
     {
@@ -119,6 +155,8 @@ impl Core {
             self.prices.renew(&WaitControl { value });
         }
         self.devices.begin();
+        self.serial.fall_silent();
+        self.calm = is_calm(&self.devices, &self.serial);
     }
 
     /// Makes these the pressed keys, 1 for pressed: A, B, Select, Start, Right, Left, Up, Down, R, L are bits 0 to 9.
@@ -127,6 +165,7 @@ impl Core {
         ensures { self.new ≡ core_keyed pressed self.old }
     {
         self.devices.set_keys(pressed);
+        self.calm = is_calm(&self.devices, &self.serial);
     }
 
     /// Whether an enabled interrupt is requested: IE AND IF isn't 0.
@@ -155,6 +194,7 @@ impl Core {
         ensures { self.new ≡ core_woken self.old }
     {
         self.devices.wake();
+        self.calm = is_calm(&self.devices, &self.serial);
     }
 
     /// Does a DMA unit, and answers its cycles.
@@ -168,6 +208,7 @@ impl Core {
         let (value, read) = self.load(OUTSIDE_BIOS, unit.source, unit.width, sequential);
         let written = self.store(unit.target, unit.width, value, sequential);
         self.devices.end_unit(unit.channel);
+        self.calm = is_calm(&self.devices, &self.serial);
         read + written + start_cycles(unit.first)
     }
 
@@ -186,9 +227,10 @@ impl Core {
     #[inline]
     pub(crate) fn owe(&mut self, cycles: u32) -> bool
         requires few { cycles ≤ 512 }
-        requires clock { self.old.devices.clock < 2 ^ 61 }
+        requires clock { self.old.devices.clock + cycles < 2 ^ 40 }
         ensures owed { result ≡ true → (self.new ≡ core_after cycles self.old) × (makes_within cycles self.old.devices ≡ false) }
         ensures idle { is_idle self.new.devices ≡ is_idle self.old.devices }
+        ensures serial { self.new.serial ≡ self.old.serial }
         ensures left { result ≡ false → self.new ≡ self.old }
     {
         cycles_pass();
@@ -197,13 +239,36 @@ impl Core {
 
     /// Moves the devices by as many of so many cycles as surely nothing happens in, and answers how many.
     pub(crate) fn pass_quietly(&mut self, most: u32) -> u32
-        requires { self.old.devices.clock < 2 ^ 61 }
+        requires { self.old.devices.clock + most < 2 ^ 40 }
         ensures core { self.new ≡ core_after result self.old }
         ensures silent { makes_within result self.old.devices ≡ false }
         ensures most { result ≤ most }
     {
         cycles_pass();
         self.devices.pass_quietly(most)
+    }
+
+    /// Whether the next cycle draws a line of the picture.
+    pub(crate) fn draws_line(&self) -> bool
+        ensures { result ≡ draws_line self.now.devices }
+    {
+        self.devices.draws_line()
+    }
+
+    /// Draws a line from 0 to 159 as memories and registers are now: 240 colours, from left to right.
+    pub(crate) fn draw(&self, line: u32, colours: &mut [u16])
+        requires line { line < 160 }
+        requires colours { length colours.old ≡ 240 }
+        ensures { colours.new ≡ line_colours line self.now }
+    {
+        mix_line(
+            self.devices.picture(),
+            self.memory.palette(),
+            self.memory.vram(),
+            self.memory.oam(),
+            line,
+            colours,
+        );
     }
 
     /// Whether the next cycle makes a pair of samples.
@@ -215,11 +280,12 @@ impl Core {
 
     /// A device cycle.
     pub(crate) fn cycle(&mut self)
-        requires { self.old.devices.clock < 2 ^ 61 }
+        requires { self.old.devices.clock + 1 < 2 ^ 40 }
         ensures { self.new ≡ core_cycled self.old }
     {
         cycle_keeps();
         self.devices.cycle();
+        self.calm = is_calm(&self.devices, &self.serial);
     }
 
     /// What the sound queues sound like, left then right.
@@ -281,10 +347,22 @@ impl Core {
     }
 
     /// What is stored at the halfword of an offset from 04000000h; of bits that are only read, what they read.
+    #[tactic(auto, unfolding(crate::specs::Core::core_half_stored))]
     pub fn io_half(&self, offset: u32) -> u16
-        ensures { result ≡ half_stored offset self.now.devices }
+        ensures { result ≡ core_half_stored offset self.now }
     {
-        self.devices.half_stored(offset)
+        if is_serial(offset) {
+            self.serial.stored(offset)
+        } else {
+            self.devices.half_stored(offset)
+        }
+    }
+
+    /// The serial unit.
+    pub fn serial(&self) -> &Serial
+        ensures { result.now ≡ self.now.serial }
+    {
+        &self.serial
     }
 
     /// The bytes of a memory from its front up, and none of the I/O registers.

@@ -1,6 +1,6 @@
 -- A transfer goes on.
 use Rattle.std.proofs.Common.{ℕ, ◌≡◌, ◌+◌, ◌<◌, ◌≤◌, Bool, true, false, not, ◌&&◌, ◌||◌, List, [], ◌∷◌, ◌++◌, Option, None, Some, is_some, if◌then◌else◌, refl, ap, sym, subst, ◌∙◌, arith}
-use Rattle.std.specs.Prelude.{All, nat_le, option_to_list}
+use Rattle.std.specs.Prelude.{nat_le, option_to_list}
 use Rattle.std.proofs.lemmas.List.Elements.{All-head, All-tail}
 use Rattle.gba_serial.specs.Timing.{is_multi, is_same}
 use Rattle.gba_serial.specs.SerialUnit.{SerialUnit, is_peer, is_running, is_wired, mode_of}
@@ -165,13 +165,13 @@ not_yet clock end before = grind arith
 ended_of-before : (clock : ℕ) (run : Running) (u : SerialUnit) → clock < run.end → ended_of clock (Some run) u ≡ u
 ended_of-before clock run u before = rw (not_yet clock run.end before) refl
 
-ended-before : (clock : ℕ) (u : SerialUnit) (run : Running) → u.run ≡ Some run → clock < run.end → ended clock u ≡ u
+pub ended-before : (clock : ℕ) (u : SerialUnit) (run : Running) → u.run ≡ Some run → clock < run.end → ended clock u ≡ u
 ended-before clock u run running before = ap (λ some. ended_of clock some u) running ∙ ended_of-before clock run u before
 
 ending_of-before : (clock : ℕ) (run : Running) (u : SerialUnit) → clock < run.end → ending_of clock (Some run) u ≡ None
 ending_of-before clock run u before = rw (not_yet clock run.end before) refl
 
-ending-before : (clock : ℕ) (u : SerialUnit) (run : Running) → u.run ≡ Some run → clock < run.end → ending clock u ≡ None
+pub ending-before : (clock : ℕ) (u : SerialUnit) (run : Running) → u.run ≡ Some run → clock < run.end → ending clock u ≡ None
 ending-before clock u run running before = ap (λ some. ending_of clock some u) running ∙ ending_of-before clock run u before
 
 below : (a clock end : ℕ) → a ≤ clock → clock < end → a < end
@@ -240,7 +240,7 @@ no-news v mode none quiet same_mode told =
     ∙ ap (λ one. not (is_same mode one)) told
     ∙ ap not (is_same-self mode)
 
-no-signal : (clock : ℕ) (v : SerialUnit) → has_news v ≡ false → outgoing clock v ≡ None
+pub no-signal : (clock : ℕ) (v : SerialUnit) → has_news v ≡ false → outgoing clock v ≡ None
 unfolding outgoing
 no-signal clock v none = rw none refl
 
@@ -253,12 +253,12 @@ step-tells_nothing clock dues writes u run running before arrived =
     no-signal clock after (no-news after (mode_of u) on.start on.reply on.mode on.told)
 
 -- an answered start ends after every step that could take it
-and-both : (a b c : Bool) → (a && b && c) ≡ true → b ≡ true
+pub and-both : (a b c : Bool) → (a && b && c) ≡ true → b ≡ true
 and-both true true c holds = refl
 and-both true false c holds = holds
 and-both false b c holds = cc
 
-at_most : (a b : ℕ) → nat_le a b ≡ true → a ≤ b
+pub at_most : (a b : ℕ) → nat_le a b ≡ true → a ≤ b
 at_most a b holds = grind arith
 
 ends_after : (was clock arrival end : ℕ) → was < arrival → clock ≤ was + 512 → arrival + 512 ≤ end → clock < end

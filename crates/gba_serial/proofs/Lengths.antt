@@ -22,7 +22,7 @@ multi-in_time : (count speed clock hop : ℕ) → 2 ≤ count → hop ≤ 1024 �
 multi-in_time count speed clock hop two near =
     let least = product-least count (multi_bit_cycles speed) (multi_bit_cycles-least speed) in omega (arith, least)
 
-multi-apart : (count speed clock : ℕ) → 1 ≤ count → clock + 516 ≤ multi_end count speed clock
+pub multi-apart : (count speed clock : ℕ) → 1 ≤ count → clock + 516 ≤ multi_end count speed clock
 multi-apart count speed clock one =
     let least = product-least count (multi_bit_cycles speed) (multi_bit_cycles-least speed) in omega (arith, least)
 
@@ -34,6 +34,10 @@ normal-in_time : (round : ℕ) (mode : LinkMode) (speed clock hop : ℕ) → hop
 normal-in_time round mode speed clock hop near =
     let reached = above clock (word_width mode * normal_bit_cycles speed) (round + 514) (hop + 512) (omega arith) in
     omega (arith, reached)
+
+pub normal-later : (round : ℕ) (mode : LinkMode) (speed clock : ℕ) → clock + 514 ≤ normal_end round mode speed clock
+normal-later round mode speed clock =
+    above clock (word_width mode * normal_bit_cycles speed) (round + 514) 514 (omega arith)
 
 normal-apart : (round : ℕ) (mode : LinkMode) (speed clock : ℕ) → 2 ≤ round → clock + 516 ≤ normal_end round mode speed clock
 normal-apart round mode speed clock two =

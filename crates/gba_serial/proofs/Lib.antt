@@ -3,3 +3,4 @@ pub mod Busy
 pub mod Seats
 pub mod Lengths
 pub mod Going
+pub mod Apart

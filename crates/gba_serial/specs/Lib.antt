@@ -8,3 +8,4 @@ pub mod Tell
 pub mod Numbers
 pub mod Steps
 pub mod Law
+pub mod Apart

@@ -1,5 +1,6 @@
 //! Laws over the definitions. Each is the contract of a function that takes no value.
 
+ghost use Rattle.gba_serial.specs.Apart.{EndsApart, StaysQuiet};
 ghost use Rattle.gba_serial.specs.Law.{StartsInTime, StaysSeated, TellsOnce, TransfersGoOn, WritesKeepTransfers};
 
 /// A signal bears the clock at which its step began, and its parts fit their widths. Nothing is told twice.
@@ -26,4 +27,14 @@ pub fn starts_in_time()
 /// most one start.
 pub fn transfers_go_on()
     ensures { TransfersGoOn }
+{}
+
+/// Two ends of one console are at least 512 cycles apart.
+pub fn ends_apart()
+    ensures { EndsApart }
+{}
+
+/// Nothing ends before the next end, and nothing falls silent that has nothing to tell.
+pub fn stays_quiet()
+    ensures { StaysQuiet }
 {}

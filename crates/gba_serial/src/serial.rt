@@ -103,6 +103,13 @@ impl Serial {
         }
     }
 
+    /// The player number, from 0 to 3.
+    pub fn player(&self) -> u32
+        ensures { result ≡ self.now.player }
+    {
+        self.player
+    }
+
     /// The serial mode: by RCNT's bit 15 and SIOCNT's bits 12 and 13.
     pub fn mode(&self) -> LinkMode
         ensures { result ≡ mode_of self.now }

@@ -24,6 +24,7 @@ fn received_mask(run: Running) -> u32
 impl Serial {
     ghost use Rattle.std.specs.Prelude.{◌≡◌, ◌<◌};
     ghost use Rattle.gba_serial.specs.SerialUnit.{is_running};
+    ghost use Rattle.gba_serial.specs.Apart.{next_end};
     ghost use Rattle.gba_serial.specs.Numbers.{end_number, is_starter, received_number, sent_number, word_number};
 
     /// Whether a transfer runs.
@@ -50,6 +51,16 @@ impl Serial {
         match self.run {
             Some(run) => run.end,
             None => 0,
+        }
+    }
+
+    /// The clock at which the transfer ends, or one that no console reaches where none runs.
+    pub fn next_end(&self) -> u64
+        ensures { result ≡ next_end self.now }
+    {
+        match self.run {
+            Some(run) => run.end,
+            None => u64::MAX,
         }
     }
 

@@ -1,4 +1,5 @@
 use Rattle.std.proofs.Common.{◌<◌, ◌≤◌, ◌∙◌, ℕ, ap, subst, sym, arith}
+use Rattle.gba_serial.specs.Apart.{next_end}
 use Rattle.gba_console.specs.Keys.{due_of}
 use Rattle.gba_console.specs.Machine.{clock_of}
 use Rattle.gba_console.proofs.Rises.{run-step}
@@ -20,4 +21,5 @@ loop-left-preserved c =
       subst (λ (n : ℕ). c.min-end.result ≤ n) (ap due_of (sym step.keys)) held.4,
       step.idle,
       step.until ∙ held.6,
+      subst (λ (n : ℕ). c.min-end.result ≤ n) (ap next_end (sym step.serial)) held.7,
     )

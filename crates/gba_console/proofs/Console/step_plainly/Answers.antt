@@ -1,8 +1,10 @@
-use Rattle.std.proofs.Common.{◌∙◌, sym, arith}
+use Rattle.std.proofs.Common.{◌∙◌, ◌-◌, ◌≤◌, ap, sym, arith}
 use Rattle.std.specs.Prelude.{drop}
+use Rattle.gba_io.specs.declared.board.Board.{Board}
 use Rattle.gba_console.specs.Machine.{Machine}
 use Rattle.gba_console.specs.Step.{instruction_done}
 use Rattle.gba_console.proofs.Calm.{plain-next, put-together}
+use Rattle.gba_console.proofs.Passing.{ends-after, left-clock, left-ends, sound-ready, step-sound, step-was}
 use Rattle.gba_console.proofs.Console.step_plainly.Goals as goal
 
 pub returns-clause-step : goal.returns-clause-step
@@ -12,16 +14,58 @@ returns-clause-step c =
       registers = inside.registers;
       board = inside.board;
       keys = drop inside.applied inside.keys.items;
+      was = inside.board.core.devices.clock - inside.last;
     } in
     let done = instruction_done inside.registers inside.board.core in
+    let cycles = c.execute-cycles.result in
+    let mid = record inside.board { core = c.execute-cycles.new.core } in
+    let acts = c.acts_pass.ensures.instructions inside.registers inside.board.core in
+    let same = left-clock inside.board.core c.execute-cycles.new.core done c.execute-cycles.ensures.bus_left acts in
     rw (← c.self.view_is)
     (put-together done c.execute-cycles.new.registers c.execute-cycles.new.core c.advance.new.self
-    c.execute-cycles.result m c.execute-cycles.ensures.registers_left c.execute-cycles.ensures.bus_left
+    cycles (c.advance.new.self.core.devices.clock - cycles) inside.board.core.devices.clock m
+    c.execute-cycles.ensures.registers_left c.execute-cycles.ensures.bus_left
     c.execute-cycles.ensures.cycles_taken c.advance.ensures
-    ∙ sym (plain-next c.calm_has_begun.ensures m (rw (← c.self.view_is) at c.requires.calm)
-    (rw (← c.self.view_is) at c.requires.early)))
+    (step-was inside.board.core.devices.clock cycles mid c.advance.new.self c.advance.ensures
+    (c.board_passes.ensures.all cycles mid) same)
+    ∙ sym (plain-next c.calm_has_begun.ensures c.stays_quiet.ensures m (rw (← c.self.view_is) at c.requires.plain)))
+
+pub returns-clause-ends : goal.returns-clause-ends
+returns-clause-ends c =
+    let inside = c.self.inside in
+    let cycles = c.execute-cycles.result in
+    let core = c.execute-cycles.new.core in
+    let done = instruction_done inside.registers inside.board.core in
+    let acts = c.acts_pass.ensures.instructions inside.registers inside.board.core in
+    let keeps = left-ends inside.board.core core done c.execute-cycles.ensures.bus_left acts in
+    rw (← c.self.view_is) (λ bound soon before.
+    ends-after cycles bound inside.board c.advance.new.self core c.advance.ensures
+    (c.board_passes.ensures.all cycles (record inside.board { core = core })) keeps c.self.invariant.5.ends.seat soon before)
 
 pub returns-clause-some : goal.returns-clause-some
 returns-clause-some c =
     let acts = (c.acts_pass.ensures.instructions c.self.inside.registers c.self.inside.board.core).length.least in
     omega (arith, c.execute-cycles.ensures.cycles_taken, acts)
+
+pub invariant_of-self : goal.invariant_of-self
+invariant_of-self c =
+    let inside = c.self.inside in
+    let cycles = c.execute-cycles.result in
+    let core = c.execute-cycles.new.core in
+    let done = instruction_done inside.registers inside.board.core in
+    let acts = c.acts_pass.ensures.instructions inside.registers inside.board.core in
+    let same = left-clock inside.board.core core done c.execute-cycles.ensures.bus_left acts in
+    let keeps = left-ends inside.board.core core done c.execute-cycles.ensures.bus_left acts in
+    let passes = c.board_passes.ensures.all cycles (record inside.board { core = core }) in
+    let ends = ap (λ (b : Board). b.core.devices.clock) c.advance.ensures in
+    let early = rw (← c.self.view_is) at c.requires.clock in
+    let short : cycles ≤ 512 = omega (arith, c.execute-cycles.ensures.cycles_taken, acts.length.most) in (
+      c.self.invariant.0,
+      c.self.invariant.1,
+      c.self.invariant.2,
+      c.self.invariant.3,
+      omega (arith, ends, passes.clock),
+      step-sound inside.board.core.devices.clock cycles inside.board c.advance.new.self core
+          (sound-ready (inside.board.core.devices.clock - inside.last) inside.board c.self.invariant.5 (omega arith) early)
+          same keeps short c.advance.ensures passes,
+    )

@@ -1,4 +1,4 @@
-use Rattle.gba_console.proofs.Passing.{steps-pass}
+use Rattle.gba_console.specs.StepLaws.{steps-pass}
 use Rattle.gba_console.proofs.laws.steps_pass.Goals as goal
 
 pub returns : goal.returns

@@ -1,10 +1,10 @@
-use Rattle.std.proofs.Common.{◌∙◌, sym, ap, arith}
+use Rattle.std.proofs.Common.{◌∙◌, sym, ap, arith, rules}
 use Rattle.std.specs.Prelude.{not}
 use Rattle.std.proofs.Math.Facts.{Fits-of_lt}
 use Rattle.gba_devices.specs.State.{Devices}
 use Rattle.gba_io.specs.BusLaws.{core_load_prices, core_store_prices}
 use Rattle.gba_io.specs.Units.{outside_bios}
-use Rattle.gba_io.proofs.Keeping.{unit-keeps-priced}
+use Rattle.gba_io.proofs.Keeping.{unit-keeps-clock, unit-keeps-priced}
 use Rattle.gba_io.proofs.parts.Core.do_unit.Goals as goal
 
 pub overflow_add-result : goal.overflow_add-result
@@ -29,6 +29,14 @@ overflow_add-result-2 c =
     ))
 
 pub invariant_of-self : goal.invariant_of-self
-invariant_of-self c =
-    c.self.invariant
-    ∙ sym (ap (λ (d : Devices). d.priced) c.end_unit.ensures ∙ unit-keeps-priced c.args.unit.channel c.self.inside.devices)
+invariant_of-self c = (
+  c.self.invariant.0
+      ∙ sym (ap (λ (d : Devices). d.priced) c.end_unit.ensures ∙ unit-keeps-priced c.args.unit.channel c.self.inside.devices),
+  search rules,
+  omega (
+    arith,
+    ap (λ (d : Devices). d.clock) c.end_unit.ensures,
+    unit-keeps-clock c.args.unit.channel c.self.inside.devices,
+    c.self.invariant.2,
+  ),
+)

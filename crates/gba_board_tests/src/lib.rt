@@ -1,0 +1,5 @@
+#![tactic(auto)]
+//! Tests of a board by itself.
+
+#[cfg(test)]
+mod cable;

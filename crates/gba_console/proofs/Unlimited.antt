@@ -1,0 +1,70 @@
+-- No step depends on the limit.
+use Rattle.std.proofs.Common.{◌≡◌, ℕ, zero, suc, List, [], ◌∷◌, Option, None, Some, refl, ◌∙◌, ap}
+use Rattle.gba_exec_transfers.specs.Done.{Done}
+use Rattle.gba_io.specs.Board.{board_after, board_cycle}
+use Rattle.gba_io.specs.Cable.{board_ended, board_taken, core_heard}
+use Rattle.gba_io.specs.Ended.{Ended, with_transfer}
+use Rattle.gba_serial.specs.End.{ending}
+use Rattle.gba_serial.specs.declared.transfer.Transfer.{Transfer}
+use Rattle.gba_io.specs.Core.{Core}
+use Rattle.gba_io.specs.declared.board.Board.{Board}
+use Rattle.gba_serial.specs.Tell.{outgoing}
+use Rattle.link_node.specs.declared.signal.Incoming.{Incoming}
+use Rattle.gba_console.specs.Keys.{after_keys}
+use Rattle.gba_console.specs.Machine.{Machine, board_without_limit, clock_of, without_limit}
+use Rattle.gba_console.specs.Step.{acted, all_taken, board_begun, done_in, heard, moved, stepped, told}
+
+cycle-unlimited : (b : Board) → board_cycle (board_without_limit b) ≡ board_without_limit (board_cycle b)
+unfolding board_cycle
+cycle-unlimited b = refl
+
+after-unlimited : (count : ℕ) (b : Board) → board_after count (board_without_limit b) ≡ board_without_limit (board_after count b)
+unfolding board_after
+after-unlimited zero b = refl
+after-unlimited (suc count) b = ap board_cycle (after-unlimited count b) ∙ cycle-unlimited (board_after count b)
+
+transfer-unlimited : (transfer : Option Transfer) (e : Ended)
+    → with_transfer transfer (record e { until = 0 }) ≡ record (with_transfer transfer e) { until = 0 }
+transfer-unlimited None e = refl
+transfer-unlimited (Some transfer) e = refl
+
+ended-unlimited : (clock : ℕ) (b : Board) → board_ended clock (board_without_limit b) ≡ board_without_limit (board_ended clock b)
+ended-unlimited clock b =
+    ap (λ (e : Ended). record (board_without_limit (board_ended clock b)) { ended = e })
+    (transfer-unlimited (ending clock b.core.serial) b.ended)
+
+heard_one : Incoming → Board → Board
+heard_one due b = record b { core = core_heard due b.core }
+
+one-unlimited : (due : Incoming) (b : Board) → board_taken due (board_without_limit b) ≡ board_without_limit (board_taken due b)
+unfolding heard_one
+one-unlimited due b = ap (heard_one due) (ended-unlimited due.arrival b)
+
+taken-unlimited : (dues : List Incoming) (b : Board)
+    → all_taken dues (board_without_limit b) ≡ board_without_limit (all_taken dues b)
+taken-unlimited [] b = refl
+taken-unlimited (due ∷ dues) b =
+    ap (all_taken dues) (one-unlimited due b) ∙ taken-unlimited dues (board_taken due b)
+
+heard-unlimited : (dues : List Incoming) (m : Machine) → heard dues (without_limit m) ≡ board_without_limit (heard dues m)
+heard-unlimited dues m =
+    ap (board_ended (clock_of m)) (taken-unlimited dues (board_begun m.board))
+    ∙ ended-unlimited (clock_of m) (all_taken dues (board_begun m.board))
+
+done-unlimited : (dues : List Incoming) (m : Machine) → done_in dues (without_limit m) ≡ done_in dues m
+done-unlimited dues m =
+    ap (λ (b : Board). acted m.registers (after_keys (clock_of m) m.keys b.core)) (heard-unlimited dues m)
+
+pub stepped-unlimited : (dues : List Incoming) (m : Machine) → stepped dues (without_limit m) ≡ without_limit (stepped dues m)
+unfolding stepped
+stepped-unlimited dues m =
+    let plain = without_limit m in
+    let done = done_in dues m in
+    ap (λ (b : Board). moved b plain (done_in dues plain)) (heard-unlimited dues m)
+    ∙ ap (moved (board_without_limit (heard dues m)) plain) (done-unlimited dues m)
+    ∙ ap (λ (b : Board). record (moved (heard dues m) m done) { board = b })
+    (after-unlimited done.cycles (record (heard dues m) { core = done.bus }))
+
+pub told-unlimited : (dues : List Incoming) (m : Machine) → told dues (without_limit m) ≡ told dues m
+unfolding told
+told-unlimited dues m = ap (λ (done : Done Core). outgoing (clock_of m) done.bus.serial) (done-unlimited dues m)

@@ -1,0 +1,35 @@
+use Rattle.std.specs.Prelude.{ℕ, ◌≡◌, ◌+◌, ◌^◌, ◌<◌, ◌≤◌, true, List, [], ◌∷◌}
+use Rattle.gba_io.specs.Board.{IsInStep}
+use Rattle.gba_io.specs.Cable.{EndsFit, board_taken}
+use Rattle.gba_io.specs.Core.{core_is_calm}
+use Rattle.gba_io.specs.declared.board.Board.{Board}
+use Rattle.gba_serial.specs.Apart.{next_end}
+use Rattle.link_node.specs.declared.signal.Incoming.{Incoming}
+use Rattle.gba_console.specs.Keys.{due_of}
+use Rattle.gba_console.specs.Machine.{Machine, clock_of}
+
+-- what the taking of one signal needs: it was sent before it arrives, and there is room for a transfer that ends before it
+pub record CanTake (due : Incoming) (b : Board) : Type 0 where
+  pub fits : EndsFit due.arrival b
+  pub early : due.arrival < b.ended.until
+  pub in_flight : due.signal.clock < due.arrival
+
+-- what the taking of these signals needs, one after another
+abbrev pub CanTakeAll : List Incoming → Board → Type 0
+CanTakeAll [] b = Unit {0}
+CanTakeAll (due ∷ dues) b = CanTake due b × CanTakeAll dues (board_taken due b)
+
+-- What holds of the board of each console between its steps, the last of which began at a clock: what it made and its
+-- transfers are those of its clocks, and there is room for more.
+pub record IsSound (was : ℕ) (b : Board) : Type 0 where
+  pub step : IsInStep b
+  pub ends : EndsFit was b
+  pub clock : b.core.devices.clock ≤ b.made.until + 511
+  pub few : b.made.until ≤ 2 ^ 39
+  pub same : b.ended.until ≡ b.made.until
+
+-- nothing asks for more than an instruction in the step that comes
+pub record IsPlain (m : Machine) : Type 0 where
+  pub calm : core_is_calm m.board.core ≡ true
+  pub keys : clock_of m < due_of m.keys
+  pub ends : clock_of m < next_end m.board.core.serial

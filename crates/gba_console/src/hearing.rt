@@ -1,0 +1,18 @@
+//! Signals that are due.
+
+ghost use Rattle.std.specs.Prelude.{◌≡◌};
+ghost use Rattle.gba_console.specs.Step.{all_taken};
+ghost use Rattle.gba_console.specs.Waiting.{CanTakeAll};
+
+use gba_io::Board;
+use link_node::Incoming;
+
+/// Takes the signals that are due, in their order.
+pub(crate) fn take_all(board: &mut Board, due: &[Incoming])
+    requires { CanTakeAll due.now board.old }
+    ensures { board.new ≡ all_taken due.now board.old }
+{
+    for one in due {
+        board.take(one);
+    }
+}

@@ -1,0 +1,135 @@
+//! A cable of two consoles, joined by hand: the one with the least clock makes the next step.
+
+use gba_asm::assemble;
+use gba_console::Console;
+use gba_image::{Bios, ConsoleImages};
+use gba_io::Room;
+use link_node::{Incoming, Node, Signal};
+use link_trial::may_take;
+use std::alloc::Global;
+use std::process::Abort;
+use std::test::Fail;
+
+/// Room for a hundred thousand cycles, where the transfers are kept.
+pub const ROOM: Room = Room {
+    until: 100_000,
+    frames: false,
+    samples: false,
+    words: true,
+};
+
+/// A BIOS of an assembled source, with zeros behind it.
+fn bios_of(alloc: Global, source: &[u8]) -> Result<Bios, Fail> {
+    let Ok(mut bios) = assemble(alloc, source) else {
+        return Err("no source")?;
+    };
+    for _ in bios.len()..16_384 {
+        bios.push(0)?;
+    }
+    Ok(Bios::check(bios).map_err(|_| "no BIOS")?)
+}
+
+/// A console of a player of so many on a cable with a delay, whose BIOS is this source.
+pub fn console_of(alloc: Global, seat: (u32, u32, u64), source: &[u8]) -> Result<Console, Fail> {
+    let (player, count, delay) = seat;
+    let images = ConsoleImages {
+        bios: bios_of(alloc, source)?,
+        cart: None,
+        save: None,
+    };
+    if player < count && count <= 4 && 1 <= delay && delay <= 1024 {
+        Ok(Console::new(alloc, player, count, delay, images, Vec::new(alloc), ROOM)?)
+    } else {
+        Err("no seat")?
+    }
+}
+
+/// A step that takes these signals.
+pub fn turn<R: Abort>(rt: &R, console: &mut Console, due: &[Incoming]) -> Option<Signal> {
+    assert!(rt; console.clock() < console.until());
+    assert!(rt; may_take(due, console.was(), console.clock()));
+    console.turn(due)
+}
+
+/// Two consoles, the delay, and what each told.
+#[derive(Drop)]
+pub struct Cable {
+    pub consoles: [Console; 2],
+    pub delay: u64,
+    pub told: [Vec<Signal>; 2],
+}
+
+impl Cable {
+    ghost use Rattle.std.specs.Prelude.{◌<◌};
+
+    /// Two consoles with these sources.
+    pub fn new(alloc: Global, delay: u64, sources: [&[u8]; 2]) -> Result<Cable, Fail> {
+        Ok(Cable {
+            consoles: [
+                console_of(alloc, (0, 2, delay), sources[0])?,
+                console_of(alloc, (1, 2, delay), sources[1])?,
+            ],
+            delay,
+            told: [Vec::new(alloc), Vec::new(alloc)],
+        })
+    }
+
+    /// The signals of the peer that a console's next step takes.
+    fn due<R: Abort>(&self, rt: &R, alloc: Global, player: usize) -> Result<Vec<Incoming>, Fail> {
+        assert!(rt; player < 2 && self.delay <= 1024);
+        let console = &self.consoles[player];
+        let peer = 1 - player;
+        let mut due = Vec::new(alloc);
+        for signal in self.told[peer].as_slice() {
+            assert!(rt; signal.clock < 1 << 40);
+            let arrival = signal.clock + self.delay;
+            if console.was() < arrival && arrival <= console.clock() {
+                due.push(Incoming {
+                    sender: peer as u32,
+                    arrival,
+                    signal: *signal,
+                })?;
+            }
+        }
+        Ok(due)
+    }
+
+    /// The next step.
+    fn step<R: Abort>(&mut self, rt: &R, alloc: Global) -> Result<(), Fail> {
+        let player = usize::from(self.consoles[1].clock() < self.consoles[0].clock());
+        let due = self.due(rt, alloc, player)?;
+        if let Some(signal) = turn(rt, &mut self.consoles[player], due.as_slice()) {
+            self.told[player].push(signal)?;
+        }
+        Ok(())
+    }
+
+    /// Steps until both clocks are at least this.
+    pub fn run<R: Abort>(&mut self, rt: &R, alloc: Global, until: u64) -> Result<(), Fail> {
+        assert!(rt; until <= 100_000);
+        for _ in 0..2 * until {
+            if self.consoles[0].clock() < until || self.consoles[1].clock() < until {
+                self.step(rt, alloc)?;
+            }
+        }
+        Ok(())
+    }
+
+    /// The clock of the only start that a console told.
+    pub fn started<R: Abort>(&self, rt: &R, player: usize) -> u64
+        ensures { result < 1000000 }
+    {
+        assert!(rt; player < 2);
+        let mut starts = 0;
+        let mut clock = 0;
+        for signal in self.told[player].as_slice() {
+            if signal.start.is_some() {
+                starts = 1 + starts % 2;
+                clock = signal.clock;
+            }
+        }
+        assert_eq!(rt; starts, 1);
+        assert!(rt; clock < 1_000_000);
+        clock
+    }
+}

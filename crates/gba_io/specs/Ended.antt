@@ -1,0 +1,31 @@
+use Rattle.std.specs.Prelude.{ℕ, Bool, false, ◌+◌, List, [], ◌∷◌, ◌++◌, Option, None, Some, if◌then◌else◌}
+use Rattle.gba_io.specs.declared.made.Room.{Room}
+use Rattle.gba_serial.specs.declared.transfer.Transfer.{Transfer}
+
+-- The transfers that ended. They are kept where they are asked for, and counted anyway. `until` is the clock below which
+-- the steps begin that there is room for.
+pub record Ended : Type 0 where
+  pub keeps_words : Bool
+  pub until : ℕ
+  pub words : List Transfer
+  pub count : ℕ
+
+-- a transfer ended, or none
+abbrev pub words_with : Option Transfer → Ended → List Transfer
+words_with None e = e.words
+words_with (Some transfer) e = if e.keeps_words then e.words ++ (transfer ∷ []) else e.words
+
+abbrev pub count_with : Option Transfer → Ended → ℕ
+count_with None e = e.count
+count_with (Some transfer) e = e.count + 1
+
+abbrev pub with_transfer : Option Transfer → Ended → Ended
+with_transfer transfer e = record e { words = words_with transfer e; count = count_with transfer e }
+
+-- none ended yet
+abbrev pub none_ended : Room → Ended
+none_ended room = record { keeps_words = room.words; until = room.until; words = []; count = 0 }
+
+-- the transfers are taken out, and none is kept from then on
+abbrev pub without_words : Ended → Ended
+without_words e = record e { keeps_words = false; words = [] }
