@@ -11,16 +11,16 @@ use Rattle.std.proofs.lemmas.List.Elements.{All-filter, filter_passes}
 use Rattle.link_node.specs.declared.signal.Incoming.{Incoming}
 use Rattle.link_node.specs.declared.signal.Signal.{Signal}
 use Rattle.link_order.specs.Cut.{hop_of, Cut, plain_cut, count, clock_at, was_at, hop, live, is_live, is_awaited}
-use Rattle.link_order.specs.Cut.{HasDelays, IsSound}
-use Rattle.link_order.specs.Cut.{IsSoundSignal, IsCable}
-use Rattle.link_order.specs.GlobalOrder.{least, least_below, step, due_at, with_signal, run, cycles_left}
+use Rattle.link_order.specs.Cut.{IsSound}
+use Rattle.link_order.specs.Cut.{IsSoundSignal}
+use Rattle.link_order.specs.GlobalOrder.{least, least_below, step, due_at, with_signal, run}
 use Rattle.link_order.proofs.Numbers.{least_is_player, least_is_least}
-use Rattle.link_order.proofs.Runs.{falls, run_unrolls, run_ends}
-use Rattle.link_order.proofs.LiveRuns.{run_live, live_whole}
+use Rattle.link_order.proofs.Runs.{run_ends}
+use Rattle.link_order.proofs.LiveRuns.{live_whole}
 use Rattle.std.specs.Prelude.{nat_lt}
-use Rattle.std.proofs.lemmas.Bool.{lt-ltb, cases_Bool}
+use Rattle.std.proofs.lemmas.Bool.{cases_Bool}
 use Rattle.std.proofs.lemmas.Bool.Decides.{nat_tests}
-use Rattle.link_order.proofs.Hops.{delays_same, cable_same}
+use Rattle.link_order.proofs.Hops.{cable_same}
 use Rattle.link_order.proofs.Stepping.{console_at, is_stepped}
 use Rattle.link_order.proofs.Sound.{sound_live, sound_step, joined_all}
 use Rattle.link_order.proofs.Lists.{all_map, all_cons, all_head, all_tail}
@@ -205,23 +205,6 @@ due_may_go {C = C} kind plain cut i signals sent_room due_room kept least_is is 
       subst (All (IsDue (was_at kind p i) (clock_at kind p i))) (sym is)
           (due_is_due (hop p) (λ j. from j p.sent) i (was_at kind p i) (clock_at kind p i) (count p)
           kept.cable.at_most_four (λ j below apart. kept.cable.some_delay j i below own apart)),
-    )
-
--- one more step of the global order leaves the same end, and fewer cycles
-pub stepped_run : {C : Type 0} (kind : NodeKind C) → IsLawful kind → (p q : Cut C) (until : ℕ) → IsCable p
-    → IsSound kind p
-    → clock_at kind p (least kind p) < until → q ≡ live kind (step kind p)
-    → (live kind (run kind q until) ≡ live kind (run kind p until)) × (cycles_left kind q until < cycles_left kind p until)
-stepped_run {C = C} kind law p q until cable sound early is =
-    let goes = lt-ltb (clock_at kind p (least kind p)) until early in
-    let f = falls kind law p until cable.some_console goes in
-    let some : 0 < count (step kind p) = subst (λ (n : ℕ). 0 < n) (sym f.count_is) cable.some_console in
-    let later : HasDelays (step kind p) = delays_same (step kind p) p f.count_is f.delay_is cable.some_delay in (
-      ap (λ (d : Cut C). live kind (run kind d until)) is
-          ∙ run_live kind law (step kind p) until some later
-          (sound_step kind law p cable.some_console cable.some_delay sound)
-          ∙ ap (live kind) (sym (run_unrolls kind law p until cable.some_console goes)),
-      subst (λ (d : Cut C). cycles_left kind d until < cycles_left kind p until) (sym is) f.fewer,
     )
 
 -- where the least clock has come to the end, all have, and the run is over

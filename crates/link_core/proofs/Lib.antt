@@ -1,3 +1,4 @@
 pub mod Readings
 pub mod Keeping
 pub mod Leaves
+pub mod Bursts

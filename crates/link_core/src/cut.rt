@@ -7,9 +7,11 @@ ghost use Rattle.link_node.specs.Due.{IsDue, InOrder};
 ghost use Rattle.link_order.specs.NodeKind.{kind_of};
 ghost use Rattle.link_order.specs.Order.{IsOrdered};
 ghost use Rattle.link_order.specs.Cut.{plain_cut, opening, live, count, clock_at, IsSound, IsCable};
-ghost use Rattle.link_order.specs.GlobalOrder.{least, least_below, with_signal, step, run};
+ghost use Rattle.link_order.specs.GlobalOrder.{least, with_signal, step, run, cycles_left};
 ghost use Rattle.link_core.specs.Kept.{IsDelay, Flight, cut_of, AllLive, AllFit};
 
+use crate::burst::{horizon_of, take_turns};
+use crate::nodes::{clock_of, least_of, turn_of};
 use crate::shell::Shell;
 use crate::signals::{drop_dead, gather, put_sent, was_of};
 use link_node::{Incoming, Node, Signal};
@@ -48,46 +50,6 @@ impl<N: Node> Model for Cut<N> {
 #[derive(Drop)]
 pub struct CutRefused<N: Node> {
     pub nodes: Vec<N>,
-}
-
-/// The clock of a node.
-fn clock_of<N: Node>(nodes: &[N], i: usize) -> u64
-    requires { i < length nodes.now }
-    ensures { result ≡ slice_index (map N.clock (map N.plain nodes.now)) i }
-{
-    nodes[i].clock()
-}
-
-/// The node with the least clock, at a tie the first one.
-fn least_of<N: Node>(nodes: &[N]) -> usize
-    requires { 0 < length nodes.now }
-    ensures value { result ≡ least_below (slice_index (map N.clock (map N.plain nodes.now))) (length nodes.now) }
-    ensures player { result < length nodes.now }
-{
-    let mut least = 0;
-    for i in 0..nodes.len() {
-        if clock_of(nodes, i) < clock_of(nodes, least) {
-            least = i;
-        }
-    }
-    least
-}
-
-/// One step of a node, with what is due to it.
-fn turn_of<N: Node>(nodes: &mut Vec<N>, i: usize, due: &[Incoming]) -> Option<Signal>
-    requires player { i < vec_len nodes.old }
-    requires below { slice_index (map N.clock (map N.plain nodes.old.items)) i
-        < slice_index (map N.bound nodes.old.items) i }
-    requires ordered { InOrder due.now }
-    requires taken { All (IsDue (slice_index (map N.was (map N.plain nodes.old.items)) i)
-        (slice_index (map N.clock (map N.plain nodes.old.items)) i)) due.now }
-    ensures node { (x : N.Record) → slice_get (map N.plain nodes.old.items) i ≡ Some x →
-        map N.plain nodes.new.items ≡ slice_set (map N.plain nodes.old.items) i (N.next x due.now).0 }
-    ensures signal { (x : N.Record) → slice_get (map N.plain nodes.old.items) i ≡ Some x →
-        result ≡ (N.next x due.now).1 }
-    ensures limits { map N.bound nodes.new.items ≡ map N.bound nodes.old.items }
-{
-    nodes[i].turn(due)
 }
 
 /// Puts the signal of a player's step, if there is one, among the others.
@@ -231,6 +193,34 @@ impl<N: Node> Cut<N> {
         clock_of(&self.nodes, least_of(&self.nodes))
     }
 
+    /// Steps of the node with the least clock, as far as the others let it go before they step, or till it tells
+    /// something. The global order goes on to the same end.
+    fn burst(&mut self, until: u64)
+        requires limits { All (λ node. until ≤ N.bound node) self.old.consoles }
+        requires early { clock_at (kind_of N.clock N.was N.next) (plain_cut N.plain self.old)
+            (least (kind_of N.clock N.was N.next) (plain_cut N.plain self.old)) < until }
+        ensures same_end { live (kind_of N.clock N.was N.next)
+            (run (kind_of N.clock N.was N.next) (plain_cut N.plain self.new) until)
+            ≡ live (kind_of N.clock N.was N.next)
+            (run (kind_of N.clock N.was N.next) (plain_cut N.plain self.old) until) }
+        ensures fewer { cycles_left (kind_of N.clock N.was N.next) (plain_cut N.plain self.new) until
+            < cycles_left (kind_of N.clock N.was N.next) (plain_cut N.plain self.old) until }
+        ensures limits { map N.bound self.new.consoles ≡ map N.bound self.old.consoles }
+    {
+        let i = least_of(&self.nodes);
+        let end = horizon_of(&self.nodes, i, self.delay, until);
+        let signal = take_turns(
+            &mut self.nodes,
+            i,
+            end,
+            &self.sent,
+            self.delay,
+            &mut self.due,
+        );
+        join_signal(&mut self.sent, i as u32, signal);
+        drop_dead(&mut self.sent, &self.nodes, self.delay);
+    }
+
     /// Steps in the global order until every clock is at least `until`.
     pub fn run_serial(&mut self, until: u64)
         requires { All (λ node. until ≤ N.bound node) self.old.consoles }
@@ -242,7 +232,7 @@ impl<N: Node> Cut<N> {
         ensures limits { map N.bound self.new.consoles ≡ map N.bound self.old.consoles }
     {
         while self.least_clock() < until {
-            self.serial_step();
+            self.burst(until);
         }
     }
 }

@@ -4,8 +4,10 @@
 //!
 //! The definitions are those of `link_order`, and the laws those of `link_laws`, which is here the module `laws`.
 
+mod burst;
 mod cut;
 mod horizon;
+mod nodes;
 mod shell;
 mod signals;
 

@@ -88,6 +88,7 @@ impl<N: Node> Shared<N> {
         requires { MayMeet self.now seats.items }
         ensures table { result.table ≡ self.now }
         ensures seats { AreMet seats.items result }
+        ensures wide { length result.fetched ≡ 16 }
         ensures met { (key : Key N) → result.key ≡ key ∷ [] →
             Met (script_of (kind_of N.clock N.was N.next) N.plain key) result.made }
     {

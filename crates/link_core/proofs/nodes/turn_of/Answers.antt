@@ -4,7 +4,7 @@ use Rattle.std.proofs.lemmas.List.{map-set}
 use Rattle.std.proofs.Math.Seq.{map-set_same}
 use Rattle.link_node.specs.Due.{IsDue}
 use Rattle.link_core.proofs.Readings.{read-node, read-record, read-bound}
-use Rattle.link_core.proofs.cut.turn_of.Goals as goal
+use Rattle.link_core.proofs.nodes.turn_of.Goals as goal
 
 pub turn-requires-clause-below : goal.turn-requires-clause-below
 turn-requires-clause-below g c =

@@ -1,6 +1,6 @@
 use Rattle.std.proofs.Common.{sym, ap, ◌∙◌}
 use Rattle.link_core.proofs.Readings.{read-node}
-use Rattle.link_core.proofs.cut.clock_of.Goals as goal
+use Rattle.link_core.proofs.nodes.clock_of.Goals as goal
 
 pub returns : goal.returns
 returns g c =

@@ -1,7 +1,7 @@
 use Rattle.std.proofs.Common.{◌≡◌, ◌<◌}
 use Rattle.std.specs.Prelude.{map, slice_index, length}
 use Rattle.link_order.specs.GlobalOrder.{least_below}
-use Rattle.link_core.proofs.cut.least_of.Given as goal
+use Rattle.link_core.proofs.nodes.least_of.Given as goal
 
 abbrev pub invariant-loop-i : goal.invariant-loop-i
 invariant-loop-i g l = record {

@@ -1,0 +1,35 @@
+use Rattle.std.specs.Prelude.{ℕ, ◌≡◌, ◌≢◌, ◌+◌, ◌<◌, ◌≤◌, List, [], Option, None, slice_set}
+use Rattle.link_node.specs.declared.signal.Signal.{Signal}
+use Rattle.link_order.specs.declared.sent.Sent.{Sent}
+use Rattle.link_order.specs.NodeKind.{NodeKind}
+use Rattle.link_order.specs.Cut.{Cut, clock_at}
+use Rattle.link_order.specs.GlobalOrder.{step_of}
+
+-- this project's profile: steps of one console in a row
+
+-- a signal of a peer that arrives after the clock `was` arrives at `end` or later
+abbrev pub ArrivesFrom : (ℕ → ℕ → ℕ) → ℕ → ℕ → ℕ → Sent → Type 0
+ArrivesFrom between player was end one =
+    one.sender ≢ player → was < one.signal.clock + between one.sender player
+    → end ≤ one.signal.clock + between one.sender player
+
+-- a console has come from x to here by steps that began below `end` and took nothing, and only the last has told
+-- something
+pub data StepsAlone {C : Type 0} (kind : NodeKind C) (end : ℕ) (x : C) : C → Option Signal → Type 0 where
+  Stays : StepsAlone kind end x x None
+  Steps : (y : C) → StepsAlone kind end x y None → kind.clock y < end
+      → StepsAlone kind end x (kind.next y []).0 (kind.next y []).1
+
+-- the same of console i among others, of which it is the only one that steps
+pub record Idles {C : Type 0} (kind : NodeKind C) (end i : ℕ) (x : C) (old new : List C) (told : Option Signal) : Type 0
+  where
+    pub y : C
+    pub alone : StepsAlone kind end x y told
+    pub placed : new ≡ slice_set old i y
+    pub rises : kind.clock x < end → kind.clock x < kind.clock y
+
+-- a cut has come to another one by steps of player i's console that began below `end`
+pub data GoesAlone {C : Type 0} (kind : NodeKind C) (i end : ℕ) (cut : Cut C) : Cut C → Type 0 where
+  Stands : GoesAlone kind i end cut cut
+  Goes : (d : Cut C) → GoesAlone kind i end cut d → clock_at kind d i < end
+      → GoesAlone kind i end cut (step_of kind d i)

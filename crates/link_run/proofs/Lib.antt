@@ -1,0 +1,9 @@
+pub mod Addings
+pub mod Rests
+pub mod Openings
+pub mod Closings
+pub mod Members
+pub mod Wholes
+pub mod Finishings
+pub mod Beginnings
+pub mod Roundings

@@ -1,0 +1,152 @@
+//! Lanes side by side.
+
+ghost use Rattle.std.specs.Prelude.{◌≤◌, length, All};
+ghost use Rattle.link_order.specs.NodeKind.{kind_of};
+ghost use Rattle.link_run.specs.Going.{MayGo, Went, AllWent};
+
+use gba_store::Gate;
+use link_lane::Lane;
+use link_node::Node;
+use link_table::Shared;
+use std::thread;
+use std::thread::{Threads, join_mut};
+
+/// How often a lane looks at its peers before it lets other threads go first.
+const POLLS: u32 = 16;
+
+/// How often it does so in one pause.
+const ATTEMPTS: u32 = 256;
+
+/// What all lanes of a round share.
+#[derive(Drop)]
+pub(crate) struct Work<'a, R, N: Node, G> {
+    pub rt: &'a R,
+    pub shared: &'a Shared<N>,
+    pub gate: &'a G,
+    pub until: u64,
+}
+
+/// Lets a lane advance to the end, or till it has waited for one peer for 4,096 polls.
+fn go<R, N: Node, G: Gate>(work: &Work<R, N, G>, lane: &mut Lane<N>)
+    requires { MayGo work.now.shared.now work.now.until lane.old }
+    ensures { Went (kind_of N.clock N.was N.next) N.plain N.bound work.now.until lane.old lane.new }
+{
+    lane.advance(work.shared, work.gate, work.until, POLLS);
+    let mut clock = lane.clock();
+    let mut left = ATTEMPTS;
+    while left > 1 && clock < work.until {
+        thread::yield_now();
+        lane.advance(work.shared, work.gate, work.until, POLLS);
+        let now = lane.clock();
+        left = if now > clock { ATTEMPTS } else { left - 1 };
+        clock = clock.max(now);
+    }
+}
+
+/// Two lanes side by side.
+fn two<R: Threads + Sync, N: Node + Send + Sync, G: Gate + Sync>(
+    work: &Work<R, N, G>,
+    a: &mut Lane<N>,
+    b: &mut Lane<N>,
+)
+    requires first { MayGo work.now.shared.now work.now.until a.old }
+    requires second { MayGo work.now.shared.now work.now.until b.old }
+    ensures first { Went (kind_of N.clock N.was N.next) N.plain N.bound work.now.until a.old a.new }
+    ensures second { Went (kind_of N.clock N.was N.next) N.plain N.bound work.now.until b.old b.new }
+{
+    join_mut(
+        work.rt,
+        &mut ||
+            requires { MayGo work.now.shared.now work.now.until a.now }
+        { go(work, a) },
+        &mut ||
+            requires { MayGo work.now.shared.now work.now.until b.now }
+        { go(work, b) },
+    );
+}
+
+/// Three lanes side by side.
+fn three<R: Threads + Sync, N: Node + Send + Sync, G: Gate + Sync>(
+    work: &Work<R, N, G>,
+    a: &mut Lane<N>,
+    b: &mut Lane<N>,
+    c: &mut Lane<N>,
+)
+    requires first { MayGo work.now.shared.now work.now.until a.old }
+    requires second { MayGo work.now.shared.now work.now.until b.old }
+    requires third { MayGo work.now.shared.now work.now.until c.old }
+    ensures first { Went (kind_of N.clock N.was N.next) N.plain N.bound work.now.until a.old a.new }
+    ensures second { Went (kind_of N.clock N.was N.next) N.plain N.bound work.now.until b.old b.new }
+    ensures third { Went (kind_of N.clock N.was N.next) N.plain N.bound work.now.until c.old c.new }
+{
+    join_mut(
+        work.rt,
+        &mut ||
+            requires first { MayGo work.now.shared.now work.now.until a.now }
+            requires second { MayGo work.now.shared.now work.now.until b.now }
+        { two(work, a, b) },
+        &mut ||
+            requires { MayGo work.now.shared.now work.now.until c.now }
+        { go(work, c) },
+    );
+}
+
+/// Four lanes side by side.
+fn four<R: Threads + Sync, N: Node + Send + Sync, G: Gate + Sync>(
+    work: &Work<R, N, G>,
+    a: &mut Lane<N>,
+    b: &mut Lane<N>,
+    c: &mut Lane<N>,
+    d: &mut Lane<N>,
+)
+    requires first { MayGo work.now.shared.now work.now.until a.old }
+    requires second { MayGo work.now.shared.now work.now.until b.old }
+    requires third { MayGo work.now.shared.now work.now.until c.old }
+    requires fourth { MayGo work.now.shared.now work.now.until d.old }
+    ensures first { Went (kind_of N.clock N.was N.next) N.plain N.bound work.now.until a.old a.new }
+    ensures second { Went (kind_of N.clock N.was N.next) N.plain N.bound work.now.until b.old b.new }
+    ensures third { Went (kind_of N.clock N.was N.next) N.plain N.bound work.now.until c.old c.new }
+    ensures fourth { Went (kind_of N.clock N.was N.next) N.plain N.bound work.now.until d.old d.new }
+{
+    join_mut(
+        work.rt,
+        &mut ||
+            requires first { MayGo work.now.shared.now work.now.until a.now }
+            requires second { MayGo work.now.shared.now work.now.until b.now }
+        { two(work, a, b) },
+        &mut ||
+            requires first { MayGo work.now.shared.now work.now.until c.now }
+            requires second { MayGo work.now.shared.now work.now.until d.now }
+        { two(work, c, d) },
+    );
+}
+
+/// Lets up to four lanes advance side by side.
+pub(crate) fn advance_all<R: Threads + Sync, N: Node + Send + Sync, G: Gate + Sync>(
+    work: &Work<R, N, G>,
+    lanes: &mut [Lane<N>],
+)
+    requires few { length lanes.old ≤ 4 }
+    requires may_go { All (MayGo work.now.shared.now work.now.until) lanes.old }
+    ensures { AllWent (kind_of N.clock N.was N.next) N.plain N.bound work.now.until lanes.old lanes.new }
+{
+    match lanes.len() {
+        0 => {}
+        1 => go(work, &mut lanes[0]),
+        2 => {
+            let (a, b) = lanes.split_at_mut(1);
+            two(work, &mut a[0], &mut b[0]);
+        }
+        3 => {
+            let (a, rest) = lanes.split_at_mut(1);
+            let (b, c) = rest.split_at_mut(1);
+            three(work, &mut a[0], &mut b[0], &mut c[0]);
+        }
+        _ => {
+            let (front, back) = lanes.split_at_mut(2);
+            let (a, b) = front.split_at_mut(1);
+            let (c, d) = back.split_at_mut(1);
+            four(work, &mut a[0], &mut b[0], &mut c[0], &mut d[0]);
+        }
+    }
+}
