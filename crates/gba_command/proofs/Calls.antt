@@ -1,8 +1,9 @@
 -- Calls of a sink, one after another.
-use Rattle.std.proofs.Common.{◌≡◌, ℕ, suc, ◌+◌, ◌<◌, ◌≤◌, List, [], ◌∷◌, ◌++◌, length, drop, get_or, map, refl, sym, ap, ◌∙◌, subst, inl, inr, add-one, drop-cons}
+use Rattle.std.proofs.Common.{◌≡◌, ℕ, suc, ◌+◌, ◌<◌, ◌≤◌, List, [], ◌∷◌, ◌++◌, length, drop, get_or, map, refl, sym, ap, ◌∙◌, subst, inl, inr, Result, add-one, drop-cons}
 use Rattle.std.proofs.Math.ListN.{drop_of_length-le}
 use Rattle.gba_command.specs.declared.writing.WriteStop.{WriteStop}
 use Rattle.gba_command.specs.declared.writing.WriteStop.TheVariants as writing
+use Rattle.gba_command.specs.Cause.{Cause}
 use Rattle.gba_command.specs.Answer.{Closes, Reported, end_status, end_report}
 use Rattle.gba_command.specs.Views.{write_stop_value}
 use Rattle.gba_command.specs.Writing.{Call, SinkState, WriteEnd, Wrote, SinkFails, SinkLacks, IsStopped, Performs, PerformsAll}
@@ -59,10 +60,11 @@ stopped (writing.Fault name) = tt
 stopped writing.NoMemory = tt
 
 -- a stop and its report close a run
-pub closes-stop : (Tells : Type 0) (status : ℕ) (stop : WriteStop) (old new : SinkState) → status ≡ end_status (write_stop_value stop)
-    → Reported Tells (end_report (write_stop_value stop)) old new → Closes Tells status (write_stop_value stop) old new
-closes-stop Tells status (writing.Fault name) old new is reported = (is, reported)
-closes-stop Tells status writing.NoMemory old new is reported = (is, reported)
+pub closes-stop : (Tells : Type 0) (status : ℕ) (conclusion : Result (List ℕ) Cause) (stop : WriteStop) (old new : SinkState)
+    → status ≡ end_status (write_stop_value stop) → Reported Tells (end_report (write_stop_value stop)) old new
+    → Closes Tells status conclusion (write_stop_value stop) old new
+closes-stop Tells status conclusion (writing.Fault name) old new is reported = (is, reported)
+closes-stop Tells status conclusion writing.NoMemory old new is reported = (is, reported)
 
 -- one call alone
 pub performs-one : (Tells : Type 0) (call : Call) (old new : SinkState) (end : WriteEnd)

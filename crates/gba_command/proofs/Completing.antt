@@ -2,8 +2,9 @@
 use Rattle.std.proofs.Common.{◌≡◌, ◌⊎◌, ℕ, List, [], ◌∷◌, Option, Result, Ok, Err, sym, subst, inl, inr}
 use Rattle.gba_store.specs.Files.{Files, Rose}
 use Rattle.gba_store.specs.declared.outside.ReadError.{ReadError}
-use Rattle.gba_command.specs.Answer.{Answers, Closes, Completes, Finishes, Refuses}
-use Rattle.gba_command.specs.Cause.{Stop, Refused, Absent, StoreFails, LacksMemory, stop_report}
+use Rattle.gba_command.specs.Law.{status_after}
+use Rattle.gba_command.specs.Answer.{Answers, Closes, Concludes, Completes, Finishes, Refuses}
+use Rattle.gba_command.specs.Cause.{Cause, Stop, Refused, Absent, StoreFails, LacksMemory, stop_report}
 use Rattle.gba_command.specs.Plan.{Plan, outcome}
 use Rattle.gba_command.specs.Reading.{Gives, GoesTo}
 use Rattle.gba_command.specs.Writing.{Call, Run, SinkState, NoneFell, WriteEnd, Wrote, SinkFails, SinkLacks, calls_of, Performs, PerformsAll}
@@ -30,17 +31,22 @@ lacks-rose Tells (call ∷ calls) old new (inl h) = h.0.1
 lacks-rose Tells (call ∷ calls) old new (inr h) =
     Rose-earlier old.wants h.0.wants new.wants h.1.0.wants (lacks-rose Tells calls h.0 new h.2)
 
+concluded : (Tells : Type 0) (status : ℕ) (conclusion : Result (List ℕ) Cause) (old new : SinkState)
+    → Concludes Tells status conclusion old new → status ≡ status_after conclusion
+concluded Tells status (Ok summary) old new h = h.0
+concluded Tells status (Err cause) old new h = h.0
+
 closed : (Tells : Type 0) (status : ℕ) (run : Run) (old mid new : SinkState) (end : WriteEnd) → PerformsAll Tells (calls_of run) old mid end
-    → Closes Tells status end mid new
-    → (status ≡ 0) ⊎ ((status ≡ 9) × Rose old.faults new.faults) ⊎ ((status ≡ 10) × Rose old.wants new.wants)
-closed Tells status run old mid new Wrote h k = inl k.0
+    → Closes Tells status run.end end mid new
+    → (status ≡ status_after run.end) ⊎ ((status ≡ 9) × Rose old.faults new.faults) ⊎ ((status ≡ 10) × Rose old.wants new.wants)
+closed Tells status run old mid new Wrote h k = inl (concluded Tells status run.end mid new k)
 closed Tells status run old mid new (SinkFails name) h k =
     inr (inl (k.0, Rose-later old.faults mid.faults new.faults (none-fell Tells _ mid new k.1.0 k.1.1).faults (fails-rose Tells (calls_of run) old mid name h)))
 closed Tells status run old mid new SinkLacks h k =
     inr (inr (k.0, Rose-later old.wants mid.wants new.wants (none-fell Tells _ mid new k.1.0 k.1.1).wants (lacks-rose Tells (calls_of run) old mid h)))
 
 pub run-closed : (Tells : Type 0) (status : ℕ) (run : Run) (old new : SinkState) → Finishes Tells status run old new
-    → (status ≡ 0) ⊎ ((status ≡ 9) × Rose old.faults new.faults) ⊎ ((status ≡ 10) × Rose old.wants new.wants)
+    → (status ≡ status_after run.end) ⊎ ((status ≡ 9) × Rose old.faults new.faults) ⊎ ((status ≡ 10) × Rose old.wants new.wants)
 run-closed Tells status run old new h = closed Tells status run old h.0 new h.1 h.2 h.3
 
 lacking : (Tells : Type 0) (status : ℕ) (o : Result Run Stop) (old new : SinkState) → Refuses Tells status 10 (stop_report LacksMemory) old new
@@ -52,9 +58,8 @@ lacking Tells status (Err (StoreFails name)) old new h = h
 lacking Tells status (Err LacksMemory) old new h = h
 
 completed : (Tells : Type 0) (status : ℕ) (run : Run) (old mid new : SinkState) (end : WriteEnd) → PerformsAll Tells (calls_of run) old mid end
-    → Closes Tells status end mid new → (Rose old.faults new.faults → ⊥) → Completes Tells status (Ok run) old new
-completed Tells status run old mid new Wrote h k unrisen =
-    inl (inl (subst (λ (s : SinkState). PerformsAll Tells (calls_of run) old s Wrote) (sym k.1) h, k.0))
+    → Closes Tells status run.end end mid new → (Rose old.faults new.faults → ⊥) → Completes Tells status (Ok run) old new
+completed Tells status run old mid new Wrote h k unrisen = inl (inl (mid, h, k))
 completed Tells status run old mid new (SinkFails name) h k unrisen =
     absurd (unrisen (Rose-later old.faults mid.faults new.faults (none-fell Tells _ mid new k.1.0 k.1.1).faults (fails-rose Tells (calls_of run) old mid name h)))
 completed Tells status run old mid new SinkLacks h k unrisen = inl (inr (mid, h, k))

@@ -5,3 +5,5 @@ pub mod Ends
 pub mod Once
 pub mod Completing
 pub mod KindNames
+pub mod Each
+pub mod Comes

@@ -1,5 +1,5 @@
 use Rattle.std.specs.Prelude.{◌≡◌, ◌⊎◌, ℕ, List, [], ◌++◌, codes, Result, Ok, Err}
-use Rattle.gba_command.specs.Cause.{Stop, Refused, Absent, StoreFails, LacksMemory, stop_status, stop_report}
+use Rattle.gba_command.specs.Cause.{Cause, Stop, Refused, Absent, StoreFails, LacksMemory, report_of, status_of, stop_status, stop_report}
 use Rattle.gba_command.specs.Writing.{Run, SinkState, WriteEnd, Wrote, SinkFails, SinkLacks, calls_of, line_call, Performs, PerformsAll}
 
 -- a line was reported: one append to standard output, whether or not it was done
@@ -24,16 +24,21 @@ module _ (Tells : Type 0) (status : ℕ) where
   abbrev pub Refuses : ℕ → List ℕ → SinkState → SinkState → Type 0
   Refuses number line old new = (status ≡ number) × Reported Tells line old new
 
-  -- after the calls of a run, which left the sink so: 0, or the report of why they stopped
-  abbrev pub Closes : WriteEnd → SinkState → SinkState → Type 0
-  Closes Wrote old new = (status ≡ 0) × (new ≡ old)
-  Closes (SinkFails name) old new = Refuses 9 (end_report (SinkFails name)) old new
-  Closes SinkLacks old new = Refuses 10 (end_report SinkLacks) old new
+  -- after all calls of a run, which left the sink so: 0, or the refusal that the run ends with
+  abbrev pub Concludes : Result (List ℕ) Cause → SinkState → SinkState → Type 0
+  Concludes (Ok summary) old new = (status ≡ 0) × (new ≡ old)
+  Concludes (Err cause) old new = Refuses (status_of cause) (report_of cause) old new
+
+  -- the same, or the report of why the calls stopped
+  abbrev pub Closes : Result (List ℕ) Cause → WriteEnd → SinkState → SinkState → Type 0
+  Closes conclusion Wrote old new = Concludes conclusion old new
+  Closes conclusion (SinkFails name) old new = Refuses 9 (end_report (SinkFails name)) old new
+  Closes conclusion SinkLacks old new = Refuses 10 (end_report SinkLacks) old new
 
   -- the calls of a run, and how they ended
   abbrev pub Finishes : Run → SinkState → SinkState → Type 0
   Finishes run old new =
-      (mid : SinkState) × (end : WriteEnd) × PerformsAll Tells (calls_of run) old mid end × Closes end mid new
+      (mid : SinkState) × (end : WriteEnd) × PerformsAll Tells (calls_of run) old mid end × Closes run.end end mid new
 
   -- refused before anything was written, or the run is written
   abbrev pub Answers : Result Run Stop → SinkState → SinkState → Type 0
@@ -43,7 +48,7 @@ module _ (Tells : Type 0) (status : ℕ) where
   -- the run is written whole, or memory was wanting in a call of the sink
   abbrev pub Completed : Run → SinkState → SinkState → Type 0
   Completed run old new =
-      (PerformsAll Tells (calls_of run) old new Wrote × (status ≡ 0))
+      ((mid : SinkState) × PerformsAll Tells (calls_of run) old mid Wrote × Concludes run.end mid new)
       ⊎ ((mid : SinkState) × PerformsAll Tells (calls_of run) old mid SinkLacks
       × Refuses 10 (stop_report LacksMemory) mid new)
 

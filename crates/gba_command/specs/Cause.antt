@@ -1,4 +1,5 @@
 use Rattle.std.specs.Prelude.{ℕ, List, ◌++◌, codes, decimal}
+use Rattle.hex.specs.Hex.{encode_lower}
 use Rattle.gba_image.specs.Names.{error_name}
 use Rattle.gba_image.specs.declared.error.ImageError.{ImageError}
 use Rattle.gba_joblog.specs.Kinds.{kind_name}
@@ -12,11 +13,14 @@ pub data Cause : Type 0 where
   Job : List ℕ → JobError → Cause
   -- the image of this name is refused, and why
   Image : List ℕ → ImageError → Cause
+  -- the digest that the job states of the file of this name, and that of the file, which is another
+  Digest : List ℕ → List ℕ → List ℕ → Cause
 
 abbrev pub status_of : Cause → ℕ
 status_of Words = 2
 status_of (Job name error) = 5
 status_of (Image name error) = 6
+status_of (Digest name stated got) = 7
 
 -- the line that is reported on standard output
 abbrev pub report_of : Cause → List ℕ
@@ -24,6 +28,9 @@ report_of Words = codes "words\n"
 report_of (Image name error) = codes "image " ++ name ++ codes " " ++ error_name error ++ codes "\n"
 report_of (Job name error) =
     codes "job " ++ name ++ codes " line " ++ decimal error.line ++ codes " " ++ kind_name error.kind ++ codes "\n"
+report_of (Digest name stated got) =
+    codes "digest " ++ name ++ codes " stated " ++ encode_lower stated ++ codes " got " ++ encode_lower got
+    ++ codes "\n"
 
 -- why a command stops before anything is written: refused for a cause, the named file isn't there, the store failed in
 -- the read of the named file, or memory was wanting

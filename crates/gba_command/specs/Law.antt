@@ -5,7 +5,7 @@ use Rattle.gba_store.specs.Files.{Files, Rose}
 use Rattle.gba_store.specs.Memory.{Memory, content_in}
 use Rattle.gba_store.specs.declared.outside.ReadError.{ReadError}
 use Rattle.gba_command.specs.Answer.{Answers}
-use Rattle.gba_command.specs.Cause.{Stop, Refused, Absent, StoreFails, LacksMemory}
+use Rattle.gba_command.specs.Cause.{Cause, Stop, Refused, Absent, StoreFails, LacksMemory, status_of}
 use Rattle.gba_command.specs.Plan.{Plan, outcome}
 use Rattle.gba_command.specs.Reading.{Gives, GoesTo}
 use Rattle.gba_command.specs.Writing.{Run, SinkState}
@@ -56,8 +56,13 @@ EndsOnce =
     → GoesTo GivesInMemory plan old new end → GoesTo GivesInMemory plan old newer other
     → end ≢ Err LacksMemory → other ≢ Err LacksMemory → end ≡ other
 
+-- the status of a run that is written whole: 0, or that of the refusal with which it ends
+abbrev pub status_after : Result (List ℕ) Cause → ℕ
+status_after (Ok summary) = 0
+status_after (Err cause) = status_of cause
+
 -- A count of the sink rose where writing failed, or memory was wanting in it.
 abbrev pub CountsItsEnds : Type 0 → Type 0
 CountsItsEnds Tells =
     (status : ℕ) (run : Run) (old new : SinkState) → Answers Tells status (Ok run) old new
-    → (status ≡ 0) ⊎ ((status ≡ 9) × Rose old.faults new.faults) ⊎ ((status ≡ 10) × Rose old.wants new.wants)
+    → (status ≡ status_after run.end) ⊎ ((status ≡ 9) × Rose old.faults new.faults) ⊎ ((status ≡ 10) × Rose old.wants new.wants)

@@ -1,4 +1,4 @@
-use Rattle.std.specs.Prelude.{ℕ, List, length, nat_lt, Option, Some, None, Result, Ok, Err, if◌then◌else◌}
+use Rattle.std.specs.Prelude.{ℕ, List, [], ◌∷◌, ◌++◌, length, nat_lt, Option, Some, None, Result, Ok, Err, if◌then◌else◌}
 use Rattle.gba_store.specs.Files.{Files}
 use Rattle.gba_command.specs.Cause.{Cause, Stop, Refused, Absent}
 
@@ -36,3 +36,8 @@ unfoldable pub outcome : {X : Type 0} → Files → Plan X → Result X Stop
 outcome files (Done x) = Ok x
 outcome files (Refuse cause) = Err (Refused cause)
 outcome files (Read name most long next) = after_file name most long (λ bytes. outcome files (next bytes)) (files name)
+
+-- a plan for each of these, one after another; those before them came to `done`
+unfoldable pub each : {X Y : Type 0} → (X → Plan Y) → List Y → List X → Plan (List Y)
+each plan done [] = Done done
+each plan done (x ∷ xs) = bind (plan x) (λ y. each plan (done ++ y ∷ []) xs)

@@ -1,4 +1,5 @@
 use Rattle.std.specs.Prelude.{◌≡◌, ℕ, List, map, Result, Ok, Err, Vec, string_bytes}
+use Rattle.arrayvec.specs.ArrayVec.{ArrayVec}
 use Rattle.gba_command.specs.declared.cause.Cause.{Cause as CauseText}
 use Rattle.gba_command.specs.declared.cause.Cause.TheVariants as cause
 use Rattle.gba_command.specs.declared.refusal.Refusal.{Refusal}
@@ -7,7 +8,7 @@ use Rattle.gba_command.specs.declared.writing.WriteStop.{WriteStop}
 use Rattle.gba_command.specs.declared.writing.WriteStop.TheVariants as writing
 use Rattle.gba_command.specs.declared.outputs.OutputFile.{OutputFile}
 use Rattle.gba_command.specs.declared.outputs.Outputs.{Outputs}
-use Rattle.gba_command.specs.Cause.{Cause, Words, Job, Image, Stop, Refused, Absent, StoreFails, LacksMemory}
+use Rattle.gba_command.specs.Cause.{Cause, Words, Job, Image, Digest, Stop, Refused, Absent, StoreFails, LacksMemory}
 use Rattle.gba_command.specs.Writing.{Output, Run, WriteEnd, Wrote, SinkFails, SinkLacks}
 
 -- what the program's types stand for
@@ -16,6 +17,7 @@ abbrev pub cause_value : CauseText → Cause
 cause_value cause.Words = Words
 cause_value (cause.Job name error) = Job name.items error
 cause_value (cause.Image name error) = Image name.items error
+cause_value (cause.Digest name stated got) = Digest name.items stated got
 
 abbrev pub stop_value : Refusal → Stop
 stop_value (refusal.Refused of) = Refused (cause_value of)
@@ -42,8 +44,15 @@ bytes_value bytes = bytes.items
 abbrev pub output_value : OutputFile → Output
 output_value output = record { name = string_bytes output.name; bytes = output.bytes.items }
 
+abbrev pub conclusion_value : Result (ArrayVec ℕ) CauseText → Result (List ℕ) Cause
+conclusion_value (Ok summary) = Ok summary.items
+conclusion_value (Err cause) = Err (cause_value cause)
+
 abbrev pub run_value : Outputs → Run
-run_value outputs = record { outputs = map output_value outputs.files.items; summary = outputs.summary.items }
+run_value outputs = record {
+  outputs = map output_value outputs.files.items;
+  end = conclusion_value outputs.end;
+}
 
 abbrev pub write_stop_value : WriteStop → WriteEnd
 write_stop_value (writing.Fault name) = SinkFails name.items

@@ -1,4 +1,5 @@
-use Rattle.std.specs.Prelude.{◌≡◌, ◌⊎◌, ℕ, ◌≤◌, List, [], ◌∷◌, ◌++◌, map, codes}
+use Rattle.std.specs.Prelude.{◌≡◌, ◌⊎◌, ℕ, ◌≤◌, List, [], ◌∷◌, ◌++◌, map, codes, Result, Ok, Err}
+use Rattle.gba_command.specs.Cause.{Cause}
 use Rattle.gba_store.specs.Files.{Files, Rose, Created, Appended, CreateFailed, AppendFailed}
 
 -- a call of a sink: a file is made empty, or a piece is added at its end
@@ -11,10 +12,11 @@ pub record Output : Type 0 where
   pub name : List ℕ
   pub bytes : List ℕ
 
--- what a command that isn't refused writes: its files, and the summary on standard output
+-- What a command writes that isn't refused before: its files, and then the summary on standard output; or, where a digest
+-- that is stated of one of these files isn't its digest, the cause of the refusal, once all files are whole.
 pub record Run : Type 0 where
   pub outputs : List Output
-  pub summary : List ℕ
+  pub end : Result (List ℕ) Cause
 
 abbrev pub creation : Output → Call
 creation output = Create output.name
@@ -25,9 +27,17 @@ addition output = Append output.name output.bytes
 abbrev pub line_call : List ℕ → Call
 line_call line = Append (codes "-") line
 
--- the calls of a run, in order: every file is made empty, then the bytes of each are added, then the summary
+-- the calls of a run, in order: every file is made empty, then the bytes of each are added, then comes the summary, if the
+-- run ends with one
+abbrev pub file_calls : List Output → List Call
+file_calls outputs = map creation outputs ++ map addition outputs
+
+abbrev pub summary_calls : Result (List ℕ) Cause → List Call
+summary_calls (Ok summary) = line_call summary ∷ []
+summary_calls (Err cause) = []
+
 abbrev pub calls_of : Run → List Call
-calls_of run = map creation run.outputs ++ (map addition run.outputs ++ line_call run.summary ∷ [])
+calls_of run = file_calls run.outputs ++ summary_calls run.end
 
 -- what a contract sees of a sink: its files, and its counts of faults and of wants of memory
 pub record SinkState : Type 0 where

@@ -1,13 +1,30 @@
 //! What a command answers.
 
-ghost use Rattle.gba_command.specs.Answer.{Answers, Finishes};
-ghost use Rattle.gba_command.specs.Views.{end_of, run_value};
+ghost use Rattle.gba_command.specs.Answer.{Answers, Concludes, Finishes};
+ghost use Rattle.gba_command.specs.Views.{conclusion_value, end_of, run_value};
 ghost use Rattle.gba_command.specs.Writing.{sink_state};
 
+use crate::cause::Cause;
+use crate::line::Line;
 use crate::outputs::Outputs;
 use crate::refusal::Refusal;
 use crate::writing::{report, write_run};
 use gba_store::Sink;
+
+/// What a run that is written answers: 0, or the refusal with which it ends.
+fn conclude<O: Sink>(out: &mut O, end: &Result<Line, Cause>) -> u8
+    ensures { Concludes O.Tells result (conclusion_value end.now)
+        (sink_state (O.files out.old) (O.faults out.old) (O.wants out.old))
+        (sink_state (O.files out.new) (O.faults out.new) (O.wants out.new)) }
+{
+    match end {
+        Ok(_) => 0,
+        Err(cause) => {
+            report(out, &cause.report());
+            cause.status()
+        }
+    }
+}
 
 /// Writes a run and answers the exit status.
 fn finish<O: Sink>(out: &mut O, run: &Outputs) -> u8
@@ -16,7 +33,7 @@ fn finish<O: Sink>(out: &mut O, run: &Outputs) -> u8
         (sink_state (O.files out.new) (O.faults out.new) (O.wants out.new)) }
 {
     match write_run(out, run) {
-        Ok(()) => 0,
+        Ok(()) => conclude(out, &run.end),
         Err(stop) => {
             report(out, &stop.report());
             stop.status()

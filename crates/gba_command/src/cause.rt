@@ -1,13 +1,14 @@
 //! Why a command is refused, as its words and the files say.
 
 ghost use Rattle.std.specs.Prelude.{◌≡◌, ◌≤◌, ◌++◌, codes, decimal, length};
+ghost use Rattle.hex.specs.Hex.{encode_lower};
 ghost use Rattle.gba_image.specs.Names.{error_name};
 ghost use Rattle.gba_joblog.specs.Kinds.{kind_name};
 
 use crate::line::{Line, add_text, line_of};
 use crate::refusal::{Name, line_about};
 use gba_image::ImageError;
-use gba_joblog::{JobError, JobKind};
+use gba_joblog::{JobError, JobKind, digits_of};
 use itoa::Buffer;
 
 /// Why a command is refused, as its words and the files say. Each cause has a status and one line of report.
@@ -19,6 +20,12 @@ pub enum Cause {
     Job(Name, JobError),
     /// The image of this name is refused for this: 6.
     Image(Name, ImageError),
+    /// The digest that the job states of the file of this name, and that of the file, which is another: 7.
+    Digest {
+        name: Name,
+        stated: [u8; 32],
+        got: [u8; 32],
+    },
 }
 
 #[tactic(auto, using(crate::proofs::KindNames::kind_name_short))]
@@ -60,6 +67,19 @@ fn job_line(name: &Name, error: &JobError) -> Line
     line
 }
 
+fn digest_line(name: &Name, stated: &[u8; 32], got: &[u8; 32]) -> Line
+    ensures { result.items
+        ≡ codes "digest " ++ name.now.items ++ codes " stated " ++ encode_lower stated.now ++ codes " got "
+        ++ encode_lower got.now ++ codes "\n" }
+{
+    let mut line = line_about(b"digest ", name, b" stated ");
+    add_text(&mut line, &digits_of(stated));
+    add_text(&mut line, b" got ");
+    add_text(&mut line, &digits_of(got));
+    add_text(&mut line, b"\n");
+    line
+}
+
 impl Cause {
     ghost use Rattle.std.specs.Prelude.{◌≡◌};
     ghost use Rattle.gba_command.specs.Cause.{status_of, report_of};
@@ -73,6 +93,7 @@ impl Cause {
             Cause::Words => 2,
             Cause::Job(..) => 5,
             Cause::Image(..) => 6,
+            Cause::Digest { .. } => 7,
         }
     }
 
@@ -84,6 +105,7 @@ impl Cause {
             Cause::Words => line_of(b"words\n"),
             Cause::Job(name, error) => job_line(name, error),
             Cause::Image(name, error) => image_line(name, *error),
+            Cause::Digest { name, stated, got } => digest_line(name, stated, got),
         }
     }
 }

@@ -46,10 +46,28 @@ pub fn hex_offset(value: u32) -> [u8; 6]
     ]
 }
 
+/// The four digits of a halfword: the low 16 bits.
+pub fn hex_half(value: u32) -> [u8; 4]
+    ensures { result ≡ hex 4 value }
+{
+    [
+        hex_digit(bits(value, 12, 4)),
+        hex_digit(bits(value, 8, 4)),
+        hex_digit(bits(value, 4, 4)),
+        hex_digit(bits(value, 0, 4)),
+    ]
+}
+
+/// The two digits of the low byte.
+pub fn hex_low_byte(value: u32) -> [u8; 2]
+    ensures { result ≡ hex 2 value }
+{
+    [hex_digit(bits(value, 4, 4)), hex_digit(bits(value, 0, 4))]
+}
+
 /// The two digits of a byte.
 pub fn hex_byte(value: u8) -> [u8; 2]
     ensures { result ≡ hex 2 value }
 {
-    let value = u32::from(value);
-    [hex_digit(bits(value, 4, 4)), hex_digit(bits(value, 0, 4))]
+    hex_low_byte(u32::from(value))
 }

@@ -2,6 +2,7 @@
 
 ghost use Rattle.std.specs.Prelude.{◌≤◌, string_len};
 
+use crate::cause::Cause;
 use crate::line::Line;
 
 /// A file to be written: its name of at most 200 bytes, and its bytes.
@@ -12,9 +13,10 @@ pub struct OutputFile {
     pub ghost named: { string_len name ≤ 200 },
 }
 
-/// What a run writes: its files in their order, each of another name, and the summary on standard output.
+/// What a run writes: its files in their order, each of another name, and then the summary on standard output; or why it is
+/// refused once all its files are whole.
 #[derive(Drop)]
 pub struct Outputs {
     pub files: Vec<OutputFile>,
-    pub summary: Line,
+    pub end: Result<Line, Cause>,
 }

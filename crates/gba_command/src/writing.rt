@@ -2,9 +2,10 @@
 
 ghost use Rattle.std.specs.Prelude.{◌≡◌, ◌≤◌, length, map, codes};
 ghost use Rattle.gba_command.specs.Answer.{Reported};
-ghost use Rattle.gba_command.specs.Views.{output_value, run_value, write_end};
-ghost use Rattle.gba_command.specs.Writing.{Create, Append, Performs, PerformsAll, addition, calls_of, creation, sink_state};
+ghost use Rattle.gba_command.specs.Views.{conclusion_value, output_value, run_value, write_end};
+ghost use Rattle.gba_command.specs.Writing.{Create, Append, Performs, PerformsAll, addition, calls_of, creation, file_calls, sink_state, summary_calls};
 
+use crate::cause::Cause;
 use crate::line::{Line, line_of};
 use crate::outputs::{OutputFile, Outputs};
 use crate::refusal::{Name, line_about, name_in_report};
@@ -99,15 +100,36 @@ fn append_all<O: Sink>(out: &mut O, files: &[OutputFile]) -> Result<(), WriteSto
     Ok(())
 }
 
-/// Writes a run: its files are made empty, their bytes are added, and the summary goes to standard output.
+/// Makes all files empty, and then adds their bytes.
+fn write_files<O: Sink>(out: &mut O, files: &[OutputFile]) -> Result<(), WriteStop>
+    ensures { PerformsAll O.Tells (file_calls (map output_value files.now))
+        (sink_state (O.files out.old) (O.faults out.old) (O.wants out.old))
+        (sink_state (O.files out.new) (O.faults out.new) (O.wants out.new)) (write_end result) }
+{
+    create_all(out, files)?;
+    append_all(out, files)
+}
+
+/// The summary goes to standard output, if there is one.
+fn write_summary<O: Sink>(out: &mut O, end: &Result<Line, Cause>) -> Result<(), WriteStop>
+    ensures { PerformsAll O.Tells (summary_calls (conclusion_value end.now))
+        (sink_state (O.files out.old) (O.faults out.old) (O.wants out.old))
+        (sink_state (O.files out.new) (O.faults out.new) (O.wants out.new)) (write_end result) }
+{
+    match end {
+        Ok(summary) => append(out, "-", summary.as_slice()),
+        Err(_) => Ok(()),
+    }
+}
+
+/// Writes a run: its files, and the summary if it ends with one.
 pub(crate) fn write_run<O: Sink>(out: &mut O, run: &Outputs) -> Result<(), WriteStop>
     ensures { PerformsAll O.Tells (calls_of (run_value run.now))
         (sink_state (O.files out.old) (O.faults out.old) (O.wants out.old))
         (sink_state (O.files out.new) (O.faults out.new) (O.wants out.new)) (write_end result) }
 {
-    create_all(out, run.files.as_slice())?;
-    append_all(out, run.files.as_slice())?;
-    append(out, "-", run.summary.as_slice())
+    write_files(out, run.files.as_slice())?;
+    write_summary(out, &run.end)
 }
 
 /// Reports a line on standard output. Where that is refused, nothing more is done.

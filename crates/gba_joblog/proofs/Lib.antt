@@ -1,3 +1,4 @@
+pub mod Digests
 pub mod NameTexts
 pub mod Reading
 pub mod OutputNames
@@ -5,4 +6,9 @@ pub mod Relation
 pub mod Steps
 pub mod SoundChanges
 pub mod Sound
-pub mod Players
+pub mod Spelling
+pub mod SpelledValues
+pub mod LogLines
+pub mod LogParts
+pub mod LogLength
+pub mod LogAgain

@@ -1,5 +1,5 @@
 -- Names are text.
-use Rattle.std.proofs.Common.{◌≡◌, ℕ, ◌<◌, true, List, [], ◌∷◌, arith}
+use Rattle.std.proofs.Common.{◌≡◌, ℕ, ◌<◌, ◌≤◌, true, List, [], ◌∷◌, length, arith}
 use Rattle.std.specs.List.{list_all}
 use Rattle.std.specs.Str.{IsAscii}
 use Rattle.std.proofs.lemmas.Bool.Decides.{nat_tests}
@@ -19,3 +19,8 @@ IsAscii-from_name_bytes (b ∷ name) h =
 pub IsAscii-from_name : (name : List ℕ) → is_name name ≡ true → IsAscii name
 unfolding is_name
 IsAscii-from_name name h = IsAscii-from_name_bytes name (rest_of_all _ _ (first_of_all _ _ h))
+
+-- a name has at most 200 bytes
+pub name-short : (name : List ℕ) → is_name name ≡ true → length name ≤ 200
+unfolding is_name
+name-short name h = grind arith

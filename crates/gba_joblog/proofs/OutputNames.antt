@@ -1,10 +1,11 @@
 -- Names of outputs, piece by piece.
-use Rattle.std.proofs.Common.{◌≡◌, ℕ, ◌+◌, ◌<◌, Bool, true, false, cond, ◌&&◌, ◌||◌, List, [], ◌∷◌, ◌++◌, length, take, drop, map, get_or, nat_eq, ◌≤◌, Option, Some, None, refl, ap, sym, ◌∙◌, arith}
+use Rattle.std.proofs.Common.{◌≡◌, ℕ, ◌+◌, ◌<◌, Bool, true, false, cond, ◌&&◌, ◌||◌, List, [], ◌∷◌, ◌++◌, length, take, drop, map, get_or, nat_eq, ◌≤◌, Option, Some, None, refl, ap, sym, subst, ◌∙◌, arith}
+use Rattle.std.specs.List.{All}
 use Rattle.std.specs.Cmp.Lexicographic.{pointwise}
 use Rattle.std.specs.Prelude.{codes, decimal, option_and_then}
 use Rattle.std.specs.Str.{bytes_eq}
 use Rattle.std.proofs.Math.Bool.{and-false}
-use Rattle.std.proofs.lemmas.List.{drop_more, drop_all}
+use Rattle.std.proofs.lemmas.List.{drop_more, drop_all, get_or-map, length-map}
 use Rattle.std.proofs.lemmas.Bool.Decides.{nat_tests}
 use Rattle.gba_joblog.specs.Clash.{after_text, tail_after, ends_as, console_writes, writes, least, console_clash, inputs_clash}
 use Rattle.gba_joblog.specs.Job.{ConsoleJob}
@@ -91,11 +92,18 @@ least_assoc (Some l) None c = refl
 least_assoc (Some l) (Some m) None = least-none (least (Some l) (Some m))
 least_assoc (Some l) (Some m) (Some n) = grind (arith, nat_tests)
 
--- a loop over the consoles, of which each stands for a value
-at_item : {X : Type 0} (xs : List X) (i : ℕ) (x : X) → i < length xs → x ≡ get_or xs i x
+-- what is left of a list at one of its items
+pub at_item : {X : Type 0} (xs : List X) (i : ℕ) (x : X) → i < length xs → x ≡ get_or xs i x
     → drop i xs ≡ x ∷ drop (i + 1) xs
 at_item xs i x h e = drop_more xs i x h ∙ ap (λ y. y ∷ drop (i + 1) xs) (sym e)
 
+-- what holds of what each item stands for holds of what this one stands for
+pub holds_at : {X Y : Type 0} (P : Y → Type 0) (view : X → Y) (xs : List X) (i : ℕ) (x : X) → All P (map view xs)
+    → i < length xs → x ≡ get_or xs i x → P (view x)
+holds_at P view xs i x h lt is =
+    subst P (get_or-map view xs i x (view x) lt ∙ ap view (sym is)) (h i (view x) (rw length-map lt))
+
+-- a loop over the consoles, of which each stands for a value
 pub writes_at : {X : Type 0} (view : X → ConsoleJob) (out name : List ℕ) (xs : List X) (i : ℕ) (x : X)
     (answer : Bool) → i < length xs → x ≡ get_or xs i x
     → answer ≡ console_writes out i (view x) name

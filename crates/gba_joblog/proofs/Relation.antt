@@ -17,11 +17,11 @@ ComesTo {S} language n d ls (Ok said) =
 ComesTo {S} language n d ls (Err r) =
     StopsAt language n d ls r ⊎ ((e : S) × Leads language n d ls e × (language.at_end (n + length ls) e ≡ Err r))
 
-leads_none : {S A : Type 0} (language : Language S A) (n : ℕ) (d : S) → Leads language n d [] d
+pub leads_none : {S A : Type 0} (language : Language S A) (n : ℕ) (d : S) → Leads language n d [] d
 unfolding Leads
 leads_none language n d = refl
 
-leads_more : {S A : Type 0} (language : Language S A) (n : ℕ) (d mid e : S) (line : List ℕ) (ls : List (List ℕ))
+pub leads_more : {S A : Type 0} (language : Language S A) (n : ℕ) (d mid e : S) (line : List ℕ) (ls : List (List ℕ))
     → language.with_line (n + 1) d line ≡ Ok mid
     → Leads language (n + 1) mid ls e → Leads language n d (line ∷ ls) e
 unfolding Leads
@@ -101,7 +101,7 @@ says language bytes = elim (cases_lt language.longest (length bytes)) [
       0 language.nothing (lines bytes)))
 ]
 
-led : {S A : Type 0} (language : Language S A) (n : ℕ) (d e : S) (ls : List (List ℕ)) → Leads language n d ls e
+pub led : {S A : Type 0} (language : Language S A) (n : ℕ) (d e : S) (ls : List (List ℕ)) → Leads language n d ls e
     → lines_say language n d ls ≡ language.at_end (n + length ls) e
 unfolding Leads
 led language n d e [] h =

@@ -1,7 +1,9 @@
 -- Every job that is read is sound: each line keeps what is said so far sound.
-use Rattle.std.proofs.Common.{◌≡◌, ◌≤◌, ◌^◌, ℕ, ◌+◌, Bool, true, false, cond, not, List, [], ◌∷◌, ◌++◌, length, Option, Some, None, Result, Ok, Err, refl, ap, sym, subst, ◌∙◌}
-use Rattle.std.specs.Prelude.{IfOk, IfSome, is_some, slice_set}
-use Rattle.std.proofs.lemmas.List.{length-set}
+use Rattle.std.proofs.Common.{◌≡◌, ◌≤◌, ◌^◌, ℕ, ◌+◌, Bool, true, false, cond, not, List, [], ◌∷◌, length, Option, Some, None, Result, Ok, Err, refl, ap, sym, subst, ◌∙◌, arith}
+use Rattle.std.specs.Prelude.{IfOk, IfSome, is_some, slice_set, unwrap_or}
+use Rattle.std.specs.List.{All}
+use Rattle.std.proofs.lemmas.List.{length-append, length-set}
+use Rattle.std.proofs.lemmas.List.Elements.{All-nil, All-push, All-replicate, All-set}
 use Rattle.std.proofs.lemmas.Bool.{false≢true}
 use Rattle.gba_text.specs.Lines.{lines}
 use Rattle.gba_text.specs.Words.{words}
@@ -9,16 +11,19 @@ use Rattle.gba_joblog.specs.Answers.{Parses}
 use Rattle.gba_joblog.specs.Changes.{change_at}
 use Rattle.gba_joblog.specs.Draft.{Draft, nothing_said, silent_console}
 use Rattle.gba_joblog.specs.Files.{Leads, EndsIn, is_said}
-use Rattle.gba_joblog.specs.Job.{ConsoleJob, WholeJob}
+use Rattle.gba_joblog.specs.Job.{ConsoleJob, NamedFile, WholeJob}
 use Rattle.gba_joblog.specs.Kinds.{◌>>=◌, holds}
 use Rattle.gba_joblog.specs.Language.{jobs, line_says, said_with, words_say, words_say_if, keyword_says, statement_of, unless_ended, plus_statement_if, job_at_end, job_at_place, job_with, job_of, usual_delay}
 use Rattle.gba_joblog.specs.Names.{is_name}
-use Rattle.gba_joblog.specs.Operands.{Words, Taken, word_at, number_at, name_in, name_of, name_at, player_at, version_at, out_kind_at, end_at}
-use Rattle.gba_joblog.specs.Soundness.{IsFile, IsPartOfConsole, IsConsole, IsJob}
-use Rattle.gba_joblog.specs.Statements.{Statement, Version, Cycles, Console, Bios, Cart, Save, Keys, Key, Out, End, keyword_of, refusal_at, keys_refusal, without_changes, without_file, once, arguments, plus_statement, at_start, in_console, before_console, plain_file, plain_output, place_of, asks_for}
+use Rattle.gba_joblog.specs.Operands.{Words, Taken, word_at, number_at, name_in, name_of, name_at, digest_at, player_at, version_at, out_kind_at, end_at}
+use Rattle.gba_joblog.specs.Soundness.{IsFile, IsOutput, IsPartOfConsole, IsConsole, IsJob}
+use Rattle.gba_joblog.specs.Statements.{Statement, Version, Cycles, Delay, Console, File, Key, Out, End, keyword_of, refusal_at, file_refusal, without_changes, without_file, once, arguments, plus_statement, at_start, in_console, has_image, next_player, whole_consoles, named_file, asked_output, with_file, place_of, asks_for}
 use Rattle.gba_joblog.specs.declared.draft.Place.{Place}
 use Rattle.gba_joblog.specs.declared.draft.Place.TheVariants.{Start, Head, Inside, Ended}
+use Rattle.gba_joblog.specs.declared.job.FileKind.{FileKind}
+use Rattle.gba_joblog.specs.declared.job.FileKind.TheVariants as file
 use Rattle.gba_joblog.specs.declared.job.KeyChange.{KeyChange}
+use Rattle.gba_joblog.specs.declared.job.OutLine.{OutLine}
 use Rattle.gba_joblog.specs.declared.kinds.ParseRefused.{ParseRefused}
 use Rattle.gba_joblog.specs.declared.kinds.JobKind.{JobKind}
 use Rattle.gba_joblog.specs.declared.kinds.JobKind.TheVariants.{Repeated, Missing}
@@ -26,40 +31,51 @@ use Rattle.gba_joblog.specs.declared.statement.Keyword.{Keyword}
 use Rattle.gba_joblog.specs.declared.statement.Keyword.TheVariants as keyword
 use Rattle.gba_joblog.proofs.Relation.{says}
 use Rattle.gba_joblog.proofs.SoundChanges.{none, change_at-keeps}
-use Rattle.gba_joblog.proofs.Steps.{bind-ok, ok-is, some-is, held-true, error_at-some, number_at-range}
+use Rattle.gba_joblog.proofs.Steps.{bind-ok, ok-is, some-is, held-true, error_at-some, number_at-range, player_at-is, digest_at-is}
 
 abbrev pub InRange : ℕ → Type 0
 InRange cycles = (1 ≤ cycles) × (cycles ≤ 2 ^ 31)
 
--- the consoles that are whole, by the place
-abbrev pub AreConsoles : Place → List ConsoleJob → Type 0
-AreConsoles Start consoles = consoles ≡ []
-AreConsoles Head consoles = consoles ≡ []
-AreConsoles Inside consoles = consoles ≡ []
-AreConsoles Ended consoles = (console : ConsoleJob) × (consoles ≡ console ∷ []) × IsConsole console
+abbrev pub DelayInRange : ℕ → Type 0
+DelayInRange delay = (1 ≤ delay) × (delay ≤ 1024)
+
+-- how many consoles are whole, by the place
+abbrev pub AreCounted : Place → ℕ → Type 0
+AreCounted Start whole = whole ≡ 0
+AreCounted Head whole = whole ≡ 0
+AreCounted Inside whole = whole ≤ 3
+AreCounted Ended whole = (1 ≤ whole) × (whole ≤ 4)
 
 pub record IsDraft (d : Draft) : Type 0 where
   cycles : IfSome d.cycles InRange
+  delay : IfSome d.delay DelayInRange
   last : IsPartOfConsole d.last
-  consoles : AreConsoles d.place d.consoles
+  each : All IsConsole d.consoles
+  count : AreCounted d.place (length d.consoles)
+
+no_output : All IsOutput silent_console.outs
+no_output = All-replicate IsOutput 5 None tt
 
 silent : IsPartOfConsole silent_console
-silent = record { bios = tt; cart = tt; save = tt; keys = tt; changes = none; apart = λ _. refl; five = refl }
+silent = record {
+  bios = tt;
+  cart = tt;
+  save = tt;
+  keys = tt;
+  changes = none;
+  apart = λ _. refl;
+  five = refl;
+  outs = no_output;
+}
 
 pub begins : IsDraft nothing_said
-begins = record { cycles = tt; last = silent; consoles = refl }
+begins = record { cycles = tt; delay = tt; last = silent; each = All-nil IsConsole; count = refl }
 
 starts : (place : Place) → at_start place ≡ None → place ≡ Start
 starts Start h = refl
 starts Head h = absurd cc
 starts Inside h = absurd cc
 starts Ended h = absurd cc
-
-heads : (place : Place) (said : Bool) → before_console place said ≡ None → place ≡ Head
-heads Start said h = absurd cc
-heads Head said h = refl
-heads Inside said h = absurd cc
-heads Ended said h = absurd cc
 
 insides : (place : Place) (refusal : Option JobKind) → in_console place refusal ≡ None → place ≡ Inside
 insides Start refusal h = absurd cc
@@ -94,6 +110,73 @@ name_at-is ws t h =
     let b = bind-ok (word_at ws) name_in t h in
     name-is b.0.value t.value (error_at-some _ _ (name_of b.0.value) t b.2)
 
+with_file-keeps : (f : FileKind) (named : NamedFile) (c : ConsoleJob) → IsFile named → IsPartOfConsole c
+    → file_refusal f c ≡ None → IsPartOfConsole (with_file f named c)
+with_file-keeps file.Bios named c is h place = record {
+  bios = is;
+  cart = h.cart;
+  save = h.save;
+  keys = h.keys;
+  changes = h.changes;
+  apart = h.apart;
+  five = h.five;
+  outs = h.outs;
+}
+with_file-keeps file.Cart named c is h place = record {
+  bios = h.bios;
+  cart = is;
+  save = h.save;
+  keys = h.keys;
+  changes = h.changes;
+  apart = h.apart;
+  five = h.five;
+  outs = h.outs;
+}
+with_file-keeps file.Save named c is h place = record {
+  bios = h.bios;
+  cart = h.cart;
+  save = is;
+  keys = h.keys;
+  changes = h.changes;
+  apart = h.apart;
+  five = h.five;
+  outs = h.outs;
+}
+with_file-keeps file.Keys named c is h place = record {
+  bios = h.bios;
+  cart = h.cart;
+  save = h.save;
+  keys = is;
+  changes = h.changes;
+  apart = λ _. no_changes c.changes (once (is_some c.keys)) place;
+  five = h.five;
+  outs = h.outs;
+}
+
+closes : (place : Place) (consoles : List ConsoleJob) (last : ConsoleJob) → All IsConsole consoles
+    → IsPartOfConsole last → has_image place last ≡ true → All IsConsole (whole_consoles place consoles last)
+closes Start consoles last h part image = h
+closes Head consoles last h part image = h
+closes Inside consoles last h part image =
+    All-push IsConsole consoles last h (record { part = part; image = image })
+closes Ended consoles last h part image = h
+
+whole-count : (place : Place) (consoles : List ConsoleJob) (last : ConsoleJob)
+    → length (whole_consoles place consoles last) ≡ next_player place (length consoles)
+whole-count Start consoles last = refl
+whole-count Head consoles last = refl
+whole-count Inside consoles last = length-append consoles (last ∷ [])
+whole-count Ended consoles last = refl
+
+ends_with : (place : Place) (consoles : List ConsoleJob) (last : ConsoleJob) → in_console place None ≡ None
+    → AreCounted place (length consoles) → is_some last.bios ≡ true
+    → AreCounted Ended (length (whole_consoles place consoles last)) × (has_image place last ≡ true)
+ends_with Start consoles last here count image = absurd cc
+ends_with Head consoles last here count image = absurd cc
+ends_with Inside consoles last here count image =
+    let long = length-append consoles (last ∷ []) in ((omega (arith, long), omega (arith, long)), image)
+ends_with Ended consoles last here count image = absurd cc
+
 -- each keyword with its operands keeps what is said sound
 keeps : (n : ℕ) (d : Draft) (k : Keyword) (ws : Words) (s : Statement) → IsDraft d → refusal_at d k ≡ None
     → arguments d k ws ≡ Ok s → IsDraft (plus_statement n s d)
@@ -103,93 +186,53 @@ keeps n d keyword.Version ws s h place e =
     let c = bind-ok (end_at b.0.words) (λ _. Ok Version) s b.2 in
     let same : s ≡ Version = sym (ok-is Version s c.2) in
     let here : d.place ≡ Start = starts d.place place in
-    let none : d.consoles ≡ [] = rw here at h.consoles in
-    rw same (record { cycles = h.cycles; last = h.last; consoles = none })
+    let none : length d.consoles ≡ 0 = rw here at h.count in
+    rw same (record { cycles = h.cycles; delay = h.delay; last = h.last; each = h.each; count = none })
 keeps n d keyword.Cycles ws s h place e =
     let b = bind-ok (number_at 1 (2 ^ 31) ws) (λ cycles. end_at cycles.words >>= (λ _. Ok (Cycles cycles.value))) s e in
     let c = bind-ok (end_at b.0.words) (λ _. Ok (Cycles b.0.value)) s b.2 in
     let same : s ≡ Cycles b.0.value = sym (ok-is (Cycles b.0.value) s c.2) in
-    rw same (record { cycles = number_at-range 1 (2 ^ 31) ws b.0 b.1; last = h.last; consoles = h.consoles })
+    let range = number_at-range 1 (2 ^ 31) ws b.0 b.1 in
+    rw same (record { cycles = range; delay = h.delay; last = h.last; each = h.each; count = h.count })
+keeps n d keyword.Delay ws s h place e =
+    let b = bind-ok (number_at 1 1024 ws) (λ delay. end_at delay.words >>= (λ _. Ok (Delay delay.value))) s e in
+    let c = bind-ok (end_at b.0.words) (λ _. Ok (Delay b.0.value)) s b.2 in
+    let same : s ≡ Delay b.0.value = sym (ok-is (Delay b.0.value) s c.2) in
+    let range = number_at-range 1 1024 ws b.0 b.1 in
+    rw same (record { cycles = h.cycles; delay = range; last = h.last; each = h.each; count = h.count })
 keeps n d keyword.Console ws s h place e =
-    let b = bind-ok (player_at (length d.consoles) ws) (λ player. end_at player.words >>= (λ _. Ok Console)) s e in
-    let c = bind-ok (end_at b.0.words) (λ _. Ok Console) s b.2 in
-    let same : s ≡ Console = sym (ok-is Console s c.2) in
-    let here : d.place ≡ Head = heads d.place (is_some d.cycles) place in
-    let none : d.consoles ≡ [] = rw here at h.consoles in
-    rw same (record { cycles = h.cycles; last = h.last; consoles = none })
-keeps n d keyword.Bios ws s h place e =
-    let b = bind-ok (name_at ws) (λ name. end_at name.words >>= (λ _. Ok (Bios name.value))) s e in
-    let c = bind-ok (end_at b.0.words) (λ _. Ok (Bios b.0.value)) s b.2 in
-    let same : s ≡ Bios b.0.value = sym (ok-is (Bios b.0.value) s c.2) in
-    let file : IsFile (plain_file b.0.value n) = record { named = name_at-is ws b.0 b.1; plain = refl } in
+    let b = bind-ok (player_at (next_player d.place (length d.consoles)) ws)
+    (λ player. holds (has_image d.place d.last) Missing >>= (λ _. end_at player.words >>= (λ _. Ok
+    (Console player.value)))) s e in
+    let c = bind-ok (holds (has_image d.place d.last) Missing) (λ _. end_at b.0.words >>= (λ _. Ok
+    (Console b.0.value))) s b.2 in
+    let f = bind-ok (end_at b.0.words) (λ _. Ok (Console b.0.value)) s c.2 in
+    let same : s ≡ Console b.0.value = sym (ok-is (Console b.0.value) s f.2) in
+    let image : has_image d.place d.last ≡ true = held-true (has_image d.place d.last) Missing c.0 c.1 in
+    let few = player_at-is (next_player d.place (length d.consoles)) ws b.0 b.1 in
     rw same (record {
       cycles = h.cycles;
-      last = record {
-        bios = file;
-        cart = h.last.cart;
-        save = h.last.save;
-        keys = h.last.keys;
-        changes = h.last.changes;
-        apart = h.last.apart;
-        five = h.last.five;
-      };
-      consoles = h.consoles;
+      delay = h.delay;
+      last = silent;
+      each = closes d.place d.consoles d.last h.each h.last image;
+      count = rw whole-count few.1;
     })
-keeps n d keyword.Cart ws s h place e =
-    let b = bind-ok (name_at ws) (λ name. end_at name.words >>= (λ _. Ok (Cart name.value))) s e in
-    let c = bind-ok (end_at b.0.words) (λ _. Ok (Cart b.0.value)) s b.2 in
-    let same : s ≡ Cart b.0.value = sym (ok-is (Cart b.0.value) s c.2) in
-    let file : IsFile (plain_file b.0.value n) = record { named = name_at-is ws b.0 b.1; plain = refl } in
+keeps n d (keyword.File f) ws s h place e =
+    let b = bind-ok (name_at ws)
+    (λ name. digest_at name.words >>= (λ digest. end_at digest.words >>= (λ _. Ok (File f name.value digest.value)))) s e in
+    let c = bind-ok (digest_at b.0.words) (λ digest. end_at digest.words >>= (λ _. Ok
+    (File f b.0.value digest.value))) s b.2 in
+    let g = bind-ok (end_at c.0.words) (λ _. Ok (File f b.0.value c.0.value)) s c.2 in
+    let same : s ≡ File f b.0.value c.0.value = sym (ok-is (File f b.0.value c.0.value) s g.2) in
+    let is : IsFile (named_file b.0.value c.0.value n) =
+    record { named = name_at-is ws b.0 b.1; stated = digest_at-is b.0.words c.0 c.1 } in
     rw same (record {
       cycles = h.cycles;
-      last = record {
-        bios = h.last.bios;
-        cart = file;
-        save = h.last.save;
-        keys = h.last.keys;
-        changes = h.last.changes;
-        apart = h.last.apart;
-        five = h.last.five;
-      };
-      consoles = h.consoles;
-    })
-keeps n d keyword.Save ws s h place e =
-    let b = bind-ok (name_at ws) (λ name. end_at name.words >>= (λ _. Ok (Save name.value))) s e in
-    let c = bind-ok (end_at b.0.words) (λ _. Ok (Save b.0.value)) s b.2 in
-    let same : s ≡ Save b.0.value = sym (ok-is (Save b.0.value) s c.2) in
-    let file : IsFile (plain_file b.0.value n) = record { named = name_at-is ws b.0 b.1; plain = refl } in
-    rw same (record {
-      cycles = h.cycles;
-      last = record {
-        bios = h.last.bios;
-        cart = h.last.cart;
-        save = file;
-        keys = h.last.keys;
-        changes = h.last.changes;
-        apart = h.last.apart;
-        five = h.last.five;
-      };
-      consoles = h.consoles;
-    })
-keeps n d keyword.Keys ws s h place e =
-    let b = bind-ok (name_at ws) (λ name. end_at name.words >>= (λ _. Ok (Keys name.value))) s e in
-    let c = bind-ok (end_at b.0.words) (λ _. Ok (Keys b.0.value)) s b.2 in
-    let same : s ≡ Keys b.0.value = sym (ok-is (Keys b.0.value) s c.2) in
-    let file : IsFile (plain_file b.0.value n) = record { named = name_at-is ws b.0 b.1; plain = refl } in
-    let alone : d.last.changes ≡ [] =
-    no_changes d.last.changes (once (is_some d.last.keys)) (stands d.place (keys_refusal d.last) place) in
-    rw same (record {
-      cycles = h.cycles;
-      last = record {
-        bios = h.last.bios;
-        cart = h.last.cart;
-        save = h.last.save;
-        keys = file;
-        changes = h.last.changes;
-        apart = λ _. alone;
-        five = h.last.five;
-      };
-      consoles = h.consoles;
+      delay = h.delay;
+      last = with_file-keeps f (named_file b.0.value c.0.value n) d.last is h.last
+          (stands d.place (file_refusal f d.last) place);
+      each = h.each;
+      count = h.count;
     })
 keeps n d keyword.Key ws s h place e =
     let b = bind-ok (change_at d.last.changes ws) (λ change. Ok (Key change)) s e in
@@ -198,6 +241,7 @@ keeps n d keyword.Key ws s h place e =
     no_file (is_some d.last.keys) (stands d.place (without_file (is_some d.last.keys)) place) in
     rw same (record {
       cycles = h.cycles;
+      delay = h.delay;
       last = record {
         bios = h.last.bios;
         cart = h.last.cart;
@@ -206,21 +250,26 @@ keeps n d keyword.Key ws s h place e =
         changes = change_at-keeps d.last.changes ws b.0 h.last.changes b.1;
         apart = λ there. absurd (false≢true (sym alone ∙ there));
         five = h.last.five;
+        outs = h.last.outs;
       };
-      consoles = h.consoles;
+      each = h.each;
+      count = h.count;
     })
 keeps n d keyword.Out ws s h place e =
     let b = bind-ok (out_kind_at ws)
-    (λ out. holds (not (asks_for d.last out.value)) Repeated >>= (λ _. end_at out.words >>= (λ _. Ok
-    (Out out.value)))) s e in
-    let c = bind-ok (holds (not (asks_for d.last b.0.value)) Repeated) (λ _. end_at b.0.words >>= (λ _. Ok
-    (Out b.0.value))) s b.2 in
-    let f = bind-ok (end_at b.0.words) (λ _. Ok (Out b.0.value)) s c.2 in
-    let same : s ≡ Out b.0.value = sym (ok-is (Out b.0.value) s f.2) in
-    let five : length (slice_set d.last.outs (place_of b.0.value) (Some plain_output))
-    ≡ 5 = rw length-set h.last.five in
+    (λ out. holds (not (asks_for d.last out.value)) Repeated >>= (λ _. digest_at out.words >>= (λ digest. end_at
+    digest.words >>= (λ _. Ok (Out out.value digest.value))))) s e in
+    let c = bind-ok (holds (not (asks_for d.last b.0.value)) Repeated) (λ _. digest_at b.0.words >>= (λ digest. end_at
+    digest.words >>= (λ _. Ok (Out b.0.value digest.value)))) s b.2 in
+    let g = bind-ok (digest_at b.0.words) (λ digest. end_at digest.words >>= (λ _. Ok
+    (Out b.0.value digest.value))) s c.2 in
+    let f = bind-ok (end_at g.0.words) (λ _. Ok (Out b.0.value g.0.value)) s g.2 in
+    let same : s ≡ Out b.0.value g.0.value = sym (ok-is (Out b.0.value g.0.value) s f.2) in
+    let asked : OutLine = asked_output g.0.value in
+    let five : length (slice_set d.last.outs (place_of b.0.value) (Some asked)) ≡ 5 = rw length-set h.last.five in
     rw same (record {
       cycles = h.cycles;
+      delay = h.delay;
       last = record {
         bios = h.last.bios;
         cart = h.last.cart;
@@ -229,20 +278,23 @@ keeps n d keyword.Out ws s h place e =
         changes = h.last.changes;
         apart = h.last.apart;
         five = five;
+        outs = All-set IsOutput d.last.outs (place_of b.0.value) (Some asked) (digest_at-is b.0.words g.0 g.1) h.last.outs;
       };
-      consoles = h.consoles;
+      each = h.each;
+      count = h.count;
     })
 keeps n d keyword.End ws s h place e =
     let b = bind-ok (holds (is_some d.last.bios) Missing) (λ _. end_at ws >>= (λ _. Ok End)) s e in
     let c = bind-ok (end_at ws) (λ _. Ok End) s b.2 in
     let same : s ≡ End = sym (ok-is End s c.2) in
-    let here : d.place ≡ Inside = insides d.place None place in
-    let none : d.consoles ≡ [] = rw here at h.consoles in
     let image : is_some d.last.bios ≡ true = held-true (is_some d.last.bios) Missing b.0 b.1 in
+    let ends = ends_with d.place d.consoles d.last place h.count image in
     rw same (record {
       cycles = h.cycles;
+      delay = h.delay;
       last = silent;
-      consoles = (d.last, ap (λ cs. cs ++ d.last ∷ []) none, record { part = h.last; image = image });
+      each = closes d.place d.consoles d.last h.each h.last ends.1;
+      count = ends.0;
     })
 
 not-ended : (place : Place) (said : Result (Option Statement) JobKind) (s : Statement)
@@ -309,30 +361,36 @@ lines-keep n d e [] h leads = subst IsDraft leads h
 lines-keep n d e (line ∷ ls) h leads = lines-keep (n + 1) leads.0 e ls (line-keeps
     (n + 1) d leads.0 line h leads.1) leads.2
 
-by_cycles : (d : Draft) (o : Option ℕ) (n : ℕ) (job : WholeJob) → IfSome o InRange → AreConsoles Ended d.consoles
-    → job_with d o n ≡ Ok job → IsJob job
-by_cycles d None n job range consoles h = absurd cc
-by_cycles d (Some cycles) n job range consoles h =
-    subst IsJob (ok-is (record { cycles = cycles; delay = usual_delay; consoles = d.consoles }) job h)
+usual : (delay : Option ℕ) → IfSome delay DelayInRange → DelayInRange (unwrap_or delay usual_delay)
+usual None h = (omega arith, omega arith)
+usual (Some delay) h = h
+
+by_cycles : (d : Draft) (o : Option ℕ) (n : ℕ) (job : WholeJob) → IsDraft d → IfSome o InRange
+    → AreCounted Ended (length d.consoles) → job_with d o n ≡ Ok job → IsJob job
+by_cycles d None n job is range count h = absurd cc
+by_cycles d (Some cycles) n job is range count h =
+    let delay = usual d.delay is.delay in
+    subst IsJob (ok-is (record { cycles = cycles; delay = unwrap_or d.delay usual_delay; consoles = d.consoles }) job h)
     (record {
       some_cycles = range.0;
       few_cycles = range.1;
-      delay = refl;
-      console = consoles.0;
-      alone = consoles.1;
-      whole = consoles.2;
+      some_delay = delay.0;
+      few_delay = delay.1;
+      some_consoles = count.0;
+      few_consoles = count.1;
+      each = is.each;
     })
 
-by_end : (d : Draft) (place : Place) (n : ℕ) (job : WholeJob) → IfSome d.cycles InRange
-    → AreConsoles place d.consoles → job_at_place d place n ≡ Ok job → IsJob job
-by_end d Start n job range consoles h = absurd cc
-by_end d Head n job range consoles h = absurd cc
-by_end d Inside n job range consoles h = absurd cc
-by_end d Ended n job range consoles h = by_cycles d d.cycles n job range consoles h
+by_end : (d : Draft) (place : Place) (n : ℕ) (job : WholeJob) → IsDraft d → AreCounted place (length d.consoles)
+    → job_at_place d place n ≡ Ok job → IsJob job
+by_end d Start n job is count h = absurd cc
+by_end d Head n job is count h = absurd cc
+by_end d Inside n job is count h = absurd cc
+by_end d Ended n job is count h = by_cycles d d.cycles n job is is.cycles count h
 
 at-end : (n : ℕ) (d : Draft) (job : WholeJob) → IsDraft d → job_at_end n d ≡ Ok job → IsJob job
 unfolding job_at_end
-at-end n d job h end = by_end d d.place n job h.cycles h.consoles end
+at-end n d job h end = by_end d d.place n job h h.count end
 
 -- each job that is read is sound
 pub sound : (bytes : List ℕ) (job : WholeJob) → job_of bytes ≡ Ok job → IsJob job

@@ -67,7 +67,8 @@ change_at-next before ws change h =
       room = ltb-true _ _ (held-true _ Long r.0 r.1);
     })
 
-last-least : (before : List KeyChange) (d : KeyChange) → 0 < length before
+-- the clock of the last change
+pub last-least : (before : List KeyChange) (d : KeyChange) → 0 < length before
     → least_clock before ≡ (get_or before (length before - 1) d).clock
 unfolding least_clock
 last-least before d some = ap clock_or_start (slice_get-get_or before (length before - 1) d (omega arith))

@@ -1,11 +1,17 @@
 -- What steps that are read one after another gave, and the operands among them.
-use Rattle.std.proofs.Common.{◌≡◌, ◌≤◌, ◌<◌, ℕ, Bool, true, false, cond, List, ◌&&◌, nat_lt, Option, Some, None, Result, Ok, Err, refl, ap, arith}
+use Rattle.std.proofs.Common.{◌≡◌, ◌≤◌, ◌<◌, ℕ, Bool, true, false, cond, List, ◌&&◌, eqb, nat_lt, Option, Some, None, Result, Ok, Err, refl, ap, sym, ◌∙◌, arith}
+use Rattle.std.specs.Prelude.{IfSome, codes}
+use Rattle.std.specs.Str.{bytes_eq}
 use Rattle.std.specs.Str.Parse.{digits_value}
+use Rattle.std.proofs.lemmas.Bool.{eqb-true}
 use Rattle.std.proofs.lemmas.Bool.Decides.{nat_tests}
 use Rattle.gba_text.specs.Numbers.{number_of, hex_number_of, is_number, is_within}
 use Rattle.gba_joblog.specs.Kinds.{◌>>=◌, holds}
-use Rattle.gba_joblog.specs.Operands.{Words, Taken, word_at, number_in, number_at, keys_within, keys_in, keys_at, or_refused, operand}
+use Rattle.gba_joblog.specs.Operands.{Words, Taken, digest_at, digest_if, digest_in, digest_of, has_words, digits_at, digits_in, last_player, only, player_at, player_in, player_of, stated, word_at, number_in, number_at, keys_within, keys_in, keys_at, or_refused, operand}
+use Rattle.gba_joblog.specs.Digests.{IsDigest}
 use Rattle.gba_joblog.specs.declared.kinds.JobKind.{JobKind}
+use Rattle.gba_joblog.specs.declared.kinds.JobKind.TheVariants.{Order, Word}
+use Rattle.gba_joblog.proofs.Digests.{IsDigest-digits}
 
 -- what a step gave and what the steps after it made of that
 pub bind-ok : {A B : Type 0} (r : Result A JobKind) (f : A → Result B JobKind) (y : B) → (r >>= f) ≡ Ok y
@@ -60,3 +66,54 @@ keys_at-range ws t h =
     let b = bind-ok (word_at ws) keys_in t h in
     keys-range (hex_number_of 3 b.0.value) t.value
     (error_at-some _ _ (keys_within (hex_number_of 3 b.0.value)) t b.2)
+
+only-is : (next : ℕ) (t u : Taken ℕ) → only next t ≡ Ok u → (t.value ≡ next) × (t ≡ u)
+only-is next t u h = by_test (eqb t.value next) refl h where
+  by_test : (b : Bool) → eqb t.value next ≡ b → cond b (Ok t) (Err Order) ≡ Ok u → (t.value ≡ next) × (t ≡ u)
+  by_test true e s = (eqb-true t.value next e, ok-is t u s)
+  by_test false e s = absurd cc
+
+player_of-is : (next : ℕ) (word : Taken (List ℕ)) (t : Taken ℕ) (o : Option ℕ)
+    → ((n : ℕ) → o ≡ Some n → n ≤ 3) → player_of next word o ≡ Ok t → (t.value ≡ next) × (next ≤ 3)
+player_of-is next word t None few h = absurd cc
+player_of-is next word t (Some n) few h =
+    let is = only-is next (operand n word.words) t h in
+    let low : n ≤ 3 = few n refl in
+    (ap (λ (t : Taken ℕ). t.value) (sym is.1) ∙ is.0, omega (arith, low, is.0))
+
+-- a console's number is the next one, and at most 3
+pub player_at-is : (next : ℕ) (ws : Words) (t : Taken ℕ) → player_at next ws ≡ Ok t
+    → (t.value ≡ next) × (next ≤ 3)
+unfolding player_at
+player_at-is next ws t h =
+    let b = bind-ok (word_at ws) (player_in next) t h in
+    player_of-is next b.0 t (number_of 0 last_player b.0.value)
+    (λ n e. (number-range 0 last_player n b.0.value e).1) b.2
+
+digits_at-is : (ws : Words) (t : Taken (List ℕ)) → digits_at ws ≡ Ok t → IsDigest t.value
+unfolding digits_at
+digits_at-is ws t h =
+    let b = bind-ok (word_at ws) digits_in t h in
+    IsDigest-digits b.0.value t.value (error_at-some _ _ (digest_of b.0.value) t b.2)
+
+digest_in-is : (word : Taken (List ℕ)) (u : Taken (Option (List ℕ))) → digest_in word ≡ Ok u
+    → IfSome u.value IsDigest
+digest_in-is word u h = by_test (bytes_eq word.value (codes "sha256")) h where
+  by_test : (b : Bool) → cond b (digits_at word.words >>= (λ t. Ok (stated t))) (Err Word) ≡ Ok u
+      → IfSome u.value IsDigest
+  by_test true s =
+      let d = bind-ok (digits_at word.words) (λ t. Ok (stated t)) u s in
+      rw (← ok-is (stated d.0) u d.2) (digits_at-is word.words d.0 d.1)
+  by_test false s = absurd cc
+
+digest_if-is : (ws : Words) (b : Bool) (t : Taken (Option (List ℕ))) → digest_if ws b ≡ Ok t
+    → IfSome t.value IsDigest
+digest_if-is ws false t h = rw (← ok-is (operand None ws) t h) tt
+digest_if-is ws true t h =
+    let w = bind-ok (word_at ws) digest_in t h in
+    digest_in-is w.0 t w.2
+
+-- what a line states may be a digest
+pub digest_at-is : (ws : Words) (t : Taken (Option (List ℕ))) → digest_at ws ≡ Ok t → IfSome t.value IsDigest
+unfolding digest_at
+digest_at-is ws t h = digest_if-is ws (has_words ws) t h

@@ -3,17 +3,9 @@ use Rattle.std.specs.Prelude.{ℕ, ◌+◌, Bool, false, ◌&&◌, ◌||◌, nat
 use Rattle.std.specs.Cmp.Lexicographic.{pointwise}
 use Rattle.std.specs.Str.{bytes_eq}
 use Rattle.gba_joblog.specs.Job.{ConsoleJob, NamedFile, WholeJob}
-use Rattle.gba_joblog.specs.Statements.{asks_for}
+use Rattle.gba_joblog.specs.Statements.{asks_for, out_name}
 use Rattle.gba_joblog.specs.declared.job.OutKind.{OutKind}
 use Rattle.gba_joblog.specs.declared.job.OutKind.TheVariants.{Frames, Samples, Words, State, Save}
-
--- the end of an output's name
-abbrev pub out_name : OutKind → List ℕ
-out_name Frames = codes "frames"
-out_name Samples = codes "samples"
-out_name Words = codes "words"
-out_name State = codes "state"
-out_name Save = codes "save"
 
 -- the name of a console's output under OUT, as `OUT.0.state`
 abbrev pub output_file : List ℕ → ℕ → OutKind → List ℕ
@@ -35,6 +27,14 @@ writes out player [] name = false
 writes out player (console ∷ consoles) name =
     console_writes out player console name || writes out (player + 1) consoles name
 
+-- the name of the log under OUT
+abbrev pub log_file : List ℕ → List ℕ
+log_file out = out ++ codes ".log"
+
+-- whether a run of these consoles writes a file of this name
+unfoldable pub is_output : List ℕ → List ConsoleJob → List ℕ → Bool
+is_output out consoles name = bytes_eq name (log_file out) || writes out 0 consoles name
+
 -- the lesser of two lines, where both are there
 abbrev pub least : Option ℕ → Option ℕ → Option ℕ
 least None line = line
@@ -43,25 +43,27 @@ least (Some m) (Some n) = if nat_le m n then Some m else Some n
 
 -- the line of an input, where its name is that of an output
 abbrev pub line_of : (List ℕ → Bool) → Option NamedFile → Option ℕ
-line_of is_output None = None
-line_of is_output (Some file) = if is_output file.name then Some file.line else None
+line_of is_written None = None
+line_of is_written (Some file) = if is_written file.name then Some file.line else None
 
 unfoldable pub console_clash : (List ℕ → Bool) → ConsoleJob → Option ℕ
-console_clash is_output console =
-    least (line_of is_output console.bios)
-    (least (line_of is_output console.cart) (least (line_of is_output console.save) (line_of is_output console.keys)))
+console_clash is_written console =
+    least (line_of is_written console.bios)
+    (least (line_of is_written console.cart)
+    (least (line_of is_written console.save) (line_of is_written console.keys)))
 
 unfoldable pub inputs_clash : (List ℕ → Bool) → List ConsoleJob → Option ℕ
-inputs_clash is_output [] = None
-inputs_clash is_output (console ∷ consoles) = least (console_clash is_output console) (inputs_clash is_output consoles)
+inputs_clash is_written [] = None
+inputs_clash is_written (console ∷ consoles) =
+    least (console_clash is_written console) (inputs_clash is_written consoles)
 
 abbrev pub clash_under : (List ℕ → Bool) → WholeJob → List ℕ → Option ℕ
-clash_under is_output job name = if is_output name then Some 0 else inputs_clash is_output job.consoles
+clash_under is_written job name = if is_written name then Some 0 else inputs_clash is_written job.consoles
 
--- The clash of a job that is read from the file `name` and writes under `out`: 0 where an output would be that file,
--- else the least line of an input that an output would be.
+-- The clash of a job that is read from the file `name` and writes under `out`: 0 where an output or the log would be
+-- that file, else the least line of an input that one would be.
 unfoldable pub clash_of : WholeJob → List ℕ → List ℕ → Option ℕ
-clash_of job name out = clash_under (writes out 0 job.consoles) job name
+clash_of job name out = clash_under (is_output out job.consoles) job name
 
 -- What follows a text at the front of the bytes, where they begin with it. Only private functions cite this and what
 -- follows here.

@@ -1,8 +1,8 @@
 -- Files that are read line by line: which lines say anything, and which line of a file is refused first.
-use Rattle.std.specs.Prelude.{◌≡◌, ◌≤◌, ◌<◌, ℕ, ◌+◌, Bool, true, false, ◌⊎◌, List, [], ◌∷◌, ◌++◌, length, nat_lt, ◌==◌, Result, Ok, Err, if◌then◌else◌}
+use Rattle.std.specs.Prelude.{◌≡◌, ◌≤◌, ◌<◌, ℕ, ◌+◌, Bool, false, ◌⊎◌, List, [], ◌∷◌, ◌++◌, length, nat_lt, ◌==◌, Result, Ok, Err, if◌then◌else◌}
 use Rattle.gba_text.specs.Lines.{lines}
 use Rattle.gba_text.specs.Words.{words, has_text_alone, longest_line}
-use Rattle.gba_joblog.specs.Operands.{Words}
+use Rattle.gba_joblog.specs.Operands.{has_words}
 use Rattle.gba_joblog.specs.declared.kinds.JobError.{JobError}
 use Rattle.gba_joblog.specs.declared.kinds.JobKind.{JobKind}
 use Rattle.gba_joblog.specs.declared.kinds.JobKind.TheVariants as kind
@@ -11,10 +11,6 @@ use Rattle.gba_joblog.specs.declared.kinds.JobKind.TheVariants as kind
 abbrev pub is_comment : List ℕ → Bool
 is_comment [] = false
 is_comment (b ∷ _) = b == 35
-
-abbrev pub has_words : Words → Bool
-has_words [] = false
-has_words (_ ∷ _) = true
 
 -- Whether a line says anything, or else is skipped. Refused are, in this order, a line that is too long, and a line
 -- that is no comment and has a byte which is of no word.

@@ -1,5 +1,5 @@
 -- The job language: what a line says after the lines before it, and the job that a file says.
-use Rattle.std.specs.Prelude.{◌≡◌, ℕ, ◌+◌, Bool, true, false, List, Option, Some, None, Result, Ok, Err}
+use Rattle.std.specs.Prelude.{◌≡◌, ℕ, ◌+◌, Bool, true, false, List, Option, Some, None, Result, Ok, Err, unwrap_or}
 use Rattle.gba_text.specs.Words.{words}
 use Rattle.gba_joblog.specs.Draft.{Draft, nothing_said}
 pub use Rattle.gba_joblog.specs.Files.{error_at}
@@ -58,7 +58,8 @@ abbrev pub usual_delay : ℕ
 usual_delay = 512
 
 abbrev pub job_with : Draft → Option ℕ → ℕ → Result WholeJob JobError
-job_with d (Some cycles) lines = Ok (record { cycles = cycles; delay = usual_delay; consoles = d.consoles })
+job_with d (Some cycles) lines =
+    Ok (record { cycles = cycles; delay = unwrap_or d.delay usual_delay; consoles = d.consoles })
 job_with d None lines = Err (error_at (lines + 1) kind.Missing)
 
 -- the job, once all the lines are read: the last statement is `end`

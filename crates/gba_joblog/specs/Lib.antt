@@ -2,6 +2,7 @@ pub mod Kinds
 pub mod Job
 pub mod Names
 pub mod Draft
+pub mod Digests
 pub mod Operands
 pub mod Changes
 pub mod Statements
@@ -10,5 +11,7 @@ pub mod Language
 pub mod KeyFile
 pub mod Soundness
 pub mod Clash
+pub mod Log
+pub mod LogLaw
 pub mod Views
 pub mod Answers

@@ -1,18 +1,25 @@
 -- The words after a line's first one, from left to right: each reader takes the next word, or says why it can't.
-use Rattle.std.specs.Prelude.{ℕ, Bool, true, nat_lt, ◌==◌, List, [], ◌∷◌, codes, Option, Some, None, Result, Ok, Err, if◌then◌else◌}
+use Rattle.std.specs.Prelude.{ℕ, Bool, true, false, nat_lt, ◌==◌, List, [], ◌∷◌, codes, Option, Some, None, Result, Ok, Err, if◌then◌else◌}
 use Rattle.std.specs.Str.{bytes_eq}
-use Rattle.std.specs.Str.Parse.{digits_value}
+use Rattle.std.specs.Result.{result_ok}
+use Rattle.hex.specs.Hex.{decode_sized}
 use Rattle.gba_text.specs.Numbers.{is_number, number_of, hex_number_of}
+use Rattle.gba_joblog.specs.Digests.{digest_size}
 use Rattle.gba_joblog.specs.Kinds.{◌>>=◌}
 use Rattle.gba_joblog.specs.Names.{is_name}
 use Rattle.gba_joblog.specs.declared.job.OutKind.{OutKind}
-use Rattle.gba_joblog.specs.declared.job.OutKind.TheVariants.{Samples, State, Save}
+use Rattle.gba_joblog.specs.declared.job.OutKind.TheVariants.{Frames, Samples, State, Save}
+use Rattle.gba_joblog.specs.declared.job.OutKind.TheVariants as output
 use Rattle.gba_joblog.specs.declared.kinds.JobKind.{JobKind}
-use Rattle.gba_joblog.specs.declared.kinds.JobKind.TheVariants.{Word, Number, Name, Order, Missing, Extra}
+use Rattle.gba_joblog.specs.declared.kinds.JobKind.TheVariants.{Word, Number, Name, Digest, Order, Missing, Extra}
 
 -- the words that aren't read yet
 abbrev pub Words : Type 0
 Words = List (List ℕ)
+
+abbrev pub has_words : Words → Bool
+has_words [] = false
+has_words (_ ∷ _) = true
 
 -- an operand, and the words after it
 pub record Taken (T : Type 0) : Type 0 where
@@ -70,10 +77,12 @@ version_in t = or_refused Word t.words (version_of t.value)
 unfoldable pub version_at : Words → Result (Taken Bool) JobKind
 version_at words = word_at words >>= version_in
 
--- the outputs that can be asked for so far
+-- the outputs that can be asked for
 abbrev pub out_kind_of : List ℕ → Option OutKind
 out_kind_of word =
-    if bytes_eq word (codes "samples") then Some Samples
+    if bytes_eq word (codes "frames") then Some Frames
+    else if bytes_eq word (codes "samples") then Some Samples
+    else if bytes_eq word (codes "words") then Some output.Words
     else if bytes_eq word (codes "state") then Some State
     else if bytes_eq word (codes "save") then Some Save
     else None
@@ -85,26 +94,54 @@ out_kind_in t = or_refused Word t.words (out_kind_of t.value)
 unfoldable pub out_kind_at : Words → Result (Taken OutKind) JobKind
 out_kind_at words = word_at words >>= out_kind_in
 
--- a number, whatever it is
-abbrev pub any_number_of : List ℕ → Option ℕ
-any_number_of word = if is_number word then Some (digits_value 10 word) else None
+-- the greatest number of a console
+abbrev pub last_player : ℕ
+last_player = 3
 
 abbrev pub only : ℕ → Taken ℕ → Result (Taken ℕ) JobKind
 only next t = if t.value == next then Ok t else Err Order
 
-abbrev pub player_in : ℕ → Taken (List ℕ) → Result (Taken ℕ) JobKind
-player_in next t = or_refused Number t.words (any_number_of t.value) >>= only next
+-- a number of another console, however great, stands where it may not
+abbrev pub no_player : List ℕ → JobKind
+no_player word = if is_number word then Order else Number
 
--- the number of the next console
+abbrev pub player_of : ℕ → Taken (List ℕ) → Option ℕ → Result (Taken ℕ) JobKind
+player_of next t (Some player) = only next (operand player t.words)
+player_of next t None = Err (no_player t.value)
+
+abbrev pub player_in : ℕ → Taken (List ℕ) → Result (Taken ℕ) JobKind
+player_in next t = player_of next t (number_of 0 last_player t.value)
+
+-- the number of a console, which has to be the next one
 unfoldable pub player_at : ℕ → Words → Result (Taken ℕ) JobKind
 player_at next words = word_at words >>= player_in next
+
+-- the bytes that hexadecimal digits spell, two a byte, if they spell a digest
+abbrev pub digest_of : List ℕ → Option (List ℕ)
+digest_of word = result_ok (decode_sized word digest_size)
+
+abbrev pub digits_in : Taken (List ℕ) → Result (Taken (List ℕ)) JobKind
+digits_in t = or_refused Digest t.words (digest_of t.value)
+
+-- the digits of a digest, in either case
+unfoldable pub digits_at : Words → Result (Taken (List ℕ)) JobKind
+digits_at words = word_at words >>= digits_in
+
+abbrev pub stated : Taken (List ℕ) → Taken (Option (List ℕ))
+stated t = operand (Some t.value) t.words
+
+abbrev pub digest_in : Taken (List ℕ) → Result (Taken (Option (List ℕ))) JobKind
+digest_in t = if bytes_eq t.value (codes "sha256") then digits_at t.words >>= (λ t. Ok (stated t)) else Err Word
+
+abbrev pub digest_if : Words → Bool → Result (Taken (Option (List ℕ))) JobKind
+digest_if words false = Ok (operand None words)
+digest_if words true = word_at words >>= digest_in
+
+-- the digest that the rest of the line states, by the word `sha256` and its digits; there may be none
+unfoldable pub digest_at : Words → Result (Taken (Option (List ℕ))) JobKind
+digest_at words = digest_if words (has_words words)
 
 -- nothing follows
 abbrev pub end_at : Words → Result Bool JobKind
 end_at [] = Ok true
 end_at (_ ∷ _) = Err Extra
-
--- why the next word isn't the number of the next console; only private functions cite it
-abbrev pub other_player : Words → JobKind
-other_player [] = Missing
-other_player (word ∷ _) = if is_number word then Order else Number

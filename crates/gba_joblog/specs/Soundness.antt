@@ -1,18 +1,28 @@
 -- What holds of every job, and of every key file's changes, that is read.
-use Rattle.std.specs.Prelude.{◌≡◌, ◌≤◌, ◌<◌, ◌^◌, ℕ, true, List, [], ◌∷◌, length, None, IfSome, IsSome, Ok}
+use Rattle.std.specs.Prelude.{◌≡◌, ◌≤◌, ◌<◌, ◌^◌, ℕ, true, List, [], length, Option, IfSome, IsSome, Ok}
 use Rattle.std.specs.List.{All}
 use Rattle.std.specs.List.Sorted.{IsNonDecreasingBy}
 use Rattle.gba_joblog.specs.Changes.{most_changes}
+use Rattle.gba_joblog.specs.Digests.{IsDigest}
 use Rattle.gba_joblog.specs.Job.{ConsoleJob, NamedFile, WholeJob}
-use Rattle.gba_joblog.specs.Language.{job_of, usual_delay}
+use Rattle.gba_joblog.specs.Language.{job_of}
 use Rattle.gba_joblog.specs.KeyFile.{keys_of}
 use Rattle.gba_joblog.specs.Names.{is_name}
 use Rattle.gba_joblog.specs.declared.job.KeyChange.{KeyChange}
+use Rattle.gba_joblog.specs.declared.job.OutLine.{OutLine}
 
--- a file with a name of 1 to 200 bytes, and so far without a digest
+-- a file with a name of 1 to 200 bytes; what is stated with it may be a digest
 pub record IsFile (file : NamedFile) : Type 0 where
   pub named : is_name file.name ≡ true
-  pub plain : file.digest ≡ None
+  pub stated : IfSome file.digest IsDigest
+
+-- what is stated for an output may be a digest
+abbrev pub IsAsked : OutLine → Type 0
+IsAsked out = IfSome out.digest IsDigest
+
+-- an output is asked for or not
+abbrev pub IsOutput : Option OutLine → Type 0
+IsOutput out = IfSome out IsAsked
 
 -- a change at a clock below 2^38 of keys below 400h
 pub record IsChange (change : KeyChange) : Type 0 where
@@ -34,20 +44,22 @@ pub record IsPartOfConsole (console : ConsoleJob) : Type 0 where
   pub changes : AreChanges console.changes
   pub apart : IsSome console.keys → console.changes ≡ []
   pub five : length console.outs ≡ 5
+  pub outs : All IsOutput console.outs
 
 -- a whole console has its BIOS image
 pub record IsConsole (console : ConsoleJob) : Type 0 where
   pub part : IsPartOfConsole console
   pub image : IsSome console.bios
 
--- a job of one console, in the ranges of the language
+-- a job of one to four consoles, in the ranges of the language
 pub record IsJob (job : WholeJob) : Type 0 where
   pub some_cycles : 1 ≤ job.cycles
   pub few_cycles : job.cycles ≤ 2 ^ 31
-  pub delay : job.delay ≡ usual_delay
-  pub console : ConsoleJob
-  pub alone : job.consoles ≡ console ∷ []
-  pub whole : IsConsole console
+  pub some_delay : 1 ≤ job.delay
+  pub few_delay : job.delay ≤ 1024
+  pub some_consoles : 1 ≤ length job.consoles
+  pub few_consoles : length job.consoles ≤ 4
+  pub each : All IsConsole job.consoles
 
 -- each job that a file says is sound
 abbrev pub IsSoundLanguage : Type 0

@@ -1,13 +1,15 @@
 -- The table of statements. Each keyword has its spelling, its place, its operands, and what it says.
-use Rattle.std.specs.Prelude.{ℕ, ◌^◌, Bool, true, false, List, [], ◌∷◌, ◌++◌, length, codes, not, Option, Some, None, Result, Ok, is_some, slice_get, slice_set, if◌then◌else◌}
+use Rattle.std.specs.Prelude.{ℕ, ◌+◌, ◌^◌, Bool, true, false, List, [], ◌∷◌, ◌++◌, length, codes, not, Option, Some, None, Result, Ok, is_some, slice_get, slice_set, if◌then◌else◌}
 use Rattle.std.specs.Str.{bytes_eq}
 use Rattle.gba_joblog.specs.Changes.{change_at}
 use Rattle.gba_joblog.specs.Draft.{Draft, silent_console}
 use Rattle.gba_joblog.specs.Job.{ConsoleJob, NamedFile}
 use Rattle.gba_joblog.specs.Kinds.{◌>>=◌, holds}
-use Rattle.gba_joblog.specs.Operands.{Words, number_at, name_at, player_at, version_at, out_kind_at, end_at}
+use Rattle.gba_joblog.specs.Operands.{Words, number_at, name_at, digest_at, player_at, version_at, out_kind_at, end_at}
 use Rattle.gba_joblog.specs.declared.draft.Place.{Place}
 use Rattle.gba_joblog.specs.declared.draft.Place.TheVariants.{Start, Head, Inside, Ended}
+use Rattle.gba_joblog.specs.declared.job.FileKind.{FileKind}
+use Rattle.gba_joblog.specs.declared.job.FileKind.TheVariants as file
 use Rattle.gba_joblog.specs.declared.job.KeyChange.{KeyChange}
 use Rattle.gba_joblog.specs.declared.job.OutKind.{OutKind}
 use Rattle.gba_joblog.specs.declared.job.OutKind.TheVariants as output
@@ -21,13 +23,14 @@ use Rattle.gba_joblog.specs.declared.statement.Keyword.TheVariants as keyword
 pub data Statement : Type 0 where
   Version : Statement
   Cycles : ℕ → Statement
-  Console : Statement
-  Bios : List ℕ → Statement
-  Cart : List ℕ → Statement
-  Save : List ℕ → Statement
-  Keys : List ℕ → Statement
+  Delay : ℕ → Statement
+  -- the console of this number begins
+  Console : ℕ → Statement
+  -- an input, its name, and the digest stated with it
+  File : FileKind → List ℕ → Option (List ℕ) → Statement
   Key : KeyChange → Statement
-  Out : OutKind → Statement
+  -- an output, and the digest stated for it
+  Out : OutKind → Option (List ℕ) → Statement
   End : Statement
 
 -- the keyword that a line's first word spells
@@ -35,11 +38,12 @@ unfoldable pub keyword_of : List ℕ → Option Keyword
 keyword_of word =
     if bytes_eq word (codes "gbalink") then Some keyword.Version
     else if bytes_eq word (codes "cycles") then Some keyword.Cycles
+    else if bytes_eq word (codes "delay") then Some keyword.Delay
     else if bytes_eq word (codes "console") then Some keyword.Console
-    else if bytes_eq word (codes "bios") then Some keyword.Bios
-    else if bytes_eq word (codes "cart") then Some keyword.Cart
-    else if bytes_eq word (codes "save") then Some keyword.Save
-    else if bytes_eq word (codes "keys") then Some keyword.Keys
+    else if bytes_eq word (codes "bios") then Some (keyword.File file.Bios)
+    else if bytes_eq word (codes "cart") then Some (keyword.File file.Cart)
+    else if bytes_eq word (codes "save") then Some (keyword.File file.Save)
+    else if bytes_eq word (codes "keys") then Some (keyword.File file.Keys)
     else if bytes_eq word (codes "key") then Some keyword.Key
     else if bytes_eq word (codes "out") then Some keyword.Out
     else if bytes_eq word (codes "end") then Some keyword.End
@@ -69,8 +73,19 @@ abbrev pub without_changes : List KeyChange → Option JobKind → Option JobKin
 without_changes [] refusal = refusal
 without_changes (_ ∷ _) _ = Some kind.Order
 
-abbrev pub keys_refusal : ConsoleJob → Option JobKind
-keys_refusal console = without_changes console.changes (once (is_some console.keys))
+-- what a console says of an input
+abbrev pub file_of : FileKind → ConsoleJob → Option NamedFile
+file_of file.Bios console = console.bios
+file_of file.Cart console = console.cart
+file_of file.Save console = console.save
+file_of file.Keys console = console.keys
+
+-- each input is named once
+abbrev pub file_refusal : FileKind → ConsoleJob → Option JobKind
+file_refusal file.Bios console = once (is_some console.bios)
+file_refusal file.Cart console = once (is_some console.cart)
+file_refusal file.Save console = once (is_some console.save)
+file_refusal file.Keys console = without_changes console.changes (once (is_some console.keys))
 
 -- a console whose keys come from a file has no `key` line
 abbrev pub without_file : Bool → Option JobKind
@@ -84,23 +99,21 @@ at_start Head = Some kind.Repeated
 at_start Inside = Some kind.Repeated
 at_start Ended = Some kind.Repeated
 
--- A console's first line stands after `cycles`. So far a job has one console, so a second such line isn't understood.
+-- a console's first line stands after `cycles`
 abbrev pub before_console : Place → Bool → Option JobKind
 before_console Head true = None
 before_console Head false = Some kind.Order
 before_console Start _ = Some kind.Order
-before_console Inside _ = Some kind.Word
-before_console Ended _ = Some kind.Word
+before_console Inside _ = None
+before_console Ended _ = Some kind.Order
 
 -- the place of each line: why it may not stand here, if so
 unfoldable pub refusal_at : Draft → Keyword → Option JobKind
 refusal_at d keyword.Version = at_start d.place
 refusal_at d keyword.Cycles = in_head d.place (is_some d.cycles)
+refusal_at d keyword.Delay = in_head d.place (is_some d.delay)
 refusal_at d keyword.Console = before_console d.place (is_some d.cycles)
-refusal_at d keyword.Bios = in_console d.place (once (is_some d.last.bios))
-refusal_at d keyword.Cart = in_console d.place (once (is_some d.last.cart))
-refusal_at d keyword.Save = in_console d.place (once (is_some d.last.save))
-refusal_at d keyword.Keys = in_console d.place (keys_refusal d.last)
+refusal_at d (keyword.File file) = in_console d.place (file_refusal file d.last)
 refusal_at d keyword.Key = in_console d.place (without_file (is_some d.last.keys))
 refusal_at d keyword.Out = in_console d.place None
 refusal_at d keyword.End = in_console d.place None
@@ -113,6 +126,22 @@ place_of output.Words = 2
 place_of output.State = 3
 place_of output.Save = 4
 
+-- the name of an output, in jobs and at the end of its file's name
+abbrev pub out_name : OutKind → List ℕ
+out_name output.Frames = codes "frames"
+out_name output.Samples = codes "samples"
+out_name output.Words = codes "words"
+out_name output.State = codes "state"
+out_name output.Save = codes "save"
+
+abbrev pub asked_in : Option (Option OutLine) → Option OutLine
+asked_in (Some asked) = asked
+asked_in None = None
+
+-- what a console is asked for of an output, if it is
+abbrev pub output_of : ConsoleJob → OutKind → Option OutLine
+output_of console out = asked_in (slice_get console.outs (place_of out))
+
 abbrev pub is_asked : Option (Option OutLine) → Bool
 is_asked (Some (Some _)) = true
 is_asked (Some None) = false
@@ -121,6 +150,27 @@ is_asked None = false
 -- whether a console asks for an output
 abbrev pub asks_for : ConsoleJob → OutKind → Bool
 asks_for console out = is_asked (slice_get console.outs (place_of out))
+
+-- the consoles once the one whose lines stand here is whole
+abbrev pub whole_consoles : Place → List ConsoleJob → ConsoleJob → List ConsoleJob
+whole_consoles Inside consoles last = consoles ++ last ∷ []
+whole_consoles Start consoles last = consoles
+whole_consoles Head consoles last = consoles
+whole_consoles Ended consoles last = consoles
+
+-- the number of the next console
+abbrev pub next_player : Place → ℕ → ℕ
+next_player Inside whole = whole + 1
+next_player Start whole = whole
+next_player Head whole = whole
+next_player Ended whole = whole
+
+-- whether the console whose lines stand here has its BIOS image
+abbrev pub has_image : Place → ConsoleJob → Bool
+has_image Inside last = is_some last.bios
+has_image Start last = true
+has_image Head last = true
+has_image Ended last = true
 
 -- the operands of each line, from left to right, and what it says with them
 unfoldable pub arguments : Draft → Keyword → Words → Result Statement JobKind
@@ -132,56 +182,64 @@ arguments d keyword.Cycles words = do
   cycles ← number_at 1 (2 ^ 31) words
   _ ← end_at cycles.words
   Ok (Cycles cycles.value)
+arguments d keyword.Delay words = do
+  delay ← number_at 1 1024 words
+  _ ← end_at delay.words
+  Ok (Delay delay.value)
 arguments d keyword.Console words = do
-  player ← player_at (length d.consoles) words
+  player ← player_at (next_player d.place (length d.consoles)) words
+  _ ← holds (has_image d.place d.last) kind.Missing
   _ ← end_at player.words
-  Ok Console
-arguments d keyword.Bios words = do
+  Ok (Console player.value)
+arguments d (keyword.File file) words = do
   name ← name_at words
-  _ ← end_at name.words
-  Ok (Bios name.value)
-arguments d keyword.Cart words = do
-  name ← name_at words
-  _ ← end_at name.words
-  Ok (Cart name.value)
-arguments d keyword.Save words = do
-  name ← name_at words
-  _ ← end_at name.words
-  Ok (Save name.value)
-arguments d keyword.Keys words = do
-  name ← name_at words
-  _ ← end_at name.words
-  Ok (Keys name.value)
+  digest ← digest_at name.words
+  _ ← end_at digest.words
+  Ok (File file name.value digest.value)
 arguments d keyword.Key words = do
   change ← change_at d.last.changes words
   Ok (Key change)
 arguments d keyword.Out words = do
   out ← out_kind_at words
   _ ← holds (not (asks_for d.last out.value)) kind.Repeated
-  _ ← end_at out.words
-  Ok (Out out.value)
+  digest ← digest_at out.words
+  _ ← end_at digest.words
+  Ok (Out out.value digest.value)
 arguments d keyword.End words = do
   _ ← holds (is_some d.last.bios) kind.Missing
   _ ← end_at words
   Ok End
 
--- a file without a stated digest
-abbrev pub plain_file : List ℕ → ℕ → NamedFile
-plain_file name line = record { name = name; digest = None; line = line }
+abbrev pub named_file : List ℕ → Option (List ℕ) → ℕ → NamedFile
+named_file name digest line = record { name = name; digest = digest; line = line }
 
-abbrev pub plain_output : OutLine
-plain_output = record { digest = None }
+abbrev pub asked_output : Option (List ℕ) → OutLine
+asked_output digest = record { digest = digest }
+
+-- a console with this line of an input
+abbrev pub with_file : FileKind → NamedFile → ConsoleJob → ConsoleJob
+with_file file.Bios named console = record console { bios = Some named }
+with_file file.Cart named console = record console { cart = Some named }
+with_file file.Save named console = record console { save = Some named }
+with_file file.Keys named console = record console { keys = Some named }
+
+-- a console that is asked for this output
+abbrev pub with_output : OutKind → OutLine → ConsoleJob → ConsoleJob
+with_output out asked console = record console { outs = slice_set console.outs (place_of out) (Some asked) }
+
+-- what is said once the console whose lines stand here is whole, and the next line stands at this place
+abbrev pub closed : Place → Draft → Draft
+closed place d =
+    record d { place = place; consoles = whole_consoles d.place d.consoles d.last; last = silent_console }
 
 -- what is said once a line, with its number, is said as well
 unfoldable pub plus_statement : ℕ → Statement → Draft → Draft
 plus_statement line Version d = record d { place = Head }
 plus_statement line (Cycles cycles) d = record d { cycles = Some cycles }
-plus_statement line Console d = record d { place = Inside }
-plus_statement line (Bios name) d = record d { last = record d.last { bios = Some (plain_file name line) } }
-plus_statement line (Cart name) d = record d { last = record d.last { cart = Some (plain_file name line) } }
-plus_statement line (Save name) d = record d { last = record d.last { save = Some (plain_file name line) } }
-plus_statement line (Keys name) d = record d { last = record d.last { keys = Some (plain_file name line) } }
+plus_statement line (Delay delay) d = record d { delay = Some delay }
+plus_statement line (Console player) d = closed Inside d
+plus_statement line (File file name digest) d =
+    record d { last = with_file file (named_file name digest line) d.last }
 plus_statement line (Key change) d = record d { last = record d.last { changes = d.last.changes ++ change ∷ [] } }
-plus_statement line (Out out) d =
-    record d { last = record d.last { outs = slice_set d.last.outs (place_of out) (Some plain_output) } }
-plus_statement line End d = record d { place = Ended; consoles = d.consoles ++ d.last ∷ []; last = silent_console }
+plus_statement line (Out out digest) d = record d { last = with_output out (asked_output digest) d.last }
+plus_statement line End d = closed Ended d

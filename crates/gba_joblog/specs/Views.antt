@@ -1,7 +1,7 @@
 use Rattle.std.specs.Prelude.{map, option_map, string_bytes}
 use Rattle.gba_joblog.specs.Draft.{Draft}
 use Rattle.gba_joblog.specs.Job.{ConsoleJob, NamedFile, WholeJob}
-use Rattle.gba_joblog.specs.Statements.{Statement, Version, Cycles, Console, Bios, Cart, Save, Keys, Key, Out, End}
+use Rattle.gba_joblog.specs.Statements.{Statement, Version, Cycles, Delay, Console, File, Key, Out, End}
 use Rattle.gba_joblog.specs.declared.draft.DraftJob.{DraftJob}
 use Rattle.gba_joblog.specs.declared.job.FileLine.{FileLine}
 use Rattle.gba_joblog.specs.declared.job.Job.{Job}
@@ -30,6 +30,7 @@ abbrev pub draft_value : DraftJob → Draft
 draft_value draft = record {
   place = draft.place;
   cycles = draft.cycles;
+  delay = draft.delay;
   consoles = map console_value draft.consoles.items;
   last = console_value draft.last;
 }
@@ -37,11 +38,9 @@ draft_value draft = record {
 abbrev pub statement_value : Line → Statement
 statement_value line.Version = Version
 statement_value (line.Cycles cycles) = Cycles cycles
-statement_value line.Console = Console
-statement_value (line.Bios name) = Bios name.now
-statement_value (line.Cart name) = Cart name.now
-statement_value (line.Save name) = Save name.now
-statement_value (line.Keys name) = Keys name.now
+statement_value (line.Delay delay) = Delay delay
+statement_value (line.Console player) = Console player
+statement_value (line.File file name digest) = File file name.now digest
 statement_value (line.Key change) = Key change
-statement_value (line.Out out) = Out out
+statement_value (line.Out out digest) = Out out digest
 statement_value line.End = End

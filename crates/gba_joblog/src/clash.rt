@@ -1,7 +1,8 @@
 //! Output files that would be the job or one of its inputs.
 
 ghost use Rattle.std.specs.Prelude.{◌≡◌, ◌<◌, ◌^◌, decimal, map, option_map};
-ghost use Rattle.gba_joblog.specs.Clash.{clash_of, console_clash as console_clash_of, console_writes as console_writes_of, ends_as as ends_as_of, inputs_clash as inputs_clash_of, least as least_of, line_of as line_of_of, tail_after as tail_after_of, writes as writes_of};
+ghost use Rattle.std.specs.Str.{bytes_eq};
+ghost use Rattle.gba_joblog.specs.Clash.{after_text, clash_of, console_clash as console_clash_of, console_writes as console_writes_of, ends_as as ends_as_of, inputs_clash as inputs_clash_of, is_output as is_output_of, least as least_of, line_of as line_of_of, log_file, tail_after as tail_after_of, writes as writes_of};
 ghost use Rattle.gba_joblog.specs.Views.{console_value, file_value, job_value};
 
 use crate::job::{FileLine, Job, JobConsole, OutKind};
@@ -52,6 +53,31 @@ fn writes(out: &[u8], consoles: &[JobConsole], name: &[u8]) -> bool
     false
 }
 
+/// What follows OUT in a name.
+fn after_out<'a>(name: &'a [u8], out: &[u8]) -> Option<&'a [u8]>
+    ensures { option_map (λ tail. tail.now) result ≡ after_text out.now name.now }
+{
+    name.strip_prefix(out)
+}
+
+/// Whether this is the name of the log.
+fn is_log(out: &[u8], name: &[u8]) -> bool
+    ensures { result ≡ bytes_eq name.now (log_file out.now) }
+{
+    match after_out(name, out) {
+        Some(tail) => tail == b".log".as_slice(),
+        None => false,
+    }
+}
+
+/// Whether a run of the consoles writes a file of this name.
+#[tactic(auto, unfolding(crate::specs::Clash::is_output))]
+fn is_output(out: &[u8], consoles: &[JobConsole], name: &[u8]) -> bool
+    ensures { result ≡ is_output_of out.now (map console_value consoles.now) name.now }
+{
+    is_log(out, name) || writes(out, consoles, name)
+}
+
 /// The lesser of two lines, where both are there.
 fn least(a: Option<u64>, b: Option<u64>) -> Option<u64>
     ensures { result ≡ least_of a b }
@@ -66,11 +92,11 @@ fn least(a: Option<u64>, b: Option<u64>) -> Option<u64>
 /// The line of an input that an output would be.
 fn line_of(out: &[u8], consoles: &[JobConsole], file: &Option<FileLine>) -> Option<u64>
     ensures { result
-        ≡ line_of_of (writes_of out.now 0 (map console_value consoles.now)) (option_map file_value file.now) }
+        ≡ line_of_of (is_output_of out.now (map console_value consoles.now)) (option_map file_value file.now) }
 {
     match file {
         Some(file) => {
-            if writes(out, consoles, file.name.as_bytes()) {
+            if is_output(out, consoles, file.name.as_bytes()) {
                 Some(file.line)
             } else {
                 None
@@ -84,7 +110,7 @@ fn line_of(out: &[u8], consoles: &[JobConsole], file: &Option<FileLine>) -> Opti
 #[tactic(auto, unfolding(crate::specs::Clash::console_clash))]
 fn console_clash(out: &[u8], consoles: &[JobConsole], console: &JobConsole) -> Option<u64>
     ensures { result
-        ≡ console_clash_of (writes_of out.now 0 (map console_value consoles.now)) (console_value console.now) }
+        ≡ console_clash_of (is_output_of out.now (map console_value consoles.now)) (console_value console.now) }
 {
     let bios = line_of(out, consoles, &console.bios);
     let cart = line_of(out, consoles, &console.cart);
@@ -96,7 +122,7 @@ fn console_clash(out: &[u8], consoles: &[JobConsole], console: &JobConsole) -> O
 /// The least line of an input that an output would be.
 fn inputs_clash(out: &[u8], consoles: &[JobConsole]) -> Option<u64>
     ensures { result
-        ≡ inputs_clash_of (writes_of out.now 0 (map console_value consoles.now)) (map console_value consoles.now) }
+        ≡ inputs_clash_of (is_output_of out.now (map console_value consoles.now)) (map console_value consoles.now) }
 {
     let mut found = None;
     for console in consoles {
@@ -106,14 +132,14 @@ fn inputs_clash(out: &[u8], consoles: &[JobConsole]) -> Option<u64>
 }
 
 impl Job {
-    /// Where an output file of a run with this OUT would be the file of the job, line 0, or one of its inputs: then the
-    /// least line of such an input.
+    /// Where an output file or the log of a run with this OUT would be the file of the job, line 0, or one of its inputs:
+    /// then the least line of such an input.
     #[tactic(auto, unfolding(crate::specs::Clash::clash_of))]
     pub fn clash(&self, job_name: &str, out: &str) -> Option<u64>
         ensures { result ≡ clash_of (job_value self.now) job_name.now out.now }
     {
         let consoles = self.consoles.as_slice();
-        if writes(out.as_bytes(), consoles, job_name.as_bytes()) {
+        if is_output(out.as_bytes(), consoles, job_name.as_bytes()) {
             return Some(0);
         }
         inputs_clash(out.as_bytes(), consoles)

@@ -1,13 +1,13 @@
 //! What the lines before have said.
 
-ghost use Rattle.std.specs.Prelude.{◌≡◌, ◌+◌, ◌<◌, ◌^◌, OnOk, IfOk};
+ghost use Rattle.std.specs.Prelude.{◌≡◌, ◌+◌, ◌<◌, ◌^◌, OnOk, IfOk, vec_len};
 ghost use Rattle.gba_joblog.specs.Answers.{Finishes};
 ghost use Rattle.gba_joblog.specs.Draft.{nothing_said};
 ghost use Rattle.gba_joblog.specs.Language.{job_at_end as job_at_end_of};
-ghost use Rattle.gba_joblog.specs.Statements.{End, plus_statement, plain_file as plain_file_of};
+ghost use Rattle.gba_joblog.specs.Statements.{closed, named_file as named_file_of, next_player as next_player_of, plus_statement};
 ghost use Rattle.gba_joblog.specs.Views.{draft_value, file_value, job_value, statement_value};
 
-use crate::job::{FileLine, Job, JobConsole, OutLine};
+use crate::job::{FileLine, Job, JobConsole};
 use crate::kinds::{JobError, JobKind};
 use crate::statement::Line;
 use std::alloc::{AllocError, Global};
@@ -34,18 +34,24 @@ pub(crate) enum Place {
 pub(crate) struct DraftJob {
     pub(crate) place: Place,
     pub(crate) cycles: Option<u64>,
+    pub(crate) delay: Option<u64>,
     /// The consoles that are whole.
     pub(crate) consoles: Vec<JobConsole>,
     /// The console whose lines stand here.
     pub(crate) last: JobConsole,
 }
 
-fn plain_file(alloc: Global, name: &str, line: u64) -> Result<FileLine, AllocError>
-    ensures { IfOk result (λ file. file_value file ≡ plain_file_of name.now line) }
+fn named_file(
+    alloc: Global,
+    name: &str,
+    digest: Option<[u8; 32]>,
+    line: u64,
+) -> Result<FileLine, AllocError>
+    ensures { IfOk result (λ file. file_value file ≡ named_file_of name.now digest line) }
 {
     Ok(FileLine {
         name: String::from_str(alloc, name)?,
-        digest: None,
+        digest,
         line,
     })
 }
@@ -58,19 +64,32 @@ impl DraftJob {
         DraftJob {
             place: Place::Start,
             cycles: None,
+            delay: None,
             consoles: Vec::new(alloc),
             last: JobConsole::silent(alloc),
         }
     }
 
-    /// Ends the job: the last console is whole.
-    #[tactic(auto, unfolding(crate::specs::Statements::plus_statement))]
-    fn end(&mut self, alloc: Global) -> Result<(), AllocError>
-        ensures { OnOk result (draft_value self.new ≡ plus_statement 0 End (draft_value self.old)) }
+    /// The number of the next console.
+    pub(crate) fn next_player(&self) -> u64
+        ensures { result ≡ next_player_of self.now.place (vec_len self.now.consoles) }
+    {
+        let whole = self.consoles.len() as u64;
+        match self.place {
+            Place::Inside => whole + 1,
+            Place::Start | Place::Head | Place::Ended => whole,
+        }
+    }
+
+    /// Says that the console whose lines stand here is whole, if there is one, and where the next line stands.
+    fn close(&mut self, alloc: Global, place: Place) -> Result<(), AllocError>
+        ensures { OnOk result (draft_value self.new ≡ closed place (draft_value self.old)) }
     {
         let last = mem::replace(&mut self.last, JobConsole::silent(alloc));
-        self.consoles.push(last)?;
-        self.place = Place::Ended;
+        if self.place == Place::Inside {
+            self.consoles.push(last)?;
+        }
+        self.place = place;
         Ok(())
     }
 
@@ -94,39 +113,25 @@ impl DraftJob {
                 self.cycles = Some(cycles);
                 Ok(())
             }
-            Line::Console => {
-                self.place = Place::Inside;
+            Line::Delay(delay) => {
+                self.delay = Some(delay);
                 Ok(())
             }
-            Line::Bios(name) => {
-                let file = plain_file(alloc, name, number)?;
-                self.last.bios = Some(file);
-                Ok(())
-            }
-            Line::Cart(name) => {
-                let file = plain_file(alloc, name, number)?;
-                self.last.cart = Some(file);
-                Ok(())
-            }
-            Line::Save(name) => {
-                let file = plain_file(alloc, name, number)?;
-                self.last.save = Some(file);
-                Ok(())
-            }
-            Line::Keys(name) => {
-                let file = plain_file(alloc, name, number)?;
-                self.last.keys = Some(file);
+            Line::Console(_) => self.close(alloc, Place::Inside),
+            Line::File(kind, name, digest) => {
+                let file = named_file(alloc, name, digest, number)?;
+                self.last.put_file(kind, file);
                 Ok(())
             }
             Line::Key(change) => {
                 self.last.changes.push(change)?;
                 Ok(())
             }
-            Line::Out(out) => {
-                self.last.outs[out.place()] = Some(OutLine { digest: None });
+            Line::Out(out, digest) => {
+                self.last.ask_for(out, digest);
                 Ok(())
             }
-            Line::End => self.end(alloc),
+            Line::End => self.close(alloc, Place::Ended),
         }
     }
 
@@ -146,7 +151,7 @@ impl DraftJob {
         match self.cycles {
             Some(cycles) => Ok(Job {
                 cycles,
-                delay: USUAL_DELAY,
+                delay: self.delay.unwrap_or(USUAL_DELAY),
                 consoles: self.consoles,
             }),
             None => Err(missing),

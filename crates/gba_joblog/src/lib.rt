@@ -6,6 +6,7 @@
 
 mod changes;
 mod clash;
+mod digest;
 mod draft;
 mod job;
 mod key_file;
@@ -16,9 +17,8 @@ mod names;
 mod operands;
 mod parse;
 mod statement;
-#[cfg(test)]
-mod tests;
 
+pub use digest::{digest_of, digits_of};
 pub use job::{FileLine, Job, JobConsole, KeyChange, OutKind, OutLine};
 pub use key_file::{LONGEST_KEYS, parse_keys};
 pub use kinds::{JobError, JobKind, ParseRefused};

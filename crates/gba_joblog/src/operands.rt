@@ -1,18 +1,22 @@
 //! The words after a line's first one.
 
 ghost use Rattle.std.specs.Prelude.{◌≡◌, ◌<◌, true};
-ghost use Rattle.gba_text.specs.Numbers.{all_digits, is_number as is_number_of};
+ghost use Rattle.gba_text.specs.Numbers.{all_digits as all_digits_of, is_number as is_number_of};
 ghost use Rattle.gba_text.specs.Words.{fault_of};
 ghost use Rattle.gba_joblog.specs.Answers.{Agrees, Takes};
-ghost use Rattle.gba_joblog.specs.Operands.{end_at as end_at_of, keys_at as keys_at_of, name_at as name_at_of, number_at as number_at_of, other_player as other_player_of, out_kind_at as out_kind_at_of, player_at as player_at_of, version_at as version_at_of, word_at as word_at_of};
+ghost use Rattle.gba_joblog.specs.Operands.{digest_at as digest_at_of, digits_at as digits_at_of, end_at as end_at_of, has_words as has_words_of, keys_at as keys_at_of, name_at as name_at_of, number_at as number_at_of, out_kind_at as out_kind_at_of, player_at as player_at_of, version_at as version_at_of, word_at as word_at_of};
 
 use crate::job::OutKind;
 use crate::kinds::JobKind;
 use crate::names::{is_name, name_text};
 use gba_text::Cursor;
+use hex::FromHex;
+
+/// The greatest number of a console.
+const LAST_PLAYER: u64 = 3;
 
 /// The most digits of a number.
-const MOST_DIGITS: usize = 20;
+const LONGEST_NUMBER: usize = 20;
 
 /// The digits of pressed keys.
 const KEY_DIGITS: u32 = 3;
@@ -114,8 +118,14 @@ pub(crate) fn out_kind_at(cursor: &mut Cursor<'_>) -> Result<OutKind, JobKind>
     ensures lines { cursor.new.lines ≡ cursor.old.lines }
 {
     let word = word_at(cursor)?;
+    if word == b"frames".as_slice() {
+        return Ok(OutKind::Frames);
+    }
     if word == b"samples".as_slice() {
         return Ok(OutKind::Samples);
+    }
+    if word == b"words".as_slice() {
+        return Ok(OutKind::Words);
     }
     if word == b"state".as_slice() {
         return Ok(OutKind::State);
@@ -126,52 +136,88 @@ pub(crate) fn out_kind_at(cursor: &mut Cursor<'_>) -> Result<OutKind, JobKind>
     Err(JobKind::Word)
 }
 
-fn are_digits(word: &[u8]) -> bool
-    ensures { result ≡ all_digits word.now }
+fn all_digits(word: &[u8]) -> bool
+    ensures { result ≡ all_digits_of word.now }
 {
     word.iter().all(|byte| byte.is_ascii_digit())
 }
 
+/// Whether a word is spelled as a number: 1 to 20 decimal digits.
 fn is_number(word: &[u8]) -> bool
     ensures { result ≡ is_number_of word.now }
 {
-    !word.is_empty() && word.len() <= MOST_DIGITS && are_digits(word)
-}
-
-/// Why the next word isn't the number of the next console.
-fn other_player(cursor: &mut Cursor<'_>) -> JobKind
-    requires given { 0 < cursor.old.number }
-    requires sound { fault_of cursor.old.line ≡ None }
-    ensures kind { result ≡ other_player_of cursor.old.words }
-    ensures number { cursor.new.number ≡ cursor.old.number }
-    ensures line { cursor.new.line ≡ cursor.old.line }
-    ensures lines { cursor.new.lines ≡ cursor.old.lines }
-{
-    match word_at(cursor) {
-        Ok(word) => {
-            if is_number(word) {
-                JobKind::Order
-            } else {
-                JobKind::Number
-            }
-        }
-        Err(kind) => kind,
-    }
+    1 <= word.len() && word.len() <= LONGEST_NUMBER && all_digits(word)
 }
 
 /// The next word as the number of a console, which has to be this one.
-pub(crate) fn player_at(cursor: &mut Cursor<'_>, next: u64) -> Result<(), JobKind>
+#[tactic(auto, unfolding(gba_text::specs::Reading::next_word, gba_text::specs::Reading::next_number, crate::specs::Operands::player_at))]
+pub(crate) fn player_at(cursor: &mut Cursor<'_>, next: u64) -> Result<u64, JobKind>
     requires given { 0 < cursor.old.number }
     requires sound { fault_of cursor.old.line ≡ None }
-    ensures word { Takes (λ _. next) result cursor.new.words (player_at_of next cursor.old.words) }
+    ensures word { Takes (λ player. player) result cursor.new.words (player_at_of next cursor.old.words) }
     ensures number { cursor.new.number ≡ cursor.old.number }
     ensures line { cursor.new.line ≡ cursor.old.line }
     ensures lines { cursor.new.lines ≡ cursor.old.lines }
 {
-    match cursor.number(next, next) {
-        Ok(_) => Ok(()),
-        Err(_) => Err(other_player(cursor)),
+    if let Ok(player) = cursor.number(0, LAST_PLAYER) {
+        if player != next {
+            return Err(JobKind::Order);
+        }
+        return Ok(player);
     }
+    let word = word_at(cursor)?;
+    if is_number(word) {
+        return Err(JobKind::Order);
+    }
+    Err(JobKind::Number)
+}
+
+/// Whether words are left in the line.
+#[tactic(auto, unfolding(gba_text::specs::Reading::next_word))]
+fn has_words(cursor: &Cursor<'_>) -> bool
+    requires given { 0 < cursor.now.number }
+    requires sound { fault_of cursor.now.line ≡ None }
+    ensures { result ≡ has_words_of cursor.now.words }
+{
+    cursor.peek().is_ok()
+}
+
+/// The next word as the digits of a digest.
+#[tactic(auto, unfolding(crate::specs::Operands::digits_at))]
+fn digits_at(cursor: &mut Cursor<'_>) -> Result<[u8; 32], JobKind>
+    requires given { 0 < cursor.old.number }
+    requires sound { fault_of cursor.old.line ≡ None }
+    ensures word { Takes (λ digest. digest) result cursor.new.words (digits_at_of cursor.old.words) }
+    ensures number { cursor.new.number ≡ cursor.old.number }
+    ensures line { cursor.new.line ≡ cursor.old.line }
+    ensures lines { cursor.new.lines ≡ cursor.old.lines }
+{
+    let word = word_at(cursor)?;
+    match <[u8; 32] as FromHex>::from_hex(word) {
+        Ok(digest) => Ok(digest),
+        Err(_) => Err(JobKind::Digest),
+    }
+}
+
+/// The digest that the rest of the line states, if it states one.
+#[tactic(auto, unfolding(crate::specs::Operands::digest_at))]
+pub(crate) fn digest_at(cursor: &mut Cursor<'_>) -> Result<Option<[u8; 32]>, JobKind>
+    requires given { 0 < cursor.old.number }
+    requires sound { fault_of cursor.old.line ≡ None }
+    ensures word { Takes (λ digest. digest) result cursor.new.words (digest_at_of cursor.old.words) }
+    ensures number { cursor.new.number ≡ cursor.old.number }
+    ensures line { cursor.new.line ≡ cursor.old.line }
+    ensures lines { cursor.new.lines ≡ cursor.old.lines }
+{
+    if !has_words(cursor) {
+        return Ok(None);
+    }
+    let word = word_at(cursor)?;
+    if word != b"sha256".as_slice() {
+        return Err(JobKind::Word);
+    }
+    let digest = digits_at(cursor)?;
+    Ok(Some(digest))
 }
 
 /// The end of the line.

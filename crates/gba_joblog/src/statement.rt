@@ -3,29 +3,30 @@
 ghost use Rattle.std.specs.Prelude.{◌≡◌, ◌<◌};
 ghost use Rattle.gba_text.specs.Words.{fault_of};
 ghost use Rattle.gba_joblog.specs.Answers.{Agrees};
-ghost use Rattle.gba_joblog.specs.Statements.{arguments as arguments_of, keys_refusal as keys_refusal_of, keyword_of as keyword_spelled, refusal_at as refusal_at_of};
+ghost use Rattle.gba_joblog.specs.Statements.{arguments as arguments_of, file_refusal as file_refusal_of, has_image as has_image_of, keyword_of as keyword_spelled, once as once_of, refusal_at as refusal_at_of};
 ghost use Rattle.gba_joblog.specs.Views.{console_value, draft_value, statement_value};
 
 use crate::changes::change_at;
 use crate::draft::{DraftJob, Place};
-use crate::job::{JobConsole, KeyChange, OutKind};
+use crate::job::{FileKind, JobConsole, KeyChange, OutKind};
 use crate::kinds::JobKind;
-use crate::operands::{end_at, name_at, number_at, out_kind_at, player_at, version_at};
+use crate::operands::{digest_at, end_at, name_at, number_at, out_kind_at, player_at, version_at};
 use gba_text::Cursor;
 
 /// The greatest number of cycles.
 const MOST_CYCLES: u64 = 2_147_483_648;
+
+/// The longest delay of the cable, in cycles.
+const MOST_DELAY: u64 = 1_024;
 
 /// What the first word of a line is.
 #[derive(Clone, Copy, Debug, PartialEq, Eq)]
 pub(crate) enum Keyword {
     Version,
     Cycles,
+    Delay,
     Console,
-    Bios,
-    Cart,
-    Save,
-    Keys,
+    File(FileKind),
     Key,
     Out,
     End,
@@ -36,13 +37,14 @@ pub(crate) enum Keyword {
 pub(crate) enum Line<'a> {
     Version,
     Cycles(u64),
-    Console,
-    Bios(&'a str),
-    Cart(&'a str),
-    Save(&'a str),
-    Keys(&'a str),
+    Delay(u64),
+    /// The console of this number begins.
+    Console(u64),
+    /// An input, its name, and the digest stated with it.
+    File(FileKind, &'a str, Option<[u8; 32]>),
     Key(KeyChange),
-    Out(OutKind),
+    /// An output, and the digest stated for it.
+    Out(OutKind, Option<[u8; 32]>),
     End,
 }
 
@@ -55,16 +57,18 @@ pub(crate) fn keyword_of(word: &[u8]) -> Option<Keyword>
         Some(Keyword::Version)
     } else if word == b"cycles".as_slice() {
         Some(Keyword::Cycles)
+    } else if word == b"delay".as_slice() {
+        Some(Keyword::Delay)
     } else if word == b"console".as_slice() {
         Some(Keyword::Console)
     } else if word == b"bios".as_slice() {
-        Some(Keyword::Bios)
+        Some(Keyword::File(FileKind::Bios))
     } else if word == b"cart".as_slice() {
-        Some(Keyword::Cart)
+        Some(Keyword::File(FileKind::Cart))
     } else if word == b"save".as_slice() {
-        Some(Keyword::Save)
+        Some(Keyword::File(FileKind::Save))
     } else if word == b"keys".as_slice() {
-        Some(Keyword::Keys)
+        Some(Keyword::File(FileKind::Keys))
     } else if word == b"key".as_slice() {
         Some(Keyword::Key)
     } else if word == b"out".as_slice() {
@@ -76,17 +80,27 @@ pub(crate) fn keyword_of(word: &[u8]) -> Option<Keyword>
     }
 }
 
-/// Why a console's line `keys` may not stand here, if so.
-fn keys_refusal(console: &JobConsole) -> Option<JobKind>
-    ensures { result ≡ keys_refusal_of (console_value console.now) }
+fn once(said: bool) -> Option<JobKind>
+    ensures { result ≡ once_of said }
 {
-    if !console.changes.is_empty() {
-        return Some(JobKind::Order);
+    if said { Some(JobKind::Repeated) } else { None }
+}
+
+/// Why a console's line of an input may not stand here, if so.
+fn file_refusal(kind: FileKind, console: &JobConsole) -> Option<JobKind>
+    ensures { result ≡ file_refusal_of kind (console_value console.now) }
+{
+    match kind {
+        FileKind::Bios => once(console.bios.is_some()),
+        FileKind::Cart => once(console.cart.is_some()),
+        FileKind::Save => once(console.save.is_some()),
+        FileKind::Keys => {
+            if !console.changes.is_empty() {
+                return Some(JobKind::Order);
+            }
+            once(console.keys.is_some())
+        }
     }
-    if console.keys.is_some() {
-        return Some(JobKind::Repeated);
-    }
-    None
 }
 
 /// Why a line may not stand here, if so.
@@ -97,25 +111,24 @@ pub(crate) fn refusal_at(draft: &DraftJob, keyword: Keyword) -> Option<JobKind>
     match (keyword, draft.place) {
         (Keyword::Version, Place::Start) => None,
         (Keyword::Version, _) => Some(JobKind::Repeated),
-        (Keyword::Cycles, Place::Head) if draft.cycles.is_some() => Some(JobKind::Repeated),
-        (Keyword::Cycles, Place::Head) => None,
-        (Keyword::Console, Place::Inside | Place::Ended) => Some(JobKind::Word),
+        (Keyword::Cycles, Place::Head) => once(draft.cycles.is_some()),
+        (Keyword::Delay, Place::Head) => once(draft.delay.is_some()),
+        (Keyword::Console, Place::Inside) => None,
         (Keyword::Console, Place::Head) if draft.cycles.is_some() => None,
-        (Keyword::Bios, Place::Inside) if draft.last.bios.is_some() => Some(JobKind::Repeated),
-        (Keyword::Cart, Place::Inside) if draft.last.cart.is_some() => Some(JobKind::Repeated),
-        (Keyword::Save, Place::Inside) if draft.last.save.is_some() => Some(JobKind::Repeated),
-        (Keyword::Keys, Place::Inside) => keys_refusal(&draft.last),
+        (Keyword::File(kind), Place::Inside) => file_refusal(kind, &draft.last),
         (Keyword::Key, Place::Inside) if draft.last.keys.is_some() => Some(JobKind::Order),
-        (
-            Keyword::Bios
-            | Keyword::Cart
-            | Keyword::Save
-            | Keyword::Key
-            | Keyword::Out
-            | Keyword::End,
-            Place::Inside,
-        ) => None,
+        (Keyword::Key | Keyword::Out | Keyword::End, Place::Inside) => None,
         _ => Some(JobKind::Order),
+    }
+}
+
+/// Whether the console whose lines stand here has its BIOS image.
+fn has_image(draft: &DraftJob) -> bool
+    ensures { result ≡ has_image_of draft.now.place (console_value draft.now.last) }
+{
+    match draft.place {
+        Place::Inside => draft.last.bios.is_some(),
+        Place::Start | Place::Head | Place::Ended => true,
     }
 }
 
@@ -144,30 +157,24 @@ pub(crate) fn arguments<'a>(
             end_at(cursor)?;
             Ok(Line::Cycles(cycles))
         }
+        Keyword::Delay => {
+            let delay = number_at(cursor, 1, MOST_DELAY)?;
+            end_at(cursor)?;
+            Ok(Line::Delay(delay))
+        }
         Keyword::Console => {
-            player_at(cursor, draft.consoles.len() as u64)?;
+            let player = player_at(cursor, draft.next_player())?;
+            if !has_image(draft) {
+                return Err(JobKind::Missing);
+            }
             end_at(cursor)?;
-            Ok(Line::Console)
+            Ok(Line::Console(player))
         }
-        Keyword::Bios => {
+        Keyword::File(kind) => {
             let name = name_at(cursor)?;
+            let digest = digest_at(cursor)?;
             end_at(cursor)?;
-            Ok(Line::Bios(name))
-        }
-        Keyword::Cart => {
-            let name = name_at(cursor)?;
-            end_at(cursor)?;
-            Ok(Line::Cart(name))
-        }
-        Keyword::Save => {
-            let name = name_at(cursor)?;
-            end_at(cursor)?;
-            Ok(Line::Save(name))
-        }
-        Keyword::Keys => {
-            let name = name_at(cursor)?;
-            end_at(cursor)?;
-            Ok(Line::Keys(name))
+            Ok(Line::File(kind, name, digest))
         }
         Keyword::Key => {
             let change = change_at(&draft.last.changes, cursor)?;
@@ -178,8 +185,9 @@ pub(crate) fn arguments<'a>(
             if draft.last.asks_for(out) {
                 return Err(JobKind::Repeated);
             }
+            let digest = digest_at(cursor)?;
             end_at(cursor)?;
-            Ok(Line::Out(out))
+            Ok(Line::Out(out, digest))
         }
         Keyword::End => {
             if draft.last.bios.is_none() {

@@ -1,8 +1,7 @@
 -- The register lines, one after another.
 use Rattle.std.proofs.Common.{◌≡◌, ℕ, suc, ◌+◌, ◌*◌, ◌/◌, ◌%◌, ◌<◌, List, [], ◌∷◌, ◌++◌, length, take, drop, get_or, refl, sym, ap, ◌∙◌, append_assoc, add-one, drop-cons}
 use Rattle.gba_terms.specs.RegisterNames.{register_names}
-use Rattle.gba_devices.specs.Registers.{half_stored}
-use Rattle.gba_devices.specs.State.{Devices}
+use Rattle.gba_io.specs.Core.{Core, core_half_stored}
 use Rattle.gba_output.specs.StateFile.{io_bytes, register_line, register_lines, memory_line, memory_lines}
 
 -- what is left of the lines is the next one and what is left after it
@@ -35,11 +34,11 @@ unfolding memory_lines
 memory_lines-none name left offset bytes is = ap (λ n. memory_lines name n offset bytes) is
 
 -- the bytes of the I/O registers, one halfword after another
-pub io_bytes-none : (d : Devices) → io_bytes 0 d ≡ []
+pub io_bytes-none : (b : Core) → io_bytes 0 b ≡ []
 unfolding io_bytes
-io_bytes-none d = refl
+io_bytes-none b = refl
 
-pub io_bytes-more : (d : Devices) (halves half : ℕ) (old new : List ℕ) → old ≡ io_bytes halves d
-    → half ≡ half_stored (2 * halves) d → new ≡ old ++ (half % 256 ∷ half / 256 ∷ []) → new ≡ io_bytes (halves + 1) d
+pub io_bytes-more : (b : Core) (halves half : ℕ) (old new : List ℕ) → old ≡ io_bytes halves b
+    → half ≡ core_half_stored (2 * halves) b → new ≡ old ++ (half % 256 ∷ half / 256 ∷ []) → new ≡ io_bytes (halves + 1) b
 unfolding io_bytes
-io_bytes-more d halves half old new before value grew = rw (add-one, grew, value, before) refl
+io_bytes-more b halves half old new before value grew = rw (add-one, grew, value, before) refl

@@ -1,1 +1,4 @@
+pub mod CableLines
 pub mod StateFile
+pub mod Truths
+pub mod Words

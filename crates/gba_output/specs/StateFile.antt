@@ -3,11 +3,10 @@ use Rattle.std.specs.List.{list_all}
 use Rattle.gba_terms.specs.Hexadecimal.{hex}
 use Rattle.gba_terms.specs.RegisterNames.{register_names}
 use Rattle.gba_console.specs.Machine.{Machine, clock_of}
-use Rattle.gba_devices.specs.Registers.{half_stored}
 use Rattle.gba_devices.specs.State.{Devices}
 use Rattle.gba_dma.specs.Channels.{channel_at}
 use Rattle.gba_dma.specs.declared.channel.Channel.{Channel}
-use Rattle.gba_io.specs.Core.{Core}
+use Rattle.gba_io.specs.Core.{Core, core_half_stored}
 use Rattle.gba_ppu_reg.specs.Registers.{reference_of}
 use Rattle.gba_ppu_reg.specs.declared.position.Position.{Position}
 use Rattle.gba_ppu_reg.specs.declared.reference.Reference.{Reference}
@@ -15,6 +14,8 @@ use Rattle.gba_sound.specs.Queue.{SoundQueue}
 use Rattle.gba_sound.specs.Queues.{queue_at}
 use Rattle.gba_timer.specs.Timers.{timer_at}
 use Rattle.gba_timer.specs.declared.timer.Timer.{Timer}
+use Rattle.gba_output.specs.CableLines.{cable_lines}
+use Rattle.gba_output.specs.Truths.{truth}
 
 -- the line of a register: its name, and its value as eight digits
 abbrev pub register_line : List ℕ → ℕ → List ℕ
@@ -27,12 +28,12 @@ register_lines (name ∷ names) [] = []
 register_lines (name ∷ names) (value ∷ values) = register_line name value ++ register_lines names values
 
 -- the lines before the registers; the last says whether the console is halted
-abbrev pub truth : Bool → List ℕ
-truth set = if set then codes "1" else codes "0"
+unfoldable pub title : ℕ → List ℕ
+title player = codes "gbalink-state 1\nconsole " ++ decimal player ++ codes "\n"
 
-abbrev pub heading : ℕ → Bool → List ℕ
-heading clock halted =
-    codes "gbalink-state 1\nconsole 0\nclock " ++ decimal clock ++ codes "\nhalted " ++ truth halted ++ codes "\n"
+abbrev pub heading : ℕ → ℕ → Bool → List ℕ
+heading player clock halted =
+    title player ++ (codes "clock " ++ decimal clock ++ codes "\nhalted " ++ truth halted ++ codes "\n")
 
 -- the line of a timer: its number, its counter, its reload, its control and its phase
 abbrev pub timer_numbers : Timer → List ℕ
@@ -115,25 +116,25 @@ lines_of name bytes = memory_lines name (length bytes / 32) 0 bytes
 
 -- the bytes of so many of the I/O registers' halfwords, from 04000000h up: what is stored there, and of bits that are
 -- only read what they read
-unfoldable pub io_bytes : ℕ → Devices → List ℕ
-io_bytes zero d = []
-io_bytes (suc halves) d =
-    io_bytes halves d ++ (half_stored (2 * halves) d % 256 ∷ half_stored (2 * halves) d / 256 ∷ [])
+unfoldable pub io_bytes : ℕ → Core → List ℕ
+io_bytes zero b = []
+io_bytes (suc halves) b =
+    io_bytes halves b ++ (core_half_stored (2 * halves) b % 256 ∷ core_half_stored (2 * halves) b / 256 ∷ [])
 
 -- the lines of the memories that a state file has, the I/O registers first
 abbrev pub lines_of_memories : Core → List ℕ
 lines_of_memories b =
-    lines_of (codes "io") (io_bytes 512 b.devices)
+    lines_of (codes "io") (io_bytes 512 b)
     ++ lines_of (codes "wram") b.memory.work ++ lines_of (codes "iwram") b.memory.inner
     ++ lines_of (codes "palette") b.memory.palette ++ lines_of (codes "vram") b.memory.vram
     ++ lines_of (codes "oam") b.memory.oam
 
--- the state file of the console with the number 0
+-- the state file of a console
 abbrev pub state_file : Machine → List ℕ
 state_file m =
-    heading (clock_of m) m.board.core.devices.halted ++ register_lines register_names m.registers
+    heading m.board.core.serial.player (clock_of m) m.board.core.devices.halted ++ register_lines register_names m.registers
     ++ timer_lines m.board.core.devices ++ channel_lines m.board.core.devices ++ queue_lines m.board.core.devices
-    ++ picture_lines m.board.core.devices ++ lines_of_memories m.board.core
+    ++ picture_lines m.board.core.devices ++ cable_lines m.board.core.serial ++ lines_of_memories m.board.core
 
 -- its save: the bytes of the SRAM
 abbrev pub save_file : Machine → List ℕ
@@ -143,8 +144,9 @@ save_file m = m.board.core.memory.sram
 abbrev pub samples_file : Machine → List ℕ
 samples_file m = m.board.made.samples
 
--- the summary of a run of one console: its clock, and how much it made, whether it kept it or not
-abbrev pub summary : Machine → List ℕ
-summary m =
-    codes "console 0 clock " ++ decimal (clock_of m) ++ codes " frames 0 samples " ++ decimal m.board.made.pairs
-    ++ codes " words 0\n"
+-- the line of a console in the summary: its number, its clock, and how much it made, whether it kept it or not
+unfoldable pub summary_line : Machine → List ℕ
+summary_line m =
+    codes "console " ++ decimal m.board.core.serial.player ++ codes " clock " ++ decimal (clock_of m) ++ codes " frames "
+    ++ decimal m.board.made.frame_count ++ codes " samples " ++ decimal m.board.made.pairs ++ codes " words "
+    ++ decimal m.board.ended.count ++ codes "\n"

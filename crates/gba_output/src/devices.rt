@@ -2,7 +2,8 @@
 
 ghost use Rattle.std.specs.Prelude.{◌≡◌, ◌+◌, ◌≤◌, ◌<◌, ◌++◌, codes, decimal, length, vec_len, vec_capacity};
 ghost use Rattle.gba_sound.specs.Queue.{SoundQueue};
-ghost use Rattle.gba_output.specs.StateFile.{affine_line, channel_line, channel_lines, channel_numbers, picture_lines, position_line, queue_bytes, queue_line, queue_lines, timer_line, timer_lines, timer_numbers, truth as truth_of};
+ghost use Rattle.gba_output.specs.StateFile.{affine_line, channel_line, channel_lines, channel_numbers, picture_lines, position_line, queue_bytes, queue_line, queue_lines, timer_line, timer_lines, timer_numbers};
+ghost use Rattle.gba_output.specs.Truths.{truth as truth_of};
 
 use crate::state::{add, add_hex_bytes, truth};
 use gba_command::hexadecimal::{hex_byte, hex_word};
@@ -66,7 +67,7 @@ pub(crate) fn add_timer_lines(into: &mut Vec<u8>, core: &Core)
 }
 
 /// Adds a blank and a number of 32 bits.
-fn add_wide_number(into: &mut Vec<u8>, number: u32)
+pub(crate) fn add_wide_number(into: &mut Vec<u8>, number: u32)
     requires { vec_len into.old + 11 ≤ vec_capacity into.old }
     ensures items { into.new.items ≡ into.old.items ++ (codes " " ++ decimal number) }
     ensures len { vec_len into.new ≤ vec_len into.old + 11 }
@@ -78,7 +79,7 @@ fn add_wide_number(into: &mut Vec<u8>, number: u32)
 }
 
 /// Adds a blank and a truth.
-fn add_truth(into: &mut Vec<u8>, set: bool)
+pub(crate) fn add_truth(into: &mut Vec<u8>, set: bool)
     requires { vec_len into.old + 2 ≤ vec_capacity into.old }
     ensures items { into.new.items ≡ into.old.items ++ (codes " " ++ truth_of set) }
     ensures len { vec_len into.new ≤ vec_len into.old + 2 }

@@ -1,7 +1,10 @@
 #![tactic(auto)]
-//! What a run writes of a console: its state file, its save and its summary.
+//! What a run writes of a console: its state file, its save, the words of its transfers and its summary.
 
+mod cable;
 mod devices;
 mod state;
+mod words;
 
-pub use state::{SAVE_ROOM, STATE_ROOM, summary, write_save, write_state};
+pub use state::{SAVE_ROOM, STATE_ROOM, add_summary, write_save, write_state};
+pub use words::{WORDS_ROOM, write_words};

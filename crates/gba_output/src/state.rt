@@ -4,8 +4,10 @@ ghost use Rattle.std.specs.Prelude.{◌≡◌, ◌+◌, ◌*◌, ◌/◌, ◌%�
 ghost use Rattle.std.specs.List.{list_all};
 ghost use Rattle.gba_terms.specs.RegisterNames.{register_names};
 ghost use Rattle.arrayvec.specs.ArrayVec.{array_vec_len};
-ghost use Rattle.gba_output.specs.StateFile.{heading, hex_bytes, io_bytes as io_bytes_of, lines_of, lines_of_memories, memory_line, memory_place, memory_row, register_line, register_lines, save_file, state_file, summary as summary_of, truth as truth_of};
+ghost use Rattle.gba_output.specs.StateFile.{heading, hex_bytes, io_bytes as io_bytes_of, lines_of, lines_of_memories, memory_line, memory_place, memory_row, register_line, register_lines, save_file, state_file, summary_line, title};
+ghost use Rattle.gba_output.specs.Truths.{truth as truth_of};
 
+use crate::cable::add_cable_lines;
 use crate::devices::{add_channel_lines, add_picture_lines, add_queue_lines, add_timer_lines};
 use arrayvec::ArrayVec;
 use gba_command::hexadecimal::{hex_byte, hex_offset, hex_word};
@@ -15,9 +17,9 @@ use gba_io::{Core, MemoryName};
 use itoa::Buffer;
 
 /// The room of a state file in bytes: its heading has at most 96, each of the 37 registers at most 18, each timer at most
-/// 36, each DMA channel at most 45, each queue at most 80, the position
-/// and the reference points 85, and each of the 12,384 lines of registers and memory 84.
-pub const STATE_ROOM: usize = 1_041_587;
+/// 36, each DMA channel at most 45, each queue at most 80, the position and the reference points 85, the serial unit 91, and
+/// each of the 12,384 lines of registers and memory 84.
+pub const STATE_ROOM: usize = 1_041_678;
 
 /// The bytes of a save.
 pub const SAVE_ROOM: usize = 32_768;
@@ -121,15 +123,30 @@ pub(crate) fn truth(set: bool) -> &'static [u8]
     if set { b"1" } else { b"0" }
 }
 
+/// Adds the lines that say which console it is.
+#[tactic(auto, unfolding(crate::specs::StateFile::title))]
+fn add_title(into: &mut Vec<u8>, player: u32)
+    requires { vec_len into.old + 35 ≤ vec_capacity into.old }
+    ensures items { into.new.items ≡ into.old.items ++ title player }
+    ensures len { vec_len into.new ≤ vec_len into.old + 35 }
+    ensures room { vec_capacity into.old ≤ vec_capacity into.new }
+{
+    let mut buffer = Buffer::new();
+    add(into, b"gbalink-state 1\nconsole ");
+    add(into, buffer.format(player).as_bytes());
+    add(into, b"\n");
+}
+
 /// Adds the lines before the registers.
-fn add_heading(into: &mut Vec<u8>, clock: u64, halted: bool)
+fn add_heading(into: &mut Vec<u8>, player: u32, clock: u64, halted: bool)
     requires { vec_len into.old + 96 ≤ vec_capacity into.old }
-    ensures items { into.new.items ≡ into.old.items ++ heading clock halted }
+    ensures items { into.new.items ≡ into.old.items ++ heading player clock halted }
     ensures len { vec_len into.new ≤ vec_len into.old + 96 }
     ensures room { vec_capacity into.old ≤ vec_capacity into.new }
 {
     let mut buffer = Buffer::new();
-    add(into, b"gbalink-state 1\nconsole 0\nclock ");
+    add_title(into, player);
+    add(into, b"clock ");
     add(into, buffer.format(clock).as_bytes());
     add(into, b"\nhalted ");
     add(into, truth(halted));
@@ -226,7 +243,7 @@ fn add_half(bytes: &mut ArrayVec<u8, 1024>, half: u16)
 
 /// The bytes of the I/O registers.
 fn io_bytes(core: &Core) -> ArrayVec<u8, 1024>
-    ensures items { result.items ≡ io_bytes_of 512 core.now.devices }
+    ensures items { result.items ≡ io_bytes_of 512 core.now }
     ensures len { array_vec_len result ≡ 1024 }
 {
     let mut bytes = ArrayVec::new();
@@ -239,7 +256,7 @@ fn io_bytes(core: &Core) -> ArrayVec<u8, 1024>
 /// Adds the lines of the I/O registers.
 fn add_io_lines(into: &mut Vec<u8>, core: &Core)
     requires { vec_len into.old + 2688 ≤ vec_capacity into.old }
-    ensures items { into.new.items ≡ into.old.items ++ lines_of (codes "io") (io_bytes_of 512 core.now.devices) }
+    ensures items { into.new.items ≡ into.old.items ++ lines_of (codes "io") (io_bytes_of 512 core.now) }
     ensures len { vec_len into.new ≤ vec_len into.old + 2688 }
     ensures room { vec_capacity into.old ≤ vec_capacity into.new }
 {
@@ -260,19 +277,20 @@ fn add_memories(into: &mut Vec<u8>, core: &Core)
     add_memory_lines(into, b"oam", core.memory(MemoryName::Oam));
 }
 
-/// Writes the state file of a console into an empty buffer with room for it: 1,041,587 bytes are enough for any.
+/// Writes the state file of a console into an empty buffer with room for it: 1,041,678 bytes are enough for any.
 pub fn write_state(into: &mut Vec<u8>, console: &Console)
     requires empty { into.old.items ≡ [] }
-    requires room { 1041587 ≤ vec_capacity into.old }
+    requires room { 1041678 ≤ vec_capacity into.old }
     ensures { into.new.items ≡ state_file console.now }
 {
     let core = &console.board().core;
-    add_heading(into, console.clock(), core.halted());
+    add_heading(into, core.serial().player(), console.clock(), core.halted());
     add_register_lines(into, &console.all());
     add_timer_lines(into, core);
     add_channel_lines(into, core);
     add_queue_lines(into, core);
     add_picture_lines(into, core);
+    add_cable_lines(into, core.serial());
     add_memories(into, core);
 }
 
@@ -285,19 +303,34 @@ pub fn write_save(into: &mut Vec<u8>, console: &Console)
     add(into, console.board().core.memory(MemoryName::Backup));
 }
 
-/// The summary of a run.
-pub fn summary(console: &Console) -> Line
-    ensures { result.items ≡ summary_of console.now }
+/// Adds a number between texts to a summary.
+fn add_count(line: &mut Line, name: &[u8], count: u64)
+    requires name { length name.now ≤ 9 }
+    requires room { array_vec_len line.old + 29 ≤ 1024 }
+    ensures items { line.new.items ≡ line.old.items ++ (name.now ++ decimal count) }
+    ensures len { array_vec_len line.new ≤ array_vec_len line.old + 29 }
 {
     let mut buffer = Buffer::new();
-    let mut line = Line::new();
-    add_text(&mut line, b"console 0 clock ");
-    add_text(&mut line, buffer.format(console.clock()).as_bytes());
-    add_text(&mut line, b" frames 0 samples ");
-    add_text(
-        &mut line,
-        buffer.format(console.counts().samples).as_bytes(),
+    add_text(line, name);
+    add_text(line, buffer.format(count).as_bytes());
+}
+
+/// Adds the line of a console to a summary that has room for it.
+#[tactic(auto, unfolding(crate::specs::StateFile::summary_line))]
+pub fn add_summary(line: &mut Line, console: &Console)
+    requires { array_vec_len line.old + 146 ≤ 1024 }
+    ensures items { line.new.items ≡ line.old.items ++ summary_line console.now }
+    ensures len { array_vec_len line.new ≤ array_vec_len line.old + 146 }
+{
+    let counts = console.counts();
+    add_count(
+        line,
+        b"console ",
+        u64::from(console.board().core.serial().player()),
     );
-    add_text(&mut line, b" words 0\n");
-    line
+    add_count(line, b" clock ", console.clock());
+    add_count(line, b" frames ", counts.frames);
+    add_count(line, b" samples ", counts.samples);
+    add_count(line, b" words ", counts.words);
+    add_text(line, b"\n");
 }

@@ -7,5 +7,5 @@ returns-in-Err g c = (
   _,
   write_stop_value c.in-Err.stop,
   c.in-Err.ensures,
-  closes-stop g.O.Sink.Tells c.status.result c.in-Err.stop _ _ c.status.ensures (rw c.report.ensures at c.report-in-Err.ensures),
+  closes-stop g.O.Sink.Tells c.status.result _ c.in-Err.stop _ _ c.status.ensures (rw c.report.ensures at c.report-in-Err.ensures),
 )

@@ -5,4 +5,4 @@ use Rattle.gba_output.proofs.state.io_bytes.Given as goal
 
 abbrev pub invariant-loop-half : goal.invariant-loop-half
 invariant-loop-half l =
-    (l.bytes.items ≡ io_bytes l.half l.core.devices) × (array_vec_len l.bytes ≡ 2 * l.half)
+    (l.bytes.items ≡ io_bytes l.half l.core) × (array_vec_len l.bytes ≡ 2 * l.half)

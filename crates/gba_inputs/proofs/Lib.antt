@@ -1,0 +1,5 @@
+pub mod FilePlans
+pub mod Consoles
+pub mod SoundInputs
+pub mod Replay
+pub mod FilledLists

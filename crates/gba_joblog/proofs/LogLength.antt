@@ -1,0 +1,169 @@
+-- A log isn't longer than a job may be.
+use Rattle.std.proofs.Common.{◌≡◌, ℕ, ◌+◌, ◌*◌, ◌<◌, ◌≤◌, ◌^◌, List, [], ◌∷◌, ◌++◌, length, Option, Some, None, lit≤, arith}
+use Rattle.std.specs.Prelude.{IfSome, codes, decimal, slice_get}
+use Rattle.std.specs.List.{All}
+use Rattle.std.proofs.lemmas.List.{length-append}
+use Rattle.std.proofs.lemmas.List.Elements.{All-head, All-tail}
+use Rattle.std.proofs.lemmas.Option.{slice_get-get_or}
+use Rattle.hex.specs.Hex.{encode_lower}
+use Rattle.gba_joblog.specs.Digests.{IsDigest}
+use Rattle.gba_joblog.specs.Job.{ConsoleJob, NamedFile, WholeJob}
+use Rattle.gba_joblog.specs.Language.{longest_job}
+use Rattle.gba_joblog.specs.Log.{after_words, asked_text, change_text, changes_text, console_text, consoles_text, digest_words, file_text, files_text, keys_word, line_of, log_text, out_text, outs_text}
+use Rattle.gba_joblog.specs.Soundness.{IsChange, IsConsole, IsFile, IsJob, IsOutput, IsPartOfConsole}
+use Rattle.gba_joblog.specs.Statements.{asked_in, out_name, output_of, place_of}
+use Rattle.gba_joblog.specs.declared.job.KeyChange.{KeyChange}
+use Rattle.gba_joblog.specs.declared.job.OutKind.{OutKind}
+use Rattle.gba_joblog.specs.declared.job.OutKind.TheVariants as output
+use Rattle.gba_joblog.specs.declared.job.OutLine.{OutLine}
+use Rattle.gba_joblog.proofs.NameTexts.{name-short}
+use Rattle.gba_joblog.proofs.SpelledValues.{decimal-short, digits-long, out-short}
+
+digest-short : (stated : Option (List ℕ)) → IfSome stated IsDigest → length (after_words (digest_words stated)) ≤ 73
+digest-short None is = lit≤ tt
+digest-short (Some digest) is =
+    omega (arith, length-append (encode_lower digest) (codes "\n"), digits-long digest is)
+
+number-short : (front : List ℕ) (n : ℕ) → length front ≤ 8 → n < 2 ^ 64 → length (line_of front (decimal n ∷ [])) ≤ 30
+number-short front n short small =
+    omega (arith, length-append front (32 ∷ (decimal n ++ codes "\n")), length-append (decimal n) (codes "\n"), decimal-short n small)
+
+file-short : (front : List ℕ) (file : Option NamedFile) → length front ≤ 8 → IfSome file IsFile
+    → length (file_text front file) ≤ 282
+file-short front None short is = omega arith
+file-short front (Some file) short is =
+    let after = after_words (digest_words file.digest) in
+    omega (
+      arith,
+      length-append front (32 ∷ (file.name ++ after)),
+      length-append file.name after,
+      name-short file.name is.named,
+      digest-short file.digest is.stated,
+    )
+
+change-short : (change : KeyChange) → IsChange change → length (change_text change) ≤ 29
+change-short change is =
+    omega (
+      arith,
+      length-append (decimal change.clock) (32 ∷ (keys_word change.keys ++ codes "\n")),
+      decimal-short change.clock (omega (arith, is.early)),
+    )
+
+changes-short : (changes : List KeyChange) → All IsChange changes → length (changes_text changes) ≤ 29 * length changes
+unfolding changes_text
+changes-short [] sound = lit≤ tt
+changes-short (change ∷ changes) sound =
+    omega (
+      arith,
+      length-append (change_text change) (changes_text changes),
+      change-short change (All-head IsChange change changes sound),
+      changes-short changes (All-tail IsChange change changes sound),
+    )
+
+asked-short : (name : List ℕ) (asked : Option OutLine) → length name ≤ 7 → IsOutput asked
+    → length (asked_text name asked) ≤ 84
+asked-short name None short is = omega arith
+asked-short name (Some asked) short is =
+    omega (arith, length-append name (after_words (digest_words asked.digest)), digest-short asked.digest is)
+
+at_output : (outs : List (Option OutLine)) → length outs ≡ 5 → All IsOutput outs → (place : ℕ) → place < 5
+    → IsOutput (asked_in (slice_get outs place))
+at_output outs long sound place lt =
+    let found = slice_get-get_or outs place None (omega arith) in
+    rw found (sound place None (omega arith))
+
+place-below : (out : OutKind) → place_of out < 5
+place-below output.Frames = omega arith
+place-below output.Samples = omega arith
+place-below output.Words = omega arith
+place-below output.State = omega arith
+place-below output.Save = omega arith
+
+out-text_short : (console : ConsoleJob) (out : OutKind) → IsPartOfConsole console → length (out_text console out) ≤ 84
+out-text_short console out sound =
+    asked-short (out_name out) (output_of console out) (out-short out)
+    (at_output console.outs sound.five sound.outs (place_of out) (place-below out))
+
+outs-short : (console : ConsoleJob) → IsPartOfConsole console → length (outs_text console) ≤ 420
+outs-short console sound =
+    let a = out_text console output.Frames in
+    let b = out_text console output.Samples in
+    let c = out_text console output.Words in
+    let d = out_text console output.State in
+    let e = out_text console output.Save in
+    omega (
+      arith,
+      length-append a (b ++ (c ++ (d ++ e))),
+      length-append b (c ++ (d ++ e)),
+      length-append c (d ++ e),
+      length-append d e,
+      out-text_short console output.Frames sound,
+      out-text_short console output.Samples sound,
+      out-text_short console output.Words sound,
+      out-text_short console output.State sound,
+      out-text_short console output.Save sound,
+    )
+
+files-short : (console : ConsoleJob) → IsPartOfConsole console → length (files_text console) ≤ 846
+files-short console sound =
+    let a = file_text (codes "bios") console.bios in
+    let b = file_text (codes "cart") console.cart in
+    let c = file_text (codes "save") console.save in
+    omega (
+      arith,
+      length-append a (b ++ c),
+      length-append b c,
+      file-short (codes "bios") console.bios (lit≤ tt) sound.bios,
+      file-short (codes "cart") console.cart (lit≤ tt) sound.cart,
+      file-short (codes "save") console.save (lit≤ tt) sound.save,
+    )
+
+console-short : (player : ℕ) (console : ConsoleJob) → player < 2 ^ 64 → IsPartOfConsole console
+    → length (console_text player console) ≤ 29001296
+unfolding console_text
+console-short player console small sound =
+    let a = line_of (codes "console") (decimal player ∷ []) in
+    let b = files_text console in
+    let c = changes_text console.changes in
+    let d = outs_text console in
+    omega (
+      arith,
+      length-append a (b ++ (c ++ d)),
+      length-append b (c ++ d),
+      length-append c d,
+      number-short (codes "console") player (lit≤ tt) small,
+      files-short console sound,
+      changes-short console.changes sound.changes.each,
+      sound.changes.few,
+      outs-short console sound,
+    )
+
+consoles-short : (player : ℕ) (consoles : List ConsoleJob) → player + length consoles ≤ 4 → All IsConsole consoles
+    → length (consoles_text player consoles) ≤ 29001296 * length consoles
+unfolding consoles_text
+consoles-short player [] few sound = lit≤ tt
+consoles-short player (console ∷ consoles) few sound =
+    let first = All-head IsConsole console consoles sound in
+    omega (
+      arith,
+      length-append (console_text player console) (consoles_text (player + 1) consoles),
+      console-short player console (omega arith) first.part,
+      consoles-short (player + 1) consoles (omega arith) (All-tail IsConsole console consoles sound),
+    )
+
+pub log-short : (job : WholeJob) → IsJob job → length (log_text job) ≤ longest_job
+unfolding log_text
+log-short job sound =
+    let a = line_of (codes "cycles") (decimal job.cycles ∷ []) in
+    let b = line_of (codes "delay") (decimal job.delay ∷ []) in
+    let c = consoles_text 0 job.consoles in
+    omega (
+      arith,
+      length-append a (b ++ (c ++ codes "end\n")),
+      length-append b (c ++ codes "end\n"),
+      length-append c (codes "end\n"),
+      number-short (codes "cycles") job.cycles (lit≤ tt) (omega (arith, sound.few_cycles)),
+      number-short (codes "delay") job.delay (lit≤ tt) (omega (arith, sound.few_delay)),
+      consoles-short 0 job.consoles (omega (arith, sound.few_consoles)) sound.each,
+      sound.few_consoles,
+    )

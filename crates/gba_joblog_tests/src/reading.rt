@@ -1,0 +1,234 @@
+//! Jobs that are read.
+
+use crate::helpers::{FIRST, HEAD, NOTHING, OF_NOTHING, joined, padded};
+use gba_joblog::{FileLine, Job, JobConsole, OutKind, OutLine, digest_of, digits_of};
+use std::test::Fail;
+
+// What a job says: its cycles, its image with the line, and whether the state is asked for.
+fn says(job: &Job, cycles: u64, bios: &str, line: u64, state: bool) -> bool {
+    let [console] = job.consoles.as_slice() else {
+        return false;
+    };
+    let Some(file) = &console.bios else {
+        return false;
+    };
+    let plain = OutLine { digest: None };
+    job.cycles == cycles
+        && job.delay == 512
+        && file.name.as_str() == bios
+        && file.line == line
+        && file.digest.is_none()
+        && console.cart.is_none()
+        && console.save.is_none()
+        && console.keys.is_none()
+        && console.changes.is_empty()
+        && console.outs == [None, None, None, state.then_some(plain), None]
+}
+
+#[test]
+fn jobs_are_read(rt: HostRuntime) {
+    let cases: [(&[u8], u64, &str, u64, bool); 9] = [
+        (FIRST, 1, "b", 4, true),
+        (
+            b"gbalink 1\ncycles 1\nconsole 0\nbios b\nout state\nend",
+            1,
+            "b",
+            4,
+            true,
+        ),
+        (
+            b"gbalink 1\r\ncycles 1\r\nconsole 0\r\nbios b\r\nout state\r\nend\r\n",
+            1,
+            "b",
+            4,
+            true,
+        ),
+        (
+            b"\tgbalink\t1 \n cycles \t 2147483648\nconsole\t0\n\tbios  b.-_/9Z\t\nout\tstate \nend \t",
+            2147483648,
+            "b.-_/9Z",
+            4,
+            true,
+        ),
+        (
+            b"gbalink 1\ncycles 00000000000000000012\nconsole 000\nout state\nbios b\nend\n",
+            12,
+            "b",
+            5,
+            true,
+        ),
+        (
+            b"gbalink 1\ncycles 5\nconsole 0\nbios b\nend\n",
+            5,
+            "b",
+            4,
+            false,
+        ),
+        (
+            b"\n# \xff\x00\x7f\r \n\ngbalink 1\n#\n \t\ncycles 7\n#cycles 8\nconsole 0\nbios b\n#\x80\nend\n# after\n\n \n",
+            7,
+            "b",
+            10,
+            false,
+        ),
+        (
+            b"gbalink 1\ncycles 7\nconsole 0\nbios --\nend\n#",
+            7,
+            "--",
+            4,
+            false,
+        ),
+        (
+            b"gbalink 1\ncycles 7\nconsole 0\nbios #b\nend\n",
+            7,
+            "",
+            0,
+            false,
+        ),
+    ];
+    for (text, cycles, bios, line, state) in cases {
+        match Job::parse(rt.alloc(), text) {
+            Ok(job) => assert!(rt; says(&job, cycles, bios, line, state), "of {text:?}"),
+            Err(_) => assert_eq!(rt; line, 0, "of {text:?}"),
+        }
+    }
+}
+
+// The name and the line of a file.
+fn is_file(file: &Option<FileLine>, name: &str, line: u64) -> bool {
+    match file {
+        Some(file) => file.name.as_str() == name && file.line == line && file.digest.is_none(),
+        None => false,
+    }
+}
+
+#[test]
+fn cartridges_and_saves_are_read(rt: HostRuntime) {
+    let text =
+        b"gbalink 1\ncycles 1\nconsole 0\nout save\nsave s\ncart c.gba\nbios b\nout state\nout samples\nend\n";
+    let plain = Some(OutLine { digest: None });
+    match Job::parse(rt.alloc(), text) {
+        Ok(job) => {
+            let [console] = job.consoles.as_slice() else {
+                return assert!(rt; false);
+            };
+            assert!(rt; is_file(&console.bios, "b", 7));
+            assert!(rt; is_file(&console.cart, "c.gba", 6));
+            assert!(rt; is_file(&console.save, "s", 5));
+            assert_eq!(rt; console.outs, [None, plain, None, plain, plain]);
+        }
+        Err(_) => assert!(rt; false),
+    }
+}
+
+// The delays of jobs: without a line, the least, the greatest, and before `cycles`.
+#[test]
+fn delays_are_read(rt: HostRuntime) {
+    let cases: [(&[u8], u64); 5] = [
+        (b"gbalink 1\ncycles 1\nconsole 0\nbios b\nend\n", 512),
+        (b"gbalink 1\ncycles 1\ndelay 1\nconsole 0\nbios b\nend\n", 1),
+        (
+            b"gbalink 1\ndelay 1024\ncycles 1\nconsole 0\nbios b\nend\n",
+            1024,
+        ),
+        (
+            b"gbalink 1\ndelay 00000000000000000700\ncycles 1\nconsole 0\nbios b\nend\n",
+            700,
+        ),
+        (
+            b"gbalink 1\ncycles 1\ndelay 512\nconsole 0\nbios b\nend\n",
+            512,
+        ),
+    ];
+    for (text, delay) in cases {
+        match Job::parse(rt.alloc(), text) {
+            Ok(job) => assert_eq!(rt; job.delay, delay, "of {text:?}"),
+            Err(_) => panic!(rt; "no job"),
+        }
+    }
+}
+
+#[test]
+fn four_consoles_are_read(rt: HostRuntime) {
+    let text: &[u8] =
+        b"gbalink 1\ncycles 9\nconsole 0\nbios b\ncart c\nconsole 1\nkeys k\nbios b\nconsole 02\nbios d\nout words\nconsole 3\nout frames\nbios b\nsave s\nend\n";
+    let plain = Some(OutLine { digest: None });
+    match Job::parse(rt.alloc(), text) {
+        Ok(job) => {
+            let [first, second, third, fourth] = job.consoles.as_slice() else {
+                return assert!(rt; false);
+            };
+            assert!(rt; is_file(&first.bios, "b", 4) && is_file(&first.cart, "c", 5));
+            assert!(rt; first.keys.is_none() && first.save.is_none());
+            assert!(rt; is_file(&second.bios, "b", 8) && is_file(&second.keys, "k", 7));
+            assert!(rt; second.cart.is_none());
+            assert!(rt; is_file(&third.bios, "d", 10) && third.save.is_none());
+            assert_eq!(rt; third.outs, [None, None, plain, None, None]);
+            assert!(rt; third.asks_for(OutKind::Words) && !third.asks_for(OutKind::Frames));
+            assert!(rt; is_file(&fourth.bios, "b", 14) && is_file(&fourth.save, "s", 15));
+            assert_eq!(rt; fourth.output(OutKind::Frames), plain);
+            assert_eq!(rt; fourth.output(OutKind::Words), None);
+        }
+        Err(_) => panic!(rt; "no job"),
+    }
+}
+
+fn has_digest(file: &Option<FileLine>, digest: Option<[u8; 32]>) -> bool {
+    match file {
+        Some(file) => file.digest == digest,
+        None => false,
+    }
+}
+
+// Each line that may state a digest, in lower case, in upper case and in both.
+#[test]
+fn digests_are_read(rt: HostRuntime) -> Result<(), Fail> {
+    let upper: &[u8] = b"E3B0C44298FC1C149AFBF4C8996FB92427AE41E4649B934CA495991B7852B855";
+    let both: &[u8] = b"e3B0c44298fC1c149AfBf4C8996fb92427ae41E4649b934Ca495991b7852B855";
+    for digits in [OF_NOTHING, upper, both] {
+        let text = joined(
+            rt.alloc(),
+            &[
+                HEAD,
+                b"bios b sha256 ",
+                digits,
+                b"\ncart c\tsha256  ",
+                digits,
+                b" \nsave s sha256 ",
+                digits,
+                b"\r\nkeys k sha256 ",
+                digits,
+                b"\nout frames sha256 ",
+                digits,
+                b"\nout samples\nout words sha256 ",
+                digits,
+                b"\nend",
+            ],
+        )?;
+        match Job::parse(rt.alloc(), &text) {
+            Ok(job) => {
+                let [console] = job.consoles.as_slice() else {
+                    return Err(Fail::from("one console"));
+                };
+                assert!(rt; has_digest(&console.bios, Some(NOTHING)));
+                assert!(rt; has_digest(&console.cart, Some(NOTHING)));
+                assert!(rt; has_digest(&console.save, Some(NOTHING)));
+                assert!(rt; has_digest(&console.keys, Some(NOTHING)));
+                let stated = Some(OutLine {
+                    digest: Some(NOTHING),
+                });
+                let plain = Some(OutLine { digest: None });
+                assert_eq!(rt; console.outs, [stated, plain, stated, None, None]);
+            }
+            Err(_) => panic!(rt; "no job of {digits:?}"),
+        }
+    }
+    Ok(())
+}
+
+#[test]
+fn digests_are_told(rt: HostRuntime) {
+    assert_eq!(rt; digest_of(b""), NOTHING);
+    assert_eq!(rt; digits_of(&NOTHING).as_slice(), OF_NOTHING);
+    assert_eq!(rt; OutKind::Samples.name(), "samples");
+}

@@ -1,0 +1,2 @@
+pub mod ShortPieces
+pub mod Printed

@@ -1,0 +1,148 @@
+//! How many bytes the lines of a log have.
+
+ghost use Rattle.std.specs.Prelude.{◌≡◌, ◌*◌, ◌≤◌, ◌<◌, ◌^◌, [], ◌∷◌, IfSome, decimal, length, map, option_map};
+ghost use Rattle.std.specs.List.{All};
+ghost use Rattle.gba_joblog.specs.Digests.{IsDigest};
+ghost use Rattle.gba_joblog.specs.Soundness.{IsConsole, IsFile, IsJob, IsPartOfConsole};
+ghost use Rattle.gba_joblog.specs.Views.{console_value, file_value, job_value};
+ghost use Rattle.gba_joblog.specs.Log.{after_words, change_text, changes_text, console_text, consoles_text, digest_words, file_text, files_text, line_of, log_text, out_text, outs_text};
+
+use gba_joblog::{FileLine, Job, JobConsole, KeyChange, OutKind};
+use itoa::Buffer;
+
+/// The bytes of `sha256` and 64 digits, with the spaces before them, and of the line's end.
+const DIGEST_LEN: u64 = 73;
+
+/// The bytes of the first line, `gbalink 1`.
+const VERSION_LEN: u64 = 10;
+
+/// The bytes of the last line, `end`.
+const END_LEN: u64 = 4;
+
+/// The bytes of a line of a keyword and a number.
+fn number_len(keyword: &[u8], number: u64) -> u64
+    requires { length keyword.now ≤ 8 }
+    ensures value { result ≡ length (line_of keyword.now (decimal number ∷ [])) }
+    ensures most { result ≤ 30 }
+{
+    let mut buffer = Buffer::new();
+    keyword.len() as u64 + buffer.format(number).len() as u64 + 2
+}
+
+/// The bytes that follow a name.
+fn digest_len(digest: &Option<[u8; 32]>) -> u64
+    requires { IfSome digest.now IsDigest }
+    ensures value { result ≡ length (after_words (digest_words digest.now)) }
+    ensures most { result ≤ 73 }
+{
+    match digest {
+        Some(_) => DIGEST_LEN,
+        None => 1,
+    }
+}
+
+/// The bytes of the line of an input.
+fn file_len(keyword: &[u8], file: &Option<FileLine>) -> u64
+    requires keyword { length keyword.now ≤ 8 }
+    requires sound { IfSome (option_map file_value file.now) IsFile }
+    ensures value { result ≡ length (file_text keyword.now (option_map file_value file.now)) }
+    ensures most { result ≤ 282 }
+{
+    match file {
+        Some(file) => {
+            let name = file.name.as_bytes();
+            keyword.len() as u64 + name.len() as u64 + digest_len(&file.digest) + 1
+        }
+        None => 0,
+    }
+}
+
+/// The bytes of the line of a change of the keys.
+fn change_len(change: &KeyChange) -> u64
+    ensures value { result ≡ length (change_text change.now) }
+    ensures most { result ≤ 29 }
+{
+    let mut buffer = Buffer::new();
+    buffer.format(change.clock).len() as u64 + 9
+}
+
+/// The bytes of the lines of the changes of the keys.
+fn changes_len(changes: &[KeyChange]) -> u64
+    requires { length changes.now ≤ 1000000 }
+    ensures value { result ≡ length (changes_text changes.now) }
+    ensures most { result ≤ 29000000 }
+{
+    let mut total = 0;
+    for change in changes {
+        total += change_len(change);
+    }
+    total
+}
+
+/// The bytes of the line of an output.
+fn out_len(console: &JobConsole, out: OutKind) -> u64
+    requires { IsPartOfConsole (console_value console.now) }
+    ensures value { result ≡ length (out_text (console_value console.now) out) }
+    ensures most { result ≤ 84 }
+{
+    match console.output(out) {
+        Some(asked) => out.name().as_bytes().len() as u64 + digest_len(&asked.digest) + 4,
+        None => 0,
+    }
+}
+
+/// The bytes of the lines of the outputs.
+fn outs_len(console: &JobConsole) -> u64
+    requires { IsPartOfConsole (console_value console.now) }
+    ensures value { result ≡ length (outs_text (console_value console.now)) }
+    ensures most { result ≤ 420 }
+{
+    out_len(console, OutKind::Frames)
+        + out_len(console, OutKind::Samples)
+        + out_len(console, OutKind::Words)
+        + out_len(console, OutKind::State)
+        + out_len(console, OutKind::Save)
+}
+
+/// The bytes of the lines of a console.
+#[tactic(auto, unfolding(gba_joblog::specs::Log::console_text))]
+fn console_len(player: u64, console: &JobConsole) -> u64
+    requires { IsPartOfConsole (console_value console.now) }
+    ensures value { result ≡ length (console_text player (console_value console.now)) }
+    ensures most { result ≤ 29001296 }
+{
+    number_len(b"console", player)
+        + file_len(b"bios", &console.bios)
+        + file_len(b"cart", &console.cart)
+        + file_len(b"save", &console.save)
+        + changes_len(console.changes.as_slice())
+        + outs_len(console)
+}
+
+/// The bytes of the lines of the consoles.
+fn consoles_len(consoles: &[JobConsole]) -> u64
+    requires sound { All IsConsole (map console_value consoles.now) }
+    requires few { length consoles.now ≤ 4 }
+    ensures value { result ≡ length (consoles_text 0 (map console_value consoles.now)) }
+    ensures most { result ≤ 116005184 }
+{
+    let mut total = 0;
+    for (player, console) in consoles.iter().enumerate() {
+        total += console_len(player as u64, console);
+    }
+    total
+}
+
+/// How many bytes the log of a job has. The job is as `print` needs it.
+#[tactic(auto, unfolding(gba_joblog::specs::Log::log_text))]
+pub fn printed_len(job: &Job) -> u64
+    requires { IsJob (job_value job.now) }
+    ensures value { result ≡ length (log_text (job_value job.now)) }
+    ensures most { result ≤ 116005258 }
+{
+    VERSION_LEN
+        + number_len(b"cycles", job.cycles)
+        + number_len(b"delay", job.delay)
+        + consoles_len(job.consoles.as_slice())
+        + END_LEN
+}

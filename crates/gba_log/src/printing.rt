@@ -1,0 +1,174 @@
+//! The lines of a log, added to a buffer that has room for them.
+
+ghost use Rattle.std.specs.Prelude.{◌≡◌, ◌+◌, ◌<◌, ◌≤◌, ◌++◌, [], ◌∷◌, decimal, length, map, option_map, vec_capacity, vec_len};
+ghost use Rattle.std.specs.List.{All};
+ghost use Rattle.gba_joblog.specs.Soundness.{IsChange, IsConsole, IsJob};
+ghost use Rattle.gba_joblog.specs.Views.{console_value, file_value, job_value};
+ghost use Rattle.gba_joblog.specs.Log.{after_words, change_text, changes_text, console_text, consoles_text, digest_words, file_text, files_text, keys_word, line_of, log_text, out_text, outs_text};
+ghost use Rattle.gba_log.specs.Room.{Grew, HasRoom};
+
+use gba_joblog::{FileLine, Job, JobConsole, KeyChange, OutKind, digits_of};
+use itoa::Buffer;
+
+/// The digits of pressed keys.
+const DIGITS: &[u8; 16] = b"0123456789abcdef";
+
+/// Adds bytes where there is room for them.
+fn add(into: &mut Vec<u8>, bytes: &[u8])
+    requires { HasRoom into.old bytes.now }
+    ensures { Grew into.old into.new bytes.now }
+{
+    if into.extend_from_slice(bytes).is_err() {
+        unreachable!()
+    }
+}
+
+/// Adds a line of a keyword and a number.
+fn add_number_line(into: &mut Vec<u8>, keyword: &[u8], number: u64)
+    requires { HasRoom into.old (line_of keyword.now (decimal number ∷ [])) }
+    ensures { Grew into.old into.new (line_of keyword.now (decimal number ∷ [])) }
+{
+    let mut buffer = Buffer::new();
+    add(into, keyword);
+    add(into, b" ");
+    add(into, buffer.format(number).as_bytes());
+    add(into, b"\n");
+}
+
+/// Adds what follows a name: its digest, if one is stated, and the end of the line.
+fn add_digest(into: &mut Vec<u8>, digest: &Option<[u8; 32]>)
+    requires { HasRoom into.old (after_words (digest_words digest.now)) }
+    ensures { Grew into.old into.new (after_words (digest_words digest.now)) }
+{
+    if let Some(digest) = digest {
+        add(into, b" sha256 ");
+        add(into, &digits_of(digest));
+    }
+    add(into, b"\n");
+}
+
+/// Adds the line of an input.
+fn add_file(into: &mut Vec<u8>, keyword: &[u8], file: &Option<FileLine>)
+    requires { HasRoom into.old (file_text keyword.now (option_map file_value file.now)) }
+    ensures { Grew into.old into.new (file_text keyword.now (option_map file_value file.now)) }
+{
+    if let Some(file) = file {
+        add(into, keyword);
+        add(into, b" ");
+        add(into, file.name.as_bytes());
+        add_digest(into, &file.digest);
+    }
+}
+
+/// The three digits of pressed keys.
+fn keys_digits(keys: u16) -> [u8; 3]
+    requires { keys < 1024 }
+    ensures { result ≡ keys_word keys }
+{
+    let keys = usize::from(keys);
+    [
+        DIGITS[keys / 256],
+        DIGITS[keys / 16 % 16],
+        DIGITS[keys % 16],
+    ]
+}
+
+/// Adds the line of a change of the keys.
+fn add_change(into: &mut Vec<u8>, change: &KeyChange)
+    requires keys { change.now.keys < 1024 }
+    requires room { HasRoom into.old (change_text change.now) }
+    ensures { Grew into.old into.new (change_text change.now) }
+{
+    let mut buffer = Buffer::new();
+    add(into, b"key ");
+    add(into, buffer.format(change.clock).as_bytes());
+    add(into, b" ");
+    add(into, &keys_digits(change.keys));
+    add(into, b"\n");
+}
+
+/// Adds the lines of the changes of the keys.
+fn add_changes(into: &mut Vec<u8>, changes: &[KeyChange])
+    requires sound { All IsChange changes.now }
+    requires room { HasRoom into.old (changes_text changes.now) }
+    ensures { Grew into.old into.new (changes_text changes.now) }
+{
+    for change in changes {
+        add_change(into, change);
+    }
+}
+
+/// Adds the line of an output.
+fn add_out(into: &mut Vec<u8>, console: &JobConsole, out: OutKind)
+    requires { HasRoom into.old (out_text (console_value console.now) out) }
+    ensures { Grew into.old into.new (out_text (console_value console.now) out) }
+{
+    if let Some(asked) = console.output(out) {
+        add(into, b"out ");
+        add(into, out.name().as_bytes());
+        add_digest(into, &asked.digest);
+    }
+}
+
+/// Adds the lines of the outputs, in the order of the language's table.
+fn add_outs(into: &mut Vec<u8>, console: &JobConsole)
+    requires { HasRoom into.old (outs_text (console_value console.now)) }
+    ensures { Grew into.old into.new (outs_text (console_value console.now)) }
+{
+    add_out(into, console, OutKind::Frames);
+    add_out(into, console, OutKind::Samples);
+    add_out(into, console, OutKind::Words);
+    add_out(into, console, OutKind::State);
+    add_out(into, console, OutKind::Save);
+}
+
+/// Adds the lines of the files of a console.
+fn add_files(into: &mut Vec<u8>, console: &JobConsole)
+    requires { HasRoom into.old (files_text (console_value console.now)) }
+    ensures { Grew into.old into.new (files_text (console_value console.now)) }
+{
+    add_file(into, b"bios", &console.bios);
+    add_file(into, b"cart", &console.cart);
+    add_file(into, b"save", &console.save);
+}
+
+/// Adds the lines of a console.
+#[tactic(auto, unfolding(gba_joblog::specs::Log::console_text))]
+fn add_console(into: &mut Vec<u8>, player: u64, console: &JobConsole)
+    requires sound { IsConsole (console_value console.now) }
+    requires room { HasRoom into.old (console_text player (console_value console.now)) }
+    ensures { Grew into.old into.new (console_text player (console_value console.now)) }
+{
+    add_number_line(into, b"console", player);
+    add_files(into, console);
+    add_changes(into, console.changes.as_slice());
+    add_outs(into, console);
+}
+
+/// Adds the lines of the consoles.
+fn add_consoles(into: &mut Vec<u8>, consoles: &[JobConsole])
+    requires sound { All IsConsole (map console_value consoles.now) }
+    requires room { HasRoom into.old (consoles_text 0 (map console_value consoles.now)) }
+    ensures { Grew into.old into.new (consoles_text 0 (map console_value consoles.now)) }
+{
+    for (player, console) in consoles.iter().enumerate() {
+        add_console(into, player as u64, console);
+    }
+}
+
+/// Adds the log of a job to a buffer that has room for its `printed_len` bytes. The job is one that was read, or one that
+/// was read with its digests stated and the changes of its key files written in. It takes no memory.
+#[tactic(auto, unfolding(gba_joblog::specs::Log::log_text))]
+pub fn print(job: &Job, into: &mut Vec<u8>)
+    requires sound { IsJob (job_value job.now) }
+    requires room { vec_len into.old + length (log_text (job_value job.now)) ≤ vec_capacity into.old }
+    ensures items { into.new.items ≡ into.old.items ++ log_text (job_value job.now) }
+    ensures len { vec_len into.new ≡ vec_len into.old + length (log_text (job_value job.now)) }
+    ensures room { vec_capacity into.old ≤ vec_capacity into.new }
+{
+    add(into, b"gbalink 1\n");
+    add_number_line(into, b"cycles", job.cycles);
+    add_number_line(into, b"delay", job.delay);
+    add_consoles(into, job.consoles.as_slice());
+    add(into, b"end\n");
+}
