@@ -1,23 +1,24 @@
 -- Words are refused just where they say no command.
-use Rattle.std.proofs.Common.{◌≡◌, ◌⊎◌, ℕ, List, Option, Some, None, Result, Ok, Err, refl, ap, subst, inl, inr}
+use Rattle.std.proofs.Common.{◌≡◌, ◌⊎◌, ℕ, Bool, true, false, List, [], ◌∷◌, ◌++◌, Option, Some, None, Result, Ok, Err, refl, ap, subst, inl, inr, if◌then◌else◌}
+use Rattle.std.specs.Str.{bytes_eq}
+use Rattle.sha2.specs.Sha256.{sha256}
 use Rattle.gba_store.specs.Files.{Files}
 use Rattle.gba_store.specs.declared.outside.ReadError.{ReadError}
-use Rattle.gba_command.specs.Cause.{Cause, Words, Stop, Refused, LacksMemory}
-use Rattle.gba_command.specs.Plan.{Plan, Done, Refuse, Read, bind, judgement}
+use Rattle.gba_command.specs.Cause.{Cause, Words, Digest, Stop, Refused, LacksMemory}
+use Rattle.gba_command.specs.Plan.{Plan, Done, Refuse, Read, bind, each, judgement}
 use Rattle.gba_command.specs.Reading.{Gives, GoesTo}
 use Rattle.gba_command.specs.Writing.{Run}
 use Rattle.gba_command.proofs.Plans.{Names, refused-named, refuses-alone}
+use Rattle.gba_image.specs.declared.error.ImageError.{ImageError}
+use Rattle.gba_inputs.specs.Inputs.{ConsoleInputs, DigestedImage, digested}
+use Rattle.gba_inputs.specs.InputsPlan.{ImageForm, accepted, after_bios, after_cart, after_digest, after_keys, after_save, any_cart_plan, any_keys_plan, any_save_plan, bios_file, bios_form, bios_plan, cart_form, cart_plan, compared, compared_with, console_plan, found, image_plan, inputs_plan, key_file_plan, keys_or_fault, keys_or_refusal, save_form, save_plan, unless_fault}
 use Rattle.gba_joblog.specs.Clash.{clash_of}
-use Rattle.gba_console.specs.declared.keys.KeyState.{KeyState}
-use Rattle.gba_joblog.specs.Job.{NamedFile, WholeJob}
+use Rattle.gba_joblog.specs.Job.{ConsoleJob, NamedFile, WholeJob}
 use Rattle.gba_joblog.specs.KeyFile.{keys_of}
 use Rattle.gba_joblog.specs.declared.job.KeyChange.{KeyChange}
 use Rattle.gba_joblog.specs.Language.{job_of}
 use Rattle.gba_joblog.specs.declared.kinds.JobError.{JobError}
-use Rattle.gba_image.specs.Checks.{bios_fault, cartridge_fault, save_fault}
-use Rattle.gba_image.specs.declared.error.ImageError.{ImageError}
-use Rattle.gba_image.specs.declared.error.ImageError.TheVariants.{BiosLength, TooLong, SaveLength}
-use Rattle.gba_link.specs.CommandPlan.{after_bios, after_cart, after_images, after_keys, after_save, any_cart_plan, any_keys_plan, any_save_plan, bios_plan, checked, command_plan, console_of, image_plan, images, job_or_refusal, key_file_plan, key_states, keys_or_fault, keys_or_refusal, name_in, present, run_plan, unless_clash, whole, without_clash}
+use Rattle.gba_link.specs.CommandPlan.{after_inputs, command_plan, job_or_refusal, run_plan, unless_clash, without_clash}
 use Rattle.gba_link.specs.Words.{Command}
 
 abbrev refused_as : (X : Type 0) → Cause → Result X Cause
@@ -30,46 +31,6 @@ unfolding Names
 judgement-apart (Ok x) following apart rest h = rest x h
 judgement-apart {X} (Err cause) following apart rest h = apart (ap (λ (c : Cause). refused_as X c) h)
 
-checked-apart : {X : Type 0} (kept : List ℕ → X) (name : List ℕ) (fault : Option ImageError) (bytes : List ℕ)
-    → checked kept name fault bytes ≡ Err Words → ⊥
-checked-apart kept name None bytes h = cc
-checked-apart kept name (Some error) bytes h = cc
-
-image-apart : {X Y : Type 0} (kept : List ℕ → X) (name : List ℕ) (most : ℕ) (long : ImageError) (fault : List ℕ → Option ImageError)
-    (following : X → Plan Y) → ((x : X) → Names Words (following x) → ⊥)
-    → Names Words (bind (image_plan kept name most long fault) following) → ⊥
-unfolding Names
-image-apart kept name most long fault following rest (inl h) = cc
-image-apart kept name most long fault following rest (inr h) =
-    judgement-apart (checked kept name (fault h.0) h.0) following (checked-apart kept name (fault h.0) h.0) rest h.1
-
-any-cart-apart : {Y : Type 0} (file : Option NamedFile) (following : Option (List ℕ) → Plan Y)
-    → ((x : Option (List ℕ)) → Names Words (following x) → ⊥) → Names Words (bind (any_cart_plan file) following) → ⊥
-any-cart-apart None following rest h = rest None h
-any-cart-apart (Some file) following rest h = image-apart present file.name 33554432 TooLong cartridge_fault following rest h
-
-any-save-apart : {Y : Type 0} (file : Option NamedFile) (following : Option (List ℕ) → Plan Y)
-    → ((x : Option (List ℕ)) → Names Words (following x) → ⊥) → Names Words (bind (any_save_plan file) following) → ⊥
-any-save-apart None following rest h = rest None h
-any-save-apart (Some file) following rest h = image-apart present file.name 32768 SaveLength save_fault following rest h
-
-keys-not-words : (name : List ℕ) (said : Result (List KeyChange) JobError) → keys_or_fault name said ≡ Err Words → ⊥
-keys-not-words name (Ok changes) h = cc
-keys-not-words name (Err error) h = cc
-
-key-file-apart : {Y : Type 0} (name : List ℕ) (following : List KeyState → Plan Y)
-    → ((x : List KeyState) → Names Words (following x) → ⊥) → Names Words (bind (key_file_plan name) following) → ⊥
-unfolding Names
-key-file-apart name following rest (inl h) = cc
-key-file-apart name following rest (inr h) =
-    judgement-apart (keys_or_refusal name h.0) following (keys-not-words name (keys_of h.0)) rest h.1
-
-any-keys-apart : {Y : Type 0} (changes : List KeyChange) (file : Option NamedFile) (following : List KeyState → Plan Y)
-    → ((x : List KeyState) → Names Words (following x) → ⊥)
-    → Names Words (bind (any_keys_plan changes file) following) → ⊥
-any-keys-apart changes None following rest h = rest (key_states changes) h
-any-keys-apart changes (Some file) following rest h = key-file-apart file.name following rest h
-
 -- plans one after another, however they are put together
 names-together : {X Y Z : Type 0} (plan : Plan X) (next : X → Plan Y) (last : Y → Plan Z)
     → Names Words (bind (bind plan next) last) → Names Words (bind plan (λ x. bind (next x) last))
@@ -79,21 +40,92 @@ names-together (Refuse cause) next last h = h
 names-together (Read name most long more) next last (inl h) = inl h
 names-together (Read name most long more) next last (inr h) = inr (h.0, names-together (more h.0) next last h.1)
 
+-- neither a digest nor an image nor a key file says that the words are wrong
+by-digest : {X : Type 0} (test : Bool) (x : X) (name stated got : List ℕ)
+    → after_digest x (if test then Ok got else Err (Digest name stated got)) ≡ Err Words → ⊥
+by-digest true x name stated got h = cc
+by-digest false x name stated got h = cc
+
+digest-apart : {X : Type 0} (x : X) (file : NamedFile) (stated : Option (List ℕ)) (got : List ℕ)
+    → after_digest x (compared_with file stated got) ≡ Err Words → ⊥
+digest-apart x file None got h = cc
+digest-apart x file (Some stated) got h = by-digest (bytes_eq stated got) x file.name stated got h
+
+fault-apart : (file : NamedFile) (bytes : List ℕ) (fault : Option ImageError)
+    → unless_fault file bytes fault ≡ Err Words → ⊥
+fault-apart file bytes (Some error) h = cc
+fault-apart file bytes None h = digest-apart (digested bytes) file file.digest (sha256 bytes) h
+
+image-apart : {Y : Type 0} (form : ImageForm) (file : NamedFile) (following : DigestedImage → Plan Y)
+    → ((x : DigestedImage) → Names Words (following x) → ⊥) → Names Words (bind (image_plan form file) following) → ⊥
+unfolding Names
+image-apart form file following rest (inl h) = cc
+image-apart form file following rest (inr h) =
+    judgement-apart (accepted form file h.0) following (fault-apart file h.0 (form.fault h.0)) rest h.1
+
+any-cart-apart : {Y : Type 0} (file : Option NamedFile) (following : Option DigestedImage → Plan Y)
+    → ((x : Option DigestedImage) → Names Words (following x) → ⊥) → Names Words (bind (any_cart_plan file) following) → ⊥
+any-cart-apart None following rest h = rest None h
+any-cart-apart (Some file) following rest h =
+    image-apart cart_form file (λ x. following (Some x)) (λ x k. rest (Some x) k)
+    (names-together (cart_plan file) found following h)
+
+any-save-apart : {Y : Type 0} (file : Option NamedFile) (following : Option DigestedImage → Plan Y)
+    → ((x : Option DigestedImage) → Names Words (following x) → ⊥) → Names Words (bind (any_save_plan file) following) → ⊥
+any-save-apart None following rest h = rest None h
+any-save-apart (Some file) following rest h =
+    image-apart save_form file (λ x. following (Some x)) (λ x k. rest (Some x) k)
+    (names-together (save_plan file) found following h)
+
+keys-not-words : (file : NamedFile) (bytes : List ℕ) (said : Result (List KeyChange) JobError)
+    → keys_or_fault file bytes said ≡ Err Words → ⊥
+keys-not-words file bytes (Ok changes) h = digest-apart changes file file.digest (sha256 bytes) h
+keys-not-words file bytes (Err error) h = cc
+
+key-file-apart : {Y : Type 0} (file : NamedFile) (following : List KeyChange → Plan Y)
+    → ((x : List KeyChange) → Names Words (following x) → ⊥) → Names Words (bind (key_file_plan file) following) → ⊥
+unfolding Names
+key-file-apart file following rest (inl h) = cc
+key-file-apart file following rest (inr h) =
+    judgement-apart (keys_or_refusal file h.0) following (keys-not-words file h.0 (keys_of h.0)) rest h.1
+
+any-keys-apart : {Y : Type 0} (changes : List KeyChange) (file : Option NamedFile) (following : List KeyChange → Plan Y)
+    → ((x : List KeyChange) → Names Words (following x) → ⊥)
+    → Names Words (bind (any_keys_plan changes file) following) → ⊥
+any-keys-apart changes None following rest h = rest changes h
+any-keys-apart changes (Some file) following rest h = key-file-apart file following rest h
+
+console-apart : {Y : Type 0} (console : ConsoleJob) (following : ConsoleInputs → Plan Y)
+    → ((x : ConsoleInputs) → Names Words (following x) → ⊥) → Names Words (bind (console_plan console) following) → ⊥
+console-apart console following rest h =
+    let at-end : (bios : DigestedImage) (cart save : Option DigestedImage)
+    → Names Words (bind (after_save console bios cart save) following) → ⊥ = λ bios cart save k.
+    any-keys-apart console.changes console.keys (λ changes. bind (after_keys bios cart save changes) following)
+    (λ changes j. rest _ j)
+    (names-together (any_keys_plan console.changes console.keys) (after_keys bios cart save) following k) in
+    let at-save : (bios : DigestedImage) (cart : Option DigestedImage)
+    → Names Words (bind (after_cart console bios cart) following) → ⊥ = λ bios cart k.
+    any-save-apart console.save (λ save. bind (after_save console bios cart save) following) (at-end bios cart)
+    (names-together (any_save_plan console.save) (after_save console bios cart) following k) in
+    let at-cart : (bios : DigestedImage) → Names Words (bind (after_bios console bios) following) → ⊥ = λ bios k.
+    any-cart-apart console.cart (λ cart. bind (after_cart console bios cart) following) (at-save bios)
+    (names-together (any_cart_plan console.cart) (after_cart console bios) following k) in
+    image-apart bios_form (bios_file console.bios) (λ bios. bind (after_bios console bios) following) at-cart
+    (names-together (bios_plan (bios_file console.bios)) (after_bios console) following h)
+
+consoles-apart : {Y : Type 0} (done : List ConsoleInputs) (consoles : List ConsoleJob) (following : List ConsoleInputs → Plan Y)
+    → ((x : List ConsoleInputs) → Names Words (following x) → ⊥)
+    → Names Words (bind (each console_plan done consoles) following) → ⊥
+unfolding each
+consoles-apart done [] following rest h = rest done h
+consoles-apart done (console ∷ consoles) following rest h =
+    console-apart console (λ y. bind (each console_plan (done ++ (y ∷ [])) consoles) following)
+    (λ y k. consoles-apart (done ++ (y ∷ [])) consoles following rest k)
+    (names-together (console_plan console) (λ y. each console_plan (done ++ (y ∷ [])) consoles) following h)
+
 run-named : (command : Command) (job : WholeJob) → Names Words (run_plan command job) → ⊥
 unfolding Names
-run-named command job h =
-    let console = console_of job in
-    let last = after_images command job in
-    let at-end : (bios : List ℕ) (cart save : Option (List ℕ)) → Names Words (last (images bios cart save)) → ⊥ = λ bios cart save k.
-    any-keys-apart console.changes console.keys (after_keys command job (images bios cart save)) (λ keys none. none) k in
-    let at-save : (bios : List ℕ) (cart : Option (List ℕ)) → Names Words (bind (after_cart console bios cart) last) → ⊥ = λ bios cart k.
-    any-save-apart console.save (λ save. last (images bios cart save)) (at-end bios cart)
-    (names-together (any_save_plan console.save) (after_save bios cart) last k) in
-    let at-cart : (bios : List ℕ) → Names Words (bind (after_bios console bios) last) → ⊥ = λ bios k.
-    any-cart-apart console.cart (λ cart. bind (after_cart console bios cart) last) (at-save bios)
-    (names-together (any_cart_plan console.cart) (after_cart console bios) last k) in
-    image-apart whole (name_in console.bios) 16384 BiosLength bios_fault (λ bios. bind (after_bios console bios) last) at-cart
-    (names-together (bios_plan (name_in console.bios)) (after_bios console) last h)
+run-named command job h = consoles-apart [] job.consoles (after_inputs command job) (λ inputs none. none) h
 
 judged-named : (command : Command) (result : Result WholeJob Cause) → (result ≡ Err Words → ⊥)
     → Names Words (bind (judgement result) (run_plan command)) → ⊥

@@ -2,3 +2,4 @@ pub mod Words
 pub mod CommandPlan
 pub mod Views
 pub mod Law
+pub mod AgainLaw

@@ -10,8 +10,6 @@ ghost use Rattle.gba_command.specs.Reading.{Gives, GoesTo};
 ghost use Rattle.gba_command.specs.Writing.{Run, sink_state};
 ghost use Rattle.gba_link.specs.CommandPlan.{plan_of};
 
-mod images;
-mod keys;
 pub mod laws;
 mod run;
 mod words;

@@ -67,12 +67,13 @@ fn board_of(alloc: Global) -> Result<Board, Fail> {
         cart: None,
         save: None,
     };
-    Ok(Board::new(alloc, images, ROOM)?)
+    Ok(Board::new(alloc, 0, 1, 512, images, ROOM)?)
 }
 
 fn advance<R: Abort>(rt: &R, board: &mut Board, cycles: u32) {
     assert!(rt; cycles <= 512);
-    assert!(rt; board.made.counts().samples == board.core.clock() / 512);
+    let in_step = board.is_in_step();
+    assert!(rt; in_step);
     assert!(rt; board.made.until() <= 1_000_000);
     assert!(rt; board.core.clock() + u64::from(cycles) <= board.made.until() + 511);
     board.advance(cycles);
@@ -111,7 +112,7 @@ fn queue_is<R: Abort>(rt: &R, board: &Board, queue: u32, held: usize, current: u
 
 fn pair_is<R: Abort>(rt: &R, board: &Board, count: usize, left: i16, right: i16) {
     let samples = board.made.samples();
-    assert_eq!(rt; board.made.counts().samples, count as u64);
+    assert_eq!(rt; board.counts().samples, count as u64);
     assert_eq!(rt; samples.len() / 4, count);
     let [.., a, b, c, d] = samples else {
         return assert!(rt; false);
@@ -172,7 +173,7 @@ fn play_all<R: Abort>(rt: &R, board: &mut Board, moves: &[Move]) {
     }
 }
 
-static MOVES: [&[Move]; 26] = [
+static MOVES: [&[Move]; 27] = [
     // A word over IE and IF: the one stores, ones in the other clear. Timer 0 requests bit 3.
     &[
         Store(0x100, Half, 0xFFFF),
@@ -236,11 +237,22 @@ static MOVES: [&[Move]; 26] = [
     &[
         Store(0x206, Half, 0xFFFF),
         Load(0x204, Word, 0x0000_0000),
-        Store(0x134, Half, 0xFFFF),
-        Load(0x134, Half, 0x0000),
+        Store(0x136, Half, 0xFFFF),
+        Load(0x136, Half, 0x0000),
         Store(0x3FC, Word, 0xFFFF_FFFF),
         Load(0x3FC, Word, 0x0000_0000),
         Kept(0x206, 0),
+    ],
+    // RCNT has its bits 14 and 15, and is 8000h at reset.
+    &[
+        Load(0x134, Word, 0x0000_8000),
+        Store(0x134, Half, 0xFFFF),
+        Load(0x134, Half, 0xC000),
+        Kept(0x134, 0xC000),
+        Store(0x135, Byte, 0x40),
+        Load(0x134, Half, 0x4000),
+        Store(0x134, Word, 0xFFFF_0000),
+        Load(0x134, Word, 0x0000_0000),
     ],
     // WAITCNT prices from the next step on: 8 waits of a first access, and 4 before.
     &[

@@ -19,20 +19,22 @@ pub(crate) fn bios_of(alloc: Global, words: &[u32]) -> Result<Bios, Fail> {
     Ok(Bios::check(bios).map_err(|_| "no BIOS")?)
 }
 
-/// Room for a million cycles, where the samples are kept.
+/// Room for a million cycles, where frames and samples are kept.
 pub(crate) const ROOM: Room = Room {
     until: 1_000_000,
+    frames: true,
     samples: true,
+    words: true,
 };
 
 /// A console whose BIOS begins with these words, without a cartridge.
-fn console_of(alloc: Global, words: &[u32]) -> Result<Console, Fail> {
+pub(crate) fn console_of(alloc: Global, words: &[u32]) -> Result<Console, Fail> {
     let images = ConsoleImages {
         bios: bios_of(alloc, words)?,
         cart: None,
         save: None,
     };
-    Ok(Console::new(alloc, images, Vec::new(alloc), ROOM)?)
+    Ok(Console::new(alloc, 0, 1, 512, images, Vec::new(alloc), ROOM)?)
 }
 
 /// The same, whose keys change.
@@ -42,7 +44,15 @@ fn console_with_keys(alloc: Global, words: &[u32], keys: &[KeyState]) -> Result<
         cart: None,
         save: None,
     };
-    Ok(Console::new(alloc, images, Vec::from_slice(alloc, keys)?, ROOM)?)
+    Ok(Console::new(
+        alloc,
+        0,
+        1,
+        512,
+        images,
+        Vec::from_slice(alloc, keys)?,
+        ROOM,
+    )?)
 }
 
 /// A cartridge with these words from C0h up, and 0 elsewhere but in its header.
@@ -68,7 +78,7 @@ fn console_with(alloc: Global, words: &[u32], cart: &[u32]) -> Result<Console, F
         cart: Some(cartridge_of(alloc, cart)?),
         save: None,
     };
-    Ok(Console::new(alloc, images, Vec::new(alloc), ROOM)?)
+    Ok(Console::new(alloc, 0, 1, 512, images, Vec::new(alloc), ROOM)?)
 }
 
 /// Makes steps, and asserts the clock after them.
@@ -81,7 +91,7 @@ fn steps<R: Abort>(rt: &R, console: &mut Console, count: usize, clock: u64) {
 }
 
 /// Makes steps up to a clock.
-fn run<R: Abort>(rt: &R, console: &mut Console, until: u64) {
+pub(crate) fn run<R: Abort>(rt: &R, console: &mut Console, until: u64) {
     assert!(rt; until <= console.until());
     console.run_to(until);
 }

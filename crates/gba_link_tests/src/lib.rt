@@ -4,8 +4,14 @@
 #[cfg(test)]
 mod board;
 #[cfg(test)]
+mod calls;
+#[cfg(test)]
 mod console;
 #[cfg(test)]
+mod linked;
+#[cfg(test)]
 mod outside;
+#[cfg(test)]
+mod picture;
 #[cfg(test)]
 mod top_call;

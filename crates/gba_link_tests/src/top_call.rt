@@ -1,7 +1,7 @@
 //! The top call over files in memory.
 
-use gba_link::gba_link;
-use gba_store::{MemorySink, MemoryStore, NoGate, StoredFile};
+use crate::calls::{Answer, call, call_with, image_of, stored};
+use gba_store::{MemorySink, MemoryStore, StoredFile};
 use std::alloc::{AllocError, Global};
 use std::process::Abort;
 use std::test::Fail;
@@ -20,16 +20,24 @@ r13_irq 00000000\nr14_irq 00000000\nr13_svc 00000000\nr14_svc 00000000\nr13_abt 
 r13_und 00000000\nr14_und 00000000\ncpsr 000000d3\n\
 spsr_fiq 00000000\nspsr_irq 00000000\nspsr_svc 00000000\nspsr_abt 00000000\nspsr_und 00000000\n\
 timer 0 0 0 0 0\ntimer 1 0 0 0 0\ntimer 2 0 0 0 0\ntimer 3 0 0 0 0\n\
-dma 0 0 0 0 0 0\ndma 1 0 0 0 0 0\ndma 2 0 0 0 0 0\ndma 3 0 0 0 0 0\nqueue A 00 0 -\nqueue B 00 0 -\nposition 0 3\naffine 2 00000000 00000000\naffine 3 00000000 00000000\n\
+dma 0 0 0 0 0 0\ndma 1 0 0 0 0 0\ndma 2 0 0 0 0 0\ndma 3 0 0 0 0 0\nqueue A 00 0 -\nqueue B 00 0 -\nposition 0 3\naffine 2 00000000 00000000\naffine 3 00000000 00000000\nserial 3 0 0 0 0 0 0\nknown 3 3 3 3\n\
 mem io 000000 0000000004000000000000000000000000000000000000000000000000000000\nmem io 000080 0000000000000000000200000000000000000000000000000000000000000000\n\
-mem io 000120 00000000000000000000000000000000ff030000000000000000000000000000\n";
+mem io 000120 00000000000000000000000000000000ff030000008000000000000000000000\n";
 
-const SUMMARY_OF_BRANCH: &str = "console 0 clock 3 frames 0 samples 0 words 0\n";
+const LOG_OF_BRANCH: &str =
+    "gbalink 1\ncycles 1\ndelay 512\nconsole 0\nbios b sha256 42bc114dbdbbee2e759ce16f2cb8804ae18fefe935a14951d0e07af2a3401d8b\nout state sha256 8b22e6c757bc745dfb316412fc5f0a19f4c0b18c97be9f158b43d9daf75bd211\nend\n";
+
+const SUMMARY_OF_BRANCH: &str =
+    "console 0 clock 3 frames 0 samples 0 words 0\nlog 62ac09ba3f1107ea509f7c89e66ebbef61bc02fba38b0054b953d5047a58af73\n";
 
 const HALF_OF_STATE: &str =
-    "gbalink-state 1\nconsole 0\nclock 3\nhalted 0\nr0 00000000\nr1 00000000\nr2 00000000\nr3 00000000\nr4 00000000\nr5 00000000\nr6 00000000\nr7 00000000\nr8 00000000\nr9 00000000\nr10 00000000\nr11 00000000\nr12 00000000\nr13 00000000\nr14 00000000\nr15 00000000\nr8_fiq 00000000\nr9_fiq 00000000\nr10_fiq 00000000\nr11_fiq 00000000\nr12_fiq 00000000\nr13_fiq 00000000\nr14_fiq 00000000\nr13_irq 00000000\nr14_irq 00000000\nr13_svc 00000000\nr14_svc 00000000\nr13_abt 00000000\nr14_abt 00000000\nr13_und 00000000\nr14_und 00000000\ncpsr 000000d3\nspsr_fiq 00000000\nspsr";
+    "gbalink-state 1\nconsole 0\nclock 3\nhalted 0\nr0 00000000\nr1 00000000\nr2 00000000\nr3 00000000\nr4 00000000\nr5 00000000\nr6 00000000\nr7 00000000\nr8 00000000\nr9 00000000\nr10 00000000\nr11 00000000\nr12 00000000\nr13 00000000\nr14 00000000\nr15 00000000\nr8_fiq 00000000\nr9_fiq 00000000\nr10_fiq 00000000\nr11_fiq 00000000\nr12_fiq 00000000\nr13_fiq 00000000\nr14_fiq 00000000\nr13_irq 00000000\nr14_irq 00000000\nr13_svc 00000000\nr14_svc 00000000\nr13_abt 00000000\nr14_abt 00000000\nr13_und 00000000\nr14_und 00000000\ncpsr 000000d3\nspsr_fiq 00000000\nspsr_irq 00000000\nsps";
 
-const HALF_OF_SUMMARY_AND_REPORT: &str = "console 0 clock 3 framsink -\n";
+const HALF_OF_LOG: &str =
+    "gbalink 1\ncycles 1\ndelay 512\nconsole 0\nbios b sha256 42bc114dbdbbee2e759ce16f2cb8804ae18fefe935a14951d";
+
+const HALF_OF_SUMMARY_AND_REPORT: &str =
+    "console 0 clock 3 frames 0 samples 0 words 0\nlog 62ac09basink -\n";
 
 const NO_LAST_LINE_FEED: &str = "gbalink 1\ncycles 1\nconsole 0\nbios b\nout state\nend";
 
@@ -39,9 +47,6 @@ const LONGEST_OUT: &str =
 
 const LONG_OUT: &str =
     "ooooooooooooooooooooooooooooooooooooooooooooooooooooooooooooooooooooooooooooooooooooooooooooooooooooooooooooooooooooooooooooooooooooooooooooooooooooooooooooooooooooooooooooooooooooo";
-
-const LONGEST_STATE_NAME: &str =
-    "oooooooooooooooooooooooooooooooooooooooooooooooooooooooooooooooooooooooooooooooooooooooooooooooooooooooooooooooooooooooooooooooooooooooooooooooooooooooooooooooooooooooooooooooooooo.0.state";
 
 /// One call: its files, which calls of the outside fail, and what must come of it.
 #[derive(Clone, Copy)]
@@ -55,6 +60,7 @@ struct Case<'a> {
     status: u8,
     report: &'a str,
     state: Option<&'a str>,
+    log: Option<&'a str>,
 }
 
 /// The call `run j g` on the branch's job and image.
@@ -68,6 +74,14 @@ const PLAIN: Case<'static> = Case {
     status: 0,
     report: SUMMARY_OF_BRANCH,
     state: Some(STATE_OF_BRANCH),
+    log: Some(LOG_OF_BRANCH),
+};
+
+/// The same, which is refused before anything is written.
+const REFUSED: Case<'static> = Case {
+    state: None,
+    log: None,
+    ..PLAIN
 };
 
 fn image(alloc: Global, first: u32, length: usize) -> Result<Vec<u8>, AllocError> {
@@ -78,13 +92,6 @@ fn image(alloc: Global, first: u32, length: usize) -> Result<Vec<u8>, AllocError
     }
     bytes.truncate(length);
     Ok(bytes)
-}
-
-fn stored(alloc: Global, name: &str, bytes: Vec<u8>) -> Result<StoredFile, AllocError> {
-    Ok(StoredFile {
-        name: String::from_str(alloc, name)?,
-        bytes,
-    })
 }
 
 fn files(alloc: Global, job_name: &str, case: &Case<'_>) -> Result<Vec<StoredFile>, AllocError> {
@@ -98,48 +105,45 @@ fn files(alloc: Global, job_name: &str, case: &Case<'_>) -> Result<Vec<StoredFil
     Ok(files)
 }
 
-fn words(alloc: Global, words: &[&str]) -> Result<Vec<String>, AllocError> {
-    let mut copies = Vec::new(alloc);
-    for word in words {
-        copies.push(String::from_str(alloc, word)?)?;
-    }
-    Ok(copies)
+/// A file has this text, or isn't there.
+fn has_text<R: Abort>(rt: &R, answer: &Answer, name: &str, text: Option<&str>) {
+    let bytes = answer.out.bytes(name);
+    assert_eq!(rt; bytes.is_some(), text.is_some(), "of {name}");
+    assert_eq!(rt;
+        bytes.unwrap_or(b"".as_slice()),
+        text.unwrap_or("").as_bytes(),
+        "in {name}"
+    );
 }
 
-/// Plays a case, and compares the status, standard output and the state file.
+/// Plays a case, and compares the status, standard output, the state file and the log under an OUT.
 fn play<R: Abort + Threads + Sync>(
     rt: &R,
     alloc: Global,
     job_name: &str,
-    state_name: &str,
+    under: &str,
     case: &Case<'_>,
 ) -> Result<(), Fail> {
-    let mut store = MemoryStore::new(
+    let store = MemoryStore::new(
         files(alloc, job_name, case)?,
         Vec::from_slice(alloc, case.failing_reads)?,
     );
     let creates = Vec::from_slice(alloc, case.failing_creates)?;
     let appends = Vec::from_slice(alloc, case.failing_appends)?;
-    let mut out = MemorySink::new(alloc, creates, appends);
-    let said = words(alloc, case.words)?;
-    let status = gba_link(rt, alloc, said.as_slice(), &mut store, &mut out, &NoGate);
-    assert_eq!(rt; status, case.status);
-    assert_eq!(rt;
-        out.bytes("-").unwrap_or(b"".as_slice()),
-        case.report.as_bytes()
-    );
-    let state = out.bytes(state_name);
-    assert_eq!(rt; state.is_some(), case.state.is_some());
-    assert_eq!(rt;
-        state.unwrap_or(b"".as_slice()),
-        case.state.unwrap_or("").as_bytes()
-    );
+    let out = MemorySink::new(alloc, creates, appends);
+    let answer = call_with(rt, alloc, case.words, store, out)?;
+    assert_eq!(rt; answer.status, case.status);
+    assert_eq!(rt; answer.report(), case.report.as_bytes());
+    let state = format!(in alloc; "{under}.0.state")?;
+    has_text(rt, &answer, state.as_str(), case.state);
+    let log = format!(in alloc; "{under}.log")?;
+    has_text(rt, &answer, log.as_str(), case.log);
     Ok(())
 }
 
 #[test]
 fn branch_runs_one_step(rt: HostRuntime) -> Result<(), Fail> {
-    play(&rt, rt.alloc(), "j", "g.0.state", &PLAIN)
+    play(&rt, rt.alloc(), "j", "g", &PLAIN)
 }
 
 /// Words that are no command.
@@ -165,10 +169,9 @@ fn words_are_refused(rt: HostRuntime) -> Result<(), Fail> {
             words,
             status: 2,
             report: "words\n",
-            state: None,
-            ..PLAIN
+            ..REFUSED
         };
-        play(&rt, rt.alloc(), "j", "g.0.state", &case)?;
+        play(&rt, rt.alloc(), "j", "g", &case)?;
     }
     Ok(())
 }
@@ -186,10 +189,9 @@ fn images_are_judged(rt: HostRuntime) -> Result<(), Fail> {
             image,
             status,
             report,
-            state: None,
-            ..PLAIN
+            ..REFUSED
         };
-        play(&rt, rt.alloc(), "j", "g.0.state", &case)?;
+        play(&rt, rt.alloc(), "j", "g", &case)?;
     }
     Ok(())
 }
@@ -202,6 +204,36 @@ const FAILING_READS: [(&[u64], &str); 4] = [
     (&[3, 2], "store b\n"),
 ];
 
+/// Numbers of creates and of appends that fail, the report, and what the state file and the log have then. All files are
+/// created before any has a byte, and the log is the last of them.
+const FAILING_WRITES: [FailingWrite<'static>; 5] = [
+    (&[1], &[], "sink g.0.state\n", None, None),
+    (&[2], &[], "sink g.log\n", Some(""), None),
+    (&[], &[1], "sink g.0.state\n", Some(HALF_OF_STATE), Some("")),
+    (
+        &[],
+        &[2],
+        "sink g.log\n",
+        Some(STATE_OF_BRANCH),
+        Some(HALF_OF_LOG),
+    ),
+    (
+        &[],
+        &[3],
+        HALF_OF_SUMMARY_AND_REPORT,
+        Some(STATE_OF_BRANCH),
+        Some(LOG_OF_BRANCH),
+    ),
+];
+
+type FailingWrite<'a> = (
+    &'a [u64],
+    &'a [u64],
+    &'a str,
+    Option<&'a str>,
+    Option<&'a str>,
+);
+
 /// The reads, creates and appends that fail. A failed create leaves no file, and a failed append half of its piece.
 #[test]
 fn failing_calls_are_told(rt: HostRuntime) -> Result<(), Fail> {
@@ -211,34 +243,23 @@ fn failing_calls_are_told(rt: HostRuntime) -> Result<(), Fail> {
             failing_reads,
             status: 4,
             report,
-            state: None,
+            ..REFUSED
+        };
+        play(&rt, alloc, "j", "g", &case)?;
+    }
+    for (failing_creates, failing_appends, report, state, log) in FAILING_WRITES {
+        let case = Case {
+            failing_creates,
+            failing_appends,
+            status: 9,
+            report,
+            state,
+            log,
             ..PLAIN
         };
-        play(&rt, alloc, "j", "g.0.state", &case)?;
+        play(&rt, alloc, "j", "g", &case)?;
     }
-    let created = Case {
-        failing_creates: &[1],
-        status: 9,
-        report: "sink g.0.state\n",
-        state: None,
-        ..PLAIN
-    };
-    play(&rt, alloc, "j", "g.0.state", &created)?;
-    let appended = Case {
-        failing_appends: &[1],
-        status: 9,
-        report: "sink g.0.state\n",
-        state: Some(HALF_OF_STATE),
-        ..PLAIN
-    };
-    play(&rt, alloc, "j", "g.0.state", &appended)?;
-    let summed = Case {
-        failing_appends: &[2],
-        status: 9,
-        report: HALF_OF_SUMMARY_AND_REPORT,
-        ..PLAIN
-    };
-    play(&rt, alloc, "j", "g.0.state", &summed)
+    Ok(())
 }
 
 /// A file that isn't there, a job without its last line feed, which is a job, and reports that are refused: the status
@@ -251,36 +272,49 @@ fn refusals_keep_their_status(rt: HostRuntime) -> Result<(), Fail> {
         words: none,
         status: 3,
         report: "absent none\n",
-        state: None,
-        ..PLAIN
+        ..REFUSED
     };
-    play(&rt, alloc, "j", "g.0.state", &absent)?;
+    play(&rt, alloc, "j", "g", &absent)?;
     let form = Case {
         job: Some(NO_LAST_LINE_FEED),
         ..PLAIN
     };
-    play(&rt, alloc, "j", "g.0.state", &form)?;
+    play(&rt, alloc, "j", "g", &form)?;
     let unheard = Case {
         words: none,
         failing_appends: &[1],
         status: 3,
         report: "absent",
-        state: None,
-        ..PLAIN
+        ..REFUSED
     };
-    play(&rt, alloc, "j", "g.0.state", &unheard)?;
+    play(&rt, alloc, "j", "g", &unheard)?;
     let unheard = Case {
         words: &["run"],
         failing_appends: &[1],
         status: 2,
         report: "wor",
-        state: None,
-        ..PLAIN
+        ..REFUSED
     };
-    play(&rt, alloc, "j", "g.0.state", &unheard)
+    play(&rt, alloc, "j", "g", &unheard)
 }
 
-/// An output file that would be the job or the image, and the longest names.
+/// Jobs whose run would write one of their inputs, the log or another console's output; and the least such line.
+const CLASHES: [(&str, &str); 3] = [
+    (
+        "gbalink 1\ncycles 1\nconsole 0\nbios g.0.state\nout state\nend\n",
+        "job j line 4 Clash\n",
+    ),
+    (
+        "gbalink 1\ncycles 1\nconsole 0\nbios g.log\nend\n",
+        "job j line 4 Clash\n",
+    ),
+    (
+        "gbalink 1\ncycles 1\nconsole 0\nbios b\nkeys g.1.words\nconsole 1\nsave g.1.words\nbios g.log\nout words\nend\n",
+        "job j line 5 Clash\n",
+    ),
+];
+
+/// An output file that would be the job or an input, and the longest names.
 #[test]
 fn names_at_their_edges(rt: HostRuntime) -> Result<(), Fail> {
     let alloc = rt.alloc();
@@ -288,27 +322,27 @@ fn names_at_their_edges(rt: HostRuntime) -> Result<(), Fail> {
         words: &["run", "g.0.state", "g"],
         status: 5,
         report: "job g.0.state line 0 Clash\n",
-        state: None,
-        ..PLAIN
+        ..REFUSED
     };
-    play(&rt, alloc, "g.0.state", "g.0.state", &clash)?;
-    let image_clash = Case {
-        job: Some("gbalink 1\ncycles 1\nconsole 0\nbios g.0.state\nout state\nend\n"),
-        status: 5,
-        report: "job j line 4 Clash\n",
-        state: None,
-        ..PLAIN
-    };
-    play(&rt, alloc, "j", "g.0.state", &image_clash)?;
+    play(&rt, alloc, "g.0.state", "g", &clash)?;
+    for (job, report) in CLASHES {
+        let case = Case {
+            job: Some(job),
+            status: 5,
+            report,
+            ..REFUSED
+        };
+        play(&rt, alloc, "j", "g", &case)?;
+    }
     let longest = Case {
         words: &["run", "j", LONGEST_OUT],
         ..PLAIN
     };
-    play(&rt, alloc, "j", LONGEST_STATE_NAME, &longest)
+    play(&rt, alloc, "j", LONGEST_OUT, &longest)
 }
 
 /// Files that are no jobs, and the report of each.
-const WRONG_JOBS: [(&str, &str); 12] = [
+const WRONG_JOBS: [(&str, &str); 19] = [
     ("", "job j line 1 Missing\n"),
     ("gbalink 2\n", "job j line 1 Word\n"),
     ("gbalink 1\ncycles 0\n", "job j line 2 Number\n"),
@@ -331,7 +365,29 @@ const WRONG_JOBS: [(&str, &str); 12] = [
     ("gbalink 1\ncycles 1\nbios b\n", "job j line 3 Order\n"),
     (
         "gbalink 1\ncycles 1\nconsole 0\nbios b c\n",
+        "job j line 4 Word\n",
+    ),
+    (
+        "gbalink 1\ncycles 1\nconsole 0\nbios b sha256\n",
+        "job j line 4 Missing\n",
+    ),
+    (
+        "gbalink 1\ncycles 1\nconsole 0\nbios b sha256 00\n",
+        "job j line 4 Digest\n",
+    ),
+    (
+        "gbalink 1\ncycles 1\nconsole 0\nbios b sha256 0000000000000000000000000000000000000000000000000000000000000000 c\n",
         "job j line 4 Extra\n",
+    ),
+    ("gbalink 1\ncycles 1\ndelay 1025\n", "job j line 3 Number\n"),
+    ("gbalink 1\ncycles 1\nconsole 1\n", "job j line 3 Order\n"),
+    (
+        "gbalink 1\ncycles 1\nconsole 0\nbios b\nconsole 4\n",
+        "job j line 5 Order\n",
+    ),
+    (
+        "gbalink 1\ncycles 1\nconsole 0\nbios b\nout frame\n",
+        "job j line 5 Word\n",
     ),
     ("gbalink 1\ncycles 1\x7f\n", "job j line 2 Byte\n"),
     (
@@ -344,13 +400,35 @@ const WRONG_JOBS: [(&str, &str); 12] = [
     ),
 ];
 
-/// Other spellings of the job of one branch.
-const OTHER_SPELLINGS: [&str; 4] = [
-    "gbalink 1\r\ncycles 1\r\nconsole 0\r\nbios b\r\nout state\r\nend\r\n",
-    "# one branch\n\n \tgbalink\t1 \ncycles 00000000000000000003\n#\nconsole 0\nout state\nbios b\nend\n\n# done",
-    "gbalink 1\ncycles 1\nconsole 0\nbios b\nout state\nend",
-    "gbalink 1\ncycles 2\nconsole 00\nbios b\nout state\nend\n",
+/// Other spellings of jobs of one branch, their logs and their summaries.
+const OTHER_SPELLINGS: [(&str, &str, &str); 4] = [
+    (
+        "gbalink 1\r\ncycles 1\r\nconsole 0\r\nbios b\r\nout state\r\nend\r\n",
+        LOG_OF_BRANCH,
+        SUMMARY_OF_BRANCH,
+    ),
+    (
+        "# one branch\n\n \tgbalink\t1 \ncycles 00000000000000000003\n#\nconsole 0\nout state\nbios b\nend\n\n# done",
+        "gbalink 1\ncycles 3\ndelay 512\nconsole 0\nbios b sha256 42bc114dbdbbee2e759ce16f2cb8804ae18fefe935a14951d0e07af2a3401d8b\nout state sha256 8b22e6c757bc745dfb316412fc5f0a19f4c0b18c97be9f158b43d9daf75bd211\nend\n",
+        "console 0 clock 3 frames 0 samples 0 words 0\nlog 821bc279320a01f66d089520a6122330e79475384cc5221eee79ee976d24be6f\n",
+    ),
+    (
+        "gbalink 1\ncycles 1\nconsole 0\nbios b\nout state\nend",
+        LOG_OF_BRANCH,
+        SUMMARY_OF_BRANCH,
+    ),
+    (
+        "gbalink 1\ndelay 0512\ncycles 2\nconsole 00\nbios b\nout state\nend\n",
+        "gbalink 1\ncycles 2\ndelay 512\nconsole 0\nbios b sha256 42bc114dbdbbee2e759ce16f2cb8804ae18fefe935a14951d0e07af2a3401d8b\nout state sha256 8b22e6c757bc745dfb316412fc5f0a19f4c0b18c97be9f158b43d9daf75bd211\nend\n",
+        "console 0 clock 3 frames 0 samples 0 words 0\nlog e0b63e13b04d5f3f25fb519763fadc231576c018f1e373f82f9d15145d382d28\n",
+    ),
 ];
+
+const LOG_OF_SILENCE: &str =
+    "gbalink 1\ncycles 1\ndelay 512\nconsole 0\nbios b sha256 42bc114dbdbbee2e759ce16f2cb8804ae18fefe935a14951d0e07af2a3401d8b\nend\n";
+
+const SUMMARY_OF_SILENCE: &str =
+    "console 0 clock 3 frames 0 samples 0 words 0\nlog 98bb33b113e15ca9d3b9c08aaffa5482d85f65a97177124b5b221ac7bd3205a3\n";
 
 #[test]
 fn jobs_are_read_or_refused(rt: HostRuntime) -> Result<(), Fail> {
@@ -360,24 +438,27 @@ fn jobs_are_read_or_refused(rt: HostRuntime) -> Result<(), Fail> {
             job: Some(job),
             status: 5,
             report,
-            state: None,
-            ..PLAIN
+            ..REFUSED
         };
-        play(&rt, alloc, "j", "g.0.state", &case)?;
+        play(&rt, alloc, "j", "g", &case)?;
     }
-    for job in OTHER_SPELLINGS {
+    for (job, log, report) in OTHER_SPELLINGS {
         let case = Case {
             job: Some(job),
+            report,
+            log: Some(log),
             ..PLAIN
         };
-        play(&rt, alloc, "j", "g.0.state", &case)?;
+        play(&rt, alloc, "j", "g", &case)?;
     }
     let silent = Case {
         job: Some("gbalink 1\ncycles 1\nconsole 0\nbios b\nend\n"),
+        report: SUMMARY_OF_SILENCE,
         state: None,
+        log: Some(LOG_OF_SILENCE),
         ..PLAIN
     };
-    play(&rt, alloc, "j", "g.0.state", &silent)
+    play(&rt, alloc, "j", "g", &silent)
 }
 
 /// MOV r0, #5 and a branch to itself for 10 cycles; a table of two words in the inner RAM; a BIOS that enters Thumb state.
@@ -392,23 +473,25 @@ fn programs_run_to_their_states(rt: HostRuntime) -> Result<(), Fail> {
         &[0xE3A0_1403, 0xE3A0_2005, 0xE581_2020, 0xEAFF_FFFE],
     )?;
     assert_eq!(rt; stored.status, 0);
-    assert_eq!(rt;
-        stored.report.as_str(),
-        "console 0 clock 7 frames 0 samples 0 words 0\n"
+    has_lines(
+        &rt,
+        stored.report.as_bytes(),
+        "console 0 clock 7 frames 0 samples 0 words 0\n",
     );
     let lines = stored.state.as_str();
     assert!(rt; lines.contains("\nclock 7\n"));
     assert!(rt; lines.contains("\nr1 03000000\nr2 00000005\n"));
     assert!(rt;
         lines.ends_with(
-            "\nspsr_und 00000000\ntimer 0 0 0 0 0\ntimer 1 0 0 0 0\ntimer 2 0 0 0 0\ntimer 3 0 0 0 0\ndma 0 0 0 0 0 0\ndma 1 0 0 0 0 0\ndma 2 0 0 0 0 0\ndma 3 0 0 0 0 0\nqueue A 00 0 -\nqueue B 00 0 -\nposition 0 7\naffine 2 00000000 00000000\naffine 3 00000000 00000000\nmem io 000000 0000000004000000000000000000000000000000000000000000000000000000\nmem io 000080 0000000000000000000200000000000000000000000000000000000000000000\nmem io 000120 00000000000000000000000000000000ff030000000000000000000000000000\nmem iwram 000020 0500000000000000000000000000000000000000000000000000000000000000\n"
+            "\nspsr_und 00000000\ntimer 0 0 0 0 0\ntimer 1 0 0 0 0\ntimer 2 0 0 0 0\ntimer 3 0 0 0 0\ndma 0 0 0 0 0 0\ndma 1 0 0 0 0 0\ndma 2 0 0 0 0 0\ndma 3 0 0 0 0 0\nqueue A 00 0 -\nqueue B 00 0 -\nposition 0 7\naffine 2 00000000 00000000\naffine 3 00000000 00000000\nserial 3 0 0 0 0 0 0\nknown 3 3 3 3\nmem io 000000 0000000004000000000000000000000000000000000000000000000000000000\nmem io 000080 0000000000000000000200000000000000000000000000000000000000000000\nmem io 000120 00000000000000000000000000000000ff030000008000000000000000000000\nmem iwram 000020 0500000000000000000000000000000000000000000000000000000000000000\n"
         )
     );
     let moved = run_code(&rt, alloc, "10", &[0xE3A0_0005, 0xEAFF_FFFE])?;
     assert_eq!(rt; moved.status, 0);
-    assert_eq!(rt;
-        moved.report.as_str(),
-        "console 0 clock 10 frames 0 samples 0 words 0\n"
+    has_lines(
+        &rt,
+        moved.report.as_bytes(),
+        "console 0 clock 10 frames 0 samples 0 words 0\n",
     );
     let lines = moved.state.as_str();
     assert!(rt; lines.contains("\nclock 10\n"));
@@ -416,21 +499,28 @@ fn programs_run_to_their_states(rt: HostRuntime) -> Result<(), Fail> {
     assert!(rt; lines.contains("\nr15 00000004\n"));
     assert!(rt;
         lines.ends_with(
-            "\nspsr_und 00000000\ntimer 0 0 0 0 0\ntimer 1 0 0 0 0\ntimer 2 0 0 0 0\ntimer 3 0 0 0 0\ndma 0 0 0 0 0 0\ndma 1 0 0 0 0 0\ndma 2 0 0 0 0 0\ndma 3 0 0 0 0 0\nqueue A 00 0 -\nqueue B 00 0 -\nposition 0 10\naffine 2 00000000 00000000\naffine 3 00000000 00000000\nmem io 000000 0000000004000000000000000000000000000000000000000000000000000000\nmem io 000080 0000000000000000000200000000000000000000000000000000000000000000\nmem io 000120 00000000000000000000000000000000ff030000000000000000000000000000\n"
+            "\nspsr_und 00000000\ntimer 0 0 0 0 0\ntimer 1 0 0 0 0\ntimer 2 0 0 0 0\ntimer 3 0 0 0 0\ndma 0 0 0 0 0 0\ndma 1 0 0 0 0 0\ndma 2 0 0 0 0 0\ndma 3 0 0 0 0 0\nqueue A 00 0 -\nqueue B 00 0 -\nposition 0 10\naffine 2 00000000 00000000\naffine 3 00000000 00000000\nserial 3 0 0 0 0 0 0\nknown 3 3 3 3\nmem io 000000 0000000004000000000000000000000000000000000000000000000000000000\nmem io 000080 0000000000000000000200000000000000000000000000000000000000000000\nmem io 000120 00000000000000000000000000000000ff030000008000000000000000000000\n"
         )
     );
     // MOV r0, #9; BX r0; at 8 LDRSB r0, [r7, r1] of address 0 in 3 cycles, ASR r4, r6, #8 and LSL r0, r0, #0 twice.
     let thumb = run_code(&rt, alloc, "10", &[0xE3A0_0009, 0xE12F_FF10, 0x1234_5678])?;
     assert_eq!(rt; thumb.status, 0);
-    assert_eq!(rt;
-        thumb.report.as_str(),
-        "console 0 clock 10 frames 0 samples 0 words 0\n"
+    has_lines(
+        &rt,
+        thumb.report.as_bytes(),
+        "console 0 clock 10 frames 0 samples 0 words 0\n",
     );
     let lines = thumb.state.as_str();
     assert!(rt; lines.contains("\nr0 00000009\n"));
     assert!(rt; lines.contains("\nr15 00000010\n"));
     assert!(rt; lines.contains("\ncpsr 000000f3\n"));
     Ok(())
+}
+
+/// A summary has these lines of consoles, and the log's line with 64 digits behind them.
+fn has_lines<R: Abort>(rt: &R, report: &[u8], lines: &str) {
+    assert!(rt; report.starts_with(lines.as_bytes()));
+    assert_eq!(rt; report.len(), lines.len() + 69);
 }
 
 /// What a call left: its status, standard output, and the state file, empty where there is none.
@@ -446,18 +536,6 @@ fn text_of(alloc: Global, bytes: Option<&[u8]>) -> Result<String, Fail> {
     Ok(String::from_str(alloc, text)?)
 }
 
-/// A BIOS that begins with these words.
-fn image_of(alloc: Global, code: &[u32]) -> Result<Vec<u8>, AllocError> {
-    let mut bios = Vec::new(alloc);
-    for word in code {
-        bios.extend_from_slice(&word.to_le_bytes())?;
-    }
-    for _ in bios.len()..16_384 {
-        bios.push(0)?;
-    }
-    Ok(bios)
-}
-
 /// A run of these words for so many cycles.
 fn run_code<R: Abort + Threads + Sync>(
     rt: &R,
@@ -470,14 +548,11 @@ fn run_code<R: Abort + Threads + Sync>(
         stored(alloc, "j", Vec::from_slice(alloc, job.as_bytes())?)?,
         stored(alloc, "b", image_of(alloc, code)?)?,
     ]?;
-    let mut store = MemoryStore::new(files, Vec::new(alloc));
-    let mut out = MemorySink::new(alloc, Vec::new(alloc), Vec::new(alloc));
-    let said = words(alloc, &["run", "j", "g"])?;
-    let status = gba_link(rt, alloc, said.as_slice(), &mut store, &mut out, &NoGate);
+    let answer = call(rt, alloc, &["run", "j", "g"], files)?;
     Ok(Written {
-        status,
-        report: text_of(alloc, out.bytes("-"))?,
-        state: text_of(alloc, out.bytes("g.0.state"))?,
+        status: answer.status,
+        report: text_of(alloc, answer.out.bytes("-"))?,
+        state: text_of(alloc, answer.out.bytes("g.0.state"))?,
     })
 }
 
@@ -615,14 +690,12 @@ fn images_are_checked_in_their_order(rt: HostRuntime) -> Result<(), Fail> {
             "image s SaveLength\n",
         ),
     ] {
-        let mut store = MemoryStore::new(image_files(alloc, images)?, Vec::new(alloc));
-        let mut out = MemorySink::new(alloc, Vec::new(alloc), Vec::new(alloc));
-        let said = words(alloc, &["run", "j", "g"])?;
-        let answer = gba_link(&rt, alloc, said.as_slice(), &mut store, &mut out, &NoGate);
-        assert_eq!(rt; answer, status);
-        assert_eq!(rt; out.bytes("-").unwrap_or(b"".as_slice()), report.as_bytes());
-        assert!(rt; out.bytes("g.0.state").is_none());
-        assert!(rt; out.bytes("g.0.save").is_none());
+        let answer = call(&rt, alloc, &["run", "j", "g"], image_files(alloc, images)?)?;
+        assert_eq!(rt; answer.status, status);
+        assert_eq!(rt; answer.report(), report.as_bytes());
+        for name in ["g.0.state", "g.0.save", "g.log"] {
+            has_text(&rt, &answer, name, None);
+        }
     }
     Ok(())
 }
@@ -631,28 +704,24 @@ fn images_are_checked_in_their_order(rt: HostRuntime) -> Result<(), Fail> {
 #[test]
 fn a_save_is_written_as_it_was_read(rt: HostRuntime) -> Result<(), Fail> {
     let alloc = rt.alloc();
-    let mut store = MemoryStore::new(image_files(alloc, RIGHT)?, Vec::new(alloc));
-    let mut out = MemorySink::new(alloc, Vec::new(alloc), Vec::new(alloc));
-    let said = words(alloc, &["run", "j", "g"])?;
-    assert_eq!(rt;
-        gba_link(&rt, alloc, said.as_slice(), &mut store, &mut out, &NoGate),
-        0
+    let answer = call(&rt, alloc, &["run", "j", "g"], image_files(alloc, RIGHT)?)?;
+    assert_eq!(rt; answer.status, 0);
+    has_lines(
+        &rt,
+        answer.report(),
+        "console 0 clock 12 frames 0 samples 0 words 0\n",
     );
-    assert_eq!(rt;
-        out.bytes("-").unwrap_or(b"".as_slice()),
-        b"console 0 clock 12 frames 0 samples 0 words 0\n".as_slice()
-    );
-    assert!(rt; out.bytes("g.0.state").is_some());
+    assert!(rt; answer.out.bytes("g.0.state").is_some());
     let kept = save(alloc, 32_768, 0xA5)?;
     assert_eq!(rt;
-        out.bytes("g.0.save").unwrap_or(b"".as_slice()),
+        answer.out.bytes("g.0.save").unwrap_or(b"".as_slice()),
         kept.as_slice()
     );
     Ok(())
 }
 
-/// What the lines of a console's keys and its key file lead to: the status, the report, and the bytes of KEYINPUT at the
-/// end, empty where nothing is written and where its row of registers is 0.
+/// What the lines of a console's keys and its key file lead to: the status, the report, of a summary the lines before the
+/// log's, and the bytes of KEYINPUT at the end, empty where nothing is written.
 #[derive(Clone, Copy)]
 struct KeyCase<'a> {
     lines: &'a str,
@@ -702,7 +771,7 @@ fn keys_are_read(rt: HostRuntime) -> Result<(), Fail> {
             file: Some(b"# start\n0 001\n\n6 3FF\n"),
             status: 0,
             report: DONE,
-            input: "",
+            input: "0000",
         },
         KeyCase {
             lines: "keys k\n",
@@ -747,16 +816,14 @@ fn keys_are_read(rt: HostRuntime) -> Result<(), Fail> {
             input: "",
         },
     ] {
-        let mut store = MemoryStore::new(key_files(alloc, &case)?, Vec::new(alloc));
-        let mut out = MemorySink::new(alloc, Vec::new(alloc), Vec::new(alloc));
-        let said = words(alloc, &["run", "j", "g"])?;
-        let answer = gba_link(&rt, alloc, said.as_slice(), &mut store, &mut out, &NoGate);
-        assert_eq!(rt; answer, case.status);
-        assert_eq!(rt;
-            out.bytes("-").unwrap_or(b"".as_slice()),
-            case.report.as_bytes()
-        );
-        let state = text_of(alloc, out.bytes("g.0.state"))?;
+        let answer = call(&rt, alloc, &["run", "j", "g"], key_files(alloc, &case)?)?;
+        assert_eq!(rt; answer.status, case.status);
+        if case.status == 0 {
+            has_lines(&rt, answer.report(), case.report);
+        } else {
+            assert_eq!(rt; answer.report(), case.report.as_bytes());
+        }
+        let state = text_of(alloc, answer.out.bytes("g.0.state"))?;
         let input = case.input;
         let line = format!(in alloc;
             "\nmem io 000120 00000000000000000000000000000000{input}0000"
@@ -780,28 +847,15 @@ fn long_and_failing_key_files(rt: HostRuntime) -> Result<(), Fail> {
     };
     let mut files = key_files(alloc, &case)?;
     files.push(stored(alloc, "k", vec![in alloc; b'\n'; 33_554_433]?)?)?;
-    let mut store = MemoryStore::new(files, Vec::new(alloc));
-    let mut out = MemorySink::new(alloc, Vec::new(alloc), Vec::new(alloc));
-    let said = words(alloc, &["run", "j", "g"])?;
-    assert_eq!(rt;
-        gba_link(&rt, alloc, said.as_slice(), &mut store, &mut out, &NoGate),
-        5
-    );
-    assert_eq!(rt;
-        out.bytes("-").unwrap_or(b"".as_slice()),
-        case.report.as_bytes()
-    );
+    let answer = call(&rt, alloc, &["run", "j", "g"], files)?;
+    assert_eq!(rt; answer.status, 5);
+    assert_eq!(rt; answer.report(), case.report.as_bytes());
     let mut files = key_files(alloc, &case)?;
     files.push(stored(alloc, "k", Vec::from_slice(alloc, b"0 001")?)?)?;
-    let mut store = MemoryStore::new(files, vec![in alloc; 3]?);
-    let mut out = MemorySink::new(alloc, Vec::new(alloc), Vec::new(alloc));
-    assert_eq!(rt;
-        gba_link(&rt, alloc, said.as_slice(), &mut store, &mut out, &NoGate),
-        4
-    );
-    assert_eq!(rt;
-        out.bytes("-").unwrap_or(b"".as_slice()),
-        b"store k\n".as_slice()
-    );
+    let store = MemoryStore::new(files, vec![in alloc; 3]?);
+    let out = MemorySink::new(alloc, Vec::new(alloc), Vec::new(alloc));
+    let answer = call_with(&rt, alloc, &["run", "j", "g"], store, out)?;
+    assert_eq!(rt; answer.status, 4);
+    assert_eq!(rt; answer.report(), b"store k\n".as_slice());
     Ok(())
 }

@@ -12,10 +12,6 @@ use Rattle.gba_joblog.specs.declared.kinds.JobKind.TheVariants.{Long}
 use Rattle.gba_link.specs.Views.{command_value}
 use Rattle.gba_link.proofs.run.run_command.Goals as goal
 
-pub returns-in_default : goal.returns-in_default
-returns-in_default g c =
-    goes-lacks (Gives g.S.Store.Tells g.S.Store.files g.S.Store.Reads g.S.Store.absences g.S.Store.faults) (command_plan (Some (command_value c.args.command.now))) _
-
 pub returns-in_err-bytes : goal.returns-in_err-bytes
 returns-in_err-bytes g c =
     let command = command_value c.args.command.now in
@@ -45,4 +41,4 @@ returns g c =
     goes-then gives (file command.job longest_job (job_refusal command (error_at 0 Long))) (λ text. bind (after_job command text) (run_plan command)) _ _ _ bytes _ (rw c.name_in_report.ensures at c.in_ok-bytes.ensures.goes)
     (goes-then gives (after_job command bytes) (run_plan command) _ _ _ job _
     (goes-judged gives job_value (job_or_refusal command bytes) (Ok c.in_ok-job.job) _ (rw c.as_slice.ensures.value at c.in_ok-job.ensures.agrees))
-    (c.run_job.ensures command c.in-Ok.ensures))
+    c.run_job.ensures)

@@ -1,0 +1,75 @@
+//! Calls of the program over files in memory.
+
+use gba_link::gba_link;
+use gba_store::{MemorySink, MemoryStore, NoGate, StoredFile};
+use std::alloc::{AllocError, Global};
+use std::process::Abort;
+use std::test::Fail;
+use std::thread::Threads;
+
+/// A file of these bytes.
+pub(crate) fn stored(alloc: Global, name: &str, bytes: Vec<u8>) -> Result<StoredFile, AllocError> {
+    Ok(StoredFile {
+        name: String::from_str(alloc, name)?,
+        bytes,
+    })
+}
+
+/// A BIOS that begins with these words.
+pub(crate) fn image_of(alloc: Global, code: &[u32]) -> Result<Vec<u8>, AllocError> {
+    let mut bios = Vec::new(alloc);
+    for word in code {
+        bios.extend_from_slice(&word.to_le_bytes())?;
+    }
+    for _ in bios.len()..16_384 {
+        bios.push(0)?;
+    }
+    Ok(bios)
+}
+
+/// What a call left: its status, and the files, of which `-` is standard output.
+#[derive(Drop)]
+pub(crate) struct Answer {
+    pub(crate) status: u8,
+    pub(crate) out: MemorySink,
+}
+
+impl Answer {
+    /// Standard output.
+    pub(crate) fn report(&self) -> &[u8] {
+        self.out.bytes("-").unwrap_or(b"".as_slice())
+    }
+}
+
+fn copies_of(alloc: Global, words: &[&str]) -> Result<Vec<String>, AllocError> {
+    let mut copies = Vec::new(alloc);
+    for word in words {
+        copies.push(String::from_str(alloc, word)?)?;
+    }
+    Ok(copies)
+}
+
+/// A call with these words over a store and a sink.
+pub(crate) fn call_with<R: Abort + Threads + Sync>(
+    rt: &R,
+    alloc: Global,
+    words: &[&str],
+    mut store: MemoryStore,
+    mut out: MemorySink,
+) -> Result<Answer, Fail> {
+    let said = copies_of(alloc, words)?;
+    let status = gba_link(rt, alloc, said.as_slice(), &mut store, &mut out, &NoGate);
+    Ok(Answer { status, out })
+}
+
+/// A call with these words over these files, in which nothing fails.
+pub(crate) fn call<R: Abort + Threads + Sync>(
+    rt: &R,
+    alloc: Global,
+    words: &[&str],
+    files: Vec<StoredFile>,
+) -> Result<Answer, Fail> {
+    let store = MemoryStore::new(files, Vec::new(alloc));
+    let out = MemorySink::new(alloc, Vec::new(alloc), Vec::new(alloc));
+    call_with(rt, alloc, words, store, out)
+}

@@ -1,0 +1,533 @@
+//! Consoles on a cable, and their logs: what is written is stated by hand, from the formats, the cycles of the programs
+//! and the rules of transfers. The digests are those that `sha256sum` gives for these bytes.
+
+use crate::calls::{Answer, call, image_of, stored};
+use gba_store::StoredFile;
+use std::alloc::{AllocError, Global};
+use std::process::Abort;
+use std::test::Fail;
+use std::thread::Threads;
+
+/// Multi at speed 3 with 1234h, started at 817: 16 + 200 * 4 - 2 + 3 cycles. Then a loop of 3 cycles from 819 on.
+const STARTS_MULTI: [u32; 17] = [
+    0xE3A0_5301, // 00 MOV r5, #04000000h
+    0xE285_5C01, // 04 ADD r5, r5, #100h
+    0xE3A0_0000, // 08 MOV r0, #0
+    0xE1C5_03B4, // 0C STRH r0, [r5, #34h]: RCNT, at 3
+    0xE59F_0020, // 10 LDR r0, [r15, #20h]
+    0xE1C5_02BA, // 14 STRH r0, [r5, #2Ah]: the send word
+    0xE59F_001C, // 18 LDR r0, [r15, #1Ch]
+    0xE1C5_02B8, // 1C STRH r0, [r5, #28h]: SIOCNT, at 13
+    0xE3A0_10C8, // 20 MOV r1, #200
+    0xE251_1001, // 24 SUBS r1, r1, #1
+    0x1AFF_FFFD, // 28 BNE 24h
+    0xE59F_000C, // 2C LDR r0, [r15, #0Ch]
+    0xE1C5_02B8, // 30 STRH r0, [r5, #28h]: the start
+    0xEAFF_FFFE, // 34 B to itself
+    0x0000_1234, // 38
+    0x0000_6003, // 3C
+    0x0000_6083, // 40
+];
+
+/// In Multi from 13 on with ABCDh. Then a loop of 3 cycles from 16 on.
+const AWAITS_MULTI: [u32; 12] = [
+    0xE3A0_5301, // 00 MOV r5, #04000000h
+    0xE285_5C01, // 04 ADD r5, r5, #100h
+    0xE3A0_0000, // 08 MOV r0, #0
+    0xE1C5_03B4, // 0C STRH r0, [r5, #34h]: RCNT, at 3
+    0xE59F_0010, // 10 LDR r0, [r15, #10h]
+    0xE1C5_02BA, // 14 STRH r0, [r5, #2Ah]
+    0xE59F_000C, // 18 LDR r0, [r15, #0Ch]
+    0xE1C5_02B8, // 1C STRH r0, [r5, #28h]
+    0xE3A0_1000, // 20 MOV r1, #0
+    0xEAFF_FFFE, // 24 B to itself
+    0x0000_ABCD, // 28
+    0x0000_2003, // 2C
+];
+
+/// The same start as the first, of KEYINPUT; only that of player 0 is one.
+const SENDS_KEYS: [u32; 16] = [
+    0xE3A0_5301, // 00 MOV r5, #04000000h
+    0xE285_5C01, // 04 ADD r5, r5, #100h
+    0xE3A0_0000, // 08 MOV r0, #0
+    0xE1C5_03B4, // 0C STRH r0, [r5, #34h]: RCNT, at 3
+    0xE1D5_03B0, // 10 LDRH r0, [r5, #30h]
+    0xE1C5_02BA, // 14 STRH r0, [r5, #2Ah]
+    0xE59F_0018, // 18 LDR r0, [r15, #18h]
+    0xE1C5_02B8, // 1C STRH r0, [r5, #28h]
+    0xE3A0_10C8, // 20 MOV r1, #200
+    0xE251_1001, // 24 SUBS r1, r1, #1
+    0x1AFF_FFFD, // 28 BNE 24h
+    0xE59F_0008, // 2C LDR r0, [r15, #8]
+    0xE1C5_02B8, // 30 STRH r0, [r5, #28h]: the start
+    0xEAFF_FFFE, // 34 B to itself
+    0x0000_2003, // 38
+    0x0000_2083, // 3C
+];
+
+/// Normal8 with 5Ah, started at 408: 6 + 100 * 4 - 2 + 4 cycles. Then a loop from 410 on.
+const STARTS_BYTE: [u32; 12] = [
+    0xE3A0_5301, // 00 MOV r5, #04000000h
+    0xE285_5C01, // 04 ADD r5, r5, #100h
+    0xE3A0_0000, // 08 MOV r0, #0
+    0xE1C5_03B4, // 0C STRH r0, [r5, #34h]: RCNT, at 3
+    0xE3A0_1064, // 10 MOV r1, #100
+    0xE251_1001, // 14 SUBS r1, r1, #1
+    0x1AFF_FFFD, // 18 BNE 14h
+    0xE3A0_005A, // 1C MOV r0, #5Ah
+    0xE1C5_02BA, // 20 STRH r0, [r5, #2Ah]
+    0xE3A0_0081, // 24 MOV r0, #81h
+    0xE1C5_02B8, // 28 STRH r0, [r5, #28h]: the start
+    0xEAFF_FFFE, // 2C B to itself
+];
+
+/// Normal8 with A5h and the outside clock. Then a loop from 11 on.
+const AWAITS_BYTE: [u32; 9] = [
+    0xE3A0_5301, // 00 MOV r5, #04000000h
+    0xE285_5C01, // 04 ADD r5, r5, #100h
+    0xE3A0_0000, // 08 MOV r0, #0
+    0xE1C5_03B4, // 0C STRH r0, [r5, #34h]: RCNT, at 3
+    0xE3A0_00A5, // 10 MOV r0, #A5h
+    0xE1C5_02BA, // 14 STRH r0, [r5, #2Ah]
+    0xE3A0_0080, // 18 MOV r0, #80h
+    0xE1C5_02B8, // 1C STRH r0, [r5, #28h]
+    0xEAFF_FFFE, // 20 B to itself
+];
+
+/// Normal32 with 01234567h, started at 13. Then a loop from 15 on.
+const STARTS_WORD: [u32; 11] = [
+    0xE3A0_5301, // 00 MOV r5, #04000000h
+    0xE285_5C01, // 04 ADD r5, r5, #100h
+    0xE3A0_0000, // 08 MOV r0, #0
+    0xE1C5_03B4, // 0C STRH r0, [r5, #34h]: RCNT, at 3
+    0xE59F_000C, // 10 LDR r0, [r15, #0Ch]
+    0xE585_0020, // 14 STR r0, [r5, #20h]
+    0xE59F_0008, // 18 LDR r0, [r15, #8]
+    0xE1C5_02B8, // 1C STRH r0, [r5, #28h]: the start
+    0xEAFF_FFFE, // 20 B to itself
+    0x0123_4567, // 24
+    0x0000_1081, // 28
+];
+
+/// Two consoles in Multi, in another spelling than the log's.
+const TWO: &str =
+    "# a cable\ngbalink 1\n\ncycles 010000\nconsole 0\nout state\nbios b\nout words\n#\nconsole 1\nkeys k\nout words\nbios c\nout state\nend";
+
+/// The key file of console 1. At the end its keys are 201h.
+const KEYS: &str = "# pressed\n5 001\n\n9000\t201\r\n20000 000";
+
+/// The end comes 18 * 2 * 145 cycles after the start.
+const TWO_WORDS: &str = "6037 multi 1234 abcd ffff ffff 0\n";
+
+/// The first step at or past 10,000 ends at 819 + 3,061 * 3. SIOCNT is 6003h, and its interrupt is requested.
+const FIRST_STATE: &str =
+    "gbalink-state 1\nconsole 0\nclock 10002\nhalted 0\nr0 00006083\nr1 00000000\nr2 00000000\nr3 00000000\n\
+r4 00000000\nr5 04000100\nr6 00000000\nr7 00000000\nr8 00000000\nr9 00000000\nr10 00000000\nr11 00000000\n\
+r12 00000000\nr13 00000000\nr14 00000000\nr15 00000034\nr8_fiq 00000000\nr9_fiq 00000000\nr10_fiq 00000000\n\
+r11_fiq 00000000\nr12_fiq 00000000\nr13_fiq 00000000\nr14_fiq 00000000\nr13_irq 00000000\nr14_irq 00000000\n\
+r13_svc 00000000\nr14_svc 00000000\nr13_abt 00000000\nr14_abt 00000000\nr13_und 00000000\nr14_und 00000000\n\
+cpsr 600000d3\nspsr_fiq 00000000\nspsr_irq 00000000\nspsr_svc 00000000\nspsr_abt 00000000\nspsr_und 00000000\n\
+timer 0 0 0 0 0\ntimer 1 0 0 0 0\ntimer 2 0 0 0 0\ntimer 3 0 0 0 0\ndma 0 0 0 0 0 0\ndma 1 0 0 0 0 0\n\
+dma 2 0 0 0 0 0\ndma 3 0 0 0 0 0\nqueue A 00 0 -\nqueue B 00 0 -\nposition 8 146\naffine 2 00000000 00000000\n\
+affine 3 00000000 00000000\nserial 2 0 0 0 0 0 0\nknown 3 2 3 3\n\
+mem io 000000 0000000000000800000000000000000000000000000000000000000000000000\n\
+mem io 000080 0000000000000000000200000000000000000000000000000000000000000000\n\
+mem io 000120 3412cdabffffffff0360341200000000ff030000000000000000000000000000\n\
+mem io 000200 0000800000000000000000000000000000000000000000000000000000000000\n";
+
+/// The step ends at 16 + 3,328 * 3. SIOCNT has the player's number, and isn't the first console's.
+const SECOND_STATE: &str =
+    "gbalink-state 1\nconsole 1\nclock 10000\nhalted 0\nr0 00002003\nr1 00000000\nr2 00000000\nr3 00000000\n\
+r4 00000000\nr5 04000100\nr6 00000000\nr7 00000000\nr8 00000000\nr9 00000000\nr10 00000000\nr11 00000000\n\
+r12 00000000\nr13 00000000\nr14 00000000\nr15 00000024\nr8_fiq 00000000\nr9_fiq 00000000\nr10_fiq 00000000\n\
+r11_fiq 00000000\nr12_fiq 00000000\nr13_fiq 00000000\nr14_fiq 00000000\nr13_irq 00000000\nr14_irq 00000000\n\
+r13_svc 00000000\nr14_svc 00000000\nr13_abt 00000000\nr14_abt 00000000\nr13_und 00000000\nr14_und 00000000\n\
+cpsr 000000d3\nspsr_fiq 00000000\nspsr_irq 00000000\nspsr_svc 00000000\nspsr_abt 00000000\nspsr_und 00000000\n\
+timer 0 0 0 0 0\ntimer 1 0 0 0 0\ntimer 2 0 0 0 0\ntimer 3 0 0 0 0\ndma 0 0 0 0 0 0\ndma 1 0 0 0 0 0\n\
+dma 2 0 0 0 0 0\ndma 3 0 0 0 0 0\nqueue A 00 0 -\nqueue B 00 0 -\nposition 8 144\naffine 2 00000000 00000000\n\
+affine 3 00000000 00000000\nserial 2 0 0 0 0 0 0\nknown 2 3 3 3\n\
+mem io 000000 0000000000000800000000000000000000000000000000000000000000000000\n\
+mem io 000080 0000000000000000000200000000000000000000000000000000000000000000\n\
+mem io 000120 3412cdabffffffff1720cdab00000000fe010000000000000000000000000000\n";
+
+/// The log of the two consoles.
+const TWO_LOG: &str = "gbalink 1\ncycles 10000\ndelay 512\nconsole 0\n\
+bios b sha256 05cde85c2cd4f991045b48b9a2bca9a139c000f6c72d424ac6a7b46e5fe9adf5\n\
+out words sha256 4cee999209fc00d1e7484c00cd09baa8f06250c103e845adfe296696a21d373d\n\
+out state sha256 a50f5527e7b6f788864fbfda5ac5f82f716bfd2620dd719e104c66ab7dda1f44\nconsole 1\n\
+bios c sha256 043edf6bcebf0b42da22d4b153cbc220ef528093fbc5ad92c215d6018e71b97b\nkey 5 001\nkey 9000 201\n\
+key 20000 000\nout words sha256 4cee999209fc00d1e7484c00cd09baa8f06250c103e845adfe296696a21d373d\n\
+out state sha256 458472be32f90d5e1888bb340bd97bc0938c3415982a5b71de06733931afb1b6\nend\n";
+
+/// Their summary.
+const TWO_REPORT: &str =
+    "console 0 clock 10002 frames 0 samples 19 words 1\nconsole 1 clock 10000 frames 0 samples 19 words 1\n\
+log 739c768b32abed260545f0da55b2e99f26829409378d0c75d1fc2bb8e654488a\n";
+
+/// Four consoles, whose words are their keys.
+const FOUR: &str =
+    "gbalink 1\ncycles 12000\ndelay 1000\nconsole 0\nbios b\nkey 0 001\nout words\nconsole 1\nbios b\nkey 0 002\n\
+out samples\nout words\nconsole 2\nbios b\nkey 0 004\nout frames\nout words\nconsole 3\nbios b\nkey 0 008\n\
+out save\nout words\nend\n";
+
+/// The end comes 18 * 4 * 145 cycles after the start.
+const FOUR_WORDS: &str = "11257 multi 03fe 03fd 03fb 03f7 0\n";
+
+/// The log of the four consoles. Console 2 has no whole frame.
+const FOUR_LOG: &str = "gbalink 1\ncycles 12000\ndelay 1000\nconsole 0\n\
+bios b sha256 89364a8ce0fb5104679526389974a096ee083c01a13f8cd59e220a9be0020072\nkey 0 001\n\
+out words sha256 d11bd10d0c0aa1f6b9f6b0b2b8f6063d76ab8bbfd96b2b47eb08594d81c0bc81\nconsole 1\n\
+bios b sha256 89364a8ce0fb5104679526389974a096ee083c01a13f8cd59e220a9be0020072\nkey 0 002\n\
+out samples sha256 62b14867e4e79d50673d2f7474335229f54c478f56d2a910235e1953c6d29206\n\
+out words sha256 d11bd10d0c0aa1f6b9f6b0b2b8f6063d76ab8bbfd96b2b47eb08594d81c0bc81\nconsole 2\n\
+bios b sha256 89364a8ce0fb5104679526389974a096ee083c01a13f8cd59e220a9be0020072\nkey 0 004\n\
+out frames sha256 e3b0c44298fc1c149afbf4c8996fb92427ae41e4649b934ca495991b7852b855\n\
+out words sha256 d11bd10d0c0aa1f6b9f6b0b2b8f6063d76ab8bbfd96b2b47eb08594d81c0bc81\nconsole 3\n\
+bios b sha256 89364a8ce0fb5104679526389974a096ee083c01a13f8cd59e220a9be0020072\nkey 0 008\n\
+out words sha256 d11bd10d0c0aa1f6b9f6b0b2b8f6063d76ab8bbfd96b2b47eb08594d81c0bc81\n\
+out save sha256 2d864c0b789a43214eee8524d3182075125e5ca2cd527f3582ec87ffd94076bc\nend\n";
+
+/// Their summary: 819 + 3,727 * 3 is 12,000.
+const FOUR_REPORT: &str =
+    "console 0 clock 12000 frames 0 samples 23 words 1\nconsole 1 clock 12000 frames 0 samples 23 words 1\n\
+console 2 clock 12000 frames 0 samples 23 words 1\nconsole 3 clock 12000 frames 0 samples 23 words 1\n\
+log 2d83dea7046d617247894f027b357fb018ad7407b1c57d0c00c9f71e706f6ec2\n";
+
+/// The log of a byte over the shortest delay.
+const BYTE_LOG: &str = "gbalink 1\ncycles 3000\ndelay 1\nconsole 0\n\
+bios b sha256 e1ce6b6a88418e87da36e9a668019c3d7e70fb2510aaaf5de7583768a4446ebe\n\
+out words sha256 dec946359235e1c75e59e83e6c40ffdb670b8fb694a686c3b0a441ff8315cfd9\nconsole 1\n\
+bios c sha256 2229f53b78afe0f30febb2e13738d9311b1663b0bcc223fce9b279540b8b9ad6\n\
+out words sha256 718fadf919307721700dc50330bae99c022cf21f4eae7d7af158e32545804cf1\nend\n";
+
+/// Its summary.
+const BYTE_REPORT: &str =
+    "console 0 clock 3002 frames 0 samples 5 words 1\nconsole 1 clock 3002 frames 0 samples 5 words 1\n\
+log a1a91d5f5dd5e228da344ed2f82f2234fe756545924a700db3348104fd290acb\n";
+
+/// The log of two starts in Normal32.
+const WORD_LOG: &str = "gbalink 1\ncycles 3000\ndelay 512\nconsole 0\n\
+bios b sha256 f3a102aea9e772cbd2e57f90385d14e24616a9766001503992913e3e90bd205b\n\
+out words sha256 86d0c91863cfea7afa0a9875e39c896433990212487a7da9be5d74537bb4391a\nconsole 1\n\
+bios b sha256 f3a102aea9e772cbd2e57f90385d14e24616a9766001503992913e3e90bd205b\n\
+out words sha256 86d0c91863cfea7afa0a9875e39c896433990212487a7da9be5d74537bb4391a\nend\n";
+
+/// Its summary.
+const WORD_REPORT: &str =
+    "console 0 clock 3000 frames 0 samples 5 words 1\nconsole 1 clock 3000 frames 0 samples 5 words 1\n\
+log c8a4882ac2e125445b0fb8591b7f4682def52885dfb50a8f997835db333ef2de\n";
+
+/// The bytes of a file.
+#[derive(Clone, Copy)]
+enum Content<'a> {
+    Text(&'a str),
+    Code(&'a [u32]),
+    Filled(usize, u8),
+}
+
+use Content::{Code, Filled, Text};
+
+/// A job with its other inputs, and what its run with OUT `g` reports and writes.
+#[derive(Clone, Copy)]
+struct Linked<'a> {
+    job: &'a str,
+    inputs: &'a [(&'a str, Content<'a>)],
+    report: &'a str,
+    written: &'a [(&'a str, Content<'a>)],
+}
+
+static LINKED: [Linked<'static>; 4] = [
+    // Both have both words.
+    Linked {
+        job: TWO,
+        inputs: &[
+            ("b", Code(&STARTS_MULTI)),
+            ("c", Code(&AWAITS_MULTI)),
+            ("k", Text(KEYS)),
+        ],
+        report: TWO_REPORT,
+        written: &[
+            ("g.0.words", Text(TWO_WORDS)),
+            ("g.0.state", Text(FIRST_STATE)),
+            ("g.1.words", Text(TWO_WORDS)),
+            ("g.1.state", Text(SECOND_STATE)),
+            ("g.log", Text(TWO_LOG)),
+        ],
+    },
+    // All have all words. There are 23 pairs of samples, and the SRAM is full of FFh.
+    Linked {
+        job: FOUR,
+        inputs: &[("b", Code(&SENDS_KEYS))],
+        report: FOUR_REPORT,
+        written: &[
+            ("g.0.words", Text(FOUR_WORDS)),
+            ("g.1.samples", Filled(92, 0)),
+            ("g.1.words", Text(FOUR_WORDS)),
+            ("g.2.frames", Filled(0, 0)),
+            ("g.2.words", Text(FOUR_WORDS)),
+            ("g.3.words", Text(FOUR_WORDS)),
+            ("g.3.save", Filled(32_768, 0xFF)),
+            ("g.log", Text(FOUR_LOG)),
+        ],
+    },
+    // Each has the other's byte. The transfer takes 2 cycles of the delay and 514, which are more than 8 times 64.
+    Linked {
+        job: "gbalink 1\ncycles 3000\ndelay 1\nconsole 0\nbios b\nout words\nconsole 1\nbios c\nout words\nend\n",
+        inputs: &[("b", Code(&STARTS_BYTE)), ("c", Code(&AWAITS_BYTE))],
+        report: BYTE_REPORT,
+        written: &[
+            ("g.0.words", Text("924 normal8 5a a5\n")),
+            ("g.1.words", Text("924 normal8 a5 5a\n")),
+            ("g.log", Text(BYTE_LOG)),
+        ],
+    },
+    // Both start at 13, and neither answers. The transfer takes 32 times 64 cycles.
+    Linked {
+        job: "gbalink 1\ncycles 3000\nconsole 0\nbios b\nout words\nconsole 1\nbios b\nout words\nend\n",
+        inputs: &[("b", Code(&STARTS_WORD))],
+        report: WORD_REPORT,
+        written: &[
+            ("g.0.words", Text("2061 normal32 01234567 ffffffff\n")),
+            ("g.1.words", Text("2061 normal32 01234567 ffffffff\n")),
+            ("g.log", Text(WORD_LOG)),
+        ],
+    },
+];
+
+fn bytes_of(alloc: Global, content: Content<'_>) -> Result<Vec<u8>, AllocError> {
+    match content {
+        Text(text) => Vec::from_slice(alloc, text.as_bytes()),
+        Code(code) => image_of(alloc, code),
+        Filled(length, byte) => vec![in alloc; byte; length],
+    }
+}
+
+/// A job, and the inputs beside it but for the one of this name.
+fn files_of(
+    alloc: Global,
+    job: StoredFile,
+    inputs: &[(&str, Content<'_>)],
+    left_out: &str,
+) -> Result<Vec<StoredFile>, AllocError> {
+    let mut files = vec![in alloc; job]?;
+    for (name, content) in inputs {
+        if *name != left_out {
+            files.push(stored(alloc, name, bytes_of(alloc, *content)?)?)?;
+        }
+    }
+    Ok(files)
+}
+
+/// A run of a job with OUT `g`.
+fn run_job<R: Abort + Threads + Sync>(
+    rt: &R,
+    alloc: Global,
+    job: &str,
+    inputs: &[(&str, Content<'_>)],
+) -> Result<Answer, Fail> {
+    let job = stored(alloc, "j", Vec::from_slice(alloc, job.as_bytes())?)?;
+    let files = files_of(alloc, job, inputs, "")?;
+    call(rt, alloc, &["run", "j", "g"], files)
+}
+
+/// What the names of a run's files have behind OUT.
+static ENDINGS: [&str; 21] = [
+    ".0.frames",
+    ".0.samples",
+    ".0.words",
+    ".0.state",
+    ".0.save",
+    ".1.frames",
+    ".1.samples",
+    ".1.words",
+    ".1.state",
+    ".1.save",
+    ".2.frames",
+    ".2.samples",
+    ".2.words",
+    ".2.state",
+    ".2.save",
+    ".3.frames",
+    ".3.samples",
+    ".3.words",
+    ".3.state",
+    ".3.save",
+    ".log",
+];
+
+/// The content of this name, where it is one of these.
+fn content_of<'a>(written: &[(&str, Content<'a>)], name: &str) -> Option<Content<'a>> {
+    for (one, content) in written {
+        if *one == name {
+            return Some(*content);
+        }
+    }
+    None
+}
+
+/// A call wrote these files, and no others of a run with OUT `g`.
+fn wrote<R: Abort>(
+    rt: &R,
+    alloc: Global,
+    answer: &Answer,
+    written: &[(&str, Content<'_>)],
+) -> Result<(), Fail> {
+    for ending in ENDINGS {
+        let name = format!(in alloc; "g{ending}")?;
+        let made = answer.out.bytes(name.as_str());
+        match content_of(written, name.as_str()) {
+            Some(content) => {
+                let bytes = bytes_of(alloc, content)?;
+                assert!(rt; made.is_some(), "no {name}");
+                assert_eq!(rt;
+                    made.unwrap_or(b"".as_slice()),
+                    bytes.as_slice(),
+                    "in {name}"
+                );
+            }
+            None => assert!(rt; made.is_none(), "there is {name}"),
+        }
+    }
+    Ok(())
+}
+
+/// Runs of two and of four consoles, and what they write.
+#[test]
+fn consoles_are_linked(rt: HostRuntime) -> Result<(), Fail> {
+    let alloc = rt.alloc();
+    for one in &LINKED {
+        let answer = run_job(&rt, alloc, one.job, one.inputs)?;
+        assert_eq!(rt; answer.report(), one.report.as_bytes());
+        assert_eq!(rt; answer.status, 0);
+        wrote(&rt, alloc, &answer, one.written)?;
+    }
+    Ok(())
+}
+
+/// The bytes that a call wrote under a name, as a file of the next call's.
+fn written_as(
+    alloc: Global,
+    answer: &Answer,
+    name: &str,
+    kept: &str,
+) -> Result<StoredFile, AllocError> {
+    let bytes = answer.out.bytes(name).unwrap_or(b"".as_slice());
+    stored(alloc, kept, Vec::from_slice(alloc, bytes)?)
+}
+
+/// A call with OUT `h` wrote the same files as one with OUT `g`.
+fn wrote_the_same<R: Abort>(
+    rt: &R,
+    alloc: Global,
+    first: &Answer,
+    second: &Answer,
+) -> Result<(), Fail> {
+    for ending in ENDINGS {
+        let one = format!(in alloc; "g{ending}")?;
+        let other = format!(in alloc; "h{ending}")?;
+        assert_eq!(rt;
+            second.out.bytes(other.as_str()),
+            first.out.bytes(one.as_str()),
+            "in {other}"
+        );
+    }
+    Ok(())
+}
+
+/// The log of a run is a job, whose run writes the same files and the same log, though the key file is gone.
+fn is_run_again<R: Abort + Threads + Sync>(
+    rt: &R,
+    alloc: Global,
+    one: &Linked<'_>,
+) -> Result<(), Fail> {
+    let first = run_job(rt, alloc, one.job, one.inputs)?;
+    let log = written_as(alloc, &first, "g.log", "l")?;
+    let files = files_of(alloc, log, one.inputs, "k")?;
+    let second = call(rt, alloc, &["run", "l", "h"], files)?;
+    assert_eq!(rt; second.status, 0);
+    assert_eq!(rt; second.report(), first.report());
+    wrote_the_same(rt, alloc, &first, &second)
+}
+
+#[test]
+fn logs_are_run_again(rt: HostRuntime) -> Result<(), Fail> {
+    for one in &LINKED {
+        is_run_again(&rt, rt.alloc(), one)?;
+    }
+    Ok(())
+}
+
+/// Digests that the job of two consoles states of an input and of two outputs, and what its run answers; whether its
+/// files are written.
+#[derive(Clone, Copy)]
+struct Stated<'a> {
+    image: &'a str,
+    state: &'a str,
+    words: &'a str,
+    status: u8,
+    report: &'a str,
+    is_written: bool,
+}
+
+static STATED: [Stated<'static>; 5] = [
+    Stated {
+        image: " sha256 043EDF6BCEBF0B42DA22D4B153CBC220EF528093FBC5AD92C215D6018E71B97B",
+        state: " sha256 a50f5527e7b6f788864fbfda5ac5f82f716bfd2620dd719e104c66ab7dda1f44",
+        words: " sha256 4CEE999209FC00D1E7484C00CD09BAA8F06250C103E845ADFE296696A21D373D",
+        status: 0,
+        report: TWO_REPORT,
+        is_written: true,
+    },
+    Stated {
+        image: "",
+        state: " sha256 1111111111111111111111111111111111111111111111111111111111111111",
+        words: "",
+        status: 7,
+        report: "digest g.0.state stated 1111111111111111111111111111111111111111111111111111111111111111 got a50f5527e7b6f788864fbfda5ac5f82f716bfd2620dd719e104c66ab7dda1f44\n",
+        is_written: true,
+    },
+    Stated {
+        image: "",
+        state: "",
+        words: " sha256 A50F5527E7B6F788864FBFDA5AC5F82F716BFD2620DD719E104C66AB7DDA1F44",
+        status: 7,
+        report: "digest g.1.words stated a50f5527e7b6f788864fbfda5ac5f82f716bfd2620dd719e104c66ab7dda1f44 got 4cee999209fc00d1e7484c00cd09baa8f06250c103e845adfe296696a21d373d\n",
+        is_written: true,
+    },
+    Stated {
+        image: "",
+        state: " sha256 1111111111111111111111111111111111111111111111111111111111111111",
+        words: " sha256 1111111111111111111111111111111111111111111111111111111111111111",
+        status: 7,
+        report: "digest g.0.state stated 1111111111111111111111111111111111111111111111111111111111111111 got a50f5527e7b6f788864fbfda5ac5f82f716bfd2620dd719e104c66ab7dda1f44\n",
+        is_written: true,
+    },
+    Stated {
+        image: " sha256 a50f5527e7b6f788864fbfda5ac5f82f716bfd2620dd719e104c66ab7dda1f44",
+        state: " sha256 1111111111111111111111111111111111111111111111111111111111111111",
+        words: "",
+        status: 7,
+        report: "digest c stated a50f5527e7b6f788864fbfda5ac5f82f716bfd2620dd719e104c66ab7dda1f44 got 043edf6bcebf0b42da22d4b153cbc220ef528093fbc5ad92c215d6018e71b97b\n",
+        is_written: false,
+    },
+];
+
+/// A stated digest that differs: of an input before anything is written, and of an output once all files are whole, the
+/// log with the digests of what was written. Of several outputs the first is told, and no summary comes.
+#[test]
+fn stated_digests_are_compared(rt: HostRuntime) -> Result<(), Fail> {
+    let alloc = rt.alloc();
+    let two = LINKED[0];
+    for one in &STATED {
+        let (image, state, words) = (one.image, one.state, one.words);
+        let job = format!(in alloc;
+            "gbalink 1\ncycles 10000\nconsole 0\nbios b\nout words\nout state{state}\nconsole 1\nkeys k\nbios c{image}\nout state\nout words{words}\nend\n"
+        )?;
+        let answer = run_job(&rt, alloc, job.as_str(), two.inputs)?;
+        assert_eq!(rt; answer.report(), one.report.as_bytes());
+        assert_eq!(rt; answer.status, one.status);
+        let written = if one.is_written { two.written } else { &[] };
+        wrote(&rt, alloc, &answer, written)?;
+    }
+    Ok(())
+}

@@ -1,0 +1,99 @@
+-- What the run of a job depends on: its cycles, its delay, and for each console the changes of its keys and what it is
+-- asked for.
+use Rattle.std.proofs.Common.{◌≡◌, ℕ, ◌+◌, ◌∙◌, List, [], ◌∷◌, length, map, Option, Some, None, refl, ap, sym}
+use Rattle.std.specs.List.{AllZip}
+use Rattle.std.specs.Prelude.{slice_get}
+use Rattle.std.proofs.lemmas.List.{length-map, length-set}
+use Rattle.link_order.specs.Cut.{Cut, live}
+use Rattle.link_order.specs.GlobalOrder.{after_turns, due_at, run, step_from, step_of, trace}
+use Rattle.link_order.specs.NodeKind.{NodeKind}
+use Rattle.link_node.specs.declared.signal.Incoming.{Incoming}
+use Rattle.gba_console.specs.Machine.{Machine, without_limit}
+use Rattle.gba_image.specs.declared.images.ConsoleImages.{ConsoleImages}
+use Rattle.gba_joblog.specs.Job.{ConsoleJob, WholeJob}
+use Rattle.gba_session.proofs.Consoles.{consoles-length, files-long}
+use Rattle.gba_session.specs.Files.{all_files, asks_of}
+use Rattle.gba_session.specs.Start.{console_at, console_kind, consoles_from, end_of, run_until, start_of}
+use Rattle.gba_session.specs.declared.files.Asks.{Asks}
+
+-- consoles that run alike over the same images: what they state of digests and the numbers of their lines may differ
+pub record RunsAs (one other : ConsoleJob) : Type 0 where
+  pub changes : other.changes ≡ one.changes
+  pub asks : asks_of other ≡ asks_of one
+
+console-alike : (job other : WholeJob) (player : ℕ) (one later : ConsoleJob) (images : ConsoleImages)
+    → other.cycles ≡ job.cycles → other.delay ≡ job.delay → length other.consoles ≡ length job.consoles → RunsAs one later
+    → console_at other player later images ≡ console_at job player one images
+console-alike job other player one later images cycles delay many alike =
+    let frames = ap (λ (asks : Asks). asks.frames) alike.asks in
+    let samples = ap (λ (asks : Asks). asks.samples) alike.asks in
+    let words = ap (λ (asks : Asks). asks.words) alike.asks in
+    rw (cycles, delay, many, alike.changes, frames, samples, words) refl
+
+consoles-alike : (job other : WholeJob) (player : ℕ) (consoles later : List ConsoleJob) (images : List ConsoleImages)
+    → other.cycles ≡ job.cycles → other.delay ≡ job.delay → length other.consoles ≡ length job.consoles
+    → AllZip RunsAs consoles later → consoles_from other player later images ≡ consoles_from job player consoles images
+unfolding consoles_from
+consoles-alike job other player [] [] images cycles delay many alike = refl
+consoles-alike job other player [] (l ∷ later) images cycles delay many alike = absurd alike
+consoles-alike job other player (c ∷ consoles) [] images cycles delay many alike = absurd alike
+consoles-alike job other player (c ∷ consoles) (l ∷ later) [] cycles delay many alike = refl
+consoles-alike job other player (c ∷ consoles) (l ∷ later) (one ∷ images) cycles delay many alike =
+    ap (λ (m : Machine). without_limit m ∷ consoles_from other (player + 1) later images)
+    (console-alike job other player c l one cycles delay many alike.0)
+    ∙ ap (λ (ms : List Machine). without_limit (console_at job player c one) ∷ ms)
+    (consoles-alike job other (player + 1) consoles later images cycles delay many alike.1)
+
+-- jobs that run alike
+pub record RunsAlike (job other : WholeJob) : Type 0 where
+  pub cycles : other.cycles ≡ job.cycles
+  pub delay : other.delay ≡ job.delay
+  pub many : length other.consoles ≡ length job.consoles
+  pub each : AllZip RunsAs job.consoles other.consoles
+
+start-alike : (job other : WholeJob) (images : List ConsoleImages) → RunsAlike job other
+    → start_of other images ≡ start_of job images
+start-alike job other images alike =
+    let consoles = consoles-alike job other 0 job.consoles other.consoles images alike.cycles alike.delay alike.many alike.each in
+    rw (consoles, alike.delay) refl
+
+pub end-alike : (job other : WholeJob) (images : List ConsoleImages) → RunsAlike job other
+    → end_of other images ≡ end_of job images
+end-alike job other images alike =
+    ap (λ (cut : Cut Machine). run_until other.cycles cut) (start-alike job other images alike)
+    ∙ ap (λ (until : ℕ). run_until until (start_of job images)) alike.cycles
+
+pub asks-alike : (consoles later : List ConsoleJob) → AllZip RunsAs consoles later → map asks_of later ≡ map asks_of consoles
+asks-alike [] [] alike = refl
+asks-alike [] (l ∷ later) alike = absurd alike
+asks-alike (c ∷ consoles) [] alike = absurd alike
+asks-alike (c ∷ consoles) (l ∷ later) alike =
+    ap (λ (asks : Asks). asks ∷ map asks_of later) alike.0.asks
+    ∙ ap (λ (asks : List Asks). asks_of c ∷ asks) (asks-alike consoles later alike.1)
+
+-- after a run there are as many consoles as before
+stepped-many : {C : Type 0} (kind : NodeKind C) (cut : Cut C) (i : ℕ) (due : List Incoming) (stepped : Option C)
+    → length (step_from kind cut i due stepped).consoles ≡ length cut.consoles
+stepped-many kind cut i due None = refl
+stepped-many kind cut i due (Some x) = length-set cut.consoles i (kind.next x due).0
+
+turns-many : {C : Type 0} (kind : NodeKind C) (cut : Cut C) (turns : List ℕ)
+    → length (after_turns kind cut turns).consoles ≡ length cut.consoles
+unfolding after_turns
+turns-many kind cut [] = refl
+turns-many kind cut (i ∷ turns) =
+    turns-many kind (step_of kind cut i) turns
+    ∙ stepped-many kind cut i (due_at kind cut i) (slice_get cut.consoles i)
+
+run-many : {C : Type 0} (kind : NodeKind C) (cut : Cut C) (until : ℕ)
+    → length (live kind (run kind cut until)).consoles ≡ length cut.consoles
+run-many kind cut until = turns-many kind cut (trace kind cut until)
+
+-- there are as many files as consoles
+pub end-many : (job : WholeJob) (images : List ConsoleImages) → length images ≡ length job.consoles
+    → length (all_files (map asks_of job.consoles) (end_of job images).consoles) ≡ length job.consoles
+end-many job images many =
+    let asks = length-map job.consoles asks_of in
+    let machines = run-many console_kind (start_of job images) job.cycles
+    ∙ consoles-length job 0 job.consoles images many in
+    files-long (map asks_of job.consoles) (end_of job images).consoles (asks ∙ sym machines) ∙ asks

@@ -1,0 +1,55 @@
+use Rattle.std.proofs.Common.{◌≡◌, List, ◌∙◌, length, map, sym, ap, subst, arith}
+use Rattle.std.specs.List.{All}
+use Rattle.gba_console.specs.Machine.{Machine, limit_of, without_limit}
+use Rattle.gba_joblog.specs.Views.{job_value}
+use Rattle.gba_session.proofs.Consoles.{asks-are, made-length, rooms-many, start-cable, start-sound, untils-are}
+use Rattle.gba_session.specs.Session.{Consoles}
+use Rattle.gba_session.specs.Start.{start_of}
+use Rattle.gba_session.specs.declared.files.Asks.{Asks}
+use Rattle.link_order.specs.Cut.{Cut, opening, plain_cut}
+use Rattle.gba_session.proofs.session.Session.prepare.Goals as goal
+
+pub new-requires-clause-cable : goal.new-requires-clause-cable
+new-requires-clause-cable c =
+    start-cable (job_value c.args.job.now) c.args.images.items c.in_ok-consoles.consoles.items c.requires.sound
+    c.requires.images c.in_ok-consoles.ensures.consoles
+
+pub new-requires-clause-sound : goal.new-requires-clause-sound
+new-requires-clause-sound c =
+    start-sound (job_value c.args.job.now) c.args.images.items c.in_ok-consoles.consoles.items c.requires.sound
+    c.requires.images c.in_ok-consoles.ensures.consoles
+
+pub invariant_of-result : goal.invariant_of-result
+invariant_of-result c =
+    let job = job_value c.args.job.now in
+    let rooms = c.in_ok-rooms.rooms.items in
+    let nodes : c.in-Ok.cut.consoles ≡ c.in_ok-consoles.consoles.items = ap (λ cut. cut.consoles) c.in-Ok.ensures.made in
+    let limits : List Machine → Type 0 = λ ms. All (λ limit. limit ≡ c.args.job.now.cycles) (map limit_of ms) in
+    let many = rooms-many job.cycles job.consoles rooms c.in_ok-rooms.ensures in
+    let made = made-length job c.args.images.items c.in_ok-consoles.consoles.items c.requires.sound c.requires.images
+    c.in_ok-consoles.ensures.consoles in (
+      subst limits (sym nodes) c.in_ok-consoles.ensures.limits,
+      untils-are job.cycles job.consoles rooms c.in_ok-rooms.ensures,
+      omega (arith, many, made, ap length nodes),
+      c.in_ok-files.ensures.items,
+      omega (arith, c.len.ensures, c.in_ok-files.ensures.capacity),
+    )
+
+pub returns : goal.returns
+returns c =
+    let job = job_value c.args.job.now in
+    let cut : plain_cut without_limit c.in-Ok.cut ≡ _ =
+    ap (plain_cut without_limit) c.in-Ok.ensures.made
+    ∙ ap (λ (ms : List Machine). opening ms job.delay) c.in_ok-consoles.ensures.consoles in
+    let asks = asks-are job.cycles job.consoles c.in_ok-rooms.rooms.items c.in_ok-rooms.ensures in
+    let by_cut : Cut Machine → Consoles = λ (x : Cut Machine). record {
+      cut = x;
+      until = job.cycles;
+      asks = map (λ room. room.asks) c.in_ok-rooms.rooms.items;
+    } in
+    let by_asks : List Asks → Consoles = λ (x : List Asks). record {
+      cut = start_of job c.args.images.items;
+      until = job.cycles;
+      asks = x;
+    } in
+    ap by_cut cut ∙ ap by_asks asks

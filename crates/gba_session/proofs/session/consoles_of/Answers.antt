@@ -1,0 +1,38 @@
+use Rattle.std.proofs.Common.{◌≡◌, ◌<◌, ◌++◌, ◌∙◌, List, [], length, map, drop, sym, ap, arith, append-nil}
+use Rattle.std.proofs.lemmas.List.{length-map, nil_from_length}
+use Rattle.gba_console.specs.Machine.{without_limit}
+use Rattle.gba_image.specs.declared.images.ConsoleImages.{ConsoleImages}
+use Rattle.gba_joblog.specs.Views.{console_value, job_value}
+use Rattle.gba_session.specs.Start.{consoles_from}
+use Rattle.gba_session.proofs.Consoles.{consoles-none, kept-consoles, kept-limits}
+use Rattle.gba_session.proofs.session.consoles_of.Goals as goal
+
+pub loop-player-preserved : goal.loop-player-preserved
+loop-player-preserved c =
+    let job = job_value c.args.job.now in
+    let player = c.loop-player.player in
+    let old = c.loop-player.consoles.items in
+    let console = c.in_ok-console.console in
+    let held = c.loop-player.invariant in
+    let within : player < length job.consoles =
+    omega (arith, c.loop-player-test.true, c.len-player-end.ensures, length-map c.args.job.now.consoles.items console_value) in
+    let split = c.in-Some.ensures.items in (
+      kept-consoles job player old c.keep.new.all.items console c.in-Some.one c.loop-player.images.rest.items
+          c.next.new.self.rest.items _ within c.in_ok-keep.ensures split c.in_ok-console.ensures held.0,
+      kept-limits c.args.job.now.cycles old c.keep.new.all.items console c.in_ok-keep.ensures
+          (ap (λ m. m.board.made.until) c.in_ok-console.ensures) held.1,
+      omega (arith, held.2, ap length split),
+    )
+
+pub returns-clause-consoles : goal.returns-clause-consoles
+returns-clause-consoles c =
+    let job = job_value c.args.job.now in
+    let player = c.loop-player.player in
+    let held = c.loop-player.invariant in
+    let made = map without_limit c.loop-player.consoles.items in
+    let left = c.loop-player.images.rest.items in
+    let over : left ≡ [] = nil_from_length left
+    (omega (arith, held.2, c.loop-player-test.false, c.len-player-end.ensures, length-map c.args.job.now.consoles.items console_value)) in
+    let none = ap (λ (xs : List ConsoleImages). consoles_from job player (drop player job.consoles) xs) over
+    ∙ consoles-none job player (drop player job.consoles) in
+    sym (ap (λ ms. made ++ ms) none ∙ append-nil made) ∙ held.0

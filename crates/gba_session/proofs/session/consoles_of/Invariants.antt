@@ -1,0 +1,15 @@
+use Rattle.std.proofs.Common.{◌≡◌, ◌+◌, ◌++◌, length, map, drop}
+use Rattle.std.specs.List.{All}
+use Rattle.gba_joblog.specs.Views.{job_value}
+use Rattle.gba_console.specs.Machine.{limit_of, without_limit}
+use Rattle.gba_session.specs.Start.{consoles_from}
+use Rattle.gba_session.proofs.session.consoles_of.Given as goal
+
+-- the consoles so far, and those that are left
+abbrev pub invariant-loop-player : goal.invariant-loop-player
+invariant-loop-player l =
+    (map without_limit l.consoles.items
+    ++ consoles_from (job_value l.job) l.player (drop l.player (job_value l.job).consoles) l.images.rest.items
+    ≡ consoles_from (job_value l.job) 0 (job_value l.job).consoles l.fn.images.items)
+    × All (λ limit. limit ≡ l.job.cycles) (map limit_of l.consoles.items)
+    × (l.player + length l.images.rest.items ≡ length (job_value l.job).consoles)

@@ -1,0 +1,4 @@
+pub mod Files
+pub mod Session
+pub mod Start
+pub mod Views

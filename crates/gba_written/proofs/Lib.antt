@@ -1,0 +1,4 @@
+pub mod FileNames
+pub mod LogRoom
+pub mod WrittenLists
+pub mod RunAgain
