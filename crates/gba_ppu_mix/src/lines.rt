@@ -26,7 +26,8 @@ pub fn empty_line() -> [Dot; 240] {
     [Dot::CLEAR; 240]
 }
 
-const BACKDROP: Dot = Dot {
+/// The backdrop's dot, which has the palette's entry 0.
+pub const BACKDROP: Dot = Dot {
     opaque: true,
     ..Dot::CLEAR
 };
