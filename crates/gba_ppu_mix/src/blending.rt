@@ -1,7 +1,7 @@
 //! Blending.
 
 ghost use Rattle.std.specs.Prelude.{◌≡◌, ◌≤◌, ◌<◌, length};
-ghost use Rattle.gba_ppu_mix.specs.Blending.{alone as alone_by, blending_of, changed_alone as changed_alone_by, coefficient as coefficient_of, effect_of as effect_by, is_alpha, is_blended as is_blended_by, is_changed as is_changed_by, is_semi as is_semi_kind, is_target as is_target_of, stack_colour as colour_of_stack};
+ghost use Rattle.gba_ppu_mix.specs.Blending.{alone as alone_by, blending_of, changed_alone as changed_alone_by, coefficient as coefficient_of, effect_of as effect_by, is_alpha, is_blended as is_blended_by, is_changed as is_changed_by, is_plain as is_plain_by, is_semi as is_semi_kind, is_target as is_target_of, stack_colour as colour_of_stack};
 ghost use Rattle.gba_ppu_mix.specs.Mixing.{backdrop_colour as colour_of_backdrop};
 ghost use Rattle.gba_ppu_mix.specs.Stacks.{dots_at};
 
@@ -102,6 +102,13 @@ impl Blending {
             evb: coefficient(alpha, 8),
             evy: coefficient(r.kept(0x054), 0),
         }
+    }
+
+    /// Whether no layer is a target, so that no effect changes a colour.
+    pub fn is_plain(&self) -> bool
+        ensures { result ≡ is_plain_by self.now }
+    {
+        self.first_targets == 0 && self.second_targets == 0
     }
 
     fn is_changed(&self, effects: bool, layer: Layer) -> bool
