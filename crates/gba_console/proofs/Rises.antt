@@ -67,13 +67,3 @@ run-step enough until m n below raised step =
     enough until until fewer n (omega arith) (omega (arith, raised))
     ∙ ap (run fewer until) step
     ∙ sym (ap (λ most. run most until m) some ∙ run-more fewer until m below)
-
--- a console that is past the start of a step, and from which the run that this step ends goes on alike, is what the step
--- leaves
-pub one-step : ((m : Machine) → StepPasses [] m) → IsEnough → (m n : Machine) → clock_of m < clock_of n
-    → run_to (clock_of m + 1) n ≡ run_to (clock_of m + 1) m → n ≡ next m
-one-step passes enough m n later same =
-    let raised = (passes m).raised in
-    sym (run-done (clock_of m + 1) n (omega arith)) ∙ same
-    ∙ sym (run-step enough (clock_of m + 1) m (next m) (omega arith) raised refl)
-    ∙ run-done (clock_of m + 1) (next m) (omega (arith, raised))

@@ -1,8 +1,10 @@
-use Rattle.std.specs.Prelude.{◌≡◌, ◌≤◌, ◌<◌, ◌+◌, ℕ, zero, suc, nat_lt, List, if◌then◌else◌}
+use Rattle.std.specs.Prelude.{◌≡◌, ◌≤◌, ◌<◌, ◌+◌, ℕ, zero, suc, nat_lt, List, Option, if◌then◌else◌}
 use Rattle.gba_serial.specs.Tell.{outgoing}
+use Rattle.link_node.specs.Alone.{StepsAlone}
 use Rattle.link_node.specs.declared.signal.Incoming.{Incoming}
+use Rattle.link_node.specs.declared.signal.Signal.{Signal}
 use Rattle.gba_console.specs.Machine.{Machine, clock_of}
-use Rattle.gba_console.specs.Step.{next, stepped, told}
+use Rattle.gba_console.specs.Step.{next, node_next, stepped, told}
 
 -- Each step raises the clock by 1 to 512 cycles, whatever the console's numbers are and whatever it takes, keeps its own
 -- start, and leaves the end of its room. What it tells can be read from the serial unit after it.
@@ -12,6 +14,15 @@ pub record StepPasses (dues : List Incoming) (m : Machine) : Type 0 where
   pub was : (stepped dues m).was ≡ clock_of m
   pub until : (stepped dues m).board.made.until ≡ m.board.made.until
   pub tells : told dues m ≡ outgoing (clock_of m) (stepped dues m).board.core.serial
+
+-- what the last step told, which the serial unit keeps up to the next one
+abbrev pub news : Machine → Option Signal
+news m = outgoing m.was m.board.core.serial
+
+-- a console has come to another one by steps that took nothing and began below a clock, and only the last has told
+-- something
+abbrev pub GoesAlone : ℕ → Machine → Machine → Option Signal → Type 0
+GoesAlone = StepsAlone clock_of node_next
 
 -- steps while the clock is below `until`, at most `most` of them
 unfoldable pub run : ℕ → ℕ → Machine → Machine

@@ -94,10 +94,10 @@ impl Model for Console {
 }
 
 impl Console {
-    ghost use Rattle.std.specs.Prelude.{ℕ, ◌≡◌, ◌+◌, ◌*◌, ◌≤◌, ◌<◌, ◌^◌, IfOk, IsTrue, All, [], length, true, false};
+    ghost use Rattle.std.specs.Prelude.{ℕ, ◌≡◌, ◌+◌, ◌*◌, ◌≤◌, ◌<◌, ◌^◌, IfOk, IsTrue, All, [], None, length, true, false};
     ghost use Rattle.gba_console.specs.Keys.{due_of};
     ghost use Rattle.gba_console.specs.Machine.{clock_of, frames_taken, reset, samples_taken, words_taken};
-    ghost use Rattle.gba_console.specs.Run.{run_to};
+    ghost use Rattle.gba_console.specs.Run.{GoesAlone, news, run_to};
     ghost use Rattle.gba_console.specs.Step.{next, stepped, told};
     ghost use Rattle.gba_console.specs.Waiting.{IsPlain};
     ghost use Rattle.gba_io.specs.Core.{core_is_calm, core_is_idle};
@@ -278,13 +278,11 @@ impl Console {
     {
         steps_pass();
         stays_quiet();
-        enough();
-        let clock = self.clock();
         self.make_steps(1);
         if self.is_calm() {
             return None;
         }
-        self.board.core.signal(clock)
+        self.news()
     }
 
     /// Makes a step that isn't plain, behind a call, so that the code around it holds nothing for it.
@@ -407,8 +405,15 @@ impl Console {
         self.board.core.serial().next_end()
     }
 
+    /// What the last step told.
+    fn news(&self) -> Option<Signal>
+        ensures { result ≡ news self.now }
+    {
+        self.board.core.signal(self.was())
+    }
+
     /// Makes plain steps until something asks for more or `most` cycles have passed, from 1 to 512. In these cycles no keys
-    /// change and no transfer ends.
+    /// change and no transfer ends. Only the last step may tell something.
     #[inline(never)]
     fn make_steps(&mut self, most: u32)
         requires some { 1 ≤ most }
@@ -417,11 +422,12 @@ impl Console {
         requires keys { clock_of self.old + most ≤ due_of self.old.keys }
         requires ends { clock_of self.old + most ≤ next_end self.old.board.core.serial }
         requires calm { core_is_calm self.old.board.core ≡ true }
-        ensures same_end { (until : ℕ) → clock_of self.old + most ≤ until → run_to until self.new ≡ run_to until self.old }
+        ensures alone { GoesAlone (clock_of self.old + most) self.old self.new (news self.new) }
         ensures later { clock_of self.old < clock_of self.new }
         ensures until { self.new.board.made.until ≡ self.old.board.made.until }
     {
-        enough();
+        steps_pass();
+        stays_quiet();
         let mut left = most;
         loop {
             let cycles = self.step_plainly();
@@ -432,22 +438,27 @@ impl Console {
         }
     }
 
-    /// Makes steps while they are plain and the clock is below `until`.
+    /// Makes steps while they are plain, the clock is below `end` and they tell nothing, and answers what the last one tells.
     #[inline(never)]
-    fn run_plainly(&mut self, until: u64)
-        requires { until ≤ self.old.board.made.until }
-        ensures same_end { run_to until self.new ≡ run_to until self.old }
+    fn go_plainly(&mut self, end: u64) -> Option<Signal>
+        requires { end ≤ self.old.board.made.until }
+        ensures alone { GoesAlone end self.old self.new result }
         ensures later { clock_of self.old ≤ clock_of self.new }
         ensures until { self.new.board.made.until ≡ self.old.board.made.until }
     {
+        stays_quiet();
         while self.is_calm() {
-            let end = until.min(self.due()).min(self.next_end());
-            let most = end.saturating_sub(self.clock()).min(512) as u32;
+            let stop = end.min(self.due()).min(self.next_end());
+            let most = stop.saturating_sub(self.clock()).min(512) as u32;
             if most == 0 {
-                return;
+                return None;
             }
             self.make_steps(most);
+            if !self.is_calm() {
+                return self.news();
+            }
         }
+        None
     }
 
     /// Makes a step where nothing asks for more than idling, if nothing happens in its cycles, and answers whether it did.
@@ -482,20 +493,21 @@ impl Console {
         self.board.core.is_idle()
     }
 
-    /// Idles while nothing happens and the clock is below `until`.
+    /// Idles while nothing happens and the clock is below `end`. Such steps tell nothing.
     #[inline(never)]
-    fn run_idly(&mut self, until: u64)
-        requires { until ≤ self.old.board.made.until }
-        ensures same_end { run_to until self.new ≡ run_to until self.old }
+    fn go_idly(&mut self, end: u64)
+        requires { end ≤ self.old.board.made.until }
+        ensures alone { GoesAlone end self.old self.new None }
         ensures later { clock_of self.old ≤ clock_of self.new }
         ensures until { self.new.board.made.until ≡ self.old.board.made.until }
     {
-        enough();
+        steps_pass();
+        stays_quiet();
         if !self.is_idle() {
             return;
         }
-        let end = until.min(self.due()).min(self.next_end());
-        let mut left = end.saturating_sub(self.clock());
+        let stop = end.min(self.due()).min(self.next_end());
+        let mut left = stop.saturating_sub(self.clock());
         while left > 0 {
             if !self.step_idly() {
                 return;
@@ -504,19 +516,52 @@ impl Console {
         }
     }
 
+    /// Makes steps with nothing due until the clock is at least `end`, which is no more than the end of the room, or one of
+    /// them tells something, and answers that.
+    pub fn go_alone(&mut self, end: u64) -> Option<Signal>
+        requires { end ≤ self.old.board.made.until }
+        ensures alone { GoesAlone end self.old self.new result }
+        ensures rises { clock_of self.old < end → clock_of self.old < clock_of self.new }
+        ensures until { self.new.board.made.until ≡ self.old.board.made.until }
+    {
+        steps_pass();
+        while self.clock() < end {
+            if let Some(signal) = self.go_somehow(end) {
+                return Some(signal);
+            }
+        }
+        None
+    }
+
+    /// Makes one step or more with nothing due, each of which begins below `end`, up to one that tells something.
+    fn go_somehow(&mut self, end: u64) -> Option<Signal>
+        requires end { end ≤ self.old.board.made.until }
+        requires early { clock_of self.old < end }
+        ensures alone { GoesAlone end self.old self.new result }
+        ensures rises { clock_of self.old < clock_of self.new }
+        ensures until { self.new.board.made.until ≡ self.old.board.made.until }
+    {
+        steps_pass();
+        if let Some(signal) = self.go_plainly(end) {
+            return Some(signal);
+        }
+        self.go_idly(end);
+        if self.clock() < end {
+            return self.step_fully(&[]);
+        }
+        None
+    }
+
     /// Makes steps until the clock is at least `until`, which is no more than the end of the room. Nothing is due in them.
     pub fn run_to(&mut self, until: u64)
         requires { until ≤ self.old.board.made.until }
         ensures run { self.new ≡ run_to until self.old }
         ensures until { self.new.board.made.until ≡ self.old.board.made.until }
     {
+        steps_pass();
         enough();
         while self.clock() < until {
-            self.run_plainly(until);
-            self.run_idly(until);
-            if self.clock() < until {
-                self.step();
-            }
+            let _ = self.go_alone(until);
         }
     }
 }

@@ -36,6 +36,10 @@ impl Node for Console {
         self.step_with(due)
     }
 
+    fn go_alone(&mut self, end: u64) -> Option<Signal> {
+        Console::go_alone(self, end)
+    }
+
     ghost rises = { node_rises };
 
     ghost short = { node_short };

@@ -1,3 +1,4 @@
+pub mod Bytes
 pub mod Cycling
 pub mod Drawing
 pub mod Ending

@@ -82,20 +82,6 @@ fn whole_frames(until: u64) -> u64
     (until + 84_513) / 280_896
 }
 
-/// Adds the colours of a line, for which there is room.
-fn add_colours(bytes: &mut Vec<u8>, colours: &[u16])
-    requires { vec_len bytes.old + 2 * length colours.now ≤ vec_capacity bytes.old }
-    ensures items { bytes.new.items ≡ bytes.old.items ++ colours_bytes colours.now }
-    ensures len { vec_len bytes.new ≡ vec_len bytes.old + 2 * length colours.now }
-    ensures room { vec_capacity bytes.old ≤ vec_capacity bytes.new }
-{
-    for colour in colours {
-        if bytes.extend_from_slice(&colour.to_le_bytes()).is_err() {
-            unreachable!()
-        }
-    }
-}
-
 /// Adds bytes, for which there is room.
 fn add_bytes(bytes: &mut Vec<u8>, more: &[u8])
     requires { vec_len bytes.old + length more.now ≤ vec_capacity bytes.old }
@@ -105,6 +91,37 @@ fn add_bytes(bytes: &mut Vec<u8>, more: &[u8])
 {
     if bytes.extend_from_slice(more).is_err() {
         unreachable!()
+    }
+}
+
+/// Eight colours as bytes, the low one of each first.
+#[inline(always)]
+fn bytes_of_eight(colours: &[u16]) -> [u8; 16]
+    requires { length colours.now ≡ 8 }
+    ensures { result ≡ colours_bytes colours.now }
+{
+    let [a, b] = colours[0].to_le_bytes();
+    let [c, d] = colours[1].to_le_bytes();
+    let [e, f] = colours[2].to_le_bytes();
+    let [g, h] = colours[3].to_le_bytes();
+    let [i, j] = colours[4].to_le_bytes();
+    let [k, l] = colours[5].to_le_bytes();
+    let [m, n] = colours[6].to_le_bytes();
+    let [o, p] = colours[7].to_le_bytes();
+    [a, b, c, d, e, f, g, h, i, j, k, l, m, n, o, p]
+}
+
+/// Adds the colours of a line, for which there is room: eight at a time, since room is asked for anew each time.
+fn add_colours(bytes: &mut Vec<u8>, colours: &[u16])
+    requires room { vec_len bytes.old + 480 ≤ vec_capacity bytes.old }
+    requires colours { length colours.now ≡ 240 }
+    ensures items { bytes.new.items ≡ bytes.old.items ++ colours_bytes colours.now }
+    ensures len { vec_len bytes.new ≡ vec_len bytes.old + 480 }
+    ensures room { vec_capacity bytes.old ≤ vec_capacity bytes.new }
+{
+    for part in 0..30 {
+        let eight = &colours[8 * part..8 * part + 8];
+        add_bytes(bytes, &bytes_of_eight(eight));
     }
 }
 

@@ -257,3 +257,72 @@ fn sprites_show_where_their_bit_is_set(rt: HostRuntime) -> Result<(), Fail> {
     try_case(&rt, rt.alloc(), &case)?;
     Ok(())
 }
+
+/// The backdrop half way to white: each of its parts is 1, and 1 + 30 * 8 / 16 is 16.
+const BRIGHT: u16 = 0x4210;
+
+/// Without a layer the backdrop is brightened where effects show: outside of window 0, inside of it, and with the sprite
+/// window, which has no place while sprites are off. As a second target, or blended, or as no target, it stays.
+const BACKDROPS: [Line; 6] = [
+    (
+        10,
+        &[(0x000, 0x2000), (0x048, 0x001F), (0x04A, 0x0020)],
+        &[
+            (0, BRIGHT),
+            (49, BRIGHT),
+            (50, BACK),
+            (199, BACK),
+            (200, BRIGHT),
+            (239, BRIGHT),
+        ],
+    ),
+    (
+        10,
+        &[(0x000, 0x2000), (0x048, 0x0020), (0x04A, 0x001F)],
+        &[
+            (0, BACK),
+            (49, BACK),
+            (50, BRIGHT),
+            (199, BRIGHT),
+            (200, BACK),
+            (239, BACK),
+        ],
+    ),
+    (
+        10,
+        &[(0x000, 0x8000), (0x04A, 0x2000)],
+        &[(0, BACK), (20, BACK), (239, BACK)],
+    ),
+    (10, &[(0x000, 0x0000)], &[(0, BRIGHT), (239, BRIGHT)]),
+    (
+        10,
+        &[(0x000, 0x0000), (0x050, 0x2060)],
+        &[(0, BACK), (239, BACK)],
+    ),
+    (
+        10,
+        &[(0x000, 0x0000), (0x050, 0x009F)],
+        &[(0, BACK), (239, BACK)],
+    ),
+];
+
+#[test]
+fn a_line_without_layers_is_the_backdrop(rt: HostRuntime) -> Result<(), Fail> {
+    for (line, registers, colours) in &BACKDROPS {
+        let mut all = Vec::new(rt.alloc());
+        all.push((0x040, 0x32C8))?;
+        all.push((0x044, 0x00A0))?;
+        all.push((0x050, 0x00A0))?;
+        all.push((0x054, 0x0008))?;
+        all.extend_from_slice(registers)?;
+        let case = Case {
+            line: *line,
+            registers: &all,
+            objects: &[(3, 0x080A, 0x0014, 0x0000)],
+            entries: &[],
+            colours: *colours,
+        };
+        try_case(&rt, rt.alloc(), &case)?;
+    }
+    Ok(())
+}

@@ -1,3 +1,4 @@
 pub mod Foremost
 pub mod Pixels
+pub mod Plain
 pub mod Runs

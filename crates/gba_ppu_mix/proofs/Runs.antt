@@ -1,6 +1,5 @@
 -- Parts of the line that no side of a window cuts.
-use Rattle.std.proofs.Common.{◌≡◌, ℕ, ◌<◌, ◌≤◌, Bool, List, ⊎_elim, ap, ◌∙◌, refl, arith}
-use Rattle.std.proofs.lemmas.Bool.{cases_lt}
+use Rattle.std.proofs.Common.{◌≡◌, ℕ, Bool, List, ap, refl}
 use Rattle.gba_ppu_mix.specs.Mixing.{colour_in, colour_of_dots, colour_where}
 use Rattle.gba_ppu_mix.specs.Stacks.{Dots}
 use Rattle.gba_ppu_mix.specs.Windows.{is_on_side, run_shows, shows_at}

@@ -111,3 +111,7 @@ stack_colour palette b effects dots s =
     if is_target b.second_targets s.second.layer && is_blended b effects s.top.layer top
     then both b.eva b.evb (colour_of palette top) (colour_of palette (dot_of dots s.second.layer))
     else changed_alone palette b effects s.top.layer top
+
+-- no layer is a target, so that no effect changes a colour
+abbrev pub is_plain : Blending → Bool
+is_plain b = (b.first_targets == 0) && (b.second_targets == 0)

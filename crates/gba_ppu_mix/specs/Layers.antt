@@ -1,4 +1,4 @@
-use Rattle.std.specs.Prelude.{ℕ, Bool, ◌+◌, ◌==◌, nat_lt, List, if◌then◌else◌}
+use Rattle.std.specs.Prelude.{ℕ, Bool, ◌||◌, ◌+◌, ◌==◌, nat_lt, List, if◌then◌else◌}
 use Rattle.gba_terms.specs.Bits.{bit}
 use Rattle.gba_ppu_reg.specs.Registers.{Picture, picture_kept, picture_mode}
 use Rattle.gba_ppu_dot.specs.Dots.{clear_dot}
@@ -23,6 +23,10 @@ kind_of mode background =
 -- bits 8 to 11 of DISPCNT show the backgrounds, bit 12 the sprites
 abbrev pub is_layer_on : Picture → ℕ → Bool
 is_layer_on r layer = bit (picture_kept 0x000 r) (8 + layer)
+
+-- whether any of them is on
+abbrev pub has_layers : Picture → Bool
+has_layers r = is_layer_on r 0 || is_layer_on r 1 || is_layer_on r 2 || is_layer_on r 3 || is_layer_on r 4
 
 abbrev pub dot_of_kind : BackgroundKind → Picture → List ℕ → ℕ → ℕ → ℕ → Dot
 dot_of_kind Text r vram background y x = text_pixel r vram background y x

@@ -6,6 +6,7 @@ use Rattle.gba_ppu_dot.specs.Dots.{clear_dot}
 use Rattle.gba_ppu_dot.specs.declared.dot.Dot.{Dot}
 use Rattle.gba_ppu_mix.specs.declared.lines.Lines.{Lines}
 use Rattle.gba_ppu_mix.specs.declared.stacks.Candidate.{Candidate}
+use Rattle.gba_ppu_mix.specs.declared.stacks.Front.{Front}
 use Rattle.gba_ppu_mix.specs.declared.stacks.Layer.{Layer}
 use Rattle.gba_ppu_mix.specs.declared.stacks.Layer.TheVariants.{Background0, Background1, Background2, Background3, Sprites, Backdrop, Nothing}
 use Rattle.gba_ppu_mix.specs.declared.stacks.Ranks.{Ranks}
@@ -98,3 +99,12 @@ unfoldable pub stack_of : ℕ → Ranks → Dots → Stack
 stack_of shows ranks dots =
     with_dot shows Background3 ranks.background3 dots.background3
     (with_dot shows Background2 ranks.background2 dots.background2 (front_of shows ranks dots))
+
+-- what is in front of such a stack: its place in the order, and its dot
+abbrev pub front_in : Dots → Stack → Front
+front_in dots s = record { rank = s.top.rank; dot = dot_of dots s.top.layer }
+
+-- the same with a layer more
+abbrev pub front_with : ℕ → Layer → ℕ → Dot → Front → Front
+front_with shows layer rank dot f =
+    if dot.opaque && bit shows (layer_bit layer) then (if nat_lt rank f.rank then record { rank = rank; dot = dot } else f) else f

@@ -1,11 +1,12 @@
 //! Blending.
 
 ghost use Rattle.std.specs.Prelude.{◌≡◌, ◌≤◌, ◌<◌, length};
-ghost use Rattle.gba_ppu_mix.specs.Blending.{alone as alone_by, blending_of, changed_alone as changed_alone_by, coefficient as coefficient_of, effect_of as effect_by, is_alpha, is_blended as is_blended_by, is_changed as is_changed_by, is_semi as is_semi_kind, is_target as is_target_of, stack_colour as colour_of_stack};
+ghost use Rattle.gba_ppu_mix.specs.Blending.{alone as alone_by, blending_of, changed_alone as changed_alone_by, coefficient as coefficient_of, effect_of as effect_by, is_alpha, is_blended as is_blended_by, is_changed as is_changed_by, is_plain as is_plain_by, is_semi as is_semi_kind, is_target as is_target_of, stack_colour as colour_of_stack};
+ghost use Rattle.gba_ppu_mix.specs.Mixing.{backdrop_colour as colour_of_backdrop};
 ghost use Rattle.gba_ppu_mix.specs.Stacks.{dots_at};
 
 use crate::colours::{both, brighter, colour_of, darker};
-use crate::lines::{Lines, dot_of};
+use crate::lines::{BACKDROP, Lines, dot_of};
 use crate::stacks::{Layer, Stack, layer_bit};
 use gba_ppu_dot::{Dot, DotKind};
 use gba_ppu_reg::PictureRegisters;
@@ -86,6 +87,7 @@ impl Blending {
     /// That of the registers.
     pub fn of(r: &PictureRegisters) -> Blending
         ensures value { result ≡ blending_of r.now }
+        ensures second_targets { result.second_targets < 64 }
         ensures eva { result.eva ≤ 16 }
         ensures evb { result.evb ≤ 16 }
         ensures evy { result.evy ≤ 16 }
@@ -100,6 +102,13 @@ impl Blending {
             evb: coefficient(alpha, 8),
             evy: coefficient(r.kept(0x054), 0),
         }
+    }
+
+    /// Whether no layer is a target, so that no effect changes a colour.
+    pub fn is_plain(&self) -> bool
+        ensures { result ≡ is_plain_by self.now }
+    {
+        self.first_targets == 0 && self.second_targets == 0
     }
 
     fn is_changed(&self, effects: bool, layer: Layer) -> bool
@@ -125,6 +134,15 @@ impl Blending {
         } else {
             colour
         }
+    }
+
+    /// The colour where no layer has a dot, by what shows.
+    pub fn backdrop_colour(&self, palette: &[u8], shows: u32) -> u16
+        requires palette { length palette.now ≡ 1024 }
+        requires evy { self.now.evy ≤ 16 }
+        ensures { result ≡ colour_of_backdrop palette.now self.now shows }
+    {
+        self.changed_alone(palette, bit(shows, 5), Layer::Backdrop, BACKDROP)
     }
 
     /// The colour of the foremost layer at a place over the layer behind it.

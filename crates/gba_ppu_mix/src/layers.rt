@@ -3,7 +3,7 @@
 ghost use Rattle.std.specs.Prelude.{◌≡◌, ◌<◌, length};
 ghost use Rattle.gba_ppu_dot.specs.Dots.{IsLine};
 ghost use Rattle.gba_ppu_reg.specs.Registers.{picture_mode};
-ghost use Rattle.gba_ppu_mix.specs.Layers.{background_dot, dot_of_kind, is_layer_on as is_on, kind_of as kind_in, sprites_dot};
+ghost use Rattle.gba_ppu_mix.specs.Layers.{background_dot, dot_of_kind, has_layers as has_any, is_layer_on as is_on, kind_of as kind_in, sprites_dot};
 
 use gba_ppu_affine::{affine_line, bitmap_line};
 use gba_ppu_dot::{Dot, clear_line};
@@ -38,6 +38,17 @@ fn is_layer_on(r: &PictureRegisters, layer: u32) -> bool
     ensures { result ≡ is_on r.now layer }
 {
     bit(u32::from(r.kept(0x000)), 8 + layer)
+}
+
+/// Whether any layer is on.
+pub fn has_layers(r: &PictureRegisters) -> bool
+    ensures { result ≡ has_any r.now }
+{
+    is_layer_on(r, 0)
+        || is_layer_on(r, 1)
+        || is_layer_on(r, 2)
+        || is_layer_on(r, 3)
+        || is_layer_on(r, 4)
 }
 
 fn draw_kind(

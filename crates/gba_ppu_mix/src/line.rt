@@ -1,11 +1,14 @@
 //! A line of the picture.
 
-ghost use Rattle.std.specs.Prelude.{◌≡◌, ℕ, ◌<◌, ◌≤◌, length, slice_index};
-ghost use Rattle.gba_ppu_mix.specs.Mixing.{IsPixelLine, colour_in, colour_of_dots, colour_where, is_blank as is_blank_by, mixed_pixel};
+ghost use Rattle.std.specs.Prelude.{◌≡◌, ℕ, ◌<◌, ◌≤◌, false, length, slice_index};
+ghost use Rattle.gba_ppu_mix.specs.Mixing.{IsPixelLine, backdrop_colour, colour_in, colour_of_dots, colour_where, is_blank as is_blank_by, mixed_pixel, plain_colour};
 ghost use Rattle.gba_ppu_mix.specs.Stacks.{dots_at};
+ghost use Rattle.gba_ppu_mix.specs.Windows.{run_shows, shows_at};
 
 use crate::blending::Blending;
-use crate::lines::{Lines, draw_layers, empty_line, stack_of};
+use crate::colours::colour_of;
+use crate::layers::has_layers;
+use crate::lines::{Lines, draw_layers, empty_line, foremost, stack_of};
 use crate::stacks::Ranks;
 use crate::windows::{Run, Windows};
 use gba_ppu_reg::PictureRegisters;
@@ -37,7 +40,59 @@ fn is_blank(r: &PictureRegisters) -> bool
     bit(u32::from(r.kept(0x000)), 7)
 }
 
+/// Colours a part of a line on which no effect changes a colour.
+fn paint_run(
+    palette: &[u8],
+    run: &Run,
+    ranks: &Ranks,
+    lines: &Lines,
+    start: u32,
+    colours: &mut [u16],
+)
+    requires palette { length palette.now ≡ 1024 }
+    requires start { start ≤ run.now.end }
+    requires end { run.now.end ≤ 240 }
+    requires colours { length colours.old ≡ 240 }
+    ensures before { (x : ℕ) → x < start → slice_index colours.new x ≡ slice_index colours.old x }
+    ensures drawn { (x : ℕ) → start ≤ x → x < run.now.end → slice_index colours.new x
+        ≡ plain_colour palette.now (run_shows run.now (dots_at lines.now x).sprite.window) ranks.now (dots_at lines.now x) }
+{
+    for x in start..run.end {
+        let place = x as usize;
+        let shows = run.shows(lines.sprites[place].window);
+        colours[place] = colour_of(palette, foremost(lines, shows, ranks, place));
+    }
+}
+
 /// Mixes a part of the layers' lines.
+fn blend_run(
+    palette: &[u8],
+    run: &Run,
+    b: &Blending,
+    ranks: &Ranks,
+    lines: &Lines,
+    start: u32,
+    colours: &mut [u16],
+)
+    requires palette { length palette.now ≡ 1024 }
+    requires eva { b.now.eva ≤ 16 }
+    requires evb { b.now.evb ≤ 16 }
+    requires evy { b.now.evy ≤ 16 }
+    requires start { start ≤ run.now.end }
+    requires end { run.now.end ≤ 240 }
+    requires colours { length colours.old ≡ 240 }
+    ensures before { (x : ℕ) → x < start → slice_index colours.new x ≡ slice_index colours.old x }
+    ensures drawn { (x : ℕ) → start ≤ x → x < run.now.end → slice_index colours.new x
+        ≡ colour_in palette.now run.now b.now ranks.now (dots_at lines.now x) }
+{
+    for x in start..run.end {
+        let place = x as usize;
+        let shows = run.shows(lines.sprites[place].window);
+        colours[place] = colour_at(palette, shows, b, ranks, lines, place);
+    }
+}
+
+/// Mixes a part of the layers' lines, by the shorter way where no layer is a target.
 fn mix_run(
     palette: &[u8],
     run: &Run,
@@ -55,12 +110,13 @@ fn mix_run(
     requires end { run.now.end ≤ 240 }
     requires colours { length colours.old ≡ 240 }
     ensures before { (x : ℕ) → x < start → slice_index colours.new x ≡ slice_index colours.old x }
-    ensures drawn { (x : ℕ) → start ≤ x → x < run.now.end → slice_index colours.new x ≡ colour_in palette.now run.now b.now ranks.now (dots_at lines.now x) }
+    ensures drawn { (x : ℕ) → start ≤ x → x < run.now.end → slice_index colours.new x
+        ≡ colour_in palette.now run.now b.now ranks.now (dots_at lines.now x) }
 {
-    for x in start..run.end {
-        let place = x as usize;
-        let shows = run.shows(lines.sprites[place].window);
-        colours[place] = colour_at(palette, shows, b, ranks, lines, place);
+    if b.is_plain() {
+        paint_run(palette, run, ranks, lines, start, colours);
+    } else {
+        blend_run(palette, run, b, ranks, lines, start, colours);
     }
 }
 
@@ -77,6 +133,35 @@ fn mix(palette: &[u8], w: &Windows, b: &Blending, ranks: &Ranks, lines: &Lines, 
     while start < 240 {
         let run = w.run_from(start);
         mix_run(palette, &run, b, ranks, lines, start, colours);
+        start = run.end;
+    }
+}
+
+/// Colours a part of a line on which no layer is.
+fn fill_run(palette: &[u8], run: &Run, b: &Blending, start: u32, colours: &mut [u16])
+    requires palette { length palette.now ≡ 1024 }
+    requires evy { b.now.evy ≤ 16 }
+    requires start { start ≤ run.now.end }
+    requires end { run.now.end ≤ 240 }
+    requires colours { length colours.old ≡ 240 }
+    ensures before { (x : ℕ) → x < start → slice_index colours.new x ≡ slice_index colours.old x }
+    ensures filled { (x : ℕ) → start ≤ x → x < run.now.end → slice_index colours.new x ≡ backdrop_colour palette.now b.now (run_shows run.now false) }
+{
+    let colour = b.backdrop_colour(palette, run.shows(false));
+    colours[start as usize..run.end as usize].fill(colour);
+}
+
+/// Colours a line on which no layer is.
+fn fill(palette: &[u8], w: &Windows, b: &Blending, colours: &mut [u16])
+    requires palette { length palette.now ≡ 1024 }
+    requires evy { b.now.evy ≤ 16 }
+    requires colours { length colours.old ≡ 240 }
+    ensures { (x : ℕ) → x < 240 → slice_index colours.new x ≡ backdrop_colour palette.now b.now (shows_at w.now x false) }
+{
+    let mut start = 0;
+    while start < 240 {
+        let run = w.run_from(start);
+        fill_run(palette, &run, b, start, colours);
         start = run.end;
     }
 }
@@ -112,6 +197,12 @@ pub fn mix_line(
         whiten(colours);
         return;
     }
+    let windows = Windows::of(r, line);
+    let blending = Blending::of(r);
+    if !has_layers(r) {
+        fill(palette, &windows, &blending, colours);
+        return;
+    }
     let mut lines = Lines {
         sprites: empty_line(),
         background0: empty_line(),
@@ -120,12 +211,5 @@ pub fn mix_line(
         background3: empty_line(),
     };
     draw_layers(r, vram, oam, line, &mut lines);
-    mix(
-        palette,
-        &Windows::of(r, line),
-        &Blending::of(r),
-        &Ranks::of(r),
-        &lines,
-        colours,
-    );
+    mix(palette, &windows, &blending, &Ranks::of(r), &lines, colours);
 }

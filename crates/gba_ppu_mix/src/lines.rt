@@ -3,10 +3,10 @@
 ghost use Rattle.std.specs.Prelude.{◌≡◌, ◌<◌, length};
 ghost use Rattle.gba_ppu_dot.specs.Dots.{IsLine};
 ghost use Rattle.gba_ppu_mix.specs.Layers.{background_dot, sprites_dot};
-ghost use Rattle.gba_ppu_mix.specs.Stacks.{dot_of as layer_dot, dots_at, front_of as front_from, stack_of as stack_from};
+ghost use Rattle.gba_ppu_mix.specs.Stacks.{dot_of as layer_dot, dots_at, front_in, front_of as front_from, stack_of as stack_from};
 
 use crate::layers::{background_line, sprites_line};
-use crate::stacks::{Layer, Ranks, Stack, sprite_rank};
+use crate::stacks::{Front, Layer, Ranks, Stack, sprite_rank};
 use gba_ppu_dot::Dot;
 use gba_ppu_reg::PictureRegisters;
 
@@ -26,7 +26,8 @@ pub fn empty_line() -> [Dot; 240] {
     [Dot::CLEAR; 240]
 }
 
-const BACKDROP: Dot = Dot {
+/// The backdrop's dot, which has the palette's entry 0.
+pub const BACKDROP: Dot = Dot {
     opaque: true,
     ..Dot::CLEAR
 };
@@ -93,6 +94,46 @@ pub fn stack_of(lines: &Lines, shows: u32, ranks: &Ranks, x: usize) -> Stack
             ranks.background3,
             lines.background3[x],
         )
+}
+
+/// The foremost dot at a place.
+#[inline(always)]
+pub fn foremost(lines: &Lines, shows: u32, ranks: &Ranks, x: usize) -> Dot
+    requires { x < 240 }
+    ensures { result ≡ (front_in (dots_at lines.now x) (stack_from shows ranks.now (dots_at lines.now x))).dot }
+{
+    let sprite = lines.sprites[x];
+    let backdrop = Front {
+        rank: 0x800,
+        dot: BACKDROP,
+    };
+    backdrop
+        .with(shows, Layer::Sprites, sprite_rank(sprite.priority), sprite)
+        .with(
+            shows,
+            Layer::Background0,
+            ranks.background0,
+            lines.background0[x],
+        )
+        .with(
+            shows,
+            Layer::Background1,
+            ranks.background1,
+            lines.background1[x],
+        )
+        .with(
+            shows,
+            Layer::Background2,
+            ranks.background2,
+            lines.background2[x],
+        )
+        .with(
+            shows,
+            Layer::Background3,
+            ranks.background3,
+            lines.background3[x],
+        )
+        .dot
 }
 
 /// Draws the layers.

@@ -1,7 +1,7 @@
 //! The layers behind one another at a place.
 
 ghost use Rattle.std.specs.Prelude.{◌≡◌, ◌<◌, ◌≤◌};
-ghost use Rattle.gba_ppu_mix.specs.Stacks.{background_rank as background_rank_of, bottom as the_bottom, layer_bit as bit_of, nearer as nearer_of, ranks_of, sprite_rank as sprite_rank_of, with_candidate as stack_with, with_dot as stack_with_dot};
+ghost use Rattle.gba_ppu_mix.specs.Stacks.{background_rank as background_rank_of, bottom as the_bottom, front_with as front_with_dot, layer_bit as bit_of, nearer as nearer_of, ranks_of, sprite_rank as sprite_rank_of, with_candidate as stack_with, with_dot as stack_with_dot};
 
 use gba_ppu_dot::{BackgroundControl, Dot};
 use gba_ppu_reg::PictureRegisters;
@@ -25,6 +25,14 @@ pub struct Candidate {
     /// Its place in the order from the front.
     pub rank: u32,
     pub layer: Layer,
+}
+
+/// What is in front at a place.
+#[derive(Clone, Copy, Debug, PartialEq, Eq)]
+pub struct Front {
+    /// Its place in the order from the front.
+    pub rank: u32,
+    pub dot: Dot,
 }
 
 /// The ranks of the backgrounds.
@@ -136,6 +144,20 @@ impl Stack {
     {
         if dot.opaque && bit(shows, layer_bit(layer)) {
             self.with(Candidate { rank, layer })
+        } else {
+            self
+        }
+    }
+}
+
+impl Front {
+    /// With a layer, where its dot is opaque, the layer shows and is nearer.
+    #[inline(always)]
+    pub fn with(self, shows: u32, layer: Layer, rank: u32, dot: Dot) -> Front
+        ensures { result ≡ front_with_dot shows layer rank dot self }
+    {
+        if dot.opaque && bit(shows, layer_bit(layer)) && rank < self.rank {
+            Front { rank, dot }
         } else {
             self
         }

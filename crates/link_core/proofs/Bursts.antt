@@ -5,6 +5,7 @@ use Rattle.std.proofs.Common.{ℕ, zero, suc, ◌≡◌, ◌≢◌, ◌+◌, ◌
 use Rattle.std.proofs.lemmas.Bool.Decides.{nat_tests}
 use Rattle.std.proofs.lemmas.List.{set-set, length-map}
 use Rattle.std.proofs.lemmas.List.Elements.{All-filter, filter_passes}
+use Rattle.link_node.specs.Alone.{StepsAlone, Stays, Steps}
 use Rattle.link_node.specs.Due.{FitsWidths}
 use Rattle.link_node.specs.declared.signal.Incoming.{Incoming}
 use Rattle.link_node.specs.declared.signal.Signal.{Signal}
@@ -28,7 +29,7 @@ use Rattle.link_laws.specs.Law.{GoesOn}
 use Rattle.link_laws.proofs.Advance.{Ahead, number_found}
 use Rattle.link_laws.proofs.Equality.{equality}
 use Rattle.link_core.specs.Kept.{IsDelay, IsKept, AllLive, AllFit}
-use Rattle.link_core.specs.Burst.{ArrivesFrom, StepsAlone, Stays, Steps, Idles, GoesAlone, Stands, Goes}
+use Rattle.link_core.specs.Burst.{ArrivesFrom, Idles, GoesAlone, Stands, Goes}
 
 -- where a console may step by the others' clocks, the global order goes on from its step to the same end
 step_ahead : {C : Type 0} (kind : NodeKind C) → IsLawful kind → (d : Cut C) (i until : ℕ) → IsCable d → IsSound kind d
@@ -174,7 +175,7 @@ get_set (z ∷ zs) (suc i) x y e = get_set zs i x y e
 pub alone : {C : Type 0} (kind : NodeKind C) → IsLawful kind → (i end quiet : ℕ) (p : Cut C) (x : C)
     → slice_get p.consoles i ≡ Some x → kind.was x ≤ kind.clock x → quiet ≤ end
     → All (ArrivesFrom (hop_of p.delay) i (kind.was x) quiet) p.sent
-    → {y : C} {told : Option Signal} → StepsAlone kind quiet x y told → Alone kind i end p x y told
+    → {y : C} {told : Option Signal} → StepsAlone kind.clock kind.next quiet x y told → Alone kind i end p x y told
 alone {C = C} kind law i end quiet p x stands begun within late Stays = record {
   goes =
       let e : p.consoles ≡ slice_set p.consoles i x = sym (set_found p.consoles i x stands) in

@@ -1,4 +1,5 @@
-use Rattle.std.specs.Prelude.{ℕ, ◌≡◌, ◌≢◌, ◌+◌, ◌<◌, ◌≤◌, List, [], Option, None, slice_set}
+use Rattle.std.specs.Prelude.{ℕ, ◌≡◌, ◌≢◌, ◌+◌, ◌<◌, ◌≤◌, List, Option, slice_set}
+use Rattle.link_node.specs.Alone.{StepsAlone}
 use Rattle.link_node.specs.declared.signal.Signal.{Signal}
 use Rattle.link_order.specs.declared.sent.Sent.{Sent}
 use Rattle.link_order.specs.NodeKind.{NodeKind}
@@ -13,18 +14,11 @@ ArrivesFrom between player was end one =
     one.sender ≢ player → was < one.signal.clock + between one.sender player
     → end ≤ one.signal.clock + between one.sender player
 
--- a console has come from x to here by steps that began below `end` and took nothing, and only the last has told
--- something
-pub data StepsAlone {C : Type 0} (kind : NodeKind C) (end : ℕ) (x : C) : C → Option Signal → Type 0 where
-  Stays : StepsAlone kind end x x None
-  Steps : (y : C) → StepsAlone kind end x y None → kind.clock y < end
-      → StepsAlone kind end x (kind.next y []).0 (kind.next y []).1
-
--- the same of console i among others, of which it is the only one that steps
+-- steps that took nothing, of console i among others, of which it is the only one that steps
 pub record Idles {C : Type 0} (kind : NodeKind C) (end i : ℕ) (x : C) (old new : List C) (told : Option Signal) : Type 0
   where
     pub y : C
-    pub alone : StepsAlone kind end x y told
+    pub alone : StepsAlone kind.clock kind.next end x y told
     pub placed : new ≡ slice_set old i y
     pub rises : kind.clock x < end → kind.clock x < kind.clock y
 

@@ -6,27 +6,12 @@ ghost use Rattle.link_order.specs.NodeKind.{kind_of};
 ghost use Rattle.link_order.specs.Cut.{hop_of, plain_cut, clock_at};
 ghost use Rattle.link_order.specs.GlobalOrder.{least, with_signal};
 ghost use Rattle.link_core.specs.Kept.{IsKept, cut_of};
-ghost use Rattle.link_core.specs.Burst.{ArrivesFrom, StepsAlone, Idles, GoesAlone};
+ghost use Rattle.link_core.specs.Burst.{ArrivesFrom, Idles, GoesAlone};
 
 use crate::nodes::{clock_of, turn_of};
 use crate::signals::{gather, was_of};
 use link_node::{Incoming, Node, Signal};
 use link_order::{Sent, hop};
-
-/// Steps a node that nothing is due to until its clock is at least `end` or it tells something.
-fn idle<N: Node>(node: &mut N, end: u64) -> Option<Signal>
-    requires { end ≤ N.bound node.old }
-    ensures alone { StepsAlone (kind_of N.clock N.was N.next) end (N.plain node.old) (N.plain node.new) result }
-    ensures rises { N.clock (N.plain node.old) < end → N.clock (N.plain node.old) < N.clock (N.plain node.new) }
-    ensures limit { N.bound node.new ≡ N.bound node.old }
-{
-    while node.clock() < end {
-        if let Some(signal) = node.turn(&[]) {
-            return Some(signal);
-        }
-    }
-    None
-}
 
 /// `end`, or the clock at which a sent signal arrives, where that is a peer's, comes after `was` and is sooner.
 fn sooner(one: &Sent, delay: u64, player: u32, was: u64, end: u64) -> u64
@@ -73,7 +58,7 @@ pub(crate) fn horizon_of<N: Node>(nodes: &[N], i: usize, delay: u64, until: u64)
     end
 }
 
-/// Steps of node i alone, as `idle` makes them.
+/// Steps of node i alone, with nothing due.
 fn idle_of<N: Node>(nodes: &mut Vec<N>, i: usize, end: u64) -> Option<Signal>
     requires player { i < vec_len nodes.old }
     requires limit { end ≤ slice_index (map N.bound nodes.old.items) i }
@@ -81,7 +66,7 @@ fn idle_of<N: Node>(nodes: &mut Vec<N>, i: usize, end: u64) -> Option<Signal>
         Idles (kind_of N.clock N.was N.next) end i x (map N.plain nodes.old.items) (map N.plain nodes.new.items) result }
     ensures limits { map N.bound nodes.new.items ≡ map N.bound nodes.old.items }
 {
-    idle(&mut nodes[i], end)
+    nodes[i].go_alone(end)
 }
 
 /// Steps of node i, the one with the least clock, that begin below `end`, with what is due to them, or till it tells

@@ -10,6 +10,7 @@ pub trait Node {
     ghost use Rattle.std.specs.Prelude.{ℕ, ◌≡◌, ◌+◌, ◌<◌, ◌≤◌, ◌^◌, List, Option, IfSome, All};
     ghost use Rattle.link_node.specs.declared.signal.Incoming.{Incoming};
     ghost use Rattle.link_node.specs.declared.signal.Signal.{Signal};
+    ghost use Rattle.link_node.specs.Alone.{StepsAlone};
     ghost use Rattle.link_node.specs.Due.{IsDue, InOrder, FitsWidths};
 
     ghost Record: { Type 0 };
@@ -46,6 +47,21 @@ pub trait Node {
         ensures node { plain self.new ≡ (next (plain self.old) due.now).0 }
         ensures signal { result ≡ (next (plain self.old) due.now).1 }
         ensures limit { bound self.new ≡ bound self.old };
+
+    /// Steps with nothing due, until the clock is at least `end` or one of them tells something, and answers that signal.
+    fn go_alone(&mut self, end: u64) -> Option<Signal>
+        requires { end ≤ bound self.old }
+        ensures alone { StepsAlone clock next end (plain self.old) (plain self.new) result }
+        ensures rises { clock (plain self.old) < end → clock (plain self.old) < clock (plain self.new) }
+        ensures limit { bound self.new ≡ bound self.old }
+    {
+        while self.clock() < end {
+            if let Some(signal) = self.turn(&[]) {
+                return Some(signal);
+            }
+        }
+        None
+    }
 
     // A step lasts 1 to 512 cycles.
     ghost rises: { (r : Record) (due : List Incoming) → clock r < clock (next r due).0 };

@@ -1,34 +1,48 @@
-use Rattle.std.proofs.Common.{◌+◌, ◌<◌, ◌≤◌, ◌∙◌, ℕ, ap, subst, sym, arith}
+use Rattle.std.proofs.Common.{◌+◌, ◌≤◌, ◌∙◌, ℕ, [], Option, ap, refl, subst, sym, arith}
+use Rattle.link_node.specs.Alone.{Stays}
+use Rattle.link_node.specs.declared.signal.Signal.{Signal}
 use Rattle.gba_console.specs.Keys.{due_of}
 use Rattle.gba_console.specs.Machine.{clock_of}
-use Rattle.gba_console.proofs.Rises.{run-step}
+use Rattle.gba_console.specs.Run.{GoesAlone}
+use Rattle.gba_console.proofs.Rows.{calm-silent, one-more}
 use Rattle.gba_console.proofs.Console.make_steps.Goals as goal
 
-pub returns-then-cycles-left-clause-same_end : goal.returns-then-cycles-left-clause-same_end
-returns-then-cycles-left-clause-same_end c = λ until long.
-    let before = c.loop-left.self in
-    let step = c.step_plainly-cycles.ensures in
+pub loop-left-init : goal.loop-left-init
+loop-left-init c = record {
+  alone = Stays;
+  later = omega arith;
+  within = omega arith;
+  keys = c.requires.keys;
+  ends = c.requires.ends;
+  some = c.requires.some;
+  calm = c.requires.calm;
+  until = refl;
+}
+
+pub returns-then-cycles-left-clause-alone : goal.returns-then-cycles-left-clause-alone
+returns-then-cycles-left-clause-alone c =
     let held = c.loop-left.invariant in
-    let early : clock_of before < until = omega (arith, long, held.within, held.some) in
-    run-step c.enough.ensures until before c.step_plainly-cycles.new.self early (omega (arith, step.clock, step.some)) step.step
-    ∙ held.same until long
+    one-more (c.steps_pass.ensures []) (clock_of c.args.self.now + c.args.most) c.args.self.now c.loop-left.self
+    c.step_plainly-cycles.new.self held.alone (omega (arith, held.within, held.some)) c.step_plainly-cycles.ensures.step
 
 pub loop-left-preserved : goal.loop-left-preserved
 loop-left-preserved c =
     let before = c.loop-left.self in
     let step = c.step_plainly-cycles.ensures in
+    let after = c.step_plainly-cycles.new.self in
     let held = c.loop-left.invariant in
-    let last = clock_of c.args.self.now + c.args.most in record {
-      same = λ until long.
-          let early : clock_of before < until = omega (arith, long, held.within, held.some) in
-          run-step c.enough.ensures until before c.step_plainly-cycles.new.self early (omega (arith, step.clock, step.some))
-          step.step
-          ∙ held.same until long;
+    let last = clock_of c.args.self.now + c.args.most in
+    let calm = sym c.is_calm.ensures ∙ c.if-not-is_calm.false in record {
+      alone =
+          subst (λ (o : Option Signal). GoesAlone last c.args.self.now after o)
+          (calm-silent c.stays_quiet.ensures after calm)
+          (one-more (c.steps_pass.ensures []) last c.args.self.now before after held.alone
+          (omega (arith, held.within, held.some)) step.step);
       later = omega (arith, step.clock, held.later);
       within = omega (arith, step.clock, held.within, c.if-cycles-left.false);
       keys = subst (λ (n : ℕ). last ≤ n) (ap due_of (sym step.keys)) held.keys;
       ends = step.ends last (omega (arith, c.requires.few, held.later)) held.ends;
       some = omega (arith, c.if-cycles-left.false);
-      calm = sym c.is_calm.ensures ∙ c.if-not-is_calm.false;
+      calm = calm;
       until = step.until ∙ held.until;
     }

@@ -1,15 +1,15 @@
-use Rattle.std.proofs.Common.{◌≡◌, ◌+◌, ◌≤◌, true, ℕ}
+use Rattle.std.proofs.Common.{◌≡◌, ◌+◌, ◌≤◌, true, None}
 use Rattle.gba_io.specs.Core.{core_is_calm}
 use Rattle.gba_serial.specs.Apart.{next_end}
 use Rattle.gba_console.specs.Keys.{due_of}
 use Rattle.gba_console.specs.Machine.{clock_of}
-use Rattle.gba_console.specs.Run.{run_to}
+use Rattle.gba_console.specs.Run.{GoesAlone}
 use Rattle.gba_console.proofs.Console.make_steps.Given as goal
 
--- what is left of any longer run leads to the same end, and some cycles are left before a step may be no plain one
+-- what is done is a row of steps, and some cycles are left before a step may be no plain one
 abbrev pub invariant-loop-left : goal.invariant-loop-left
 invariant-loop-left l = record {
-  same : (until : ℕ) → clock_of l.fn.self + l.most ≤ until → run_to until l.self ≡ run_to until l.fn.self;
+  alone : GoesAlone (clock_of l.fn.self + l.most) l.fn.self l.self None;
   later : clock_of l.fn.self ≤ clock_of l.self;
   within : clock_of l.self + l.left ≤ clock_of l.fn.self + l.most;
   keys : clock_of l.fn.self + l.most ≤ due_of l.self.keys;

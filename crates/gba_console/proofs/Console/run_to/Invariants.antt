@@ -5,8 +5,10 @@ use Rattle.gba_console.proofs.Console.run_to.Given as goal
 
 -- what is left of the run leads to the same end
 abbrev pub invariant-loop-self : goal.invariant-loop-self
-invariant-loop-self l =
-    (run_to l.until l.self ≡ run_to l.until l.fn.self) × (l.self.board.made.until ≡ l.fn.self.board.made.until)
+invariant-loop-self l = record {
+  same : run_to l.until l.self ≡ run_to l.until l.fn.self;
+  until : l.self.board.made.until ≡ l.fn.self.board.made.until;
+}
 
 abbrev pub decreases-loop-self : goal.decreases-loop-self
 decreases-loop-self l = l.until - clock_of l.self

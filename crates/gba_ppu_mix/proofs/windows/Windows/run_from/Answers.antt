@@ -1,4 +1,4 @@
-use Rattle.std.proofs.Common.{ℕ, ◌<◌, ◌∙◌, arith}
+use Rattle.std.proofs.Common.{◌<◌, ◌∙◌, arith}
 use Rattle.gba_ppu_mix.proofs.Runs.{same_shows}
 use Rattle.gba_ppu_mix.proofs.windows.Windows.run_from.Goals as goal
 

@@ -1,7 +1,7 @@
 use Rattle.std.proofs.Common.{◌≡◌, ℕ, ◌<◌, ◌≤◌, slice_index}
 use Rattle.gba_ppu_mix.specs.Mixing.{colour_in}
 use Rattle.gba_ppu_mix.specs.Stacks.{dots_at}
-use Rattle.gba_ppu_mix.proofs.line.mix_run.Given as goal
+use Rattle.gba_ppu_mix.proofs.line.blend_run.Given as goal
 
 abbrev pub invariant-loop-x : goal.invariant-loop-x
 invariant-loop-x l = record {

@@ -1,0 +1,23 @@
+use Rattle.std.proofs.Common.{◌≡◌, ◌-◌, ◌≤◌, true, None}
+use Rattle.gba_console.specs.Keys.{due_of}
+use Rattle.gba_console.specs.Machine.{clock_of}
+use Rattle.gba_console.specs.Run.{GoesAlone}
+use Rattle.gba_io.specs.Core.{core_is_idle}
+use Rattle.gba_serial.specs.Apart.{next_end}
+use Rattle.gba_console.proofs.Console.go_idly.Given as goal
+
+-- what is done is a row of steps that told nothing, and nothing asks for more than idling
+abbrev pub invariant-loop-left : goal.invariant-loop-left
+invariant-loop-left l = record {
+  alone : GoesAlone l.end l.fn.self l.self None;
+  later : clock_of l.fn.self ≤ clock_of l.self;
+  left : l.left ≡ l.stop - clock_of l.self;
+  within : l.stop ≤ l.end;
+  keys : l.stop ≤ due_of l.self.keys;
+  idle : core_is_idle l.self.board.core ≡ true;
+  until : l.self.board.made.until ≡ l.fn.self.board.made.until;
+  ends : l.stop ≤ next_end l.self.board.core.serial;
+}
+
+abbrev pub decreases-loop-left : goal.decreases-loop-left
+decreases-loop-left l = l.left

@@ -1,0 +1,50 @@
+-- Colours as bytes, eight at a time.
+use Rattle.std.proofs.Common.{◌≡◌, ℕ, ◌+◌, ◌-◌, ◌*◌, ◌++◌, ◌∙◌, List, [], ◌∷◌, length, refl, sym, ap, arith, take, drop, slice_index_or}
+use Rattle.std.specs.Int.{w16, to_le_bytes}
+use Rattle.std.proofs.lemmas.Grind.{flat_map-append}
+use Rattle.std.proofs.lemmas.List.{append_assoc}
+use Rattle.std.proofs.lemmas.List.Concat.{flat_map-cons}
+use Rattle.std.proofs.Math.Seq.{take-add}
+use Rattle.gba_io.specs.Drawing.{colour_bytes, colours_bytes}
+
+-- a byte of one of the colours
+abbrev pub byte_in : List ℕ → ℕ → ℕ → ℕ
+byte_in colours k j = slice_index_or (to_le_bytes w16 (slice_index_or colours k 0)) j 0
+
+abbrev pub bytes_in_eight : List ℕ → List ℕ
+bytes_in_eight xs =
+    byte_in xs 0 0 ∷ byte_in xs 0 1 ∷ byte_in xs 1 0 ∷ byte_in xs 1 1 ∷ byte_in xs 2 0 ∷ byte_in xs 2 1
+    ∷ byte_in xs 3 0 ∷ byte_in xs 3 1 ∷ byte_in xs 4 0 ∷ byte_in xs 4 1 ∷ byte_in xs 5 0 ∷ byte_in xs 5 1
+    ∷ byte_in xs 6 0 ∷ byte_in xs 6 1 ∷ byte_in xs 7 0 ∷ byte_in xs 7 1 ∷ []
+
+pub eight : (xs : List ℕ) → length xs ≡ 8 → bytes_in_eight xs ≡ colours_bytes xs
+eight (a ∷ b ∷ c ∷ d ∷ e ∷ f ∷ g ∷ h ∷ []) n =
+    let one = λ (x : ℕ) (xs : List ℕ). flat_map-cons colour_bytes x xs in
+    rw (
+      one a (b ∷ c ∷ d ∷ e ∷ f ∷ g ∷ h ∷ []),
+      one b (c ∷ d ∷ e ∷ f ∷ g ∷ h ∷ []),
+      one c (d ∷ e ∷ f ∷ g ∷ h ∷ []),
+      one d (e ∷ f ∷ g ∷ h ∷ []),
+      one e (f ∷ g ∷ h ∷ []),
+      one f (g ∷ h ∷ []),
+      one g (h ∷ []),
+      one h [],
+    ) refl
+eight xs n = absurd (omega (arith, n))
+
+-- eight colours more
+pub eight-more : (old acc more colours : List ℕ) (part : ℕ) → acc ≡ old ++ colours_bytes (take (8 * part) colours)
+    → more ≡ colours_bytes (take (8 * part + 8 - 8 * part) (drop (8 * part) colours))
+    → acc ++ more ≡ old ++ colours_bytes (take (8 * (part + 1)) colours)
+eight-more old acc more colours part done here =
+    let first = take (8 * part) colours in
+    let next = take 8 (drop (8 * part) colours) in
+    let eight : 8 * part + 8 - 8 * part ≡ 8 = omega arith in
+    let both : 8 * part + 8 ≡ 8 * (part + 1) = omega arith in
+    ap (λ (bytes : List ℕ). bytes ++ more) done
+    ∙ append_assoc old (colours_bytes first) more
+    ∙ ap (λ (bytes : List ℕ). old ++ (colours_bytes first ++ bytes))
+    (here ∙ ap (λ (n : ℕ). colours_bytes (take n (drop (8 * part) colours))) eight)
+    ∙ ap (λ (bytes : List ℕ). old ++ bytes) (sym (flat_map-append colour_bytes first next))
+    ∙ ap (λ (some : List ℕ). old ++ colours_bytes some) (sym (take-add (8 * part) 8 colours))
+    ∙ ap (λ (n : ℕ). old ++ colours_bytes (take n colours)) both
