@@ -1,4 +1,4 @@
-use Rattle.std.specs.Prelude.{ℕ, ◌≡◌, ◌+◌, ◌<◌, true, false, nat_lt, List, [], ◌∷◌, ◌++◌, None, if◌then◌else◌}
+use Rattle.std.specs.Prelude.{ℕ, ◌≡◌, ◌+◌, ◌<◌, ◌≤◌, true, false, nat_lt, List, [], ◌∷◌, ◌++◌, None, Some, if◌then◌else◌}
 use Rattle.gba_terms.specs.Bits.{field}
 use Rattle.gba_serial.specs.Timing.{is_normal, multi_end, normal_end}
 use Rattle.gba_serial.specs.SerialUnit.{SerialUnit, mode_of, own_word}
@@ -14,7 +14,7 @@ use Rattle.link_node.specs.declared.signal.Start.{Start}
 use Rattle.link_order.specs.NodeKind.{NodeKind}
 use Rattle.link_order.specs.Due.{incoming}
 use Rattle.link_order.specs.Cut.{Cut, count, hop, IsSound, IsInTime, IsCable}
-use Rattle.gba_agreement.specs.Moments.{MakesStep, ReachesEnd, StartsTransfer}
+use Rattle.link_moments.specs.Law.{MakesStep}
 use Rattle.gba_agreement.specs.UnitView.{HasUnit, IsSeated, UnitView, ends_in}
 
 -- this project's profile: linked consoles agree on a transfer. The laws hold of every record, also of consoles that no
@@ -27,6 +27,24 @@ pub record AreLinked {C : Type 0} (kind : NodeKind C) (view : UnitView C) (cut :
   pub sound : IsSound kind cut
   pub in_time : IsInTime kind cut
   pub seated : IsSeated view cut
+
+-- Step k of player p tells this signal, with a start of a transfer.
+pub record StartsTransfer {C : Type 0} (kind : NodeKind C) (cut : Cut C) (until p k : ℕ) (s : Signal) (start : Start)
+    : Type 0
+  where
+    pub x : C
+    pub dues : List Incoming
+    pub step : MakesStep kind cut until p k x dues
+    pub tells : (kind.next x dues).1 ≡ Some s
+    pub starts : s.start ≡ Some start
+
+-- Step m of player i, of console x, is the first that begins at this clock or later.
+pub record ReachesEnd {C : Type 0} (kind : NodeKind C) (cut : Cut C) (until i m end : ℕ) (x : C) (dues : List Incoming)
+    : Type 0
+  where
+    pub step : MakesStep kind cut until i m x dues
+    pub before : kind.was x < end
+    pub by_now : end ≤ kind.clock x
 
 -- Step m of player i, of console x, takes signal s of player p; u is its unit at that signal's turn: the earlier ones are
 -- taken, and a transfer that is over by then has ended.
