@@ -48,7 +48,7 @@ early-before : (end : ℕ) (one other : Incoming) → one.arrival < end → Prec
 early-before end one other early (inl less) = omega (arith, early, less)
 early-before end one other early (inr tie) = omega (arith, early, tie.0)
 
-both-all : {X : Type 0} (P Q R : X → Type 0) (xs : List X) → ((x : X) → P x → Q x → R x) → All P xs → All Q xs → All R xs
+pub both-all : {X : Type 0} (P Q R : X → Type 0) (xs : List X) → ((x : X) → P x → Q x → R x) → All P xs → All Q xs → All R xs
 both-all P Q R xs f ps qs k d below = f _ (ps k d below) (qs k d below)
 
 -- so a list with that signal fills j's place
@@ -81,8 +81,15 @@ place-fill c j arrival w got dues u on wire soon order past has =
     (pairs-after Precedes has.earlier one has.later ordered) (all-after (IsPast c.end j arrival) has.earlier one has.later pasts))
     has.fills)
 
-module _ {C : Type 0} (kind : NodeKind C) (law : IsLawful kind) (view : UnitView C) (has : HasUnit kind view) (cut : Cut C)
-    (until : ℕ) (steps : HasSteps kind cut until) (signals : PassesSignals kind cut until) where
+-- what all of this rests on: the laws of the consoles, of their units, and of the trace
+pub record Given {C : Type 0} (kind : NodeKind C) (view : UnitView C) (cut : Cut C) (until : ℕ) : Type 0 where
+  pub law : IsLawful kind
+  pub has : HasUnit kind view
+  pub steps : HasSteps kind cut until
+  pub signals : PassesSignals kind cut until
+
+module _ {C : Type 0} {kind : NodeKind C} {view : UnitView C} {cut : Cut C} {until : ℕ}
+    (given : Given kind view cut until) where
 
   -- a step on the course, before the end
   pub record GoesOn (c : Course) (x : C) (dues : List Incoming) : Type 0 where
@@ -100,8 +107,8 @@ module _ {C : Type 0} (kind : NodeKind C) (law : IsLawful kind) (view : UnitView
   goes-on c i m x dues step is_on on before =
       let u = view.unit x in
       let clock = kind.clock x in
-      let touches = has.touches x dues is_on in
-      let sound = steps.sound i m x dues step in
+      let touches = given.has.touches x dues is_on in
+      let sound = given.steps.sound i m x dues step in
       let v = until_end c.end dues u in
       let there : IsOn c v = until_end-on c dues u on in
       let heard : hear clock dues u ≡ v = hear-is c clock dues u on before (arrived c (kind.was x) clock dues before sound.due) in
@@ -120,7 +127,7 @@ module _ {C : Type 0} (kind : NodeKind C) (law : IsLawful kind) (view : UnitView
             (alike-then v (all_written clock touches.writes v) (silent (all_written clock touches.writes v)) written
             (alike-silent (all_written clock touches.writes v)));
         tells = touches.told_is ∙ ap (outgoing clock) touches.after_is
-            ∙ ap (λ z. outgoing clock (all_written clock touches.writes (hear clock dues z))) (sym (has.quiet x)) ∙ quiet;
+            ∙ ap (λ z. outgoing clock (all_written clock touches.writes (hear clock dues z))) (sym (given.has.quiet x)) ∙ quiet;
       }
 
   -- a step that leaves its console on a course that ends later
@@ -140,11 +147,11 @@ module _ {C : Type 0} (kind : NodeKind C) (law : IsLawful kind) (view : UnitView
           | inl same ↦
               let at_k : MakesStep kind cut until i k y es =
               subst (λ n. MakesStep kind cut until i n y es) (sym same) other in
-              let clocks : kind.clock x ≡ kind.clock y = ap kind.clock (steps.one i k x y ds es one at_k).0 in
+              let clocks : kind.clock x ≡ kind.clock y = ap kind.clock (given.steps.one i k x y ds es one at_k).0 in
               absurd (omega (arith, less, clocks))
           | inr apart ↦
-              let late = steps.later i m k y x es ds other one (omega (arith, above, apart)) in
-              let rises = (steps.sound i k x ds one).rises in
+              let late = given.steps.later i m k y x es ds other one (omega (arith, above, apart)) in
+              let rises = (given.steps.sound i k x ds one).rises in
               absurd (omega (arith, less, late, rises))
         ]
       ]
@@ -169,29 +176,29 @@ module _ {C : Type 0} (kind : NodeKind C) (law : IsLawful kind) (view : UnitView
       })
 
   -- a step number is that of the entry, or a later one
-  entry-or-later : (m l : ℕ) → m < suc l → (l ≡ m) ⊎ (m < l)
+  pub entry-or-later : (m l : ℕ) → m < suc l → (l ≡ m) ⊎ (m < l)
   entry-or-later m l below = elim (same_or_apart l m) [ inl same ↦ inl same | inr apart ↦ inr (omega (arith, below, apart)) ]
 
-  was-before : (c : Course) (i l : ℕ) (x y : C) (ds : List Incoming) → MakesStep kind cut until i l x ds
+  pub was-before : (c : Course) (i l : ℕ) (x y : C) (ds : List Incoming) → MakesStep kind cut until i l x ds
       → y ≡ (kind.next x ds).0 → kind.was y < c.end → kind.clock x < c.end
   was-before c i l x y ds step is before =
-      let moved : kind.was y ≡ kind.clock x = ap kind.was is ∙ law.moves x ds in omega (arith, before, moved)
+      let moved : kind.was y ≡ kind.clock x = ap kind.was is ∙ given.law.moves x ds in omega (arith, before, moved)
 
   pub follows : (c : Course) (i m : ℕ) (x : C) (ds : List Incoming) → Enters c i m x ds → (l : ℕ) (y : C) (es : List Incoming)
       → MakesStep kind cut until i l y es → m < l → kind.was y < c.end → Follows c y
   follows c i m x ds enters zero y es step later before = absurd (omega (arith, later))
   follows c i m x ds enters (suc l) y es step later before =
-      let from = steps.further i l y es step in
+      let from = given.steps.further i l y es step in
       let early = was-before c i l from.x y from.dues from.step from.next_is before in
       elim (entry-or-later m l later) [
         | inl same ↦
             let at_m : MakesStep kind cut until i m from.x from.dues =
             subst (λ n. MakesStep kind cut until i n from.x from.dues) same from.step in
-            let one = steps.one i m from.x x from.dues ds at_m enters.step in
+            let one = given.steps.one i m from.x x from.dues ds at_m enters.step in
             enters-next c i m x y ds enters
             (from.next_is ∙ ap (λ (z : C). (kind.next z from.dues).0) one.0 ∙ ap (λ (d : List Incoming). (kind.next x d).0) one.1)
         | inr after ↦
-            let sound = steps.sound i l from.x from.dues from.step in
+            let sound = given.steps.sound i l from.x from.dues from.step in
             let there = follows c i m x ds enters l from.x from.dues from.step after (omega (arith, early, sound.rises)) in
             goes-next c from.x y from.dues there.on
             (goes-on c i l from.x from.dues from.step there.is_on there.on early) from.next_is
@@ -201,7 +208,7 @@ module _ {C : Type 0} (kind : NodeKind C) (law : IsLawful kind) (view : UnitView
   pub silent-on : (c : Course) (i m : ℕ) (x : C) (ds : List Incoming) → Enters c i m x ds → (l : ℕ) (y : C) (es : List Incoming)
       → MakesStep kind cut until i l y es → kind.clock x < kind.clock y → kind.clock y < c.end → (kind.next y es).1 ≡ None
   silent-on c i m x ds enters l y es step later before =
-      let sound = steps.sound i l y es step in
+      let sound = given.steps.sound i l y es step in
       let there = follows c i m x ds enters l y es step (clock-later i m l x y ds es enters.step step later)
       (omega (arith, before, sound.rises)) in
       (goes-on c i l y es step there.is_on there.on before).tells

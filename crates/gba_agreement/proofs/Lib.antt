@@ -6,3 +6,4 @@ pub mod Recording
 pub mod Lists
 pub mod Seats
 pub mod Following
+pub mod Coming
