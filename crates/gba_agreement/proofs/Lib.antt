@@ -7,3 +7,4 @@ pub mod Lists
 pub mod Seats
 pub mod Following
 pub mod Coming
+pub mod Entering
