@@ -182,6 +182,8 @@ module _ {C : Type 0} {kind : NodeKind C} {view : UnitView C} {cut : Cut C} {unt
     pub earlier : List Incoming
     pub later : List Incoming
     pub split : dues ≡ earlier ++ incoming (hop cut p i) p s ∷ later
+    pub began_before : kind.was x < s.clock + hop cut p i
+    pub begins_after : s.clock + hop cut p i ≤ kind.clock x
     pub v : SerialUnit
     pub v_on : IsOn (course_of s.mode end false word i) v
     pub enters : Enters given (course_of s.mode end false word i) i m x dues
@@ -256,6 +258,8 @@ module _ {C : Type 0} {kind : NodeKind C} {view : UnitView C} {cut : Cut C} {unt
         earlier = met.earlier;
         later = met.later;
         split = met.split;
+        began_before = now.after_last;
+        begins_after = now.by_now;
         v = v;
         v_on = v_on;
         enters = record {

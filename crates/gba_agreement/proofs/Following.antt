@@ -38,7 +38,7 @@ pub record Fills (c : Course) (j arrival : ℕ) (got : Bool) (word : ℕ) (dues 
   pub fills : (v : SerialUnit) → IsOn c v → HasPlace c.mode j got word (taken one v)
 
 -- after it no other signal of j comes before the end
-silent-after : (end j arrival : ℕ) (one other : Incoming) → one.sender ≡ j → one.arrival ≡ arrival → Precedes one other
+pub silent-after : (end j arrival : ℕ) (one other : Incoming) → one.sender ≡ j → one.arrival ≡ arrival → Precedes one other
     → IsPast end j arrival other → IsSilent end j other
 silent-after end j arrival one other from at (inl less) past own =
     elim (past own) [ inl early ↦ absurd (omega (arith, at, less, early)) | inr late ↦ late ]

@@ -8,3 +8,4 @@ pub mod Seats
 pub mod Following
 pub mod Coming
 pub mod Entering
+pub mod Words
