@@ -149,7 +149,7 @@ module _ {C : Type 0} {kind : NodeKind C} {view : UnitView C} {cut : Cut C} {unt
   abbrev pub end_from : LinkMode → Start → ℕ → ℕ
   end_from mode start clock = transfer_end (count cut) (hop cut 0 1 + hop cut 1 0) mode start.speed clock
 
-  end-seated : (i : ℕ) (u : SerialUnit) (mode : LinkMode) (start : Start) (clock : ℕ) → IsSeat cut i u
+  pub end-seated : (i : ℕ) (u : SerialUnit) (mode : LinkMode) (start : Start) (clock : ℕ) → IsSeat cut i u
       → transfer_end u.count u.round mode start.speed clock ≡ end_from mode start clock
   end-seated i u mode start clock seat =
       ap (λ n. transfer_end n u.round mode start.speed clock) seat.count_is
@@ -199,6 +199,12 @@ module _ {C : Type 0} {kind : NodeKind C} {view : UnitView C} {cut : Cut C} {unt
   fed-append [] ys u = refl
   fed-append (x ∷ xs) ys u = fed-append xs ys (taken x (ended x.arrival u))
 
+  pub met-seat : (p i m : ℕ) (x : C) (u : SerialUnit) (s : Signal) → Meets kind view cut until p s i m x u → IsSeat cut i u
+  met-seat p i m x u s met =
+      subst (IsSeat cut i) (sym met.unit_is)
+      (ended-seat cut i (s.clock + hop cut p i) (fed met.earlier (view.unit x))
+      (fed-seat cut i met.earlier (view.unit x) (seat-at i m x met.dues met.step)))
+
   pub answers : (p i m end : ℕ) (x : C) (u : SerialUnit) (s : Signal) (start : Start)
       (met : Meets kind view cut until p s i m x u) → view.is_on x ≡ true
       → CanAnswer (incoming (hop cut p i) p s) start u → end ≡ end_from s.mode start s.clock
@@ -213,10 +219,7 @@ module _ {C : Type 0} {kind : NodeKind C} {view : UnitView C} {cut : Cut C} {unt
       subst (All (IsDue (kind.was x) clock)) met.split sound.due in
       let now = all-here (IsDue (kind.was x) clock) met.earlier one met.later due in
       let behind : All (IsDue (kind.was x) clock) met.later = all-after (IsDue (kind.was x) clock) met.earlier one met.later due in
-      let seat : IsSeat cut i u =
-      subst (IsSeat cut i) (sym met.unit_is)
-      (ended-seat cut i (s.clock + hop cut p i) (fed met.earlier unit)
-      (fed-seat cut i met.earlier unit (seat-at i m x dues met.step))) in
+      let seat = met-seat p i m x u s met in
       let few : u.player < 4 = let player = seat.player in let below = met.step.player in omega (arith, player, below, four) in
       let has = taken-answers one start u can few now.from_player in
       let v = taken one u in

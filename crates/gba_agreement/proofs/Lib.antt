@@ -9,3 +9,4 @@ pub mod Following
 pub mod Coming
 pub mod Entering
 pub mod Words
+pub mod MultiAgreement

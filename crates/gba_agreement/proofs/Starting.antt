@@ -89,7 +89,7 @@ pub record HasBegun (clock : ℕ) (start : Start) (v : SerialUnit) : Type 0 wher
   pub own : is_multi (mode_of v) ≡ true → HasPlace Multi v.player true start.word v
   pub others : is_multi (mode_of v) ≡ true → (j : ℕ) → j ≢ v.player → j < 4 → HasPlace Multi j false 0xffff v
 
-data_word-small : (mode : LinkMode) (u : SerialUnit) → data_word mode u < 2 ^ word_width mode
+pub data_word-small : (mode : LinkMode) (u : SerialUnit) → data_word mode u < 2 ^ word_width mode
 data_word-small Normal8 u = omega arith
 data_word-small Normal32 u = omega arith
 data_word-small Multi u = omega arith

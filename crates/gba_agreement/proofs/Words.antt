@@ -67,7 +67,7 @@ module _ {C : Type 0} {kind : NodeKind C} {view : UnitView C} {cut : Cut C} {unt
         (told-past given (course_of given at four s.mode end true sent p) p n xp dp starter i l y es step)
 
     -- the places that stand when an answering step takes the start stay in that step
-    kept-in-step : (i m : ℕ) (x : C) (ds : List Incoming) (word : ℕ) (a : Answers given at four p i m end x ds s start word)
+    pub kept-in-step : (i m : ℕ) (x : C) (ds : List Incoming) (word : ℕ) (a : Answers given at four p i m end x ds s start word)
         → (j : ℕ) (got : Bool) (w : ℕ) → IsWiredTo (course_of given at four s.mode end false word i) j
         → All (IsSilent end j) a.later → HasPlace s.mode j got w a.v
         → HasPlace s.mode j got w (view.unit (kind.next x ds).0)
@@ -80,7 +80,7 @@ module _ {C : Type 0} {kind : NodeKind C} {view : UnitView C} {cut : Cut C} {unt
         → InOrder (a.earlier ++ incoming (hop cut p i) p s ∷ a.later)
     answers-order i m x ds word a = subst InOrder a.split (given.steps.sound i m x ds a.enters.step).ordered
 
-    answers-later : (P : Incoming → Type 0) (i m : ℕ) (x : C) (ds : List Incoming) (word : ℕ)
+    pub answers-later : (P : Incoming → Type 0) (i m : ℕ) (x : C) (ds : List Incoming) (word : ℕ)
         (a : Answers given at four p i m end x ds s start word) → All P ds → All P a.later
     answers-later P i m x ds word a all =
         all-after P a.earlier (incoming (hop cut p i) p s) a.later (subst (All P) a.split all)
