@@ -10,3 +10,4 @@ pub mod Coming
 pub mod Entering
 pub mod Words
 pub mod MultiAgreement
+pub mod NormalAgreement
