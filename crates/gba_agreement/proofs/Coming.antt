@@ -1,27 +1,25 @@
 -- The words of a transfer come to each console on its course before the end, and the transfer is recorded there.
 use Rattle.std.specs.Prelude.{All, IfSome}
-use Rattle.std.proofs.Common.{ℕ, zero, suc, ◌≡◌, ◌≢◌, ◌+◌, ◌<◌, ◌≤◌, ◌⊎◌, Bool, true, false, List, [], ◌∷◌, ◌++◌, Option, None, Some, if◌then◌else◌, refl, ap, sym, subst, ◌∙◌, inl, inr, arith, get_or}
+use Rattle.std.proofs.Common.{ℕ, zero, suc, ◌≡◌, ◌+◌, ◌<◌, ◌≤◌, ◌⊎◌, Bool, List, [], ◌∷◌, Option, None, Some, if◌then◌else◌, ap, sym, subst, ◌∙◌, inl, inr, arith}
 use Rattle.std.proofs.lemmas.Bool.{cases_lt}
 use Rattle.gba_serial.specs.SerialUnit.{SerialUnit}
-use Rattle.gba_serial.specs.Take.{taken}
 use Rattle.gba_serial.specs.End.{transfer_of}
 use Rattle.gba_serial.specs.Steps.{ends}
 use Rattle.gba_serial.specs.declared.transfer.Running.{Running}
-use Rattle.link_node.specs.Due.{InOrder, IsDue}
+use Rattle.link_node.specs.Due.{IsDue}
 use Rattle.link_node.specs.declared.signal.Incoming.{Incoming}
 use Rattle.link_node.specs.declared.signal.Signal.{Signal}
-use Rattle.link_order.specs.NodeKind.{IsLawful, NodeKind}
-use Rattle.link_order.specs.Cut.{Cut, clock_at, count, hop}
-use Rattle.link_moments.specs.Law.{HasSteps, IsFromPeer, IsTold, MakesStep, PassesSignals, WasSent}
-use Rattle.gba_agreement.specs.UnitView.{HasUnit, UnitView, ends_in}
+use Rattle.link_order.specs.NodeKind.{NodeKind}
+use Rattle.link_order.specs.Cut.{Cut, clock_at, hop}
+use Rattle.link_moments.specs.Law.{IsFromPeer, IsTold, MakesStep, WasSent}
+use Rattle.gba_agreement.specs.UnitView.{UnitView, ends_in}
 use Rattle.gba_agreement.specs.Agreement.{ReachesEnd}
 use Rattle.gba_agreement.proofs.Course.{Course, HasPlace, IsOn, IsWiredTo, place-alike}
-use Rattle.gba_agreement.proofs.Ends.{EndsWith, IsSilent, ends-once, until_end, until_end-on, until_end-place}
-use Rattle.gba_agreement.proofs.Following.{Enters, Given, both-all, Fills, Follows, IsPast, clock-later, entry-or-later, follows, goes-on, place-fill, silent-on, was-before}
+use Rattle.gba_agreement.proofs.Ends.{IsSilent, ends-once, until_end, until_end-on, until_end-place}
+use Rattle.gba_agreement.proofs.Following.{Enters, Given, both-all, Fills, IsPast, clock-later, entry-or-later, follows, goes-on, place-fill, silent-on, was-before}
 
 module _ {C : Type 0} {kind : NodeKind C} {view : UnitView C} {cut : Cut C} {until : ℕ}
     (given : Given kind view cut until) where
-
   -- what a step tells bears its clock
   pub told-when : (signal : Signal) (x : C) (dues : List Incoming) → (kind.next x dues).1 ≡ Some signal
       → signal.clock ≡ kind.clock x

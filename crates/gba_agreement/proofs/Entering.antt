@@ -1,12 +1,11 @@
 -- The two ways onto the course of a transfer: a step that starts it, and one that answers its start.
-use Rattle.std.specs.Prelude.{All, nat_eq, nat_lt, option_map, ◌==◌}
-use Rattle.std.proofs.Common.{ℕ, ◌≡◌, ◌≢◌, ◌+◌, ◌<◌, ◌≤◌, ◌^◌, ◌/◌, ◌%◌, Bool, true, false, not, ◌&&◌, ◌||◌, List, [], ◌∷◌, ◌++◌, Option, None, Some, if◌then◌else◌, refl, ap, sym, subst, ◌∙◌, inl, inr, arith}
+use Rattle.std.specs.Prelude.{All, option_map}
+use Rattle.std.proofs.Common.{ℕ, ◌≡◌, ◌≢◌, ◌+◌, ◌<◌, ◌≤◌, ◌^◌, ◌/◌, ◌%◌, Bool, true, false, List, [], ◌∷◌, ◌++◌, Option, None, Some, refl, ap, sym, subst, ◌∙◌, inl, inr, arith}
 use Rattle.std.proofs.lemmas.Bool.{cases_Bool}
-use Rattle.std.proofs.lemmas.Bool.Decides.{nat_tests}
 use Rattle.std.proofs.lemmas.List.Elements.{All-weaker}
-use Rattle.gba_serial.specs.Timing.{cut_word, is_multi, is_normal, transfer_end, word_width}
-use Rattle.gba_serial.specs.SerialUnit.{SerialUnit, is_wired, mode_of, own_word}
-use Rattle.gba_serial.specs.Take.{end_of, is_proper_start, taken, waits}
+use Rattle.gba_serial.specs.Timing.{cut_word, is_multi, transfer_end, word_width}
+use Rattle.gba_serial.specs.SerialUnit.{SerialUnit, mode_of, own_word}
+use Rattle.gba_serial.specs.Take.{end_of, taken}
 use Rattle.gba_serial.specs.End.{ended}
 use Rattle.gba_serial.specs.Tell.{outgoing, reply_told, silent, start_told}
 use Rattle.gba_serial.specs.Steps.{all_written, fed, hear}
@@ -17,16 +16,16 @@ use Rattle.link_node.specs.declared.signal.LinkMode.{LinkMode}
 use Rattle.link_node.specs.declared.signal.LinkMode.TheVariants.{Normal8, Normal32, Multi, Other}
 use Rattle.link_node.specs.declared.signal.Signal.{Signal}
 use Rattle.link_node.specs.declared.signal.Start.{Start}
-use Rattle.link_order.specs.NodeKind.{IsLawful, NodeKind}
+use Rattle.link_order.specs.NodeKind.{NodeKind}
 use Rattle.link_order.specs.Due.{incoming}
 use Rattle.link_order.specs.Cut.{Cut, count, hop}
 use Rattle.link_moments.specs.Law.{MakesStep}
-use Rattle.gba_agreement.specs.UnitView.{HasUnit, IsSeat, IsSeated, UnitView}
+use Rattle.gba_agreement.specs.UnitView.{IsSeat, IsSeated, UnitView}
 use Rattle.gba_agreement.specs.Agreement.{Meets, StartsTransfer}
-use Rattle.gba_agreement.proofs.Course.{Course, HasPlace, IsAlike, IsOn, alike-all_written, alike-silent, alike-then, is_on-running, on-alike, place-alike, true-not_false}
+use Rattle.gba_agreement.proofs.Course.{Course, HasPlace, IsAlike, IsOn, alike-all_written, alike-silent, alike-then, is_on-running, on-alike}
 use Rattle.gba_agreement.proofs.Ends.{hear-is, until_end, until_end-on}
-use Rattle.gba_agreement.proofs.Starting.{HasBegun, Replies, StartsAs, Tells, all_written-as, course_begun, hear-start, outgoing-replies, outgoing-tells}
-use Rattle.gba_agreement.proofs.Answering.{CanAnswer, HasAnswered, course_answered, taken-answers}
+use Rattle.gba_agreement.proofs.Starting.{HasBegun, StartsAs, all_written-as, course_begun, hear-start, outgoing-replies, outgoing-tells}
+use Rattle.gba_agreement.proofs.Answering.{CanAnswer, course_answered, taken-answers}
 use Rattle.gba_agreement.proofs.Seats.{all_written-seat, ended-seat, fed-seat, hear-seat, seated}
 use Rattle.gba_agreement.proofs.Lists.{all-after, all-here}
 use Rattle.gba_agreement.proofs.Following.{Enters, Given}
@@ -79,7 +78,6 @@ posted (Some one) start e = record { posted = one; is = refl; told = let both : 
 
 module _ {C : Type 0} {kind : NodeKind C} {view : UnitView C} {cut : Cut C} {until : ℕ}
     (given : Given kind view cut until) (at : IsSeated view cut) (four : count cut ≤ 4) where
-
   seat-at : (i m : ℕ) (x : C) (dues : List Incoming) → MakesStep kind cut until i m x dues → IsSeat cut i (view.unit x)
   seat-at = seated kind view given.has cut until given.steps at
 

@@ -1,27 +1,23 @@
 -- A console on the course of a transfer: it stays there until the end, tells nothing, and the words of the others come.
-use Rattle.std.specs.Prelude.{All, AllPairs, slice_get}
-use Rattle.std.proofs.Common.{ℕ, zero, suc, ◌≡◌, ◌≢◌, ◌+◌, ◌<◌, ◌≤◌, ◌⊎◌, Bool, true, false, List, [], ◌∷◌, ◌++◌, Option, None, Some, if◌then◌else◌, refl, ap, sym, subst, ◌∙◌, inl, inr, arith}
+use Rattle.std.specs.Prelude.{All}
+use Rattle.std.proofs.Common.{ℕ, zero, suc, ◌≡◌, ◌<◌, ◌≤◌, ◌⊎◌, Bool, true, List, ◌∷◌, ◌++◌, None, ap, sym, subst, ◌∙◌, inl, inr, arith}
 use Rattle.std.proofs.lemmas.Bool.{cases_lt}
 use Rattle.std.proofs.lemmas.List.Elements.{All-weaker}
 use Rattle.gba_serial.specs.SerialUnit.{SerialUnit}
 use Rattle.gba_serial.specs.Take.{taken}
-use Rattle.gba_serial.specs.End.{transfer_of}
 use Rattle.gba_serial.specs.Tell.{outgoing, silent}
 use Rattle.gba_serial.specs.Steps.{all_written, hear}
-use Rattle.gba_serial.specs.declared.transfer.Running.{Running}
 use Rattle.gba_serial.proofs.Going.{goes}
 use Rattle.link_node.specs.Due.{InOrder, IsDue, Precedes}
 use Rattle.link_node.specs.declared.signal.Incoming.{Incoming}
-use Rattle.link_node.specs.declared.signal.Signal.{Signal}
 use Rattle.link_order.specs.NodeKind.{IsLawful, NodeKind}
-use Rattle.link_order.specs.Cut.{Cut, clock_at, count, hop}
+use Rattle.link_order.specs.Cut.{Cut}
 use Rattle.link_order.proofs.Numbers.{same_or_apart}
-use Rattle.link_moments.specs.Law.{HasSteps, IsFromPeer, IsSoundStep, IsTold, MakesStep, PassesSignals, WasSent}
-use Rattle.gba_agreement.specs.UnitView.{HasUnit, UnitView, ends_in}
-use Rattle.gba_agreement.specs.Agreement.{ReachesEnd}
-use Rattle.gba_agreement.proofs.Course.{Course, HasPlace, IsAlike, IsOn, IsWiredTo, alike-all_written, alike-silent, alike-then, is_on-running, on-alike, place-alike, taken-on}
-use Rattle.gba_agreement.proofs.Ends.{EndsWith, IsSilent, ends-once, hear-is, until_end, until_end-append, until_end-early, until_end-on, until_end-place}
-use Rattle.gba_agreement.proofs.Lists.{all-after, all-here, pairs-after, pairs-before, pairs-rest}
+use Rattle.link_moments.specs.Law.{HasSteps, MakesStep, PassesSignals}
+use Rattle.gba_agreement.specs.UnitView.{HasUnit, UnitView}
+use Rattle.gba_agreement.proofs.Course.{Course, HasPlace, IsAlike, IsOn, IsWiredTo, alike-all_written, alike-silent, alike-then, is_on-running, on-alike, taken-on}
+use Rattle.gba_agreement.proofs.Ends.{IsSilent, hear-is, until_end, until_end-append, until_end-early, until_end-on, until_end-place}
+use Rattle.gba_agreement.proofs.Lists.{all-after, pairs-after, pairs-before}
 
 -- of player j's signals each arrives by a clock, or not before the end
 abbrev pub IsPast : ℕ → ℕ → ℕ → Incoming → Type 0
@@ -90,7 +86,6 @@ pub record Given {C : Type 0} (kind : NodeKind C) (view : UnitView C) (cut : Cut
 
 module _ {C : Type 0} {kind : NodeKind C} {view : UnitView C} {cut : Cut C} {until : ℕ}
     (given : Given kind view cut until) where
-
   -- a step on the course, before the end
   pub record GoesOn (c : Course) (x : C) (dues : List Incoming) : Type 0 where
     pub on : view.is_on (kind.next x dues).0 ≡ true

@@ -11,3 +11,4 @@ pub mod Entering
 pub mod Words
 pub mod MultiAgreement
 pub mod NormalAgreement
+pub mod Agreeing

@@ -1,6 +1,6 @@
 -- Lists in order, around one of their elements.
 use Rattle.std.specs.Prelude.{All, AllPairs}
-use Rattle.std.proofs.Common.{◌≡◌, ◌⊎◌, ◌<◌, List, [], ◌∷◌, ◌++◌, refl, sym, ap, subst, ◌∙◌, inl, inr, arith}
+use Rattle.std.proofs.Common.{◌≡◌, List, [], ◌∷◌, ◌++◌, sym, ap, subst, inl, inr, arith}
 use Rattle.link_node.specs.Due.{InOrder, Precedes}
 use Rattle.link_node.specs.declared.signal.Incoming.{Incoming}
 use Rattle.link_order.proofs.Lists.{all_cons, all_head, all_nil, all_tail, pairs_head, pairs_tail}

@@ -1,5 +1,5 @@
 -- What is recorded of a transfer whose words have come.
-use Rattle.std.proofs.Common.{ℕ, zero, suc, ◌≡◌, ◌-◌, ◌+◌, ◌<◌, ◌≤◌, ◌^◌, Bool, true, false, not, ◌&&◌, ◌||◌, List, [], ◌∷◌, length, Option, None, Some, if◌then◌else◌, refl, ap, sym, subst, ◌∙◌, inl, inr, arith}
+use Rattle.std.proofs.Common.{ℕ, zero, suc, ◌≡◌, ◌-◌, ◌<◌, ◌≤◌, ◌^◌, Bool, true, false, not, ◌&&◌, ◌||◌, List, [], ◌∷◌, length, Some, if◌then◌else◌, refl, ap, sym, subst, ◌∙◌, inl, inr, arith}
 use Rattle.std.specs.Prelude.{nat_le, nat_lt, slice_index}
 use Rattle.std.proofs.lemmas.Bool.{cases_lt}
 use Rattle.std.proofs.lemmas.Bool.Decides.{nat_tests}
@@ -63,6 +63,7 @@ none-missing word run u runs has j four =
           let test : nat_le u.count j ≡ true = grind (arith, nat_tests) in
           ap (λ b. not b && not (was_received run.got j)) test
     ]
+
 any-missing : (word : ℕ → ℕ) (run : Running) (u : SerialUnit) → u.run ≡ Some run → HasWords word u.count u
     → any_missing run.got u.count ≡ false
 any-missing word run u runs has =

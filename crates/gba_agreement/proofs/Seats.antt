@@ -1,10 +1,9 @@
 -- Units know their places all along a trace.
-use Rattle.std.proofs.Common.{ℕ, zero, suc, ◌≡◌, Bool, true, false, List, [], ◌∷◌, refl, ap, sym, subst, ◌∙◌, inl, inr}
+use Rattle.std.proofs.Common.{ℕ, zero, suc, ◌≡◌, List, [], ◌∷◌, ap, sym, subst, ◌∙◌, inl, inr}
 use Rattle.std.proofs.lemmas.Bool.{cases_Bool}
 use Rattle.gba_serial.specs.SerialUnit.{SerialUnit}
 use Rattle.gba_serial.specs.Take.{taken}
 use Rattle.gba_serial.specs.End.{ended}
-use Rattle.gba_serial.specs.Tell.{silent}
 use Rattle.gba_serial.specs.Steps.{HalfwordWrite, all_written, fed, hear}
 use Rattle.gba_serial.specs.Law.{KeepsSeat}
 use Rattle.gba_serial.proofs.Seats.{stays}

@@ -1,6 +1,6 @@
 -- The words of a transfer at its end: the starter's, that of each console that answers, the own one, and no other.
 use Rattle.std.specs.Prelude.{All}
-use Rattle.std.proofs.Common.{ℕ, ◌≡◌, ◌≢◌, ◌+◌, ◌<◌, ◌≤◌, ◌^◌, ◌⊎◌, Bool, true, false, List, [], ◌∷◌, ◌++◌, Some, refl, ap, sym, subst, ◌∙◌, inl, inr, arith}
+use Rattle.std.proofs.Common.{ℕ, ◌≡◌, ◌≢◌, ◌+◌, ◌<◌, ◌≤◌, ◌^◌, ◌⊎◌, Bool, true, false, List, ◌∷◌, ◌++◌, Some, refl, ap, sym, subst, ◌∙◌, inl, inr, arith}
 use Rattle.std.proofs.lemmas.List.Elements.{All-weaker}
 use Rattle.gba_serial.specs.Timing.{cut_word, is_multi, word_width}
 use Rattle.gba_serial.specs.SerialUnit.{SerialUnit}
@@ -8,26 +8,24 @@ use Rattle.gba_serial.specs.Take.{taken}
 use Rattle.gba_serial.specs.Tell.{reply_told}
 use Rattle.link_node.specs.Due.{InOrder, Precedes}
 use Rattle.link_node.specs.declared.signal.Incoming.{Incoming}
-use Rattle.link_node.specs.declared.signal.LinkMode.{LinkMode}
 use Rattle.link_node.specs.declared.signal.Signal.{Signal}
 use Rattle.link_node.specs.declared.signal.Start.{Start}
 use Rattle.link_order.specs.NodeKind.{NodeKind}
 use Rattle.link_order.proofs.Numbers.{same_or_apart}
 use Rattle.link_order.specs.Due.{incoming}
-use Rattle.link_order.specs.Cut.{Cut, IsInTime, clock_at, count, hop, was_at}
+use Rattle.link_order.specs.Cut.{Cut, IsInTime, count, hop}
 use Rattle.link_moments.specs.Law.{IsFromPeer, MakesStep, StandsIn}
 use Rattle.gba_agreement.specs.UnitView.{IsSeated, UnitView}
 use Rattle.gba_agreement.specs.Agreement.{Meets, ReachesEnd}
-use Rattle.gba_agreement.proofs.Course.{Course, HasPlace, IsHeardBy, IsOn, IsWiredTo, place-alike, taken-fills}
+use Rattle.gba_agreement.proofs.Course.{Course, HasPlace, IsHeardBy, IsWiredTo, place-alike, taken-fills}
 use Rattle.gba_agreement.proofs.Ends.{IsSilent, until_end, until_end-place}
 use Rattle.gba_agreement.proofs.Lists.{all-after, pairs-after, pairs-rest, stands-after}
 use Rattle.gba_agreement.proofs.Following.{Enters, Fills, Given, IsPast, both-all, place-fill, silent-after}
-use Rattle.gba_agreement.proofs.Coming.{Comes, at-end, told-past, told-when}
-use Rattle.gba_agreement.proofs.Entering.{Answers, Began, course_of, told-small}
+use Rattle.gba_agreement.proofs.Coming.{at-end, told-past, told-when}
+use Rattle.gba_agreement.proofs.Entering.{Answers, course_of, told-small}
 
 module _ {C : Type 0} {kind : NodeKind C} {view : UnitView C} {cut : Cut C} {until : ℕ}
     (given : Given kind view cut until) (at : IsSeated view cut) (four : count cut ≤ 4) where
-
   -- a place that no signal comes to stays
   pub kept-at-end : (c : Course) (k m : ℕ) (x : C) (ds : List Incoming) → Enters given c k m x ds → (j : ℕ) (got : Bool) (word : ℕ)
       → IsWiredTo c j
@@ -59,7 +57,6 @@ module _ {C : Type 0} {kind : NodeKind C} {view : UnitView C} {cut : Cut C} {unt
   module _ (p n : ℕ) (xp : C) (dp : List Incoming) (s : Signal) (start : Start) (end : ℕ)
       (clock_is : s.clock ≡ kind.clock xp) (sent : ℕ)
       (starter : Enters given (course_of given at four s.mode end true sent p) p n xp dp) where
-
     starter-past : (i l : ℕ) (y : C) (es : List Incoming) → MakesStep kind cut until i l y es
         → All (IsPast end p (s.clock + hop cut p i)) es
     starter-past i l y es step =
@@ -110,7 +107,6 @@ module _ {C : Type 0} {kind : NodeKind C} {view : UnitView C} {cut : Cut C} {unt
     -- the place of a console that answers, on any other one
     module _ (j n' : ℕ) (xj : C) (dj : List Incoming) (wj : ℕ) (a : Answers given at four p j n' end xj dj s start wj)
         (small : wj < 2 ^ word_width s.mode) where
-
       replied : a.signal.clock ≡ kind.clock xj
       replied = told-when given a.signal xj dj a.tells
 
@@ -194,12 +190,16 @@ module _ {C : Type 0} {kind : NodeKind C} {view : UnitView C} {cut : Cut C} {unt
       let begun = (given.steps.sound p n xp dp step).begun in
       let before = in_time i p below step.player (λ e. apart (sym e)) in
       let takes = given.steps.taken_in_time i (s.clock + hop cut p i) below (omega (arith, clock_is, begun, before)) soon in
-      let stands = given.signals.arrives p n i takes.k xp takes.x dp takes.dues s step tells takes.step apart takes.after takes.by_now in
-      (takes.k, takes.x, _, record {
-        dues = takes.dues;
-        earlier = stands.earlier;
-        later = stands.later;
-        step = takes.step;
-        split = stands.split;
-        unit_is = refl;
-      })
+      let stands = given.signals.arrives p n i takes.k xp takes.x dp takes.dues s step tells takes.step apart takes.after takes.by_now in (
+        takes.k,
+        takes.x,
+        _,
+        record {
+          dues = takes.dues;
+          earlier = stands.earlier;
+          later = stands.later;
+          step = takes.step;
+          split = stands.split;
+          unit_is = refl;
+        },
+      )
