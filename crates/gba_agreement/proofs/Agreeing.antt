@@ -23,6 +23,7 @@ given-by : {C : Type 0} (kind : NodeKind C) → IsLawful kind → MakesSteps kin
 given-by kind law steps signals view has cut until linked = record {
   law = law;
   has = has;
+  linked = linked;
   steps = steps cut until linked.cable linked.sound;
   signals = signals cut until linked.cable linked.sound;
 }
@@ -30,11 +31,11 @@ given-by kind law steps signals view has cut until linked = record {
 pub in-multi : {C : Type 0} (kind : NodeKind C) → IsLawful kind → MakesSteps kind → CarriesSignals kind
     → UnitsAgreeInMulti kind
 in-multi kind law steps signals view has cut until k end s start word linked starts mode first end_is ready =
-    agreed-multi (given-by kind law steps signals view has cut until linked) linked (triangle cut) k end s start word starts mode first
+    agreed-multi (given-by kind law steps signals view has cut until linked) (triangle cut) k end s start word starts mode first
     end_is ready
 
 pub in-normal : {C : Type 0} (kind : NodeKind C) → IsLawful kind → MakesSteps kind → CarriesSignals kind
     → UnitsAgreeInNormal kind
 in-normal kind law steps signals view has cut until p q k end m s start x u linked one starts normal end_is met waiting =
-    agreed-normal (given-by kind law steps signals view has cut until linked) linked p q k end m s start x u one starts normal end_is met
+    agreed-normal (given-by kind law steps signals view has cut until linked) p q k end m s start x u one starts normal end_is met
     waiting

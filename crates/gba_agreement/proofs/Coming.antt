@@ -2,7 +2,6 @@
 use Rattle.std.specs.Prelude.{All, IfSome}
 use Rattle.std.proofs.Common.{ℕ, zero, suc, ◌≡◌, ◌+◌, ◌<◌, ◌≤◌, ◌⊎◌, Bool, List, [], ◌∷◌, Option, None, Some, if◌then◌else◌, ap, sym, subst, ◌∙◌, inl, inr, arith}
 use Rattle.std.proofs.lemmas.Bool.{cases_lt}
-use Rattle.gba_serial.specs.SerialUnit.{SerialUnit}
 use Rattle.gba_serial.specs.End.{transfer_of}
 use Rattle.gba_serial.specs.Steps.{ends}
 use Rattle.gba_serial.specs.declared.transfer.Running.{Running}
@@ -16,7 +15,7 @@ use Rattle.gba_agreement.specs.UnitView.{UnitView, ends_in}
 use Rattle.gba_agreement.specs.Agreement.{ReachesEnd}
 use Rattle.gba_agreement.proofs.Course.{Course, HasPlace, IsOn, IsWiredTo, place-alike}
 use Rattle.gba_agreement.proofs.Ends.{IsSilent, ends-once, until_end, until_end-on, until_end-place}
-use Rattle.gba_agreement.proofs.Following.{Enters, Given, both-all, Fills, IsPast, clock-later, entry-or-later, follows, goes-on, place-fill, silent-on, was-before}
+use Rattle.gba_agreement.proofs.Following.{Enters, Fills, Given, IsPast, both-all, clock-later, comes-of, follows, goes-on, moved, place-fill, silent-on}
 
 module _ {C : Type 0} {kind : NodeKind C} {view : UnitView C} {cut : Cut C} {until : ℕ}
     (given : Given kind view cut until) where
@@ -30,34 +29,32 @@ module _ {C : Type 0} {kind : NodeKind C} {view : UnitView C} {cut : Cut C} {unt
   none-some o signal none some = let both : None ≡ Some signal = sym none ∙ some in cc
 
   -- a signal of a console on its course: it is that of its entry or an earlier one, or it comes from the end on
-  sent-past : (c : Course) (j m : ℕ) (x : C) (ds : List Incoming) → Enters given c j m x ds
-      → (delay : ℕ) (signal : Signal) → (signal.clock < clock_at kind cut j) ⊎ IsTold kind cut until j signal
-      → (signal.clock + delay ≤ kind.clock x + delay) ⊎ (c.end ≤ signal.clock + delay)
-  sent-past c j m x ds enters delay signal (inl before) =
-      let begun = (given.steps.sound j m x ds enters.step).begun in inl (omega (arith, before, begun))
-  sent-past c j m x ds enters delay signal (inr told) =
+  sent-past : (c : Course) (j : ℕ) (e : Enters given c j) (delay : ℕ) (signal : Signal)
+      → (signal.clock < clock_at kind cut j) ⊎ IsTold kind cut until j signal
+      → (signal.clock + delay ≤ kind.clock e.x + delay) ⊎ (c.end ≤ signal.clock + delay)
+  sent-past c j e delay signal (inl before) =
+      let begun = (given.steps.sound j e.m e.x e.dues e.step).begun in inl (omega (arith, before, begun))
+  sent-past c j e delay signal (inr told) =
       let when = told-when signal told.x told.dues told.tells in
-      elim (cases_lt (kind.clock x) (kind.clock told.x)) [
+      elim (cases_lt (kind.clock e.x) (kind.clock told.x)) [
         | inl later ↦ elim (cases_lt (kind.clock told.x) c.end) [
           | inl soon ↦ none-some (kind.next told.x told.dues).1 signal
-              (silent-on given c j m x ds enters told.k told.x told.dues told.step later soon)
-              told.tells
+              (silent-on given c j e told.k told.x told.dues told.step later soon) told.tells
           | inr late ↦ inr (omega (arith, when, late))
         ]
         | inr early ↦ inl (omega (arith, when, early))
       ]
 
-  pub told-past : (c : Course) (j m : ℕ) (x : C) (ds : List Incoming) → Enters given c j m x ds
-      → (k l : ℕ) (y : C) (es : List Incoming) → MakesStep kind cut until k l y es
-      → All (IsPast c.end j (kind.clock x + hop cut j k)) es
-  told-past c j m x ds enters k l y es step =
-      both-all (WasSent kind cut until) (IsFromPeer cut k) (IsPast c.end j (kind.clock x + hop cut j k)) es
+  pub told-past : (c : Course) (j : ℕ) (e : Enters given c j) (k l : ℕ) (y : C) (es : List Incoming)
+      → MakesStep kind cut until k l y es → All (IsPast c.end j (kind.clock e.x + hop cut j k)) es
+  told-past c j e k l y es step =
+      both-all (WasSent kind cut until) (IsFromPeer cut k) (IsPast c.end j (kind.clock e.x + hop cut j k)) es
       (λ one sent peer own.
       let delay : hop cut one.sender k ≡ hop cut j k = ap (λ n. hop cut n k) own in
       let arrives = peer.arrives in
       let from_j : (one.signal.clock < clock_at kind cut j) ⊎ IsTold kind cut until j one.signal =
       subst (λ n. (one.signal.clock < clock_at kind cut n) ⊎ IsTold kind cut until n one.signal) own sent in
-      elim (sent-past c j m x ds enters (hop cut j k) one.signal from_j) [
+      elim (sent-past c j e (hop cut j k) one.signal from_j) [
         | inl early ↦ inl (omega (arith, early, arrives, delay))
         | inr late ↦ inr (omega (arith, late, arrives, delay))
       ])
@@ -96,59 +93,52 @@ module _ {C : Type 0} {kind : NodeKind C} {view : UnitView C} {cut : Cut C} {unt
       ]
 
   -- the place of j in the unit before each later step, once the word has come
-  pub places : (c : Course) (k m : ℕ) (x : C) (ds : List Incoming) → Enters given c k m x ds
-      → (j arrival : ℕ) (got : Bool) (word : ℕ) → Comes c k (kind.clock x) j arrival got word
-      → (arrival ≤ kind.clock x → HasPlace c.mode j got word (view.unit (kind.next x ds).0))
-      → (l : ℕ) (y : C) (es : List Incoming) → MakesStep kind cut until k l y es → m < l → kind.was y < c.end
+  places : (c : Course) (k : ℕ) (e : Enters given c k) (j arrival : ℕ) (got : Bool) (word : ℕ)
+      → Comes c k (kind.clock e.x) j arrival got word
+      → (arrival ≤ kind.clock e.x → HasPlace c.mode j got word (view.unit (kind.next e.x e.dues).0))
+      → (l : ℕ) (y : C) (es : List Incoming) → MakesStep kind cut until k l y es → e.m < l → kind.was y < c.end
       → arrival ≤ kind.was y → HasPlace c.mode j got word (view.unit y)
-  places c k m x ds enters j arrival got word comes base zero y es step later before over = absurd (omega (arith, later))
-  places c k m x ds enters j arrival got word comes base (suc l) y es step later before over =
-      let P : SerialUnit → Type 0 = HasPlace c.mode j got word in
-      let from = given.steps.further k l y es step in
-      let moved : kind.was y ≡ kind.clock from.x = ap kind.was from.next_is ∙ given.law.moves from.x from.dues in
-      let early = was-before given c k l from.x y from.dues from.step from.next_is before in
-      elim (entry-or-later given m l later) [
-        | inl same ↦
-            let at_m : MakesStep kind cut until k m from.x from.dues =
-            subst (λ n. MakesStep kind cut until k n from.x from.dues) same from.step in
-            let one = given.steps.one k m from.x x from.dues ds at_m enters.step in
-            let is : y ≡ (kind.next x ds).0 =
-            from.next_is ∙ ap (λ (z : C). (kind.next z from.dues).0) one.0
-            ∙ ap (λ (d : List Incoming). (kind.next x d).0) one.1 in
-            let clocks : kind.clock from.x ≡ kind.clock x = ap kind.clock one.0 in
-            subst (λ (z : C). P (view.unit z)) (sym is) (base (omega (arith, over, moved, clocks)))
+  places c k e j arrival got word comes base zero y es step later before over = absurd (omega (arith, later))
+  places c k e j arrival got word comes base (suc l) y es step later before over =
+      let P : C → Type 0 = λ z. HasPlace c.mode j got word (view.unit z) in
+      let back = given.steps.further k l y es step in
+      let was_is = moved given k l y back in
+      elim (comes-of given c k e l y back later) [
+        | inl is ↦
+            let same : kind.was y ≡ kind.clock e.x = ap kind.was is ∙ given.law.moves e.x e.dues in
+            subst P (sym is) (base (omega (arith, over, same)))
         | inr after ↦
-            let sound = given.steps.sound k l from.x from.dues from.step in
-            let soon : kind.was from.x < c.end = omega (arith, early, sound.rises) in
-            let there = follows given c k m x ds enters l from.x from.dues from.step after soon in
-            let going = goes-on given c k l from.x from.dues from.step there.is_on there.on early in
-            let entry = given.steps.later k m l x from.x ds from.dues enters.step from.step after in
-            let ih = places c k m x ds enters j arrival got word comes base l from.x from.dues from.step after soon in
-            let filled = place-step c k (kind.clock x) j arrival got word comes l from.x from.dues from.step entry there.on ih
-            (omega (arith, over, moved)) in
-            subst (λ (z : C). P (view.unit z)) (sym from.next_is)
-            (place-alike c.mode j got word (until_end c.end from.dues (view.unit from.x)) (view.unit (kind.next from.x from.dues).0)
-            going.alike filled)
+            let x = back.x in
+            let ds = back.dues in
+            let rises = (given.steps.sound k l x ds back.step).rises in
+            let soon : kind.was x < c.end = omega (arith, before, was_is, rises) in
+            let there = follows given c k e l x ds back.step after soon in
+            let going = goes-on given c k l x ds back.step there.is_on there.on (omega (arith, before, was_is)) in
+            let entry = given.steps.later k e.m l e.x x e.dues ds e.step back.step after in
+            let ih = places c k e j arrival got word comes base l x ds back.step after soon in
+            let filled = place-step c k (kind.clock e.x) j arrival got word comes l x ds back.step entry there.on ih
+            (omega (arith, over, was_is)) in
+            subst P (sym back.next_is)
+            (place-alike c.mode j got word (until_end c.end ds (view.unit x)) (view.unit (kind.next x ds).0) going.alike filled)
       ]
 
   -- the step that reaches the end: the unit is on the course, the words have come, and the transfer is recorded
-  reaches-later : (c : Course) (k m : ℕ) (x : C) (ds : List Incoming) → Enters given c k m x ds
-      → (l : ℕ) (y : C) (es : List Incoming) → ReachesEnd kind cut until k l c.end y es → m < l
-  reaches-later c k m x ds enters l y es reaches =
-      clock-later given k m l x y ds es enters.step reaches.step
-      (omega (arith, enters.before, reaches.by_now))
+  reaches-later : (c : Course) (k : ℕ) (e : Enters given c k) (l : ℕ) (y : C) (es : List Incoming)
+      → ReachesEnd kind cut until k l c.end y es → e.m < l
+  reaches-later c k e l y es reaches =
+      clock-later given k e.m l e.x y e.dues es e.step reaches.step (omega (arith, e.before, reaches.by_now))
 
-  pub at-end : (c : Course) (k m : ℕ) (x : C) (ds : List Incoming) → Enters given c k m x ds
-      → (j arrival : ℕ) (got : Bool) (word : ℕ) → Comes c k (kind.clock x) j arrival got word
-      → (arrival ≤ kind.clock x → HasPlace c.mode j got word (view.unit (kind.next x ds).0))
+  pub at-end : (c : Course) (k : ℕ) (e : Enters given c k) (j arrival : ℕ) (got : Bool) (word : ℕ)
+      → Comes c k (kind.clock e.x) j arrival got word
+      → (arrival ≤ kind.clock e.x → HasPlace c.mode j got word (view.unit (kind.next e.x e.dues).0))
       → (l : ℕ) (y : C) (es : List Incoming) → ReachesEnd kind cut until k l c.end y es
       → HasPlace c.mode j got word (until_end c.end es (view.unit y))
-  at-end c k m x ds enters j arrival got word comes base l y es reaches =
-      let later = reaches-later c k m x ds enters l y es reaches in
-      let there = follows given c k m x ds enters l y es reaches.step later reaches.before in
-      place-step c k (kind.clock x) j arrival got word comes l y es reaches.step
-      (given.steps.later k m l x y ds es enters.step reaches.step later) there.on
-      (places c k m x ds enters j arrival got word comes base l y es reaches.step later reaches.before)
+  at-end c k e j arrival got word comes base l y es reaches =
+      let later = reaches-later c k e l y es reaches in
+      let there = follows given c k e l y es reaches.step later reaches.before in
+      place-step c k (kind.clock e.x) j arrival got word comes l y es reaches.step
+      (given.steps.later k e.m l e.x y e.dues es e.step reaches.step later) there.on
+      (places c k e j arrival got word comes base l y es reaches.step later reaches.before)
       (omega (arith, comes.early, reaches.by_now))
 
   pub record RecordsAt (c : Course) (y : C) (es : List Incoming) : Type 0 where
@@ -157,12 +147,11 @@ module _ {C : Type 0} {kind : NodeKind C} {view : UnitView C} {cut : Cut C} {unt
     pub runs : (until_end c.end es (view.unit y)).run ≡ Some run
     pub only : ends_in kind view y es ≡ transfer_of run (until_end c.end es (view.unit y)) ∷ []
 
-  pub records-at : (c : Course) (k m : ℕ) (x : C) (ds : List Incoming)
-      → Enters given c k m x ds
-      → (l : ℕ) (y : C) (es : List Incoming) → ReachesEnd kind cut until k l c.end y es → RecordsAt c y es
-  records-at c k m x ds enters l y es reaches =
-      let later = reaches-later c k m x ds enters l y es reaches in
-      let there = follows given c k m x ds enters l y es reaches.step later reaches.before in
+  pub records-at : (c : Course) (k : ℕ) (e : Enters given c k) (l : ℕ) (y : C) (es : List Incoming)
+      → ReachesEnd kind cut until k l c.end y es → RecordsAt c y es
+  records-at c k e l y es reaches =
+      let later = reaches-later c k e l y es reaches in
+      let there = follows given c k e l y es reaches.step later reaches.before in
       let sound = given.steps.sound k l y es reaches.step in
       let ends_so = ends-once c (kind.was y) (kind.clock y) es (view.unit y) there.on reaches.by_now sound.short sound.due in
       record {
