@@ -17,11 +17,11 @@ use Rattle.link_order.specs.Cut.{Cut, count, hop, IsSound, IsInTime, IsCable}
 use Rattle.link_moments.specs.Law.{MakesStep}
 use Rattle.gba_agreement.specs.UnitView.{HasUnit, IsSeated, UnitView, ends_in}
 
--- this project's profile: linked consoles agree on a transfer. The laws hold of every record, also of consoles that no
--- console comes to
+-- this project's profile: linked consoles agree on a transfer. The laws hold of every record, also of one that no console
+-- comes to
 
--- a cut from which the laws speak: a sound one in time, whose units know their places. Consoles that start with nothing
--- sent are one
+-- a cut from which the laws speak: a sound one in time, whose units know their places. Consoles at clock 0 with nothing
+-- sent make a sound one in time
 pub record AreLinked {C : Type 0} (kind : NodeKind C) (view : UnitView C) (cut : Cut C) : Type 0 where
   pub cable : IsCable cut
   pub sound : IsSound kind cut
