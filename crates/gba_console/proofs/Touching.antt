@@ -164,7 +164,7 @@ module _ (clock : ℕ) (u : SerialUnit) where
   after-acted file c is = after-acting (next_unit c.devices.channels) file c is
 
 -- before it, the unit hears what is due
-taken-serial : (dues : List Incoming) (b : Board) → (all_taken dues b).core.serial ≡ fed dues b.core.serial
+pub taken-serial : (dues : List Incoming) (b : Board) → (all_taken dues b).core.serial ≡ fed dues b.core.serial
 taken-serial [] b = refl
 taken-serial (due ∷ dues) b = taken-serial dues _
 

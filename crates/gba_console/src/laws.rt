@@ -5,7 +5,7 @@ ghost use Rattle.link_node.specs.declared.signal.Incoming.{Incoming};
 ghost use Rattle.gba_agreement.specs.Agreement.{AgreesMulti, AgreesNormal};
 ghost use Rattle.gba_agreement.specs.UnitView.{HasUnit};
 ghost use Rattle.gba_console.specs.Alone.{RunsAlone, console_kind};
-ghost use Rattle.gba_console.specs.Linked.{console_view};
+ghost use Rattle.gba_console.specs.Linked.{RecordsEnds, StartsLinked, console_view};
 ghost use Rattle.gba_console.specs.Machine.{Machine};
 ghost use Rattle.gba_console.specs.Passing.{ActsPass};
 ghost use Rattle.gba_console.specs.Run.{IsEnough, Reaches, StepPasses};
@@ -67,6 +67,18 @@ pub fn has_unit()
 {
     board_passes();
 }
+
+/// What the laws on transfers call recorded in a step is what the console counts, and keeps where it is asked for.
+pub fn records_ends()
+    ensures { RecordsEnds }
+{
+    board_passes();
+}
+
+/// Consoles at reset, each in its place on a cable and with nothing sent, are a cut from which the laws on transfers speak.
+pub fn starts_linked()
+    ensures { StartsLinked }
+{}
 
 /// Player 0 starts a Multi transfer, and every other console is in Multi and idle when it takes the start: all that reach
 /// the end record the same end, the same four words and no error.
