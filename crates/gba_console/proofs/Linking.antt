@@ -1,8 +1,7 @@
 -- What a console records in a step, and consoles at reset on a cable.
-use Rattle.std.proofs.Common.{ℕ, zero, suc, ◌≡◌, ◌+◌, ◌*◌, ◌<◌, List, [], ◌∷◌, ◌++◌, length, Option, None, Some, refl, ap, sym, subst, ◌∙◌, arith, get_or}
+use Rattle.std.proofs.Common.{ℕ, ◌≡◌, List, [], ◌∷◌, ◌++◌, length, Option, None, Some, refl, ap, sym, ◌∙◌, arith, get_or}
 use Rattle.std.specs.Prelude.{All, option_to_list, slice_get}
 use Rattle.std.proofs.lemmas.Option.{slice_get-get_or}
-use Rattle.gba_agreement.specs.Agreement.{AreLinked}
 use Rattle.gba_agreement.specs.UnitView.{IsSeat}
 use Rattle.gba_io.specs.Board.{BoardPasses}
 use Rattle.gba_io.specs.Cable.{board_ended, board_taken}
@@ -11,16 +10,15 @@ use Rattle.gba_io.specs.declared.board.Board.{Board}
 use Rattle.gba_serial.specs.SerialUnit.{SerialUnit}
 use Rattle.gba_serial.specs.End.{ended, ending}
 use Rattle.gba_serial.specs.Take.{taken}
-use Rattle.gba_serial.specs.Tell.{silent}
 use Rattle.gba_serial.specs.Steps.{ends, fed, fed_ends}
 use Rattle.gba_serial.specs.declared.transfer.Transfer.{Transfer}
 use Rattle.link_node.specs.declared.signal.Incoming.{Incoming}
-use Rattle.link_order.specs.Cut.{Cut, Delays, IsCable, IsFresh, hop, opening}
+use Rattle.link_order.specs.Cut.{IsFresh, opening}
 use Rattle.link_order.proofs.Hops.{hop_is}
 use Rattle.link_order.proofs.Starts.{in_time_start, sound_start}
 use Rattle.gba_console.specs.Alone.{console_kind}
 use Rattle.gba_console.specs.Linked.{IsAtReset, RecordsEnds, StartsLinked, all_ended, console_view}
-use Rattle.gba_console.specs.Machine.{Machine, clock_of, reset, without_limit}
+use Rattle.gba_console.specs.Machine.{Machine, clock_of}
 use Rattle.gba_console.specs.Step.{all_taken, board_begun, done_in, heard, stepped}
 use Rattle.gba_console.proofs.Touching.{taken-serial}
 

@@ -1,11 +1,11 @@
 -- What a step does to the serial unit: it hears what is due, is written some times, and tells.
 use Rattle.std.proofs.Common.{ℕ, ◌≡◌, ◌-◌, ◌+◌, ◌*◌, ◌%◌, ◌^◌, Bool, true, false, List, [], ◌∷◌, Option, None, Some, refl, ap, sym, subst, ◌∙◌, if◌then◌else◌}
-use Rattle.std.specs.Prelude.{◌==◌, not, ◌&&◌}
+use Rattle.std.specs.Prelude.{◌==◌}
 use Rattle.gba_terms.specs.Bits.{field}
 use Rattle.gba_bus.specs.Regions.{region_of}
 use Rattle.gba_bus.specs.declared.width.Width.{Width}
 use Rattle.gba_bus.specs.declared.width.Width.TheVariants.{Byte, Half, Word}
-use Rattle.gba_devices.specs.Registers.{io_stored, merged}
+use Rattle.gba_devices.specs.Registers.{merged}
 use Rattle.gba_devices.proofs.Keeping.{writes-keep}
 use Rattle.gba_dma.specs.Channels.{next_unit}
 use Rattle.gba_dma.specs.declared.unit.Unit.{Unit as DmaUnit}
@@ -23,7 +23,7 @@ use Rattle.gba_io.specs.declared.board.Board.{Board}
 use Rattle.gba_io.proofs.Keeping.{unit-keeps-clock, writes-keep-time}
 use Rattle.gba_serial.specs.SerialUnit.{SerialUnit}
 use Rattle.gba_serial.specs.Registers.{serial_kept}
-use Rattle.gba_serial.specs.Tell.{outgoing, silent}
+use Rattle.gba_serial.specs.Tell.{silent}
 use Rattle.gba_serial.specs.End.{ended}
 use Rattle.gba_serial.specs.Write.{written}
 use Rattle.gba_serial.specs.Steps.{HalfwordWrite, all_written, fed, hear}
@@ -32,7 +32,7 @@ use Rattle.gba_agreement.specs.UnitView.{HasUnit, Touches}
 use Rattle.gba_console.specs.Alone.{console_kind}
 use Rattle.gba_console.specs.Linked.{console_view}
 use Rattle.gba_console.specs.Machine.{Machine, clock_of}
-use Rattle.gba_console.specs.Step.{acted, acted_for, all_taken, awake_done, board_begun, done_in, enters, entry_done, half_done, heard, idle_done, idles, in_thumb, instruction_done, prepared, stepped, told, undisturbed_done, unit_done, word_done}
+use Rattle.gba_console.specs.Step.{acted, acted_for, all_taken, awake_done, board_begun, done_in, enters, entry_done, half_done, heard, idle_done, idles, in_thumb, instruction_done, prepared, stepped, told, word_done}
 use Rattle.gba_console.specs.StepLaws.{keys-serial, prepared-clock}
 
 -- a core with this clock, whose serial unit is u after some writes at that clock

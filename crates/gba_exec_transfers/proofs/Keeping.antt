@@ -1,4 +1,4 @@
-use Rattle.std.proofs.Common.{◌≡◌, ℕ, Bool, true, false, not, List, [], ◌∷◌, ◌+◌, ◌%◌, ◌^◌, ◌&&◌, if◌then◌else◌}
+use Rattle.std.proofs.Common.{ℕ, Bool, true, false, not, List, [], ◌∷◌, ◌+◌, ◌%◌, ◌^◌, ◌&&◌, if◌then◌else◌}
 use Rattle.std.specs.Prelude.{Option, Some, None}
 use Rattle.gba_terms.specs.Bits.{bit}
 use Rattle.gba_arm_table.specs.declared.operation.ArmOp.{ArmOp}

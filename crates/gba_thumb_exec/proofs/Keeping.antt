@@ -1,4 +1,4 @@
-use Rattle.std.proofs.Common.{◌≡◌, ℕ, Bool, true, false, List, if◌then◌else◌}
+use Rattle.std.proofs.Common.{ℕ, Bool, true, false, List, if◌then◌else◌}
 use Rattle.std.specs.Prelude.{Option, Some, None}
 use Rattle.gba_arm_table.specs.Numbers.{condition_of}
 use Rattle.gba_arm_table.specs.declared.operation.ArmOp.{ArmOp}
