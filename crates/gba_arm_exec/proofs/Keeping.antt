@@ -1,4 +1,4 @@
-use Rattle.std.proofs.Common.{◌≡◌, ℕ, Bool, true, false, List, if◌then◌else◌}
+use Rattle.std.proofs.Common.{ℕ, Bool, true, false, List, if◌then◌else◌}
 use Rattle.gba_terms.specs.Bits.{field}
 use Rattle.gba_arm_table.specs.Numbers.{condition_of}
 use Rattle.gba_arm_table.specs.Table.{operation}
@@ -13,14 +13,14 @@ use Rattle.gba_arm_exec.specs.Execution.{execution, site_of, with_next}
 
 -- What words keep of a bus, where operations keep it.
 
-module _ {State : Type 0} (price : Price State) (load : Load State) (store : Store State) (test : State → Bool) where
-  either-kept : (choice : Bool) (one other : Done State) → test one.bus ≡ true → test other.bus ≡ true
-      → test (if choice then one else other).bus ≡ true
+module _ {State : Type 0} (price : Price State) (load : Load State) (store : Store State) (P : State → Type 0) where
+  either-kept : (choice : Bool) (one other : Done State) → P one.bus → P other.bus
+      → P (if choice then one else other).bus
   either-kept true one other here there = here
   either-kept false one other here there = there
 
-  pub kept-execution : OperationsKeep price load store test → (word : ℕ) (file : List ℕ) (bus : State)
-      → test bus ≡ true → test (execution price load store word file bus).bus ≡ true
+  pub kept-execution : OperationsKeep price load store P → (word : ℕ) (file : List ℕ) (bus : State)
+      → P bus → P (execution price load store word file bus).bus
   unfolding execution
   kept-execution kept word file bus holds-now =
       let site = site_of file in

@@ -3,7 +3,7 @@
 ghost use Rattle.std.specs.Prelude.{◌≡◌, ℕ, Bool, List, true};
 ghost use Rattle.gba_arm_exec.specs.Execution.{execution};
 ghost use Rattle.gba_exec_transfers.specs.Done.{IsStepLength};
-ghost use Rattle.gba_exec_transfers.specs.Keeping.{LoadsKeep, StoresKeep};
+ghost use Rattle.gba_exec_transfers.specs.Keeping.{LoadsKeep, Passing, StoresKeep};
 
 use gba_bus::Bus;
 use gba_exec_transfers::laws::{cycles_of_an_operation, operations_keep};
@@ -18,7 +18,7 @@ pub fn cycles_of_a_word<B: Bus>()
 
 /// What every read and every write of data keeps of a bus, every word keeps.
 pub fn words_keep<B: Bus>()
-    ensures { (test : B.State → Bool) → LoadsKeep B.load_of test → StoresKeep B.store_of test →
+    ensures { (test : B.State → Bool) → LoadsKeep B.load_of (Passing test) → StoresKeep B.store_of (Passing test) →
         (word : ℕ) (file : List ℕ) (bus : B.State) → test bus ≡ true →
         test (execution B.code_price_of B.load_of B.store_of word file bus).bus ≡ true }
 {

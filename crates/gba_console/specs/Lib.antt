@@ -1,5 +1,6 @@
 pub mod Alone
 pub mod Keys
+pub mod Linked
 pub mod Machine
 pub mod NodeLaws
 pub mod Passing

@@ -5,6 +5,7 @@ use Rattle.gba_arm_exec.proofs.Lengths.{execution_length as word_execution_lengt
 use Rattle.gba_devices.proofs.Keeping.{writes-keep}
 use Rattle.gba_devices.proofs.Passing.{cycle-keeps}
 use Rattle.gba_exec_transfers.proofs.Keeping.{kept-word}
+use Rattle.gba_exec_transfers.specs.Keeping.{Passing}
 use Rattle.gba_exec_transfers.proofs.Lengths.{word_length}
 use Rattle.gba_io.proofs.Cycling.{passes}
 use Rattle.gba_io.proofs.Ending.{writes-keep-ends}
@@ -38,13 +39,13 @@ halves =
 
 words-keep : KeepsTests execution_of_word
 words-keep test loads stores =
-    kept-word_execution core_price core_load core_store test
-    (kept-word core_price core_load core_store test loads stores)
+    kept-word_execution core_price core_load core_store (Passing test)
+    (kept-word core_price core_load core_store (Passing test) loads stores)
 
 halves-keep : KeepsTests execution_of_half
 halves-keep test loads stores =
-    kept-half_execution core_price core_load core_store test loads
-    (kept-word core_price core_load core_store test loads stores)
+    kept-half_execution core_price core_load core_store (Passing test) loads
+    (kept-word core_price core_load core_store (Passing test) loads stores)
 
 acts : ActsPass
 acts =

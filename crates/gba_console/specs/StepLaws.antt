@@ -7,7 +7,7 @@ use Rattle.gba_dma.specs.declared.unit.Unit.{Unit as DmaUnit}
 use Rattle.gba_devices.specs.State.{after_dma_unit}
 use Rattle.gba_exec_registers.specs.Access.{code_width}
 use Rattle.gba_exec_transfers.specs.Done.{Done, IsStepLength}
-use Rattle.gba_exec_transfers.specs.Keeping.{LoadsKeep, StoresKeep}
+use Rattle.gba_exec_transfers.specs.Keeping.{LoadsKeep, Passing, StoresKeep}
 use Rattle.gba_io.specs.Board.{BoardPasses}
 use Rattle.gba_io.specs.Core.{Core, core_keyed, core_woken}
 use Rattle.gba_io.specs.Units.{core_after_unit, start_cycles, unit_ended, unit_stored, unit_value}
@@ -84,7 +84,7 @@ TakesSteps execution = (one : ℕ) (file : List ℕ) (b : Core) → IsStepLength
 
 abbrev pub KeepsTests : (ℕ → List ℕ → Core → Done Core) → Type 0
 KeepsTests execution =
-    (test : Core → Bool) → LoadsKeep core_load test → StoresKeep core_store test
+    (test : Core → Bool) → LoadsKeep core_load (Passing test) → StoresKeep core_store (Passing test)
     → (one : ℕ) (file : List ℕ) (b : Core) → test b ≡ true → test (execution one file b).bus ≡ true
 
 -- the test that a board has this clock
@@ -98,12 +98,12 @@ clock-is : (clock : ℕ) (b : Core) → b.devices.clock ≡ clock → has_clock 
 clock-is clock b same = grind (arith, nat_tests)
 
 module _ (writes : WritesKeepTime) where
-  stores-keep : (clock : ℕ) → StoresKeep core_store (has_clock clock)
+  stores-keep : (clock : ℕ) → StoresKeep core_store (Passing (has_clock clock))
   stores-keep clock b address width value sequential test =
       clock-is clock (core_store b address width value sequential).after
       ((writes b address width value).clock ∙ is-clock clock b test)
 
-  loads-keep : (clock : ℕ) → LoadsKeep core_load (has_clock clock)
+  loads-keep : (clock : ℕ) → LoadsKeep core_load (Passing (has_clock clock))
   loads-keep clock b from address width sequential test = test
 
   kept-clock : (execution : ℕ → List ℕ → Core → Done Core) → KeepsTests execution
@@ -156,12 +156,12 @@ place-is p b same =
     (by-equal q.dot p.dot (ap (λ (r : Position). r.dot) same))
 
 module _ (writes : WritesKeepTime) where
-  stores-stay : (p : Position) → StoresKeep core_store (has_place p)
+  stores-stay : (p : Position) → StoresKeep core_store (Passing (has_place p))
   stores-stay p b address width value sequential test =
       place-is p (core_store b address width value sequential).after
       ((writes b address width value).place ∙ is-place p b test)
 
-  loads-stay : (p : Position) → LoadsKeep core_load (has_place p)
+  loads-stay : (p : Position) → LoadsKeep core_load (Passing (has_place p))
   loads-stay p b from address width sequential test = test
 
   kept-place : (execution : ℕ → List ℕ → Core → Done Core) → KeepsTests execution
@@ -206,7 +206,7 @@ by-goes clock bound b goes =
     (by-most 1 b.serial.count goes.seat) (by-most bound (next_end b.serial) goes.next))
 
 module _ (writes : WritesKeepTime) (ends : WritesKeepEnds) where
-  stores-go : (clock bound : ℕ) → bound ≤ clock + 512 → StoresKeep core_store (goes_on clock bound)
+  stores-go : (clock bound : ℕ) → bound ≤ clock + 512 → StoresKeep core_store (Passing (goes_on clock bound))
   stores-go clock bound soon b address width value sequential test =
       let goes = goes-by clock bound b test in
       by-goes clock bound (core_written b address width value) (record {
@@ -215,7 +215,7 @@ module _ (writes : WritesKeepTime) (ends : WritesKeepEnds) where
         next = ends.next bound b address width value goes.seat (omega (arith, goes.same)) goes.next;
       })
 
-  loads-go : (clock bound : ℕ) → LoadsKeep core_load (goes_on clock bound)
+  loads-go : (clock bound : ℕ) → LoadsKeep core_load (Passing (goes_on clock bound))
   loads-go clock bound b from address width sequential test = test
 
   going : (execution : ℕ → List ℕ → Core → Done Core) → KeepsTests execution → (one : ℕ) (file : List ℕ) (b : Core)

@@ -2,11 +2,16 @@
 
 ghost use Rattle.std.specs.Prelude.{List};
 ghost use Rattle.link_node.specs.declared.signal.Incoming.{Incoming};
-ghost use Rattle.gba_console.specs.Alone.{RunsAlone};
+ghost use Rattle.gba_agreement.specs.Agreement.{AgreesMulti, AgreesNormal};
+ghost use Rattle.gba_agreement.specs.UnitView.{HasUnit};
+ghost use Rattle.gba_console.specs.Alone.{RunsAlone, console_kind};
+ghost use Rattle.gba_console.specs.Linked.{RecordsEnds, StartsLinked, console_view};
 ghost use Rattle.gba_console.specs.Machine.{Machine};
 ghost use Rattle.gba_console.specs.Passing.{ActsPass};
 ghost use Rattle.gba_console.specs.Run.{IsEnough, Reaches, StepPasses};
 
+use crate::Console;
+use gba_agreement::{multi as units_agree_in_multi, normal as units_agree_in_normal};
 use gba_arm_exec::laws::{cycles_of_a_word, words_keep};
 use gba_io::Core;
 use gba_io::laws::{board_passes, writes_keep_ends, writes_keep_time};
@@ -53,4 +58,41 @@ pub fn runs_alone()
     ensures { RunsAlone }
 {
     enough();
+}
+
+/// Each step does to the serial unit what the laws on transfers ask of it: the unit hears what is due, is written some
+/// times, and tells.
+pub fn has_unit()
+    ensures { HasUnit console_kind console_view }
+{
+    board_passes();
+}
+
+/// What the laws on transfers call recorded in a step is what the console counts, and keeps where it is asked for.
+pub fn records_ends()
+    ensures { RecordsEnds }
+{
+    board_passes();
+}
+
+/// Consoles at reset, each in its place on a cable and with nothing sent, are a cut from which the laws on transfers speak.
+pub fn starts_linked()
+    ensures { StartsLinked }
+{}
+
+/// Player 0 starts a Multi transfer, and every other console is in Multi and idle when it takes the start: all that reach
+/// the end record the same end, the same four words and no error.
+pub fn multi()
+    ensures { AgreesMulti console_kind console_view }
+{
+    has_unit();
+    units_agree_in_multi::<Console>();
+}
+
+/// Player 0 or 1 starts a Normal transfer that the other one answers: both record the same end, and each the other's word.
+pub fn normal()
+    ensures { AgreesNormal console_kind console_view }
+{
+    has_unit();
+    units_agree_in_normal::<Console>();
 }

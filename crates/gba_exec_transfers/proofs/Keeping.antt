@@ -1,4 +1,4 @@
-use Rattle.std.proofs.Common.{◌≡◌, ℕ, Bool, true, false, not, List, [], ◌∷◌, ◌+◌, ◌%◌, ◌^◌, ◌&&◌, if◌then◌else◌}
+use Rattle.std.proofs.Common.{ℕ, Bool, true, false, not, List, [], ◌∷◌, ◌+◌, ◌%◌, ◌^◌, ◌&&◌, if◌then◌else◌}
 use Rattle.std.specs.Prelude.{Option, Some, None}
 use Rattle.gba_terms.specs.Bits.{bit}
 use Rattle.gba_arm_table.specs.declared.operation.ArmOp.{ArmOp}
@@ -24,10 +24,10 @@ use Rattle.gba_exec_transfers.specs.declared.units.SingleTransfer.{SingleTransfe
 -- What operations keep of a bus, where each read and each write keeps it.
 
 module _ {State : Type 0} (price : Price State) (load : Load State) (store : Store State)
-    (test : State → Bool) (loads_keep : LoadsKeep load test) (stores_keep : StoresKeep store test) where
+    (P : State → Type 0) (loads_keep : LoadsKeep load P) (stores_keep : StoresKeep store P) where
   kept-loads : (user : Bool) (site : Site) (numbers : List ℕ) (address : ℕ) (sequential : Bool) (done : Done State)
-      → test done.bus ≡ true
-      → test (loads price load store user site numbers address sequential done).bus ≡ true
+      → P done.bus
+      → P (loads price load store user site numbers address sequential done).bus
   unfolding loads
   kept-loads user site [] address sequential done holds = holds
   kept-loads user site (number ∷ rest) address sequential done holds =
@@ -40,8 +40,8 @@ module _ {State : Type 0} (price : Price State) (load : Load State) (store : Sto
       (loads_keep done.bus site.address address Word sequential holds)
 
   kept-stores : (user : Bool) (site : Site) (write : Bool) (rn base : ℕ) (numbers : List ℕ) (address : ℕ)
-      (sequential : Bool) (done : Done State) → test done.bus ≡ true
-      → test (stores price load store user site write rn base numbers address sequential done).bus ≡ true
+      (sequential : Bool) (done : Done State) → P done.bus
+      → P (stores price load store user site write rn base numbers address sequential done).bus
   unfolding stores
   kept-stores user site write rn base [] address sequential done holds = holds
   kept-stores user site write rn base (number ∷ rest) address sequential done holds =
@@ -54,30 +54,30 @@ module _ {State : Type 0} (price : Price State) (load : Load State) (store : Sto
       })
       (stores_keep done.bus address Word value sequential holds)
 
-  kept-unit-load : (kind : LoadUnit) (site : Site) (address : ℕ) (bus : State) → test bus ≡ true
-      → test (unit_load price load store kind site address bus).after ≡ true
+  kept-unit-load : (kind : LoadUnit) (site : Site) (address : ℕ) (bus : State) → P bus
+      → P (unit_load price load store kind site address bus).after
   unfolding unit_load
   kept-unit-load kind site address bus holds =
       loads_keep bus site.address (aligned (unit_width kind address) address) (unit_width kind address) false holds
 
-  kept-unit-store : (kind : Width) (address value : ℕ) (bus : State) → test bus ≡ true
-      → test (unit_store price load store kind address value bus).after ≡ true
+  kept-unit-store : (kind : Width) (address value : ℕ) (bus : State) → P bus
+      → P (unit_store price load store kind address value bus).after
   unfolding unit_store
   kept-unit-store kind address value bus holds = stores_keep bus (aligned kind address) kind value false holds
 
-  kept-load : (kind : LoadUnit) (one : SingleTransfer) (site : Site) (file : List ℕ) (bus : State) → test bus ≡ true
-      → test (after_load price load store kind one site file bus).bus ≡ true
+  kept-load : (kind : LoadUnit) (one : SingleTransfer) (site : Site) (file : List ℕ) (bus : State) → P bus
+      → P (after_load price load store kind one site file bus).bus
   unfolding after_load
   kept-load kind one site file bus holds = kept-unit-load kind site (transfer_address one site file) bus holds
 
-  kept-store : (kind : Width) (one : SingleTransfer) (site : Site) (file : List ℕ) (bus : State) → test bus ≡ true
-      → test (after_store price load store kind one site file bus).bus ≡ true
+  kept-store : (kind : Width) (one : SingleTransfer) (site : Site) (file : List ℕ) (bus : State) → P bus
+      → P (after_store price load store kind one site file bus).bus
   unfolding after_store
   kept-store kind one site file bus holds =
       kept-unit-store kind (transfer_address one site file) (operand_register file (late_counter site) one.rd) bus holds
 
-  kept-swap : (byte : Bool) (rn rd rm : ℕ) (site : Site) (file : List ℕ) (bus : State) → test bus ≡ true
-      → test (after_swap price load store byte rn rd rm site file bus).bus ≡ true
+  kept-swap : (byte : Bool) (rn rd rm : ℕ) (site : Site) (file : List ℕ) (bus : State) → P bus
+      → P (after_swap price load store byte rn rd rm site file bus).bus
   unfolding after_swap
   kept-swap byte rn rd rm site file bus holds =
       let address = operand_register file (counter site) rn in
@@ -86,8 +86,8 @@ module _ {State : Type 0} (price : Price State) (load : Load State) (store : Sto
       (unit_load price load store kind site address bus).after
       (kept-unit-load kind site address bus holds)
 
-  kept-load-block : (block : BlockTransfer) (site : Site) (file : List ℕ) (bus : State) → test bus ≡ true
-      → test (after_load_block price load store block site file bus).bus ≡ true
+  kept-load-block : (block : BlockTransfer) (site : Site) (file : List ℕ) (bus : State) → P bus
+      → P (after_load_block price load store block site file bus).bus
   unfolding after_load_block
   kept-load-block block site file bus holds =
       let counter_loaded = bit (full_list block.list) 15 in
@@ -102,8 +102,8 @@ module _ {State : Type 0} (price : Price State) (load : Load State) (store : Sto
       })
       holds
 
-  kept-store-block : (block : BlockTransfer) (site : Site) (file : List ℕ) (bus : State) → test bus ≡ true
-      → test (after_store_block price load store block site file bus).bus ≡ true
+  kept-store-block : (block : BlockTransfer) (site : Site) (file : List ℕ) (bus : State) → P bus
+      → P (after_store_block price load store block site file bus).bus
   unfolding after_store_block
   kept-store-block block site file bus holds =
       let base = operand_register file (counter site) block.rn in
@@ -112,8 +112,8 @@ module _ {State : Type 0} (price : Price State) (load : Load State) (store : Sto
       (record { registers = file; bus = bus; cycles = code_cost price bus site false })
       holds
 
-  kept-effect : (one : ArmOp) (site : Site) (file : List ℕ) (bus : State) → test bus ≡ true
-      → test (effect price load store one site file bus).bus ≡ true
+  kept-effect : (one : ArmOp) (site : Site) (file : List ℕ) (bus : State) → P bus
+      → P (effect price load store one site file bus).bus
   unfolding effect
   kept-effect (op.Exchange cond rm) site file bus holds = holds
   kept-effect (op.Multiply cond accumulate set rd rn rs rm) site file bus holds = holds
@@ -154,8 +154,8 @@ module _ {State : Type 0} (price : Price State) (load : Load State) (store : Sto
   kept-effect (op.Branch cond link offset) site file bus holds = holds
   kept-effect (op.Interrupt cond comment) site file bus holds = holds
 
-  pub kept-word : (one : Option ArmOp) (site : Site) (file : List ℕ) (bus : State) → test bus ≡ true
-      → test (effect_of_word price load store one site file bus).bus ≡ true
+  pub kept-word : (one : Option ArmOp) (site : Site) (file : List ℕ) (bus : State) → P bus
+      → P (effect_of_word price load store one site file bus).bus
   unfolding effect_of_word
   kept-word None site file bus holds = holds
   kept-word (Some one) site file bus holds = kept-effect one site file bus holds

@@ -8,7 +8,7 @@ ghost use Rattle.gba_exec_transfers.specs.Accesses.{HoldsWords, Rises, after_loa
 ghost use Rattle.gba_exec_transfers.specs.Blocks.{loads, registers_in, stores};
 ghost use Rattle.gba_exec_transfers.specs.Done.{Done, IsStepLength};
 ghost use Rattle.gba_exec_transfers.specs.Effects.{effect_of_word};
-ghost use Rattle.gba_exec_transfers.specs.Keeping.{LoadsKeep, OperationsKeep, StoresKeep};
+ghost use Rattle.gba_exec_transfers.specs.Keeping.{LoadsKeep, OperationsKeep, Passing, StoresKeep};
 ghost use Rattle.gba_exec_transfers.specs.Singles.{unit_load};
 ghost use Rattle.gba_exec_transfers.specs.declared.units.LoadUnit.TheVariants.{Byte};
 
@@ -53,6 +53,6 @@ pub fn stores_in_order<B: Bus>()
 
 /// What every read and every write of data keeps of a bus, every operation keeps, and so does the Undefined trap.
 pub fn operations_keep<B: Bus>()
-    ensures { (test : B.State → Bool) → LoadsKeep B.load_of test → StoresKeep B.store_of test →
-        OperationsKeep B.code_price_of B.load_of B.store_of test }
+    ensures { (test : B.State → Bool) → LoadsKeep B.load_of (Passing test) → StoresKeep B.store_of (Passing test) →
+        OperationsKeep B.code_price_of B.load_of B.store_of (Passing test) }
 {}

@@ -134,7 +134,7 @@ not_answered due start u running =
     let before = is_proper_start due start u && ends_later due start u in
     ap (λ can. before && can) (cannot_answer due u running) ∙ and-false before
 
-start-is : (due : Incoming) (start : Option Start) (u : SerialUnit) → is_running u ≡ true → with_start due start u ≡ u
+pub start-is : (due : Incoming) (start : Option Start) (u : SerialUnit) → is_running u ≡ true → with_start due start u ≡ u
 unfolding with_start
 start-is due None u running = refl
 start-is due (Some start) u running = rw (not_answered due start u running) refl

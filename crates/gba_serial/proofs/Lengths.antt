@@ -10,12 +10,12 @@ either-least : (test : Bool) (one other : ℕ) → 145 ≤ one → 145 ≤ other
 either-least true one other a b = a
 either-least false one other a b = b
 
-multi_bit_cycles-least : (speed : ℕ) → 145 ≤ multi_bit_cycles speed
+pub multi_bit_cycles-least : (speed : ℕ) → 145 ≤ multi_bit_cycles speed
 multi_bit_cycles-least speed =
     either-least (nat_eq speed 0) 1747 _ (omega arith)
     (either-least (nat_eq speed 1) 436 _ (omega arith) (either-least (nat_eq speed 2) 291 145 (omega arith) (omega arith)))
 
-product-least : (count cycles : ℕ) → 145 ≤ cycles → 2610 * count ≤ 18 * count * cycles
+pub product-least : (count cycles : ℕ) → 145 ≤ cycles → 2610 * count ≤ 18 * count * cycles
 product-least count cycles h = grind arith
 
 multi-in_time : (count speed clock hop : ℕ) → 2 ≤ count → hop ≤ 1024 → clock + hop + 512 ≤ multi_end count speed clock

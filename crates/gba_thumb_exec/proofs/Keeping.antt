@@ -1,4 +1,4 @@
-use Rattle.std.proofs.Common.{◌≡◌, ℕ, Bool, true, false, List, if◌then◌else◌}
+use Rattle.std.proofs.Common.{ℕ, Bool, true, false, List, if◌then◌else◌}
 use Rattle.std.specs.Prelude.{Option, Some, None}
 use Rattle.gba_arm_table.specs.Numbers.{condition_of}
 use Rattle.gba_arm_table.specs.declared.operation.ArmOp.{ArmOp}
@@ -23,44 +23,44 @@ use Rattle.gba_word.specs.Extension.{sign_extension}
 
 -- What halfwords keep of a bus, where ARM operations and reads keep it.
 
-module _ {State : Type 0} (price : Price State) (load : Load State) (store : Store State) (test : State → Bool)
-    (loads_keep : LoadsKeep load test) (kept : OperationsKeep price load store test) where
-  kept-arm : (one : ArmOp) (site : Site) (file : List ℕ) (bus : State) → test bus ≡ true
-      → test (effect price load store one site file bus).bus ≡ true
+module _ {State : Type 0} (price : Price State) (load : Load State) (store : Store State) (P : State → Type 0)
+    (loads_keep : LoadsKeep load P) (kept : OperationsKeep price load store P) where
+  kept-arm : (one : ArmOp) (site : Site) (file : List ℕ) (bus : State) → P bus
+      → P (effect price load store one site file bus).bus
   unfolding effect_of_word
   kept-arm one site file bus held = kept (Some one) site file bus held
 
-  kept-near : (rd words : ℕ) (site : Site) (file : List ℕ) (bus : State) → test bus ≡ true
-      → test (after_near_load price load store rd words site file bus).bus ≡ true
+  kept-near : (rd words : ℕ) (site : Site) (file : List ℕ) (bus : State) → P bus
+      → P (after_near_load price load store rd words site file bus).bus
   unfolding after_near_load unit_load
   kept-near rd words site file bus held =
       loads_keep bus site.address (aligned Word (near_address words site)) Word false held
 
-  kept-address : (p : Bool) (rd n8 : ℕ) (site : Site) (file : List ℕ) (bus : State) → test bus ≡ true
-      → test (after_address price load store p rd n8 site file bus).bus ≡ true
+  kept-address : (p : Bool) (rd n8 : ℕ) (site : Site) (file : List ℕ) (bus : State) → P bus
+      → P (after_address price load store p rd n8 site file bus).bus
   kept-address true rd n8 site file bus held = kept-arm (stack_address rd n8) site file bus held
   kept-address false rd n8 site file bus held = held
 
-  either-kept : (choice : Bool) (one other : Done State) → test one.bus ≡ true → test other.bus ≡ true
-      → test (if choice then one else other).bus ≡ true
+  either-kept : (choice : Bool) (one other : Done State) → P one.bus → P other.bus
+      → P (if choice then one else other).bus
   either-kept true one other here there = here
   either-kept false one other here there = there
 
-  kept-condition : (cond n8 : ℕ) (site : Site) (file : List ℕ) (bus : State) → test bus ≡ true
-      → test (conditional_branch price load store cond n8 site file bus).bus ≡ true
+  kept-condition : (cond n8 : ℕ) (site : Site) (file : List ℕ) (bus : State) → P bus
+      → P (conditional_branch price load store cond n8 site file bus).bus
   kept-condition cond n8 site file bus held =
       either-kept (holds (condition_of cond) (flags file))
       (short_branch price load store (sign_extension n8 8) site file bus)
       (internal price load store bus file (code_cost price bus site true))
       held held
 
-  kept-link : (second : Bool) (n11 : ℕ) (site : Site) (file : List ℕ) (bus : State) → test bus ≡ true
-      → test (link_half price load store second n11 site file bus).bus ≡ true
+  kept-link : (second : Bool) (n11 : ℕ) (site : Site) (file : List ℕ) (bus : State) → P bus
+      → P (link_half price load store second n11 site file bus).bus
   kept-link true n11 site file bus held = held
   kept-link false n11 site file bus held = held
 
-  kept-thumb : (one : ThumbOp) (site : Site) (file : List ℕ) (bus : State) → test bus ≡ true
-      → test (thumb_effect price load store one site file bus).bus ≡ true
+  kept-thumb : (one : ThumbOp) (site : Site) (file : List ℕ) (bus : State) → P bus
+      → P (thumb_effect price load store one site file bus).bus
   unfolding thumb_effect
   kept-thumb (op.Format1 op o5 rs rd) site file bus held = kept-arm (shift_by_constant op o5 rs rd) site file bus held
   kept-thumb (op.Format2 i op x3 rs rd) site file bus held = kept-arm (add_or_subtract i op x3 rs rd) site file bus held
@@ -83,13 +83,13 @@ module _ {State : Type 0} (price : Price State) (load : Load State) (store : Sto
   kept-thumb (op.Format18 n11) site file bus held = held
   kept-thumb (op.Format19 second n11) site file bus held = kept-link second n11 site file bus held
 
-  kept-half : (one : Option ThumbOp) (site : Site) (file : List ℕ) (bus : State) → test bus ≡ true
-      → test (effect_of_half price load store one site file bus).bus ≡ true
+  kept-half : (one : Option ThumbOp) (site : Site) (file : List ℕ) (bus : State) → P bus
+      → P (effect_of_half price load store one site file bus).bus
   unfolding effect_of_half
   kept-half None site file bus held = kept None site file bus held
   kept-half (Some one) site file bus held = kept-thumb one site file bus held
 
-  pub kept-execution : (half : ℕ) (file : List ℕ) (bus : State) → test bus ≡ true
-      → test (execution price load store half file bus).bus ≡ true
+  pub kept-execution : (half : ℕ) (file : List ℕ) (bus : State) → P bus
+      → P (execution price load store half file bus).bus
   unfolding execution
   kept-execution half file bus held = kept-half (operation half) (site_of file) (with_next file) bus held

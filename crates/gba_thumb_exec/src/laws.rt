@@ -2,7 +2,7 @@
 
 ghost use Rattle.std.specs.Prelude.{◌≡◌, ℕ, Bool, List, Option, true};
 ghost use Rattle.gba_exec_transfers.specs.Done.{IsStepLength};
-ghost use Rattle.gba_exec_transfers.specs.Keeping.{LoadsKeep, StoresKeep};
+ghost use Rattle.gba_exec_transfers.specs.Keeping.{LoadsKeep, Passing, StoresKeep};
 ghost use Rattle.gba_exec_registers.specs.declared.site.Site.{Site};
 ghost use Rattle.gba_thumb_exec.specs.Effects.{effect_of_half};
 ghost use Rattle.gba_thumb_exec.specs.Execution.{execution};
@@ -25,7 +25,7 @@ pub fn cycles_of_a_halfword<B: Bus>()
 
 /// What every read and every write of data keeps of a bus, every halfword keeps.
 pub fn halfwords_keep<B: Bus>()
-    ensures { (test : B.State → Bool) → LoadsKeep B.load_of test → StoresKeep B.store_of test →
+    ensures { (test : B.State → Bool) → LoadsKeep B.load_of (Passing test) → StoresKeep B.store_of (Passing test) →
         (half : ℕ) (file : List ℕ) (bus : B.State) → test bus ≡ true →
         test (execution B.code_price_of B.load_of B.store_of half file bus).bus ≡ true }
 {

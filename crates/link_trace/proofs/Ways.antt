@@ -50,17 +50,17 @@ moves_count kind cut (p ∷ ps) i =
     ]
 
 -- a step of console i at this cut: after it come these others, and it is the move that stands in its place
-record StandsAt {C : Type 0} (kind : NodeKind C) (until i : ℕ) (start now next end : Cut C) (move : Option Move) : Type
+pub record StandsAt {C : Type 0} (kind : NodeKind C) (until i : ℕ) (start now next end : Cut C) (move : Option Move) : Type
     0
   where
-    rest : List ℕ
-    leads : Leads kind until now (i ∷ rest)
-    sound : IsSound kind now
-    count_is : count now ≡ count start
-    delay_is : now.delay ≡ start.delay
-    next_is : next ≡ moment kind (step_of kind now i) rest i zero
-    end_is : after_turns kind now (i ∷ rest) ≡ end
-    move_is : move ≡ Some (move_of kind now i)
+    pub rest : List ℕ
+    pub leads : Leads kind until now (i ∷ rest)
+    pub sound : IsSound kind now
+    pub count_is : count now ≡ count start
+    pub delay_is : now.delay ≡ start.delay
+    pub next_is : next ≡ moment kind (step_of kind now i) rest i zero
+    pub end_is : after_turns kind now (i ∷ rest) ≡ end
+    pub move_is : move ≡ Some (move_of kind now i)
 
 stands_move : {C : Type 0} (kind : NodeKind C) (until i : ℕ) (start now now' next next' end end' : Cut C)
     (move move' : Option Move) → now ≡ now' → next ≡ next' → end ≡ end' → move ≡ move'
@@ -85,7 +85,7 @@ stands_from kind until i start other now next end move counts delays h = record 
   move_is = h.move_is;
 }
 
-stands : {C : Type 0} (kind : NodeKind C) → IsLawful kind → (until : ℕ) (ps : List ℕ) (cut : Cut C) (i k : ℕ)
+pub stands : {C : Type 0} (kind : NodeKind C) → IsLawful kind → (until : ℕ) (ps : List ℕ) (cut : Cut C) (i k : ℕ)
     → Leads kind until cut ps → IsSound kind cut → k < count_of i ps
     → StandsAt kind until i cut (moment kind cut ps i k) (moment kind cut ps i (suc k)) (after_turns kind cut ps)
     (slice_get (moves_of kind cut ps i) k)

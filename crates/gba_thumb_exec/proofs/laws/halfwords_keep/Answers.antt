@@ -1,8 +1,9 @@
+use Rattle.gba_exec_transfers.specs.Keeping.{Passing}
 use Rattle.gba_thumb_exec.proofs.Keeping.{kept-execution}
 use Rattle.gba_thumb_exec.proofs.laws.halfwords_keep.Goals as goal
 
 pub returns : goal.returns
 returns g c =
     λ test loads stores.
-    kept-execution g.B.Bus.code_price_of g.B.Bus.load_of g.B.Bus.store_of test loads
+    kept-execution g.B.Bus.code_price_of g.B.Bus.load_of g.B.Bus.store_of (Passing test) loads
     (c.operations_keep.ensures test loads stores)

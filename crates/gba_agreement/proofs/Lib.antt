@@ -1,0 +1,14 @@
+pub mod Course
+pub mod Ends
+pub mod Starting
+pub mod Answering
+pub mod Recording
+pub mod Lists
+pub mod Seats
+pub mod Following
+pub mod Coming
+pub mod Entering
+pub mod Words
+pub mod MultiAgreement
+pub mod NormalAgreement
+pub mod Agreeing

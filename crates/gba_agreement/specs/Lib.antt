@@ -1,0 +1,2 @@
+pub mod UnitView
+pub mod Agreement
