@@ -1,11 +1,11 @@
 use Rattle.std.proofs.Common.{Option, Err, subst}
 use Rattle.gba_command.specs.Cause.{Words, Refused}
 use Rattle.gba_command.specs.Reading.{Gives, GoesTo}
+use Rattle.gba_command.specs.Words.{Command}
 use Rattle.gba_command.specs.Writing.{Run}
 use Rattle.gba_command.proofs.Plans.{goes-refused}
 use Rattle.gba_link.specs.CommandPlan.{command_plan}
-use Rattle.gba_link.specs.Words.{Command}
-use Rattle.gba_link.proofs.run.run_words.Goals as goal
+use Rattle.gba_link.proofs.commands.do_words.Goals as goal
 
 pub returns-in-None : goal.returns-in-None
 returns-in-None g c =
