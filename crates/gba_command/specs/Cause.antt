@@ -1,5 +1,7 @@
 use Rattle.std.specs.Prelude.{ℕ, List, ◌++◌, codes, decimal}
 use Rattle.hex.specs.Hex.{encode_lower}
+use Rattle.gba_asm_words.specs.Kinds.{kind_name as asm_kind_name}
+use Rattle.gba_asm_words.specs.declared.kinds.AsmError.{AsmError}
 use Rattle.gba_image.specs.Names.{error_name}
 use Rattle.gba_image.specs.declared.error.ImageError.{ImageError}
 use Rattle.gba_joblog.specs.Kinds.{kind_name}
@@ -15,12 +17,15 @@ pub data Cause : Type 0 where
   Image : List ℕ → ImageError → Cause
   -- the digest that the job states of the file of this name, and that of the file, which is another
   Digest : List ℕ → List ℕ → List ℕ → Cause
+  -- the source of this name isn't of the assembly language: the first refused line, and its kind
+  Source : List ℕ → AsmError → Cause
 
 abbrev pub status_of : Cause → ℕ
 status_of Words = 2
 status_of (Job name error) = 5
 status_of (Image name error) = 6
 status_of (Digest name stated got) = 7
+status_of (Source name error) = 8
 
 -- the line that is reported on standard output
 abbrev pub report_of : Cause → List ℕ
@@ -30,6 +35,9 @@ report_of (Job name error) =
     codes "job " ++ name ++ codes " line " ++ decimal error.line ++ codes " " ++ kind_name error.kind ++ codes "\n"
 report_of (Digest name stated got) =
     codes "digest " ++ name ++ codes " stated " ++ encode_lower stated ++ codes " got " ++ encode_lower got
+    ++ codes "\n"
+report_of (Source name error) =
+    codes "source " ++ name ++ codes " line " ++ decimal error.line ++ codes " " ++ asm_kind_name error.kind
     ++ codes "\n"
 
 -- why a command stops before anything is written: refused for a cause, the named file isn't there, the store failed in

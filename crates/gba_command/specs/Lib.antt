@@ -1,3 +1,4 @@
+pub mod Words
 pub mod Cause
 pub mod Plan
 pub mod Reading

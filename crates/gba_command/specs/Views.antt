@@ -8,16 +8,39 @@ use Rattle.gba_command.specs.declared.writing.WriteStop.{WriteStop}
 use Rattle.gba_command.specs.declared.writing.WriteStop.TheVariants as writing
 use Rattle.gba_command.specs.declared.outputs.OutputFile.{OutputFile}
 use Rattle.gba_command.specs.declared.outputs.Outputs.{Outputs}
-use Rattle.gba_command.specs.Cause.{Cause, Words, Job, Image, Digest, Stop, Refused, Absent, StoreFails, LacksMemory}
+use Rattle.gba_command.specs.Cause.{Cause, Words, Job, Image, Digest, Source, Stop, Refused, Absent, StoreFails, LacksMemory}
+use Rattle.gba_command.specs.Words.{Command, RunJob, Assemble, ListArm, ListThumb, Generate, RunWords, FileWords, GenerateWords}
 use Rattle.gba_command.specs.Writing.{Output, Run, WriteEnd, Wrote, SinkFails, SinkLacks}
+use Rattle.gba_command.specs.declared.words.Command.{Command as CommandText}
+use Rattle.gba_command.specs.declared.words.Command.TheVariants as command
+use Rattle.gba_command.specs.declared.words.FileWords.{FileWords as FileText}
+use Rattle.gba_command.specs.declared.words.GenerateWords.{GenerateWords as GenerateText}
+use Rattle.gba_command.specs.declared.words.RunWords.{RunWords as RunText}
 
 -- what the program's types stand for
+
+abbrev pub run_words_value : RunText → RunWords
+run_words_value words = record { job = words.job.now; out = words.out.now }
+
+abbrev pub file_words_value : FileText → FileWords
+file_words_value words = record { from = words.from.now; to = words.to.now }
+
+abbrev pub generate_words_value : GenerateText → GenerateWords
+generate_words_value words = record { number = words.number; cycles = words.cycles; out = words.out.now }
+
+abbrev pub command_value : CommandText → Command
+command_value (command.RunJob words) = RunJob (run_words_value words)
+command_value (command.Assemble words) = Assemble (file_words_value words)
+command_value (command.ListArm words) = ListArm (file_words_value words)
+command_value (command.ListThumb words) = ListThumb (file_words_value words)
+command_value (command.Generate words) = Generate (generate_words_value words)
 
 abbrev pub cause_value : CauseText → Cause
 cause_value cause.Words = Words
 cause_value (cause.Job name error) = Job name.items error
 cause_value (cause.Image name error) = Image name.items error
 cause_value (cause.Digest name stated got) = Digest name.items stated got
+cause_value (cause.Source name error) = Source name.items error
 
 abbrev pub stop_value : Refusal → Stop
 stop_value (refusal.Refused of) = Refused (cause_value of)

@@ -2,11 +2,13 @@
 
 ghost use Rattle.std.specs.Prelude.{◌≡◌, ◌≤◌, ◌++◌, codes, decimal, length};
 ghost use Rattle.hex.specs.Hex.{encode_lower};
+ghost use Rattle.gba_asm_words.specs.Kinds.{kind_name as asm_kind_name};
 ghost use Rattle.gba_image.specs.Names.{error_name};
 ghost use Rattle.gba_joblog.specs.Kinds.{kind_name};
 
 use crate::line::{Line, add_text, line_of};
 use crate::refusal::{Name, line_about};
+use gba_asm_words::{AsmError, AsmKind};
 use gba_image::ImageError;
 use gba_joblog::{JobError, JobKind, digits_of};
 use itoa::Buffer;
@@ -26,6 +28,8 @@ pub enum Cause {
         stated: [u8; 32],
         got: [u8; 32],
     },
+    /// The source of this name isn't of the assembly language: 8.
+    Source(Name, AsmError),
 }
 
 #[tactic(auto, using(crate::proofs::KindNames::kind_name_short))]
@@ -44,6 +48,14 @@ fn error_text(error: ImageError) -> &'static [u8]
     error.name().as_bytes()
 }
 
+#[tactic(auto, using(crate::proofs::KindNames::asm_kind_name_short))]
+fn asm_kind_text(kind: AsmKind) -> &'static [u8]
+    ensures text { result.now ≡ asm_kind_name kind }
+    ensures short { length result.now ≤ 8 }
+{
+    kind.name().as_bytes()
+}
+
 fn image_line(name: &Name, error: ImageError) -> Line
     ensures { result.items ≡ codes "image " ++ name.now.items ++ codes " " ++ error_name error ++ codes "\n" }
 {
@@ -53,16 +65,18 @@ fn image_line(name: &Name, error: ImageError) -> Line
     line
 }
 
-fn job_line(name: &Name, error: &JobError) -> Line
+/// A file's first refused line, and the name of its kind.
+fn refused_line(before: &[u8], name: &Name, number: u64, kind: &[u8]) -> Line
+    requires before { length before.now ≤ 8 }
+    requires kind { length kind.now ≤ 8 }
     ensures { result.items
-        ≡ codes "job " ++ name.now.items ++ codes " line " ++ decimal error.now.line ++ codes " "
-        ++ kind_name error.now.kind ++ codes "\n" }
+        ≡ before.now ++ name.now.items ++ codes " line " ++ decimal number ++ codes " " ++ kind.now ++ codes "\n" }
 {
     let mut buffer = Buffer::new();
-    let mut line = line_about(b"job ", name, b" line ");
-    add_text(&mut line, buffer.format(error.line).as_bytes());
+    let mut line = line_about(before, name, b" line ");
+    add_text(&mut line, buffer.format(number).as_bytes());
     add_text(&mut line, b" ");
-    add_text(&mut line, kind_text(error.kind));
+    add_text(&mut line, kind);
     add_text(&mut line, b"\n");
     line
 }
@@ -94,6 +108,7 @@ impl Cause {
             Cause::Job(..) => 5,
             Cause::Image(..) => 6,
             Cause::Digest { .. } => 7,
+            Cause::Source(..) => 8,
         }
     }
 
@@ -103,9 +118,20 @@ impl Cause {
     {
         match self {
             Cause::Words => line_of(b"words\n"),
-            Cause::Job(name, error) => job_line(name, error),
+            Cause::Job(name, error) => refused_line(
+                b"job ",
+                name,
+                error.line,
+                kind_text(error.kind),
+            ),
             Cause::Image(name, error) => image_line(name, *error),
             Cause::Digest { name, stated, got } => digest_line(name, stated, got),
+            Cause::Source(name, error) => refused_line(
+                b"source ",
+                name,
+                error.line,
+                asm_kind_text(error.kind),
+            ),
         }
     }
 }

@@ -1,6 +1,6 @@
 #![tactic(auto)]
 //! A command as one plan of reads and one list of calls of the sink: what is read, in which order, with each cause of a
-//! refusal; how the reads ended; what is written; and what is answered. It knows no console.
+//! refusal; how the reads ended; what is written; and what is answered; and the words of the commands. It knows no console.
 
 mod answering;
 mod cause;
@@ -10,6 +10,7 @@ mod line;
 mod outputs;
 mod reading;
 mod refusal;
+mod words;
 mod writing;
 
 pub use answering::answer;
@@ -18,3 +19,4 @@ pub use line::{Line, add_text};
 pub use outputs::{OutputFile, Outputs};
 pub use reading::read_file;
 pub use refusal::{Name, Refusal, name_in_report};
+pub use words::{Command, FileWords, GenerateWords, RunWords, command_of};

@@ -1,6 +1,6 @@
 //! The reads of a command.
 
-ghost use Rattle.std.specs.Prelude.{◌+◌, ◌^◌, ◌≤◌, ◌<◌, length};
+ghost use Rattle.std.specs.Prelude.{◌+◌, ◌^◌, ◌≤◌, ◌<◌, IfOk, length};
 ghost use Rattle.gba_command.specs.Plan.{file};
 ghost use Rattle.gba_command.specs.Reading.{Gives, GoesTo};
 ghost use Rattle.gba_command.specs.Views.{bytes_value, cause_value, end_of};
@@ -24,6 +24,7 @@ pub fn read_file<S: Store>(
     requires bounded { most + 1 < 2 ^ 64 }
     ensures goes { GoesTo (Gives S.Tells S.files S.Reads S.absences S.faults) (file name.now most (cause_value long))
         store.old store.new (end_of bytes_value result) }
+    ensures short { IfOk result (λ bytes. length bytes.items ≤ most) }
 {
     match store.read(alloc, name, most + 1) {
         Ok(bytes) if bytes.len() as u64 > most => Err(Refusal::Refused(long)),

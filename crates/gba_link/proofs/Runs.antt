@@ -6,7 +6,7 @@ use Rattle.gba_image.specs.declared.images.ConsoleImages.{ConsoleImages}
 use Rattle.gba_inputs.specs.Views.{images_of, inputs_value}
 use Rattle.gba_inputs.specs.declared.inputs.Inputs.{Inputs}
 use Rattle.gba_joblog.specs.Job.{WholeJob}
-use Rattle.gba_link.specs.CommandPlan.{images_in}
+use Rattle.gba_link.specs.RunPlan.{images_in}
 use Rattle.gba_output.specs.StateFile.{summary_line}
 use Rattle.gba_session.specs.Files.{all_files}
 use Rattle.gba_session.specs.Session.{Consoles, finished, prepared}

@@ -1,5 +1,5 @@
 -- A run of the log writes the same bytes.
-use Rattle.std.proofs.Common.{◌≡◌, ◌≤◌, ℕ, ◌+◌, ◌∙◌, false, List, [], ◌∷◌, ◌++◌, length, map, nat_lt, Option, Some, None, Result, Ok, Err, refl, sym, ap, subst, arith}
+use Rattle.std.proofs.Common.{◌≡◌, ◌≤◌, ℕ, ◌∙◌, false, List, [], ◌∷◌, ◌++◌, length, map, nat_lt, Option, Some, None, Result, Ok, Err, refl, sym, ap, subst, arith}
 use Rattle.std.specs.List.{AllZip}
 use Rattle.std.specs.Prelude.{IfOk}
 use Rattle.std.proofs.lemmas.Bool.Decides.{nat_tests}
@@ -8,6 +8,7 @@ use Rattle.std.proofs.lemmas.List.Elements.{length_all_zip}
 use Rattle.gba_command.proofs.Comes.{file-ok, file-reads, outcome-done, outcome-parts, outcome-then}
 use Rattle.gba_command.specs.Cause.{Cause}
 use Rattle.gba_command.specs.Plan.{Done, file, outcome}
+use Rattle.gba_command.specs.Words.{RunWords}
 use Rattle.gba_command.specs.Writing.{Output, Run}
 use Rattle.gba_console.specs.Machine.{Machine}
 use Rattle.gba_inputs.proofs.Replay.{judged-ok, ok-judged, replayed}
@@ -29,8 +30,7 @@ use Rattle.gba_joblog.specs.declared.job.OutLine.{OutLine}
 use Rattle.gba_joblog.specs.declared.kinds.JobError.{JobError}
 use Rattle.gba_joblog.specs.declared.kinds.JobKind.TheVariants.{Long}
 use Rattle.gba_link.specs.AgainLaw.{HasLog, RunsAgain, SaysJob, bytes_of}
-use Rattle.gba_link.specs.CommandPlan.{after_inputs, after_job, command_plan, end_with, files_at, images_in, job_or_refusal, job_plan, job_refusal, result_of_run, run_plan, summary_lines, unless_clash, without_clash, written_at}
-use Rattle.gba_link.specs.Words.{Command}
+use Rattle.gba_link.specs.RunPlan.{after_inputs, after_job, end_with, files_at, images_in, job_or_refusal, job_plan, job_refusal, result_of_run, run_plan, summary_lines, unless_clash, whole_run_plan, without_clash, written_at}
 use Rattle.gba_session.proofs.SameRun.{RunsAlike, asks-alike, end-alike, end-many}
 use Rattle.gba_session.specs.Files.{all_files, asks_of}
 use Rattle.gba_session.specs.Files as session
@@ -43,16 +43,16 @@ use Rattle.gba_written.specs.Outputs.{all_outs, difference_of, outputs_of}
 use Rattle.gba_written.specs.Written.{conclusion, log_line, log_of, logged, written}
 use Rattle.link_order.specs.Cut.{Cut}
 
--- ---- what a command read
+-- ---- what a words read
 
-unclashed : (command : Command) (job found : WholeJob) (clash : Option ℕ) → unless_clash command found clash ≡ Ok job
+unclashed : (words : RunWords) (job found : WholeJob) (clash : Option ℕ) → unless_clash words found clash ≡ Ok job
     → found ≡ job
-unclashed command job found None h = ok-is found job h
-unclashed command job found (Some line) h = absurd cc
+unclashed words job found None h = ok-is found job h
+unclashed words job found (Some line) h = absurd cc
 
-said : (command : Command) (job : WholeJob) (r : Result WholeJob JobError) → without_clash command r ≡ Ok job → r ≡ Ok job
-said command job (Ok found) h = ap (λ j. Ok j) (unclashed command job found (clash_of found command.job command.out) h)
-said command job (Err error) h = absurd cc
+said : (words : RunWords) (job : WholeJob) (r : Result WholeJob JobError) → without_clash words r ≡ Ok job → r ≡ Ok job
+said words job (Ok found) h = ap (λ j. Ok j) (unclashed words job found (clash_of found words.job words.out) h)
+said words job (Err error) h = absurd cc
 
 file-there : (files : Files) (name : List ℕ) (most : ℕ) (long : Cause) (bytes : List ℕ)
     → outcome files (file name most long) ≡ Ok bytes → files name ≡ Some bytes
@@ -68,47 +68,47 @@ file-gives files name most long bytes there short =
     let fits : nat_lt most (length bytes) ≡ false = grind (arith, nat_tests) in
     file-reads name most long (λ bytes. outcome files (Done bytes)) (files name) bytes (record { there = there; short = fits })
 
-record IsDone (files : Files) (command : Command) (run : Run) : Type 0 where
+record IsDone (files : Files) (words : RunWords) (run : Run) : Type 0 where
   job : WholeJob
-  says : SaysJob files command.job job
+  says : SaysJob files words.job job
   inputs : List ConsoleInputs
   passes : outcome files (inputs_plan job.consoles) ≡ Ok inputs
-  is : result_of_run command.out job inputs ≡ run
+  is : result_of_run words.out job inputs ≡ run
 
-done : (files : Files) (command : Command) (run : Run) → outcome files (command_plan (Some command)) ≡ Ok run
-    → IsDone files command run
-done files command run h =
-    let parts = outcome-parts files (job_plan command) (run_plan command) run h in
-    let long = job_refusal command (error_at 0 Long) in
-    let read = outcome-parts files (file command.job longest_job long) (after_job command) parts.0 parts.1 in
-    let ran = outcome-parts files (inputs_plan parts.0.consoles) (after_inputs command parts.0) run parts.2 in
+done : (files : Files) (words : RunWords) (run : Run) → outcome files (whole_run_plan words) ≡ Ok run
+    → IsDone files words run
+done files words run h =
+    let parts = outcome-parts files (job_plan words) (run_plan words) run h in
+    let long = job_refusal words (error_at 0 Long) in
+    let read = outcome-parts files (file words.job longest_job long) (after_job words) parts.0 parts.1 in
+    let ran = outcome-parts files (inputs_plan parts.0.consoles) (after_inputs words parts.0) run parts.2 in
     record {
       job = parts.0;
       says = record {
         bytes = read.0;
-        there = file-there files command.job longest_job long read.0 read.1;
-        says = said command parts.0 (job_of read.0) (judged-ok files (job_or_refusal command read.0) parts.0 read.2);
+        there = file-there files words.job longest_job long read.0 read.1;
+        says = said words parts.0 (job_of read.0) (judged-ok files (job_or_refusal words read.0) parts.0 read.2);
       };
       inputs = ran.0;
       passes = ran.1;
-      is = ok-is (result_of_run command.out parts.0 ran.0) run
-          (sym (outcome-done files (result_of_run command.out parts.0 ran.0)) ∙ ran.2);
+      is = ok-is (result_of_run words.out parts.0 ran.0) run
+          (sym (outcome-done files (result_of_run words.out parts.0 ran.0)) ∙ ran.2);
     }
 
 -- what it comes to
-comes-to : (files : Files) (command : Command) (job : WholeJob) (inputs : List ConsoleInputs) (bytes : List ℕ)
-    → files command.job ≡ Some bytes → length bytes ≤ longest_job → job_of bytes ≡ Ok job
-    → clash_of job command.job command.out ≡ None → outcome files (inputs_plan job.consoles) ≡ Ok inputs
-    → outcome files (command_plan (Some command)) ≡ Ok (result_of_run command.out job inputs)
-comes-to files command job inputs bytes there short says apart passes =
-    let long = job_refusal command (error_at 0 Long) in
-    let judged : job_or_refusal command bytes ≡ Ok job = rw (says, apart) refl in
-    let read = outcome-then files (file command.job longest_job long) (after_job command) bytes (Ok job)
-    (file-gives files command.job longest_job long bytes there short) (ok-judged files (job_or_refusal command bytes) job judged) in
-    let run = result_of_run command.out job inputs in
-    let ran = outcome-then files (inputs_plan job.consoles) (after_inputs command job) inputs (Ok run) passes
+comes-to : (files : Files) (words : RunWords) (job : WholeJob) (inputs : List ConsoleInputs) (bytes : List ℕ)
+    → files words.job ≡ Some bytes → length bytes ≤ longest_job → job_of bytes ≡ Ok job
+    → clash_of job words.job words.out ≡ None → outcome files (inputs_plan job.consoles) ≡ Ok inputs
+    → outcome files (whole_run_plan words) ≡ Ok (result_of_run words.out job inputs)
+comes-to files words job inputs bytes there short says apart passes =
+    let long = job_refusal words (error_at 0 Long) in
+    let judged : job_or_refusal words bytes ≡ Ok job = rw (says, apart) refl in
+    let read = outcome-then files (file words.job longest_job long) (after_job words) bytes (Ok job)
+    (file-gives files words.job longest_job long bytes there short) (ok-judged files (job_or_refusal words bytes) job judged) in
+    let run = result_of_run words.out job inputs in
+    let ran = outcome-then files (inputs_plan job.consoles) (after_inputs words job) inputs (Ok run) passes
     (outcome-done files run) in
-    outcome-then files (job_plan command) (run_plan command) job (Ok run) read ran
+    outcome-then files (job_plan words) (run_plan words) job (Ok run) read ran
 
 -- ---- the log
 
@@ -230,7 +230,7 @@ module _ (job : WholeJob) (inputs : List ConsoleInputs) (is : IsJob job) (read :
         ap (λ (run : Run). run.end) (rerun-is out)
         ∙ written-end out (length whole.consoles) whole later made lines stated-by same-log
 
-pub run-again : (old new : Files) (first again : Command) (run : Run) → outcome old (command_plan (Some first)) ≡ Ok run
+pub run-again : (old new : Files) (first again : RunWords) (run : Run) → outcome old (whole_run_plan first) ≡ Ok run
     → HasLog old new first again run → RunsAgain new first again run
 run-again old new first again run comes has =
     let d = done old first run comes in

@@ -7,19 +7,25 @@ use Rattle.gba_store.specs.declared.outside.ReadError.{ReadError}
 use Rattle.gba_command.specs.Cause.{Cause, Words, Digest, Stop, Refused, LacksMemory}
 use Rattle.gba_command.specs.Plan.{Plan, Done, Refuse, Read, bind, each, judgement}
 use Rattle.gba_command.specs.Reading.{Gives, GoesTo}
+use Rattle.gba_command.specs.Words.{Command, FileWords, RunWords, RunJob, Assemble, ListArm, ListThumb, Generate}
 use Rattle.gba_command.specs.Writing.{Run}
 use Rattle.gba_command.proofs.Plans.{Names, refused-named, refuses-alone}
 use Rattle.gba_image.specs.declared.error.ImageError.{ImageError}
 use Rattle.gba_inputs.specs.Inputs.{ConsoleInputs, DigestedImage, digested}
-use Rattle.gba_inputs.specs.InputsPlan.{ImageForm, accepted, after_bios, after_cart, after_digest, after_keys, after_save, any_cart_plan, any_keys_plan, any_save_plan, bios_file, bios_form, bios_plan, cart_form, cart_plan, compared, compared_with, console_plan, found, image_plan, inputs_plan, key_file_plan, keys_or_fault, keys_or_refusal, save_form, save_plan, unless_fault}
+use Rattle.gba_inputs.specs.InputsPlan.{ImageForm, accepted, after_bios, after_cart, after_digest, after_keys, after_save, any_cart_plan, any_keys_plan, any_save_plan, bios_file, bios_form, bios_plan, cart_form, cart_plan, compared_with, console_plan, found, image_plan, key_file_plan, keys_or_fault, keys_or_refusal, save_form, save_plan, unless_fault}
 use Rattle.gba_joblog.specs.Clash.{clash_of}
 use Rattle.gba_joblog.specs.Job.{ConsoleJob, NamedFile, WholeJob}
 use Rattle.gba_joblog.specs.KeyFile.{keys_of}
 use Rattle.gba_joblog.specs.declared.job.KeyChange.{KeyChange}
 use Rattle.gba_joblog.specs.Language.{job_of}
 use Rattle.gba_joblog.specs.declared.kinds.JobError.{JobError}
-use Rattle.gba_link.specs.CommandPlan.{after_inputs, command_plan, job_or_refusal, run_plan, unless_clash, without_clash}
-use Rattle.gba_link.specs.Words.{Command}
+use Rattle.gba_asm.specs.Assembly.{assembly_of}
+use Rattle.gba_asm_words.specs.declared.kinds.AsmError.{AsmError}
+use Rattle.gba_dis.specs.declared.units.Set.{Set}
+use Rattle.gba_dis.specs.declared.units.Set.TheVariants.{Arm, Thumb}
+use Rattle.gba_link.specs.CommandPlan.{command_plan, plan_of_command}
+use Rattle.gba_link.specs.RunPlan.{after_inputs, job_or_refusal, run_plan, unless_clash, whole_run_plan, without_clash}
+use Rattle.gba_translate.specs.Translation.{assembled, assembly_plan, listing_plan, after_assembly, unless_refused}
 
 abbrev refused_as : (X : Type 0) → Cause → Result X Cause
 refused_as X cause = Err cause
@@ -123,26 +129,51 @@ consoles-apart done (console ∷ consoles) following rest h =
     (λ y k. consoles-apart (done ++ (y ∷ [])) consoles following rest k)
     (names-together (console_plan console) (λ y. each console_plan (done ++ (y ∷ [])) consoles) following h)
 
-run-named : (command : Command) (job : WholeJob) → Names Words (run_plan command job) → ⊥
+run-named : (words : RunWords) (job : WholeJob) → Names Words (run_plan words job) → ⊥
 unfolding Names
-run-named command job h = consoles-apart [] job.consoles (after_inputs command job) (λ inputs none. none) h
+run-named words job h = consoles-apart [] job.consoles (after_inputs words job) (λ inputs none. none) h
 
-judged-named : (command : Command) (result : Result WholeJob Cause) → (result ≡ Err Words → ⊥)
-    → Names Words (bind (judgement result) (run_plan command)) → ⊥
-judged-named command result apart h = judgement-apart result (run_plan command) apart (run-named command) h
+judged-named : (words : RunWords) (result : Result WholeJob Cause) → (result ≡ Err Words → ⊥)
+    → Names Words (bind (judgement result) (run_plan words)) → ⊥
+judged-named words result apart h = judgement-apart result (run_plan words) apart (run-named words) h
 
-unclashing : (command : Command) (job : WholeJob) (clash : Option ℕ) → unless_clash command job clash ≡ Err Words → ⊥
-unclashing command job None h = cc
-unclashing command job (Some line) h = cc
+unclashing : (words : RunWords) (job : WholeJob) (clash : Option ℕ) → unless_clash words job clash ≡ Err Words → ⊥
+unclashing words job None h = cc
+unclashing words job (Some line) h = cc
 
-not-words : (command : Command) (said : Result WholeJob JobError) → without_clash command said ≡ Err Words → ⊥
-not-words command (Ok job) h = unclashing command job (clash_of job command.job command.out) h
-not-words command (Err error) h = cc
+not-words : (words : RunWords) (said : Result WholeJob JobError) → without_clash words said ≡ Err Words → ⊥
+not-words words (Ok job) h = unclashing words job (clash_of job words.job words.out) h
+not-words words (Err error) h = cc
 
-read-named : (command : Command) → Names Words (command_plan (Some command)) → ⊥
+job-named : (words : RunWords) → Names Words (whole_run_plan words) → ⊥
 unfolding Names
-read-named command (inl h) = cc
-read-named command (inr h) = judged-named command (job_or_refusal command h.0) (not-words command (job_of h.0)) h.1
+job-named words (inl h) = cc
+job-named words (inr h) = judged-named words (job_or_refusal words h.0) (not-words words (job_of h.0)) h.1
+
+-- nor does a source or an image
+source-apart : (name : List ℕ) (made : Result (List ℕ) AsmError) → unless_refused name made ≡ Err Words → ⊥
+source-apart name (Ok image) h = cc
+source-apart name (Err error) h = cc
+
+assembly-named : (words : FileWords) → Names Words (assembly_plan words) → ⊥
+unfolding Names
+assembly-named words (inl h) = cc
+assembly-named words (inr h) =
+    judgement-apart (assembled words.from h.0) (after_assembly words) (source-apart words.from (assembly_of h.0))
+    (λ image none. none) h.1
+
+listing-named : (set : Set) (words : FileWords) → Names Words (listing_plan set words) → ⊥
+unfolding Names
+listing-named set words (inl h) = cc
+listing-named set words (inr h) = h.1
+
+read-named : (command : Command) → Names Words (plan_of_command command) → ⊥
+unfolding Names
+read-named (RunJob words) h = job-named words h
+read-named (Assemble words) h = assembly-named words h
+read-named (ListArm words) h = listing-named Arm words h
+read-named (ListThumb words) h = listing-named Thumb words h
+read-named (Generate words) h = h
 
 module _ {Store : Type 0} (Tells : Type 0) (files : Store → Files) (Reads : List ℕ → ℕ → Option ReadError → Store → Store → Type 0)
     (absences faults : Store → ℕ) where

@@ -2,13 +2,13 @@
 use Rattle.std.specs.Prelude.{◌≡◌, ℕ, List, [], ◌∷◌, ◌++◌, map, Some, None, Ok, IfOk}
 use Rattle.std.specs.List.{All}
 use Rattle.gba_command.specs.Plan.{outcome}
+use Rattle.gba_command.specs.Words.{RunWords}
 use Rattle.gba_command.specs.Writing.{Output, Run}
 use Rattle.gba_inputs.specs.Law.{KeepsImages}
 use Rattle.gba_joblog.specs.Clash.{clash_of, log_file}
 use Rattle.gba_joblog.specs.Job.{WholeJob}
 use Rattle.gba_joblog.specs.Language.{job_of}
-use Rattle.gba_link.specs.CommandPlan.{command_plan}
-use Rattle.gba_link.specs.Words.{Command}
+use Rattle.gba_link.specs.RunPlan.{whole_run_plan}
 use Rattle.gba_store.specs.Files.{Files}
 use Rattle.gba_written.specs.Law.{under}
 
@@ -26,7 +26,7 @@ pub record IsLogOf (out : List ℕ) (run : Run) (log : List ℕ) : Type 0 where
 -- New files with which a run can be run again: the log of the run is the file JOB of the new command, the images that
 -- the first job names are as they were, and no file under the new OUT would be an input of the log, or the log. Of the
 -- first job, its key files and all other files nothing is said.
-pub record HasLog (old new : Files) (first again : Command) (run : Run) : Type 0 where
+pub record HasLog (old new : Files) (first again : RunWords) (run : Run) : Type 0 where
   pub log : List ℕ
   pub is_log : IsLogOf first.out run log
   pub there : new again.job ≡ Some log
@@ -40,9 +40,9 @@ bytes_of output = output.bytes
 -- begin with the new OUT where the first ones began with the first OUT. It ends with a summary: the digests that the log
 -- states of the outputs are theirs. Where the first run ended with a summary too, and not with a digest that differs, it
 -- is the same.
-pub record RunsAgain (new : Files) (first again : Command) (run : Run) : Type 0 where
+pub record RunsAgain (new : Files) (first again : RunWords) (run : Run) : Type 0 where
   pub rerun : Run
-  pub comes : outcome new (command_plan (Some again)) ≡ Ok rerun
+  pub comes : outcome new (whole_run_plan again) ≡ Ok rerun
   pub bytes : map bytes_of rerun.outputs ≡ map bytes_of run.outputs
   pub files : List Output
   pub first_names : run.outputs ≡ map (under first.out) files
@@ -54,5 +54,5 @@ pub record RunsAgain (new : Files) (first again : Command) (run : Run) : Type 0 
 -- The log of a run can be run again, and its run writes the same.
 abbrev pub LogsRunAgain : Type 0
 LogsRunAgain =
-    (old new : Files) (first again : Command) (run : Run) → outcome old (command_plan (Some first)) ≡ Ok run
+    (old new : Files) (first again : RunWords) (run : Run) → outcome old (whole_run_plan first) ≡ Ok run
     → HasLog old new first again run → RunsAgain new first again run

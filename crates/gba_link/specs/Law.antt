@@ -3,9 +3,9 @@ use Rattle.gba_store.specs.Files.{Files}
 use Rattle.gba_store.specs.declared.outside.ReadError.{ReadError}
 use Rattle.gba_command.specs.Cause.{Words, Stop, Refused, LacksMemory}
 use Rattle.gba_command.specs.Reading.{Gives, GoesTo}
+use Rattle.gba_command.specs.Words.{command_of}
 use Rattle.gba_command.specs.Writing.{Run}
 use Rattle.gba_link.specs.CommandPlan.{plan_of}
-use Rattle.gba_link.specs.Words.{command_of}
 
 -- Words are refused just where they say no command: then nothing is read, and the end is that refusal or want of
 -- memory.

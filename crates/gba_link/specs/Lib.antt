@@ -1,5 +1,5 @@
-pub mod Words
+pub mod RunPlan
+pub mod GeneratedRun
 pub mod CommandPlan
-pub mod Views
 pub mod Law
 pub mod AgainLaw

@@ -10,11 +10,12 @@ ghost use Rattle.gba_command.specs.Reading.{Gives, GoesTo};
 ghost use Rattle.gba_command.specs.Writing.{Run, sink_state};
 ghost use Rattle.gba_link.specs.CommandPlan.{plan_of};
 
+mod commands;
+mod generation;
 pub mod laws;
 mod run;
-mod words;
 
-use crate::run::run_words;
+use crate::commands::do_words;
 use gba_command::answer;
 use gba_store::{Gate, Sink, Store};
 use std::alloc::Global;
@@ -24,12 +25,14 @@ use std::thread::Threads;
 ///
 /// | Status | Report on `-` | Comes |
 /// |---|---|---|
-/// | 0 | the summary | the run is done and its files are written |
-/// | 2 | `words` | the words aren't `run JOB OUT` |
-/// | 3 | `absent NAME` | JOB, an image or a key file, the next file to read, isn't there |
+/// | 0 | the summary | the command is done and its files are written |
+/// | 2 | `words` | the words are no command |
+/// | 3 | `absent NAME` | JOB, an image, a key file or a source, the next file to read, isn't there |
 /// | 4 | `store NAME` | the store failed in the read of the next file |
 /// | 5 | `job NAME line L KIND` | JOB or a key file isn't of its language, or an output file would be JOB or an input |
-/// | 6 | `image NAME KIND` | the image fails its check; KIND is the first reason |
+/// | 6 | `image NAME KIND` | the image fails its check, or is too long to be listed; KIND is the first reason |
+/// | 7 | `digest NAME stated H got H` | a stated digest isn't that of the file that was read or made |
+/// | 8 | `source NAME line L KIND` | the source isn't of the assembly language, first at this line |
 /// | 9 | `sink NAME` | the sink failed |
 /// | 10 | `memory` | memory was wanting; it may come in place of any other, and hides no absence and no fault |
 ///
@@ -58,5 +61,5 @@ pub fn gba_link<R: Threads + Sync, S: Store, O: Sink, G: Gate + Sync>(
         (sink_state (O.files out.old) (O.faults out.old) (O.wants out.old))
         (sink_state (O.files out.new) (O.faults out.new) (O.wants out.new)) }
 {
-    answer(out, &run_words(alloc, store, words))
+    answer(out, &do_words(alloc, store, words))
 }

@@ -1,18 +1,17 @@
 //! From the words and the files to what a run writes.
 
-ghost use Rattle.std.specs.Prelude.{◌≡◌, ◌≤◌, Some, IfOk, length, map, string_bytes};
+ghost use Rattle.std.specs.Prelude.{◌≡◌, ◌≤◌, IfOk, length, map};
 ghost use Rattle.std.specs.List.{AllZip};
 ghost use Rattle.gba_command.specs.Reading.{Gives, GoesTo};
-ghost use Rattle.gba_command.specs.Views.{Agrees, end_of, run_value};
+ghost use Rattle.gba_command.specs.Views.{Agrees, end_of, run_value, run_words_value};
+ghost use Rattle.gba_command.specs.Words.{AreRunWords};
 ghost use Rattle.gba_inputs.specs.Law.{AreInputs};
 ghost use Rattle.gba_inputs.specs.Views.{images_of, inputs_value};
 ghost use Rattle.gba_joblog.specs.Soundness.{IsJob};
 ghost use Rattle.gba_joblog.specs.Views.{job_value};
-ghost use Rattle.gba_link.specs.CommandPlan.{command_plan, job_or_refusal, plan_of, result_of_run, run_plan};
-ghost use Rattle.gba_link.specs.Views.{command_value};
+ghost use Rattle.gba_link.specs.RunPlan.{job_or_refusal, result_of_run, run_plan, whole_run_plan};
 
-use crate::words::{RunWords, command_of};
-use gba_command::{Cause, Outputs, Refusal, name_in_report, read_file};
+use gba_command::{Cause, Outputs, Refusal, RunWords, name_in_report, read_file};
 use gba_image::ConsoleImages;
 use gba_inputs::{Inputs, fill_job, read_inputs};
 use gba_joblog::{Job, JobError, JobKind, LONGEST_JOB, ParseRefused};
@@ -23,27 +22,27 @@ use gba_written::Room;
 use std::alloc::{AllocError, Global};
 
 /// The job that the bytes say, where no output file is JOB or one of the job's inputs.
-fn accepted_job(alloc: Global, command: &RunWords<'_>, bytes: &[u8]) -> Result<Job, Refusal>
-    requires { length command.now.job.now ≤ 200 }
-    ensures agrees { Agrees job_value (job_or_refusal (command_value command.now) bytes.now) result }
+fn accepted_job(alloc: Global, words: &RunWords<'_>, bytes: &[u8]) -> Result<Job, Refusal>
+    requires { length words.now.job.now ≤ 200 }
+    ensures agrees { Agrees job_value (job_or_refusal (run_words_value words.now) bytes.now) result }
     ensures sound { IfOk result (λ job. IsJob (job_value job)) }
 {
     let job = match Job::parse(alloc, bytes) {
         Ok(job) => job,
         Err(ParseRefused::Job(error)) => return Err(Refusal::Refused(Cause::Job(
-            name_in_report(command.job),
+            name_in_report(words.job),
             error,
         ))),
         Err(ParseRefused::NoMemory) => return Err(Refusal::NoMemory),
     };
-    match job.clash(command.job, command.out) {
+    match job.clash(words.job, words.out) {
         None => Ok(job),
         Some(line) => {
             let error = JobError {
                 line,
                 kind: JobKind::Clash,
             };
-            Err(Refusal::Refused(Cause::Job(name_in_report(command.job), error)))
+            Err(Refusal::Refused(Cause::Job(name_in_report(words.job), error)))
         }
     }
 }
@@ -56,7 +55,7 @@ fn images_from(alloc: Global, inputs: Vec<Inputs>) -> Result<Vec<ConsoleImages>,
 }
 
 /// Runs the consoles of a job with their inputs, and makes what is written. All memory is taken before the first step.
-fn run_inputs(
+pub(crate) fn run_inputs(
     alloc: Global,
     out: &str,
     mut job: Job,
@@ -80,54 +79,39 @@ fn run_inputs(
 fn run_job<S: Store>(
     alloc: Global,
     store: &mut S,
-    command: &RunWords<'_>,
+    words: &RunWords<'_>,
     job: Job,
 ) -> Result<Outputs, Refusal>
-    requires out { length command.now.out.now ≤ 180 }
+    requires out { length words.now.out.now ≤ 180 }
     requires sound { IsJob (job_value job) }
-    ensures { GoesTo (Gives S.Tells S.files S.Reads S.absences S.faults) (run_plan (command_value command.now) (job_value job))
+    ensures { GoesTo (Gives S.Tells S.files S.Reads S.absences S.faults) (run_plan (run_words_value words.now) (job_value job))
         store.old store.new (end_of run_value result) }
 {
     let inputs = read_inputs(alloc, store, job.consoles.as_slice())?;
-    match run_inputs(alloc, command.out, job, inputs) {
+    match run_inputs(alloc, words.out, job, inputs) {
         Ok(outputs) => Ok(outputs),
         Err(_) => Err(Refusal::NoMemory),
     }
 }
 
 /// Reads the job of a command and runs it.
-fn run_command<S: Store>(
+pub(crate) fn run_command<S: Store>(
     alloc: Global,
     store: &mut S,
-    command: &RunWords<'_>,
+    words: &RunWords<'_>,
 ) -> Result<Outputs, Refusal>
-    requires { (length command.now.job.now ≤ 200) × (length command.now.out.now ≤ 180) }
-    ensures { GoesTo (Gives S.Tells S.files S.Reads S.absences S.faults)
-        (command_plan (Some (command_value command.now))) store.old store.new (end_of run_value result) }
+    requires { AreRunWords (run_words_value words.now) }
+    ensures { GoesTo (Gives S.Tells S.files S.Reads S.absences S.faults) (whole_run_plan (run_words_value words.now))
+        store.old store.new (end_of run_value result) }
 {
     let long = Cause::Job(
-        name_in_report(command.job),
+        name_in_report(words.job),
         JobError {
             line: 0,
             kind: JobKind::Long,
         },
     );
-    let bytes = read_file(alloc, store, command.job, LONGEST_JOB as u64, long)?;
-    let job = accepted_job(alloc, command, bytes.as_slice())?;
-    run_job(alloc, store, command, job)
-}
-
-/// What the words say to do, done up to what is to be written.
-pub(crate) fn run_words<S: Store>(
-    alloc: Global,
-    store: &mut S,
-    words: &[String],
-) -> Result<Outputs, Refusal>
-    ensures { GoesTo (Gives S.Tells S.files S.Reads S.absences S.faults) (plan_of (map string_bytes words.now))
-        store.old store.new (end_of run_value result) }
-{
-    match command_of(words) {
-        Some(command) => run_command(alloc, store, &command),
-        None => Err(Refusal::Refused(Cause::Words)),
-    }
+    let bytes = read_file(alloc, store, words.job, LONGEST_JOB as u64, long)?;
+    let job = accepted_job(alloc, words, bytes.as_slice())?;
+    run_job(alloc, store, words, job)
 }

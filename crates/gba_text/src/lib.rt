@@ -13,3 +13,4 @@ mod tests;
 
 pub use cursor::Cursor;
 pub use kinds::{TextError, TextKind};
+pub use numbers::number_in;

@@ -30,9 +30,9 @@ fn are_hex_digits(word: &[u8]) -> bool
     word.iter().all(|byte| byte.is_ascii_hexdigit())
 }
 
-/// The number that a word spells, if it spells one in the range.
+/// The number that a word spells, if it spells one from `least` to `most` with 1 to 20 decimal digits.
 #[tactic(auto, unfolding(crate::specs::Numbers::number_of))]
-pub(crate) fn number_in(word: &[u8], least: u64, most: u64) -> Option<u64>
+pub fn number_in(word: &[u8], least: u64, most: u64) -> Option<u64>
     ensures { result ≡ number_of least most word.now }
 {
     if word.is_empty() || word.len() > MOST_DIGITS || !are_digits(word) {

@@ -7,5 +7,5 @@ use Rattle.gba_link.proofs.gba_link.Goals as goal
 pub returns-clause-complete : goal.returns-clause-complete
 returns-clause-complete g c = λ tells present whole unrisen.
     completes g.S.Store.Tells g.S.Store.files g.S.Store.Reads g.S.Store.absences g.S.Store.faults g.O.Sink.Tells c.answer.result
-    (plan_of (map string_bytes c.args.words.now)) c.args.store.now c.run_words.new.store (end_of run_value c.run_words.result) _ _
-    tells present whole unrisen c.run_words.ensures c.answer.ensures
+    (plan_of (map string_bytes c.args.words.now)) c.args.store.now c.do_words.new.store (end_of run_value c.do_words.result) _ _
+    tells present whole unrisen c.do_words.ensures c.answer.ensures

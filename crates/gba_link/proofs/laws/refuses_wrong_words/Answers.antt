@@ -1,5 +1,5 @@
 use Rattle.gba_link.proofs.WrongWords.{refused-words, wrong-words}
-use Rattle.gba_link.specs.Words.{command_of}
+use Rattle.gba_command.specs.Words.{command_of}
 use Rattle.gba_link.proofs.laws.refuses_wrong_words.Goals as goal
 
 pub returns : goal.returns

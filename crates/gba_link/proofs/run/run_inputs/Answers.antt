@@ -1,16 +1,13 @@
-use Rattle.std.proofs.Common.{◌≡◌, ℕ, List, length, map, ap, sym, ◌∙◌, arith, rules}
-use Rattle.std.specs.List.{flat_map}
+use Rattle.std.proofs.Common.{◌≡◌, ℕ, List, length, map, ap, ◌∙◌, arith, rules}
 use Rattle.std.specs.Vec.{with_items}
 use Rattle.std.proofs.lemmas.List.{length-map, places, with_items_is}
-use Rattle.gba_image.specs.declared.images.ConsoleImages.{ConsoleImages}
 use Rattle.gba_inputs.specs.Filled.{filled}
 use Rattle.gba_inputs.specs.Views.{images_of, inputs_value}
 use Rattle.gba_inputs.specs.declared.inputs.Inputs.{Inputs}
 use Rattle.gba_inputs.proofs.SoundInputs.{filled_consoles-sound, zip-long}
 use Rattle.gba_joblog.specs.Job.{WholeJob}
 use Rattle.gba_joblog.specs.Views.{job_value}
-use Rattle.gba_link.specs.CommandPlan.{images_in}
-use Rattle.gba_output.specs.StateFile.{summary_line}
+use Rattle.gba_link.specs.RunPlan.{images_in}
 use Rattle.gba_session.specs.Files.{Files, all_files, asks_of}
 use Rattle.gba_session.specs.Session.{Consoles, finished}
 use Rattle.gba_session.specs.Views.{files_value}

@@ -6,35 +6,35 @@ use Rattle.gba_command.proofs.Plans.{goes-lacks, goes-stop, goes-then}
 use Rattle.gba_inputs.specs.InputsPlan.{inputs_plan}
 use Rattle.gba_inputs.specs.Views.{inputs_value}
 use Rattle.gba_joblog.specs.Views.{job_value}
-use Rattle.gba_link.specs.CommandPlan.{after_inputs, result_of_run}
-use Rattle.gba_link.specs.Views.{command_value}
+use Rattle.gba_link.specs.RunPlan.{after_inputs, result_of_run}
+use Rattle.gba_command.specs.Views.{run_words_value}
 use Rattle.gba_link.proofs.run.run_job.Goals as goal
 
 pub returns-in_err-inputs : goal.returns-in_err-inputs
 returns-in_err-inputs g c =
     let job = job_value c.args.job in
-    let command = command_value c.args.command.now in
+    let words = run_words_value c.args.words.now in
     let gives = Gives g.S.Store.Tells g.S.Store.files g.S.Store.Reads g.S.Store.absences g.S.Store.faults in
     let p = err_from_is_err_and c.from_residual.result c.from_residual.ensures.1 in
-    rw (p.1, p.2) (goes-stop gives (inputs_plan job.consoles) (after_inputs command job) _ _ _
+    rw (p.1, p.2) (goes-stop gives (inputs_plan job.consoles) (after_inputs words job) _ _ _
     (rw c.as_slice.ensures.value at c.in_err-inputs.ensures.goes))
 
 pub returns-in-Ok : goal.returns-in-Ok
 returns-in-Ok g c =
     let job = job_value c.args.job in
-    let command = command_value c.args.command.now in
+    let words = run_words_value c.args.words.now in
     let inputs = map inputs_value c.in_ok-inputs.inputs.items in
     let gives = Gives g.S.Store.Tells g.S.Store.files g.S.Store.Reads g.S.Store.absences g.S.Store.faults in
-    goes-then gives (inputs_plan job.consoles) (after_inputs command job) _ _ _ inputs _
+    goes-then gives (inputs_plan job.consoles) (after_inputs words job) _ _ _ inputs _
     (rw c.as_slice.ensures.value at c.in_ok-inputs.ensures.goes)
-    (goes-done gives (result_of_run command.out job inputs) _ _ c.in-Ok.ensures)
+    (goes-done gives (result_of_run words.out job inputs) _ _ c.in-Ok.ensures)
 
 pub returns-in-Err : goal.returns-in-Err
 returns-in-Err g c =
     let job = job_value c.args.job in
-    let command = command_value c.args.command.now in
+    let words = run_words_value c.args.words.now in
     let inputs = map inputs_value c.in_ok-inputs.inputs.items in
     let gives = Gives g.S.Store.Tells g.S.Store.files g.S.Store.Reads g.S.Store.absences g.S.Store.faults in
-    goes-then gives (inputs_plan job.consoles) (after_inputs command job) _ _ _ inputs _
+    goes-then gives (inputs_plan job.consoles) (after_inputs words job) _ _ _ inputs _
     (rw c.as_slice.ensures.value at c.in_ok-inputs.ensures.goes)
-    (goes-lacks gives (after_inputs command job inputs) _)
+    (goes-lacks gives (after_inputs words job inputs) _)

@@ -1,0 +1,106 @@
+-- The words of the commands.
+use Rattle.std.specs.Prelude.{◌≡◌, ◌≤◌, ◌<◌, ◌^◌, ℕ, Bool, true, not, nat_le, ◌&&◌, List, [], ◌∷◌, length, codes, Option, Some, None, option_map, if◌then◌else◌}
+use Rattle.std.specs.Str.{bytes_eq}
+use Rattle.gba_joblog.specs.Names.{is_name}
+use Rattle.gba_text.specs.Numbers.{number_of}
+
+-- `run JOB OUT`
+pub record RunWords : Type 0 where
+  pub job : List ℕ
+  pub out : List ℕ
+
+-- a command that reads one file and writes another
+pub record FileWords : Type 0 where
+  pub from : List ℕ
+  pub to : List ℕ
+
+-- `gen NUMBER CYCLES OUT`
+pub record GenerateWords : Type 0 where
+  pub number : ℕ
+  pub cycles : ℕ
+  pub out : List ℕ
+
+pub data Command : Type 0 where
+  -- `run JOB OUT`: a job is run
+  RunJob : RunWords → Command
+  -- `asm SRC OUT`: a source is assembled
+  Assemble : FileWords → Command
+  -- `dis IMAGE OUT`: an image is listed as ARM code
+  ListArm : FileWords → Command
+  -- `tdis IMAGE OUT`: an image is listed as Thumb code
+  ListThumb : FileWords → Command
+  -- `gen NUMBER CYCLES OUT`: a run of four consoles is made of a number
+  Generate : GenerateWords → Command
+
+-- OUT may have 180 bytes, so that the names of the written files are names too
+abbrev pub longest_out : ℕ
+longest_out = 180
+
+abbrev pub is_out : List ℕ → Bool
+is_out out = is_name out && nat_le (length out) longest_out
+
+abbrev pub run_words : List ℕ → List ℕ → Option RunWords
+run_words job out = if is_name job && is_out out then Some (record { job = job; out = out }) else None
+
+-- the file that is written has another name than the one that is read
+abbrev pub file_words : List ℕ → List ℕ → Option FileWords
+file_words from to =
+    if is_name from && is_out to && not (bytes_eq from to) then Some (record { from = from; to = to }) else None
+
+abbrev pub generation : Option ℕ → Option ℕ → List ℕ → Option GenerateWords
+generation None cycles out = None
+generation (Some number) None out = None
+generation (Some number) (Some cycles) out = Some (record { number = number; cycles = cycles; out = out })
+
+-- NUMBER is below 2^32 and CYCLES from 1 to 2^31, each of 1 to 20 decimal digits
+abbrev pub generate_words : List ℕ → List ℕ → List ℕ → Option GenerateWords
+generate_words number cycles out =
+    if is_out out then generation (number_of 0 4294967295 number) (number_of 1 2147483648 cycles) out else None
+
+-- a command of three words
+abbrev pub command_of_three : List ℕ → List ℕ → List ℕ → Option Command
+command_of_three name from to =
+    if bytes_eq name (codes "run") then option_map RunJob (run_words from to)
+    else if bytes_eq name (codes "asm") then option_map Assemble (file_words from to)
+    else if bytes_eq name (codes "dis") then option_map ListArm (file_words from to)
+    else if bytes_eq name (codes "tdis") then option_map ListThumb (file_words from to)
+    else None
+
+-- a command of four words
+abbrev pub command_of_four : List ℕ → List ℕ → List ℕ → List ℕ → Option Command
+command_of_four name number cycles out =
+    if bytes_eq name (codes "gen") then option_map Generate (generate_words number cycles out) else None
+
+-- the command that the words after the program's name say, if they say one
+abbrev pub command_of : List (List ℕ) → Option Command
+command_of [] = None
+command_of (_ ∷ []) = None
+command_of (_ ∷ _ ∷ []) = None
+command_of (name ∷ from ∷ to ∷ []) = command_of_three name from to
+command_of (name ∷ number ∷ cycles ∷ out ∷ []) = command_of_four name number cycles out
+command_of (_ ∷ _ ∷ _ ∷ _ ∷ _ ∷ _) = None
+
+-- What holds of the words of every command.
+abbrev pub IsOut : List ℕ → Type 0
+IsOut out = (is_name out ≡ true) × (length out ≤ longest_out)
+
+pub record AreRunWords (words : RunWords) : Type 0 where
+  pub job : length words.job ≤ 200
+  pub out : IsOut words.out
+
+pub record AreFileWords (words : FileWords) : Type 0 where
+  pub from : length words.from ≤ 200
+  pub to : IsOut words.to
+
+pub record AreGenerateWords (words : GenerateWords) : Type 0 where
+  pub number : words.number < 2 ^ 32
+  pub some_cycles : 1 ≤ words.cycles
+  pub few_cycles : words.cycles ≤ 2 ^ 31
+  pub out : IsOut words.out
+
+abbrev pub IsCommand : Command → Type 0
+IsCommand (RunJob words) = AreRunWords words
+IsCommand (Assemble words) = AreFileWords words
+IsCommand (ListArm words) = AreFileWords words
+IsCommand (ListThumb words) = AreFileWords words
+IsCommand (Generate words) = AreGenerateWords words

@@ -1,0 +1,144 @@
+//! Sources that are assembled, and images that are listed. Words and halfwords are those of the ARM Architecture manual's
+//! diagrams.
+
+use crate::calls::{Failing, NOTHING_FAILS, call, call_with};
+use std::test::Fail;
+
+/// What is read, and what must be written and reported.
+type Translation<'a> = (&'a str, &'a [u8], &'a [u8], &'a [u8]);
+
+/// A branch to the next line, and then back; eight bytes that are no code, and their listing assembled again; the two
+/// halves of BL; a word, a halfword and a byte at the end.
+const TRANSLATIONS: [Translation<'static>; 7] = [
+    (
+        "asm",
+        b"b x\nx: bx lr\n",
+        b"\xff\xff\xff\xea\x1e\xff\x2f\xe1",
+        b"asm 8\n",
+    ),
+    (
+        "dis",
+        b"\xff\xff\xff\xff\xff\xff\xff\xff",
+        b".word 0xffffffff\n.word 0xffffffff\n",
+        b"dis 34\n",
+    ),
+    (
+        "asm",
+        b".word 0xffffffff\n.word 0xffffffff\n",
+        b"\xff\xff\xff\xff\xff\xff\xff\xff",
+        b"asm 8\n",
+    ),
+    (
+        "tdis",
+        b"\x00\xf0\x02\xf8",
+        b".thumb\nbl 0x00000008\n",
+        b"dis 21\n",
+    ),
+    (
+        "dis",
+        b"\x1e\xff\x2f\xe1\x01",
+        b"bx r14\n.byte 0x01\n",
+        b"dis 18\n",
+    ),
+    ("asm", b"", b"", b"asm 0\n"),
+    ("dis", b"", b"", b"dis 0\n"),
+];
+
+#[test]
+fn files_are_translated(rt: HostRuntime) -> Result<(), Fail> {
+    for (command, read, written, report) in TRANSLATIONS {
+        let answer = call(&rt, rt.alloc(), &[command, "s", "o"], &[("s", read)])?;
+        assert_eq!(rt; answer.status, 0, "of {command} {read:?}");
+        assert_eq!(rt; answer.file("o"), written, "of {command} {read:?}");
+        assert_eq!(rt; answer.report(), report, "of {command} {read:?}");
+    }
+    Ok(())
+}
+
+/// Sources that aren't of the language, and their reports.
+const REFUSED: [(&[u8], &[u8]); 5] = [
+    (b"b nowhere\n", b"source s line 1 Label\n"),
+    (b"mov r0\n", b"source s line 1 Operand\n"),
+    (b"mov r0, #0x101\n", b"source s line 1 Range\n"),
+    (b"bx lr\n\nnop\n", b"source s line 3 Unknown\n"),
+    (b"x:\nx: bx lr\n", b"source s line 2 Repeated\n"),
+];
+
+#[test]
+fn sources_are_refused(rt: HostRuntime) -> Result<(), Fail> {
+    for (source, report) in REFUSED {
+        let answer = call(&rt, rt.alloc(), &["asm", "s", "o"], &[("s", source)])?;
+        assert_eq!(rt; answer.status, 8, "of {source:?}");
+        assert_eq!(rt; answer.report(), report, "of {source:?}");
+        assert!(rt; answer.out.bytes("o").is_none(), "of {source:?}");
+    }
+    Ok(())
+}
+
+/// The file that isn't there, and calls that fail: the status, the report, and what OUT has then.
+const FAILURES: [Failure<'static>; 5] = [
+    ("asm", "t", NOTHING_FAILS, 3, b"absent t\n", b""),
+    ("tdis", "t", NOTHING_FAILS, 3, b"absent t\n", b""),
+    (
+        "dis",
+        "s",
+        Failing {
+            reads: &[1],
+            ..NOTHING_FAILS
+        },
+        4,
+        b"store s\n",
+        b"",
+    ),
+    (
+        "asm",
+        "s",
+        Failing {
+            creates: &[1],
+            ..NOTHING_FAILS
+        },
+        9,
+        b"sink o\n",
+        b"",
+    ),
+    (
+        "asm",
+        "s",
+        Failing {
+            appends: &[1],
+            ..NOTHING_FAILS
+        },
+        9,
+        b"sink o\n",
+        b"\x1e\xff",
+    ),
+];
+
+type Failure<'a> = (&'a str, &'a str, Failing<'a>, u8, &'a [u8], &'a [u8]);
+
+#[test]
+fn failures_are_told(rt: HostRuntime) -> Result<(), Fail> {
+    for (command, name, failing, status, report, written) in FAILURES {
+        let files = [("s", b"bx lr\n".as_slice())];
+        let answer = call_with(&rt, rt.alloc(), &[command, name, "o"], &files, failing)?;
+        assert_eq!(rt; answer.status, status, "of {command}");
+        assert_eq!(rt; answer.report(), report, "of {command}");
+        assert_eq!(rt; answer.file("o"), written, "of {command}");
+    }
+    Ok(())
+}
+
+/// One byte more than an image may have.
+#[test]
+fn long_images_are_refused(rt: HostRuntime) -> Result<(), Fail> {
+    let mut image = Vec::new(rt.alloc());
+    image.resize(33_554_433, 0)?;
+    for command in ["dis", "tdis"] {
+        let files = [("i", image.as_slice())];
+        let answer = call(&rt, rt.alloc(), &[command, "i", "o"], &files)?;
+        assert_eq!(rt; answer.status, 6);
+        assert_eq!(rt; answer.report(), b"image i TooLong\n".as_slice());
+        assert!(rt; answer.out.bytes("o").is_none());
+    }
+    Ok(())
+}

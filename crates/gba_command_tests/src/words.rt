@@ -1,0 +1,81 @@
+//! The words of the commands: one too few, one too many, and names and numbers at and past their edges.
+
+use crate::calls::call;
+use std::test::Fail;
+
+/// 180 bytes, and one more.
+const LONGEST: &str =
+    "oooooooooooooooooooooooooooooooooooooooooooooooooooooooooooooooooooooooooooooooooooooooooooooooooooooooooooooooooooooooooooooooooooooooooooooooooooooooooooooooooooooooooooooooooooo";
+
+const LONG: &str =
+    "ooooooooooooooooooooooooooooooooooooooooooooooooooooooooooooooooooooooooooooooooooooooooooooooooooooooooooooooooooooooooooooooooooooooooooooooooooooooooooooooooooooooooooooooooooooo";
+
+/// Words that are no command.
+const WRONG: [&[&str]; 30] = [
+    &["asm"],
+    &["asm", "s"],
+    &["asm", "s", "o", "o"],
+    &["asm", "s", "s"],
+    &["asm", "s", "-"],
+    &["asm", "-", "o"],
+    &["asm", "s", LONG],
+    &["asm", "s t", "o"],
+    &["Asm", "s", "o"],
+    &["dis", "s"],
+    &["dis", "s", "o", "o"],
+    &["dis", "s", "s"],
+    &["dis", "s", LONG],
+    &["tdis", "s"],
+    &["tdis", "s", "o", "o"],
+    &["tdis", "s", "s"],
+    &["tdis", "", "o"],
+    &["gen"],
+    &["gen", "1", "1"],
+    &["gen", "1", "1", "g", "g"],
+    &["gen", "4294967296", "1", "g"],
+    &["gen", "1", "0", "g"],
+    &["gen", "1", "2147483649", "g"],
+    &["gen", "000000000000000000001", "1", "g"],
+    &["gen", "+1", "1", "g"],
+    &["gen", "-1", "1", "g"],
+    &["gen", "1", "", "g"],
+    &["gen", "1", "0x1", "g"],
+    &["gen", "1", "1", "-"],
+    &["gen", "1", "1", LONG],
+];
+
+#[test]
+fn words_are_refused(rt: HostRuntime) -> Result<(), Fail> {
+    for words in WRONG {
+        let answer = call(&rt, rt.alloc(), words, &[("s", b"bx lr\n")])?;
+        assert_eq!(rt; answer.status, 2, "of {words:?}");
+        assert_eq!(rt; answer.report(), b"words\n".as_slice(), "of {words:?}");
+        assert_eq!(rt; answer.file("o"), b"".as_slice(), "of {words:?}");
+    }
+    Ok(())
+}
+
+/// Words that are a command, and the front of what it reports. The bytes of the source are listed as a word that is no
+/// operation and two bytes, and as a load of a byte, a load of a word and a shift.
+const RIGHT: [(&[&str], &[u8]); 7] = [
+    (&["asm", "s", "s.o"], b"asm 4\n"),
+    (&["dis", "s", "a/o"], b"dis 39\n"),
+    (&["tdis", "s", "o"], b"dis 64\n"),
+    (&["asm", "s", LONGEST], b"asm 4\n"),
+    (&["gen", "4294967295", "1", "g"], b"console 0 clock "),
+    (
+        &["gen", "0", "00000000000000000001", "g"],
+        b"console 0 clock ",
+    ),
+    (&["gen", "1", "1", LONGEST], b"console 0 clock "),
+];
+
+#[test]
+fn words_are_commands(rt: HostRuntime) -> Result<(), Fail> {
+    for (words, report) in RIGHT {
+        let answer = call(&rt, rt.alloc(), words, &[("s", b"bx lr\n")])?;
+        assert_eq!(rt; answer.status, 0, "of {words:?}");
+        assert!(rt; answer.report().starts_with(report), "of {words:?}");
+    }
+    Ok(())
+}

@@ -1,0 +1,81 @@
+-- What `run` reads, and what comes of it.
+use Rattle.std.specs.Prelude.{ℕ, List, length, map, Option, Some, None, Result, Ok, Err}
+use Rattle.std.specs.List.{flat_map}
+use Rattle.gba_command.specs.Cause.{Cause, Job}
+use Rattle.gba_command.specs.Plan.{Plan, Done, bind, file, judgement}
+use Rattle.gba_command.specs.Words.{RunWords}
+use Rattle.gba_command.specs.Writing.{Run}
+use Rattle.gba_console.specs.Machine.{Machine}
+use Rattle.gba_image.specs.declared.images.ConsoleImages.{ConsoleImages}
+use Rattle.gba_inputs.specs.Filled.{filled}
+use Rattle.gba_inputs.specs.Inputs.{ConsoleInputs}
+use Rattle.gba_inputs.specs.InputsPlan.{inputs_plan}
+use Rattle.gba_joblog.specs.Clash.{clash_of}
+use Rattle.gba_joblog.specs.Files.{error_at}
+use Rattle.gba_joblog.specs.Job.{WholeJob}
+use Rattle.gba_joblog.specs.Language.{job_of, longest_job}
+use Rattle.gba_joblog.specs.declared.kinds.JobError.{JobError}
+use Rattle.gba_joblog.specs.declared.kinds.JobKind.TheVariants.{Long, Clash}
+use Rattle.gba_output.specs.StateFile.{summary_line}
+use Rattle.gba_session.specs.Files.{Files, all_files, asks_of}
+use Rattle.gba_session.specs.Start.{end_of}
+use Rattle.gba_written.specs.Names.{run_names}
+use Rattle.gba_written.specs.Written.{written}
+use Rattle.link_order.specs.Cut.{Cut}
+
+-- JOB is refused at a line
+abbrev pub job_refusal : RunWords → JobError → Cause
+job_refusal words error = Job words.job error
+
+-- an output file may not be JOB or one of the job's inputs
+abbrev pub unless_clash : RunWords → WholeJob → Option ℕ → Result WholeJob Cause
+unless_clash words job None = Ok job
+unless_clash words job (Some line) = Err (job_refusal words (error_at line Clash))
+
+abbrev pub without_clash : RunWords → Result WholeJob JobError → Result WholeJob Cause
+without_clash words (Ok job) = unless_clash words job (clash_of job words.job words.out)
+without_clash words (Err error) = Err (job_refusal words error)
+
+-- the job that the bytes of JOB say, or why it is refused
+abbrev pub job_or_refusal : RunWords → List ℕ → Result WholeJob Cause
+job_or_refusal words bytes = without_clash words (job_of bytes)
+
+-- What follows the bytes of JOB.
+abbrev pub after_job : RunWords → List ℕ → Plan WholeJob
+after_job words bytes = judgement (job_or_refusal words bytes)
+
+abbrev pub job_plan : RunWords → Plan WholeJob
+job_plan words = bind (file words.job longest_job (job_refusal words (error_at 0 Long))) (after_job words)
+
+-- The run of a job with its inputs: the consoles go from their reset, in the global order, until the clock of each is at
+-- least the job's cycles. The files that they are asked for are written under OUT, then the log, and the summary has a line
+-- for each console.
+abbrev pub images_in : ConsoleInputs → ConsoleImages
+images_in inputs = inputs.images
+
+abbrev pub end_with : WholeJob → List ConsoleInputs → Cut Machine
+end_with job inputs = end_of (filled job inputs) (map images_in inputs)
+
+abbrev pub files_at : WholeJob → Cut Machine → List Files
+files_at job cut = all_files (map asks_of job.consoles) cut.consoles
+
+abbrev pub summary_lines : List Machine → List ℕ
+summary_lines machines = flat_map summary_line machines
+
+abbrev pub written_at : List ℕ → WholeJob → Cut Machine → Run
+written_at out job cut =
+    written (run_names out (length job.consoles)) job (files_at job cut) (summary_lines cut.consoles)
+
+abbrev pub result_of_run : List ℕ → WholeJob → List ConsoleInputs → Run
+result_of_run out job inputs = written_at out (filled job inputs) (end_with job inputs)
+
+-- the inputs of a job, and what the job with them comes to
+abbrev pub after_inputs : RunWords → WholeJob → List ConsoleInputs → Plan Run
+after_inputs words job inputs = Done (result_of_run words.out job inputs)
+
+abbrev pub run_plan : RunWords → WholeJob → Plan Run
+run_plan words job = bind (inputs_plan job.consoles) (after_inputs words job)
+
+-- `run JOB OUT`: JOB is read, then the inputs that it names, and it is run.
+abbrev pub whole_run_plan : RunWords → Plan Run
+whole_run_plan words = bind (job_plan words) (run_plan words)

@@ -1,0 +1,49 @@
+//! From the words and the files to what is written.
+
+ghost use Rattle.std.specs.Prelude.{map, string_bytes};
+ghost use Rattle.gba_command.specs.Reading.{Gives, GoesTo};
+ghost use Rattle.gba_command.specs.Views.{command_value, end_of, run_value};
+ghost use Rattle.gba_command.specs.Words.{IsCommand};
+ghost use Rattle.gba_link.specs.CommandPlan.{plan_of, plan_of_command};
+
+use crate::generation::generate;
+use crate::run::run_command;
+use gba_command::{Cause, Command, Outputs, Refusal, command_of};
+use gba_dis::Set;
+use gba_store::Store;
+use gba_translate::{assemble_source, list_image};
+use std::alloc::Global;
+
+/// A command, done up to what is to be written.
+fn do_command<S: Store>(
+    alloc: Global,
+    store: &mut S,
+    command: &Command<'_>,
+) -> Result<Outputs, Refusal>
+    requires { IsCommand (command_value command.now) }
+    ensures { GoesTo (Gives S.Tells S.files S.Reads S.absences S.faults) (plan_of_command (command_value command.now))
+        store.old store.new (end_of run_value result) }
+{
+    match command {
+        Command::RunJob(words) => run_command(alloc, store, words),
+        Command::Assemble(words) => assemble_source(alloc, store, words),
+        Command::ListArm(words) => list_image(alloc, store, words, Set::Arm),
+        Command::ListThumb(words) => list_image(alloc, store, words, Set::Thumb),
+        Command::Generate(words) => generate(alloc, words),
+    }
+}
+
+/// What the words say to do, done up to what is to be written.
+pub(crate) fn do_words<S: Store>(
+    alloc: Global,
+    store: &mut S,
+    words: &[String],
+) -> Result<Outputs, Refusal>
+    ensures { GoesTo (Gives S.Tells S.files S.Reads S.absences S.faults) (plan_of (map string_bytes words.now))
+        store.old store.new (end_of run_value result) }
+{
+    match command_of(words) {
+        Some(command) => do_command(alloc, store, &command),
+        None => Err(Refusal::Refused(Cause::Words)),
+    }
+}
