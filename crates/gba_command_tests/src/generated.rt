@@ -71,7 +71,7 @@ fn files_are_made(rt: HostRuntime) -> Result<(), Fail> {
 #[test]
 fn numbers_say_the_run(rt: HostRuntime) -> Result<(), Fail> {
     let alloc = rt.alloc();
-    let words = ["gen", "7", "1000000", "g"];
+    let words = ["gen", "7", "50000", "g"];
     let first = call(&rt, alloc, &words, &[])?;
     let second = call(&rt, alloc, &words, &[])?;
     assert_eq!(rt; (first.status, second.status), (0, 0));
