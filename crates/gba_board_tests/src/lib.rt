@@ -2,4 +2,6 @@
 //! Tests of a board by itself.
 
 #[cfg(test)]
+mod board;
+#[cfg(test)]
 mod cable;

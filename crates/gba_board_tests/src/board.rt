@@ -1,7 +1,7 @@
 //! The board by itself: registers, prices, timers, keys, the halt, DMA, direct sound and the picture's place, by
 //! moves and what they must show.
 
-use crate::console::{ROOM, bios_of};
+use crate::cable::bios_of;
 use Move::{
     Advance, Begins, Calm, Clock, Halts, Kept, Keys, Left, Lines, Load, Master, Pair, Pending,
     Place, Price, Queue, Reference, Store, Timer, Unit, Wakes,
@@ -9,10 +9,18 @@ use Move::{
 use gba_bus::Width::{Byte, Half, Word};
 use gba_bus::{Bus, Width};
 use gba_image::ConsoleImages;
-use gba_io::{Board, MemoryName};
+use gba_io::{Board, MemoryName, Room};
 use std::alloc::Global;
 use std::process::Abort;
 use std::test::Fail;
+
+/// Room for a million cycles, where frames and samples are kept.
+const ROOM: Room = Room {
+    until: 1_000_000,
+    frames: true,
+    samples: true,
+    words: true,
+};
 
 /// Something done to a board, or something that must hold of it.
 #[derive(Clone, Copy)]
@@ -63,7 +71,7 @@ enum Move {
 
 fn board_of(alloc: Global) -> Result<Board, Fail> {
     let images = ConsoleImages {
-        bios: bios_of(alloc, &[0x1234_5678])?,
+        bios: bios_of(alloc, 0x1234_5678)?,
         cart: None,
         save: None,
     };
