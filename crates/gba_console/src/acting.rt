@@ -17,7 +17,7 @@ use gba_psr::{Exception, Registers};
 use gba_thumb_exec as thumb;
 use gba_word::bit;
 
-/// How many decoded words a console keeps, and how many decoded halfwords: 128 KiB of each.
+/// How many decoded words a console keeps, 128 KiB, and how many decoded halfwords, 256 KiB.
 pub(crate) const DECODED: usize = 4096;
 
 /// How many cycles a halted console idles at a time.

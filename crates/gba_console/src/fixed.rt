@@ -14,11 +14,12 @@ use gba_thumb_exec::{DecodedHalf, decode_half};
 const NOWHERE: u64 = 0x1_0000_0000;
 
 /// A halfword, decoded. `fixed` is the address at which it stands where that is in the BIOS or the ROM, which nothing
-/// changes, and else no address.
+/// changes, and else no address. Its 64 bytes let a place of a table be found by a shift.
 #[derive(Clone, Copy)]
 pub(crate) struct KeptHalf {
     pub(crate) fixed: u64,
     pub(crate) decoded: DecodedHalf,
+    spare: [u64; 3],
 }
 
 /// The halfword 0, decoded, which stands at no address.
@@ -28,6 +29,7 @@ pub(crate) fn first_kept() -> KeptHalf
     KeptHalf {
         fixed: NOWHERE,
         decoded: decode_half(0),
+        spare: [0; 3],
     }
 }
 
@@ -62,6 +64,7 @@ pub(crate) fn kept_at(core: &Core, address: u32, half: u16) -> KeptHalf
             NOWHERE
         },
         decoded: decode_half(half),
+        spare: [0; 3],
     }
 }
 

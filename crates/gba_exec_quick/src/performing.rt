@@ -14,6 +14,8 @@ ghost use Rattle.gba_exec_quick.specs.Effects.{
   with_flags_and,
 };
 ghost use Rattle.gba_exec_quick.specs.Making.{QuickFits, is_whole};
+ghost use Rattle.gba_exec_registers.specs.Processing.{flags_after};
+ghost use Rattle.gba_psr.specs.RegisterFile.{with_flags};
 ghost use Rattle.gba_exec_transfers.specs.Done.{Leaves};
 ghost use Rattle.gba_word.specs.Shifts.{nonzero_shift};
 ghost use Rattle.gba_word.specs.declared.kinds.Shift.TheVariants.{Lsl, Lsr};
@@ -21,9 +23,7 @@ ghost use Rattle.gba_word.specs.declared.kinds.Shift.TheVariants.{Lsl, Lsr};
 use crate::Quick;
 use gba_arm_table::ComputeOp;
 use gba_bus::{Bus, Width};
-use gba_exec_registers::{
-    Outcome, Site, code_price, flags_of_outcome, jump, jump_price, operate, trap,
-};
+use gba_exec_registers::{Outcome, Site, code_price, jump, jump_price, operate, trap};
 use gba_exec_transfers::{
     LoadUnit, load_block, load_plain, load_single, perform, store_block, store_plain, store_single,
     unit_load, unit_store,
@@ -452,13 +452,21 @@ fn number_carry(registers: &Registers, value: u32, turned: bool) -> bool
     }
 }
 
+// Writes the flags of an outcome.
+#[inline(always)]
+fn write_flags(registers: &mut Registers, outcome: Outcome)
+    ensures { registers.new ≡ with_flags registers.old (flags_after outcome) }
+{
+    registers.set_result(outcome.value, outcome.carry, outcome.overflow);
+}
+
 // Writes the flags of an outcome, and its value.
 #[inline(always)]
 fn write_flags_and(registers: &mut Registers, rd: u8, outcome: Outcome)
     requires { rd < 16 }
     ensures { registers.new ≡ with_flags_and rd outcome registers.old }
 {
-    registers.set_flags(flags_of_outcome(outcome));
+    write_flags(registers, outcome);
     registers.set(u32::from(rd), outcome.value);
 }
 
@@ -716,7 +724,7 @@ pub fn compare_number<B: Bus>(
 {
     let carry = number_carry(registers, value, turned);
     let outcome = outcome_in(registers, op, registers.get(u32::from(rn)), value, carry);
-    registers.set_flags(flags_of_outcome(outcome));
+    write_flags(registers, outcome);
     code_price(bus, site, true)
 }
 
@@ -739,7 +747,7 @@ pub fn compare_plain<B: Bus>(
     let second = registers.get(u32::from(rm));
     let carry = registers.flags().carry;
     let outcome = outcome_in(registers, op, registers.get(u32::from(rn)), second, carry);
-    registers.set_flags(flags_of_outcome(outcome));
+    write_flags(registers, outcome);
     code_price(bus, site, true)
 }
 
@@ -765,7 +773,7 @@ fn compare_shifted<B: Bus>(
 {
     let (second, carry) = shift(kind, registers.get(u32::from(rm)), amount, false);
     let outcome = outcome_in(registers, op, registers.get(u32::from(rn)), second, carry);
-    registers.set_flags(flags_of_outcome(outcome));
+    write_flags(registers, outcome);
     code_price(bus, site, true)
 }
 
