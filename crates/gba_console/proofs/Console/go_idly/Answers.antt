@@ -5,7 +5,7 @@ use Rattle.link_node.specs.declared.signal.Signal.{Signal}
 use Rattle.gba_console.specs.Keys.{due_of}
 use Rattle.gba_console.specs.Machine.{clock_of}
 use Rattle.gba_console.specs.Run.{GoesAlone}
-use Rattle.gba_console.proofs.Rows.{idle-silent, one-more}
+use Rattle.gba_console.proofs.Rows.{one-more, serial-silent}
 use Rattle.gba_console.proofs.Console.go_idly.Goals as goal
 
 pub returns-then-not-is_idle-clause-alone : goal.returns-then-not-is_idle-clause-alone
@@ -23,24 +23,33 @@ loop-left-init c = record {
   ends = omega (arith, c.min-stop.ensures, c.next_end.ensures);
 }
 
+pub returns-then-not-step_idly-clause-alone : goal.returns-then-not-step_idly-clause-alone
+returns-then-not-step_idly-clause-alone c =
+    let before = c.loop-left.self in
+    let after = c.step_idly.new.self in
+    let step = c.step_idly.ensures in
+    let held = c.loop-left.invariant in
+    let early : clock_of before < c.args.end = omega (arith, held.left, held.within, c.loop-left-test.true) in
+    subst (λ (o : Option Signal). GoesAlone c.args.end c.args.self.now after o)
+    (serial-silent c.stays_quiet.ensures before after held.idle step.serial)
+    (one-more (c.steps_pass.ensures []) c.args.end c.args.self.now before after held.alone early step.step)
+
 pub loop-left-preserved : goal.loop-left-preserved
 loop-left-preserved c =
     let before = c.loop-left.self in
     let after = c.step_idly.new.self in
     let step = c.step_idly.ensures in
     let held = c.loop-left.invariant in
-    let owed = c.if-not-step_idly.false in
-    let moved = step.clock owed in
     let early : clock_of before < c.args.end = omega (arith, held.left, held.within, c.loop-left-test.true) in record {
       alone =
           subst (λ (o : Option Signal). GoesAlone c.args.end c.args.self.now after o)
-          (idle-silent c.stays_quiet.ensures after step.idle)
-          (one-more (c.steps_pass.ensures []) c.args.end c.args.self.now before after held.alone early (step.step owed));
-      later = omega (arith, moved, held.later);
-      left = omega (arith, moved, held.left, c.saturating_sub-left-in-loop-left.ensures);
+          (serial-silent c.stays_quiet.ensures before after held.idle step.serial)
+          (one-more (c.steps_pass.ensures []) c.args.end c.args.self.now before after held.alone early step.step);
+      later = omega (arith, step.clock, held.later);
+      left = omega (arith, step.clock, held.left, c.saturating_sub-left-in-loop-left.ensures);
       within = held.within;
       keys = subst (λ (n : ℕ). c.min-stop.result ≤ n) (ap due_of (sym step.keys)) held.keys;
-      idle = step.idle;
+      idle = sym step.idle ∙ c.if-not-step_idly.false;
       until = step.until ∙ held.until;
       ends = subst (λ (n : ℕ). c.min-stop.result ≤ n) (ap next_end (sym step.serial)) held.ends;
     }
