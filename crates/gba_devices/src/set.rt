@@ -78,8 +78,7 @@ impl DeviceSet {
     ghost use Rattle.gba_bus.specs.declared.width.Width.TheVariants.{Byte};
     ghost use Rattle.gba_dma.specs.Channels.{channel_at, next_unit};
     ghost use Rattle.gba_irq.specs.Interrupts.{is_pending};
-    ghost use Rattle.gba_ppu_reg.specs.Position.{IsPosition};
-    ghost use Rattle.gba_ppu_reg.specs.Skipping.{after_skip as place_after_skip};
+    ghost use Rattle.gba_ppu_reg.specs.Position.{IsPosition, after_cycles as place_after};
     ghost use Rattle.gba_ppu_reg.specs.Registers.{picture_kept, picture_mode, picture_read_at, reference_of};
     ghost use Rattle.gba_sound.specs.Queues.{left_sample, queue_at, right_sample};
     ghost use Rattle.gba_timer.specs.Timers.{requests};
@@ -197,7 +196,7 @@ impl DeviceSet {
     #[tactic(auto, unfolding(crate::specs::Cycles::quiet))]
     pub(crate) fn place_after(&self, count: u32) -> Position
         requires { count ≤ quiet self.now }
-        ensures place { result ≡ place_after_skip count self.now.place }
+        ensures place { result ≡ place_after count self.now.place }
         ensures sound { IsPosition result }
     {
         self.place.after(count)
