@@ -1,12 +1,13 @@
-use Rattle.std.proofs.Common.{◌≡◌, ℕ, zero, suc, Bool, true, false, ◌+◌, ◌≤◌, ◌∙◌, refl, ap, sym, arith, add-one, add-zero, if◌then◌else◌}
-use Rattle.std.specs.Prelude.{◌||◌, ◌&&◌}
+use Rattle.std.proofs.Common.{◌≡◌, ℕ, zero, suc, Bool, true, false, ◌+◌, ◌-◌, ◌*◌, ◌/◌, ◌%◌, ◌≤◌, ◌∙◌, refl, ap, sym, arith, add-one, add-zero, if◌then◌else◌}
+use Rattle.std.specs.Prelude.{◌==◌, ◌||◌, ◌&&◌, min}
+use Rattle.std.proofs.Math.Nat.{le_trans, mul-div-le, mul-le-mul_left}
 use Rattle.std.proofs.lemmas.Bool.Decides.{nat_tests}
 use Rattle.gba_ppu_reg.specs.Position.{after_cycles as place_after, begins_hblank, begins_line, cycle as place_cycle}
 use Rattle.gba_ppu_reg.specs.Quiet.{QuietPlaces, quiet as quiet_place}
 use Rattle.gba_ppu_reg.specs.declared.position.Position.{Position}
 use Rattle.gba_timer.specs.Quiet.{QuietMarks, quiet as quiet_timers}
 use Rattle.gba_timer.specs.Timers.{FourTimers, after_cycles as timers_after, cycle as timer_cycle}
-use Rattle.gba_devices.specs.Cycles.{CyclePasses, CyclesPass, SkipsCycles, after_cycles, at_hblank, at_line, at_place, device_cycle, draws_at, draws_line, is_seen, makes_pair, makes_within, placed, quiet, rung, skipped, sounded}
+use Rattle.gba_devices.specs.Cycles.{CyclePasses, CyclesPass, SkipsCycles, after_cycles, at_hblank, at_line, at_place, device_cycle, draws_at, draws_line, is_seen, makes_pair, makes_within, pairless, placed, quiet, rung, skipped, sounded}
 use Rattle.gba_devices.specs.State.{Devices}
 
 -- Cycles one after another, and cycles at once.
@@ -65,10 +66,20 @@ cycles-pass (suc count) d =
       priced = last.priced ∙ before.priced;
     }
 
--- no pair is made in quiet cycles
-no-pair : (count : ℕ) (d : Devices) → count + 1 ≤ quiet d → makes_pair (skipped count d) ≡ false
-unfolding quiet
-no-pair count d within = grind (arith, nat_tests)
+-- whole steps that there is room for
+pub whole_steps : (cycles count most room : ℕ) → count ≡ min (room / cycles) most → cycles * count ≤ room
+whole_steps cycles count most room e =
+    let few : count ≤ room / cycles = omega (arith, e) in
+    le_trans (mul-le-mul_left cycles few) (mul-div-le room cycles)
+
+-- no pair is made in the cycles before one
+pair-later : (clock count : ℕ) → count + 1 ≤ 511 - clock % 512 → ((clock + count + 1) % 512 == 0) ≡ false
+pair-later clock count within = grind (arith, nat_tests)
+
+no-pair : (count more : ℕ) (d : Devices) → count + 1 ≤ pairless (skipped more d) → makes_pair (skipped (more + count) d) ≡ false
+no-pair count more d within =
+    let sum : d.clock + (more + count) + 1 ≡ d.clock + more + count + 1 = omega arith in
+    ap (λ n. n % 512 == 0) sum ∙ pair-later (d.clock + more) count within
 
 neither : (one other : Bool) → one ≡ false → other ≡ false → (one || other) ≡ false
 neither false false here there = refl
@@ -132,17 +143,18 @@ module _ (timers : QuietMarks) (places : QuietPlaces) where
       ∙ not-there (begins_hblank (place_after (count + 1) d.place)) (is_seen (place_after (count + 1) d.place))
       (places.no_hblank count d.place (omega (arith, near)))
 
-  makes-none : (count more : ℕ) (d : Devices) → more + count ≤ quiet d → makes_within count (skipped more d) ≡ false
+  makes-none : (count more : ℕ) (d : Devices) → more + count ≤ quiet d → count ≤ pairless (skipped more d)
+      → makes_within count (skipped more d) ≡ false
   unfolding makes_within
-  makes-none zero more d within = refl
-  makes-none (suc count) more d within =
+  makes-none zero more d within before = refl
+  makes-none (suc count) more d within before =
       let last = after_cycles count (skipped more d) in
       let quietly = skips-all count more d (omega (arith, within)) in
       neither (makes_within count (skipped more d)) (makes_pair last || draws_line last)
-      (makes-none count more d (omega (arith, within)))
+      (makes-none count more d (omega (arith, within)) (omega (arith, before)))
       (neither (makes_pair last) (draws_line last)
-      (ap makes_pair quietly ∙ no-pair (more + count) d (omega (arith, within)))
+      (ap makes_pair quietly ∙ no-pair count more d (omega (arith, before)))
       (ap draws_line quietly ∙ draws-none (more + count) d (omega (arith, within))))
 
   pub skips : SkipsCycles
-  skips = record { none = skip-none; pass = skips-all; silent = makes-none }
+  skips = record { none = skip-none; pass = skips-all; next = cycle-skipped; no_line = draws-none; silent = makes-none }

@@ -121,9 +121,10 @@ unfoldable pub makes_within : ℕ → Devices → Bool
 makes_within zero d = false
 makes_within (suc count) d = makes_within count d || (makes_pair (after_cycles count d) || draws_line (after_cycles count d))
 
--- Cycles in which nothing happens can be skipped at once: for so many, 511 at most, nothing does.
+-- Cycles in which no timer overflows and nothing begins at a place can be skipped at once: for so many, 512 at most, that is
+-- so. A pair of samples may be made in them.
 unfoldable pub quiet : Devices → ℕ
-quiet d = min (min (quiet_timers d.timers) (511 - d.clock % 512)) (quiet_place d.place)
+quiet d = min (quiet_timers d.timers) (quiet_place d.place)
 
 abbrev pub skipped : ℕ → Devices → Devices
 skipped count d = record d {
@@ -132,12 +133,19 @@ skipped count d = record d {
   place = place_after count d.place;
 }
 
--- Within the quiet cycles skipping is stepping, and nothing is made.
+-- how many cycles are left before one that makes a pair
+abbrev pub pairless : Devices → ℕ
+pairless d = 511 - d.clock % 512
+
+-- Within the quiet cycles skipping is stepping, and no line is drawn. Within those before a pair nothing is made.
 pub record SkipsCycles : Type 0 where
   pub none : (d : Devices) → skipped 0 d ≡ d
   pub pass : (count more : ℕ) (d : Devices) → more + count ≤ quiet d
       → after_cycles count (skipped more d) ≡ skipped (more + count) d
-  pub silent : (count more : ℕ) (d : Devices) → more + count ≤ quiet d → makes_within count (skipped more d) ≡ false
+  pub next : (more : ℕ) (d : Devices) → more + 1 ≤ quiet d → device_cycle (skipped more d) ≡ skipped (more + 1) d
+  pub no_line : (more : ℕ) (d : Devices) → more + 1 ≤ quiet d → draws_line (skipped more d) ≡ false
+  pub silent : (count more : ℕ) (d : Devices) → more + count ≤ quiet d → count ≤ pairless (skipped more d)
+      → makes_within count (skipped more d) ≡ false
 
 -- what all cycles do: the clock rises by their number, and WAITCNT and the prices stay
 pub record CyclesPass (count : ℕ) (d : Devices) : Type 0 where

@@ -82,7 +82,7 @@ impl DeviceSet {
     ghost use Rattle.gba_ppu_reg.specs.Registers.{picture_kept, picture_mode, picture_read_at, reference_of};
     ghost use Rattle.gba_sound.specs.Queues.{left_sample, queue_at, right_sample};
     ghost use Rattle.gba_timer.specs.Timers.{requests};
-    ghost use Rattle.gba_devices.specs.Cycles.{asked_by, at_hblank, at_line, at_place, device_cycle, placed, quiet, rung, skipped, sounded, status_of, with_bit, with_timer_requests};
+    ghost use Rattle.gba_devices.specs.Cycles.{asked_by, at_hblank, at_line, at_place, device_cycle, pairless, placed, quiet, rung, skipped, sounded, status_of, with_bit, with_timer_requests};
     ghost use Rattle.gba_devices.specs.Registers.{half_kept, half_read, half_stored, half_written, halves_written, io_loaded, io_stored, keyed, with_key_control, with_key_request, word_written};
     ghost use Rattle.gba_devices.specs.State.{after_dma_unit, asks_entry, begun, devices_at_reset, is_calm, is_idle, with_dma_request, woken};
 
@@ -568,16 +568,21 @@ impl DeviceSet {
         self.move_place();
     }
 
-    /// For how many cycles, 511 at most, surely nothing happens.
+    /// For how many cycles, 512 at most, no timer overflows and nothing begins at a place.
     #[tactic(auto, unfolding(crate::specs::Cycles::quiet))]
     pub(crate) fn quiet(&self) -> u32
         ensures value { result ≡ quiet self.now }
+        ensures most { result ≤ 512 }
+    {
+        self.timers.quiet().min(self.place.quiet())
+    }
+
+    /// How many cycles are left before one that makes a pair of samples.
+    pub(crate) fn pairless(&self) -> u32
+        ensures value { result ≡ pairless self.now }
         ensures most { result ≤ 511 }
     {
-        self.timers
-            .quiet()
-            .min(511 - (self.clock % 512) as u32)
-            .min(self.place.quiet())
+        511 - (self.clock % 512) as u32
     }
 
     /// So many quiet cycles at once.
