@@ -1,4 +1,7 @@
+pub mod Candidates
+pub mod Doubled
 pub mod Foremost
+pub mod Parts
 pub mod Pixels
 pub mod Plain
 pub mod Runs

@@ -50,6 +50,14 @@ blue colour = field colour 10 5
 abbrev pub colour_from : ℕ → ℕ → ℕ → ℕ
 colour_from r g b = r + 32 * g + 1024 * b
 
+-- the parts with room between them: ten bits or more for each
+abbrev pub side_by_side : ℕ → ℕ → ℕ → ℕ
+side_by_side r g b = r + 0x400 * b + 0x200000 * g
+
+-- sums in sixteenths, of which one is 32 or more
+abbrev pub is_past : ℕ → Bool
+is_past sums = bit sums 9 || bit sums 19 || bit sums 30
+
 abbrev pub part_of_both : ℕ → ℕ → ℕ → ℕ → ℕ
 part_of_both eva evb top below = min ((top * eva + below * evb) / 16) 31
 

@@ -7,6 +7,7 @@ pub mod laws;
 mod layers;
 mod line;
 mod lines;
+mod sets;
 mod stacks;
 mod windows;
 
