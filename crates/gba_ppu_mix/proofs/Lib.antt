@@ -1,7 +1,6 @@
 pub mod Candidates
 pub mod Doubled
 pub mod Foremost
-pub mod Parts
 pub mod Pixels
 pub mod Plain
 pub mod Runs

@@ -5,9 +5,10 @@ ghost use Rattle.gba_ppu_mix.specs.Blending.{alone as alone_by, blending_of, coe
 ghost use Rattle.gba_ppu_mix.specs.Mixing.{backdrop_colour as colour_of_backdrop};
 ghost use Rattle.gba_ppu_mix.specs.Stacks.{dots_at};
 
-use crate::colours::{both, brighter, colour_of, darker};
+use crate::colours::colour_of;
 use crate::lines::{BACKDROP, Lines, colour_of_layer};
 use crate::stacks::{Layer, Stack, layer_bit};
+use gba_ppu_blend::{both, brighter, darker};
 use gba_ppu_reg::PictureRegisters;
 use gba_word::{bit, bits};
 

@@ -11,4 +11,5 @@ mod sets;
 mod stacks;
 mod windows;
 
+pub use gba_ppu_blend::{blend_alpha, brighten, darken};
 pub use line::mix_line;

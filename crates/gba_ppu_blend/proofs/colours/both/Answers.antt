@@ -1,6 +1,6 @@
 use Rattle.std.proofs.Common.{sym, ◌∙◌}
-use Rattle.gba_ppu_mix.proofs.Parts.{at_once}
-use Rattle.gba_ppu_mix.proofs.colours.both.Goals as goal
+use Rattle.gba_ppu_blend.proofs.Parts.{at_once}
+use Rattle.gba_ppu_blend.proofs.colours.both.Goals as goal
 
 pub returns-else-is_past : goal.returns-else-is_past
 returns-else-is_past c =

@@ -1,6 +1,6 @@
-use Rattle.gba_ppu_mix.specs.Blending.{blue, green, red}
-use Rattle.gba_ppu_mix.proofs.Parts.{weighted}
-use Rattle.gba_ppu_mix.proofs.colours.sums_of_both.Goals as goal
+use Rattle.gba_ppu_blend.specs.Colours.{blue, green, red}
+use Rattle.gba_ppu_blend.proofs.Parts.{weighted}
+use Rattle.gba_ppu_blend.proofs.colours.sums_of_both.Goals as goal
 
 pub returns : goal.returns
 returns c = record {

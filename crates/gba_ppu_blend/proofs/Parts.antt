@@ -4,7 +4,7 @@ use Rattle.std.specs.Prelude.{◌||◌, min}
 use Rattle.std.proofs.Math.Nat.{mul-le-mul}
 use Rattle.std.proofs.lemmas.Bool.Decides.{nat_tests}
 use Rattle.gba_terms.specs.Bits.{bit, field}
-use Rattle.gba_ppu_mix.specs.Blending.{blue, both, colour_from, green, is_past, part_of_both, red, side_by_side}
+use Rattle.gba_ppu_blend.specs.Colours.{blue, both, colour_from, green, is_past, part_of_both, red, side_by_side}
 
 pub weighted : (r g b r2 g2 b2 eva evb : ℕ)
     → side_by_side r g b * eva + side_by_side r2 g2 b2 * evb
