@@ -1,3 +1,5 @@
+pub mod Candidates
+pub mod Doubled
 pub mod Foremost
 pub mod Pixels
 pub mod Plain

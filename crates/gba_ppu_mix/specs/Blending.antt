@@ -1,10 +1,11 @@
-use Rattle.std.specs.Prelude.{ℕ, Bool, ◌&&◌, ◌||◌, ◌+◌, ◌-◌, ◌*◌, ◌/◌, ◌%◌, ◌==◌, min, true, false, List, if◌then◌else◌}
+use Rattle.std.specs.Prelude.{ℕ, Bool, ◌&&◌, ◌||◌, ◌*◌, ◌%◌, ◌==◌, min, true, false, List, if◌then◌else◌}
 use Rattle.gba_terms.specs.Bits.{bit, field}
 use Rattle.gba_ppu_reg.specs.Registers.{Picture, picture_kept}
 use Rattle.gba_ppu_dot.specs.Bytes.{half_at}
 use Rattle.gba_ppu_dot.specs.declared.dot.Dot.{Dot}
 use Rattle.gba_ppu_dot.specs.declared.dot.DotKind.{DotKind}
 use Rattle.gba_ppu_dot.specs.declared.dot.DotKind.TheVariants.{Plain, Semi}
+use Rattle.gba_ppu_blend.specs.Colours.{both, brighter, darker}
 use Rattle.gba_ppu_mix.specs.Stacks.{Dots, dot_of, layer_bit}
 use Rattle.gba_ppu_mix.specs.declared.blending.Blending.{Blending}
 use Rattle.gba_ppu_mix.specs.declared.blending.Effect.{Effect}
@@ -36,40 +37,6 @@ palette_colour palette entry = field (half_at palette (2 * (entry % 512))) 0 15
 
 unfoldable pub colour_of : List ℕ → Dot → ℕ
 colour_of palette dot = if dot.direct then dot.entry else palette_colour palette dot.entry
-
--- A colour has three parts of 5 bits, red lowest. Each quotient is rounded down.
-abbrev pub red : ℕ → ℕ
-red colour = field colour 0 5
-
-abbrev pub green : ℕ → ℕ
-green colour = field colour 5 5
-
-abbrev pub blue : ℕ → ℕ
-blue colour = field colour 10 5
-
-abbrev pub colour_from : ℕ → ℕ → ℕ → ℕ
-colour_from r g b = r + 32 * g + 1024 * b
-
-abbrev pub part_of_both : ℕ → ℕ → ℕ → ℕ → ℕ
-part_of_both eva evb top below = min ((top * eva + below * evb) / 16) 31
-
-abbrev pub brighter_part : ℕ → ℕ → ℕ
-brighter_part evy part = part + (31 - part) * evy / 16
-
-abbrev pub darker_part : ℕ → ℕ → ℕ
-darker_part evy part = part - part * evy / 16
-
-unfoldable pub both : ℕ → ℕ → ℕ → ℕ → ℕ
-both eva evb top below =
-    colour_from (part_of_both eva evb (red top) (red below)) (part_of_both eva evb (green top) (green below))
-    (part_of_both eva evb (blue top) (blue below))
-
-unfoldable pub brighter : ℕ → ℕ → ℕ
-brighter evy colour =
-    colour_from (brighter_part evy (red colour)) (brighter_part evy (green colour)) (brighter_part evy (blue colour))
-
-unfoldable pub darker : ℕ → ℕ → ℕ
-darker evy colour = colour_from (darker_part evy (red colour)) (darker_part evy (green colour)) (darker_part evy (blue colour))
 
 -- an effect on a single colour: alpha blending, which has no second colour here, leaves it
 unfoldable pub alone : Effect → ℕ → ℕ → ℕ

@@ -1,10 +1,9 @@
-use Rattle.std.specs.Prelude.{ℕ, ◌&&◌, ◌+◌, ◌*◌, nat_lt, true, slice_index_or, if◌then◌else◌}
+use Rattle.std.specs.Prelude.{ℕ, ◌&&◌, ◌+◌, ◌*◌, nat_lt, true, List, [], slice_index_or, if◌then◌else◌}
 use Rattle.gba_terms.specs.Bits.{bit}
 use Rattle.gba_ppu_reg.specs.Registers.{Picture}
 use Rattle.gba_ppu_dot.specs.Control.{control_of, priority_of}
 use Rattle.gba_ppu_dot.specs.Dots.{clear_dot}
 use Rattle.gba_ppu_dot.specs.declared.dot.Dot.{Dot}
-use Rattle.gba_ppu_mix.specs.declared.lines.Lines.{Lines}
 use Rattle.gba_ppu_mix.specs.declared.stacks.Candidate.{Candidate}
 use Rattle.gba_ppu_mix.specs.declared.stacks.Front.{Front}
 use Rattle.gba_ppu_mix.specs.declared.stacks.Layer.{Layer}
@@ -20,13 +19,17 @@ pub record Dots : Type 0 where
   pub background2 : Dot
   pub background3 : Dot
 
-abbrev pub dots_at : Lines → ℕ → Dots
+-- the line of a layer: backgrounds 0 to 3, and sprites
+abbrev pub line_of : List (List Dot) → ℕ → List Dot
+line_of lines layer = slice_index_or lines layer []
+
+abbrev pub dots_at : List (List Dot) → ℕ → Dots
 dots_at lines x = record {
-  sprite = slice_index_or lines.sprites x clear_dot;
-  background0 = slice_index_or lines.background0 x clear_dot;
-  background1 = slice_index_or lines.background1 x clear_dot;
-  background2 = slice_index_or lines.background2 x clear_dot;
-  background3 = slice_index_or lines.background3 x clear_dot;
+  sprite = slice_index_or (line_of lines 4) x clear_dot;
+  background0 = slice_index_or (line_of lines 0) x clear_dot;
+  background1 = slice_index_or (line_of lines 1) x clear_dot;
+  background2 = slice_index_or (line_of lines 2) x clear_dot;
+  background3 = slice_index_or (line_of lines 3) x clear_dot;
 }
 
 -- the dot of a layer: the backdrop has the palette's entry 0

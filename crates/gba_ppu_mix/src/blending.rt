@@ -1,14 +1,14 @@
 //! Blending.
 
-ghost use Rattle.std.specs.Prelude.{◌≡◌, ◌≤◌, ◌<◌, length};
-ghost use Rattle.gba_ppu_mix.specs.Blending.{alone as alone_by, blending_of, changed_alone as changed_alone_by, coefficient as coefficient_of, effect_of as effect_by, is_alpha, is_blended as is_blended_by, is_changed as is_changed_by, is_plain as is_plain_by, is_semi as is_semi_kind, is_target as is_target_of, stack_colour as colour_of_stack};
+ghost use Rattle.std.specs.Prelude.{◌≡◌, ◌&&◌, ◌||◌, ◌≤◌, ◌<◌, if◌then◌else◌, length};
+ghost use Rattle.gba_ppu_mix.specs.Blending.{alone as alone_by, blending_of, coefficient as coefficient_of, effect_of as effect_by, is_alpha, is_changed as is_changed_by, is_plain as is_plain_by, is_target as is_target_of, stack_colour as colour_of_stack};
 ghost use Rattle.gba_ppu_mix.specs.Mixing.{backdrop_colour as colour_of_backdrop};
 ghost use Rattle.gba_ppu_mix.specs.Stacks.{dots_at};
 
-use crate::colours::{both, brighter, colour_of, darker};
-use crate::lines::{BACKDROP, Lines, dot_of};
+use crate::colours::colour_of;
+use crate::lines::{BACKDROP, Lines, colour_of_layer};
 use crate::stacks::{Layer, Stack, layer_bit};
-use gba_ppu_dot::{Dot, DotKind};
+use gba_ppu_blend::{both, brighter, darker};
 use gba_ppu_reg::PictureRegisters;
 use gba_word::{bit, bits};
 
@@ -51,6 +51,8 @@ fn coefficient(half: u16, low: u32) -> u32
     bits(u32::from(half), low, 5).min(16)
 }
 
+/// It isn't part of the loop over a line, which would choose among the effects at each place.
+#[inline(never)]
 #[tactic(auto, unfolding(crate::specs::Blending::alone))]
 fn alone(effect: Effect, evy: u32, colour: u16) -> u16
     requires { evy ≤ 16 }
@@ -75,12 +77,6 @@ impl Effect {
     {
         matches!(self, Effect::Alpha)
     }
-}
-
-fn is_semi(kind: DotKind) -> bool
-    ensures { result ≡ is_semi_kind kind }
-{
-    matches!(kind, DotKind::Semi)
 }
 
 impl Blending {
@@ -117,18 +113,16 @@ impl Blending {
         effects && is_target(self.first_targets, layer)
     }
 
-    fn is_blended(&self, effects: bool, layer: Layer, dot: Dot) -> bool
-        ensures { result ≡ is_blended_by self.now effects layer dot }
+    fn is_blended(&self, effects: bool, layer: Layer, is_semi: bool) -> bool
+        ensures { result ≡ (is_semi || is_changed_by self.now effects layer && is_alpha self.now.effect) }
     {
-        is_semi(dot.kind) || (self.is_changed(effects, layer) && self.effect.is_alpha())
+        is_semi || (self.is_changed(effects, layer) && self.effect.is_alpha())
     }
 
-    fn changed_alone(&self, palette: &[u8], effects: bool, layer: Layer, dot: Dot) -> u16
-        requires palette { length palette.now ≡ 1024 }
-        requires evy { self.now.evy ≤ 16 }
-        ensures { result ≡ changed_alone_by palette.now self.now effects layer dot }
+    fn changed(&self, effects: bool, layer: Layer, colour: u16) -> u16
+        requires { self.now.evy ≤ 16 }
+        ensures { result ≡ if is_changed_by self.now effects layer then alone_by self.now.effect self.now.evy colour else colour }
     {
-        let colour = colour_of(palette, dot);
         if self.is_changed(effects, layer) {
             alone(self.effect, self.evy, colour)
         } else {
@@ -142,7 +136,7 @@ impl Blending {
         requires evy { self.now.evy ≤ 16 }
         ensures { result ≡ colour_of_backdrop palette.now self.now shows }
     {
-        self.changed_alone(palette, bit(shows, 5), Layer::Backdrop, BACKDROP)
+        self.changed(bit(shows, 5), Layer::Backdrop, colour_of(palette, BACKDROP))
     }
 
     /// The colour of the foremost layer at a place over the layer behind it.
@@ -162,18 +156,15 @@ impl Blending {
         requires place { x < 240 }
         ensures { result ≡ colour_of_stack palette.now self.now effects (dots_at lines.now x) stack }
     {
-        let top = dot_of(lines, x, stack.top.layer);
-        let is_second_target = is_target(self.second_targets, stack.second.layer);
-        if is_second_target && self.is_blended(effects, stack.top.layer, top) {
-            let below = dot_of(lines, x, stack.second.layer);
-            both(
-                self.eva,
-                self.evb,
-                colour_of(palette, top),
-                colour_of(palette, below),
-            )
+        let top = stack.top.layer;
+        let (colour, is_semi) = colour_of_layer(palette, lines, x, top);
+        if is_target(self.second_targets, stack.second.layer)
+            && self.is_blended(effects, top, is_semi)
+        {
+            let (below, _) = colour_of_layer(palette, lines, x, stack.second.layer);
+            both(self.eva, self.evb, colour, below)
         } else {
-            self.changed_alone(palette, effects, stack.top.layer, top)
+            self.changed(effects, top, colour)
         }
     }
 }

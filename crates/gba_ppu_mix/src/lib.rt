@@ -7,7 +7,9 @@ pub mod laws;
 mod layers;
 mod line;
 mod lines;
+mod sets;
 mod stacks;
 mod windows;
 
+pub use gba_ppu_blend::{blend_alpha, brighten, darken};
 pub use line::mix_line;

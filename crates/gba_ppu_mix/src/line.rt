@@ -2,13 +2,15 @@
 
 ghost use Rattle.std.specs.Prelude.{◌≡◌, ℕ, ◌<◌, ◌≤◌, false, length, slice_index};
 ghost use Rattle.gba_ppu_mix.specs.Mixing.{IsPixelLine, backdrop_colour, colour_in, colour_of_dots, colour_where, is_blank as is_blank_by, mixed_pixel, plain_colour};
+ghost use Rattle.gba_ppu_mix.specs.Sets.{AreSets};
 ghost use Rattle.gba_ppu_mix.specs.Stacks.{dots_at};
 ghost use Rattle.gba_ppu_mix.specs.Windows.{run_shows, shows_at};
 
 use crate::blending::Blending;
 use crate::colours::colour_of;
 use crate::layers::has_layers;
-use crate::lines::{Lines, draw_layers, empty_line, foremost, stack_of};
+use crate::lines::{Lines, SPRITES, draw_layers, empty_line, foremost, stack_of};
+use crate::sets::Sets;
 use crate::stacks::Ranks;
 use crate::windows::{Run, Windows};
 use gba_ppu_reg::PictureRegisters;
@@ -20,9 +22,11 @@ fn colour_at(
     shows: u32,
     b: &Blending,
     ranks: &Ranks,
+    sets: &Sets,
     lines: &Lines,
     x: usize,
 ) -> u16
+    requires sets { AreSets ranks.now sets.now }
     requires palette { length palette.now ≡ 1024 }
     requires eva { b.now.eva ≤ 16 }
     requires evb { b.now.evb ≤ 16 }
@@ -30,7 +34,7 @@ fn colour_at(
     requires place { x < 240 }
     ensures { result ≡ colour_where palette.now shows b.now ranks.now (dots_at lines.now x) }
 {
-    let stack = stack_of(lines, shows, ranks, x);
+    let stack = stack_of(lines, shows, ranks, sets, x);
     b.stack_colour(palette, bit(shows, 5), lines, x, stack)
 }
 
@@ -59,7 +63,7 @@ fn paint_run(
 {
     for x in start..run.end {
         let place = x as usize;
-        let shows = run.shows(lines.sprites[place].window);
+        let shows = run.shows(lines[SPRITES][place].window);
         colours[place] = colour_of(palette, foremost(lines, shows, ranks, place));
     }
 }
@@ -70,10 +74,12 @@ fn blend_run(
     run: &Run,
     b: &Blending,
     ranks: &Ranks,
+    sets: &Sets,
     lines: &Lines,
     start: u32,
     colours: &mut [u16],
 )
+    requires sets { AreSets ranks.now sets.now }
     requires palette { length palette.now ≡ 1024 }
     requires eva { b.now.eva ≤ 16 }
     requires evb { b.now.evb ≤ 16 }
@@ -87,8 +93,8 @@ fn blend_run(
 {
     for x in start..run.end {
         let place = x as usize;
-        let shows = run.shows(lines.sprites[place].window);
-        colours[place] = colour_at(palette, shows, b, ranks, lines, place);
+        let shows = run.shows(lines[SPRITES][place].window);
+        colours[place] = colour_at(palette, shows, b, ranks, sets, lines, place);
     }
 }
 
@@ -98,10 +104,12 @@ fn mix_run(
     run: &Run,
     b: &Blending,
     ranks: &Ranks,
+    sets: &Sets,
     lines: &Lines,
     start: u32,
     colours: &mut [u16],
 )
+    requires sets { AreSets ranks.now sets.now }
     requires palette { length palette.now ≡ 1024 }
     requires eva { b.now.eva ≤ 16 }
     requires evb { b.now.evb ≤ 16 }
@@ -116,7 +124,7 @@ fn mix_run(
     if b.is_plain() {
         paint_run(palette, run, ranks, lines, start, colours);
     } else {
-        blend_run(palette, run, b, ranks, lines, start, colours);
+        blend_run(palette, run, b, ranks, sets, lines, start, colours);
     }
 }
 
@@ -129,10 +137,11 @@ fn mix(palette: &[u8], w: &Windows, b: &Blending, ranks: &Ranks, lines: &Lines, 
     requires colours { length colours.old ≡ 240 }
     ensures { (x : ℕ) → x < 240 → slice_index colours.new x ≡ colour_of_dots palette.now w.now b.now ranks.now x (dots_at lines.now x) }
 {
+    let sets = Sets::of(ranks);
     let mut start = 0;
     while start < 240 {
         let run = w.run_from(start);
-        mix_run(palette, &run, b, ranks, lines, start, colours);
+        mix_run(palette, &run, b, ranks, &sets, lines, start, colours);
         start = run.end;
     }
 }
@@ -203,13 +212,13 @@ pub fn mix_line(
         fill(palette, &windows, &blending, colours);
         return;
     }
-    let mut lines = Lines {
-        sprites: empty_line(),
-        background0: empty_line(),
-        background1: empty_line(),
-        background2: empty_line(),
-        background3: empty_line(),
-    };
+    let mut lines = [
+        empty_line(),
+        empty_line(),
+        empty_line(),
+        empty_line(),
+        empty_line(),
+    ];
     draw_layers(r, vram, oam, line, &mut lines);
     mix(palette, &windows, &blending, &Ranks::of(r), &lines, colours);
 }

@@ -1,7 +1,8 @@
 //! The layers behind one another at a place.
 
 ghost use Rattle.std.specs.Prelude.{◌≡◌, ◌<◌, ◌≤◌};
-ghost use Rattle.gba_ppu_mix.specs.Stacks.{background_rank as background_rank_of, bottom as the_bottom, front_with as front_with_dot, layer_bit as bit_of, nearer as nearer_of, ranks_of, sprite_rank as sprite_rank_of, with_candidate as stack_with, with_dot as stack_with_dot};
+ghost use Rattle.gba_terms.specs.Bits.{bit as bit_at_place};
+ghost use Rattle.gba_ppu_mix.specs.Stacks.{background_rank as background_rank_of, front_with as front_with_dot, layer_bit as bit_of, nearer as nearer_of, ranks_of, sprite_rank as sprite_rank_of, with_candidate as stack_with, with_dot as stack_with_dot};
 
 use gba_ppu_dot::{BackgroundControl, Dot};
 use gba_ppu_reg::PictureRegisters;
@@ -105,23 +106,20 @@ impl Candidate {
 
 impl Stack {
     /// The backdrop alone.
-    pub fn bottom() -> Stack
-        ensures { result ≡ the_bottom }
-    {
-        Stack {
-            top: Candidate {
-                rank: 0x800,
-                layer: Layer::Backdrop,
-            },
-            second: Candidate {
-                rank: 0x801,
-                layer: Layer::Nothing,
-            },
-        }
-    }
+    pub const BOTTOM: Stack = Stack {
+        top: Candidate {
+            rank: 0x800,
+            layer: Layer::Backdrop,
+        },
+        second: Candidate {
+            rank: 0x801,
+            layer: Layer::Nothing,
+        },
+    };
 
+    /// With a candidate.
     #[tactic(auto, unfolding(crate::specs::Stacks::with_candidate))]
-    fn with(self, new: Candidate) -> Stack
+    pub fn with(self, new: Candidate) -> Stack
         ensures { result ≡ stack_with new self }
     {
         if new.rank < self.top.rank {
@@ -148,6 +146,17 @@ impl Stack {
             self
         }
     }
+}
+
+/// Four tests as bits 0 to 3.
+pub fn bits_of(first: bool, second: bool, third: bool, fourth: bool) -> u32
+    ensures most { result < 16 }
+    ensures first { bit_at_place result 0 ≡ first }
+    ensures second { bit_at_place result 1 ≡ second }
+    ensures third { bit_at_place result 2 ≡ third }
+    ensures fourth { bit_at_place result 3 ≡ fourth }
+{
+    u32::from(first) + 2 * u32::from(second) + 4 * u32::from(third) + 8 * u32::from(fourth)
 }
 
 impl Front {

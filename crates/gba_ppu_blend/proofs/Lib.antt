@@ -1,0 +1,3 @@
+pub mod Eights
+pub mod Parts
+pub mod Vectors
