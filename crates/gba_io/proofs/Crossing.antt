@@ -52,8 +52,8 @@ ended_send = search (sendable, crosses) depth 20
 ended_sync : IsSync Ended.the_row
 ended_sync = search (sendable, crosses) depth 20
 
-pub board_send : IsSend Board.the_row
+pub board_send : IsSend (Board.the_field).row
 board_send = search (sendable, crosses, core_send, made_send, ended_send) depth 20
 
-pub board_sync : IsSync Board.the_row
+pub board_sync : IsSync (Board.the_field).row
 board_sync = search (sendable, crosses, core_sync, made_sync, ended_sync) depth 20
