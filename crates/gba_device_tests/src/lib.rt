@@ -9,6 +9,10 @@ mod interrupts;
 #[cfg(test)]
 mod picture;
 #[cfg(test)]
+mod plainly;
+#[cfg(test)]
+mod quiet;
+#[cfg(test)]
 mod sound;
 #[cfg(test)]
 mod timers;

@@ -15,11 +15,13 @@ enum Move {
     Reads(u32, u16),
     /// So many cycles are quiet.
     Quiet(u32),
+    /// So many are for the overflows of one timer.
+    QuietOf(u32, u32),
     /// Skip so many cycles.
     Skip(u32),
 }
 
-use Move::{Cycles, Quiet, Reads, Skip, Write};
+use Move::{Cycles, Quiet, QuietOf, Reads, Skip, Write};
 
 /// Advances, and answers how many cycles had a mark, and the last mark that wasn't 0. The entry behind them must stay.
 fn marks<R: Abort>(rt: &R, timers: &mut Timers, cycles: u32) -> (u32, u8) {
@@ -48,6 +50,10 @@ fn play<R: Abort>(rt: &R, moves: &[Move]) {
             }
             Reads(offset, value) => assert_eq!(rt; timers.read(offset), value),
             Quiet(cycles) => assert_eq!(rt; timers.quiet(), cycles),
+            QuietOf(timer, cycles) => {
+                assert!(rt; timer < 4);
+                assert_eq!(rt; timers.quiet_of(timer), cycles);
+            }
             Skip(cycles) => {
                 assert!(rt; cycles <= timers.quiet());
                 timers.skip(cycles);
@@ -159,6 +165,61 @@ const SKIPPED: [Move; 8] = [
     Cycles(1, 1, 1),
 ];
 
+/// Timer 0 at FFFFh with prescaler 64 and phase 60, the others stopped. Then the prescaler 256, and the prescaler 1, for
+/// which the phase is past its end.
+const PHASE_60: [Move; 10] = [
+    Write(0x100, 0xFFFF),
+    Write(0x102, 0x0081),
+    Cycles(60, 0, 0),
+    Quiet(3),
+    QuietOf(0, 3),
+    QuietOf(1, 512),
+    Write(0x102, 0x0082),
+    Quiet(195),
+    Write(0x102, 0x0080),
+    Quiet(0),
+];
+
+/// The last count of each prescaler: with 1,024 the overflow is past the 512 cycles that are looked at, up to its phase 512.
+const LAST_COUNTS: [Move; 14] = [
+    Write(0x104, 0xFFFF),
+    Write(0x106, 0x0080),
+    Quiet(0),
+    Write(0x106, 0x0000),
+    Quiet(512),
+    Write(0x106, 0x0082),
+    Quiet(255),
+    Write(0x106, 0x0083),
+    Quiet(512),
+    Cycles(511, 0, 0),
+    Quiet(512),
+    Skip(1),
+    Quiet(511),
+    QuietOf(1, 511),
+];
+
+/// Timer 1 counts the overflows of timer 0, which come every second cycle, and timer 2 those of timer 1. A stopped timer
+/// ends the row.
+const QUIET_CASCADES: [Move; 17] = [
+    Write(0x100, 0xFFFE),
+    Write(0x104, 0xFFFE),
+    Write(0x108, 0xFFFF),
+    Write(0x106, 0x0084),
+    Write(0x10A, 0x0084),
+    Quiet(512),
+    QuietOf(2, 512),
+    Write(0x102, 0x0080),
+    Quiet(1),
+    QuietOf(0, 1),
+    QuietOf(1, 3),
+    QuietOf(2, 3),
+    QuietOf(3, 512),
+    Cycles(3, 1, 1),
+    Quiet(0),
+    Write(0x106, 0x0004),
+    QuietOf(2, 512),
+];
+
 /// Bits that aren't stored; timer 0 is no cascade timer; other offsets; idle timers are quiet.
 const REGISTERS: [Move; 10] = [
     Write(0x102, 0xFF7F),
@@ -175,7 +236,7 @@ const REGISTERS: [Move; 10] = [
 
 #[test]
 fn timers_count_as_worked_out(rt: HostRuntime) -> Result<(), Fail> {
-    let cases: [&[Move]; 9] = [
+    let cases: [&[Move]; 12] = [
         &CASCADE,
         &PRESCALERS,
         &CHANGED_PRESCALER,
@@ -184,6 +245,9 @@ fn timers_count_as_worked_out(rt: HostRuntime) -> Result<(), Fail> {
         &RELOAD_WHILE_RUNNING,
         &TWO_OVERFLOWS,
         &SKIPPED,
+        &PHASE_60,
+        &LAST_COUNTS,
+        &QUIET_CASCADES,
         &REGISTERS,
     ];
     for moves in cases {

@@ -1,10 +1,13 @@
-use Rattle.std.proofs.Common.{◌≡◌, ℕ, zero, suc, Bool, true, false, ◌+◌, ◌≤◌, ◌∙◌, refl, ap, arith, add-zero, if◌then◌else◌}
-use Rattle.std.specs.Prelude.{◌||◌, ◌&&◌}
+use Rattle.std.proofs.Common.{◌≡◌, ℕ, zero, suc, Bool, true, false, ◌+◌, ◌-◌, ◌*◌, ◌/◌, ◌%◌, ◌≤◌, ◌∙◌, refl, ap, sym, arith, add-one, add-zero, if◌then◌else◌}
+use Rattle.std.specs.Prelude.{◌==◌, ◌||◌, ◌&&◌, min}
+use Rattle.std.proofs.Math.Nat.{le_trans, mul-div-le, mul-le-mul_left}
 use Rattle.std.proofs.lemmas.Bool.Decides.{nat_tests}
-use Rattle.gba_ppu_reg.specs.Position.{begins_hblank, begins_line}
-use Rattle.gba_ppu_reg.specs.Skipping.{SkipsCycles as PlacesSkipCycles, after_skip as place_after_skip, quiet as quiet_place}
-use Rattle.gba_timer.specs.Skipping.{SkipsCycles as TimersSkipCycles, quiet as quiet_timers}
-use Rattle.gba_devices.specs.Cycles.{CyclePasses, CyclesPass, SkipsCycles, after_cycles, at_hblank, at_line, at_place, device_cycle, draws_at, draws_line, is_seen, makes_pair, makes_within, placed, quiet, rung, skipped, sounded}
+use Rattle.gba_ppu_reg.specs.Position.{after_cycles as place_after, begins_hblank, begins_line, cycle as place_cycle}
+use Rattle.gba_ppu_reg.specs.Quiet.{QuietPlaces, quiet as quiet_place}
+use Rattle.gba_ppu_reg.specs.declared.position.Position.{Position}
+use Rattle.gba_timer.specs.Quiet.{QuietMarks, quiet as quiet_timers}
+use Rattle.gba_timer.specs.Timers.{FourTimers, after_cycles as timers_after, cycle as timer_cycle}
+use Rattle.gba_devices.specs.Cycles.{CyclePasses, CyclesPass, SkipsCycles, after_cycles, at_hblank, at_line, at_place, device_cycle, draws_at, draws_line, is_seen, makes_pair, makes_within, pairless, placed, quiet, rung, skipped, sounded}
 use Rattle.gba_devices.specs.State.{Devices}
 
 -- Cycles one after another, and cycles at once.
@@ -63,10 +66,20 @@ cycles-pass (suc count) d =
       priced = last.priced ∙ before.priced;
     }
 
--- no pair is made in quiet cycles
-no-pair : (count : ℕ) (d : Devices) → count + 1 ≤ quiet d → makes_pair (skipped count d) ≡ false
-unfolding quiet
-no-pair count d within = grind (arith, nat_tests)
+-- whole steps that there is room for
+pub whole_steps : (cycles count most room : ℕ) → count ≡ min (room / cycles) most → cycles * count ≤ room
+whole_steps cycles count most room e =
+    let few : count ≤ room / cycles = omega (arith, e) in
+    le_trans (mul-le-mul_left cycles few) (mul-div-le room cycles)
+
+-- no pair is made in the cycles before one
+pair-later : (clock count : ℕ) → count + 1 ≤ 511 - clock % 512 → ((clock + count + 1) % 512 == 0) ≡ false
+pair-later clock count within = grind (arith, nat_tests)
+
+no-pair : (count more : ℕ) (d : Devices) → count + 1 ≤ pairless (skipped more d) → makes_pair (skipped (more + count) d) ≡ false
+no-pair count more d within =
+    let sum : d.clock + (more + count) + 1 ≡ d.clock + more + count + 1 = omega arith in
+    ap (λ n. n % 512 == 0) sum ∙ pair-later (d.clock + more) count within
 
 neither : (one other : Bool) → one ≡ false → other ≡ false → (one || other) ≡ false
 neither false false here there = refl
@@ -82,16 +95,25 @@ nothing-begins : (d : Devices) → begins_hblank d.place ≡ false → begins_li
 unfolding at_place
 nothing-begins d no_hblank no_line = rw (no_hblank, no_line) refl
 
-module _ (timers : TimersSkipCycles) (places : PlacesSkipCycles) where
-  skip-none : (d : Devices) → skipped 0 d ≡ d
-  skip-none d = rw (timers.none d.timers, places.none d.place, add-zero) refl
+timers-next : (count : ℕ) (ts : FourTimers) → timer_cycle (timers_after count ts) ≡ timers_after (count + 1) ts
+unfolding timers_after
+timers-next count ts = ap (λ n. timers_after n ts) (sym (add-one count))
 
+place-next : (count : ℕ) (p : Position) → place_cycle (place_after count p) ≡ place_after (count + 1) p
+unfolding place_after
+place-next count p = ap (λ n. place_after n p) (sym (add-one count))
+
+skip-none : (d : Devices) → skipped 0 d ≡ d
+unfolding timers_after place_after
+skip-none d = rw add-zero refl
+
+module _ (timers : QuietMarks) (places : QuietPlaces) where
   sounded-skipped : (count : ℕ) (d : Devices) → count + 1 ≤ quiet_timers d.timers → count + 1 ≤ quiet_place d.place
       → placed (sounded (skipped count d)) ≡ skipped (count + 1) d
   unfolding sounded rung
   sounded-skipped count d least near =
       let sum : d.clock + count + 1 ≡ d.clock + (count + 1) = omega arith in
-      rw (timers.silent count d.timers least, timers.next count d.timers least, places.next count d.place near, sum) refl
+      rw (timers count d.timers (omega (arith, least)), timers-next count d.timers, place-next count d.place, sum) refl
 
   cycle-skipped : (count : ℕ) (d : Devices) → count + 1 ≤ quiet d
       → device_cycle (skipped count d) ≡ skipped (count + 1) d
@@ -100,7 +122,8 @@ module _ (timers : TimersSkipCycles) (places : PlacesSkipCycles) where
       let least : count + 1 ≤ quiet_timers d.timers = omega (arith, within) in
       let near : count + 1 ≤ quiet_place d.place = omega (arith, within) in
       ap at_place (sounded-skipped count d least near)
-      ∙ nothing-begins (skipped (count + 1) d) (places.no_hblank count d.place near) (places.no_line count d.place near)
+      ∙ nothing-begins (skipped (count + 1) d) (places.no_hblank count d.place (omega (arith, near)))
+      (places.no_line count d.place (omega (arith, near)))
 
   skips-all : (count more : ℕ) (d : Devices) → more + count ≤ quiet d
       → after_cycles count (skipped more d) ≡ skipped (more + count) d
@@ -116,21 +139,22 @@ module _ (timers : TimersSkipCycles) (places : PlacesSkipCycles) where
   unfolding quiet
   draws-none count d within =
       let near : count + 1 ≤ quiet_place d.place = omega (arith, within) in
-      ap draws_at (places.next count d.place near)
-      ∙ not-there (begins_hblank (place_after_skip (count + 1) d.place)) (is_seen (place_after_skip (count + 1) d.place))
-      (places.no_hblank count d.place near)
+      ap draws_at (place-next count d.place)
+      ∙ not-there (begins_hblank (place_after (count + 1) d.place)) (is_seen (place_after (count + 1) d.place))
+      (places.no_hblank count d.place (omega (arith, near)))
 
-  makes-none : (count more : ℕ) (d : Devices) → more + count ≤ quiet d → makes_within count (skipped more d) ≡ false
+  makes-none : (count more : ℕ) (d : Devices) → more + count ≤ quiet d → count ≤ pairless (skipped more d)
+      → makes_within count (skipped more d) ≡ false
   unfolding makes_within
-  makes-none zero more d within = refl
-  makes-none (suc count) more d within =
+  makes-none zero more d within before = refl
+  makes-none (suc count) more d within before =
       let last = after_cycles count (skipped more d) in
       let quietly = skips-all count more d (omega (arith, within)) in
       neither (makes_within count (skipped more d)) (makes_pair last || draws_line last)
-      (makes-none count more d (omega (arith, within)))
+      (makes-none count more d (omega (arith, within)) (omega (arith, before)))
       (neither (makes_pair last) (draws_line last)
-      (ap makes_pair quietly ∙ no-pair (more + count) d (omega (arith, within)))
+      (ap makes_pair quietly ∙ no-pair count more d (omega (arith, before)))
       (ap draws_line quietly ∙ draws-none (more + count) d (omega (arith, within))))
 
   pub skips : SkipsCycles
-  skips = record { none = skip-none; pass = skips-all; silent = makes-none }
+  skips = record { none = skip-none; pass = skips-all; next = cycle-skipped; no_line = draws-none; silent = makes-none }

@@ -4,14 +4,14 @@ use Rattle.gba_dma.specs.Channels.{FourChannels, after_trigger}
 use Rattle.gba_dma.specs.declared.event.DmaEvent.{DmaEvent}
 use Rattle.gba_dma.specs.declared.event.DmaEvent.TheVariants.{VBlank, HBlank, QueueA, QueueB}
 use Rattle.gba_irq.specs.declared.interrupts.Interrupts.{Interrupts}
-use Rattle.gba_ppu_reg.specs.Position.{begins_hblank, begins_line, cycle as place_cycle, is_matched}
+use Rattle.gba_ppu_reg.specs.Position.{after_cycles as place_after, begins_hblank, begins_line, cycle as place_cycle, is_matched}
+use Rattle.gba_ppu_reg.specs.Quiet.{quiet as quiet_place}
 use Rattle.gba_ppu_reg.specs.Registers.{Picture, after_line, after_reload, picture_kept}
-use Rattle.gba_ppu_reg.specs.Skipping.{after_skip as place_after_skip, quiet as quiet_place}
 use Rattle.gba_ppu_reg.specs.declared.position.Position.{Position}
 use Rattle.gba_sound.specs.Queues.{after_overflow, asked}
 use Rattle.gba_sound.specs.declared.asked.Asked.{Asked}
-use Rattle.gba_timer.specs.Skipping.{after_skip, quiet as quiet_timers}
-use Rattle.gba_timer.specs.Timers.{cycle as timer_cycle, overflow_mark, requests}
+use Rattle.gba_timer.specs.Quiet.{quiet as quiet_timers}
+use Rattle.gba_timer.specs.Timers.{after_cycles as timers_after, cycle as timer_cycle, overflow_mark, requests}
 use Rattle.gba_devices.specs.State.{Devices}
 
 -- A device cycle: the clock rises by 1; the timers move, from 0 to 3, and request their interrupts in that cycle; then
@@ -121,23 +121,31 @@ unfoldable pub makes_within : ℕ → Devices → Bool
 makes_within zero d = false
 makes_within (suc count) d = makes_within count d || (makes_pair (after_cycles count d) || draws_line (after_cycles count d))
 
--- Cycles in which nothing happens can be skipped at once: for so many, 511 at most, surely nothing does.
+-- Cycles in which no timer overflows and nothing begins at a place can be skipped at once: for so many, 512 at most, that is
+-- so. A pair of samples may be made in them.
 unfoldable pub quiet : Devices → ℕ
-quiet d = min (min (quiet_timers d.timers) (511 - d.clock % 512)) (quiet_place d.place)
+quiet d = min (quiet_timers d.timers) (quiet_place d.place)
 
 abbrev pub skipped : ℕ → Devices → Devices
 skipped count d = record d {
   clock = d.clock + count;
-  timers = after_skip count d.timers;
-  place = place_after_skip count d.place;
+  timers = timers_after count d.timers;
+  place = place_after count d.place;
 }
 
--- Within the quiet cycles skipping is stepping, and nothing is made.
+-- how many cycles are left before one that makes a pair
+abbrev pub pairless : Devices → ℕ
+pairless d = 511 - d.clock % 512
+
+-- Within the quiet cycles skipping is stepping, and no line is drawn. Within those before a pair nothing is made.
 pub record SkipsCycles : Type 0 where
   pub none : (d : Devices) → skipped 0 d ≡ d
   pub pass : (count more : ℕ) (d : Devices) → more + count ≤ quiet d
       → after_cycles count (skipped more d) ≡ skipped (more + count) d
-  pub silent : (count more : ℕ) (d : Devices) → more + count ≤ quiet d → makes_within count (skipped more d) ≡ false
+  pub next : (more : ℕ) (d : Devices) → more + 1 ≤ quiet d → device_cycle (skipped more d) ≡ skipped (more + 1) d
+  pub no_line : (more : ℕ) (d : Devices) → more + 1 ≤ quiet d → draws_line (skipped more d) ≡ false
+  pub silent : (count more : ℕ) (d : Devices) → more + count ≤ quiet d → count ≤ pairless (skipped more d)
+      → makes_within count (skipped more d) ≡ false
 
 -- what all cycles do: the clock rises by their number, and WAITCNT and the prices stay
 pub record CyclesPass (count : ℕ) (d : Devices) : Type 0 where

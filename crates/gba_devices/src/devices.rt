@@ -15,19 +15,20 @@ use std::marker::Model;
 
 /// The devices of a board: clock, timers, direct sound, DMA channels, the picture's place and
 /// registers, interrupts, keypad, WAITCNT, POSTFLG and the halt. They owe the cycles of past
-/// steps, in which surely nothing happened. Contracts see the devices once these have passed.
+/// steps, in which nothing happened. Contracts see the devices once these have passed.
 #[derive(Debug, Drop)]
 pub struct Devices {
     set: DeviceSet,
-    // the cycles that are owed, and how many may be owed
+    // the cycles that are owed, up to how many of them no pair of samples is made, and how many may be owed
     debt: u32,
+    silence: u32,
     horizon: u32,
     calm: bool,
 }
 
 impl Model for Devices {
-    ghost use Rattle.std.specs.Prelude.{◌≡◌, ◌+◌, ◌≤◌, ◌<◌, ◌^◌};
-    ghost use Rattle.gba_devices.specs.Cycles.{quiet, skipped};
+    ghost use Rattle.std.specs.Prelude.{◌≡◌, ◌+◌, ◌-◌, ◌≤◌, ◌<◌, ◌^◌};
+    ghost use Rattle.gba_devices.specs.Cycles.{pairless, quiet, skipped};
     ghost use Rattle.gba_devices.specs.State.{Devices, is_calm};
 
     ghost Value = { Devices };
@@ -35,12 +36,13 @@ impl Model for Devices {
     ghost view = { λ d. skipped d.debt d.set };
 
     ghost invariant = { λ d.
-        (d.debt ≤ d.horizon) × (d.horizon ≤ quiet d.set) × (d.horizon ≤ 511) × (d.calm ≡ is_calm d.set)
+        (d.debt ≤ d.silence) × (d.silence ≤ d.horizon) × (d.horizon ≤ quiet d.set) × (d.horizon ≤ 512)
+        × (d.silence - d.debt ≤ pairless (skipped d.debt d.set)) × (d.calm ≡ is_calm d.set)
         × (d.set.clock + d.debt < 2 ^ 63) };
 }
 
 impl Devices {
-    ghost use Rattle.std.specs.Prelude.{◌≡◌, ◌+◌, ◌*◌, ◌≤◌, ◌<◌, ◌^◌, length, true, false, IfSome};
+    ghost use Rattle.std.specs.Prelude.{◌≡◌, ℕ, ◌+◌, ◌*◌, ◌≤◌, ◌<◌, ◌^◌, length, true, false, IfSome};
     ghost use Rattle.gba_dma.specs.Channels.{channel_at, next_unit};
     ghost use Rattle.gba_irq.specs.Interrupts.{is_pending};
     ghost use Rattle.gba_ppu_reg.specs.Position.{IsPosition};
@@ -57,9 +59,11 @@ impl Devices {
     {
         skips_cycles();
         let set = DeviceSet::new();
+        let horizon = set.quiet();
         Devices {
             debt: 0,
-            horizon: set.quiet(),
+            silence: horizon.min(set.pairless()),
+            horizon,
             calm: set.is_calm(),
             set,
         }
@@ -238,6 +242,7 @@ impl Devices {
         self.set.skip(self.debt);
         self.debt = 0;
         self.horizon = self.set.quiet();
+        self.silence = self.horizon.min(self.set.pairless());
         self.set.load(offset, width)
     }
 
@@ -253,6 +258,7 @@ impl Devices {
         self.debt = 0;
         self.set.store(offset, width, value);
         self.horizon = self.set.quiet();
+        self.silence = self.horizon.min(self.set.pairless());
         self.calm = self.set.is_calm();
     }
 
@@ -283,7 +289,7 @@ impl Devices {
         self.calm = self.set.is_calm();
     }
 
-    /// Moves by so many cycles where surely nothing happens in them, and answers whether it did.
+    /// Moves by so many cycles where nothing happens in them, and answers whether it did.
     #[inline]
     pub fn owe(&mut self, cycles: u32) -> bool
         requires few { cycles ≤ 512 }
@@ -294,14 +300,32 @@ impl Devices {
         ensures left { result ≡ false → self.new ≡ self.old }
     {
         skips_cycles();
-        if self.debt + cycles > self.horizon {
+        if self.debt + cycles > self.silence {
             return false;
         }
         self.debt += cycles;
         true
     }
 
-    /// Moves by as many of so many cycles as surely nothing happens in, and answers how many.
+    /// Moves by as many of so many steps of so many cycles as nothing happens in, and answers how many.
+    pub fn owe_steps(&mut self, cycles: u32, most: u32) -> u32
+        requires some { 1 ≤ cycles }
+        requires clock { self.old.clock < 2 ^ 61 }
+        ensures devices { self.new ≡ after_cycles (cycles * result) self.old }
+        ensures silent { makes_within (cycles * result) self.old ≡ false }
+        ensures idle { (steps : ℕ) → steps ≤ result → is_idle (after_cycles (cycles * steps) self.old) ≡ is_idle self.old }
+        ensures calm { is_calm self.new ≡ is_calm self.old }
+        ensures few { cycles * result ≤ 512 }
+        ensures most { result ≤ most }
+    {
+        skips_cycles();
+        let room = self.silence - self.debt;
+        let steps = (room / cycles).min(most);
+        self.debt += cycles * steps;
+        steps
+    }
+
+    /// Moves by as many of so many cycles as nothing happens in, and answers how many.
     pub fn pass_quietly(&mut self, most: u32) -> u32
         requires { self.old.clock < 2 ^ 61 }
         ensures devices { self.new ≡ after_cycles result self.old }
@@ -310,9 +334,28 @@ impl Devices {
         ensures most { result ≤ most }
     {
         skips_cycles();
-        let count = most.min(self.horizon - self.debt);
+        let count = most.min(self.silence - self.debt);
         self.debt += count;
         count
+    }
+
+    /// One cycle where nothing happens in it but a pair of samples, and answers whether it passed.
+    pub fn owe_pair(&mut self) -> bool
+        requires { self.old.clock < 2 ^ 61 }
+        ensures owed { result ≡ true → (self.new ≡ device_cycle self.old) × (draws_line self.old ≡ false) }
+        ensures calm { is_calm self.new ≡ is_calm self.old }
+        ensures left { result ≡ false → self.new ≡ self.old }
+    {
+        skips_cycles();
+        if self.debt >= self.horizon {
+            return false;
+        }
+        let debt = self.debt + 1;
+        let clock = self.set.clock() + u64::from(debt);
+        let pairless = 511 - (clock % 512) as u32;
+        self.debt = debt;
+        self.silence = self.horizon.min(debt + pairless);
+        true
     }
 
     /// Whether the next cycle makes a pair of samples: whether the new clock is a multiple of 512.
@@ -350,6 +393,7 @@ impl Devices {
         self.debt = 0;
         self.set.cycle();
         self.horizon = self.set.quiet();
+        self.silence = self.horizon.min(self.set.pairless());
         self.calm = self.set.is_calm();
     }
 }

@@ -6,15 +6,15 @@ ghost use Rattle.gba_devices.specs.Fits.{ReadsFit};
 ghost use Rattle.gba_devices.specs.Keeping.{CalmHasBegun, WritesKeep};
 ghost use Rattle.gba_devices.specs.State.{Devices};
 
-use gba_ppu_reg::laws::skips_cycles as places_skip_cycles;
-use gba_timer::laws::skips_cycles as timers_skip_cycles;
+use gba_ppu_reg::laws::quiet_places;
+use gba_timer::laws::quiet_marks;
 
 /// Within the quiet cycles skipping is stepping, and nothing is made.
 pub fn skips_cycles()
     ensures { SkipsCycles }
 {
-    timers_skip_cycles();
-    places_skip_cycles();
+    quiet_marks();
+    quiet_places();
 }
 
 /// Cycles raise the clock by their number, and leave WAITCNT and the prices.

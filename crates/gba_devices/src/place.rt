@@ -22,8 +22,8 @@ impl Model for Place {
 
 impl Place {
     ghost use Rattle.std.specs.Prelude.{◌≡◌, ◌≤◌};
-    ghost use Rattle.gba_ppu_reg.specs.Position.{IsPosition, cycle};
-    ghost use Rattle.gba_ppu_reg.specs.Skipping.{after_skip, quiet};
+    ghost use Rattle.gba_ppu_reg.specs.Position.{IsPosition, after_cycles, cycle};
+    ghost use Rattle.gba_ppu_reg.specs.Quiet.{quiet};
     ghost use Rattle.gba_devices.specs.State.{place_at_reset};
 
     pub(crate) fn new() -> Place
@@ -59,7 +59,7 @@ impl Place {
     /// The position after so many quiet cycles.
     pub(crate) fn after(&self, count: u32) -> Position
         requires { count ≤ quiet self.now }
-        ensures place { result ≡ after_skip count self.now }
+        ensures place { result ≡ after_cycles count self.now }
         ensures sound { IsPosition result }
     {
         let mut at = self.at;
@@ -70,7 +70,7 @@ impl Place {
     /// So many quiet cycles at once.
     pub(crate) fn skip(&mut self, count: u32)
         requires { count ≤ quiet self.old }
-        ensures { self.new ≡ after_skip count self.old }
+        ensures { self.new ≡ after_cycles count self.old }
     {
         self.at.skip(count);
     }

@@ -78,12 +78,11 @@ impl DeviceSet {
     ghost use Rattle.gba_bus.specs.declared.width.Width.TheVariants.{Byte};
     ghost use Rattle.gba_dma.specs.Channels.{channel_at, next_unit};
     ghost use Rattle.gba_irq.specs.Interrupts.{is_pending};
-    ghost use Rattle.gba_ppu_reg.specs.Position.{IsPosition};
-    ghost use Rattle.gba_ppu_reg.specs.Skipping.{after_skip as place_after_skip};
+    ghost use Rattle.gba_ppu_reg.specs.Position.{IsPosition, after_cycles as place_after};
     ghost use Rattle.gba_ppu_reg.specs.Registers.{picture_kept, picture_mode, picture_read_at, reference_of};
     ghost use Rattle.gba_sound.specs.Queues.{left_sample, queue_at, right_sample};
     ghost use Rattle.gba_timer.specs.Timers.{requests};
-    ghost use Rattle.gba_devices.specs.Cycles.{asked_by, at_hblank, at_line, at_place, device_cycle, placed, quiet, rung, skipped, sounded, status_of, with_bit, with_timer_requests};
+    ghost use Rattle.gba_devices.specs.Cycles.{asked_by, at_hblank, at_line, at_place, device_cycle, pairless, placed, quiet, rung, skipped, sounded, status_of, with_bit, with_timer_requests};
     ghost use Rattle.gba_devices.specs.Registers.{half_kept, half_read, half_stored, half_written, halves_written, io_loaded, io_stored, keyed, with_key_control, with_key_request, word_written};
     ghost use Rattle.gba_devices.specs.State.{after_dma_unit, asks_entry, begun, devices_at_reset, is_calm, is_idle, with_dma_request, woken};
 
@@ -197,7 +196,7 @@ impl DeviceSet {
     #[tactic(auto, unfolding(crate::specs::Cycles::quiet))]
     pub(crate) fn place_after(&self, count: u32) -> Position
         requires { count ≤ quiet self.now }
-        ensures place { result ≡ place_after_skip count self.now.place }
+        ensures place { result ≡ place_after count self.now.place }
         ensures sound { IsPosition result }
     {
         self.place.after(count)
@@ -569,16 +568,21 @@ impl DeviceSet {
         self.move_place();
     }
 
-    /// For how many cycles, 511 at most, surely nothing happens.
+    /// For how many cycles, 512 at most, no timer overflows and nothing begins at a place.
     #[tactic(auto, unfolding(crate::specs::Cycles::quiet))]
     pub(crate) fn quiet(&self) -> u32
         ensures value { result ≡ quiet self.now }
+        ensures most { result ≤ 512 }
+    {
+        self.timers.quiet().min(self.place.quiet())
+    }
+
+    /// How many cycles are left before one that makes a pair of samples.
+    pub(crate) fn pairless(&self) -> u32
+        ensures value { result ≡ pairless self.now }
         ensures most { result ≤ 511 }
     {
-        self.timers
-            .quiet()
-            .min(511 - (self.clock % 512) as u32)
-            .min(self.place.quiet())
+        511 - (self.clock % 512) as u32
     }
 
     /// So many quiet cycles at once.

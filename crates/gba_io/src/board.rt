@@ -15,10 +15,11 @@ pub struct Board {
 }
 
 impl Board {
-    ghost use Rattle.std.specs.Prelude.{◌≡◌, ◌+◌, ◌<◌, ◌≤◌, ◌^◌, true, false, IfOk};
+    ghost use Rattle.std.specs.Prelude.{◌≡◌, ℕ, ◌+◌, ◌*◌, ◌<◌, ◌≤◌, ◌^◌, true, false, IfOk};
     ghost use Rattle.gba_devices.specs.Cycles.{draws_line};
     ghost use Rattle.gba_devices.specs.State.{is_idle};
     ghost use Rattle.gba_io.specs.Board.{HasRoom, board_after, board_at_start, board_cycle, line_in_cycle};
+    ghost use Rattle.gba_io.specs.Core.{core_cycled};
 
     /// A board at reset, at clock 0, of a player below `count`, on a cable of 1 to 4 consoles whose signals take `delay`
     /// cycles, from 1 to 1,024. Its images are dropped on refusal. The room for what it makes and for the transfers that
@@ -68,15 +69,26 @@ impl Board {
         }
     }
 
+    /// A cycle of the devices, and the line that it draws.
+    fn cycle_core(&mut self)
+        requires { HasRoom 1 self.old }
+        ensures { self.new ≡ record self.old { core = core_cycled self.old.core; made = line_in_cycle self.old.core self.old.made } }
+    {
+        if self.core.owe_pair() {
+            return;
+        }
+        self.draw_due();
+        self.core.cycle();
+    }
+
     /// A cycle of the devices, and what it makes.
     #[tactic(auto, unfolding(crate::specs::Board::board_cycle))]
     fn cycle(&mut self)
         requires { HasRoom 1 self.old }
         ensures { self.new ≡ board_cycle self.old }
     {
-        self.draw_due();
         let makes_pair = self.core.makes_pair();
-        self.core.cycle();
+        self.cycle_core();
         if makes_pair {
             let (left, right) = self.core.sample();
             self.made.add_pair(left, right);
@@ -113,7 +125,20 @@ impl Board {
         }
     }
 
-    /// Moves by so many cycles where surely nothing happens in them, and answers whether it did.
+    /// Moves by as many of so many steps of so many cycles as nothing happens in, and answers how many.
+    #[inline]
+    pub fn owe_steps(&mut self, cycles: u32, most: u32) -> u32
+        requires some { 1 ≤ cycles }
+        requires clock { self.old.core.devices.clock + 512 < 2 ^ 40 }
+        ensures owed { self.new ≡ board_after (cycles * result) self.old }
+        ensures idle { (steps : ℕ) → steps ≤ result → is_idle (board_after (cycles * steps) self.old).core.devices ≡ is_idle self.old.core.devices }
+        ensures most { result ≤ most }
+    {
+        board_passes();
+        self.core.owe_steps(cycles, most)
+    }
+
+    /// Moves by so many cycles where nothing happens in them, and answers whether it did.
     #[inline]
     pub fn owe(&mut self, cycles: u32) -> bool
         requires few { cycles ≤ 512 }

@@ -81,10 +81,10 @@ impl Model for Core {
 }
 
 impl Core {
-    ghost use Rattle.std.specs.Prelude.{◌≡◌, ◌+◌, ◌*◌, ◌^◌, ◌<◌, ◌≤◌, true, false, IfOk, length, option_map};
+    ghost use Rattle.std.specs.Prelude.{◌≡◌, ℕ, ◌+◌, ◌*◌, ◌^◌, ◌<◌, ◌≤◌, true, false, IfOk, length, option_map};
     ghost use Rattle.std.specs.Option.{option_map_or};
     ghost use Rattle.gba_dma.specs.Channels.{channel_at, next_unit};
-    ghost use Rattle.gba_devices.specs.Cycles.{draws_line, makes_pair, makes_within};
+    ghost use Rattle.gba_devices.specs.Cycles.{after_cycles, draws_line, makes_pair, makes_within};
     ghost use Rattle.gba_devices.specs.State.{is_idle};
     ghost use Rattle.gba_irq.specs.Interrupts.{is_pending};
     ghost use Rattle.gba_ppu_reg.specs.Position.{IsPosition};
@@ -223,7 +223,7 @@ impl Core {
         }
     }
 
-    /// Moves the devices by so many cycles where surely nothing happens in them, and answers whether it did.
+    /// Moves the devices by so many cycles where nothing happens in them, and answers whether it did.
     #[inline]
     pub(crate) fn owe(&mut self, cycles: u32) -> bool
         requires few { cycles ≤ 512 }
@@ -237,7 +237,30 @@ impl Core {
         self.devices.owe(cycles)
     }
 
-    /// Moves the devices by as many of so many cycles as surely nothing happens in, and answers how many.
+    /// Moves the devices by as many of so many steps of so many cycles as nothing happens in, and answers how many.
+    pub(crate) fn owe_steps(&mut self, cycles: u32, most: u32) -> u32
+        requires some { 1 ≤ cycles }
+        requires clock { self.old.devices.clock + 512 < 2 ^ 40 }
+        ensures core { self.new ≡ core_after (cycles * result) self.old }
+        ensures silent { makes_within (cycles * result) self.old.devices ≡ false }
+        ensures idle { (steps : ℕ) → steps ≤ result → is_idle (after_cycles (cycles * steps) self.old.devices) ≡ is_idle self.old.devices }
+        ensures most { result ≤ most }
+    {
+        cycles_pass();
+        self.devices.owe_steps(cycles, most)
+    }
+
+    /// A device cycle where nothing happens in it but a pair of samples, and whether it passed.
+    pub(crate) fn owe_pair(&mut self) -> bool
+        requires { self.old.devices.clock + 1 < 2 ^ 40 }
+        ensures owed { result ≡ true → (self.new ≡ core_cycled self.old) × (draws_line self.old.devices ≡ false) }
+        ensures left { result ≡ false → self.new ≡ self.old }
+    {
+        cycle_keeps();
+        self.devices.owe_pair()
+    }
+
+    /// Moves the devices by as many of so many cycles as nothing happens in, and answers how many.
     pub(crate) fn pass_quietly(&mut self, most: u32) -> u32
         requires { self.old.devices.clock + most < 2 ^ 40 }
         ensures core { self.new ≡ core_after result self.old }

@@ -102,6 +102,10 @@ comes : (dot count : ℕ) (p : Position) → dot < 1232 → p.dot < 1232 → 1 �
     → nat_eq (dot_at p.dot count) dot ≡ nat_eq (distance dot p) count
 comes dot count p t h low k = grind arith
 
+pub comes_at : (dot count : ℕ) (p : Position) → dot < 1232 → p.dot < 1232 → 1 ≤ count → count < 1232
+    → nat_eq (after_cycles count p).dot dot ≡ nat_eq (distance dot p) count
+comes_at dot count p t h low k = ap (λ (q : Position). nat_eq q.dot dot) (moved_is count p h k) ∙ comes dot count p t h low k
+
 away : (dot : ℕ) (p : Position) → p.dot < 1232 → 1 ≤ distance dot p
 away dot p h = grind arith
 

@@ -1,3 +1,3 @@
 pub mod Position
-pub mod Skipping
+pub mod Quiet
 pub mod Registers

@@ -1,10 +1,10 @@
 //! Laws over the definitions. Each is the contract of a function that takes no value.
 
-ghost use Rattle.gba_ppu_reg.specs.Skipping.{SkipsCycles, VisitsOnce};
+ghost use Rattle.gba_ppu_reg.specs.Quiet.{QuietPlaces, VisitsOnce};
 
-/// Within the quiet cycles skipping is stepping, and no event comes.
-pub fn skips_cycles()
-    ensures { SkipsCycles }
+/// In the quiet cycles nothing comes, and then something does.
+pub fn quiet_places()
+    ensures { QuietPlaces }
 {}
 
 /// In fewer cycles than a line has no dot comes twice.

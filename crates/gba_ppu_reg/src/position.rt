@@ -30,7 +30,7 @@ fn weight(place: u16, set: bool) -> u16
 impl Position {
     ghost use Rattle.std.specs.Prelude.{◌≡◌, ◌<◌, ◌≤◌};
     ghost use Rattle.gba_ppu_reg.specs.Position.{IsPosition, after_cycles, cycle, distance, events, first_cycle, flags, following_line};
-    ghost use Rattle.gba_ppu_reg.specs.Skipping.{after_skip, quiet};
+    ghost use Rattle.gba_ppu_reg.specs.Quiet.{quiet};
 
     fn following_line(&self) -> u32
         requires { IsPosition self.now }
@@ -112,7 +112,7 @@ impl Position {
         PictureEvents { hblank, line_start }
     }
 
-    /// For how many cycles from now on, 512 at most, nothing comes.
+    /// The greatest number of cycles from now on, 512 at most, in none of which HBlank or a line begins.
     pub fn quiet(&self) -> u32
         requires { IsPosition self.now }
         ensures value { result ≡ quiet self.now }
@@ -122,15 +122,14 @@ impl Position {
         (nearest - 1).min(512)
     }
 
-    /// Moves by so many cycles at once, in which nothing comes. The law [`crate::laws::skips_cycles`] says that this is
-    /// stepping.
-    pub fn skip(&mut self, count: u32)
+    /// Moves by so many cycles at once, in which nothing comes.
+    pub fn skip(&mut self, cycles: u32)
         requires sound { IsPosition self.old }
-        requires quiet { count ≤ quiet self.old }
-        ensures position { self.new ≡ after_skip count self.old }
+        requires quiet { cycles ≤ quiet self.old }
+        ensures position { self.new ≡ after_cycles cycles self.old }
         ensures sound { IsPosition self.new }
     {
-        self.dot += count;
+        self.dot += cycles;
     }
 
     /// The flags of DISPSTAT at this place, bits 0 to 2, by the line to match in DISPSTAT's bits 8 to 15.

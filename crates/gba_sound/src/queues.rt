@@ -6,6 +6,7 @@ ghost use Rattle.gba_sound.specs.Queues.{loudness as loudness_of, sound_rows};
 
 use crate::Asked;
 use crate::queue::Queue;
+use gba_timer::Timers;
 use gba_word::bit;
 use std::marker::Model;
 
@@ -55,7 +56,8 @@ fn loudness(is_full: bool, byte: u8) -> i16
 impl Queues {
     ghost use Rattle.std.specs.Prelude.{◌≡◌, ◌<◌, ◌≤◌, ◌≤ℤ◌, pos, negsuc, length};
     ghost use Rattle.gba_sound.specs.Queue.{has_room};
-    ghost use Rattle.gba_sound.specs.Queues.{after_overflow, after_word, amount, asked, chose, goes_left, goes_right, has_full_volume, left_sample, queue_at, right_sample, side, sound_at_reset, sound_read, sound_shown, sound_written};
+    ghost use Rattle.gba_sound.specs.Queues.{after_overflow, after_word, amount, asked, chose, goes_left, goes_right, has_full_volume, left_sample, queue_at, right_sample, side, sound_at_reset, sound_read, sound_shown, sound_written, timer_of};
+    ghost use Rattle.gba_sound.specs.Quiet.{quiet, sound_after};
 
     /// The state at reset: both queues are empty, and SOUNDBIAS is 0200h.
     pub fn new() -> Queues
@@ -106,16 +108,24 @@ impl Queues {
         }
     }
 
+    /// The timer that a queue chose.
+    fn timer_of(&self, queue: u32) -> u32
+        requires { queue < 2 }
+        ensures value { result ≡ timer_of queue self.now }
+        ensures most { result ≤ 1 }
+    {
+        if bit(u32::from(self.control), 10 + 4 * queue) {
+            1
+        } else {
+            0
+        }
+    }
+
     fn chose(&self, timer: u32, queue: u32) -> bool
         requires { queue < 2 }
         ensures { result ≡ chose timer queue self.now }
     {
-        let chosen = if bit(u32::from(self.control), 10 + 4 * queue) {
-            1
-        } else {
-            0
-        };
-        timer == chosen
+        timer == self.timer_of(queue)
     }
 
     /// A timer overflowed: each queue that chose it takes its next byte. Answers the queues that ask for DMA. Timers 2 and
@@ -128,6 +138,24 @@ impl Queues {
         let b = self.chose(timer, 1) && self.queue_b.take();
         Asked { a, b }
     }
+
+    /// The greatest number of cycles from now on, 512 at most, in none of which a timer overflows that a queue chose, where
+    /// these are the timers.
+    pub fn quiet(&self, timers: &Timers) -> u32
+        ensures value { result ≡ quiet timers.now self.now }
+        ensures most { result ≤ 512 }
+    {
+        timers
+            .quiet_of(self.timer_of(0))
+            .min(timers.quiet_of(self.timer_of(1)))
+    }
+
+    /// Moves by so many cycles at once, where these are the timers as they are before. No queue takes a byte in them, so
+    /// nothing is to be done.
+    pub fn skip(&mut self, cycles: u32, timers: &Timers)
+        requires { cycles ≤ quiet timers.now self.old }
+        ensures { self.new ≡ sound_after cycles timers.now self.old }
+    {}
 
     /// What a queue gives to a side to which it is sent or not.
     fn amount(&self, is_sent: bool, queue: u32) -> i16

@@ -1,3 +1,4 @@
 pub mod Timer
 pub mod Timers
+pub mod Quiet
 pub mod Skipping

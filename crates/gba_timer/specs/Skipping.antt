@@ -1,23 +1,24 @@
-use Rattle.std.specs.Prelude.{◌≡◌, ℕ, ◌+◌, ◌-◌, ◌*◌, ◌/◌, ◌%◌, ◌≤◌, ◌==◌, min, if◌then◌else◌}
+use Rattle.std.specs.Prelude.{ℕ, ◌+◌, ◌-◌, ◌*◌, ◌/◌, ◌%◌, ◌==◌, Bool, ◌&&◌, min, nat_le, if◌then◌else◌}
 use Rattle.gba_timer.specs.declared.timer.Timer.{Timer}
-use Rattle.gba_timer.specs.Timer.{has_phase, prescaler}
-use Rattle.gba_timer.specs.Timers.{FourTimers, cycle, overflow_mark}
+use Rattle.gba_timer.specs.Timer.{has_phase, is_cascade, is_running, prescaler}
+use Rattle.gba_timer.specs.Timers.{FourTimers}
 
--- Cycles in which no timer overflows can be skipped at once.
+-- The cycles of a timer by arithmetic; only private functions cite it.
 
 -- a phase as it counts: one at or past the prescaler is as one just below it
 abbrev pub phase_within : Timer → ℕ
 phase_within t = min t.phase (prescaler t - 1)
 
--- for how many cycles, 512 at most, a timer surely doesn't overflow by itself
-abbrev pub quiet_of : Timer → ℕ
-quiet_of t =
-    if has_phase t
+-- for how many cycles, 512 at most, a timer doesn't overflow where the timer below doesn't
+abbrev pub own_quiet : Timer → ℕ
+own_quiet t =
+    if has_phase t && nat_le t.counter 0xffff
     then min ((0xffff - t.counter) * prescaler t + (prescaler t - phase_within t - 1)) 512
     else 512
 
-unfoldable pub quiet : FourTimers → ℕ
-quiet ts = min (min (quiet_of ts.timer0) (quiet_of ts.timer1)) (min (quiet_of ts.timer2) (quiet_of ts.timer3))
+-- whether a timer counts the overflows of the timer below
+abbrev pub follows : Timer → Bool
+follows t = is_running t && is_cascade t
 
 -- so many cycles at once of a timer that doesn't overflow in them
 abbrev pub skipped_counter : ℕ → Timer → ℕ
@@ -32,6 +33,11 @@ skipped_timer count t = record t {
   phase = if has_phase t then skipped_phase count t else t.phase;
 }
 
+-- the same of the four timers
+abbrev pub own_quiets : FourTimers → ℕ
+own_quiets ts =
+    min (min (own_quiet ts.timer0) (own_quiet ts.timer1)) (min (own_quiet ts.timer2) (own_quiet ts.timer3))
+
 unfoldable pub after_skip : ℕ → FourTimers → FourTimers
 after_skip count ts = record {
   timer0 = skipped_timer count ts.timer0;
@@ -39,11 +45,3 @@ after_skip count ts = record {
   timer2 = skipped_timer count ts.timer2;
   timer3 = skipped_timer count ts.timer3;
 }
-
--- Within the quiet cycles skipping is stepping: no cycle is skipped by none; one cycle more is one more skipped; and no
--- timer overflows.
-pub record SkipsCycles : Type 0 where
-  pub none : (ts : FourTimers) → after_skip 0 ts ≡ ts
-  pub next : (count : ℕ) (ts : FourTimers) → count + 1 ≤ quiet ts
-      → cycle (after_skip count ts) ≡ after_skip (count + 1) ts
-  pub silent : (count : ℕ) (ts : FourTimers) → count + 1 ≤ quiet ts → overflow_mark (after_skip count ts) ≡ 0

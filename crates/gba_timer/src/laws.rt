@@ -1,8 +1,13 @@
 //! Laws over the definitions. Each is the contract of a function that takes no value.
 
-ghost use Rattle.gba_timer.specs.Skipping.{SkipsCycles};
+ghost use Rattle.gba_timer.specs.Quiet.{CountsBefore, QuietMarks};
 
-/// Within the quiet cycles skipping is stepping, and no timer overflows.
-pub fn skips_cycles()
-    ensures { SkipsCycles }
+/// What the cycles before an event are.
+pub fn counts_before()
+    ensures { CountsBefore }
+{}
+
+/// In the quiet cycles no timer has a mark.
+pub fn quiet_marks()
+    ensures { QuietMarks }
 {}

@@ -24,7 +24,7 @@ pub(crate) const IDLE: Timer = Timer {
 
 impl Timer {
     ghost use Rattle.std.specs.Prelude.{◌≡◌, ◌≤◌};
-    ghost use Rattle.gba_timer.specs.Skipping.{quiet_of, skipped_timer};
+    ghost use Rattle.gba_timer.specs.Skipping.{follows, own_quiet, skipped_timer};
     ghost use Rattle.gba_timer.specs.Timer.{asks_interrupt, counts, is_cascade, is_running, next_phase, overflows, prescaler, timer_after, with_control, with_reload};
 
     /// The cycles of a count: 1, 64, 256 or 1,024.
@@ -115,9 +115,16 @@ impl Timer {
         self.control = value;
     }
 
-    /// For how many cycles, 512 at most, it surely doesn't overflow by itself.
+    /// Whether it counts the overflows of the timer below.
+    pub(crate) fn follows(&self) -> bool
+        ensures { result ≡ follows self.now }
+    {
+        self.is_running() && self.is_cascade()
+    }
+
+    /// For how many cycles, 512 at most, it doesn't overflow where the timer below doesn't.
     pub(crate) fn quiet(&self) -> u32
-        ensures value { result ≡ quiet_of self.now }
+        ensures value { result ≡ own_quiet self.now }
         ensures most { result ≤ 512 }
     {
         if !self.is_running() || self.is_cascade() {
@@ -131,7 +138,7 @@ impl Timer {
 
     /// Moves the timer by so many cycles at once, in which it doesn't overflow.
     pub(crate) fn skip(&mut self, count: u32)
-        requires { count ≤ quiet_of self.old }
+        requires { count ≤ own_quiet self.old }
         ensures { self.new ≡ skipped_timer count self.old }
     {
         if count == 0 || !self.is_running() || self.is_cascade() {

@@ -51,7 +51,7 @@ fn weight(place: u8, set: bool) -> u8
 impl Timers {
     ghost use Rattle.std.specs.Prelude.{◌≡◌, ◌≤◌, ◌<◌, length};
     ghost use Rattle.gba_timer.specs.Timers.{after_cycles, cycle, overflow_mark, requests, timer_at, timer_kept, timer_read, timer_shown, timer_written, timers_at_reset, with_marks};
-    ghost use Rattle.gba_timer.specs.Skipping.{after_skip, quiet};
+    ghost use Rattle.gba_timer.specs.Quiet.{quiet, quiet_of};
 
     /// The timers at reset.
     pub fn new() -> Timers
@@ -170,8 +170,7 @@ impl Timers {
             + weight(8, bit(mark, 3) && self.timer3.asks_interrupt())
     }
 
-    /// For how many cycles from now on, 512 at most, surely no timer overflows.
-    #[tactic(auto, unfolding(crate::specs::Skipping::quiet))]
+    /// The greatest number of cycles from now on, 512 at most, in none of which a timer overflows.
     pub fn quiet(&self) -> u32
         ensures value { result ≡ quiet self.now }
         ensures most { result ≤ 512 }
@@ -181,16 +180,52 @@ impl Timers {
         lower.min(upper)
     }
 
-    /// Moves the timers by so many cycles at once, in which none overflows. The law [`crate::laws::skips_cycles`] says that
-    /// this is stepping.
-    #[tactic(auto, unfolding(crate::specs::Skipping::quiet, crate::specs::Skipping::after_skip))]
-    pub fn skip(&mut self, count: u32)
-        requires { count ≤ quiet self.old }
-        ensures { self.new ≡ after_skip count self.old }
+    /// The same for the overflows of a timer that counts those of another: from overflow to overflow.
+    fn quiet_of_follower(&self, timer: u32) -> u32
+        requires { timer < 4 }
+        ensures value { result ≡ quiet_of timer self.now }
+        ensures most { result ≤ 512 }
     {
-        self.timer0.skip(count);
-        self.timer1.skip(count);
-        self.timer2.skip(count);
-        self.timer3.skip(count);
+        let mut timers = *self;
+        let mut left = 512;
+        while left > 0 {
+            let quiet = timers.quiet();
+            if left <= quiet {
+                return 512;
+            }
+            timers.skip(quiet);
+            left -= quiet;
+            if bit(u32::from(timers.cycle()), timer) {
+                return 512 - left;
+            }
+            left -= 1;
+        }
+        512
+    }
+
+    /// The same as [`Timers::quiet`] for the overflows of one timer alone, while the others go on. The timer is below 4.
+    pub fn quiet_of(&self, timer: u32) -> u32
+        requires { timer < 4 }
+        ensures value { result ≡ quiet_of timer self.now }
+        ensures most { result ≤ 512 }
+    {
+        let one = self.timer(timer);
+        if one.follows() {
+            self.quiet_of_follower(timer)
+        } else {
+            one.quiet()
+        }
+    }
+
+    /// Moves the timers by so many cycles at once, in which none overflows.
+    #[tactic(auto, unfolding(crate::specs::Skipping::after_skip))]
+    pub fn skip(&mut self, cycles: u32)
+        requires { cycles ≤ quiet self.old }
+        ensures { self.new ≡ after_cycles cycles self.old }
+    {
+        self.timer0.skip(cycles);
+        self.timer1.skip(cycles);
+        self.timer2.skip(cycles);
+        self.timer3.skip(cycles);
     }
 }

@@ -1,4 +1,4 @@
-use Rattle.std.proofs.Common.{◌≡◌, ap, sym, ◌∙◌, refl}
+use Rattle.std.proofs.Common.{ap, sym, ◌∙◌}
 use Rattle.std.specs.Prelude.{slice_set}
 use Rattle.gba_timer.specs.Timers.{cycle, overflow_mark, with_marks}
 use Rattle.gba_timer.proofs.Counting.{after_cycles-more, after_cycles-none, with_marks-more, with_marks-none}

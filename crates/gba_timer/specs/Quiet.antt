@@ -1,0 +1,42 @@
+use Rattle.std.specs.Prelude.{◌≡◌, ℕ, zero, suc, ◌<◌, ◌≤◌, ◌==◌, Bool, true, false, ◌||◌, min, if◌then◌else◌}
+use Rattle.gba_timer.specs.Timers.{FourTimers, after_cycles, cycle, overflow0, overflow1, overflow2, overflow3, overflow_mark}
+
+-- For how many cycles nothing comes, if nothing is written. An event is what a cycle has or hasn't, as an overflow.
+
+-- of so many cycles, those before the first one that has an event
+unfoldable pub cycles_before : (FourTimers → Bool) → ℕ → FourTimers → ℕ
+cycles_before event zero ts = 0
+cycles_before event (suc most) ts = if event ts then 0 else suc (cycles_before event most (cycle ts))
+
+-- whether a timer by its number overflows in a cycle, 3 for any above, and whether any does
+abbrev pub overflow_at : ℕ → FourTimers → Bool
+overflow_at number ts =
+    if number == 0 then overflow0 ts
+    else if number == 1 then overflow1 ts
+    else if number == 2 then overflow2 ts
+    else overflow3 ts
+
+abbrev pub any_overflow : FourTimers → Bool
+any_overflow ts = (overflow0 ts || overflow1 ts) || (overflow2 ts || overflow3 ts)
+
+-- the greatest number of cycles up to 512 in none of which any timer overflows, and in none of which a timer does
+unfoldable pub quiet : FourTimers → ℕ
+quiet ts = cycles_before any_overflow 512 ts
+
+unfoldable pub quiet_of : ℕ → FourTimers → ℕ
+quiet_of number ts = cycles_before (overflow_at number) 512 ts
+
+-- What the cycles before an event are: in none of them it comes, and in the next it does where they are not the most that
+-- are counted. Of two events the one that comes first decides.
+pub record CountsBefore : Type 0 where
+  pub most : (event : FourTimers → Bool) (most : ℕ) (ts : FourTimers) → cycles_before event most ts ≤ most
+  pub silent : (event : FourTimers → Bool) (most count : ℕ) (ts : FourTimers) → count < cycles_before event most ts
+      → event (after_cycles count ts) ≡ false
+  pub next : (event : FourTimers → Bool) (most : ℕ) (ts : FourTimers) → cycles_before event most ts < most
+      → event (after_cycles (cycles_before event most ts) ts) ≡ true
+  pub either : (one other : FourTimers → Bool) (most : ℕ) (ts : FourTimers)
+      → cycles_before (λ t. one t || other t) most ts ≡ min (cycles_before one most ts) (cycles_before other most ts)
+
+-- in the quiet cycles the marks are 0
+abbrev pub QuietMarks : Type 0
+QuietMarks = (count : ℕ) (ts : FourTimers) → count < quiet ts → overflow_mark (after_cycles count ts) ≡ 0
