@@ -480,11 +480,9 @@ impl Console {
         calm_has_begun();
         stays_quiet();
         board_passes();
-        self.last = IDLE_CYCLES;
-        if self.board.owe(IDLE_CYCLES) {
-            return true;
-        }
-        self.board.advance(IDLE_CYCLES);
+        let idled = IDLE_CYCLES;
+        self.board.advance(idled);
+        self.last = idled;
         self.board.core.is_idle()
     }
 
@@ -495,6 +493,59 @@ impl Console {
         self.board.core.is_idle()
     }
 
+    /// Makes as many of so many idle steps as nothing happens in, all at once, and answers how many. All of them begin below
+    /// `stop`, and they tell nothing.
+    fn idle_quietly(&mut self, stop: u64, most: u32) -> u32
+        requires below { clock_of self.old + 16 * most < stop + 16 }
+        requires until { stop ≤ self.old.board.made.until }
+        requires idle { core_is_idle self.old.board.core ≡ true }
+        requires keys { stop ≤ due_of self.old.keys }
+        requires ends { stop ≤ next_end self.old.board.core.serial }
+        ensures alone { GoesAlone stop self.old self.new None }
+        ensures clock { clock_of self.new ≡ clock_of self.old + 16 * result }
+        ensures keys { self.new.keys ≡ self.old.keys }
+        ensures serial { self.new.board.core.serial ≡ self.old.board.core.serial }
+        ensures idle { core_is_idle self.new.board.core ≡ true }
+        ensures until { self.new.board.made.until ≡ self.old.board.made.until }
+    {
+        calm_has_begun();
+        stays_quiet();
+        board_passes();
+        steps_pass();
+        let steps = self.board.owe_steps(IDLE_CYCLES, most);
+        if steps == 0 {
+            return 0;
+        }
+        self.last = IDLE_CYCLES;
+        steps
+    }
+
+    /// Makes an idle step or more, and answers whether nothing asks for more than idling after them. All of them begin below
+    /// `stop`, and they tell nothing.
+    #[inline(always)]
+    fn idle_on(&mut self, stop: u64) -> bool
+        requires below { clock_of self.old < stop }
+        requires until { stop ≤ self.old.board.made.until }
+        requires idle { core_is_idle self.old.board.core ≡ true }
+        requires keys { stop ≤ due_of self.old.keys }
+        requires ends { stop ≤ next_end self.old.board.core.serial }
+        ensures alone { GoesAlone stop self.old self.new None }
+        ensures rises { clock_of self.old < clock_of self.new }
+        ensures keys { self.new.keys ≡ self.old.keys }
+        ensures serial { self.new.board.core.serial ≡ self.old.board.core.serial }
+        ensures idle { result ≡ core_is_idle self.new.board.core }
+        ensures until { self.new.board.made.until ≡ self.old.board.made.until }
+    {
+        stays_quiet();
+        steps_pass();
+        let left = (stop - self.clock()).min(512) as u32;
+        let most = (left + IDLE_CYCLES - 1) / IDLE_CYCLES;
+        if self.idle_quietly(stop, most) > 0 {
+            return true;
+        }
+        self.step_idly()
+    }
+
     /// Idles while nothing asks for more and the clock is below `end`. Such steps tell nothing.
     #[inline(never)]
     fn go_idly(&mut self, end: u64)
@@ -503,18 +554,15 @@ impl Console {
         ensures later { clock_of self.old ≤ clock_of self.new }
         ensures until { self.new.board.made.until ≡ self.old.board.made.until }
     {
-        steps_pass();
         stays_quiet();
         if !self.is_idle() {
             return;
         }
         let stop = end.min(self.due()).min(self.next_end());
-        let mut left = stop.saturating_sub(self.clock());
-        while left > 0 {
-            if !self.step_idly() {
+        while self.clock() < stop {
+            if !self.idle_on(stop) {
                 return;
             }
-            left = left.saturating_sub(u64::from(IDLE_CYCLES));
         }
     }
 

@@ -121,7 +121,7 @@ impl RegisterFile {
             (record { negative = bit value 31; zero = value == 0; carry = carry; overflow = overflow }) }
     {
         let _ = self.file.cpsr();
-        self.kept = KeptFlags::of_result(value, carry, overflow);
+        self.kept.set_result(value, carry, overflow);
     }
 
     /// The present mode's SPSR. USR and SYS have none and read CPSR.

@@ -59,17 +59,15 @@ impl KeptFlags {
         }
     }
 
-    /// The flags of a result, with these two.
+    /// Makes them the flags of a result, with these two.
     #[inline(always)]
-    pub(crate) fn of_result(value: u32, carry: bool, overflow: bool) -> KeptFlags
-        ensures { result ≡ record { negative = bit value 31; zero = value == 0; carry = carry; overflow = overflow } }
+    pub(crate) fn set_result(&mut self, value: u32, carry: bool, overflow: bool)
+        ensures { self.new ≡ record { negative = bit value 31; zero = value == 0; carry = carry; overflow = overflow } }
     {
-        KeptFlags {
-            signed: value,
-            tested: value,
-            carry,
-            overflow,
-        }
+        self.signed = value;
+        self.tested = value;
+        self.carry = carry;
+        self.overflow = overflow;
     }
 
     /// The flags.

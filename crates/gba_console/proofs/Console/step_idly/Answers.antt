@@ -1,7 +1,5 @@
-use Rattle.std.proofs.Common.{◌∙◌, ◌-◌, refl, ap, sym, subst, arith}
+use Rattle.std.proofs.Common.{◌-◌, refl, arith}
 use Rattle.std.specs.Prelude.{drop}
-use Rattle.gba_io.specs.Board.{HasRoom, board_after}
-use Rattle.gba_io.specs.declared.board.Board.{Board}
 use Rattle.gba_console.specs.Machine.{Machine}
 use Rattle.gba_console.proofs.Idling.{idle-clock, idle-is, idle-room, idle-sound}
 use Rattle.gba_console.proofs.Images.{moved-images, still-stand}
@@ -10,22 +8,7 @@ use Rattle.gba_console.proofs.Console.step_idly.Goals as goal
 pub advance-requires-clause-room : goal.advance-requires-clause-room
 advance-requires-clause-room c =
     let b = c.self.inside.board in
-    subst (λ (b : Board). HasRoom 16 b) (sym (c.owe.ensures.left c.if-owe.false))
-    (idle-room (b.core.devices.clock - c.self.inside.last) b c.self.invariant.5 (rw (← c.self.view_is) at c.requires.clock))
-
-pub returns-then-owe-clause-step : goal.returns-then-owe-clause-step
-returns-then-owe-clause-step c =
-    let inside = c.self.inside in
-    let m : Machine = record {
-      registers = inside.registers;
-      board = inside.board;
-      keys = drop inside.applied inside.keys.items;
-      was = inside.board.core.devices.clock - inside.last;
-    } in
-    rw (← c.self.view_is)
-    (idle-is c.board_passes.ensures.all c.calm_has_begun.ensures c.stays_quiet.ensures m c.owe.new.self
-    (rw (← c.self.view_is) at c.requires.idle) (rw (← c.self.view_is) at c.requires.early)
-    (rw (← c.self.view_is) at c.requires.ends) (c.owe.ensures.owed c.if-owe.true))
+    idle-room (b.core.devices.clock - c.self.inside.last) b c.self.invariant.5 (rw (← c.self.view_is) at c.requires.clock)
 
 pub returns-clause-step : goal.returns-clause-step
 returns-clause-step c =
@@ -39,35 +22,14 @@ returns-clause-step c =
     rw (← c.self.view_is)
     (idle-is c.board_passes.ensures.all c.calm_has_begun.ensures c.stays_quiet.ensures m c.advance.new.self
     (rw (← c.self.view_is) at c.requires.idle) (rw (← c.self.view_is) at c.requires.early)
-    (rw (← c.self.view_is) at c.requires.ends)
-    (c.advance.ensures ∙ ap (board_after 16) (c.owe.ensures.left c.if-owe.false)))
+    (rw (← c.self.view_is) at c.requires.ends) c.advance.ensures)
 
 pub invariant_of-self : goal.invariant_of-self
 invariant_of-self c =
     let inside = c.self.inside in
     let b = inside.board in
-    let after = c.owe.new.self in
-    let owed = c.owe.ensures.owed c.if-owe.true in
-    let early = rw (← c.self.view_is) at c.requires.clock in (
-      c.self.invariant.0,
-      c.self.invariant.1,
-      c.self.invariant.2,
-      c.self.invariant.3,
-      omega (arith, idle-clock c.board_passes.ensures.all b after owed),
-      idle-sound c.board_passes.ensures.all (b.core.devices.clock - inside.last) b after c.self.invariant.5 (omega arith)
-          early owed,
-      still-stand b.core.memory after.core.memory inside.halves.items
-          (moved-images b.core.memory.bios b.core.memory.rom 16 b after (record { bios = refl; rom = refl }) owed
-          (c.board_passes.ensures.all 16 b))
-          c.self.invariant.6,
-    )
-
-pub invariant_of-self-2 : goal.invariant_of-self-2
-invariant_of-self-2 c =
-    let inside = c.self.inside in
-    let b = inside.board in
     let after = c.advance.new.self in
-    let moved = c.advance.ensures ∙ ap (board_after 16) (c.owe.ensures.left c.if-owe.false) in
+    let moved = c.advance.ensures in
     let early = rw (← c.self.view_is) at c.requires.clock in (
       c.self.invariant.0,
       c.self.invariant.1,
