@@ -3,3 +3,5 @@
 
 #[cfg(test)]
 mod cable;
+#[cfg(test)]
+mod skipping;
