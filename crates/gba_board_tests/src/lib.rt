@@ -5,3 +5,5 @@
 mod board;
 #[cfg(test)]
 mod cable;
+#[cfg(test)]
+mod skipping;

@@ -32,7 +32,7 @@ fn write_control(timers: &mut Timers, plain: &mut PlainTimer, offset: u32, chanc
     let running = if chance.below(8) == 0 { 0 } else { 0x80 };
     let value = chance.below(4) | cascade | running;
     plain.write_control(value);
-    timers.write(offset, value as u16);
+    timers.write(offset, (value & 0xFFFF) as u16);
 }
 
 /// Writes a timer's reload at its offset: a number that is near its overflow.
@@ -40,7 +40,7 @@ fn write_reload(timers: &mut Timers, plain: &mut PlainTimer, offset: u32, chance
     let far = if chance.below(2) == 0 { 3 } else { 60 };
     let value = 0xFFFF_u32.saturating_sub(chance.below(far));
     plain.reload = value;
-    timers.write(offset, value as u16);
+    timers.write(offset, (value & 0xFFFF) as u16);
 }
 
 /// A timer is the plain one.

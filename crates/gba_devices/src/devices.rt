@@ -231,6 +231,26 @@ impl Devices {
         }
     }
 
+    /// Pays the debt, and looks anew for how many cycles nothing happens.
+    fn renew(&mut self)
+        ensures { self.new ≡ self.old }
+    {
+        skips_cycles();
+        self.set.skip(self.debt);
+        self.debt = 0;
+        self.horizon = self.set.quiet();
+        self.silence = self.horizon.min(self.set.pairless());
+    }
+
+    /// The same where no more can be owed.
+    fn renew_due(&mut self)
+        ensures { self.new ≡ self.old }
+    {
+        if self.debt == self.horizon {
+            self.renew();
+        }
+    }
+
     /// What an access reads at an offset from 04000000h, which is below 400h.
     #[inline(never)]
     pub fn load(&mut self, offset: u32, width: Width) -> u32
@@ -319,6 +339,7 @@ impl Devices {
         ensures most { result ≤ most }
     {
         skips_cycles();
+        self.renew_due();
         let room = self.silence - self.debt;
         let steps = (room / cycles).min(most);
         self.debt += cycles * steps;
@@ -334,6 +355,7 @@ impl Devices {
         ensures most { result ≤ most }
     {
         skips_cycles();
+        self.renew_due();
         let count = most.min(self.silence - self.debt);
         self.debt += count;
         count

@@ -1,8 +1,10 @@
 -- Colours as bytes, eight at a time.
-use Rattle.std.proofs.Common.{◌≡◌, ℕ, ◌+◌, ◌-◌, ◌*◌, ◌++◌, ◌∙◌, List, [], ◌∷◌, length, refl, sym, ap, arith, take, drop, slice_index_or}
+use Rattle.std.proofs.Common.{◌≡◌, ℕ, ◌+◌, ◌-◌, ◌*◌, ◌<◌, ◌++◌, ◌∙◌, List, [], ◌∷◌, length, refl, sym, ap, arith, take, drop, slice_index_or}
 use Rattle.std.specs.Int.{w16, to_le_bytes}
 use Rattle.std.proofs.lemmas.Grind.{flat_map-append}
-use Rattle.std.proofs.lemmas.List.{append_assoc}
+use Rattle.std.proofs.lemmas.List.{append_assoc, take_all}
+use Rattle.std.proofs.lemmas.Slice.{take-put_mid}
+use borrow.Rule.Slice.PartMut.{put_mid}
 use Rattle.std.proofs.lemmas.List.Concat.{flat_map-cons}
 use Rattle.std.proofs.Math.Seq.{take-add}
 use Rattle.gba_io.specs.Drawing.{colour_bytes, colours_bytes}
@@ -48,3 +50,19 @@ eight-more old acc more colours part done here =
     ∙ ap (λ (bytes : List ℕ). old ++ bytes) (sym (flat_map-append colour_bytes first next))
     ∙ ap (λ (some : List ℕ). old ++ colours_bytes some) (sym (take-add (8 * part) 8 colours))
     ∙ ap (λ (n : ℕ). old ++ colours_bytes (take n colours)) both
+
+-- the same where they are put into a line of bytes
+pub spelled-more : (bytes more colours : List ℕ) (part wide : ℕ) → length bytes ≡ 480 → length more ≡ 16 → part < 30
+    → take (16 * part) bytes ≡ colours_bytes (take (8 * part) colours)
+    → more ≡ colours_bytes (take (8 * part + 8 - 8 * part) (drop (8 * part) colours))
+    → take (16 * (part + 1)) (put_mid (16 * part) wide bytes more) ≡ colours_bytes (take (8 * (part + 1)) colours)
+spelled-more bytes more colours part wide whole one early done here =
+    take-put_mid (16 * part) wide bytes more (16 * (part + 1)) (omega arith) (omega arith)
+    ∙ eight-more [] (take (16 * part) bytes) more colours part done here
+
+pub spelled-all : (bytes colours : List ℕ) (part : ℕ) → length bytes ≡ 480 → length colours ≡ 240 → part ≡ 30
+    → take (16 * part) bytes ≡ colours_bytes (take (8 * part) colours) → bytes ≡ colours_bytes colours
+spelled-all bytes colours part whole line last done =
+    sym (take_all (16 * part) bytes (omega arith))
+    ∙ done
+    ∙ ap colours_bytes (take_all (8 * part) colours (omega arith))

@@ -111,7 +111,18 @@ fn bytes_of_eight(colours: &[u16]) -> [u8; 16]
     [a, b, c, d, e, f, g, h, i, j, k, l, m, n, o, p]
 }
 
-/// Adds the colours of a line, for which there is room: eight at a time, since room is asked for anew each time.
+/// Makes these the bytes of a line's colours, eight colours at a time.
+fn spell_line(colours: &[u16], bytes: &mut [u8; 480])
+    requires { length colours.now ≡ 240 }
+    ensures { bytes.new ≡ colours_bytes colours.now }
+{
+    for part in 0..30 {
+        let eight = bytes_of_eight(&colours[8 * part..8 * part + 8]);
+        bytes[16 * part..16 * part + 16].copy_from_slice(&eight);
+    }
+}
+
+/// Adds the colours of a line, for which there is room. It is asked for once, since that costs more than the bytes.
 fn add_colours(bytes: &mut Vec<u8>, colours: &[u16])
     requires room { vec_len bytes.old + 480 ≤ vec_capacity bytes.old }
     requires colours { length colours.now ≡ 240 }
@@ -119,10 +130,9 @@ fn add_colours(bytes: &mut Vec<u8>, colours: &[u16])
     ensures len { vec_len bytes.new ≡ vec_len bytes.old + 480 }
     ensures room { vec_capacity bytes.old ≤ vec_capacity bytes.new }
 {
-    for part in 0..30 {
-        let eight = &colours[8 * part..8 * part + 8];
-        add_bytes(bytes, &bytes_of_eight(eight));
-    }
+    let mut line = [0; 480];
+    spell_line(colours, &mut line);
+    add_bytes(bytes, &line);
 }
 
 /// Adds a sample, for which there is room.
