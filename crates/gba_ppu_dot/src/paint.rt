@@ -1,8 +1,8 @@
 //! Paints: what a layer has at a place, as one halfword.
 
-ghost use Rattle.std.specs.Prelude.{◌≡◌, ℕ, ◌<◌, length, slice_index, slice_index_or};
+ghost use Rattle.std.specs.Prelude.{◌≡◌, ◌≢◌, ℕ, ◌*◌, ◌%◌, ◌<◌, length, slice_index, slice_index_or};
 ghost use Rattle.gba_ppu_dot.specs.Dots.{clear_dot};
-ghost use Rattle.gba_ppu_dot.specs.Paints.{byte_paint as paint_by_byte, colour_of as colour_of_dot, nibble_paint as paint_by_nibble, paint_of as paint_of_dot, palette_colour};
+ghost use Rattle.gba_ppu_dot.specs.Paints.{colour_of as colour_of_dot, paint_of as paint_of_dot, palette_colour};
 
 use crate::{Dot, half_at};
 
@@ -72,45 +72,25 @@ pub fn clear_paints(paints: &mut [u16])
     }
 }
 
-fn nibble_paint(palette: &[u8], entry: u16) -> u16
-    requires { length palette.now ≡ 1024 }
-    ensures { result ≡ paint_by_nibble palette.now entry }
-{
-    if entry % 16 == 0 {
-        CLEAR_PAINT
-    } else {
-        entry_colour(palette, entry)
-    }
-}
-
-fn byte_paint(palette: &[u8], entry: u16) -> u16
-    requires { length palette.now ≡ 1024 }
-    ensures { result ≡ paint_by_byte palette.now entry }
-{
-    if entry == 0 {
-        CLEAR_PAINT
-    } else {
-        entry_colour(palette, entry)
-    }
-}
-
-fn put_nibble_paints(palette: &[u8], paints: &mut [u16])
+/// The colours of the first 256 entries.
+fn put_colours(palette: &[u8], paints: &mut [u16])
     requires palette { length palette.now ≡ 1024 }
     requires paints { length paints.old ≡ 256 }
-    ensures { (entry : ℕ) → entry < 256 → slice_index paints.new entry ≡ paint_by_nibble palette.now entry }
+    ensures { (entry : ℕ) → entry < 256 → slice_index paints.new entry ≡ palette_colour palette.now entry }
 {
     for entry in 0..256usize {
-        paints[entry] = nibble_paint(palette, entry as u16);
+        paints[entry] = entry_colour(palette, entry as u16);
     }
 }
 
-fn put_byte_paints(palette: &[u8], paints: &mut [u16])
-    requires palette { length palette.now ≡ 1024 }
-    requires paints { length paints.old ≡ 256 }
-    ensures { (entry : ℕ) → entry < 256 → slice_index paints.new entry ≡ paint_by_byte palette.now entry }
+/// Clears entry 0 of each palette of 16 entries.
+fn clear_firsts(paints: &mut [u16])
+    requires { length paints.old ≡ 256 }
+    ensures firsts { (number : ℕ) → number < 16 → slice_index paints.new (16 * number) ≡ 0x8000 }
+    ensures others { (entry : ℕ) → entry % 16 ≢ 0 → slice_index paints.new entry ≡ slice_index paints.old entry }
 {
-    for entry in 0..256usize {
-        paints[entry] = byte_paint(palette, entry as u16);
+    for number in 0..16usize {
+        paints[16 * number] = CLEAR_PAINT;
     }
 }
 
@@ -123,10 +103,11 @@ impl BackgroundPaints {
         requires { length palette.now ≡ 1024 }
         ensures { ArePaints palette.now result }
     {
-        let mut by_nibble = [0; 256];
-        put_nibble_paints(palette, &mut by_nibble);
         let mut by_byte = [0; 256];
-        put_byte_paints(palette, &mut by_byte);
+        put_colours(palette, &mut by_byte);
+        let mut by_nibble = by_byte;
+        clear_firsts(&mut by_nibble);
+        by_byte[0] = CLEAR_PAINT;
         BackgroundPaints { by_nibble, by_byte }
     }
 }

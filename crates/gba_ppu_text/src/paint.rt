@@ -25,36 +25,16 @@ fn nibbles_at(vram: &[u8], start: usize) -> u32
         + 0x100_0000 * u32::from(vram[start + 3])
 }
 
-/// The paint of a dot of a palette of 16 entries.
-#[inline(always)]
-fn nibble_paint(colours: &BackgroundPaints, start: u16, number: u32) -> u16
-    requires aligned { start % 16 ≡ 0 }
-    requires start { start ≤ 240 }
-    requires number { number < 16 }
-    ensures { (palette : List ℕ) → ArePaints palette colours.now → result ≡ number_paint palette start number }
-{
-    colours.by_nibble[usize::from(start) + number as usize]
-}
-
-/// Paints a row of eight dots in nibbles, from a place on.
-fn paint_nibbles(
-    colours: &BackgroundPaints,
-    start: u16,
-    row: u32,
-    mirror: bool,
-    at: usize,
-    paints: &mut [u16],
-)
-    requires aligned { start % 16 ≡ 0 }
-    requires start { start ≤ 240 }
+/// Paints a row of eight dots in nibbles, from a place on, by the paints of a palette.
+fn paint_nibbles(colours: &[u16], row: u32, mirror: bool, at: usize, paints: &mut [u16])
+    requires colours { length colours.now ≡ 16 }
     requires paints { at + 8 ≤ length paints.old }
     ensures before { (k : ℕ) → k < at → slice_index paints.new k ≡ slice_index paints.old k }
-    ensures drawn { (palette : List ℕ) → ArePaints palette colours.now → (column : ℕ) → column < 8
-        → slice_index paints.new (at + column) ≡ number_paint palette start (field row (4 * mirrored_place mirror column) 4) }
+    ensures drawn { (column : ℕ) → column < 8 → slice_index paints.new (at + column) ≡ slice_index colours.now (field row (4 * mirrored_place mirror column) 4) }
 {
     for column in 0..8u32 {
         let number = bits(row, 4 * mirrored(mirror, column), 4);
-        paints[at + column as usize] = nibble_paint(colours, start, number);
+        paints[at + column as usize] = colours[number as usize];
     }
 }
 
@@ -96,12 +76,7 @@ pub(crate) fn paint_row(
     let row = mirrored(bit(u32::from(entry), 11), row);
     let numbers = nibbles_at(vram, (control.tiles_start() + 32 * tile + 4 * row) as usize);
     let mirror = bit(u32::from(entry), 10);
-    paint_nibbles(
-        colours,
-        palette_of(control, entry),
-        numbers,
-        mirror,
-        at,
-        paints,
-    );
+    let start = usize::from(palette_of(control, entry));
+    let colours = &colours.by_nibble[start..start + 16];
+    paint_nibbles(colours, numbers, mirror, at, paints);
 }
