@@ -1,3 +1,3 @@
-pub mod Eights
-pub mod Parts
+pub mod Choices
+pub mod More
 pub mod Vectors

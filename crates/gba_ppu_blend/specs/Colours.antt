@@ -1,5 +1,5 @@
-use Rattle.std.specs.Prelude.{ℕ, Bool, ◌||◌, ◌+◌, ◌-◌, ◌*◌, ◌/◌, min}
-use Rattle.gba_terms.specs.Bits.{bit, field}
+use Rattle.std.specs.Prelude.{ℕ, ◌+◌, ◌-◌, ◌*◌, ◌/◌, min}
+use Rattle.gba_terms.specs.Bits.{field}
 
 -- A colour has three parts of 5 bits, red lowest (GBATEK, LCD Color Palettes). Bit 15 isn't part of it.
 abbrev pub red : ℕ → ℕ
@@ -13,14 +13,6 @@ blue colour = field colour 10 5
 
 abbrev pub colour_from : ℕ → ℕ → ℕ → ℕ
 colour_from r g b = r + 32 * g + 1024 * b
-
--- the parts with room between them: ten bits or more for each
-abbrev pub side_by_side : ℕ → ℕ → ℕ → ℕ
-side_by_side r g b = r + 0x400 * b + 0x200000 * g
-
--- sums in sixteenths, of which one is 32 or more
-abbrev pub is_past : ℕ → Bool
-is_past sums = bit sums 9 || bit sums 19 || bit sums 30
 
 -- The effects on a part (GBATEK, LCD I/O Color Special Effects). Coefficients are sixteenths, from 0 to 16, and each quotient
 -- is rounded down.

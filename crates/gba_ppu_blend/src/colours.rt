@@ -1,9 +1,9 @@
 //! Colours of 15 bits: three parts of 5 bits, red lowest.
 
-ghost use Rattle.std.specs.Prelude.{◌≡◌, ◌≤◌, ◌+◌, ◌*◌};
-ghost use Rattle.gba_ppu_blend.specs.Colours.{blue as blue_of, both as both_of, brighter as brighter_of, brighter_part as brighter_part_of, colour_from as from_parts, darker as darker_of, darker_part as darker_part_of, green as green_of, is_past as is_past_of, part_of_both as part_of_two, red as red_of, side_by_side};
+ghost use Rattle.std.specs.Prelude.{◌≡◌, ◌≤◌};
+ghost use Rattle.gba_ppu_blend.specs.Colours.{blue as blue_of, both as both_of, brighter as brighter_of, brighter_part as brighter_part_of, colour_from as from_parts, darker as darker_of, darker_part as darker_part_of, green as green_of, part_of_both as part_of_two, red as red_of};
 
-use gba_word::{bit, bits};
+use gba_word::bits;
 
 fn red(colour: u16) -> u32
     ensures value { result ≡ red_of colour }
@@ -46,23 +46,6 @@ fn part_of_both(eva: u32, evb: u32, top: u32, below: u32) -> u32
     ((top * eva + below * evb) / 16).min(31)
 }
 
-/// The parts of a colour, with room between them for a product of each.
-fn spread(colour: u16) -> u32
-    ensures value { result ≡ side_by_side (red_of colour) (green_of colour) (blue_of colour) }
-    ensures most { result ≤ 0x3E0_7C1F }
-{
-    red(colour) + 0x400 * blue(colour) + 0x20_0000 * green(colour)
-}
-
-/// The weighted sums of the parts of two colours, side by side.
-fn sums_of_both(eva: u32, evb: u32, top: u16, below: u16) -> u32
-    requires eva { eva ≤ 16 }
-    requires evb { evb ≤ 16 }
-    ensures value { result ≡ side_by_side (red_of top * eva + red_of below * evb) (green_of top * eva + green_of below * evb) (blue_of top * eva + blue_of below * evb) }
-{
-    spread(top) * eva + spread(below) * evb
-}
-
 fn brighter_part(evy: u32, part: u32) -> u32
     requires evy { evy ≤ 16 }
     requires part { part ≤ 31 }
@@ -81,10 +64,9 @@ fn darker_part(evy: u32, part: u32) -> u32
     part - part * evy / 16
 }
 
-/// A colour and the one behind it, part by part.
-#[inline(never)]
+/// A colour and the one behind it, blended by coefficients from 0 to 16.
 #[tactic(auto, unfolding(crate::specs::Colours::both))]
-fn both_by_parts(eva: u32, evb: u32, top: u16, below: u16) -> u16
+pub fn both(eva: u32, evb: u32, top: u16, below: u16) -> u16
     requires eva { eva ≤ 16 }
     requires evb { evb ≤ 16 }
     ensures { result ≡ both_of eva evb top below }
@@ -94,29 +76,6 @@ fn both_by_parts(eva: u32, evb: u32, top: u16, below: u16) -> u16
         part_of_both(eva, evb, green(top), green(below)),
         part_of_both(eva, evb, blue(top), blue(below)),
     )
-}
-
-/// Whether a part is past 31, by the weighted sums.
-fn is_past(sums: u32) -> bool
-    ensures { result ≡ is_past_of sums }
-{
-    bit(sums, 9) || bit(sums, 19) || bit(sums, 30)
-}
-
-/// A colour and the one behind it, blended by coefficients from 0 to 16. Mostly no part is past 31, and then the three are
-/// computed at once.
-#[tactic(auto, unfolding(crate::specs::Colours::both))]
-pub fn both(eva: u32, evb: u32, top: u16, below: u16) -> u16
-    requires eva { eva ≤ 16 }
-    requires evb { evb ≤ 16 }
-    ensures { result ≡ both_of eva evb top below }
-{
-    let sums = sums_of_both(eva, evb, top, below);
-    if is_past(sums) {
-        both_by_parts(eva, evb, top, below)
-    } else {
-        colour_from(bits(sums, 4, 5), bits(sums, 25, 5), bits(sums, 14, 5))
-    }
 }
 
 /// A brighter colour, by a coefficient from 0 to 16.

@@ -4,29 +4,7 @@ ghost use Rattle.std.specs.Prelude.{◌≡◌, ℕ, ◌+◌, ◌*◌, ◌<◌, �
 ghost use Rattle.gba_ppu_blend.specs.Colours.{both as both_of, brighter as brighter_of, darker as darker_of};
 
 use crate::effects::{Alpha, Brighter, Darker, LaneEffect};
-use std::simd::prelude::*;
-
-/// The eight colours from a place on.
-#[inline(always)]
-fn eight_from(colours: &[u16], at: usize) -> u16x8
-    requires { at + 8 ≤ length colours.now }
-    ensures { (i : ℕ) → i < 8 → slice_index result i ≡ slice_index colours.now (at + i) }
-{
-    u16x8::from_slice(&colours[at..])
-}
-
-/// Stores eight colours from a place on.
-#[inline(always)]
-fn put_eight(lanes: u16x8, at: usize, out: &mut [u16])
-    requires { at + 8 ≤ length out.old }
-    ensures before { (x : ℕ) → x < at → slice_index out.new x ≡ slice_index out.old x }
-    ensures here { (i : ℕ) → i < 8 → slice_index out.new (at + i) ≡ slice_index lanes i }
-{
-    let colours = lanes.to_array();
-    for k in 0..8 {
-        out[at + k] = colours[k];
-    }
-}
+use crate::eights::{eight_from, put_eight};
 
 #[inline(always)]
 fn blend_eight<E: LaneEffect>(effect: &E, top: &[u16], below: &[u16], at: usize, out: &mut [u16])

@@ -1,7 +1,7 @@
-use Rattle.std.specs.Prelude.{ℕ, Bool, ◌&&◌, ◌||◌, ◌*◌, ◌%◌, ◌==◌, min, true, false, List, if◌then◌else◌}
+use Rattle.std.specs.Prelude.{ℕ, Bool, ◌&&◌, ◌||◌, ◌+◌, ◌*◌, ◌==◌, min, true, false, List, if◌then◌else◌}
 use Rattle.gba_terms.specs.Bits.{bit, field}
 use Rattle.gba_ppu_reg.specs.Registers.{Picture, picture_kept}
-use Rattle.gba_ppu_dot.specs.Bytes.{half_at}
+use Rattle.gba_ppu_dot.specs.Paints.{colour_of}
 use Rattle.gba_ppu_dot.specs.declared.dot.Dot.{Dot}
 use Rattle.gba_ppu_dot.specs.declared.dot.DotKind.{DotKind}
 use Rattle.gba_ppu_dot.specs.declared.dot.DotKind.TheVariants.{Plain, Semi}
@@ -11,7 +11,7 @@ use Rattle.gba_ppu_mix.specs.declared.blending.Blending.{Blending}
 use Rattle.gba_ppu_mix.specs.declared.blending.Effect.{Effect}
 use Rattle.gba_ppu_mix.specs.declared.blending.Effect.TheVariants.{Unchanged, Alpha, Brighter, Darker}
 use Rattle.gba_ppu_mix.specs.declared.stacks.Layer.{Layer}
-use Rattle.gba_ppu_mix.specs.declared.stacks.Stack.{Stack}
+use Rattle.gba_ppu_mix.specs.Stacks.{Stack}
 
 -- BLDCNT, BLDALPHA and BLDY (GBATEK, LCD I/O Color Special Effects). Coefficients are sixteenths, and above 16 count as 16.
 abbrev pub effect_of : ℕ → Effect
@@ -30,13 +30,6 @@ blending_of r = record {
   evb = coefficient (picture_kept 0x052 r) 8;
   evy = coefficient (picture_kept 0x054 r) 0;
 }
-
--- The colour of a dot, 15 bits: its own, or that of its entry in the palette. A palette has 512 entries.
-abbrev pub palette_colour : List ℕ → ℕ → ℕ
-palette_colour palette entry = field (half_at palette (2 * (entry % 512))) 0 15
-
-unfoldable pub colour_of : List ℕ → Dot → ℕ
-colour_of palette dot = if dot.direct then dot.entry else palette_colour palette dot.entry
 
 -- an effect on a single colour: alpha blending, which has no second colour here, leaves it
 unfoldable pub alone : Effect → ℕ → ℕ → ℕ
@@ -79,6 +72,9 @@ stack_colour palette b effects dots s =
     then both b.eva b.evb (colour_of palette top) (colour_of palette (dot_of dots s.second.layer))
     else changed_alone palette b effects s.top.layer top
 
--- no layer is a target, so that no effect changes a colour
-abbrev pub is_plain : Blending → Bool
-is_plain b = (b.first_targets == 0) && (b.second_targets == 0)
+-- What a layer is a target of, and whether its dot is a semi-transparent sprite's, as bits 0, 1 and 2.
+abbrev pub one_if : Bool → ℕ
+one_if test = if test then 1 else 0
+
+abbrev pub marks_of : Blending → Layer → Bool → ℕ
+marks_of b layer semi = one_if (is_target b.first_targets layer) + 2 * one_if (is_target b.second_targets layer) + 4 * one_if semi

@@ -2,6 +2,6 @@ pub mod Blending
 pub mod Foremost
 pub mod Layers
 pub mod Mixing
-pub mod Sets
+pub mod Piles
 pub mod Stacks
 pub mod Windows

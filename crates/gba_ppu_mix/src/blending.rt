@@ -1,16 +1,20 @@
 //! Blending.
 
-ghost use Rattle.std.specs.Prelude.{◌≡◌, ◌&&◌, ◌||◌, ◌≤◌, ◌<◌, if◌then◌else◌, length};
-ghost use Rattle.gba_ppu_mix.specs.Blending.{alone as alone_by, blending_of, coefficient as coefficient_of, effect_of as effect_by, is_alpha, is_changed as is_changed_by, is_plain as is_plain_by, is_target as is_target_of, stack_colour as colour_of_stack};
+ghost use Rattle.std.specs.Prelude.{◌≡◌, ◌≤◌, ◌<◌, if◌then◌else◌, length};
+ghost use Rattle.gba_ppu_mix.specs.Blending.{alone as alone_by, blending_of, coefficient as coefficient_of, effect_of as effect_by, is_alpha, is_changed as is_changed_by, is_target as is_target_of, marks_of as marks_by};
 ghost use Rattle.gba_ppu_mix.specs.Mixing.{backdrop_colour as colour_of_backdrop};
-ghost use Rattle.gba_ppu_mix.specs.Stacks.{dots_at};
 
-use crate::colours::colour_of;
-use crate::lines::{BACKDROP, Lines, colour_of_layer};
-use crate::stacks::{Layer, Stack, layer_bit};
-use gba_ppu_blend::{both, brighter, darker};
+use crate::stacks::{Layer, layer_bit};
+use gba_ppu_blend::{brighter, darker};
+use gba_ppu_dot::{Dot, colour_of};
 use gba_ppu_reg::PictureRegisters;
 use gba_word::{bit, bits};
+
+/// The backdrop's dot, which has the palette's entry 0.
+const BACKDROP: Dot = Dot {
+    opaque: true,
+    ..Dot::CLEAR
+};
 
 /// What is done to a first target (GBATEK, LCD I/O Color Special Effects).
 #[derive(Clone, Copy, Debug, PartialEq, Eq)]
@@ -51,8 +55,6 @@ fn coefficient(half: u16, low: u32) -> u32
     bits(u32::from(half), low, 5).min(16)
 }
 
-/// It isn't part of the loop over a line, which would choose among the effects at each place.
-#[inline(never)]
 #[tactic(auto, unfolding(crate::specs::Blending::alone))]
 fn alone(effect: Effect, evy: u32, colour: u16) -> u16
     requires { evy ≤ 16 }
@@ -72,7 +74,7 @@ fn is_target(targets: u32, layer: Layer) -> bool
 }
 
 impl Effect {
-    fn is_alpha(self) -> bool
+    pub fn is_alpha(self) -> bool
         ensures { result ≡ is_alpha self }
     {
         matches!(self, Effect::Alpha)
@@ -100,23 +102,10 @@ impl Blending {
         }
     }
 
-    /// Whether no layer is a target, so that no effect changes a colour.
-    pub fn is_plain(&self) -> bool
-        ensures { result ≡ is_plain_by self.now }
-    {
-        self.first_targets == 0 && self.second_targets == 0
-    }
-
     fn is_changed(&self, effects: bool, layer: Layer) -> bool
         ensures { result ≡ is_changed_by self.now effects layer }
     {
         effects && is_target(self.first_targets, layer)
-    }
-
-    fn is_blended(&self, effects: bool, layer: Layer, is_semi: bool) -> bool
-        ensures { result ≡ (is_semi || is_changed_by self.now effects layer && is_alpha self.now.effect) }
-    {
-        is_semi || (self.is_changed(effects, layer) && self.effect.is_alpha())
     }
 
     fn changed(&self, effects: bool, layer: Layer, colour: u16) -> u16
@@ -131,40 +120,24 @@ impl Blending {
     }
 
     /// The colour where no layer has a dot, by what shows.
-    pub fn backdrop_colour(&self, palette: &[u8], shows: u32) -> u16
+    pub fn backdrop_colour(&self, palette: &[u8], shows: u16) -> u16
         requires palette { length palette.now ≡ 1024 }
         requires evy { self.now.evy ≤ 16 }
         ensures { result ≡ colour_of_backdrop palette.now self.now shows }
     {
-        self.changed(bit(shows, 5), Layer::Backdrop, colour_of(palette, BACKDROP))
+        self.changed(
+            bit(u32::from(shows), 5),
+            Layer::Backdrop,
+            colour_of(palette, BACKDROP),
+        )
     }
 
-    /// The colour of the foremost layer at a place over the layer behind it.
-    #[tactic(auto, unfolding(crate::specs::Blending::stack_colour))]
-    pub fn stack_colour(
-        &self,
-        palette: &[u8],
-        effects: bool,
-        lines: &Lines,
-        x: usize,
-        stack: Stack,
-    ) -> u16
-        requires palette { length palette.now ≡ 1024 }
-        requires eva { self.now.eva ≤ 16 }
-        requires evb { self.now.evb ≤ 16 }
-        requires evy { self.now.evy ≤ 16 }
-        requires place { x < 240 }
-        ensures { result ≡ colour_of_stack palette.now self.now effects (dots_at lines.now x) stack }
+    /// What a layer is a target of, and whether it is a semi-transparent sprite, as bits 0, 1 and 2.
+    pub fn marks_of(&self, layer: Layer, semi: bool) -> u16
+        ensures { result ≡ marks_by self.now layer semi }
     {
-        let top = stack.top.layer;
-        let (colour, is_semi) = colour_of_layer(palette, lines, x, top);
-        if is_target(self.second_targets, stack.second.layer)
-            && self.is_blended(effects, top, is_semi)
-        {
-            let (below, _) = colour_of_layer(palette, lines, x, stack.second.layer);
-            both(self.eva, self.evb, colour, below)
-        } else {
-            self.changed(effects, top, colour)
-        }
+        u16::from(is_target(self.first_targets, layer))
+            + 2 * u16::from(is_target(self.second_targets, layer))
+            + 4 * u16::from(semi)
     }
 }

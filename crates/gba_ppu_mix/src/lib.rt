@@ -2,12 +2,11 @@
 //! The colours of a line: the layers behind one another, windows and blending.
 
 mod blending;
-mod colours;
 pub mod laws;
 mod layers;
 mod line;
-mod lines;
-mod sets;
+mod paints;
+mod piles;
 mod stacks;
 mod windows;
 

@@ -1,5 +1,5 @@
 use Rattle.std.proofs.Common.{slice_index}
-use Rattle.gba_ppu_blend.proofs.Eights.{eight_more}
+use Rattle.gba_ppu_blend.proofs.More.{eight_more}
 use Rattle.gba_ppu_blend.proofs.kernels.blend_eights.Goals as goal
 
 pub loop-k-preserved : goal.loop-k-preserved
