@@ -46,10 +46,10 @@ enum Move {
     Word(usize, Transfer),
 }
 
-/// A BIOS of zeros.
-fn bios(alloc: Global) -> Result<Bios, Fail> {
-    let mut bytes = Vec::new(alloc);
-    for _ in 0..16_384 {
+/// A BIOS of this word and zeros.
+pub(crate) fn bios_of(alloc: Global, first: u32) -> Result<Bios, Fail> {
+    let mut bytes = Vec::from_slice(alloc, &first.to_le_bytes())?;
+    for _ in bytes.len()..16_384 {
         bytes.push(0)?;
     }
     Ok(Bios::check(bytes).map_err(|_| "no BIOS")?)
@@ -59,7 +59,7 @@ fn bios(alloc: Global) -> Result<Bios, Fail> {
 fn board_of(alloc: Global, seat: (u32, u32, u64), words: bool) -> Result<Board, Fail> {
     let (player, count, delay) = seat;
     let images = ConsoleImages {
-        bios: bios(alloc)?,
+        bios: bios_of(alloc, 0)?,
         cart: None,
         save: None,
     };

@@ -2,6 +2,8 @@
 //! Tests of a board by itself.
 
 #[cfg(test)]
+mod board;
+#[cfg(test)]
 mod cable;
 #[cfg(test)]
 mod skipping;

@@ -30,6 +30,14 @@ idle-silent quiet m idle =
     let core = m.board.core in
     quiet.outgoing m.was core.serial (not-second (is_idle core.devices) (has_news core.serial) idle)
 
+-- nor has one after it whose serial unit is the same
+pub serial-silent : StaysQuiet → (before after : Machine) → core_is_idle before.board.core ≡ true
+    → after.board.core.serial ≡ before.board.core.serial → news after ≡ None
+serial-silent quiet before after idle same =
+    let core = before.board.core in
+    ap (outgoing after.was) same
+    ∙ quiet.outgoing after.was core.serial (not-second (is_idle core.devices) (has_news core.serial) idle)
+
 -- the same of the consoles without their limits
 pub alone-unlimited : {end : ℕ} {x z : Machine} {o : Option Signal} → GoesAlone end x z o
     → GoesAlone end (without_limit x) (without_limit z) o

@@ -1,16 +1,19 @@
 #![tactic(auto)]
 //! A console: registers, a board and changes of the keys, one step of it, and the console as a node of the cable.
 
-ghost use Rattle.std.specs.Prelude.{◌≡◌, ◌+◌, ◌<◌, IfOk, drop, length, vec_len};
+ghost use Rattle.std.specs.Prelude.{◌≡◌, ◌+◌, ◌<◌, All, IfOk, drop, length, vec_len, ℕ, List};
+ghost use Rattle.gba_console.specs.Fixed.{Stands};
 ghost use Rattle.gba_console.specs.Keys.{due_of};
 
 mod acting;
+mod fixed;
 mod hearing;
 mod keys;
 pub mod laws;
 mod node;
 
 use acting::{DECODED, IDLE_CYCLES, act, execute};
+use fixed::{KeptHalf, first_kept};
 use gba_arm_exec::{Decoded as DecodedWord, decode_word};
 use gba_devices::laws::calm_has_begun;
 use gba_image::ConsoleImages;
@@ -20,7 +23,6 @@ use gba_psr::Registers;
 use gba_serial::Transfer;
 use gba_serial::laws::stays_quiet;
 use gba_terms::NoMemory;
-use gba_thumb_exec::{DecodedHalf, decode_half};
 use hearing::take_all;
 pub use keys::KeyState;
 use keys::apply;
@@ -38,10 +40,11 @@ fn words_of(alloc: Global, length: usize) -> Result<Vec<DecodedWord>, AllocError
 }
 
 /// A table of the halfword 0, decoded.
-fn halves_of(alloc: Global, length: usize) -> Result<Vec<DecodedHalf>, AllocError>
-    ensures { IfOk result (λ table. vec_len table ≡ length) }
+fn halves_of(alloc: Global, length: usize) -> Result<Vec<KeptHalf>, AllocError>
+    ensures length { IfOk result (λ table. vec_len table ≡ length) }
+    ensures stand { IfOk result (λ table. (bios rom : List ℕ) → All (Stands bios rom) table.items) }
 {
-    let first = decode_half(0);
+    let first = first_kept();
     vec![in alloc; first; length]
 }
 
@@ -67,16 +70,18 @@ pub struct Console {
     due: u64,
     // The cycles of the last step.
     last: u32,
-    // Words and halfwords that were decoded at their addresses. An entry counts only where it is the one that is read.
+    // Words and halfwords that were decoded at their addresses. An entry counts only where it is the one that is read, or
+    // stands where nothing is written.
     words: Vec<DecodedWord>,
-    halves: Vec<DecodedHalf>,
+    halves: Vec<KeptHalf>,
 }
 
 impl Model for Console {
     ghost use Rattle.gba_console.specs.Keys.{due_of};
     ghost use Rattle.gba_console.specs.Machine.{Machine};
+    ghost use Rattle.gba_console.specs.Fixed.{Stands};
     ghost use Rattle.gba_console.specs.Waiting.{IsSound};
-    ghost use Rattle.std.specs.Prelude.{◌≡◌, ◌-◌, ◌≤◌, drop, vec_len};
+    ghost use Rattle.std.specs.Prelude.{◌≡◌, ◌-◌, ◌≤◌, All, drop, vec_len};
 
     ghost Value = { Machine };
 
@@ -90,7 +95,8 @@ impl Model for Console {
     ghost invariant = { λ c.
         (vec_len c.words ≡ 4096) × (vec_len c.halves ≡ 4096) × (c.applied ≤ vec_len c.keys)
         × (c.due ≡ due_of (drop c.applied c.keys.items)) × (c.last ≤ c.board.core.devices.clock)
-        × IsSound (c.board.core.devices.clock - c.last) c.board };
+        × IsSound (c.board.core.devices.clock - c.last) c.board
+        × All (Stands c.board.core.memory.bios c.board.core.memory.rom) c.halves.items };
 }
 
 impl Console {
@@ -316,7 +322,8 @@ impl Console {
         if !self.is_idle() || self.due() <= clock || self.next_end() <= clock {
             return false;
         }
-        self.step_idly()
+        let _ = self.step_idly();
+        true
     }
 
     /// Makes a step, whatever is asked for, and answers what it tells.
@@ -343,12 +350,7 @@ impl Console {
             &mut self.board.core,
         );
         self.due = due_after(self.keys.as_slice(), self.applied);
-        let cycles = act(
-            &mut self.registers,
-            &mut self.board.core,
-            self.words.as_mut_slice(),
-            self.halves.as_mut_slice(),
-        );
+        let cycles = act(&mut self.registers, &mut self.board.core);
         let signal = self.board.outgoing();
         self.last = cycles;
         self.board.advance(cycles);
@@ -461,29 +463,27 @@ impl Console {
         None
     }
 
-    /// Makes a step where nothing asks for more than idling, if nothing happens in its cycles, and answers whether it did.
+    /// Makes a step where nothing asks for more than idling, and answers whether nothing does after it. It tells nothing.
     #[inline(always)]
     fn step_idly(&mut self) -> bool
         requires clock { clock_of self.old < self.old.board.made.until }
         requires idle { core_is_idle self.old.board.core ≡ true }
         requires early { clock_of self.old < due_of self.old.keys }
         requires ends { clock_of self.old < next_end self.old.board.core.serial }
-        ensures step { result ≡ true → self.new ≡ next self.old }
-        ensures clock { result ≡ true → clock_of self.new ≡ clock_of self.old + 16 }
+        ensures step { self.new ≡ next self.old }
+        ensures clock { clock_of self.new ≡ clock_of self.old + 16 }
         ensures keys { self.new.keys ≡ self.old.keys }
         ensures serial { self.new.board.core.serial ≡ self.old.board.core.serial }
-        ensures idle { core_is_idle self.new.board.core ≡ true }
+        ensures idle { result ≡ core_is_idle self.new.board.core }
         ensures until { self.new.board.made.until ≡ self.old.board.made.until }
-        ensures left { result ≡ false → self.new ≡ self.old }
     {
         calm_has_begun();
         stays_quiet();
         board_passes();
-        if !self.board.owe(IDLE_CYCLES) {
-            return false;
-        }
-        self.last = IDLE_CYCLES;
-        true
+        let idled = IDLE_CYCLES;
+        self.board.advance(idled);
+        self.last = idled;
+        self.board.core.is_idle()
     }
 
     /// Whether nothing but the keys and the end of a transfer may ask for more than idling.
@@ -493,7 +493,60 @@ impl Console {
         self.board.core.is_idle()
     }
 
-    /// Idles while nothing happens and the clock is below `end`. Such steps tell nothing.
+    /// Makes as many of so many idle steps as nothing happens in, all at once, and answers how many. All of them begin below
+    /// `stop`, and they tell nothing.
+    fn idle_quietly(&mut self, stop: u64, most: u32) -> u32
+        requires below { clock_of self.old + 16 * most < stop + 16 }
+        requires until { stop ≤ self.old.board.made.until }
+        requires idle { core_is_idle self.old.board.core ≡ true }
+        requires keys { stop ≤ due_of self.old.keys }
+        requires ends { stop ≤ next_end self.old.board.core.serial }
+        ensures alone { GoesAlone stop self.old self.new None }
+        ensures clock { clock_of self.new ≡ clock_of self.old + 16 * result }
+        ensures keys { self.new.keys ≡ self.old.keys }
+        ensures serial { self.new.board.core.serial ≡ self.old.board.core.serial }
+        ensures idle { core_is_idle self.new.board.core ≡ true }
+        ensures until { self.new.board.made.until ≡ self.old.board.made.until }
+    {
+        calm_has_begun();
+        stays_quiet();
+        board_passes();
+        steps_pass();
+        let steps = self.board.owe_steps(IDLE_CYCLES, most);
+        if steps == 0 {
+            return 0;
+        }
+        self.last = IDLE_CYCLES;
+        steps
+    }
+
+    /// Makes an idle step or more, and answers whether nothing asks for more than idling after them. All of them begin below
+    /// `stop`, and they tell nothing.
+    #[inline(always)]
+    fn idle_on(&mut self, stop: u64) -> bool
+        requires below { clock_of self.old < stop }
+        requires until { stop ≤ self.old.board.made.until }
+        requires idle { core_is_idle self.old.board.core ≡ true }
+        requires keys { stop ≤ due_of self.old.keys }
+        requires ends { stop ≤ next_end self.old.board.core.serial }
+        ensures alone { GoesAlone stop self.old self.new None }
+        ensures rises { clock_of self.old < clock_of self.new }
+        ensures keys { self.new.keys ≡ self.old.keys }
+        ensures serial { self.new.board.core.serial ≡ self.old.board.core.serial }
+        ensures idle { result ≡ core_is_idle self.new.board.core }
+        ensures until { self.new.board.made.until ≡ self.old.board.made.until }
+    {
+        stays_quiet();
+        steps_pass();
+        let left = (stop - self.clock()).min(512) as u32;
+        let most = (left + IDLE_CYCLES - 1) / IDLE_CYCLES;
+        if self.idle_quietly(stop, most) > 0 {
+            return true;
+        }
+        self.step_idly()
+    }
+
+    /// Idles while nothing asks for more and the clock is below `end`. Such steps tell nothing.
     #[inline(never)]
     fn go_idly(&mut self, end: u64)
         requires { end ≤ self.old.board.made.until }
@@ -501,18 +554,15 @@ impl Console {
         ensures later { clock_of self.old ≤ clock_of self.new }
         ensures until { self.new.board.made.until ≡ self.old.board.made.until }
     {
-        steps_pass();
         stays_quiet();
         if !self.is_idle() {
             return;
         }
         let stop = end.min(self.due()).min(self.next_end());
-        let mut left = stop.saturating_sub(self.clock());
-        while left > 0 {
-            if !self.step_idly() {
+        while self.clock() < stop {
+            if !self.idle_on(stop) {
                 return;
             }
-            left = left.saturating_sub(u64::from(IDLE_CYCLES));
         }
     }
 

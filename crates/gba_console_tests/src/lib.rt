@@ -1,7 +1,11 @@
 #![tactic(auto)]
-//! Tests of whole consoles on a cable, joined by hand.
+//! Tests of whole consoles: by themselves, and on a cable, joined by hand.
 
 #[cfg(test)]
 mod cable;
+#[cfg(test)]
+mod console;
+#[cfg(test)]
+mod picture;
 #[cfg(test)]
 mod transfers;

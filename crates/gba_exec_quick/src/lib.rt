@@ -8,5 +8,8 @@ mod performing;
 mod quick;
 
 pub use making::quick_of_word;
-pub use performing::{perform_quick, perform_quick_in_thumb};
+pub use performing::{
+    branch, compare_number, compare_plain, load_quick, move_left, move_right, perform_any,
+    perform_quick, set_number, set_plain, store_quick, write_number, write_plain,
+};
 pub use quick::Quick;

@@ -1,5 +1,5 @@
-//! What each quick form does. The commonest stand in `perform_quick`, which is to be inlined where it is called, the
-//! others in functions of their own.
+//! What each quick form does. The commonest of ARM code stand in `perform_quick`, which is to be inlined where it is
+//! called, the others in functions of their own.
 
 ghost use Rattle.std.specs.Prelude.{◌≡◌, ◌<◌, ◌≤◌, IsTrue};
 ghost use Rattle.gba_exec_quick.specs.Effects.{
@@ -14,14 +14,16 @@ ghost use Rattle.gba_exec_quick.specs.Effects.{
   with_flags_and,
 };
 ghost use Rattle.gba_exec_quick.specs.Making.{QuickFits, is_whole};
+ghost use Rattle.gba_exec_registers.specs.Processing.{flags_after};
+ghost use Rattle.gba_psr.specs.RegisterFile.{with_flags};
 ghost use Rattle.gba_exec_transfers.specs.Done.{Leaves};
+ghost use Rattle.gba_word.specs.Shifts.{nonzero_shift};
+ghost use Rattle.gba_word.specs.declared.kinds.Shift.TheVariants.{Lsl, Lsr};
 
 use crate::Quick;
 use gba_arm_table::ComputeOp;
 use gba_bus::{Bus, Width};
-use gba_exec_registers::{
-    Outcome, Site, code_price, flags_of_outcome, jump, jump_price, operate, trap,
-};
+use gba_exec_registers::{Outcome, Site, code_price, jump, jump_price, operate, trap};
 use gba_exec_transfers::{
     LoadUnit, load_block, load_plain, load_single, perform, store_block, store_plain, store_single,
     unit_load, unit_store,
@@ -198,136 +200,10 @@ pub fn perform_quick<B: Bus>(registers: &mut Registers, bus: &mut B, site: Site,
     }
 }
 
-/// Performs a quick form as [`perform_quick`] does, with the forms that are common in Thumb code at hand.
-#[inline(always)]
-#[tactic(auto, unfolding(crate::specs::Effects::effect_of_quick))]
-pub fn perform_quick_in_thumb<B: Bus>(
-    registers: &mut Registers,
-    bus: &mut B,
-    site: Site,
-    one: &Quick,
-) -> u32
-    requires { QuickFits one.now }
-    ensures { Leaves (effect_of_quick B.code_price_of B.load_of B.store_of one.now site registers.old (B.state bus.old))
-        registers.new (B.state bus.new) result }
-{
-    match *one {
-        Quick::AddNumber { rn, rd, value } => {
-            write_number(registers, bus, site, ComputeOp::Add, rn, rd, value)
-        }
-        Quick::AddPlain { rn, rd, rm } => {
-            write_plain(registers, bus, site, ComputeOp::Add, rn, rd, rm)
-        }
-        Quick::MovPlain { rn, rd, rm } => {
-            write_plain(registers, bus, site, ComputeOp::Mov, rn, rd, rm)
-        }
-        Quick::SetNumber {
-            op,
-            rn,
-            rd,
-            value,
-            turned,
-        } => set_number(registers, bus, site, op, rn, rd, value, turned),
-        Quick::SetPlain { op, rn, rd, rm } => set_plain(registers, bus, site, op, rn, rd, rm),
-        Quick::SetShifted {
-            op,
-            rn,
-            rd,
-            rm,
-            kind,
-            amount,
-        } => set_shifted(registers, bus, site, op, rn, rd, rm, kind, amount),
-        Quick::CompareNumber {
-            op,
-            rn,
-            value,
-            turned,
-        } => compare_number(registers, bus, site, op, rn, value, turned),
-        Quick::ComparePlain { op, rn, rm } => compare_plain(registers, bus, site, op, rn, rm),
-        Quick::SetAddNumber {
-            rn,
-            rd,
-            value,
-            turned,
-        } => set_number(registers, bus, site, ComputeOp::Add, rn, rd, value, turned),
-        Quick::SetSubNumber {
-            rn,
-            rd,
-            value,
-            turned,
-        } => set_number(registers, bus, site, ComputeOp::Sub, rn, rd, value, turned),
-        Quick::SetMovNumber {
-            rn,
-            rd,
-            value,
-            turned,
-        } => set_number(registers, bus, site, ComputeOp::Mov, rn, rd, value, turned),
-        Quick::SetAddPlain { rn, rd, rm } => {
-            set_plain(registers, bus, site, ComputeOp::Add, rn, rd, rm)
-        }
-        Quick::SetSubPlain { rn, rd, rm } => {
-            set_plain(registers, bus, site, ComputeOp::Sub, rn, rd, rm)
-        }
-        Quick::SetAndPlain { rn, rd, rm } => {
-            set_plain(registers, bus, site, ComputeOp::And, rn, rd, rm)
-        }
-        Quick::SetEorPlain { rn, rd, rm } => {
-            set_plain(registers, bus, site, ComputeOp::Eor, rn, rd, rm)
-        }
-        Quick::SetAdcPlain { rn, rd, rm } => {
-            set_plain(registers, bus, site, ComputeOp::Adc, rn, rd, rm)
-        }
-        Quick::SetOrrPlain { rn, rd, rm } => {
-            set_plain(registers, bus, site, ComputeOp::Orr, rn, rd, rm)
-        }
-        Quick::SetBicPlain { rn, rd, rm } => {
-            set_plain(registers, bus, site, ComputeOp::Bic, rn, rd, rm)
-        }
-        Quick::SetMvnPlain { rn, rd, rm } => {
-            set_plain(registers, bus, site, ComputeOp::Mvn, rn, rd, rm)
-        }
-        Quick::SetMovShifted {
-            rn,
-            rd,
-            rm,
-            kind,
-            amount,
-        } => set_shifted(
-            registers,
-            bus,
-            site,
-            ComputeOp::Mov,
-            rn,
-            rd,
-            rm,
-            kind,
-            amount,
-        ),
-        Quick::CmpNumber { rn, value, turned } => {
-            compare_number(registers, bus, site, ComputeOp::Sub, rn, value, turned)
-        }
-        Quick::CmpPlain { rn, rm } => compare_plain(registers, bus, site, ComputeOp::Sub, rn, rm),
-        Quick::LoadWord { rn, rd, offset } => {
-            load_quick(registers, bus, site, LoadUnit::Word, rn, rd, offset)
-        }
-        Quick::LoadByte { rn, rd, offset } => {
-            load_quick(registers, bus, site, LoadUnit::Byte, rn, rd, offset)
-        }
-        Quick::StoreWord { rn, rd, offset } => {
-            store_quick(registers, bus, site, Width::Word, rn, rd, offset)
-        }
-        Quick::StoreByte { rn, rd, offset } => {
-            store_quick(registers, bus, site, Width::Byte, rn, rd, offset)
-        }
-        Quick::Branch { distance } => branch(registers, bus, site, distance),
-        _ => perform_any(registers, bus, site, one),
-    }
-}
-
-// Any form.
+/// Performs any quick form as [`perform_quick`] does, behind a call.
 #[inline(never)]
 #[tactic(auto, unfolding(crate::specs::Effects::effect_of_quick))]
-fn perform_any<B: Bus>(registers: &mut Registers, bus: &mut B, site: Site, one: &Quick) -> u32
+pub fn perform_any<B: Bus>(registers: &mut Registers, bus: &mut B, site: Site, one: &Quick) -> u32
     requires { QuickFits one.now }
     ensures { Leaves (effect_of_quick B.code_price_of B.load_of B.store_of one.now site registers.old (B.state bus.old))
         registers.new (B.state bus.new) result }
@@ -576,19 +452,27 @@ fn number_carry(registers: &Registers, value: u32, turned: bool) -> bool
     }
 }
 
+// Writes the flags of an outcome.
+#[inline(always)]
+fn write_flags(registers: &mut Registers, outcome: Outcome)
+    ensures { registers.new ≡ with_flags registers.old (flags_after outcome) }
+{
+    registers.set_result(outcome.value, outcome.carry, outcome.overflow);
+}
+
 // Writes the flags of an outcome, and its value.
 #[inline(always)]
 fn write_flags_and(registers: &mut Registers, rd: u8, outcome: Outcome)
     requires { rd < 16 }
     ensures { registers.new ≡ with_flags_and rd outcome registers.old }
 {
-    registers.set_flags(flags_of_outcome(outcome));
+    write_flags(registers, outcome);
     registers.set(u32::from(rd), outcome.value);
 }
 
-// Data processing of a register and a number.
+/// Data processing of a register and a number.
 #[inline(always)]
-fn write_number<B: Bus>(
+pub fn write_number<B: Bus>(
     registers: &mut Registers,
     bus: &B,
     site: Site,
@@ -607,9 +491,9 @@ fn write_number<B: Bus>(
     code_price(bus, site, true)
 }
 
-// Data processing of two registers.
+/// Data processing of two registers.
 #[inline(always)]
-fn write_plain<B: Bus>(
+pub fn write_plain<B: Bus>(
     registers: &mut Registers,
     bus: &B,
     site: Site,
@@ -658,10 +542,10 @@ fn write_shifted<B: Bus>(
     code_price(bus, site, true)
 }
 
-// Data processing with S of a register and a number.
+/// Data processing with S of a register and a number. `turned` says that the number's bit 31 is the carry.
 #[inline(always)]
 #[tactic(auto, unfolding(crate::specs::Effects::effect_of_quick))]
-fn set_number<B: Bus>(
+pub fn set_number<B: Bus>(
     registers: &mut Registers,
     bus: &B,
     site: Site,
@@ -682,10 +566,10 @@ fn set_number<B: Bus>(
     code_price(bus, site, true)
 }
 
-// Data processing with S of two registers.
+/// Data processing with S of two registers.
 #[inline(always)]
 #[tactic(auto, unfolding(crate::specs::Effects::effect_of_quick))]
-fn set_plain<B: Bus>(
+pub fn set_plain<B: Bus>(
     registers: &mut Registers,
     bus: &B,
     site: Site,
@@ -735,10 +619,97 @@ fn set_shifted<B: Bus>(
     code_price(bus, site, true)
 }
 
-// The flags of a register and a number.
+// The bit that LSL moves out last.
+#[inline(always)]
+fn left_carry(value: u32, amount: u8) -> bool
+    requires { amount ≤ 31 }
+    ensures { result ≡ (nonzero_shift Lsl value amount).1 }
+{
+    (u64::from(value) << amount >> 32) % 2 == 1
+}
+
+// The bit that LSR moves out last.
+#[inline(always)]
+fn right_carry(value: u32, amount: u8) -> bool
+    requires least { 0 < amount }
+    requires most { amount ≤ 31 }
+    ensures { result ≡ (nonzero_shift Lsr value amount).1 }
+{
+    bit(value, u32::from(amount) - 1)
+}
+
+/// MOV with S of a register and LSL by 1 to 31 places.
 #[inline(always)]
 #[tactic(auto, unfolding(crate::specs::Effects::effect_of_quick))]
-fn compare_number<B: Bus>(
+pub fn move_left<B: Bus>(
+    registers: &mut Registers,
+    bus: &B,
+    site: Site,
+    rn: u8,
+    rd: u8,
+    rm: u8,
+    amount: u8,
+) -> u32
+    requires rn { rn < 16 }
+    requires rd { rd < 16 }
+    requires rm { rm < 16 }
+    requires least { 0 < amount }
+    requires most { amount ≤ 31 }
+    ensures { Leaves (effect_of_quick B.code_price_of B.load_of B.store_of (Quick.SetMovShifted rn rd rm Lsl amount) site registers.old
+        (B.state bus.now)) registers.new (B.state bus.now) result }
+{
+    let value = registers.get(u32::from(rm));
+    let second = shift_within(Shift::Lsl, value, amount);
+    let carry = left_carry(value, amount);
+    let outcome = outcome_in(
+        registers,
+        ComputeOp::Mov,
+        registers.get(u32::from(rn)),
+        second,
+        carry,
+    );
+    write_flags_and(registers, rd, outcome);
+    code_price(bus, site, true)
+}
+
+/// MOV with S of a register and LSR by 1 to 31 places.
+#[inline(always)]
+#[tactic(auto, unfolding(crate::specs::Effects::effect_of_quick))]
+pub fn move_right<B: Bus>(
+    registers: &mut Registers,
+    bus: &B,
+    site: Site,
+    rn: u8,
+    rd: u8,
+    rm: u8,
+    amount: u8,
+) -> u32
+    requires rn { rn < 16 }
+    requires rd { rd < 16 }
+    requires rm { rm < 16 }
+    requires least { 0 < amount }
+    requires most { amount ≤ 31 }
+    ensures { Leaves (effect_of_quick B.code_price_of B.load_of B.store_of (Quick.SetMovShifted rn rd rm Lsr amount) site registers.old
+        (B.state bus.now)) registers.new (B.state bus.now) result }
+{
+    let value = registers.get(u32::from(rm));
+    let second = shift_within(Shift::Lsr, value, amount);
+    let carry = right_carry(value, amount);
+    let outcome = outcome_in(
+        registers,
+        ComputeOp::Mov,
+        registers.get(u32::from(rn)),
+        second,
+        carry,
+    );
+    write_flags_and(registers, rd, outcome);
+    code_price(bus, site, true)
+}
+
+/// The flags of a register and a number.
+#[inline(always)]
+#[tactic(auto, unfolding(crate::specs::Effects::effect_of_quick))]
+pub fn compare_number<B: Bus>(
     registers: &mut Registers,
     bus: &B,
     site: Site,
@@ -753,14 +724,14 @@ fn compare_number<B: Bus>(
 {
     let carry = number_carry(registers, value, turned);
     let outcome = outcome_in(registers, op, registers.get(u32::from(rn)), value, carry);
-    registers.set_flags(flags_of_outcome(outcome));
+    write_flags(registers, outcome);
     code_price(bus, site, true)
 }
 
-// The flags of two registers.
+/// The flags of two registers.
 #[inline(always)]
 #[tactic(auto, unfolding(crate::specs::Effects::effect_of_quick))]
-fn compare_plain<B: Bus>(
+pub fn compare_plain<B: Bus>(
     registers: &mut Registers,
     bus: &B,
     site: Site,
@@ -776,7 +747,7 @@ fn compare_plain<B: Bus>(
     let second = registers.get(u32::from(rm));
     let carry = registers.flags().carry;
     let outcome = outcome_in(registers, op, registers.get(u32::from(rn)), second, carry);
-    registers.set_flags(flags_of_outcome(outcome));
+    write_flags(registers, outcome);
     code_price(bus, site, true)
 }
 
@@ -802,14 +773,14 @@ fn compare_shifted<B: Bus>(
 {
     let (second, carry) = shift(kind, registers.get(u32::from(rm)), amount, false);
     let outcome = outcome_in(registers, op, registers.get(u32::from(rn)), second, carry);
-    registers.set_flags(flags_of_outcome(outcome));
+    write_flags(registers, outcome);
     code_price(bus, site, true)
 }
 
-// B.
+/// B.
 #[inline(always)]
 #[tactic(auto, unfolding(crate::specs::Effects::effect_of_quick))]
-fn branch<B: Bus>(registers: &mut Registers, bus: &B, site: Site, distance: u32) -> u32
+pub fn branch<B: Bus>(registers: &mut Registers, bus: &B, site: Site, distance: u32) -> u32
     ensures { Leaves (effect_of_quick B.code_price_of B.load_of B.store_of (Quick.Branch distance) site registers.old
         (B.state bus.now)) registers.new (B.state bus.now) result }
 {
@@ -817,9 +788,9 @@ fn branch<B: Bus>(registers: &mut Registers, bus: &B, site: Site, distance: u32)
     jump_price(bus, site)
 }
 
-// A load that keeps the base.
+/// A load that keeps the base.
 #[inline(always)]
-fn load_quick<B: Bus>(
+pub fn load_quick<B: Bus>(
     registers: &mut Registers,
     bus: &mut B,
     site: Site,
@@ -840,9 +811,9 @@ fn load_quick<B: Bus>(
     code + price + 1
 }
 
-// A store that keeps the base.
+/// A store that keeps the base.
 #[inline(always)]
-fn store_quick<B: Bus>(
+pub fn store_quick<B: Bus>(
     registers: &Registers,
     bus: &mut B,
     site: Site,

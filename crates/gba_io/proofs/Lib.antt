@@ -4,3 +4,4 @@ pub mod Drawing
 pub mod Ending
 pub mod Keeping
 pub mod Telling
+pub mod Crossing

@@ -19,8 +19,10 @@ use gba_generator::{bios_name, job_name, job_text, make_bios, make_job};
 use gba_image::{Bios, ConsoleImages};
 use gba_inputs::{ImageDigests, Inputs};
 use gba_joblog::{Job, digest_of};
+use gba_store::Gate;
 use gba_terms::NoMemory;
 use std::alloc::{AllocError, Global};
+use std::thread::Threads;
 
 /// The most files of a run of four consoles.
 const MOST_OUTPUTS: usize = 21;
@@ -91,12 +93,14 @@ fn first_files(alloc: Global, made: [OutputFile; 5]) -> Result<Vec<OutputFile>, 
 }
 
 /// What the run of a job with its inputs writes, after these files.
-fn run_after(
+fn run_after<R: Threads + Sync, G: Gate + Sync>(
+    rt: &R,
     alloc: Global,
     out: &str,
     mut files: Vec<OutputFile>,
     job: Job,
     inputs: Vec<Inputs>,
+    gate: &G,
 ) -> Result<Outputs, NoMemory>
     requires out { length out.now ≤ 180 }
     requires sound { IsJob (job_value job) }
@@ -105,7 +109,7 @@ fn run_after(
         ≡ after_files (map output_value files.items)
         (result_of_run out.now (job_value job) (map inputs_value inputs.items))) }
 {
-    let mut run = run_inputs(alloc, out, job, inputs)?;
+    let mut run = run_inputs(rt, alloc, out, job, inputs, gate)?;
     files.append(&mut run.files)?;
     Ok(Outputs {
         files,
@@ -114,7 +118,12 @@ fn run_after(
 }
 
 /// The job with its inputs and its files, and its run. The room for all files is taken before the first step.
-fn make(alloc: Global, words: &GenerateWords<'_>) -> Result<Outputs, NoMemory>
+fn make<R: Threads + Sync, G: Gate + Sync>(
+    rt: &R,
+    alloc: Global,
+    words: &GenerateWords<'_>,
+    gate: &G,
+) -> Result<Outputs, NoMemory>
     requires { AreGenerateWords (generate_words_value words.now) }
     ensures { IfOk result (λ outputs. run_value outputs ≡ generated_run (generate_words_value words.now)) }
 {
@@ -127,15 +136,20 @@ fn make(alloc: Global, words: &GenerateWords<'_>) -> Result<Outputs, NoMemory>
     let made = [first_file, second_file, third_file, fourth_file, job_file];
     let files = first_files(alloc, made)?;
     let inputs = all_inputs(alloc, [first, second, third, fourth])?;
-    run_after(alloc, words.out, files, job, inputs)
+    run_after(rt, alloc, words.out, files, job, inputs, gate)
 }
 
 /// Makes of a number the images and the job of four consoles, and runs the job. It reads nothing.
-pub(crate) fn generate(alloc: Global, words: &GenerateWords<'_>) -> Result<Outputs, Refusal>
+pub(crate) fn generate<R: Threads + Sync, G: Gate + Sync>(
+    rt: &R,
+    alloc: Global,
+    words: &GenerateWords<'_>,
+    gate: &G,
+) -> Result<Outputs, Refusal>
     requires { AreGenerateWords (generate_words_value words.now) }
     ensures { Agrees run_value (Ok (generated_run (generate_words_value words.now))) result }
 {
-    match make(alloc, words) {
+    match make(rt, alloc, words, gate) {
         Ok(outputs) => Ok(outputs),
         Err(NoMemory) => Err(Refusal::NoMemory),
     }

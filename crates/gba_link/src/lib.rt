@@ -38,14 +38,16 @@ use std::thread::Threads;
 ///
 /// Two clauses say all of it, over every store and sink: `answer`, that the reads made are those of the plan of the
 /// words, how they end, and what is written and answered for that end; and `complete`, that where no count of absences
-/// or faults rose, it is what the words and the files come to, or memory was wanting. This project's profile.
+/// or faults rose, it is what the words and the files come to, or memory was wanting. Several consoles run side by side on
+/// threads, whose steps enter the gate: both clauses hold however the threads are scheduled and whatever the gate does.
+/// This project's profile.
 pub fn gba_link<R: Threads + Sync, S: Store, O: Sink, G: Gate + Sync>(
-    _rt: &R,
+    rt: &R,
     alloc: Global,
     words: &[String],
     store: &mut S,
     out: &mut O,
-    _gate: &G,
+    gate: &G,
 ) -> u8
     ensures answer { (end : Result Run Stop)
         × GoesTo (Gives S.Tells S.files S.Reads S.absences S.faults) (plan_of (map string_bytes words.now))
@@ -61,5 +63,5 @@ pub fn gba_link<R: Threads + Sync, S: Store, O: Sink, G: Gate + Sync>(
         (sink_state (O.files out.old) (O.faults out.old) (O.wants out.old))
         (sink_state (O.files out.new) (O.faults out.new) (O.wants out.new)) }
 {
-    answer(out, &do_words(alloc, store, words))
+    answer(out, &do_words(rt, alloc, store, words, gate))
 }

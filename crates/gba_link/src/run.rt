@@ -16,10 +16,11 @@ use gba_image::ConsoleImages;
 use gba_inputs::{Inputs, fill_job, read_inputs};
 use gba_joblog::{Job, JobError, JobKind, LONGEST_JOB, ParseRefused};
 use gba_session::Session;
-use gba_store::Store;
+use gba_store::{Gate, Store};
 use gba_terms::NoMemory;
 use gba_written::Room;
 use std::alloc::{AllocError, Global};
+use std::thread::Threads;
 
 /// The job that the bytes say, where no output file is JOB or one of the job's inputs.
 fn accepted_job(alloc: Global, words: &RunWords<'_>, bytes: &[u8]) -> Result<Job, Refusal>
@@ -54,12 +55,15 @@ fn images_from(alloc: Global, inputs: Vec<Inputs>) -> Result<Vec<ConsoleImages>,
     inputs.into_iter().map(|one| one.images).collect(alloc)
 }
 
-/// Runs the consoles of a job with their inputs, and makes what is written. All memory is taken before the first step.
-pub(crate) fn run_inputs(
+/// Runs the consoles of a job with their inputs, and makes what is written. All memory that can be wanting is taken before
+/// the first step.
+pub(crate) fn run_inputs<R: Threads + Sync, G: Gate + Sync>(
+    rt: &R,
     alloc: Global,
     out: &str,
     mut job: Job,
     mut inputs: Vec<Inputs>,
+    gate: &G,
 ) -> Result<Outputs, NoMemory>
     requires out { length out.now ≤ 180 }
     requires sound { IsJob (job_value job) }
@@ -69,18 +73,20 @@ pub(crate) fn run_inputs(
     fill_job(alloc, &mut job, inputs.as_mut_slice());
     let room = Room::new(alloc, out, &job)?;
     let images = images_from(alloc, inputs)?;
-    let session = Session::prepare(alloc, &job, images)?.run();
+    let session = Session::prepare(alloc, &job, images)?.run(rt, alloc, gate);
     let summary = session.summary();
     let files = session.into_files(alloc);
     Ok(room.fill(job, files, summary))
 }
 
 /// Reads the inputs of a job and runs it.
-fn run_job<S: Store>(
+fn run_job<R: Threads + Sync, S: Store, G: Gate + Sync>(
+    rt: &R,
     alloc: Global,
     store: &mut S,
     words: &RunWords<'_>,
     job: Job,
+    gate: &G,
 ) -> Result<Outputs, Refusal>
     requires out { length words.now.out.now ≤ 180 }
     requires sound { IsJob (job_value job) }
@@ -88,17 +94,19 @@ fn run_job<S: Store>(
         store.old store.new (end_of run_value result) }
 {
     let inputs = read_inputs(alloc, store, job.consoles.as_slice())?;
-    match run_inputs(alloc, words.out, job, inputs) {
+    match run_inputs(rt, alloc, words.out, job, inputs, gate) {
         Ok(outputs) => Ok(outputs),
         Err(_) => Err(Refusal::NoMemory),
     }
 }
 
 /// Reads the job of a command and runs it.
-pub(crate) fn run_command<S: Store>(
+pub(crate) fn run_command<R: Threads + Sync, S: Store, G: Gate + Sync>(
+    rt: &R,
     alloc: Global,
     store: &mut S,
     words: &RunWords<'_>,
+    gate: &G,
 ) -> Result<Outputs, Refusal>
     requires { AreRunWords (run_words_value words.now) }
     ensures { GoesTo (Gives S.Tells S.files S.Reads S.absences S.faults) (whole_run_plan (run_words_value words.now))
@@ -113,5 +121,5 @@ pub(crate) fn run_command<S: Store>(
     );
     let bytes = read_file(alloc, store, words.job, LONGEST_JOB as u64, long)?;
     let job = accepted_job(alloc, words, bytes.as_slice())?;
-    run_job(alloc, store, words, job)
+    run_job(rt, alloc, store, words, job, gate)
 }

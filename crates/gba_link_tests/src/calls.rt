@@ -1,7 +1,7 @@
 //! Calls of the program over files in memory.
 
 use gba_link::gba_link;
-use gba_store::{MemorySink, MemoryStore, NoGate, StoredFile};
+use gba_store::{Gate, MemorySink, MemoryStore, NoGate, StoredFile};
 use std::alloc::{AllocError, Global};
 use std::process::Abort;
 use std::test::Fail;
@@ -62,14 +62,27 @@ pub(crate) fn call_with<R: Abort + Threads + Sync>(
     Ok(Answer { status, out })
 }
 
-/// A call with these words over these files, in which nothing fails.
+/// A call with these words over these files, in which nothing fails, and whose lanes go through this gate.
+pub(crate) fn call_through<R: Abort + Threads + Sync, G: Gate + Sync>(
+    rt: &R,
+    alloc: Global,
+    words: &[&str],
+    files: Vec<StoredFile>,
+    gate: &G,
+) -> Result<Answer, Fail> {
+    let said = copies_of(alloc, words)?;
+    let mut store = MemoryStore::new(files, Vec::new(alloc));
+    let mut out = MemorySink::new(alloc, Vec::new(alloc), Vec::new(alloc));
+    let status = gba_link(rt, alloc, said.as_slice(), &mut store, &mut out, gate);
+    Ok(Answer { status, out })
+}
+
+/// The same with no gate.
 pub(crate) fn call<R: Abort + Threads + Sync>(
     rt: &R,
     alloc: Global,
     words: &[&str],
     files: Vec<StoredFile>,
 ) -> Result<Answer, Fail> {
-    let store = MemoryStore::new(files, Vec::new(alloc));
-    let out = MemorySink::new(alloc, Vec::new(alloc), Vec::new(alloc));
-    call_with(rt, alloc, words, store, out)
+    call_through(rt, alloc, words, files, &NoGate)
 }

@@ -1,17 +1,15 @@
 #![tactic(auto)]
-//! Tests of the outside, of a board and a console by themselves, and of the top call over files in memory.
+//! Tests of the outside, of the top call over files in memory, and of its lanes.
 
-#[cfg(test)]
-mod board;
 #[cfg(test)]
 mod calls;
 #[cfg(test)]
-mod console;
-#[cfg(test)]
 mod linked;
+#[cfg(test)]
+mod meeting;
 #[cfg(test)]
 mod outside;
 #[cfg(test)]
-mod picture;
+mod schedules;
 #[cfg(test)]
 mod top_call;

@@ -9,7 +9,7 @@ use std::test::Fail;
 use std::thread::Threads;
 
 /// Multi at speed 3 with 1234h, started at 817: 16 + 200 * 4 - 2 + 3 cycles. Then a loop of 3 cycles from 819 on.
-const STARTS_MULTI: [u32; 17] = [
+pub(crate) const STARTS_MULTI: [u32; 17] = [
     0xE3A0_5301, // 00 MOV r5, #04000000h
     0xE285_5C01, // 04 ADD r5, r5, #100h
     0xE3A0_0000, // 08 MOV r0, #0
@@ -30,7 +30,7 @@ const STARTS_MULTI: [u32; 17] = [
 ];
 
 /// In Multi from 13 on with ABCDh. Then a loop of 3 cycles from 16 on.
-const AWAITS_MULTI: [u32; 12] = [
+pub(crate) const AWAITS_MULTI: [u32; 12] = [
     0xE3A0_5301, // 00 MOV r5, #04000000h
     0xE285_5C01, // 04 ADD r5, r5, #100h
     0xE3A0_0000, // 08 MOV r0, #0
@@ -66,7 +66,7 @@ const SENDS_KEYS: [u32; 16] = [
 ];
 
 /// Normal8 with 5Ah, started at 408: 6 + 100 * 4 - 2 + 4 cycles. Then a loop from 410 on.
-const STARTS_BYTE: [u32; 12] = [
+pub(crate) const STARTS_BYTE: [u32; 12] = [
     0xE3A0_5301, // 00 MOV r5, #04000000h
     0xE285_5C01, // 04 ADD r5, r5, #100h
     0xE3A0_0000, // 08 MOV r0, #0
@@ -82,7 +82,7 @@ const STARTS_BYTE: [u32; 12] = [
 ];
 
 /// Normal8 with A5h and the outside clock. Then a loop from 11 on.
-const AWAITS_BYTE: [u32; 9] = [
+pub(crate) const AWAITS_BYTE: [u32; 9] = [
     0xE3A0_5301, // 00 MOV r5, #04000000h
     0xE285_5C01, // 04 ADD r5, r5, #100h
     0xE3A0_0000, // 08 MOV r0, #0

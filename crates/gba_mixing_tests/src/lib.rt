@@ -1,8 +1,10 @@
 #![tactic(auto)]
-//! Tests of sprites and of mixed lines: worked lines of both.
+//! Tests of sprites, of mixed lines and of blended ones: worked lines of each.
 
 #[cfg(test)]
 mod blending;
+#[cfg(test)]
+mod kernels;
 #[cfg(test)]
 mod memory;
 #[cfg(test)]

@@ -1,3 +1,4 @@
 pub mod Bytes
 pub mod Control
 pub mod Dots
+pub mod Paints

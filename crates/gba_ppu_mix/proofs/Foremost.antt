@@ -4,11 +4,11 @@ use Rattle.std.proofs.lemmas.Bool.{le-ltb, ltb-true, ltb-false}
 use Rattle.gba_ppu_dot.specs.declared.dot.Dot.{Dot}
 use Rattle.gba_ppu_mix.specs.Foremost.{HasForemost, IsOneOf, and_if, and_layer, candidates_of, front_candidates, is_candidate}
 use Rattle.gba_ppu_mix.specs.Stacks.{Dots, bottom, front_of, nearer, sprite_rank, stack_of, with_candidate, with_dot}
-use Rattle.gba_ppu_mix.specs.declared.stacks.Candidate.{Candidate}
+use Rattle.gba_ppu_mix.specs.Stacks.{Candidate}
 use Rattle.gba_ppu_mix.specs.declared.stacks.Layer.{Layer}
 use Rattle.gba_ppu_mix.specs.declared.stacks.Layer.TheVariants.{Background0, Background1, Background2, Background3, Sprites}
 use Rattle.gba_ppu_mix.specs.declared.stacks.Ranks.{Ranks}
-use Rattle.gba_ppu_mix.specs.declared.stacks.Stack.{Stack}
+use Rattle.gba_ppu_mix.specs.Stacks.{Stack}
 
 all : List Candidate → Stack
 all [] = bottom

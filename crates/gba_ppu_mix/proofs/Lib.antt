@@ -1,4 +1,7 @@
 pub mod Foremost
+pub mod Grounds
+pub mod Lines
+pub mod Marks
 pub mod Pixels
-pub mod Plain
 pub mod Runs
+pub mod Tied

@@ -72,7 +72,7 @@ bare_colour : (palette : List ℕ) (b : Blending) (shows : ℕ) → bit b.second
 unfolding stack_colour dot_of
 bare_colour palette b shows off = rw off refl
 
-no_target : (b : Blending) → b.second_targets < 64 → bit b.second_targets 6 ≡ false
+pub no_target : (b : Blending) → b.second_targets < 64 → bit b.second_targets 6 ≡ false
 no_target b few = grind (arith, few)
 
 unlayered : (palette : List ℕ) (w : Windows) (b : Blending) (ranks : Ranks) (x : ℕ) → b.second_targets < 64

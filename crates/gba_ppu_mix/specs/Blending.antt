@@ -1,16 +1,17 @@
-use Rattle.std.specs.Prelude.{ℕ, Bool, ◌&&◌, ◌||◌, ◌+◌, ◌-◌, ◌*◌, ◌/◌, ◌%◌, ◌==◌, min, true, false, List, if◌then◌else◌}
+use Rattle.std.specs.Prelude.{ℕ, Bool, ◌&&◌, ◌||◌, ◌+◌, ◌*◌, ◌==◌, min, true, false, List, if◌then◌else◌}
 use Rattle.gba_terms.specs.Bits.{bit, field}
 use Rattle.gba_ppu_reg.specs.Registers.{Picture, picture_kept}
-use Rattle.gba_ppu_dot.specs.Bytes.{half_at}
+use Rattle.gba_ppu_dot.specs.Paints.{colour_of}
 use Rattle.gba_ppu_dot.specs.declared.dot.Dot.{Dot}
 use Rattle.gba_ppu_dot.specs.declared.dot.DotKind.{DotKind}
 use Rattle.gba_ppu_dot.specs.declared.dot.DotKind.TheVariants.{Plain, Semi}
+use Rattle.gba_ppu_blend.specs.Colours.{both, brighter, darker}
 use Rattle.gba_ppu_mix.specs.Stacks.{Dots, dot_of, layer_bit}
 use Rattle.gba_ppu_mix.specs.declared.blending.Blending.{Blending}
 use Rattle.gba_ppu_mix.specs.declared.blending.Effect.{Effect}
 use Rattle.gba_ppu_mix.specs.declared.blending.Effect.TheVariants.{Unchanged, Alpha, Brighter, Darker}
 use Rattle.gba_ppu_mix.specs.declared.stacks.Layer.{Layer}
-use Rattle.gba_ppu_mix.specs.declared.stacks.Stack.{Stack}
+use Rattle.gba_ppu_mix.specs.Stacks.{Stack}
 
 -- BLDCNT, BLDALPHA and BLDY (GBATEK, LCD I/O Color Special Effects). Coefficients are sixteenths, and above 16 count as 16.
 abbrev pub effect_of : ℕ → Effect
@@ -29,47 +30,6 @@ blending_of r = record {
   evb = coefficient (picture_kept 0x052 r) 8;
   evy = coefficient (picture_kept 0x054 r) 0;
 }
-
--- The colour of a dot, 15 bits: its own, or that of its entry in the palette. A palette has 512 entries.
-abbrev pub palette_colour : List ℕ → ℕ → ℕ
-palette_colour palette entry = field (half_at palette (2 * (entry % 512))) 0 15
-
-unfoldable pub colour_of : List ℕ → Dot → ℕ
-colour_of palette dot = if dot.direct then dot.entry else palette_colour palette dot.entry
-
--- A colour has three parts of 5 bits, red lowest. Each quotient is rounded down.
-abbrev pub red : ℕ → ℕ
-red colour = field colour 0 5
-
-abbrev pub green : ℕ → ℕ
-green colour = field colour 5 5
-
-abbrev pub blue : ℕ → ℕ
-blue colour = field colour 10 5
-
-abbrev pub colour_from : ℕ → ℕ → ℕ → ℕ
-colour_from r g b = r + 32 * g + 1024 * b
-
-abbrev pub part_of_both : ℕ → ℕ → ℕ → ℕ → ℕ
-part_of_both eva evb top below = min ((top * eva + below * evb) / 16) 31
-
-abbrev pub brighter_part : ℕ → ℕ → ℕ
-brighter_part evy part = part + (31 - part) * evy / 16
-
-abbrev pub darker_part : ℕ → ℕ → ℕ
-darker_part evy part = part - part * evy / 16
-
-unfoldable pub both : ℕ → ℕ → ℕ → ℕ → ℕ
-both eva evb top below =
-    colour_from (part_of_both eva evb (red top) (red below)) (part_of_both eva evb (green top) (green below))
-    (part_of_both eva evb (blue top) (blue below))
-
-unfoldable pub brighter : ℕ → ℕ → ℕ
-brighter evy colour =
-    colour_from (brighter_part evy (red colour)) (brighter_part evy (green colour)) (brighter_part evy (blue colour))
-
-unfoldable pub darker : ℕ → ℕ → ℕ
-darker evy colour = colour_from (darker_part evy (red colour)) (darker_part evy (green colour)) (darker_part evy (blue colour))
 
 -- an effect on a single colour: alpha blending, which has no second colour here, leaves it
 unfoldable pub alone : Effect → ℕ → ℕ → ℕ
@@ -112,6 +72,9 @@ stack_colour palette b effects dots s =
     then both b.eva b.evb (colour_of palette top) (colour_of palette (dot_of dots s.second.layer))
     else changed_alone palette b effects s.top.layer top
 
--- no layer is a target, so that no effect changes a colour
-abbrev pub is_plain : Blending → Bool
-is_plain b = (b.first_targets == 0) && (b.second_targets == 0)
+-- What a layer is a target of, and whether its dot is a semi-transparent sprite's, as bits 0, 1 and 2.
+abbrev pub one_if : Bool → ℕ
+one_if test = if test then 1 else 0
+
+abbrev pub marks_of : Blending → Layer → Bool → ℕ
+marks_of b layer semi = one_if (is_target b.first_targets layer) + 2 * one_if (is_target b.second_targets layer) + 4 * one_if semi

@@ -1,30 +1,22 @@
 use Rattle.std.specs.Prelude.{◌≡◌, ℕ, Bool, ◌<◌, List, slice_index, if◌then◌else◌}
 use Rattle.gba_terms.specs.Bits.{bit}
 use Rattle.gba_ppu_reg.specs.Registers.{Picture, picture_kept}
-use Rattle.gba_ppu_mix.specs.Blending.{blending_of, changed_alone, colour_of, stack_colour}
+use Rattle.gba_ppu_mix.specs.Blending.{blending_of, changed_alone, stack_colour}
 use Rattle.gba_ppu_mix.specs.Layers.{background_dot, sprites_dot}
-use Rattle.gba_ppu_mix.specs.Stacks.{Dots, backdrop_dot, front_in, ranks_of, stack_of}
-use Rattle.gba_ppu_mix.specs.Windows.{run_shows, shows_at, windows_of}
+use Rattle.gba_ppu_mix.specs.Stacks.{Dots, backdrop_dot, ranks_of, stack_of}
+use Rattle.gba_ppu_mix.specs.Windows.{shows_at, windows_of}
 use Rattle.gba_ppu_mix.specs.declared.blending.Blending.{Blending}
 use Rattle.gba_ppu_mix.specs.declared.stacks.Layer.TheVariants.{Backdrop}
 use Rattle.gba_ppu_mix.specs.declared.stacks.Ranks.{Ranks}
-use Rattle.gba_ppu_mix.specs.declared.windows.Run.{Run}
 use Rattle.gba_ppu_mix.specs.declared.windows.Windows.{Windows}
 
 -- the colour where the layers have these dots, by what shows
 abbrev pub colour_where : List ℕ → ℕ → Blending → Ranks → Dots → ℕ
 colour_where palette shows b ranks dots = stack_colour palette b (bit shows 5) dots (stack_of shows ranks dots)
 
--- the same in a part of the line, and by the windows
-abbrev pub colour_in : List ℕ → Run → Blending → Ranks → Dots → ℕ
-colour_in palette run b ranks dots = colour_where palette (run_shows run dots.sprite.window) b ranks dots
-
+-- the same by the windows
 unfoldable pub colour_of_dots : List ℕ → Windows → Blending → Ranks → ℕ → Dots → ℕ
 colour_of_dots palette w b ranks x dots = colour_where palette (shows_at w x dots.sprite.window) b ranks dots
-
--- the colour where no layer is a target: that of the foremost dot
-abbrev pub plain_colour : List ℕ → ℕ → Ranks → Dots → ℕ
-plain_colour palette shows ranks dots = colour_of palette (front_in dots (stack_of shows ranks dots)).dot
 
 -- the colour where no layer has a dot, by what shows
 abbrev pub backdrop_colour : List ℕ → Blending → ℕ → ℕ

@@ -1,16 +1,12 @@
-use Rattle.std.specs.Prelude.{ℕ, ◌&&◌, ◌+◌, ◌*◌, nat_lt, true, slice_index_or, if◌then◌else◌}
+use Rattle.std.specs.Prelude.{ℕ, ◌&&◌, ◌+◌, ◌*◌, nat_lt, true, if◌then◌else◌}
 use Rattle.gba_terms.specs.Bits.{bit}
 use Rattle.gba_ppu_reg.specs.Registers.{Picture}
 use Rattle.gba_ppu_dot.specs.Control.{control_of, priority_of}
 use Rattle.gba_ppu_dot.specs.Dots.{clear_dot}
 use Rattle.gba_ppu_dot.specs.declared.dot.Dot.{Dot}
-use Rattle.gba_ppu_mix.specs.declared.lines.Lines.{Lines}
-use Rattle.gba_ppu_mix.specs.declared.stacks.Candidate.{Candidate}
-use Rattle.gba_ppu_mix.specs.declared.stacks.Front.{Front}
 use Rattle.gba_ppu_mix.specs.declared.stacks.Layer.{Layer}
 use Rattle.gba_ppu_mix.specs.declared.stacks.Layer.TheVariants.{Background0, Background1, Background2, Background3, Sprites, Backdrop, Nothing}
 use Rattle.gba_ppu_mix.specs.declared.stacks.Ranks.{Ranks}
-use Rattle.gba_ppu_mix.specs.declared.stacks.Stack.{Stack}
 
 -- the dots of the layers at a place
 pub record Dots : Type 0 where
@@ -20,14 +16,15 @@ pub record Dots : Type 0 where
   pub background2 : Dot
   pub background3 : Dot
 
-abbrev pub dots_at : Lines → ℕ → Dots
-dots_at lines x = record {
-  sprite = slice_index_or lines.sprites x clear_dot;
-  background0 = slice_index_or lines.background0 x clear_dot;
-  background1 = slice_index_or lines.background1 x clear_dot;
-  background2 = slice_index_or lines.background2 x clear_dot;
-  background3 = slice_index_or lines.background3 x clear_dot;
-}
+-- a layer that may be seen at a place, and its place in the order from the front
+pub record Candidate : Type 0 where
+  pub rank : ℕ
+  pub layer : Layer
+
+-- the foremost candidate, and the one behind it
+pub record Stack : Type 0 where
+  pub top : Candidate
+  pub second : Candidate
 
 -- the dot of a layer: the backdrop has the palette's entry 0
 abbrev pub backdrop_dot : Dot
@@ -99,12 +96,3 @@ unfoldable pub stack_of : ℕ → Ranks → Dots → Stack
 stack_of shows ranks dots =
     with_dot shows Background3 ranks.background3 dots.background3
     (with_dot shows Background2 ranks.background2 dots.background2 (front_of shows ranks dots))
-
--- what is in front of such a stack: its place in the order, and its dot
-abbrev pub front_in : Dots → Stack → Front
-front_in dots s = record { rank = s.top.rank; dot = dot_of dots s.top.layer }
-
--- the same with a layer more
-abbrev pub front_with : ℕ → Layer → ℕ → Dot → Front → Front
-front_with shows layer rank dot f =
-    if dot.opaque && bit shows (layer_bit layer) then (if nat_lt rank f.rank then record { rank = rank; dot = dot } else f) else f

@@ -1,16 +1,20 @@
 //! Blending.
 
-ghost use Rattle.std.specs.Prelude.{◌≡◌, ◌≤◌, ◌<◌, length};
-ghost use Rattle.gba_ppu_mix.specs.Blending.{alone as alone_by, blending_of, changed_alone as changed_alone_by, coefficient as coefficient_of, effect_of as effect_by, is_alpha, is_blended as is_blended_by, is_changed as is_changed_by, is_plain as is_plain_by, is_semi as is_semi_kind, is_target as is_target_of, stack_colour as colour_of_stack};
+ghost use Rattle.std.specs.Prelude.{◌≡◌, ◌≤◌, ◌<◌, if◌then◌else◌, length};
+ghost use Rattle.gba_ppu_mix.specs.Blending.{alone as alone_by, blending_of, coefficient as coefficient_of, effect_of as effect_by, is_alpha, is_changed as is_changed_by, is_target as is_target_of, marks_of as marks_by};
 ghost use Rattle.gba_ppu_mix.specs.Mixing.{backdrop_colour as colour_of_backdrop};
-ghost use Rattle.gba_ppu_mix.specs.Stacks.{dots_at};
 
-use crate::colours::{both, brighter, colour_of, darker};
-use crate::lines::{BACKDROP, Lines, dot_of};
-use crate::stacks::{Layer, Stack, layer_bit};
-use gba_ppu_dot::{Dot, DotKind};
+use crate::stacks::{Layer, layer_bit};
+use gba_ppu_blend::{brighter, darker};
+use gba_ppu_dot::{Dot, colour_of};
 use gba_ppu_reg::PictureRegisters;
 use gba_word::{bit, bits};
+
+/// The backdrop's dot, which has the palette's entry 0.
+const BACKDROP: Dot = Dot {
+    opaque: true,
+    ..Dot::CLEAR
+};
 
 /// What is done to a first target (GBATEK, LCD I/O Color Special Effects).
 #[derive(Clone, Copy, Debug, PartialEq, Eq)]
@@ -70,17 +74,11 @@ fn is_target(targets: u32, layer: Layer) -> bool
 }
 
 impl Effect {
-    fn is_alpha(self) -> bool
+    pub fn is_alpha(self) -> bool
         ensures { result ≡ is_alpha self }
     {
         matches!(self, Effect::Alpha)
     }
-}
-
-fn is_semi(kind: DotKind) -> bool
-    ensures { result ≡ is_semi_kind kind }
-{
-    matches!(kind, DotKind::Semi)
 }
 
 impl Blending {
@@ -104,31 +102,16 @@ impl Blending {
         }
     }
 
-    /// Whether no layer is a target, so that no effect changes a colour.
-    pub fn is_plain(&self) -> bool
-        ensures { result ≡ is_plain_by self.now }
-    {
-        self.first_targets == 0 && self.second_targets == 0
-    }
-
     fn is_changed(&self, effects: bool, layer: Layer) -> bool
         ensures { result ≡ is_changed_by self.now effects layer }
     {
         effects && is_target(self.first_targets, layer)
     }
 
-    fn is_blended(&self, effects: bool, layer: Layer, dot: Dot) -> bool
-        ensures { result ≡ is_blended_by self.now effects layer dot }
+    fn changed(&self, effects: bool, layer: Layer, colour: u16) -> u16
+        requires { self.now.evy ≤ 16 }
+        ensures { result ≡ if is_changed_by self.now effects layer then alone_by self.now.effect self.now.evy colour else colour }
     {
-        is_semi(dot.kind) || (self.is_changed(effects, layer) && self.effect.is_alpha())
-    }
-
-    fn changed_alone(&self, palette: &[u8], effects: bool, layer: Layer, dot: Dot) -> u16
-        requires palette { length palette.now ≡ 1024 }
-        requires evy { self.now.evy ≤ 16 }
-        ensures { result ≡ changed_alone_by palette.now self.now effects layer dot }
-    {
-        let colour = colour_of(palette, dot);
         if self.is_changed(effects, layer) {
             alone(self.effect, self.evy, colour)
         } else {
@@ -137,43 +120,24 @@ impl Blending {
     }
 
     /// The colour where no layer has a dot, by what shows.
-    pub fn backdrop_colour(&self, palette: &[u8], shows: u32) -> u16
+    pub fn backdrop_colour(&self, palette: &[u8], shows: u16) -> u16
         requires palette { length palette.now ≡ 1024 }
         requires evy { self.now.evy ≤ 16 }
         ensures { result ≡ colour_of_backdrop palette.now self.now shows }
     {
-        self.changed_alone(palette, bit(shows, 5), Layer::Backdrop, BACKDROP)
+        self.changed(
+            bit(u32::from(shows), 5),
+            Layer::Backdrop,
+            colour_of(palette, BACKDROP),
+        )
     }
 
-    /// The colour of the foremost layer at a place over the layer behind it.
-    #[tactic(auto, unfolding(crate::specs::Blending::stack_colour))]
-    pub fn stack_colour(
-        &self,
-        palette: &[u8],
-        effects: bool,
-        lines: &Lines,
-        x: usize,
-        stack: Stack,
-    ) -> u16
-        requires palette { length palette.now ≡ 1024 }
-        requires eva { self.now.eva ≤ 16 }
-        requires evb { self.now.evb ≤ 16 }
-        requires evy { self.now.evy ≤ 16 }
-        requires place { x < 240 }
-        ensures { result ≡ colour_of_stack palette.now self.now effects (dots_at lines.now x) stack }
+    /// What a layer is a target of, and whether it is a semi-transparent sprite, as bits 0, 1 and 2.
+    pub fn marks_of(&self, layer: Layer, semi: bool) -> u16
+        ensures { result ≡ marks_by self.now layer semi }
     {
-        let top = dot_of(lines, x, stack.top.layer);
-        let is_second_target = is_target(self.second_targets, stack.second.layer);
-        if is_second_target && self.is_blended(effects, stack.top.layer, top) {
-            let below = dot_of(lines, x, stack.second.layer);
-            both(
-                self.eva,
-                self.evb,
-                colour_of(palette, top),
-                colour_of(palette, below),
-            )
-        } else {
-            self.changed_alone(palette, effects, stack.top.layer, top)
-        }
+        u16::from(is_target(self.first_targets, layer))
+            + 2 * u16::from(is_target(self.second_targets, layer))
+            + 4 * u16::from(semi)
     }
 }

@@ -2,12 +2,13 @@
 //! The colours of a line: the layers behind one another, windows and blending.
 
 mod blending;
-mod colours;
 pub mod laws;
 mod layers;
 mod line;
-mod lines;
+mod paints;
+mod piles;
 mod stacks;
 mod windows;
 
+pub use gba_ppu_blend::{blend_alpha, brighten, darken};
 pub use line::mix_line;

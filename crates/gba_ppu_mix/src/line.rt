@@ -1,38 +1,20 @@
 //! A line of the picture.
 
-ghost use Rattle.std.specs.Prelude.{◌≡◌, ℕ, ◌<◌, ◌≤◌, false, length, slice_index};
-ghost use Rattle.gba_ppu_mix.specs.Mixing.{IsPixelLine, backdrop_colour, colour_in, colour_of_dots, colour_where, is_blank as is_blank_by, mixed_pixel, plain_colour};
-ghost use Rattle.gba_ppu_mix.specs.Stacks.{dots_at};
+ghost use Rattle.std.specs.Prelude.{◌≡◌, ℕ, ◌+◌, ◌<◌, ◌≤◌, false, length, slice_index};
+ghost use Rattle.gba_ppu_mix.specs.Mixing.{IsPixelLine, backdrop_colour, is_blank as is_blank_by, mixed_pixel};
+ghost use Rattle.gba_ppu_mix.specs.Piles.{pile_colour, pile_of, place_at};
 ghost use Rattle.gba_ppu_mix.specs.Windows.{run_shows, shows_at};
 
 use crate::blending::Blending;
-use crate::colours::colour_of;
 use crate::layers::has_layers;
-use crate::lines::{Lines, draw_layers, empty_line, foremost, stack_of};
+use crate::paints::PaintedLines;
+use crate::piles::{Coats, coloured, pile_eight};
 use crate::stacks::Ranks;
 use crate::windows::{Run, Windows};
+use gba_ppu_blend::{eight_from, put_eight};
+use gba_ppu_dot::entry_colour;
 use gba_ppu_reg::PictureRegisters;
 use gba_word::bit;
-
-/// The colour at a place, by what shows there.
-fn colour_at(
-    palette: &[u8],
-    shows: u32,
-    b: &Blending,
-    ranks: &Ranks,
-    lines: &Lines,
-    x: usize,
-) -> u16
-    requires palette { length palette.now ≡ 1024 }
-    requires eva { b.now.eva ≤ 16 }
-    requires evb { b.now.evb ≤ 16 }
-    requires evy { b.now.evy ≤ 16 }
-    requires place { x < 240 }
-    ensures { result ≡ colour_where palette.now shows b.now ranks.now (dots_at lines.now x) }
-{
-    let stack = stack_of(lines, shows, ranks, x);
-    b.stack_colour(palette, bit(shows, 5), lines, x, stack)
-}
 
 fn is_blank(r: &PictureRegisters) -> bool
     ensures { result ≡ is_blank_by r.now }
@@ -40,100 +22,32 @@ fn is_blank(r: &PictureRegisters) -> bool
     bit(u32::from(r.kept(0x000)), 7)
 }
 
-/// Colours a part of a line on which no effect changes a colour.
-fn paint_run(
-    palette: &[u8],
-    run: &Run,
-    ranks: &Ranks,
-    lines: &Lines,
-    start: u32,
-    colours: &mut [u16],
-)
-    requires palette { length palette.now ≡ 1024 }
-    requires start { start ≤ run.now.end }
-    requires end { run.now.end ≤ 240 }
-    requires colours { length colours.old ≡ 240 }
-    ensures before { (x : ℕ) → x < start → slice_index colours.new x ≡ slice_index colours.old x }
-    ensures drawn { (x : ℕ) → start ≤ x → x < run.now.end → slice_index colours.new x
-        ≡ plain_colour palette.now (run_shows run.now (dots_at lines.now x).sprite.window) ranks.now (dots_at lines.now x) }
-{
-    for x in start..run.end {
-        let place = x as usize;
-        let shows = run.shows(lines.sprites[place].window);
-        colours[place] = colour_of(palette, foremost(lines, shows, ranks, place));
-    }
-}
-
-/// Mixes a part of the layers' lines.
-fn blend_run(
-    palette: &[u8],
-    run: &Run,
-    b: &Blending,
-    ranks: &Ranks,
-    lines: &Lines,
-    start: u32,
-    colours: &mut [u16],
-)
-    requires palette { length palette.now ≡ 1024 }
+/// Mixes eight places.
+#[inline(always)]
+fn mix_eight(b: &Blending, c: &Coats, lines: &PaintedLines, at: usize, colours: &mut [u16])
     requires eva { b.now.eva ≤ 16 }
     requires evb { b.now.evb ≤ 16 }
     requires evy { b.now.evy ≤ 16 }
-    requires start { start ≤ run.now.end }
-    requires end { run.now.end ≤ 240 }
+    requires place { at + 8 ≤ 240 }
     requires colours { length colours.old ≡ 240 }
-    ensures before { (x : ℕ) → x < start → slice_index colours.new x ≡ slice_index colours.old x }
-    ensures drawn { (x : ℕ) → start ≤ x → x < run.now.end → slice_index colours.new x
-        ≡ colour_in palette.now run.now b.now ranks.now (dots_at lines.now x) }
+    ensures before { (x : ℕ) → x < at → slice_index colours.new x ≡ slice_index colours.old x }
+    ensures here { (i : ℕ) → i < 8 → slice_index colours.new (at + i) ≡ pile_colour b.now (slice_index lines.now.shows (at + i)) (pile_of c.now (place_at lines.now (at + i))) }
 {
-    for x in start..run.end {
-        let place = x as usize;
-        let shows = run.shows(lines.sprites[place].window);
-        colours[place] = colour_at(palette, shows, b, ranks, lines, place);
-    }
-}
-
-/// Mixes a part of the layers' lines, by the shorter way where no layer is a target.
-fn mix_run(
-    palette: &[u8],
-    run: &Run,
-    b: &Blending,
-    ranks: &Ranks,
-    lines: &Lines,
-    start: u32,
-    colours: &mut [u16],
-)
-    requires palette { length palette.now ≡ 1024 }
-    requires eva { b.now.eva ≤ 16 }
-    requires evb { b.now.evb ≤ 16 }
-    requires evy { b.now.evy ≤ 16 }
-    requires start { start ≤ run.now.end }
-    requires end { run.now.end ≤ 240 }
-    requires colours { length colours.old ≡ 240 }
-    ensures before { (x : ℕ) → x < start → slice_index colours.new x ≡ slice_index colours.old x }
-    ensures drawn { (x : ℕ) → start ≤ x → x < run.now.end → slice_index colours.new x
-        ≡ colour_in palette.now run.now b.now ranks.now (dots_at lines.now x) }
-{
-    if b.is_plain() {
-        paint_run(palette, run, ranks, lines, start, colours);
-    } else {
-        blend_run(palette, run, b, ranks, lines, start, colours);
-    }
+    let shows = eight_from(&lines.shows, at);
+    let pile = pile_eight(c, lines, shows, at);
+    put_eight(coloured(b, shows, pile), at, colours);
 }
 
 /// Mixes the layers' lines.
-fn mix(palette: &[u8], w: &Windows, b: &Blending, ranks: &Ranks, lines: &Lines, colours: &mut [u16])
-    requires palette { length palette.now ≡ 1024 }
+fn mix(b: &Blending, c: &Coats, lines: &PaintedLines, colours: &mut [u16])
     requires eva { b.now.eva ≤ 16 }
     requires evb { b.now.evb ≤ 16 }
     requires evy { b.now.evy ≤ 16 }
     requires colours { length colours.old ≡ 240 }
-    ensures { (x : ℕ) → x < 240 → slice_index colours.new x ≡ colour_of_dots palette.now w.now b.now ranks.now x (dots_at lines.now x) }
+    ensures { (x : ℕ) → x < 240 → slice_index colours.new x ≡ pile_colour b.now (slice_index lines.now.shows x) (pile_of c.now (place_at lines.now x)) }
 {
-    let mut start = 0;
-    while start < 240 {
-        let run = w.run_from(start);
-        mix_run(palette, &run, b, ranks, lines, start, colours);
-        start = run.end;
+    for k in 0..30 {
+        mix_eight(b, c, lines, 8 * k, colours);
     }
 }
 
@@ -203,13 +117,10 @@ pub fn mix_line(
         fill(palette, &windows, &blending, colours);
         return;
     }
-    let mut lines = Lines {
-        sprites: empty_line(),
-        background0: empty_line(),
-        background1: empty_line(),
-        background2: empty_line(),
-        background3: empty_line(),
-    };
-    draw_layers(r, vram, oam, line, &mut lines);
-    mix(palette, &windows, &blending, &Ranks::of(r), &lines, colours);
+    let mut lines = PaintedLines::empty();
+    lines.put_backgrounds(r, palette, vram, line);
+    lines.put_sprites(r, palette, vram, oam, line, &windows, &blending);
+    let backdrop = entry_colour(palette, 0);
+    let coats = Coats::of(&blending, Ranks::of(r), backdrop);
+    mix(&blending, &coats, &lines, colours);
 }

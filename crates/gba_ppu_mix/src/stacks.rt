@@ -1,11 +1,10 @@
-//! The layers behind one another at a place.
+//! The layers, and their order.
 
 ghost use Rattle.std.specs.Prelude.{◌≡◌, ◌<◌, ◌≤◌};
-ghost use Rattle.gba_ppu_mix.specs.Stacks.{background_rank as background_rank_of, bottom as the_bottom, front_with as front_with_dot, layer_bit as bit_of, nearer as nearer_of, ranks_of, sprite_rank as sprite_rank_of, with_candidate as stack_with, with_dot as stack_with_dot};
+ghost use Rattle.gba_ppu_mix.specs.Stacks.{background_rank as background_rank_of, layer_bit as bit_of, ranks_of, sprite_rank as sprite_rank_of};
 
-use gba_ppu_dot::{BackgroundControl, Dot};
+use gba_ppu_dot::BackgroundControl;
 use gba_ppu_reg::PictureRegisters;
-use gba_word::bit;
 
 /// The layers, in the order of their bits in BLDCNT, and what is behind the last one.
 #[derive(Clone, Copy, Debug, PartialEq, Eq)]
@@ -19,36 +18,13 @@ pub enum Layer {
     Nothing,
 }
 
-/// A layer that may be seen at a place.
-#[derive(Clone, Copy, Debug, PartialEq, Eq)]
-pub struct Candidate {
-    /// Its place in the order from the front.
-    pub rank: u32,
-    pub layer: Layer,
-}
-
-/// What is in front at a place.
-#[derive(Clone, Copy, Debug, PartialEq, Eq)]
-pub struct Front {
-    /// Its place in the order from the front.
-    pub rank: u32,
-    pub dot: Dot,
-}
-
-/// The ranks of the backgrounds.
+/// The places of the backgrounds in the order from the front.
 #[derive(Clone, Copy, Debug, PartialEq, Eq)]
 pub struct Ranks {
-    pub background0: u32,
-    pub background1: u32,
-    pub background2: u32,
-    pub background3: u32,
-}
-
-/// The foremost candidate, and the one behind it.
-#[derive(Clone, Copy, Debug, PartialEq, Eq)]
-pub struct Stack {
-    pub top: Candidate,
-    pub second: Candidate,
+    pub background0: u16,
+    pub background1: u16,
+    pub background2: u16,
+    pub background3: u16,
 }
 
 /// The layer's bit in BLDCNT, and in what a window shows.
@@ -68,17 +44,17 @@ pub fn layer_bit(layer: Layer) -> u32
 }
 
 /// The rank of sprites of a priority.
-pub fn sprite_rank(priority: u8) -> u32
+pub fn sprite_rank(priority: u8) -> u16
     ensures { result ≡ sprite_rank_of priority }
 {
-    8 * u32::from(priority)
+    8 * u16::from(priority)
 }
 
-fn background_rank(r: &PictureRegisters, background: u32) -> u32
+fn background_rank(r: &PictureRegisters, background: u32) -> u16
     requires { background < 4 }
     ensures { result ≡ background_rank_of r.now background }
 {
-    8 * u32::from(BackgroundControl::of(r, background).priority()) + background + 1
+    8 * u16::from(BackgroundControl::of(r, background).priority()) + background as u16 + 1
 }
 
 impl Ranks {
@@ -91,75 +67,6 @@ impl Ranks {
             background1: background_rank(r, 1),
             background2: background_rank(r, 2),
             background3: background_rank(r, 3),
-        }
-    }
-}
-
-impl Candidate {
-    fn or(self, old: Candidate) -> Candidate
-        ensures { result ≡ nearer_of self old }
-    {
-        if self.rank < old.rank { self } else { old }
-    }
-}
-
-impl Stack {
-    /// The backdrop alone.
-    pub fn bottom() -> Stack
-        ensures { result ≡ the_bottom }
-    {
-        Stack {
-            top: Candidate {
-                rank: 0x800,
-                layer: Layer::Backdrop,
-            },
-            second: Candidate {
-                rank: 0x801,
-                layer: Layer::Nothing,
-            },
-        }
-    }
-
-    #[tactic(auto, unfolding(crate::specs::Stacks::with_candidate))]
-    fn with(self, new: Candidate) -> Stack
-        ensures { result ≡ stack_with new self }
-    {
-        if new.rank < self.top.rank {
-            Stack {
-                top: new,
-                second: self.top,
-            }
-        } else {
-            Stack {
-                top: self.top,
-                second: new.or(self.second),
-            }
-        }
-    }
-
-    /// With a layer, where its dot is opaque and the layer shows.
-    #[tactic(auto, unfolding(crate::specs::Stacks::with_dot))]
-    pub fn with_dot(self, shows: u32, layer: Layer, rank: u32, dot: Dot) -> Stack
-        ensures { result ≡ stack_with_dot shows layer rank dot self }
-    {
-        if dot.opaque && bit(shows, layer_bit(layer)) {
-            self.with(Candidate { rank, layer })
-        } else {
-            self
-        }
-    }
-}
-
-impl Front {
-    /// With a layer, where its dot is opaque, the layer shows and is nearer.
-    #[inline(always)]
-    pub fn with(self, shows: u32, layer: Layer, rank: u32, dot: Dot) -> Front
-        ensures { result ≡ front_with_dot shows layer rank dot self }
-    {
-        if dot.opaque && bit(shows, layer_bit(layer)) && rank < self.rank {
-            Front { rank, dot }
-        } else {
-            self
         }
     }
 }

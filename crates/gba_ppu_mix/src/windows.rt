@@ -20,7 +20,7 @@ pub struct Window {
     pub on_line: bool,
     pub columns: Side,
     /// What shows in it: backgrounds 0 to 3, sprites and effects, from the lowest of six bits up.
-    pub shows: u32,
+    pub shows: u16,
 }
 
 /// All windows on a line.
@@ -32,8 +32,8 @@ pub struct Windows {
     pub second: Window,
     /// Whether the sprite window is on.
     pub has_sprites: bool,
-    pub sprites_show: u32,
-    pub outside_shows: u32,
+    pub sprites_show: u16,
+    pub outside_shows: u16,
 }
 
 /// A part of the line that no side of window 0 or 1 cuts.
@@ -42,9 +42,9 @@ pub struct Run {
     pub end: u32,
     /// Whether the sprite window counts here.
     pub has_sprites: bool,
-    pub sprites_show: u32,
+    pub sprites_show: u16,
     /// What shows where no dot of the sprite window is, or where that one doesn't count.
-    pub shows: u32,
+    pub shows: u16,
 }
 
 fn side_of(half: u16, edge: u32) -> Side
@@ -88,7 +88,7 @@ fn window_of(r: &PictureRegisters, number: u32, line: u32) -> Window
     Window {
         on_line: bit(u32::from(r.kept(0x000)), 13 + number) && is_on_side(rows, line),
         columns: side_of(r.kept(0x040 + 2 * number), 240),
-        shows: bits(u32::from(r.kept(0x048)), 8 * number, 6),
+        shows: bits(u32::from(r.kept(0x048)), 8 * number, 6) as u16,
     }
 }
 
@@ -110,8 +110,8 @@ impl Windows {
             first: window_of(r, 0, line),
             second: window_of(r, 1, line),
             has_sprites: bit(control, 15),
-            sprites_show: bits(outside, 8, 6),
-            outside_shows: bits(outside, 0, 6),
+            sprites_show: bits(outside, 8, 6) as u16,
+            outside_shows: bits(outside, 0, 6) as u16,
         }
     }
 
@@ -153,7 +153,7 @@ impl Windows {
 
 impl Run {
     /// One in which the sprite window doesn't count.
-    fn without_sprites(end: u32, shows: u32) -> Run
+    fn without_sprites(end: u32, shows: u16) -> Run
         ensures { result ≡ record { end = end; has_sprites = false; sprites_show = 0; shows = shows } }
     {
         Run {
@@ -165,7 +165,7 @@ impl Run {
     }
 
     /// What shows at a place, by whether a dot of the sprite window is there: six bits.
-    pub fn shows(&self, in_sprites: bool) -> u32
+    pub fn shows(&self, in_sprites: bool) -> u16
         ensures { result ≡ run_shows self.now in_sprites }
     {
         if self.has_sprites && in_sprites {

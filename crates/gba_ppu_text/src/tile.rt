@@ -9,7 +9,7 @@ use gba_ppu_dot::{BackgroundControl, Dot};
 use gba_word::{bit, bits};
 
 /// Where in video memory the tiles of backgrounds end.
-const TILES_END: usize = 0x1_0000;
+pub(crate) const TILES_END: usize = 0x1_0000;
 
 /// A row of eight dots in bytes.
 #[tactic(auto, unfolding(crate::specs::Text::byte_number))]
@@ -55,7 +55,7 @@ fn row_of_nibbles(vram: &[u8], start: usize) -> [u8; 8]
     ]
 }
 
-fn mirrored(mirror: bool, place: u32) -> u32
+pub(crate) fn mirrored(mirror: bool, place: u32) -> u32
     requires { place < 8 }
     ensures value { result ≡ mirrored_place mirror place }
     ensures most { result < 8 }
@@ -63,9 +63,10 @@ fn mirrored(mirror: bool, place: u32) -> u32
     if mirror { 7 - place } else { place }
 }
 
-fn palette_of(control: BackgroundControl, entry: u16) -> u16
+pub(crate) fn palette_of(control: BackgroundControl, entry: u16) -> u16
     ensures value { result ≡ palette_start control.value entry }
     ensures most { result ≤ 240 }
+    ensures aligned { result % 16 ≡ 0 }
 {
     let palette = 16 * bits(u32::from(entry), 12, 4) as u16;
     if control.has_eight_bits() { 0 } else { palette }
@@ -88,7 +89,7 @@ fn stored_row(vram: &[u8], control: BackgroundControl, entry: u16, row: u32) -> 
 
 /// A row of the tile of an entry, as it is seen from left to right.
 #[tactic(auto, unfolding(crate::specs::Text::number_at))]
-fn seen_row(vram: &[u8], control: BackgroundControl, entry: u16, row: u32) -> [u8; 8]
+pub(crate) fn seen_row(vram: &[u8], control: BackgroundControl, entry: u16, row: u32) -> [u8; 8]
     requires vram { length vram.now ≡ 98304 }
     requires row { row < 8 }
     ensures { (column : ℕ) → column < 8 → slice_index result column ≡ number_at vram.now control.value entry column row }

@@ -1,7 +1,7 @@
 -- A register file whose flags are written over it.
-use Rattle.std.proofs.Common.{◌≡◌, ◌≢◌, ℕ, ◌<◌, ◌+◌, ◌*◌, ◌^◌, List, length, get_or, set, refl, ap, sym, subst, ◌∙◌, arith}
+use Rattle.std.proofs.Common.{◌≡◌, ℕ, ◌<◌, ◌+◌, ◌*◌, ◌^◌, List, length, get_or, set, ap, sym, subst, ◌∙◌, arith}
 use Rattle.std.proofs.lemmas.Bool.Decides.{nat_tests}
-use Rattle.std.proofs.lemmas.List.{length-set, get_or-set_same, get_or-set_other, set-get_or, set-set, set_comm}
+use Rattle.std.proofs.lemmas.List.{length-set, get_or-set_other, set-get_or, set-set, set_comm}
 use Rattle.gba_terms.specs.Bits.{field}
 use Rattle.gba_word.specs.Sums.{flag_number}
 use Rattle.gba_psr.specs.Modes.{place}

@@ -1,6 +1,7 @@
-//! The register file with its flags kept apart, so that an operation with S writes no more than four booleans.
+//! The register file with its flags kept apart, so that an operation with S packs none.
 
-ghost use Rattle.std.specs.Prelude.{◌≡◌, ◌<◌};
+ghost use Rattle.std.specs.Prelude.{◌≡◌, ◌<◌, ◌==◌};
+ghost use Rattle.gba_terms.specs.Bits.{bit};
 ghost use Rattle.gba_psr.specs.Entry.{after_entry, after_leave};
 ghost use Rattle.gba_psr.specs.RegisterFile.{
   IsRegisterFile,
@@ -17,6 +18,7 @@ ghost use Rattle.gba_psr.specs.RegisterFile.{
   with_user_register,
 };
 
+use crate::flag_words::KeptFlags;
 use crate::registers::Registers;
 use crate::{Exception, Flags};
 use std::marker::Model;
@@ -25,12 +27,9 @@ use std::marker::Model;
 /// it as it is.
 #[derive(Clone, Debug, Drop)]
 pub struct RegisterFile {
-    // Its N, Z, C and V don't count: they are the four below.
+    // Its N, Z, C and V don't count: they are those below.
     file: Registers,
-    negative: bool,
-    zero: bool,
-    carry: bool,
-    overflow: bool,
+    kept: KeptFlags,
 }
 
 impl Model for RegisterFile {
@@ -39,8 +38,7 @@ impl Model for RegisterFile {
 
     ghost Value = { List ℕ };
 
-    ghost view = { λ r. with_flags r.file
-        (record { negative = r.negative; zero = r.zero; carry = r.carry; overflow = r.overflow }) };
+    ghost view = { λ r. with_flags r.file r.kept };
 }
 
 impl RegisterFile {
@@ -95,12 +93,7 @@ impl RegisterFile {
         ensures value { result ≡ status self.now }
         ensures file { IsRegisterFile self.now }
     {
-        self.file.status_with(Flags {
-            negative: self.negative,
-            zero: self.zero,
-            carry: self.carry,
-            overflow: self.overflow,
-        })
+        self.file.status_with(self.kept.flags())
     }
 
     /// N, Z, C and V of CPSR.
@@ -109,12 +102,7 @@ impl RegisterFile {
         ensures { result ≡ flags self.now }
     {
         let _ = self.file.cpsr();
-        Flags {
-            negative: self.negative,
-            zero: self.zero,
-            carry: self.carry,
-            overflow: self.overflow,
-        }
+        self.kept.flags()
     }
 
     /// Writes N, Z, C and V of CPSR.
@@ -123,10 +111,17 @@ impl RegisterFile {
         ensures { self.new ≡ with_flags self.old flags }
     {
         let _ = self.file.cpsr();
-        self.negative = flags.negative;
-        self.zero = flags.zero;
-        self.carry = flags.carry;
-        self.overflow = flags.overflow;
+        self.kept = KeptFlags::new(flags);
+    }
+
+    /// Writes N, Z, C and V of CPSR: the first two are those of a result.
+    #[inline(always)]
+    pub fn set_result(&mut self, value: u32, carry: bool, overflow: bool)
+        ensures { self.new ≡ with_flags self.old
+            (record { negative = bit value 31; zero = value == 0; carry = carry; overflow = overflow }) }
+    {
+        let _ = self.file.cpsr();
+        self.kept.set_result(value, carry, overflow);
     }
 
     /// The present mode's SPSR. USR and SYS have none and read CPSR.
@@ -187,12 +182,7 @@ impl RegisterFile {
         ensures { result ≡ self.now }
     {
         let mut file = self.file.twin();
-        file.set_flags(Flags {
-            negative: self.negative,
-            zero: self.zero,
-            carry: self.carry,
-            overflow: self.overflow,
-        });
+        file.set_flags(self.kept.flags());
         file
     }
 }
@@ -206,9 +196,6 @@ fn part(file: Registers) -> RegisterFile
     let flags = file.flags();
     RegisterFile {
         file,
-        negative: flags.negative,
-        zero: flags.zero,
-        carry: flags.carry,
-        overflow: flags.overflow,
+        kept: KeptFlags::new(flags),
     }
 }

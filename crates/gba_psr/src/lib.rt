@@ -7,6 +7,7 @@ mod apart;
 mod banks;
 mod condition;
 mod exceptions;
+mod flag_words;
 pub mod laws;
 mod registers;
 #[cfg(test)]

@@ -18,10 +18,13 @@ use gba_image::ConsoleImages;
 use gba_io::Room as ConsoleRoom;
 use gba_joblog::{Job, JobConsole, KeyChange, OutKind};
 use gba_output::add_summary;
+use gba_store::Gate;
 use gba_terms::NoMemory;
 use link_core::Cut;
+use link_run::run_to;
 use std::alloc::{AllocError, Global};
 use std::marker::Model;
+use std::thread::Threads;
 
 /// The changes of the keys as a console takes them.
 fn states_of(alloc: Global, changes: &[KeyChange]) -> Result<Vec<KeyState>, AllocError>
@@ -148,8 +151,14 @@ fn run_alone(cut: Cut<Console>, until: u64) -> Cut<Console>
     shell.join(consoles)
 }
 
-/// Runs the consoles of a cable until the clock of each is at least `until`.
-fn run_cut(mut cut: Cut<Console>, until: u64) -> Cut<Console>
+/// Runs the consoles of a cable until the clock of each is at least `until`, several side by side on threads.
+fn run_cut<R: Threads + Sync, G: Gate + Sync>(
+    rt: &R,
+    alloc: Global,
+    cut: Cut<Console>,
+    gate: &G,
+    until: u64,
+) -> Cut<Console>
     requires limit { All (λ limit. limit ≡ until) (map limit_of cut.consoles) }
     ensures run { plain_cut without_limit result ≡ run_until until (plain_cut without_limit cut) }
     ensures limits { map limit_of result.consoles ≡ map limit_of cut.consoles }
@@ -157,8 +166,7 @@ fn run_cut(mut cut: Cut<Console>, until: u64) -> Cut<Console>
     if cut.nodes().len() == 1 {
         return run_alone(cut, until);
     }
-    cut.run_serial(until);
-    cut
+    run_to(rt, alloc, cut, gate, until)
 }
 
 /// The consoles of a job on their cable, and the room for what is written of them. Contracts see the cut of the consoles,
@@ -228,12 +236,13 @@ impl Session {
         })
     }
 
-    /// Runs the consoles until the clock of each is at least the job's cycles.
-    pub fn run(self) -> Session
+    /// Runs the consoles until the clock of each is at least the job's cycles: several side by side on threads, whose
+    /// steps enter the gate; one alone on the caller's thread, with no gate.
+    pub fn run<R: Threads + Sync, G: Gate + Sync>(self, rt: &R, alloc: Global, gate: &G) -> Session
         ensures { result ≡ finished self }
     {
         Session {
-            cut: run_cut(self.cut, self.until),
+            cut: run_cut(rt, alloc, self.cut, gate, self.until),
             until: self.until,
             rooms: self.rooms,
             files: self.files,

@@ -1,5 +1,5 @@
 -- A halfword's form has the effect of its operation, and fields that fit.
-use Rattle.std.proofs.Common.{◌≡◌, ℕ, Bool, true, false, List, ◌+◌, ◌*◌, ◌%◌, ◌^◌, ◌<◌, ◌==◌, refl, ap, arith, if◌then◌else◌}
+use Rattle.std.proofs.Common.{◌≡◌, ℕ, Bool, true, false, List, ◌+◌, ◌*◌, ◌%◌, ◌^◌, ◌<◌, ◌==◌, refl, ap, ◌∙◌, arith, if◌then◌else◌}
 use Rattle.std.specs.Prelude.{Option, Some, None, IfSome}
 use Rattle.gba_arm_table.specs.Limits.{Within, half_offsets, half_registers, operand_immediates, operand_registers, transfer_immediates, transfer_offsets, transfer_registers}
 use Rattle.gba_arm_table.specs.Limits as arm
@@ -9,6 +9,8 @@ use Rattle.gba_arm_table.specs.declared.operation.CompareOp.{CompareOp}
 use Rattle.gba_arm_table.specs.declared.operation.CompareOp.TheVariants.{Tst, Cmp, Cmn}
 use Rattle.gba_arm_table.specs.declared.operation.ComputeOp.{ComputeOp}
 use Rattle.gba_arm_table.specs.declared.operation.ComputeOp.TheVariants.{And, Eor, Sub, Rsb, Add, Adc, Sbc, Orr, Mov, Bic, Mvn}
+use Rattle.gba_arm_table.specs.declared.operation.Condition.{Condition}
+use Rattle.gba_arm_table.specs.declared.operation.Condition.TheVariants.{Equal, NotEqual, CarrySet, CarryClear}
 use Rattle.gba_arm_table.specs.declared.operation.HalfKind.{HalfKind}
 use Rattle.gba_arm_table.specs.declared.operation.HalfOffset.{HalfOffset}
 use Rattle.gba_arm_table.specs.declared.operation.HalfOffset.TheVariants as half_offset
@@ -18,6 +20,8 @@ use Rattle.gba_arm_table.specs.declared.operation.TransferOffset.TheVariants as 
 use Rattle.gba_bus.specs.Meanings.{Load, Price, Store}
 use Rattle.gba_exec_quick.specs.Effects.{effect_of_quick}
 use Rattle.gba_exec_quick.specs.Making.{QuickFits, quick_of_word}
+use Rattle.gba_exec_quick.specs.declared.quick.Quick.{Quick}
+use Rattle.gba_exec_quick.specs.declared.quick.Quick.TheVariants as quick
 use Rattle.gba_exec_registers.specs.Access.{after_jump, code_cost, counter, jump_cost}
 use Rattle.gba_exec_registers.specs.Conditions.{holds}
 use Rattle.gba_exec_registers.specs.declared.site.Site.{Site}
@@ -25,7 +29,7 @@ use Rattle.gba_exec_transfers.specs.Done.{Done}
 use Rattle.gba_exec_transfers.specs.Effects.{effect, effect_of_word, internal}
 use Rattle.gba_psr.specs.RegisterFile.{flags}
 use Rattle.gba_thumb_exec.specs.Effects.{after_short_branch, conditional_branch, effect_of_half, short_branch, thumb_effect}
-use Rattle.gba_thumb_exec.specs.Forms.{FormFits, branch_by, branch_distance, branch_if, effect_of_form, form_of, form_of_half, quickly}
+use Rattle.gba_thumb_exec.specs.Forms.{FormFits, branch_by, branch_distance, branch_form, branch_if, branch_under, effect_of_form, form_of, form_of_half, narrowed, quickly}
 use Rattle.gba_thumb_exec.specs.Operations.{shift_by_constant, add_or_subtract, process_number, process_register, full_register, process_full_register, transfer_by_register, half_by_register, transfer_by_number, half_by_number, stack_transfer, stack_address, stack_move, push_or_pop, block, software_interrupt, comparison, half_transfer, plain, processing, quiet_processing, shift_by_register, small_number, transfer, words_number}
 use Rattle.gba_thumb_table.specs.Limits as thumb
 use Rattle.gba_thumb_table.specs.Table.{operation}
@@ -43,10 +47,41 @@ wrapped a b = omega arith
 module _ {State : Type 0} (price : Price State) (load : Load State) (store : Store State)
     (quick-is : (one : Option ArmOp) (site : Site) (file : List ℕ) (bus : State)
     → effect_of_quick price load store (quick_of_word one) site file bus ≡ effect_of_word price load store one site file bus) where
+  -- a form of its own has the effect of the quick form
+  narrowed-is : (one : Quick) (site : Site) (file : List ℕ) (bus : State)
+      → effect_of_form price load store (narrowed one) site file bus ≡ effect_of_quick price load store one site file bus
+  unfolding effect_of_form
+  narrowed-is (quick.AddNumber rn rd value) site file bus = refl
+  narrowed-is (quick.AddPlain rn rd rm) site file bus = refl
+  narrowed-is (quick.MovPlain rn rd rm) site file bus = refl
+  narrowed-is (quick.SetAddNumber rn rd value turned) site file bus = refl
+  narrowed-is (quick.SetSubNumber rn rd value turned) site file bus = refl
+  narrowed-is (quick.SetMovNumber rn rd value turned) site file bus = refl
+  narrowed-is (quick.SetNumber Rsb rn rd value turned) site file bus = refl
+  narrowed-is (quick.SetAddPlain rn rd rm) site file bus = refl
+  narrowed-is (quick.SetSubPlain rn rd rm) site file bus = refl
+  narrowed-is (quick.SetAndPlain rn rd rm) site file bus = refl
+  narrowed-is (quick.SetEorPlain rn rd rm) site file bus = refl
+  narrowed-is (quick.SetAdcPlain rn rd rm) site file bus = refl
+  narrowed-is (quick.SetOrrPlain rn rd rm) site file bus = refl
+  narrowed-is (quick.SetBicPlain rn rd rm) site file bus = refl
+  narrowed-is (quick.SetMvnPlain rn rd rm) site file bus = refl
+  narrowed-is (quick.SetMovShifted rn rd rm Lsl amount) site file bus = refl
+  narrowed-is (quick.SetMovShifted rn rd rm Lsr amount) site file bus = refl
+  narrowed-is (quick.CmpNumber rn value turned) site file bus = refl
+  narrowed-is (quick.CmpPlain rn rm) site file bus = refl
+  narrowed-is (quick.ComparePlain And rn rm) site file bus = refl
+  narrowed-is (quick.LoadWord rn rd offset) site file bus = refl
+  narrowed-is (quick.LoadByte rn rd offset) site file bus = refl
+  narrowed-is (quick.StoreWord rn rd offset) site file bus = refl
+  narrowed-is (quick.StoreByte rn rd offset) site file bus = refl
+  narrowed-is (quick.Branch distance) site file bus = refl
+  narrowed-is _ site file bus = refl
+
   arm-is : (one : ArmOp) (site : Site) (file : List ℕ) (bus : State)
       → effect_of_form price load store (quickly one) site file bus ≡ effect price load store one site file bus
   unfolding effect_of_form effect_of_word
-  arm-is one site file bus = quick-is (Some one) site file bus
+  arm-is one site file bus = narrowed-is (quick_of_word (Some one)) site file bus ∙ quick-is (Some one) site file bus
 
   jumped : (halfwords : ℕ) (site : Site) (file : List ℕ) (bus : State)
       → internal price load store bus (after_jump file ((counter site + branch_distance halfwords) % 2 ^ 32))
@@ -68,12 +103,23 @@ module _ {State : Type 0} (price : Price State) (load : Load State) (store : Sto
   same-branch true one other rest same = same
   same-branch false one other rest same = refl
 
+  branch_form-is : (condition : Condition) (distance : ℕ) (site : Site) (file : List ℕ) (bus : State)
+      → effect_of_form price load store (branch_form condition distance) site file bus
+      ≡ branch_under price load store condition distance site file bus
+  unfolding effect_of_form
+  branch_form-is Equal distance site file bus = refl
+  branch_form-is NotEqual distance site file bus = refl
+  branch_form-is CarrySet distance site file bus = refl
+  branch_form-is CarryClear distance site file bus = refl
+  branch_form-is _ distance site file bus = refl
+
   conditional-is : (cond n8 : ℕ) (site : Site) (file : List ℕ) (bus : State)
       → effect_of_form price load store (branch_if cond (sign_extension n8 8)) site file bus
       ≡ conditional_branch price load store cond n8 site file bus
   unfolding effect_of_form
   conditional-is cond n8 site file bus =
-      same-branch (holds (condition_of cond) (flags file)) _
+      branch_form-is (condition_of cond) (branch_distance (sign_extension n8 8)) site file bus
+      ∙ same-branch (holds (condition_of cond) (flags file)) _
       (short_branch price load store (sign_extension n8 8) site file bus)
       (internal price load store bus file (code_cost price bus site true))
       (jumped (sign_extension n8 8) site file bus)
@@ -227,9 +273,44 @@ push_or_pop-fits true false list8 n = record { registers = (omega arith, tt); im
 push_or_pop-fits false true list8 n = record { registers = (omega arith, tt); immediates = (omega arith, tt); offsets = tt }
 push_or_pop-fits false false list8 n = record { registers = (omega arith, tt); immediates = (omega arith, tt); offsets = tt }
 
+narrowed-fits : (one : Quick) → QuickFits one → FormFits (narrowed one)
+narrowed-fits (quick.AddNumber rn rd value) fits = fits
+narrowed-fits (quick.AddPlain rn rd rm) fits = fits
+narrowed-fits (quick.MovPlain rn rd rm) fits = fits
+narrowed-fits (quick.SetAddNumber rn rd value turned) fits = fits
+narrowed-fits (quick.SetSubNumber rn rd value turned) fits = fits
+narrowed-fits (quick.SetMovNumber rn rd value turned) fits = fits
+narrowed-fits (quick.SetNumber Rsb rn rd value turned) fits = fits
+narrowed-fits (quick.SetAddPlain rn rd rm) fits = fits
+narrowed-fits (quick.SetSubPlain rn rd rm) fits = fits
+narrowed-fits (quick.SetAndPlain rn rd rm) fits = fits
+narrowed-fits (quick.SetEorPlain rn rd rm) fits = fits
+narrowed-fits (quick.SetAdcPlain rn rd rm) fits = fits
+narrowed-fits (quick.SetOrrPlain rn rd rm) fits = fits
+narrowed-fits (quick.SetBicPlain rn rd rm) fits = fits
+narrowed-fits (quick.SetMvnPlain rn rd rm) fits = fits
+narrowed-fits (quick.SetMovShifted rn rd rm Lsl amount) fits = fits
+narrowed-fits (quick.SetMovShifted rn rd rm Lsr amount) fits = fits
+narrowed-fits (quick.CmpNumber rn value turned) fits = fits
+narrowed-fits (quick.CmpPlain rn rm) fits = fits
+narrowed-fits (quick.ComparePlain And rn rm) fits = fits
+narrowed-fits (quick.LoadWord rn rd offset) fits = fits
+narrowed-fits (quick.LoadByte rn rd offset) fits = fits
+narrowed-fits (quick.StoreWord rn rd offset) fits = fits
+narrowed-fits (quick.StoreByte rn rd offset) fits = fits
+narrowed-fits (quick.Branch distance) fits = fits
+narrowed-fits _ fits = fits
+
+branch_form-fits : (condition : Condition) (distance : ℕ) → FormFits (branch_form condition distance)
+branch_form-fits Equal distance = tt
+branch_form-fits NotEqual distance = tt
+branch_form-fits CarrySet distance = tt
+branch_form-fits CarryClear distance = tt
+branch_form-fits _ distance = tt
+
 module _ (quick-fits : (one : Option ArmOp) → IfSome one arm.Fits → QuickFits (quick_of_word one)) where
   quickly-fits : (one : ArmOp) → arm.Fits one → FormFits (quickly one)
-  quickly-fits one fits = quick-fits (Some one) fits
+  quickly-fits one fits = narrowed-fits (quick_of_word (Some one)) (quick-fits (Some one) fits)
 
   form-fits : (one : ThumbOp) → thumb.Fits one → FormFits (form_of one)
   form-fits (op.Format1 op o5 rs rd) fits =
@@ -290,7 +371,7 @@ module _ (quick-fits : (one : Option ArmOp) → IfSome one arm.Fits → QuickFit
         immediates = (omega (arith, fits.immediates.0), tt);
         offsets = tt;
       })
-  form-fits (op.Format16 cond n8) fits = tt
+  form-fits (op.Format16 cond n8) fits = branch_form-fits (condition_of cond) (branch_distance (sign_extension n8 8))
   form-fits (op.Format17 n8) fits =
       quickly-fits (software_interrupt n8)
       (record { registers = tt; immediates = (omega (arith, fits.immediates.0), tt); offsets = tt })

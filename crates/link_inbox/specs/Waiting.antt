@@ -13,6 +13,11 @@ abbrev pub has_arrived : ℕ → List Incoming → Bool
 has_arrived clock [] = false
 has_arrived clock (one ∷ rest) = nat_le one.arrival clock
 
+-- the arrival of the first one, or a clock that no run reaches
+abbrev pub next_arrival : List Incoming → ℕ
+next_arrival [] = 18446744073709551615
+next_arrival (one ∷ rest) = one.arrival
+
 -- the first ones, up to the first that arrives later
 abbrev pub arrived : ℕ → List Incoming → List Incoming
 arrived clock [] = []

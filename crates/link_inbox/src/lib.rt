@@ -6,7 +6,7 @@ ghost use Rattle.std.specs.List.{insert};
 ghost use Rattle.std.specs.Vec.{vec_len, vec_capacity};
 ghost use Rattle.link_order.specs.Order.{is_before};
 ghost use Rattle.link_order.specs.Due.{arrival_of, player_of, place_due};
-ghost use Rattle.link_inbox.specs.Waiting.{has_arrived, arrived, later};
+ghost use Rattle.link_inbox.specs.Waiting.{has_arrived, next_arrival, arrived, later};
 
 use circular_buffer::HeapCircularBuffer;
 use link_node::Incoming;
@@ -106,6 +106,16 @@ impl Inbox {
         match self.waits.front() {
             Some(one) => one.arrival <= clock,
             None => false,
+        }
+    }
+
+    /// The arrival of the first signal that waits, or a clock that no run reaches.
+    pub fn next_arrival(&self) -> u64
+        ensures { result ≡ next_arrival self.now.waits }
+    {
+        match self.waits.front() {
+            Some(one) => one.arrival,
+            None => u64::MAX,
         }
     }
 

@@ -1,7 +1,7 @@
 -- What a lane answers when it stops, and what stays of it.
 use Rattle.std.proofs.Common.{ℕ, ◌≡◌, ◌+◌, ◌<◌, ◌≤◌, inl, inr, arith, sym, ap, ◌∙◌, subst}
 use Rattle.std.proofs.lemmas.Bool.{cases_lt}
-use Rattle.link_script.specs.Script.{Script, now}
+use Rattle.link_script.specs.Script.{Script}
 use Rattle.link_table.specs.declared.key.Key.{Key}
 use Rattle.link_table.specs.Seated.{SeatState, with_made}
 use Rattle.link_lane.specs.declared.lane.Horizon.{Horizon}
@@ -65,13 +65,11 @@ has_moved {N = N} between polls clock before old new peer seen b seat grows same
           absurd (omega arith)
     ]
 
--- one step more that began below `until`
-pub begins_one_more : (s : Script) (until i first last : ℕ) → BeginsBelow s until i first last → now s i last < until
-    → BeginsBelow s until i first (last + 1)
-begins_one_more s until i first last h here k from_first less =
-    elim (cases_lt k last) [
-      | inl before ↦ h k from_first before
-      | inr past ↦
-          let same : last ≡ k = omega arith in
-          subst (λ (n : ℕ). now s i n < until) same here
+-- more steps that began below `until`
+pub begins_more : (s : Script) (until i first mid last : ℕ) → BeginsBelow s until i first mid
+    → BeginsBelow s until i mid last → BeginsBelow s until i first last
+begins_more s until i first mid last here there k from_first less =
+    elim (cases_lt k mid) [
+      | inl before ↦ here k from_first before
+      | inr past ↦ there k past less
     ]

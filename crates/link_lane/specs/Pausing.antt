@@ -18,6 +18,12 @@ IsAhead between lane clock =
     (j : ℕ) → j < lane.seat.players → j ≢ lane.seat.player
     → clock < (peer_of lane j).base + between j lane.seat.player
 
+-- each clock below `end` is
+abbrev pub IsAheadTo : {N : Type 0} → (ℕ → ℕ → ℕ) → LaneState N → ℕ → Type 0
+IsAheadTo between lane end =
+    (j : ℕ) → j < lane.seat.players → j ≢ lane.seat.player
+    → end ≤ (peer_of lane j).base + between j lane.seat.player
+
 -- so many looks more, and all is known to the clock seen last
 pub record IsCaught (looks : ℕ) (p q : Peer) : Type 0 where
   pub base_up : p.base ≤ q.base

@@ -12,8 +12,9 @@ ghost use Rattle.link_table.specs.Text.{script_of};
 ghost use Rattle.link_table.specs.Seated.{with_made};
 ghost use Rattle.link_lane.specs.declared.pause.Pause.TheVariants.{Done, Blocked};
 ghost use Rattle.link_lane.specs.Following.{LaneState, Follows, Opens};
-ghost use Rattle.link_lane.specs.Pausing.{peer_of, IsAhead, IsCaught, HasHeardOf, HasHeard, IsNearer, IsNearest};
-ghost use Rattle.link_lane.specs.Pausing.{IsStill, IsHeldUp, BeginsBelow, IsBlocked};
+ghost use Rattle.link_inbox.specs.Waiting.{next_arrival};
+ghost use Rattle.link_lane.specs.Pausing.{peer_of, IsAhead, IsAheadTo, IsCaught, HasHeardOf, HasHeard, IsNearer};
+ghost use Rattle.link_lane.specs.Pausing.{IsNearest, IsStill, IsHeldUp, BeginsBelow, IsBlocked};
 
 use crate::pause::Pause;
 use crossbeam_utils::Backoff;
@@ -72,7 +73,10 @@ pub struct LaneParts<N: Node> {
     pub waiting: Vec<Incoming>,
 }
 
-/// Puts the signal of the next step, if it sends one.
+/// The most cycles that a lane goes on before its peers see it.
+const UNSEEN: u64 = 128;
+
+/// Puts the signal that a step sends, if it sends one.
 fn tell<N: Node>(shared: &Shared<N>, seat: &mut Seat<N>, signal: Option<Signal>)
     requires table { seat.old.table ≡ shared.now }
     requires next { IfSome signal (λ s. (key : Key N) → seat.old.key ≡ key ∷ [] →
@@ -323,9 +327,71 @@ impl<N: Node> Lane<N> {
         shared.publish(&mut self.seat, self.node.clock());
     }
 
+    /// Steps with nothing due until the clock is at least `end` or a step sends a signal. The peers see all of them at
+    /// once.
+    fn go_alone(&mut self, shared: &Shared<N>, end: u64)
+        requires table { self.old.seat.table ≡ shared.now }
+        requires some { N.clock (N.plain self.old.node) < end }
+        requires limit { (key : Key N) → self.old.seat.key ≡ key ∷ [] → end ≤ key.limit }
+        requires ahead { (key : Key N) → self.old.seat.key ≡ key ∷ [] →
+            IsAheadTo (hop key.cut.value) self.old end }
+        requires alone { end ≤ next_arrival self.old.waits }
+        ensures seat { self.new.seat ≡ with_made self.old.seat self.new.seat.made }
+        ensures limit { N.bound self.new.node ≡ N.bound self.old.node }
+        ensures later { N.clock (N.plain self.old.node) < N.clock (N.plain self.new.node) }
+        ensures stepped { self.old.seat.made.steps < self.new.seat.made.steps }
+        ensures began { (key : Key N) → self.old.seat.key ≡ key ∷ [] →
+            BeginsBelow (script_of (kind_of N.clock N.was N.next) N.plain key) end self.old.seat.player
+            self.old.seat.made.steps self.new.seat.made.steps }
+    {
+        let signal = self.node.go_alone(end);
+        tell(shared, &mut self.seat, signal);
+        shared.publish(&mut self.seat, self.node.clock());
+    }
+
+    /// A clock up to which the lane may go alone, no later than `until`. Where the gate is to be entered before each step
+    /// there is none, and it is 0.
+    fn reach<G: Gate>(&self, gate: &G, until: u64) -> u64
+        ensures until { result ≤ until }
+        ensures ahead { (key : Key N) → self.now.seat.key ≡ key ∷ [] →
+            IsAheadTo (hop key.cut.value) self.now result }
+        ensures alone { result ≤ next_arrival self.now.waits }
+    {
+        if !gate.is_open() {
+            return 0;
+        }
+        until
+            .min(self.horizon)
+            .min(self.inbox.next_arrival())
+            .min(self.node.clock() + UNSEEN)
+    }
+
+    /// Makes at least one step.
+    fn go<G: Gate>(&mut self, shared: &Shared<N>, gate: &G, until: u64)
+        requires table { self.old.seat.table ≡ shared.now }
+        requires early { N.clock (N.plain self.old.node) < until }
+        requires limit { (key : Key N) → self.old.seat.key ≡ key ∷ [] → until ≤ key.limit }
+        requires ahead { (key : Key N) → self.old.seat.key ≡ key ∷ [] →
+            IsAhead (hop key.cut.value) self.old (N.clock (N.plain self.old.node)) }
+        ensures seat { self.new.seat ≡ with_made self.old.seat self.new.seat.made }
+        ensures limit { N.bound self.new.node ≡ N.bound self.old.node }
+        ensures later { N.clock (N.plain self.old.node) < N.clock (N.plain self.new.node) }
+        ensures stepped { self.old.seat.made.steps < self.new.seat.made.steps }
+        ensures began { (key : Key N) → self.old.seat.key ≡ key ∷ [] →
+            BeginsBelow (script_of (kind_of N.clock N.was N.next) N.plain key) until self.old.seat.player
+            self.old.seat.made.steps self.new.seat.made.steps }
+    {
+        let end = self.reach(gate, until);
+        if self.node.clock() < end {
+            return self.go_alone(shared, end);
+        }
+        gate.enter(self.player(), self.clock());
+        self.step(shared);
+    }
+
     /// Steps until the clock is at least `until`, or until the lane waits for a peer that it has looked at so many times
     /// since its last step. A lane that may step makes a step. The gate is entered before each step, with the player
-    /// and the clock. It takes no memory, and waits for nobody.
+    /// and the clock; where it is open it needn't be. It takes no memory, and waits for nobody.
     pub fn advance<G: Gate>(
         &mut self,
         shared: &Shared<N>,
@@ -361,8 +427,7 @@ impl<N: Node> Lane<N> {
                     seen: horizon.seen,
                 };
             }
-            gate.enter(self.player(), self.clock());
-            self.step(shared);
+            self.go(shared, gate, until);
         }
         Pause::Done
     }

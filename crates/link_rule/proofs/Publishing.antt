@@ -17,7 +17,7 @@ use Rattle.link_rule.specs.declared.view.Progress.{Progress}
 use Rattle.link_rule.specs.declared.view.View.{View}
 use Rattle.link_rule.specs.Words.{clock_place, ring_place, clock_word, HasSignal}
 use Rattle.link_rule.specs.Rule.{peer_at, IsNextSignal, Shows, Knows, KnowsOf, Ruled, seat_of, holds}
-use Rattle.link_rule.specs.Steps.{unlooked, stepped_on, MayPublish, Publishes, publishes}
+use Rattle.link_rule.specs.Steps.{unlooked, stepped_on, MayPublish, Publishes, PublishesBy, publishes}
 use Rattle.link_rule.proofs.Places.{in_ring, stored, signal_left, same_left, shows_same}
 use Rattle.link_rule.proofs.Kept.{here, moved}
 use Rattle.link_rule.proofs.Allowed.{Stepped, allow, tell_seat}
@@ -37,50 +37,48 @@ pub tells_cases : (o : Option Signal) → (o ≡ None) ⊎ ((x : Signal) × (o �
 tells_cases None = inl refl
 tells_cases (Some x) = inr (x, refl)
 
--- where the next step sends a signal, both its words are written, and then they are what the ring holds
-record Written (s : Script) (words : List ℕ) (i : ℕ) (r : Progress) (m : Move) (flag : ℕ) : Type 0 where
+-- where the step sends a signal, both its words are written, and then they are what the ring holds
+record Written (words : List ℕ) (i : ℕ) (r : Progress) (m : Move) (flag : ℕ) : Type 0 where
   count_is : flag ≡ length (option_to_list m.tells)
-  tells : r.written ≢ 0 → IsSome m.tells
   has : (x : Signal) → m.tells ≡ Some x → HasSignal words i r.sent x
-
-next_is : (s : Script) (i k : ℕ) (m : Move) (x : Signal) → slice_get (s.line i).moves k ≡ Some m → IsNextSignal s i k x
-    → m.tells ≡ Some x
-next_is s i k m x stands next =
-    let both : Some next.move ≡ Some m = sym next.stands ∙ stands in
-    let same : next.move ≡ m = cc in
-    ap (λ (z : Move). z.tells) (sym same) ∙ next.tells
 
 some_is : (o : Option Signal) (x : Signal) → o ≡ Some x → IsSome o
 some_is o x e = subst (λ (z : Option Signal). IsSome z) (sym e) refl
 
-written_of : (s : Script) (words : List ℕ) (i : ℕ) (r : Progress) (m : Move) (flag : ℕ) → Shows s words i r
-    → slice_get (s.line i).moves r.steps ≡ Some m → (IsSome m.tells → r.written ≡ 2) → IsWritten r.written flag
-    → Written s words i r m flag
-written_of s words i r m flag own stands whole flags =
-    elim flags.cases [
-      | inl t ↦ elim (tells_cases m.tells) [
-        | inl quiet ↦ record {
-          count_is = t.1 ∙ ap (λ (o : Option Signal). length (option_to_list o)) (sym quiet);
-          tells = λ some. absurd (some t.0);
-          has = λ x e. let z : None ≡ Some x = sym quiet ∙ e in cc;
-        }
-        | inr loud ↦
-            let two : r.written ≡ 2 = whole (some_is m.tells loud.0 loud.1) in
-            let none : r.written ≡ 0 = t.0 in
-            absurd (omega arith)
-      ]
-      | inr t ↦
-          let two : r.written ≡ 2 = t.0 in
+-- the step k is the first one that sends something after those that are shown
+written_of : (s : Script) (words : List ℕ) (i k : ℕ) (r : Progress) (m : Move) (flag : ℕ) → Shows s words i r
+    → slice_get (s.line i).moves k ≡ Some m → r.sent ≡ sent s i k → (IsSome m.tells → r.written ≡ 2)
+    → (m.tells ≡ None → r.written ≡ 0) → IsWritten r.written flag → Written words i r m flag
+written_of s words i k r m flag own stands counted whole unsent flags =
+    elim (tells_cases m.tells) [
+      | inl quiet ↦
+          let zero_sent : length (option_to_list m.tells) ≡ 0
+          = ap (λ (o : Option Signal). length (option_to_list o)) quiet in
+          let nothing : r.written ≡ 0 = unsent quiet in
+          record {
+            count_is = elim flags.cases [
+              | inl t ↦ t.1 ∙ sym zero_sent
+              | inr t ↦ let two : r.written ≡ 2 = t.0 in absurd (omega arith)
+            ];
+            has = λ x e. let z : None ≡ Some x = sym quiet ∙ e in cc;
+          }
+      | inr loud ↦
+          let one_sent : length (option_to_list m.tells) ≡ 1
+          = ap (λ (o : Option Signal). length (option_to_list o)) loud.1 in
+          let two : r.written ≡ 2 = whole (some_is m.tells loud.0 loud.1) in
           let first = own.begun (omega arith) in
           let second = own.ended (omega arith) in
-          let a : m.tells ≡ Some first.0 = next_is s i r.steps m first.0 stands first.1 in
-          let b : m.tells ≡ Some second.0 = next_is s i r.steps m second.0 stands second.1 in
+          let here : slice_get (told s i) (sent s i r.steps) ≡ Some loud.0
+          = ap (slice_get (told s i)) (sym own.placed.counted ∙ counted) ∙ sent_here s i k m loud.0 stands loud.1 in
+          let a : Some first.0 ≡ Some loud.0 = sym first.1 ∙ here in
+          let b : Some second.0 ≡ Some loud.0 = sym second.1 ∙ here in
           record {
-            count_is = t.1 ∙ ap (λ (o : Option Signal). length (option_to_list o)) (sym a);
-            tells = λ some. some_is m.tells first.0 a;
+            count_is = elim flags.cases [
+              | inl t ↦ let nothing : r.written ≡ 0 = t.0 in absurd (omega arith)
+              | inr t ↦ t.1 ∙ sym one_sent
+            ];
             has = λ x e.
-                let ax : Some first.0 ≡ Some x = sym a ∙ e in
-                let bx : Some second.0 ≡ Some x = sym b ∙ e in
+                let same : Some loud.0 ≡ Some x = sym loud.1 ∙ e in
                 let fx : first.0 ≡ x = cc in
                 let sx : second.0 ≡ x = cc in
                 subst (λ (z : Signal). HasSignal words i r.sent z) fx
@@ -96,17 +94,18 @@ one_at_most : (o : Option Signal) → length (option_to_list o) ≤ 1
 one_at_most None = omega arith
 one_at_most (Some x) = omega arith
 
--- the words of player i after its step
-shows_next : (s : Script) (words : List ℕ) (i : ℕ) (r : Progress) (m : Move) (v flag : ℕ) → Shows s words i r
-    → slice_get (s.line i).moves r.steps ≡ Some m → Written s words i r m flag → clock_place i < length words
+-- the words of player i after so many silent steps and one more
+shows_next : (s : Script) (words : List ℕ) (i silent : ℕ) (r : Progress) (m : Move) (v flag : ℕ) → Shows s words i r
+    → slice_get (s.line i).moves (r.steps + silent) ≡ Some m → r.sent ≡ sent s i (r.steps + silent)
+    → Written words i r m flag → clock_place i < length words
     → v ≡ clock_word m.clock (r.sent + length (option_to_list m.tells))
-    → Shows s (set words (clock_place i) v) i (stepped_on r (length (option_to_list m.tells)))
-shows_next s words i r m v flag own stands w inside v_is =
+    → Shows s (set words (clock_place i) v) i (stepped_on r silent (length (option_to_list m.tells)))
+shows_next s words i silent r m v flag own stands counted w inside v_is =
+    let k : ℕ = r.steps + silent in
     let sends : ℕ = length (option_to_list m.tells) in
-    let less : r.steps < length (s.line i).moves = slice_get_within (s.line i).moves r.steps m stands in
-    let counted : r.sent ≡ sent s i r.steps = own.placed.counted in
-    let next : sent s i (suc r.steps) ≡ sent s i r.steps + sends = sent_next s i r.steps m stands in
-    let clock : now s i (suc r.steps) ≡ m.clock = now_next s i r.steps m stands in
+    let less : k < length (s.line i).moves = slice_get_within (s.line i).moves k m stands in
+    let next : sent s i (suc k) ≡ sent s i k + sends = sent_next s i k m stands in
+    let clock : now s i (suc k) ≡ m.clock = now_next s i k m stands in
     record {
       placed = record {
         within = omega arith;
@@ -128,8 +127,8 @@ shows_next s words i r m v flag own stands w inside v_is =
               | inr loud ↦
                   let one : sends ≤ 1 = one_at_most m.tells in
                   let number : n ≡ r.sent = omega arith in
-                  let there : slice_get (told s i) (sent s i r.steps) ≡ Some loud.0
-                  = sent_here s i r.steps m loud.0 stands loud.1 in
+                  let there : slice_get (told s i) (sent s i k) ≡ Some loud.0
+                  = sent_here s i k m loud.0 stands loud.1 in
                   let both : Some x ≡ Some loud.0
                   = sym e ∙ ap (slice_get (told s i)) (number ∙ counted) ∙ there in
                   let same : loud.0 ≡ x = cc in
@@ -144,11 +143,11 @@ shows_next s words i r m v flag own stands w inside v_is =
 
 -- few signals are left, also with the new one. It bears a clock that is below what j has fetched up to, and the delays
 -- there and back and a step; and signals of one player bear different clocks
-few_after : (s : Script) (i j : ℕ) (r o : Progress) (m : Move) → IsSoundScript s → i < s.players → j < s.players
-    → slice_get (s.line i).moves r.steps ≡ Some m → r.sent ≡ sent s i r.steps
-    → KnowsOf s i j r o → KnowsOf s j i o r → now s i r.steps < (peer_at r.peers j).base + s.hop j i
+few_after : (s : Script) (i j own : ℕ) (r o : Progress) (m : Move) → IsSoundScript s → i < s.players → j < s.players
+    → slice_get (s.line i).moves own ≡ Some m → r.sent ≡ sent s i own
+    → KnowsOf s i j r o → KnowsOf s j i o r → now s i own < (peer_at r.peers j).base + s.hop j i
     → r.sent + length (option_to_list m.tells) ≤ (peer_at o.peers i).taken + s.hop j i + s.hop i j + 511
-few_after s i j r o m sound li lj stands counted k b allowed =
+few_after s i j own r o m sound li lj stands counted k b allowed =
     let p : Peer = peer_at r.peers j in
     let q : Peer = peer_at o.peers i in
     elim (tells_cases m.tells) [
@@ -162,16 +161,16 @@ few_after s i j r o m sound li lj stands counted k b allowed =
           elim (cases_lt q.taken r.sent) [
             | inr all ↦ omega arith
             | inl less ↦
-                let there : slice_get (told s i) (sent s i r.steps) ≡ Some loud.0
-                = sent_here s i r.steps m loud.0 stands loud.1 in
-                let t = signal_is s sound i (sent s i r.steps) loud.0 li there in
-                let first = sent_there s i q.taken r.steps (omega arith) in
-                let sound_move : IsSoundMove (now s i r.steps) m = sound.moves i li r.steps m stands in
-                let borne : IsBorne (now s i r.steps) loud.0
-                = subst (λ (t : Option Signal). IfSome t (IsBorne (now s i r.steps))) loud.1 sound_move.bears in
-                let older : loud.0.clock ≡ now s i r.steps = borne.clock_is in
-                let apart : sent s i r.steps + first.0.clock ≤ q.taken + loud.0.clock
-                = signals_apart s sound i q.taken (sent s i r.steps) first.0 loud.0 li first.1 there (omega arith) in
+                let there : slice_get (told s i) (sent s i own) ≡ Some loud.0
+                = sent_here s i own m loud.0 stands loud.1 in
+                let t = signal_is s sound i (sent s i own) loud.0 li there in
+                let first = sent_there s i q.taken own (omega arith) in
+                let sound_move : IsSoundMove (now s i own) m = sound.moves i li own m stands in
+                let borne : IsBorne (now s i own) loud.0
+                = subst (λ (t : Option Signal). IfSome t (IsBorne (now s i own))) loud.1 sound_move.bears in
+                let older : loud.0.clock ≡ now s i own = borne.clock_is in
+                let apart : sent s i own + first.0.clock ≤ q.taken + loud.0.clock
+                = signals_apart s sound i q.taken (sent s i own) first.0 loud.0 li first.1 there (omega arith) in
                 let unfetched : q.base ≤ first.0.clock
                 = elim (cases_lt first.0.clock q.base) [
                   | inl early ↦ absurd (let n : q.taken < q.taken = b.below q.taken first.0 first.1 early in omega arith)
@@ -188,71 +187,73 @@ few_after s i j r o m sound li lj stands counted k b allowed =
 publish_core : {K : Type 0} (text : K → Script) (key : K) (words : List ℕ) (views : List (View K)) (id i : ℕ)
     (r : Progress) (clock v flag : ℕ) → Ruled text key words views → get_elem? views id ≡ some (seat_of key i r)
     → MayPublish (text key) i r clock → IsWritten r.written flag → v ≡ clock_word clock (r.sent + flag)
-    → Stepped text key (set words (clock_place i) v) views id i (Publishes (text key) i r)
+    → Stepped text key (set words (clock_place i) v) views id i (PublishesBy (text key) i r v)
 publish_core text key words views id i r clock v flag h at may flags v_is =
     let s : Script = text key in
     let sound : IsSoundScript s = h.sound in
     let me = here text key words views id key i r h at in
     let own = own_shows text key words views id i r h at in
     let m : Move = may.move in
+    let k : ℕ = r.steps + may.silent in
     let sends : ℕ = length (option_to_list m.tells) in
-    let w = written_of s words i r m flag own may.stands may.written flags in
+    let counted : r.sent ≡ sent s i k = own.placed.counted ∙ sym may.quiet in
+    let w = written_of s words i k r m flag own may.stands counted may.written may.unwritten flags in
     let four : s.players ≤ 4 = sound.at_most_four in
     let inside : clock_place i < length words = omega (arith, me.player, h.wide) in
+    let counts : v ≡ clock_word clock (r.sent + sends) = v_is ∙ ap (λ (n : ℕ). clock_word clock (r.sent + n)) w.count_is in
     let value : v ≡ clock_word m.clock (r.sent + sends)
-    = v_is ∙ ap (λ (c : ℕ). clock_word c (r.sent + flag)) may.clock_is
-    ∙ ap (λ (n : ℕ). clock_word m.clock (r.sent + n)) w.count_is in
-    let y : Progress = stepped_on r sends in
-    let clock_next : now s i (suc r.steps) ≡ m.clock = now_next s i r.steps m may.stands in
-    let mv : IsSoundMove (now s i r.steps) m = sound.moves i me.player r.steps m may.stands in
-    let short : m.clock ≤ now s i r.steps + 512 = mv.short in
+    = counts ∙ ap (λ (c : ℕ). clock_word c (r.sent + sends)) may.clock_is in
+    let y : Progress = stepped_on r may.silent sends in
+    let clock_next : now s i (suc k) ≡ m.clock = now_next s i k m may.stands in
+    let mv : IsSoundMove (now s i k) m = sound.moves i me.player k m may.stands in
+    let short : m.clock ≤ now s i k + 512 = mv.short in
     record {
       new = y;
       rule = moved text key words (set words (clock_place i) v) views id i r y h at
           (length-set words (clock_place i) v ∙ h.wide)
-          (shows_next s words i r m v flag own may.stands w inside value)
+          (shows_next s words i may.silent r m v flag own may.stands counted w inside value)
           (λ j lj apart. shows_same s j (h.made j) words (set words (clock_place i) v)
           (same_left words (clock_place i) v i j (omega arith) (omega arith) apart) (h.shows j lj))
           (λ j lj apart.
-          let k = (concerned text key words views id i j r h at lj apart).knows in
-          let free : now s i r.steps < (peer_at r.peers j).base + s.hop j i = may.allowed j lj apart in
-          subst (λ (p : Peer). Knows s i j (suc r.steps) p (h.made j).steps (h.made j).sent)
+          let c = (concerned text key words views id i j r h at lj apart).knows in
+          let free : now s i k < (peer_at r.peers j).base + s.hop j i = may.allowed j lj apart in
+          subst (λ (p : Peer). Knows s i j (suc k) p (h.made j).steps (h.made j).sent)
           (sym (unlooked_at r.peers j))
           (record {
             seen = record {
-              at = k.seen.at;
-              past = k.seen.past;
-              clock_is = k.seen.clock_is;
-              count_is = k.seen.count_is;
+              at = c.seen.at;
+              past = c.seen.past;
+              clock_is = c.seen.clock_is;
+              count_is = c.seen.count_is;
             };
-            fetched = k.fetched;
-            based = k.based;
-            below = k.below;
+            fetched = c.fetched;
+            based = c.based;
+            below = c.below;
             near = omega arith;
             allowed = λ n e.
-                let same : n ≡ r.steps = omega arith in
+                let same : n ≡ k = omega arith in
                 subst (λ (z : ℕ). now s i z < (peer_at r.peers j).base + s.hop j i) (sym same) free;
-            few = k.few;
+            few = c.few;
           }))
           (λ j lj apart.
           let c = concerned text key words views id i j r h at lj apart in
-          let k = c.known in
+          let b = c.known in
           record {
             seen = record {
-              at = k.seen.at;
-              past = omega (arith, k.seen.past);
-              clock_is = k.seen.clock_is;
-              count_is = k.seen.count_is;
+              at = b.seen.at;
+              past = omega (arith, b.seen.past);
+              clock_is = b.seen.clock_is;
+              count_is = b.seen.count_is;
             };
-            fetched = k.fetched;
-            based = k.based;
-            below = k.below;
-            near = k.near;
-            allowed = k.allowed;
-            few = few_after s i j r (h.made j) m sound me.player lj may.stands own.placed.counted c.knows k
+            fetched = b.fetched;
+            based = b.based;
+            below = b.below;
+            near = b.near;
+            allowed = b.allowed;
+            few = few_after s i j k r (h.made j) m sound me.player lj may.stands counted c.knows b
                 (may.allowed j lj apart);
           });
-      tells = record { move = m; stands = may.stands; written = w.tells; new_is = refl };
+      tells = record { clock = clock; word_is = counts; publishes = record { made = may; new_is = refl } };
     }
 
 -- a publish is allowed
@@ -264,9 +265,35 @@ pub publish_allowed : {S K : Type 0} (text : K → Script) (key other : K) (slot
 publish_allowed {S = S} {K = K} text key other slots id i r clock v flag may flags v_is =
     allow text key other slots id i (clock_place i) r (λ n. v)
     (λ n. publishes text (step slots (clock_place i) v 0 none) (seat_of other i r, []) v)
-    (λ k n new. Publishes (text k) i r new)
+    (λ k n new. PublishesBy (text k) i r v new)
     (λ words views h at e.
     publish_core text key words views id i r clock v flag h at
     (subst (λ (k : K). MayPublish (text k) i r clock) e may) flags v_is)
     (λ n new told l a old e.
-    tell_seat other l i a r old new (λ k b y z. Publishes (text k) b y z) e told)
+    tell_seat other l i a r old new (λ k b y z. PublishesBy (text k) b y v z) e told)
+
+-- the clock tells which steps were made
+pub same_silent : (s : Script) (i : ℕ) (r : Progress) (clock : ℕ) → IsSoundScript s → i < s.players
+    → (a b : MayPublish s i r clock) → a.silent ≡ b.silent
+same_silent s i r clock sound below a b =
+    let ka : ℕ = r.steps + a.silent in
+    let kb : ℕ = r.steps + b.silent in
+    let ca : now s i (suc ka) ≡ a.move.clock = now_next s i ka a.move a.stands in
+    let cb : now s i (suc kb) ≡ b.move.clock = now_next s i kb b.move b.stands in
+    let ma : IsSoundMove (now s i ka) a.move = sound.moves i below ka a.move a.stands in
+    let mb : IsSoundMove (now s i kb) b.move = sound.moves i below kb b.move b.stands in
+    let ra : now s i ka < a.move.clock = ma.rises in
+    let rb : now s i kb < b.move.clock = mb.rises in
+    let ea : clock ≡ a.move.clock = a.clock_is in
+    let eb : clock ≡ b.move.clock = b.clock_is in
+    elim (cases_lt ka kb) [
+      | inl less ↦
+          let up : now s i (suc ka) ≤ now s i kb = now_up s sound i (suc ka) kb below (omega arith) in
+          absurd (omega arith)
+      | inr past ↦ elim (cases_lt kb ka) [
+        | inl less ↦
+            let up : now s i (suc kb) ≤ now s i ka = now_up s sound i (suc kb) ka below (omega arith) in
+            absurd (omega arith)
+        | inr same ↦ omega arith
+      ]
+    ]

@@ -6,7 +6,6 @@ use lib.ListN.{get_elem?}
 use Rattle.atomic_table.specs.Table.{State}
 use Rattle.link_node.specs.declared.signal.Signal.{Signal}
 use Rattle.link_node.specs.Packing.{packed_head, packed_words}
-use Rattle.link_order.specs.Way.{Move}
 use Rattle.link_script.specs.Script.{Script, now, sent, told, IsSoundScript}
 use Rattle.link_rule.specs.declared.view.Peer.{Peer}
 use Rattle.link_rule.specs.declared.view.Progress.{Progress}
@@ -22,11 +21,9 @@ no_peer = record { clock = 0; count = 0; taken = 0; base = 0; looks = 0 }
 abbrev pub peer_at : List Peer → ℕ → Peer
 peer_at peers j = slice_index_or peers j no_peer
 
--- the signal that player i's next step sends, after k of its steps
-pub record IsNextSignal (s : Script) (i k : ℕ) (signal : Signal) : Type 0 where
-  pub move : Move
-  pub stands : slice_get (s.line i).moves k ≡ Some move
-  pub tells : move.tells ≡ Some signal
+-- the signal that player i sends next, after k of its steps
+abbrev pub IsNextSignal : Script → ℕ → ℕ → Signal → Type 0
+IsNextSignal s i k signal = slice_get (told s i) (sent s i k) ≡ Some signal
 
 -- player i's place in the trace: so many of its steps, and the signals sent in these
 pub record IsPlaced (s : Script) (i : ℕ) (r : Progress) : Type 0 where
@@ -35,7 +32,7 @@ pub record IsPlaced (s : Script) (i : ℕ) (r : Progress) : Type 0 where
   pub all_peers : length r.peers ≡ 4
 
 -- the words of player i: its clock word, its last 4,096 signals (one fewer, for the one that is being written), and the
--- words of its next step's signal that are written already
+-- words of its next signal that are written already
 pub record Shows (s : Script) (words : List ℕ) (i : ℕ) (r : Progress) : Type 0 where
   pub placed : IsPlaced s i r
   pub clock_is : slice_index words (clock_place i) ≡ clock_word (now s i r.steps) r.sent

@@ -1,5 +1,5 @@
 use Rattle.std.specs.Prelude.{ℕ, ◌≡◌, ◌≢◌, ◌+◌, ◌<◌, ◌≤◌, ◌^◌, ◌==◌, if◌then◌else◌, List, [], ◌∷◌, Some, length, map}
-use Rattle.std.specs.Prelude.{slice_get, slice_set, option_to_list, IsSome}
+use Rattle.std.specs.Prelude.{slice_get, slice_set, option_to_list, IsSome, None}
 use Rattle.std.proofs.Common.{suc}
 use Rattle.atomic_table.specs.Table.{Me, Step}
 use Rattle.link_node.specs.declared.signal.Signal.{Signal}
@@ -42,12 +42,18 @@ fetched p = record {
 abbrev pub with_written : Progress → ℕ → Progress
 with_written r written = record { steps = r.steps; sent = r.sent; written = written; peers = r.peers }
 
--- a player after one more step, which sent so many signals
+-- a peer at which nobody has looked since the player's last step
 abbrev pub unlooked : Peer → Peer
 unlooked p = record { clock = p.clock; count = p.count; taken = p.taken; base = p.base; looks = 0 }
 
-abbrev pub stepped_on : Progress → ℕ → Progress
-stepped_on r sends = record { steps = suc r.steps; sent = r.sent + sends; written = 0; peers = map unlooked r.peers }
+-- a player after so many silent steps and one more, which sent so many signals
+abbrev pub stepped_on : Progress → ℕ → ℕ → Progress
+stepped_on r silent sends = record {
+  steps = suc (r.steps + silent);
+  sent = r.sent + sends;
+  written = 0;
+  peers = map unlooked r.peers;
+}
 
 -- what a look of player i at player j tells: clock and count of j after some number of its steps, neither below what i
 -- had seen; few of these signals aren't fetched, and all of them arrive before i gets past them
@@ -86,25 +92,32 @@ pub record ReadsBody (s : Script) (j : ℕ) (old : Progress) (found : ℕ) (new 
   pub found_is : found ≡ packed_words signal
   pub new_is : new ≡ with_peer old j (fetched (peer_at old.peers j))
 
--- what player i needs to step: its clock is below each peer's `base` and the delay from there
-abbrev pub IsAllowed : Script → ℕ → Progress → Type 0
-IsAllowed s i r = (j : ℕ) → j < s.players → j ≢ i → now s i r.steps < (peer_at r.peers j).base + s.hop j i
+-- what player i needs to make its step k: its clock is below each peer's `base` and the delay from there
+abbrev pub IsAllowed : Script → ℕ → ℕ → Progress → Type 0
+IsAllowed s i k r = (j : ℕ) → j < s.players → j ≢ i → now s i k < (peer_at r.peers j).base + s.hop j i
 
--- what a publish needs: this is the clock of the next step, whose signal is written where it has one, and that step is
--- allowed
+-- what a publish needs: this is the clock after one of the steps that come next, of which those before it send nothing;
+-- its signal is written where it has one; and it is allowed, and so are those before it, which begin at lower clocks
 pub record MayPublish (s : Script) (i : ℕ) (old : Progress) (clock : ℕ) : Type 0 where
+  pub silent : ℕ
   pub move : Move
-  pub stands : slice_get (s.line i).moves old.steps ≡ Some move
+  pub stands : slice_get (s.line i).moves (old.steps + silent) ≡ Some move
+  pub quiet : sent s i (old.steps + silent) ≡ sent s i old.steps
   pub clock_is : clock ≡ move.clock
   pub written : IsSome move.tells → old.written ≡ 2
-  pub allowed : IsAllowed s i old
+  pub unwritten : move.tells ≡ None → old.written ≡ 0
+  pub allowed : IsAllowed s i (old.steps + silent) old
 
--- player i has made its next step
-pub record Publishes (s : Script) (i : ℕ) (old new : Progress) : Type 0 where
-  pub move : Move
-  pub stands : slice_get (s.line i).moves old.steps ≡ Some move
-  pub written : old.written ≢ 0 → IsSome move.tells
-  pub new_is : new ≡ stepped_on old (length (option_to_list move.tells))
+-- player i has made these steps
+pub record Publishes (s : Script) (i : ℕ) (old : Progress) (clock : ℕ) (new : Progress) : Type 0 where
+  pub made : MayPublish s i old clock
+  pub new_is : new ≡ stepped_on old made.silent (length (option_to_list made.move.tells))
+
+-- the same by the word that was stored
+pub record PublishesBy (s : Script) (i : ℕ) (old : Progress) (word : ℕ) (new : Progress) : Type 0 where
+  pub clock : ℕ
+  pub word_is : word ≡ clock_word clock new.sent
+  pub publishes : Publishes s i old clock new
 
 -- what a seat of all players knows once it was joined: each one's place in the trace, and what each knows of each other
 pub record Met (s : Script) (records : List Progress) : Type 0 where
@@ -125,7 +138,7 @@ pub record Rests (s : Script) (j : ℕ) (o : Progress) (word found : ℕ) : Type
 abbrev pub Becomes : {S K : Type 0} → Me S (View K) → Me S (View K) → K → ℕ → (Progress → Type 0) → Type 0
 Becomes before after key i tells = (new : Progress) × (after ≡ (seat_of key i new, before.1)) × tells new
 
--- storing a word of the next step's signal
+-- storing a word of the next signal
 abbrev pub puts : {S K : Type 0} → Step S → Me S (View K) → ℕ → Me S (View K) → Type 0
 puts {K = K} step before found after =
     (key : K) (i : ℕ) (old : Progress) → before.0 ≡ seat_of key i old
@@ -157,7 +170,7 @@ module _ {S K : Type 0} (text : K → Script) where
   abbrev pub publishes : Step S → Me S (View K) → ℕ → Me S (View K) → Type 0
   publishes step before found after =
       (key : K) (i : ℕ) (old : Progress) → before.0 ≡ seat_of key i old
-      → Becomes before after key i (Publishes (text key) i old)
+      → Becomes before after key i (PublishesBy (text key) i old found)
 
   -- loading any word, by a seat of all players
   abbrev pub rests : Step S → Me S (View K) → ℕ → Me S (View K) → Type 0

@@ -19,7 +19,7 @@ pub struct Peer {
 pub struct Progress {
     pub steps: u64,
     pub sent: u64,
-    /// How many of the two words of the next step's signal are written.
+    /// How many of the two words of the next signal are written.
     pub written: u64,
     /// What it has seen, by player number; always four, its own place among them.
     pub peers: LinkedList<Peer>,

@@ -12,10 +12,10 @@ use std::thread;
 use std::thread::{Threads, join_mut};
 
 /// How often a lane looks at its peers before it lets other threads go first.
-const POLLS: u32 = 16;
+const POLLS: u32 = 4;
 
 /// How often it does so in one pause.
-const ATTEMPTS: u32 = 256;
+const ATTEMPTS: u32 = 1024;
 
 /// What all lanes of a round share.
 #[derive(Drop)]

@@ -1,7 +1,7 @@
 -- What the store of a clock word asks of the table, and what it makes of the seat.
 use Rattle.std.specs.Prelude.{[], length, Option, None, Some, IsSome}
 use Rattle.std.specs.Prelude.{false, if◌then◌else◌, option_to_list}
-use Rattle.std.proofs.Common.{ℕ, ◌≡◌, ◌+◌, ◌<◌, ◌≤◌, ◌^◌, arith, refl, sym, ap, ◌∙◌, subst, inl, inr}
+use Rattle.std.proofs.Common.{ℕ, ◌≡◌, ◌+◌, ◌%◌, ◌<◌, ◌≤◌, ◌^◌, arith, refl, sym, ap, ◌∙◌, subst, inl, inr}
 use Rattle.std.proofs.lemmas.Bool.{cases_Bool}
 use Rattle.std.proofs.lemmas.List.{length-map}
 use Rattle.std.proofs.lemmas.Option.{slice_get_within}
@@ -17,7 +17,8 @@ use Rattle.link_rule.specs.declared.view.Peer.{Peer}
 use Rattle.link_rule.specs.declared.view.Progress.{Progress}
 use Rattle.link_rule.specs.Words.{clock_place, clock_word}
 use Rattle.link_rule.specs.Rule.{seat_of, holds}
-use Rattle.link_rule.specs.Steps.{unlooked, stepped_on, MayPublish, Publishes, publishes}
+use Rattle.link_rule.specs.Steps.{unlooked, stepped_on, MayPublish, Publishes, PublishesBy, publishes}
+use Rattle.link_rule.proofs.Decoding.{clock_part}
 use Rattle.link_rule.proofs.Publishing.{IsWritten, publish_allowed, unlooked_at, tells_cases}
 use Rattle.link_table.specs.declared.key.Key.{Key}
 use Rattle.link_table.specs.declared.seat.Seat.TheInside.{Inside}
@@ -51,8 +52,8 @@ are_small kind plain st flag clock h w may =
     let s : Script = script_of kind plain h.key in
     let inside : st.player < s.players = subst (λ (n : ℕ). st.player < n) h.players_is h.below in
     let small = sent_small s h.sound st.player h.made.steps inside in
-    let move : IsSoundMove (now s st.player h.made.steps) may.move
-    = h.sound.moves st.player inside h.made.steps may.move may.stands in
+    let move : IsSoundMove (now s st.player (h.made.steps + may.silent)) may.move
+    = h.sound.moves st.player inside (h.made.steps + may.silent) may.move may.stands in
     let far : may.move.clock < 2 ^ 40 = move.small in
     record {
       sent_small = omega (arith, h.sent_is, h.placed.counted, small);
@@ -77,56 +78,64 @@ may_publish {N = N} kind plain table_key slots word value flag clock s h may w w
 
 -- what the seat has done
 pub record HasPublished {N C : Type 0} (kind : NodeKind C) (plain : N → C) (key : Key N) (player : ℕ) (after : Mine N)
-    (old : Progress) (flag : ℕ) : Type 0
+    (old : Progress) (flag clock : ℕ) : Type 0
   where
     pub made : Progress
     pub seat : IsAfter key player after made
-    pub step : Publishes (script_of kind plain key) player old made
-    pub count_is : flag ≡ length (option_to_list step.move.tells)
+    pub step : Publishes (script_of kind plain key) player old clock made
+    pub count_is : flag ≡ length (option_to_list step.made.move.tells)
+
+-- a clock word tells its clock
+same_clock : (a b m n : ℕ) → a < 2 ^ 40 → b < 2 ^ 40 → clock_word a m ≡ clock_word b n → a ≡ b
+same_clock a b m n small_a small_b e =
+    sym (clock_part a m small_a) ∙ ap (λ (w : ℕ). w % 2 ^ 40) e ∙ clock_part b n small_b
+
+-- the flag tells whether the step sent a signal
+flag_is : (o : Option Signal) (written flag : ℕ) → (IsSome o → written ≡ 2) → (o ≡ None → written ≡ 0)
+    → IsWritten written flag → flag ≡ length (option_to_list o)
+flag_is o written flag whole unsent w =
+    elim (tells_cases o) [
+      | inl quiet ↦
+          let none_sent : length (option_to_list o) ≡ 0
+          = ap (λ (z : Option Signal). length (option_to_list z)) quiet in
+          let nothing : written ≡ 0 = unsent quiet in
+          elim w.cases [
+            | inl c ↦ c.1 ∙ sym none_sent
+            | inr c ↦ let two : written ≡ 2 = c.0 in absurd (omega arith)
+          ]
+      | inr loud ↦
+          let one_sent : length (option_to_list o) ≡ 1
+          = ap (λ (z : Option Signal). length (option_to_list z)) loud.1 in
+          let two : written ≡ 2 = whole (subst (λ (z : Option Signal). IsSome z) (sym loud.1) refl) in
+          elim w.cases [
+            | inl c ↦ let nothing : written ≡ 0 = c.0 in absurd (omega arith)
+            | inr c ↦ c.1 ∙ sym one_sent
+          ]
+    ]
 
 pub has_published : {N C : Type 0} (kind : NodeKind C) (plain : N → C) (slots word value flag clock : ℕ) (s : Inside N)
     (after : Mine N) → (h : IsSeat kind plain s) → MayPublish (script_of kind plain h.key) s.player h.made clock
-    → IsWritten h.made.written flag
+    → IsWritten h.made.written flag → value ≡ clock_word clock (s.sent + flag)
     → publishes (script_of kind plain) (step slots word value 0 none) s.place.me value after
-    → HasPublished kind plain h.key s.player after h.made flag
-has_published {N = N} kind plain slots word value flag clock st after h may w told =
+    → HasPublished kind plain h.key s.player after h.made flag clock
+has_published {N = N} kind plain slots word value flag clock st after h may w value_is told =
     let s : Script = script_of kind plain h.key in
+    let inside : st.player < s.players = subst (λ (n : ℕ). st.player < n) h.players_is h.below in
     let t = told h.key st.player h.made (ap (λ (m : Mine N). m.0) h.me_is) in
-    let p : Publishes s st.player h.made t.0 = t.2 in
-    let both : Some may.move ≡ Some p.move = sym may.stands ∙ p.stands in
-    let same : may.move ≡ p.move = cc in
-    let whole : IsSome p.move.tells → h.made.written ≡ 2
-    = subst (λ (z : Move). IsSome z.tells → h.made.written ≡ 2) same may.written in
+    let by : PublishesBy s st.player h.made value t.0 = t.2 in
+    let m = by.publishes.made in
+    let small = are_small kind plain st flag clock h w may in
+    let other = are_small kind plain st flag by.clock h w m in
+    let same : by.clock ≡ clock
+    = same_clock by.clock clock t.0.sent (st.sent + flag) other.clock_small small.clock_small
+    (sym by.word_is ∙ value_is) in
+    let p : Publishes s st.player h.made clock t.0
+    = subst (λ (c : ℕ). Publishes s st.player h.made c t.0) same by.publishes in
     record {
       made = t.0;
       seat = record { after_is = t.1 ∙ ap (λ (m : Mine N). (seat_of h.key st.player t.0, m.1)) h.me_is };
       step = p;
-      count_is =
-          elim (tells_cases p.move.tells) [
-            | inl quiet ↦
-                let none_sent : length (option_to_list p.move.tells) ≡ 0
-                = ap (λ (o : Option Signal). length (option_to_list o)) quiet in
-                elim w.cases [
-                  | inl c ↦ c.1 ∙ sym none_sent
-                  | inr c ↦
-                      let two : h.made.written ≡ 2 = c.0 in
-                      let some_tells : IsSome p.move.tells = p.written (λ e. omega arith) in
-                      let never : IsSome {T = Signal} None
-                      = subst (λ (o : Option Signal). IsSome o) quiet some_tells in
-                      absurd cc
-                ]
-            | inr loud ↦
-                let one_sent : length (option_to_list p.move.tells) ≡ 1
-                = ap (λ (o : Option Signal). length (option_to_list o)) loud.1 in
-                elim w.cases [
-                  | inl c ↦
-                      let nothing : h.made.written ≡ 0 = c.0 in
-                      let two : h.made.written ≡ 2
-                      = whole (subst (λ (o : Option Signal). IsSome o) (sym loud.1) refl) in
-                      absurd (omega arith)
-                  | inr c ↦ c.1 ∙ sym one_sent
-                ]
-          ];
+      count_is = flag_is p.made.move.tells h.made.written flag p.made.written p.made.unwritten w;
     }
 
 -- the seat's fields after it
@@ -141,20 +150,23 @@ published_fields s place flag = record {
   taken = s.taken;
 }
 
-pub published_seat : {N C : Type 0} (kind : NodeKind C) (plain : N → C) (s : Inside N) (place : Place N) (flag : ℕ)
-    → (h : IsSeat kind plain s) → HasPublished kind plain h.key s.player place.me h.made flag
+pub published_seat : {N C : Type 0} (kind : NodeKind C) (plain : N → C) (s : Inside N) (place : Place N) (flag clock : ℕ)
+    → (h : IsSeat kind plain s) → HasPublished kind plain h.key s.player place.me h.made flag clock
     → IsSeat kind plain (published_fields s place flag)
-published_seat {N = N} kind plain st place flag h l =
+published_seat {N = N} kind plain st place flag clock h l =
     let s : Script = script_of kind plain h.key in
-    let sends : ℕ = length (option_to_list l.step.move.tells) in
-    let made_is : l.made ≡ stepped_on h.made sends = l.step.new_is in
-    let less = slice_get_within (s.line st.player).moves h.made.steps l.step.move l.step.stands in
-    let next = sent_next s st.player h.made.steps l.step.move l.step.stands in
+    let m = l.step.made in
+    let k : ℕ = h.made.steps + m.silent in
+    let sends : ℕ = length (option_to_list m.move.tells) in
+    let made_is : l.made ≡ stepped_on h.made m.silent sends = l.step.new_is in
+    let less = slice_get_within (s.line st.player).moves k m.move m.stands in
+    let next = sent_next s st.player k m.move m.stands in
+    let quiet : sent s st.player k ≡ sent s st.player h.made.steps = m.quiet in
     let counted : h.made.sent ≡ sent s st.player h.made.steps = h.placed.counted in
     let count_is : flag ≡ sends = l.count_is in
     record {
       key = h.key;
-      made = stepped_on h.made sends;
+      made = stepped_on h.made m.silent sends;
       me_is = l.seat.after_is ∙ ap (λ (r : Progress). (seat_of h.key st.player r, [])) made_is;
       below = h.below;
       players_is = h.players_is;

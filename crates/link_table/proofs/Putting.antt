@@ -1,14 +1,14 @@
 -- What the two stores of a signal ask of the table, and what they make of the seat.
-use Rattle.std.specs.Prelude.{[], ◌∷◌, Option, IfSome, true}
-use Rattle.std.proofs.Common.{ℕ, suc, ◌≡◌, ◌+◌, ◌<◌, ◌^◌, arith, refl, sym, ap, ◌∙◌, subst}
+use Rattle.std.specs.Prelude.{[], ◌∷◌, true}
+use Rattle.std.proofs.Common.{ℕ, suc, ◌≡◌, ◌+◌, ◌<◌, ◌^◌, refl, sym, ap, ◌∙◌, subst}
 use mathlib.Core.Option.{none}
 use Rattle.atomic_table.specs.Table.{Allows, step}
 use Rattle.link_node.specs.declared.signal.Signal.{Signal}
 use Rattle.link_node.specs.Due.{FitsWidths}
 use Rattle.link_node.specs.Packing.{packed_head, packed_words}
 use Rattle.link_order.specs.NodeKind.{NodeKind}
-use Rattle.link_script.specs.Script.{Script, now, IsSoundMove, IsBorne}
-use Rattle.link_script.proofs.Scripts.{now_small}
+use Rattle.link_script.specs.Script.{Script, sent}
+use Rattle.link_script.proofs.Scripts.{signal_is}
 use Rattle.link_rule.specs.declared.view.Progress.{Progress}
 use Rattle.link_rule.specs.Words.{ring_place}
 use Rattle.link_rule.specs.Rule.{IsNextSignal, seat_of, holds}
@@ -20,7 +20,7 @@ use Rattle.link_table.specs.Text.{script_of}
 use Rattle.link_table.specs.Seated.{SeatState, state_of, IsSeat}
 use Rattle.link_table.proofs.Seats.{Mine, Place, IsAfter, own_made, asked}
 
--- the next step's signal, of the seat's fields, with nothing of it written
+-- the signal that comes next, of the seat's fields, with nothing of it written
 pub record IsPut {N C : Type 0} (kind : NodeKind C) (plain : N → C) (key : Key N) (player : ℕ) (made : Progress)
     (x : Signal) : Type 0
   where
@@ -38,16 +38,12 @@ is_put kind plain st seen x h is given unwritten =
     let n : IsNextSignal s st.player h.made.steps x
     = asked kind plain st seen (λ k i r. IsNextSignal (script_of kind plain k) i r.steps x) h is given in
     let inside : st.player < s.players = subst (λ (n : ℕ). st.player < n) h.players_is h.below in
-    let move : IsSoundMove (now s st.player h.made.steps) n.move
-    = h.sound.moves st.player inside h.made.steps n.move n.stands in
-    let borne : IsBorne (now s st.player h.made.steps) x
-    = subst (λ (o : Option Signal). IfSome o (IsBorne (now s st.player h.made.steps))) n.tells move.bears in
-    let small = now_small s h.sound st.player h.made.steps inside in
+    let t = signal_is s h.sound st.player (sent s st.player h.made.steps) x inside n in
     record {
       next = n;
       unwritten = subst (λ (r : Progress). r.written ≡ 0) (own_made kind plain st seen h is) unwritten;
-      clock = omega (arith, borne.clock_is, small);
-      widths = borne.fits;
+      clock = t.small;
+      widths = t.fits;
     }
 
 pub may_put_head : {N C : Type 0} (kind : NodeKind C) (plain : N → C) (table_key : Key N) (slots word value : ℕ)

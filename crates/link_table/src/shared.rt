@@ -88,7 +88,7 @@ impl<N: Node> Shared<N> {
         signal_of(head, body)
     }
 
-    /// Writes the signal of the console's next step into its ring.
+    /// Writes the signal that the console sends next into its ring.
     pub fn put_signal(&self, seat: &mut Seat<N>, signal: &Signal)
         requires table { seat.old.table ≡ self.now }
         requires next { (key : Key N) → seat.old.key ≡ key ∷ [] →
@@ -108,14 +108,16 @@ impl<N: Node> Shared<N> {
         seat.written = true;
     }
 
-    /// Stores the console's clock word after its next step. Where that step sends a signal, `put_signal` comes first.
+    /// Stores the console's clock word after one or more steps, of which only the last may send a signal. Where it does,
+    /// `put_signal` comes first.
     pub fn publish(&self, seat: &mut Seat<N>, clock: u64)
         requires table { seat.old.table ≡ self.now }
         requires next { (key : Key N) → seat.old.key ≡ key ∷ [] →
             MayPublish (script_of (kind_of N.clock N.was N.next) N.plain key) seat.old.player seat.old.made clock }
         ensures seat { seat.new ≡ with_made seat.old seat.new.made }
         ensures step { (key : Key N) → seat.old.key ≡ key ∷ [] →
-            Publishes (script_of (kind_of N.clock N.was N.next) N.plain key) seat.old.player seat.old.made seat.new.made }
+            Publishes (script_of (kind_of N.clock N.was N.next) N.plain key) seat.old.player seat.old.made clock
+            seat.new.made }
     {
         let sent = seat.sent + u64::from(seat.written);
         let word = clock + (1 << 40) * (sent % (1 << 24));

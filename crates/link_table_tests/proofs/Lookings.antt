@@ -2,15 +2,17 @@
 use Rattle.std.specs.Prelude.{length, map, Some, option_to_list, if◌then◌else◌, ◌==◌}
 use Rattle.std.specs.Prelude.{true}
 use Rattle.std.proofs.lemmas.Bool.Decides.{nat_tests}
-use Rattle.std.proofs.Common.{ℕ, suc, ◌≡◌, ◌≤◌, ◌⊎◌, inl, inr, arith, refl, sym, ap, ◌∙◌, subst}
+use Rattle.std.proofs.Common.{ℕ, suc, ◌≡◌, ◌+◌, ◌≤◌, ◌⊎◌, inl, inr, arith, refl, sym, ap, ◌∙◌, subst}
 use Rattle.std.proofs.lemmas.List.{length-set, length-map}
 use Rattle.link_order.specs.Way.{console_after}
 use Rattle.link_order.specs.GlobalOrder.{trace}
 use Rattle.link_rule.specs.declared.view.Peer.{Peer}
 use Rattle.link_rule.specs.Rule.{peer_at}
-use Rattle.link_rule.specs.Steps.{with_peer, with_written, unlooked, stepped_on, looked, Looks, Publishes}
+use Rattle.link_script.specs.Script.{Script}
+use Rattle.link_rule.specs.declared.view.Progress.{Progress}
+use Rattle.link_rule.specs.Steps.{with_peer, with_written, unlooked, stepped_on, looked, Looks, MayPublish, Publishes}
 use Rattle.link_rule.proofs.Looking.{peer_here, base_cases}
-use Rattle.link_rule.proofs.Publishing.{unlooked_at}
+use Rattle.link_rule.proofs.Publishing.{unlooked_at, same_silent}
 use Rattle.link_table.specs.declared.key.Key.{Key}
 use Rattle.link_table.specs.Text.{script_of}
 use Rattle.link_table.specs.Seated.{SeatState, with_made}
@@ -56,6 +58,7 @@ looked_on node seat after peer seen taken count_seen clock count bound f is l ca
       key_is = f.key_is;
       cable = f.cable;
       sound = f.sound;
+      script = f.script;
       stands = f.stands;
       limit = f.limit;
       unwritten = f.unwritten;
@@ -69,20 +72,32 @@ looked_on node seat after peer seen taken count_seen clock count bound f is l ca
       count_is = sym (ap (λ (z : Peer). z.count) here);
     })
 
--- after a step
+-- after a step, the only one that was published
 pub stepped : (node next : Ticker) (seat told after : SeatState (Key Ticker)) (peer seen taken count_seen : ℕ)
     (f : IsFollowing node seat peer seen taken count_seen)
     → console_after ticked_kind (text_cut f.key) (trace ticked_kind (text_cut f.key) f.key.limit) seat.player
     (suc seat.made.steps) ≡ Some (ticked_plain next)
-    → next.limit ≡ node.limit → (written : ℕ) → told ≡ with_made seat (with_written seat.made written)
+    → next.limit ≡ node.limit → (written clock : ℕ) → told ≡ with_made seat (with_written seat.made written)
     → after ≡ with_made told after.made
-    → Publishes (script_of ticked_kind ticked_plain f.key) told.player told.made after.made
+    → (own : MayPublish (script_of ticked_kind ticked_plain f.key) seat.player (with_written seat.made written) clock)
+    → own.silent ≡ 0
+    → Publishes (script_of ticked_kind ticked_plain f.key) told.player told.made clock after.made
     → IsFollowing next after peer seen taken count_seen
-stepped node next seat told after peer seen taken count_seen f stands limit written told_is is p =
-    let sends : ℕ = length (option_to_list p.move.tells) in
-    let made_is : after.made ≡ stepped_on (with_written seat.made written) sends
-    = p.new_is ∙ ap (λ (z : SeatState (Key Ticker)). stepped_on z.made sends) told_is in
-    let seat_is : after ≡ with_made seat (stepped_on (with_written seat.made written) sends)
+unfolding script_of
+stepped node next seat told after peer seen taken count_seen f stands limit written clock told_is is own one p =
+    let s : Script = script_of ticked_kind ticked_plain f.key in
+    let mid : Progress = with_written seat.made written in
+    let q : Publishes s seat.player mid clock after.made
+    = subst (λ (z : SeatState (Key Ticker)). Publishes s z.player z.made clock after.made) told_is p in
+    let sends : ℕ = length (option_to_list q.made.move.tells) in
+    let two : length f.key.cut.value.consoles ≡ 2 = f.two_consoles in
+    let both : s.players ≡ length f.key.cut.value.consoles = length-map f.key.cut.value.consoles ticked_plain in
+    let other : peer + seat.player ≡ 1 = f.peer_is in
+    let silent : q.made.silent ≡ 0 = same_silent s seat.player mid clock f.script (omega arith) q.made own ∙ one in
+    let none : suc (seat.made.steps + 0) ≡ suc seat.made.steps = omega arith in
+    let made_is : after.made ≡ stepped_on mid 0 sends
+    = q.new_is ∙ ap (λ (n : ℕ). stepped_on mid n sends) silent in
+    let seat_is : after ≡ with_made seat (stepped_on mid 0 sends)
     = is ∙ ap (λ (z : SeatState (Key Ticker)). with_made z after.made) told_is ∙ ap (with_made seat) made_is in
     let here : peer_at (map unlooked seat.made.peers) peer ≡ unlooked (peer_at seat.made.peers peer)
     = unlooked_at seat.made.peers peer in
@@ -92,7 +107,9 @@ stepped node next seat told after peer seen taken count_seen f stands limit writ
       key_is = f.key_is;
       cable = f.cable;
       sound = f.sound;
-      stands = stands;
+      script = f.script;
+      stands = ap (λ (k : ℕ). console_after ticked_kind (text_cut f.key) (trace ticked_kind (text_cut f.key) f.key.limit)
+          seat.player k) none ∙ stands;
       limit = let a = f.limit in omega arith;
       unwritten = refl;
       two = f.two;

@@ -38,6 +38,7 @@ opened node seat peer f =
       key_is = refl;
       cable = f.cable;
       sound = f.sound;
+      script = f.script;
       stands = none ∙ there;
       limit = f.limit;
       unwritten = refl;
@@ -106,6 +107,7 @@ are_pair cut first second nodes delay table (x ∷ y ∷ rest) own other cut_is 
         node_is = ap (λ (l : List Ticker). slice_get l 0) theirs;
         cable = cable2;
         sound = sound2;
+        script = b.sound;
         limit = limits.0;
         two = ap length theirs;
         peer_is = refl;
@@ -117,6 +119,7 @@ are_pair cut first second nodes delay table (x ∷ y ∷ rest) own other cut_is 
         node_is = ap (λ (l : List Ticker). slice_get l 1) theirs;
         cable = cable2;
         sound = sound2;
+        script = b.sound;
         limit = limits.1;
         two = ap length theirs;
         peer_is = refl;

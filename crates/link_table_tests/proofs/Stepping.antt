@@ -12,7 +12,9 @@ use Rattle.link_order.specs.Way.{Move, move_of, moves_of, clock_after, console_a
 use Rattle.link_order.proofs.Lists.{all_nil}
 use Rattle.link_laws.proofs.Advance.{number_found}
 use Rattle.link_trace.proofs.Ways.{ways, turns}
+use Rattle.link_script.specs.Script.{sent}
 use Rattle.link_script.proofs.Lines.{clock_next}
+use Rattle.link_script.proofs.Scripts.{sent_here}
 use Rattle.link_rule.specs.declared.view.Progress.{Progress}
 use Rattle.link_rule.specs.Rule.{peer_at, IsNextSignal}
 use Rattle.link_rule.specs.Steps.{with_written, MayPublish}
@@ -83,6 +85,7 @@ pub record MayGo (node : Ticker) (seat : SeatState (Key Ticker)) (key : Key Tick
   pub publish : (clock : ℕ) → clock ≡ (ticked_next (ticked_plain node) []).0.clock
       → MayPublish (script_of ticked_kind ticked_plain key) seat.player
       (with_written seat.made (2 * length (option_to_list (ticked_told (ticked_plain node))))) clock
+  pub alone : (clock : ℕ) (is : clock ≡ (ticked_next (ticked_plain node) []).0.clock) → (publish clock is).silent ≡ 0
   pub goes_on : console_after ticked_kind (text_cut key) (trace ticked_kind (text_cut key) key.limit) seat.player
       (suc seat.made.steps) ≡ Some (ticked_next (ticked_plain node) []).0
 
@@ -102,12 +105,19 @@ may_go node seat peer seen taken count_seen delay f early delay_is ahead =
     let both : count cut ≡ length key.cut.value.consoles = length-map key.cut.value.consoles ticked_plain in
     let peers = f.peer_is in
     let limit = f.limit in
+    let none : seat.made.steps + 0 ≡ seat.made.steps = omega arith in
     let n = next_step cut key.limit seat.player seat.made.steps x f.cable f.sound (omega arith) f.stands (omega arith) in
     record {
-      signal = λ s e. record { move = n.move; stands = n.stands; tells = n.tells_is ∙ e };
+      signal = λ s e. sent_here (script_of ticked_kind ticked_plain key) seat.player seat.made.steps n.move s n.stands
+          (n.tells_is ∙ e);
+      alone = λ clock is. refl;
       publish = λ clock is. record {
+        silent = 0;
         move = n.move;
-        stands = n.stands;
+        stands = ap (slice_get (moves_of ticked_kind cut (trace ticked_kind cut key.limit) seat.player)) none ∙ n.stands;
+        quiet = ap (sent (script_of ticked_kind ticked_plain key) seat.player) none;
+        unwritten = λ quiet.
+            ap (λ (o : Option Signal). 2 * length (option_to_list o)) (sym n.tells_is ∙ quiet);
         clock_is = is ∙ sym n.clock_is;
         written = λ some.
             whole (ticked_told x) (subst (λ (o : Option Signal). IsSome o) n.tells_is some);
@@ -116,9 +126,17 @@ may_go node seat peer seen taken count_seen delay f early delay_is ahead =
             let other : j ≢ seat.player = apart in
             let same : j ≡ peer = omega arith in
             subst (λ (z : ℕ). clock_after (clock_at ticked_kind cut seat.player)
-            (moves_of ticked_kind cut (trace ticked_kind cut key.limit) seat.player) seat.made.steps
+            (moves_of ticked_kind cut (trace ticked_kind cut key.limit) seat.player) (seat.made.steps + 0)
             < (peer_at seat.made.peers z).base + hop cut z seat.player) (sym same)
-            (let own = n.own_clock in let base = f.seen_is in omega (arith, own, base, delay_is));
+            (let own = n.own_clock in
+            let base = f.seen_is in
+            let here : clock_after (clock_at ticked_kind cut seat.player)
+            (moves_of ticked_kind cut (trace ticked_kind cut key.limit) seat.player) (seat.made.steps + 0)
+            ≡ clock_after (clock_at ticked_kind cut seat.player)
+            (moves_of ticked_kind cut (trace ticked_kind cut key.limit) seat.player) seat.made.steps
+            = ap (clock_after (clock_at ticked_kind cut seat.player)
+            (moves_of ticked_kind cut (trace ticked_kind cut key.limit) seat.player)) none in
+            omega (arith, here, own, base, delay_is));
       };
       goes_on = n.goes_on;
     }

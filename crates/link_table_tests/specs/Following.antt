@@ -3,8 +3,10 @@ use Rattle.link_order.specs.NodeKind.{NodeKind}
 use Rattle.link_order.specs.Cut.{Cut, plain_cut, IsSound, IsCable}
 use Rattle.link_order.specs.GlobalOrder.{trace}
 use Rattle.link_order.specs.Way.{console_after}
+use Rattle.link_script.specs.Script.{IsSoundScript}
 use Rattle.link_rule.specs.Rule.{peer_at}
 use Rattle.link_table.specs.declared.key.Key.{Key}
+use Rattle.link_table.specs.Text.{script_of}
 use Rattle.link_table.specs.Seated.{SeatState}
 use Rattle.link_table.specs.Opening.{opening_seat}
 use Rattle.atomic_table.specs.Seated.{TableId}
@@ -35,6 +37,7 @@ pub record IsFollowing (node : Ticker) (seat : SeatState (Key Ticker)) (peer see
   pub key_is : seat.key ≡ key ∷ []
   pub cable : IsCable (text_cut key)
   pub sound : IsSound ticked_kind (text_cut key)
+  pub script : IsSoundScript (script_of ticked_kind ticked_plain key)
   pub stands : console_after ticked_kind (text_cut key) (trace ticked_kind (text_cut key) key.limit) seat.player
       seat.made.steps ≡ Some (ticked_plain node)
   pub limit : node.limit ≤ key.limit
@@ -56,6 +59,7 @@ pub record IsFresh (node : Ticker) (seat : SeatState (Key Ticker)) (peer : ℕ) 
   pub node_is : slice_get key.cut.value.consoles player ≡ Some node
   pub cable : IsCable (text_cut key)
   pub sound : IsSound ticked_kind (text_cut key)
+  pub script : IsSoundScript (script_of ticked_kind ticked_plain key)
   pub limit : node.limit ≤ key.limit
   pub two : length key.cut.value.consoles ≡ 2
   pub peer_is : peer + player ≡ 1

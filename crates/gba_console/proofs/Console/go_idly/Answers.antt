@@ -1,21 +1,17 @@
-use Rattle.std.proofs.Common.{◌<◌, ◌≤◌, ◌∙◌, ℕ, [], Option, ap, refl, subst, sym, arith}
+use Rattle.std.proofs.Common.{ℕ, ◌≤◌, ◌∙◌, ap, refl, subst, sym, arith}
 use Rattle.gba_serial.specs.Apart.{next_end}
 use Rattle.link_node.specs.Alone.{Stays}
-use Rattle.link_node.specs.declared.signal.Signal.{Signal}
 use Rattle.gba_console.specs.Keys.{due_of}
-use Rattle.gba_console.specs.Machine.{clock_of}
-use Rattle.gba_console.specs.Run.{GoesAlone}
-use Rattle.gba_console.proofs.Rows.{idle-silent, one-more}
+use Rattle.gba_console.proofs.Rows.{and-then}
 use Rattle.gba_console.proofs.Console.go_idly.Goals as goal
 
 pub returns-then-not-is_idle-clause-alone : goal.returns-then-not-is_idle-clause-alone
 returns-then-not-is_idle-clause-alone c = Stays
 
-pub loop-left-init : goal.loop-left-init
-loop-left-init c = record {
+pub loop-self-init : goal.loop-self-init
+loop-self-init c = record {
   alone = Stays;
   later = omega arith;
-  left = omega (arith, c.saturating_sub-left.ensures, c.clock.ensures.value);
   within = omega (arith, c.min.ensures, c.min-stop.ensures);
   keys = omega (arith, c.min.ensures, c.min-stop.ensures, c.due.ensures);
   idle = sym c.is_idle.ensures ∙ c.if-not-is_idle.false;
@@ -23,24 +19,19 @@ loop-left-init c = record {
   ends = omega (arith, c.min-stop.ensures, c.next_end.ensures);
 }
 
-pub loop-left-preserved : goal.loop-left-preserved
-loop-left-preserved c =
-    let before = c.loop-left.self in
-    let after = c.step_idly.new.self in
-    let step = c.step_idly.ensures in
-    let held = c.loop-left.invariant in
-    let owed = c.if-not-step_idly.false in
-    let moved = step.clock owed in
-    let early : clock_of before < c.args.end = omega (arith, held.left, held.within, c.loop-left-test.true) in record {
-      alone =
-          subst (λ (o : Option Signal). GoesAlone c.args.end c.args.self.now after o)
-          (idle-silent c.stays_quiet.ensures after step.idle)
-          (one-more (c.steps_pass.ensures []) c.args.end c.args.self.now before after held.alone early (step.step owed));
-      later = omega (arith, moved, held.later);
-      left = omega (arith, moved, held.left, c.saturating_sub-left-in-loop-left.ensures);
+pub returns-then-not-idle_on-clause-alone : goal.returns-then-not-idle_on-clause-alone
+returns-then-not-idle_on-clause-alone c =
+    and-then c.loop-self.invariant.within c.loop-self.invariant.alone c.idle_on.ensures.alone
+
+pub loop-self-preserved : goal.loop-self-preserved
+loop-self-preserved c =
+    let step = c.idle_on.ensures in
+    let held = c.loop-self.invariant in record {
+      alone = and-then held.within held.alone step.alone;
+      later = omega (arith, step.rises, held.later);
       within = held.within;
       keys = subst (λ (n : ℕ). c.min-stop.result ≤ n) (ap due_of (sym step.keys)) held.keys;
-      idle = step.idle;
+      idle = sym step.idle ∙ c.if-not-idle_on.false;
       until = step.until ∙ held.until;
       ends = subst (λ (n : ℕ). c.min-stop.result ≤ n) (ap next_end (sym step.serial)) held.ends;
     }

@@ -7,11 +7,10 @@ use Rattle.gba_serial.specs.Apart.{next_end}
 use Rattle.gba_console.proofs.Console.go_idly.Given as goal
 
 -- what is done is a row of steps that told nothing, and nothing asks for more than idling
-abbrev pub invariant-loop-left : goal.invariant-loop-left
-invariant-loop-left l = record {
+abbrev pub invariant-loop-self : goal.invariant-loop-self
+invariant-loop-self l = record {
   alone : GoesAlone l.end l.fn.self l.self None;
   later : clock_of l.fn.self ≤ clock_of l.self;
-  left : l.left ≡ l.stop - clock_of l.self;
   within : l.stop ≤ l.end;
   keys : l.stop ≤ due_of l.self.keys;
   idle : core_is_idle l.self.board.core ≡ true;
@@ -19,5 +18,5 @@ invariant-loop-left l = record {
   ends : l.stop ≤ next_end l.self.board.core.serial;
 }
 
-abbrev pub decreases-loop-left : goal.decreases-loop-left
-decreases-loop-left l = l.left
+abbrev pub decreases-loop-self : goal.decreases-loop-self
+decreases-loop-self l = l.stop - clock_of l.self

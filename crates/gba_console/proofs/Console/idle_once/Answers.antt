@@ -12,6 +12,6 @@ returns-clause-silent c = λ idled.
     let clock = clock_of before in
     let none = not-second (is_idle core.devices) (has_news core.serial) (sym c.is_idle.ensures ∙ c.if-not-is_idle.false) in
     (c.steps_pass.ensures [] before).tells
-    ∙ ap (λ (m : Machine). outgoing clock m.board.core.serial) (sym (c.step_idly.ensures.step idled))
+    ∙ ap (λ (m : Machine). outgoing clock m.board.core.serial) (sym c.step_idly.ensures.step)
     ∙ ap (outgoing clock) c.step_idly.ensures.serial
     ∙ c.stays_quiet.ensures.outgoing clock core.serial none

@@ -9,6 +9,7 @@ use Rattle.gba_console.specs.declared.keys.KeyState.{KeyState}
 use Rattle.gba_io.specs.Core.{Core}
 use Rattle.gba_serial.specs.Apart.{next_end}
 use Rattle.gba_console.specs.StepLaws.{taken-clock}
+use Rattle.gba_console.proofs.Images.{acted-images, moved-images, still-stand, taken-memory}
 use Rattle.gba_console.proofs.Passing.{IsReady, ready-room, step-sound, step-was}
 use Rattle.gba_console.proofs.Stepping.{acted-clock, acted-ends, acts-is, begins-is, can-hear, hears-is, keyed-is, ready-heard, step-is-made, still-early, told-is}
 use Rattle.gba_console.proofs.Console.step_fully.Goals as goal
@@ -186,4 +187,12 @@ invariant_of-self c =
           ∙ ap (λ (changes : List KeyState). due_of (drop c.apply-self-inside.result changes)) c.as_slice-2.ensures.value,
       omega (arith, ends, passes.clock),
       step-sound (clock_of m) cycles b c.advance.new.self core ready same keeps short c.advance.ensures passes,
+      still-stand inside.board.core.memory c.advance.new.self.core.memory _
+          (moved-images inside.board.core.memory.bios inside.board.core.memory.rom cycles (record b { core = core })
+          c.advance.new.self
+          (acted-images inside.board.core.memory m.registers clock changes b.core keyed core
+          (ap (λ (b : Board). b.core.memory) here ∙ taken-memory dues (board_begun m.board))
+          c.apply-self-inside.ensures.core done.bus_left)
+          c.advance.ensures passes)
+          c.self.invariant.6,
     )

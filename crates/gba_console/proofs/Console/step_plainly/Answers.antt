@@ -1,9 +1,10 @@
 use Rattle.std.proofs.Common.{◌∙◌, ◌-◌, ◌≤◌, ap, sym, arith}
-use Rattle.std.specs.Prelude.{drop}
+use Rattle.std.specs.Prelude.{◌++◌, drop, length, take}
 use Rattle.gba_io.specs.declared.board.Board.{Board}
 use Rattle.gba_console.specs.Machine.{Machine}
 use Rattle.gba_console.specs.Step.{instruction_done}
 use Rattle.gba_console.proofs.Calm.{plain-next, put-together}
+use Rattle.gba_console.proofs.Images.{done-images, moved-images, still-stand, whole-again}
 use Rattle.gba_console.proofs.Passing.{ends-after, left-clock, left-ends, sound-ready, step-sound, step-was}
 use Rattle.gba_console.proofs.Console.step_plainly.Goals as goal
 
@@ -20,12 +21,12 @@ returns-clause-step c =
     let cycles = c.execute-cycles.result in
     let mid = record inside.board { core = c.execute-cycles.new.core } in
     let acts = c.acts_pass.ensures.instructions inside.registers inside.board.core in
-    let same = left-clock inside.board.core c.execute-cycles.new.core done c.execute-cycles.ensures.bus_left acts in
+    let same = left-clock inside.board.core c.execute-cycles.new.core done c.execute-cycles.ensures.left.bus_left acts in
     rw (← c.self.view_is)
     (put-together done c.execute-cycles.new.registers c.execute-cycles.new.core c.advance.new.self
     cycles (c.advance.new.self.core.devices.clock - cycles) inside.board.core.devices.clock m
-    c.execute-cycles.ensures.registers_left c.execute-cycles.ensures.bus_left
-    c.execute-cycles.ensures.cycles_taken c.advance.ensures
+    c.execute-cycles.ensures.left.registers_left c.execute-cycles.ensures.left.bus_left
+    c.execute-cycles.ensures.left.cycles_taken c.advance.ensures
     (step-was inside.board.core.devices.clock cycles mid c.advance.new.self c.advance.ensures
     (c.board_passes.ensures.all cycles mid) same)
     ∙ sym (plain-next c.calm_has_begun.ensures c.stays_quiet.ensures m (rw (← c.self.view_is) at c.requires.plain)))
@@ -37,7 +38,7 @@ returns-clause-ends c =
     let core = c.execute-cycles.new.core in
     let done = instruction_done inside.registers inside.board.core in
     let acts = c.acts_pass.ensures.instructions inside.registers inside.board.core in
-    let keeps = left-ends inside.board.core core done c.execute-cycles.ensures.bus_left acts in
+    let keeps = left-ends inside.board.core core done c.execute-cycles.ensures.left.bus_left acts in
     rw (← c.self.view_is) (λ bound soon before.
     ends-after cycles bound inside.board c.advance.new.self core c.advance.ensures
     (c.board_passes.ensures.all cycles (record inside.board { core = core })) keeps c.self.invariant.5.ends.seat soon before)
@@ -45,7 +46,7 @@ returns-clause-ends c =
 pub returns-clause-some : goal.returns-clause-some
 returns-clause-some c =
     let acts = (c.acts_pass.ensures.instructions c.self.inside.registers c.self.inside.board.core).length.least in
-    omega (arith, c.execute-cycles.ensures.cycles_taken, acts)
+    omega (arith, c.execute-cycles.ensures.left.cycles_taken, acts)
 
 pub invariant_of-self : goal.invariant_of-self
 invariant_of-self c =
@@ -54,12 +55,12 @@ invariant_of-self c =
     let core = c.execute-cycles.new.core in
     let done = instruction_done inside.registers inside.board.core in
     let acts = c.acts_pass.ensures.instructions inside.registers inside.board.core in
-    let same = left-clock inside.board.core core done c.execute-cycles.ensures.bus_left acts in
-    let keeps = left-ends inside.board.core core done c.execute-cycles.ensures.bus_left acts in
+    let same = left-clock inside.board.core core done c.execute-cycles.ensures.left.bus_left acts in
+    let keeps = left-ends inside.board.core core done c.execute-cycles.ensures.left.bus_left acts in
     let passes = c.board_passes.ensures.all cycles (record inside.board { core = core }) in
     let ends = ap (λ (b : Board). b.core.devices.clock) c.advance.ensures in
     let early = rw (← c.self.view_is) at c.requires.clock in
-    let short : cycles ≤ 512 = omega (arith, c.execute-cycles.ensures.cycles_taken, acts.length.most) in (
+    let short : cycles ≤ 512 = omega (arith, c.execute-cycles.ensures.left.cycles_taken, acts.length.most) in (
       c.self.invariant.0,
       c.self.invariant.1,
       c.self.invariant.2,
@@ -68,4 +69,14 @@ invariant_of-self c =
       step-sound inside.board.core.devices.clock cycles inside.board c.advance.new.self core
           (sound-ready (inside.board.core.devices.clock - inside.last) inside.board c.self.invariant.5 (omega arith) early)
           same keeps short c.advance.ensures passes,
+      still-stand inside.board.core.memory c.advance.new.self.core.memory
+          (take inside.halves.len
+          (c.execute-cycles.new.halves ++ drop (length c.execute-cycles.new.halves) inside.halves.items))
+          (moved-images inside.board.core.memory.bios inside.board.core.memory.rom cycles (record inside.board { core = core })
+          c.advance.new.self
+          (done-images inside.registers inside.board.core core c.execute-cycles.ensures.left.bus_left)
+          c.advance.ensures passes)
+          (rw (← whole-again c.execute-cycles.new.halves inside.halves.items inside.halves.len
+          (c.execute-cycles.ensures.length ∙ sym c.self.invariant.1))
+          at c.execute-cycles.ensures.stand),
     )

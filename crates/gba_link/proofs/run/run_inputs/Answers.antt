@@ -18,7 +18,7 @@ use Rattle.gba_link.proofs.Runs.{images-are, run_of, written_of}
 use Rattle.gba_link.proofs.run.run_inputs.Goals as goal
 
 pub prepare-requires-clause-images : goal.prepare-requires-clause-images
-prepare-requires-clause-images c =
+prepare-requires-clause-images g c =
     let job = job_value c.args.job in
     let inputs = map inputs_value c.args.inputs.items in
     let old = c.args.inputs in
@@ -44,7 +44,7 @@ prepare-requires-clause-images c =
     )
 
 pub fill-requires-clause-names : goal.fill-requires-clause-names
-fill-requires-clause-names c =
+fill-requires-clause-names g c =
     let job = job_value c.fill_job.new.job in
     omega (
       arith,
@@ -53,7 +53,7 @@ fill-requires-clause-names c =
     )
 
 pub fill-requires-clause-made : goal.fill-requires-clause-made
-fill-requires-clause-made c =
+fill-requires-clause-made g c =
     let job = job_value c.fill_job.new.job in
     omega (
       arith,
@@ -64,7 +64,7 @@ fill-requires-clause-made c =
     )
 
 pub returns : goal.returns
-returns c =
+returns g c =
     let job = job_value c.fill_job.new.job in
     let out = c.args.out.now in
     let images = c.in_ok-images.images.items in

@@ -5,6 +5,6 @@ use Rattle.gba_psr.proofs.apart.RegisterFile.set.Goals as goal
 pub returns : goal.returns
 returns c =
     let inside = c.self.inside in
-    let now : Flags = record { negative = inside.negative; zero = inside.zero; carry = inside.carry; overflow = inside.overflow } in
+    let now : Flags = inside.kept in
     rw (c.set.ensures, ← c.self.view_is)
     (with_register-with_flags inside.file now c.args.number c.args.value c.cpsr.ensures.file.count c.requires)

@@ -6,5 +6,5 @@ use Rattle.gba_psr.proofs.apart.RegisterFile.set_flags.Goals as goal
 pub returns : goal.returns
 returns c =
     let inside = c.self.inside in
-    let now : Flags = record { negative = inside.negative; zero = inside.zero; carry = inside.carry; overflow = inside.overflow } in
-    rw (← c.self.view_is) (sym (with_flags-with_flags inside.file now c.args.flags c.cpsr.ensures.file.count))
+    let now : Flags = inside.kept in
+    rw (c.new-self-inside.ensures, ← c.self.view_is) (sym (with_flags-with_flags inside.file now c.args.flags c.cpsr.ensures.file.count))

@@ -6,6 +6,6 @@ use Rattle.gba_psr.proofs.apart.RegisterFile.user_get.Goals as goal
 pub returns : goal.returns
 returns c =
     let inside = c.self.inside in
-    let now : Flags = record { negative = inside.negative; zero = inside.zero; carry = inside.carry; overflow = inside.overflow } in
+    let now : Flags = inside.kept in
     rw (← c.self.view_is)
     (c.user_get.ensures ∙ sym (user_register-with_flags inside.file now c.args.number c.requires))

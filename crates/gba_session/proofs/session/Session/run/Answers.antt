@@ -4,7 +4,7 @@ use Rattle.gba_session.proofs.Limits.{same-length}
 use Rattle.gba_session.proofs.session.Session.run.Goals as goal
 
 pub invariant_of-result : goal.invariant_of-result
-invariant_of-result c =
+invariant_of-result g c =
     let until = c.self.inside.until in
     let limits = λ (xs : List ℕ). All (λ limit. limit ≡ until) xs in
     let same = c.run_cut.ensures.limits in (

@@ -51,10 +51,10 @@ invariant_of-seat g c =
     (λ k i r. MayPublish (script_of kind g.N.Node.plain k) i r c.args.clock) c.seat.invariant c.seat.view_is
     c.requires.next in
     let w = is_written kind g.N.Node.plain c.seat.inside c.from.result c.seat.invariant c.from.ensures in
-    published_seat kind g.N.Node.plain c.seat.inside c.store.new.seat c.from.result c.seat.invariant
+    published_seat kind g.N.Node.plain c.seat.inside c.store.new.seat c.from.result c.args.clock c.seat.invariant
     (has_published kind g.N.Node.plain c.self.inside.table.shared.table_id.slots c.clock_place.result
     (clock_word c.args.clock (c.seat.inside.sent + c.from.result)) c.from.result
-    c.args.clock c.seat.inside c.store.new.seat.me c.seat.invariant may w c.store.ensures.2)
+    c.args.clock c.seat.inside c.store.new.seat.me c.seat.invariant may w refl c.store.ensures.2)
 
 pub returns-clause-seat : goal.returns-clause-seat
 returns-clause-seat g c =
@@ -64,7 +64,8 @@ returns-clause-seat g c =
     c.requires.next in
     let w = is_written kind g.N.Node.plain c.seat.inside c.from.result c.seat.invariant c.from.ensures in
     let l = has_published kind g.N.Node.plain c.self.inside.table.shared.table_id.slots c.clock_place.result
-    (clock_word c.args.clock (c.seat.inside.sent + c.from.result)) c.from.result c.args.clock c.seat.inside c.store.new.seat.me c.seat.invariant may w c.store.ensures.2 in
+    (clock_word c.args.clock (c.seat.inside.sent + c.from.result)) c.from.result c.args.clock c.seat.inside c.store.new.seat.me c.seat.invariant may w refl
+    c.store.ensures.2 in
     seen_after kind g.N.Node.plain c.seat.inside c.store.new.seat c.args.seat.now l.made c.seat.invariant c.seat.view_is
     c.store.ensures.0 l.seat
 
@@ -76,7 +77,8 @@ returns-clause-step g c key keys =
     c.requires.next in
     let w = is_written kind g.N.Node.plain c.seat.inside c.from.result c.seat.invariant c.from.ensures in
     let l = has_published kind g.N.Node.plain c.self.inside.table.shared.table_id.slots c.clock_place.result
-    (clock_word c.args.clock (c.seat.inside.sent + c.from.result)) c.from.result c.args.clock c.seat.inside c.store.new.seat.me c.seat.invariant may w c.store.ensures.2 in
+    (clock_word c.args.clock (c.seat.inside.sent + c.from.result)) c.from.result c.args.clock c.seat.inside c.store.new.seat.me c.seat.invariant may w refl
+    c.store.ensures.2 in
     said kind g.N.Node.plain c.seat.inside c.store.new.seat.me c.args.seat.now l.made
-    (λ k i old new. Publishes (script_of kind g.N.Node.plain k) i old new) c.seat.invariant c.seat.view_is l.seat l.step
+    (λ k i old new. Publishes (script_of kind g.N.Node.plain k) i old c.args.clock new) c.seat.invariant c.seat.view_is l.seat l.step
     key keys

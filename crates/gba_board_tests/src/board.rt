@@ -1,0 +1,696 @@
+//! The board by itself: registers, prices, timers, keys, the halt, DMA, direct sound and the picture's place, by
+//! moves and what they must show.
+
+use crate::cable::bios_of;
+use Move::{
+    Advance, Begins, Calm, Clock, Halts, Kept, Keys, Left, Lines, Load, Master, Pair, Pending,
+    Place, Price, Queue, Reference, Store, Timer, Unit, Wakes,
+};
+use gba_bus::Width::{Byte, Half, Word};
+use gba_bus::{Bus, Width};
+use gba_image::ConsoleImages;
+use gba_io::{Board, MemoryName, Room};
+use std::alloc::Global;
+use std::process::Abort;
+use std::test::Fail;
+
+/// Room for a million cycles, where frames and samples are kept.
+const ROOM: Room = Room {
+    until: 1_000_000,
+    frames: true,
+    samples: true,
+    words: true,
+};
+
+/// Something done to a board, or something that must hold of it.
+#[derive(Clone, Copy)]
+enum Move {
+    /// Write at an offset of the I/O registers.
+    Store(u32, Width, u32),
+    /// A read at an offset of the I/O registers gives this.
+    Load(u32, Width, u32),
+    /// This is stored in a halfword.
+    Kept(u32, u16),
+    /// Move the devices by so many cycles.
+    Advance(u32),
+    /// Make these the pressed keys.
+    Keys(u16),
+    /// Begin a step.
+    Begins,
+    /// End the halt.
+    Wakes,
+    /// The console is halted.
+    Halts(bool),
+    /// An enabled interrupt is requested.
+    Pending(bool),
+    /// IME.
+    Master(bool),
+    /// Nothing asks for more than an instruction.
+    Calm(bool),
+    /// A halfword of the ROM costs this.
+    Price(u32),
+    /// The clock.
+    Clock(u64),
+    /// A timer's counter and phase.
+    Timer(u32, u16, u16),
+    /// A DMA unit takes so many cycles, or none is to be done.
+    Unit(Option<u32>),
+    /// A DMA channel has so many units left.
+    Left(u32, u32),
+    /// A sound queue holds so many bytes, and this is its current one.
+    Queue(u32, usize, u8),
+    /// So many pairs of samples are made, and this is the last.
+    Pair(usize, i16, i16),
+    /// Move the devices by so many lines.
+    Lines(u32),
+    /// The picture is at this line and dot.
+    Place(u32, u32),
+    /// The inner reference point of a background.
+    Reference(u32, u32, u32),
+}
+
+fn board_of(alloc: Global) -> Result<Board, Fail> {
+    let images = ConsoleImages {
+        bios: bios_of(alloc, 0x1234_5678)?,
+        cart: None,
+        save: None,
+    };
+    Ok(Board::new(alloc, 0, 1, 512, images, ROOM)?)
+}
+
+fn advance<R: Abort>(rt: &R, board: &mut Board, cycles: u32) {
+    assert!(rt; cycles <= 512);
+    let in_step = board.is_in_step();
+    assert!(rt; in_step);
+    assert!(rt; board.made.until() <= 1_000_000);
+    assert!(rt; board.core.clock() + u64::from(cycles) <= board.made.until() + 511);
+    board.advance(cycles);
+}
+
+fn advance_lines<R: Abort>(rt: &R, board: &mut Board, lines: u32) {
+    for _ in 0..lines {
+        advance(rt, board, 512);
+        advance(rt, board, 512);
+        advance(rt, board, 208);
+    }
+}
+
+fn reference_is<R: Abort>(rt: &R, board: &Board, background: u32, x: u32, y: u32) {
+    assert!(rt; 2 <= background);
+    assert!(rt; background <= 3);
+    let point = board.core.reference(background);
+    assert_eq!(rt; (point.x, point.y), (x, y));
+}
+
+fn place_is<R: Abort>(rt: &R, board: &Board, line: u32, dot: u32) {
+    let place = board.core.place();
+    assert_eq!(rt; (place.line, place.dot), (line, dot));
+}
+
+fn units_left<R: Abort>(rt: &R, board: &Board, channel: u32) -> u32 {
+    assert!(rt; channel < 4);
+    board.core.channel(channel).left
+}
+
+fn queue_is<R: Abort>(rt: &R, board: &Board, queue: u32, held: usize, current: u8) {
+    assert!(rt; queue < 2);
+    assert_eq!(rt; board.core.queue(queue).len(), held);
+    assert_eq!(rt; board.core.queue_current(queue), current);
+}
+
+fn pair_is<R: Abort>(rt: &R, board: &Board, count: usize, left: i16, right: i16) {
+    let samples = board.made.samples();
+    assert_eq!(rt; board.counts().samples, count as u64);
+    assert_eq!(rt; samples.len() / 4, count);
+    let [.., a, b, c, d] = samples else {
+        return assert!(rt; false);
+    };
+    assert_eq!(rt;
+        (i16::from_le_bytes([*a, *b]), i16::from_le_bytes([*c, *d])),
+        (left, right)
+    );
+}
+
+fn timer_is<R: Abort>(rt: &R, board: &Board, number: u32, counter: u16, phase: u16) {
+    assert!(rt; number < 4);
+    let timer = board.core.timer(number);
+    assert_eq!(rt; (timer.counter, timer.phase), (counter, phase));
+}
+
+fn play<R: Abort>(rt: &R, board: &mut Board, one: Move) {
+    match one {
+        Store(offset, width, value) => {
+            assert_eq!(rt;
+                board.core.store(0x0400_0000 | offset, width, value, false),
+                1
+            );
+        }
+        Load(offset, width, value) => {
+            let address = 0x0400_0000 | offset;
+            assert_eq!(rt;
+                board.core.load(0, address, width, false),
+                (value, 1),
+                "at {offset}"
+            );
+        }
+        Kept(offset, half) => assert_eq!(rt; board.core.io_half(offset), half),
+        Advance(cycles) => advance(rt, board, cycles),
+        Keys(pressed) => board.core.set_keys(pressed),
+        Begins => board.core.begin(),
+        Wakes => board.core.wake(),
+        Halts(halted) => assert_eq!(rt; board.core.halted(), halted),
+        Pending(pending) => assert_eq!(rt; board.core.pending(), pending),
+        Master(master) => assert_eq!(rt; board.core.master(), master),
+        Calm(calm) => assert_eq!(rt; board.core.is_calm(), calm),
+        Price(cycles) => assert_eq!(rt; board.core.code_price(0x0800_0000, Half, false), cycles),
+        Clock(clock) => assert_eq!(rt; board.core.clock(), clock),
+        Timer(number, counter, phase) => timer_is(rt, board, number, counter, phase),
+        Unit(cycles) => assert_eq!(rt; board.core.dma_unit(), cycles),
+        Left(channel, units) => assert_eq!(rt; units_left(rt, board, channel), units),
+        Queue(queue, held, current) => queue_is(rt, board, queue, held, current),
+        Pair(count, left, right) => pair_is(rt, board, count, left, right),
+        Lines(lines) => advance_lines(rt, board, lines),
+        Place(line, dot) => place_is(rt, board, line, dot),
+        Reference(background, x, y) => reference_is(rt, board, background, x, y),
+    }
+}
+
+fn play_all<R: Abort>(rt: &R, board: &mut Board, moves: &[Move]) {
+    for one in moves {
+        play(rt, board, *one);
+    }
+}
+
+static MOVES: [&[Move]; 27] = [
+    // A word over IE and IF: the one stores, ones in the other clear. Timer 0 requests bit 3.
+    &[
+        Store(0x100, Half, 0xFFFF),
+        Store(0x102, Half, 0x00C0),
+        Advance(1),
+        Load(0x202, Half, 0x0008),
+        Load(0x200, Word, 0x0008_0000),
+        Pending(false),
+        Store(0x200, Half, 0xFFFF),
+        Pending(true),
+        Calm(true),
+        Store(0x200, Word, 0x0008_0008),
+        Load(0x200, Word, 0x0000_0008),
+        Pending(false),
+    ],
+    // Bytes of IF: a byte leaves the requests of the other, and 0 clears nothing. The keypad requests bit 12.
+    &[
+        Store(0x132, Half, 0x4001),
+        Keys(0x001),
+        Store(0x100, Half, 0xFFFF),
+        Store(0x102, Half, 0x00C0),
+        Advance(1),
+        Kept(0x202, 0x1008),
+        Store(0x203, Byte, 0x10),
+        Kept(0x202, 0x0008),
+        Store(0x202, Half, 0x0000),
+        Store(0x203, Byte, 0xFF),
+        Kept(0x202, 0x0008),
+        Store(0x202, Byte, 0x08),
+        Kept(0x202, 0x0000),
+    ],
+    // A word over IME, its bytes, and the halfword behind it, which isn't listed.
+    &[
+        Store(0x208, Word, 0xFFFF_FFFF),
+        Load(0x208, Word, 0x0000_0001),
+        Master(true),
+        Store(0x209, Byte, 0x00),
+        Master(true),
+        Store(0x208, Byte, 0xFE),
+        Master(false),
+        Store(0x209, Byte, 0x01),
+        Load(0x208, Half, 0x0000),
+    ],
+    // POSTFLG at 300h, and the halt where a write covers 301h.
+    &[
+        Store(0x300, Byte, 0xFF),
+        Load(0x300, Byte, 0x01),
+        Halts(false),
+        Calm(true),
+        Store(0x301, Byte, 0x00),
+        Halts(true),
+        Calm(false),
+        Load(0x300, Half, 0x0001),
+        Wakes,
+        Halts(false),
+        Store(0x300, Half, 0x0000),
+        Halts(true),
+        Load(0x300, Byte, 0x00),
+    ],
+    // What isn't listed reads 0 and drops writes.
+    &[
+        Store(0x206, Half, 0xFFFF),
+        Load(0x204, Word, 0x0000_0000),
+        Store(0x136, Half, 0xFFFF),
+        Load(0x136, Half, 0x0000),
+        Store(0x3FC, Word, 0xFFFF_FFFF),
+        Load(0x3FC, Word, 0x0000_0000),
+        Kept(0x206, 0),
+    ],
+    // RCNT has its bits 14 and 15, and is 8000h at reset.
+    &[
+        Load(0x134, Word, 0x0000_8000),
+        Store(0x134, Half, 0xFFFF),
+        Load(0x134, Half, 0xC000),
+        Kept(0x134, 0xC000),
+        Store(0x135, Byte, 0x40),
+        Load(0x134, Half, 0x4000),
+        Store(0x134, Word, 0xFFFF_0000),
+        Load(0x134, Word, 0x0000_0000),
+    ],
+    // WAITCNT prices from the next step on: 8 waits of a first access, and 4 before.
+    &[
+        Price(5),
+        Store(0x204, Half, 0xFFFF),
+        Load(0x204, Half, 0x5FFF),
+        Price(5),
+        Calm(false),
+        Begins,
+        Price(9),
+        Calm(true),
+        Store(0x205, Byte, 0x00),
+        Load(0x204, Half, 0x00FF),
+    ],
+    // A byte of a reload keeps the other one, and not of the counter; reads give the counter at each width.
+    &[
+        Store(0x10C, Half, 0x1234),
+        Store(0x10E, Half, 0x0080),
+        Advance(3),
+        Load(0x10C, Half, 0x1237),
+        Load(0x10D, Byte, 0x12),
+        Load(0x10C, Word, 0x0080_1237),
+        Store(0x10D, Byte, 0xAB),
+        Kept(0x10C, 0xAB34),
+        Timer(3, 0x1237, 0),
+        Advance(512),
+        Clock(515),
+        Timer(3, 0x1437, 0),
+        Store(0x10E, Half, 0x0083),
+        Advance(500),
+        Timer(3, 0x1437, 500),
+        Advance(512),
+        Advance(12),
+        Timer(3, 0x1438, 0),
+    ],
+    // Timer 1 cascades on timer 0, whose overflows fall within long stretches.
+    &[
+        Store(0x104, Word, 0x00C4_FFFE),
+        Store(0x100, Word, 0x0080_FF00),
+        Advance(255),
+        Timer(0, 0xFFFF, 0),
+        Advance(1),
+        Timer(0, 0xFF00, 0),
+        Timer(1, 0xFFFF, 0),
+        Kept(0x202, 0x0000),
+        Advance(512),
+        Timer(1, 0xFFFF, 0),
+        Kept(0x202, 0x0010),
+    ],
+    // The keys: a pressed one reads 0, writes to KEYINPUT are dropped, KEYCNT requests where its condition comes true.
+    &[
+        Load(0x130, Half, 0x03FF),
+        Keys(0xFC05),
+        Load(0x130, Half, 0x03FA),
+        Store(0x130, Half, 0x0000),
+        Load(0x130, Word, 0x0000_03FA),
+        Store(0x132, Half, 0xFC05),
+        Load(0x132, Half, 0xC005),
+        Kept(0x202, 0x1000),
+        Store(0x202, Half, 0x1000),
+        Keys(0x005),
+        Kept(0x202, 0x0000),
+        Keys(0x001),
+        Keys(0x00D),
+        Kept(0x202, 0x1000),
+    ],
+    // An interrupt asks for its entry only where IME lets it in.
+    &[
+        Store(0x132, Half, 0x4200),
+        Store(0x200, Half, 0x1000),
+        Keys(0x200),
+        Pending(true),
+        Calm(true),
+        Store(0x208, Half, 1),
+        Calm(false),
+    ],
+    // The scale of samples: 7Fh at full volume to both sides, then 80h at half volume. The pair comes in the cycle that
+    // makes the clock a multiple of 512.
+    &[
+        Store(0x084, Half, 0x0080),
+        Store(0x082, Half, 0x0304),
+        Store(0x0A0, Word, 0x0000_807F),
+        Store(0x100, Word, 0x0080_FFFF),
+        Queue(0, 4, 0x00),
+        Advance(1),
+        Queue(0, 3, 0x7F),
+        Store(0x102, Half, 0x0000),
+        Advance(511),
+        Pair(1, 8128, 8128),
+        Store(0x082, Half, 0x0300),
+        Store(0x102, Half, 0x0080),
+        Advance(1),
+        Store(0x102, Half, 0x0000),
+        Queue(0, 2, 0x80),
+        Advance(510),
+        Pair(1, 8128, 8128),
+        Advance(1),
+        Pair(2, -4096, -4096),
+    ],
+    // A goes left at full volume by timer 0, and B right at half volume by timer 1. The pair has the bytes that were taken
+    // in its cycle.
+    &[
+        Store(0x084, Half, 0x0080),
+        Store(0x082, Half, 0x5204),
+        Store(0x0A0, Word, 0x0000_0010),
+        Store(0x0A4, Word, 0x0000_0021),
+        Store(0x104, Word, 0x0080_FE00),
+        Store(0x100, Word, 0x0080_FE00),
+        Advance(511),
+        Queue(0, 4, 0x00),
+        Queue(1, 4, 0x00),
+        Advance(1),
+        Queue(0, 3, 0x10),
+        Queue(1, 3, 0x21),
+        Pair(1, 1024, 1056),
+    ],
+    // While the sound is off the queues take bytes, and the samples are 0.
+    &[
+        Store(0x082, Half, 0x0304),
+        Store(0x0A0, Word, 0x0302_0140),
+        Store(0x100, Word, 0x0080_FFFF),
+        Advance(1),
+        Queue(0, 3, 0x40),
+        Advance(511),
+        Queue(0, 0, 0x03),
+        Pair(1, 0, 0),
+    ],
+    // A word fits where 28 bytes are held and not where 29 are; narrower writes are dropped, and nothing reads.
+    &[
+        Store(0x0A0, Word, 0x0403_0201),
+        Store(0x0A0, Word, 0x0403_0201),
+        Store(0x0A0, Word, 0x0403_0201),
+        Store(0x0A0, Word, 0x0403_0201),
+        Store(0x0A0, Word, 0x0403_0201),
+        Store(0x0A0, Word, 0x0403_0201),
+        Store(0x0A0, Word, 0x0403_0201),
+        Queue(0, 28, 0),
+        Store(0x0A0, Half, 0x1111),
+        Store(0x0A2, Half, 0x1111),
+        Store(0x0A0, Byte, 0x11),
+        Queue(0, 28, 0),
+        Store(0x0A0, Word, 0x0403_0201),
+        Queue(0, 32, 0),
+        Store(0x0A0, Word, 0x0807_0605),
+        Queue(0, 32, 0),
+        Load(0x0A0, Word, 0),
+        Store(0x100, Word, 0x0080_FFFF),
+        Advance(3),
+        Queue(0, 29, 3),
+        Store(0x0A0, Word, 0x0807_0605),
+        Queue(0, 29, 3),
+        Advance(1),
+        Store(0x0A0, Word, 0x0807_0605),
+        Queue(0, 32, 4),
+        Queue(1, 0, 0),
+    ],
+    // An empty queue keeps its current byte, and the bits 11 and 15 of SOUNDCNT_H empty A and B.
+    &[
+        Store(0x0A0, Word, 0x0403_0201),
+        Store(0x0A4, Word, 0x0807_0605),
+        Store(0x100, Word, 0x0080_FFFF),
+        Advance(9),
+        Queue(0, 0, 4),
+        Queue(1, 0, 8),
+        Store(0x0A0, Word, 0x0403_0201),
+        Store(0x0A4, Word, 0x0807_0605),
+        Store(0x082, Half, 0x8000),
+        Queue(0, 4, 4),
+        Queue(1, 0, 0),
+        Store(0x083, Byte, 0x08),
+        Queue(0, 0, 0),
+        Load(0x082, Half, 0x0000),
+    ],
+    // A queue asks DMA1 for four words, whatever the count says, in the cycle of the overflow.
+    &[
+        Store(0x0BC, Word, 0x0200_0000),
+        Store(0x0C0, Word, 0x0400_00A0),
+        Store(0x0C4, Word, 0xB200_0001),
+        Unit(None),
+        Store(0x100, Word, 0x0080_FFF6),
+        Advance(9),
+        Unit(None),
+        Calm(true),
+        Advance(1),
+        Calm(false),
+        Left(1, 4),
+        Unit(Some(9)),
+        Unit(Some(7)),
+        Unit(Some(7)),
+        Unit(Some(7)),
+        Unit(None),
+        Calm(true),
+        Queue(0, 16, 0),
+        Kept(0x0C6, 0xB200),
+        Advance(10),
+        Queue(0, 15, 0),
+        Unit(Some(9)),
+    ],
+    // Words from the work RAM to the inner RAM: 6 + 1 + 2 cycles, and 6 + 1.
+    &[
+        Store(0x0D4, Word, 0x0200_0000),
+        Store(0x0D8, Word, 0x0300_0000),
+        Store(0x0DC, Word, 0xC400_0003),
+        Unit(Some(9)),
+        Kept(0x202, 0x0000),
+        Unit(Some(7)),
+        Unit(Some(7)),
+        Kept(0x202, 0x0800),
+        Kept(0x0DE, 0x4400),
+        Unit(None),
+    ],
+    // A channel whose own write stops it: one unit, and no interrupt.
+    &[
+        Store(0x0D4, Word, 0x0200_0000),
+        Store(0x0D8, Word, 0x0400_00DE),
+        Store(0x0DC, Word, 0xC040_0004),
+        Unit(Some(6)),
+        Unit(None),
+        Kept(0x202, 0x0000),
+        Kept(0x0DE, 0x0000),
+    ],
+    // DMA0 starts DMA3 with its first unit, and ends its run before DMA3's first. A word at 06000000h stands there first.
+    &[
+        Store(0x0200_0000, Half, 0x8000),
+        Store(0x0D4, Word, 0x0200_0000),
+        Store(0x0D8, Word, 0x0300_0000),
+        Store(0x0DC, Half, 0x0002),
+        Store(0x0B0, Word, 0x0600_0000),
+        Store(0x0B4, Word, 0x0400_00DE),
+        Store(0x0B8, Word, 0xC140_0002),
+        Unit(Some(4)),
+        Left(0, 1),
+        Left(3, 2),
+        Unit(Some(2)),
+        Kept(0x202, 0x0100),
+        Unit(Some(6)),
+        Unit(Some(4)),
+        Unit(None),
+    ],
+    // HBlank begins at dot 1,006 with its interrupt, and ends with the line. Line 0 is the matched one.
+    &[
+        Store(0x004, Half, 0x0010),
+        Advance(512),
+        Advance(493),
+        Place(0, 1005),
+        Load(0x004, Half, 0x0014),
+        Kept(0x202, 0x0000),
+        Advance(1),
+        Place(0, 1006),
+        Load(0x004, Half, 0x0016),
+        Kept(0x202, 0x0002),
+        Advance(225),
+        Place(0, 1231),
+        Load(0x004, Half, 0x0016),
+        Load(0x006, Half, 0x0000),
+        Advance(1),
+        Place(1, 0),
+        Load(0x004, Half, 0x0010),
+        Load(0x006, Half, 0x0001),
+        Kept(0x004, 0x0010),
+        Kept(0x006, 0x0001),
+    ],
+    // The matched line requests where it begins, and not where it becomes the matched one.
+    &[
+        Store(0x004, Half, 0x0520),
+        Lines(4),
+        Advance(512),
+        Advance(512),
+        Advance(207),
+        Place(4, 1231),
+        Kept(0x202, 0x0000),
+        Advance(1),
+        Kept(0x202, 0x0004),
+        Load(0x004, Half, 0x0524),
+        Store(0x202, Half, 0x0004),
+        Store(0x004, Half, 0x0620),
+        Load(0x004, Half, 0x0620),
+        Store(0x004, Half, 0x0520),
+        Load(0x004, Half, 0x0524),
+        Kept(0x202, 0x0000),
+    ],
+    // VBlank from line 160 to 226, with its interrupt.
+    &[
+        Store(0x004, Half, 0x0008),
+        Lines(159),
+        Advance(512),
+        Advance(512),
+        Advance(207),
+        Kept(0x202, 0x0000),
+        Load(0x004, Half, 0x000A),
+        Advance(1),
+        Place(160, 0),
+        Kept(0x202, 0x0001),
+        Load(0x004, Half, 0x0009),
+        Lines(66),
+        Load(0x004, Half, 0x0009),
+        Lines(1),
+        Place(227, 0),
+        Load(0x004, Half, 0x0008),
+        Lines(1),
+        Place(0, 0),
+        Load(0x004, Half, 0x000C),
+        Clock(280_896),
+    ],
+    // HBlank DMA in the lines 0 to 159 alone.
+    &[
+        Store(0x0D4, Word, 0x0200_0000),
+        Store(0x0D8, Word, 0x0300_0000),
+        Store(0x0DC, Word, 0xA200_0001),
+        Advance(512),
+        Advance(493),
+        Unit(None),
+        Advance(1),
+        Unit(Some(6)),
+        Unit(None),
+        Lines(1),
+        Unit(Some(6)),
+        Unit(None),
+        Lines(158),
+        Place(159, 1006),
+        Unit(Some(6)),
+        Unit(None),
+        Lines(1),
+        Unit(None),
+        Lines(67),
+        Place(227, 1006),
+        Unit(None),
+        Lines(1),
+        Unit(Some(6)),
+    ],
+    // VBlank DMA where line 160 begins.
+    &[
+        Store(0x0D4, Word, 0x0200_0000),
+        Store(0x0D8, Word, 0x0300_0000),
+        Store(0x0DC, Word, 0x9000_0001),
+        Lines(159),
+        Advance(512),
+        Advance(512),
+        Advance(207),
+        Unit(None),
+        Advance(1),
+        Unit(Some(6)),
+        Unit(None),
+    ],
+    // The inner points grow by PB and PD where a line that is seen comes to HBlank, a write of either half makes a point
+    // the whole new one, and VBlank makes them the written ones.
+    &[
+        Store(0x022, Half, 0x0100),
+        Store(0x026, Half, 0xFF80),
+        Store(0x028, Word, 0x0000_1000),
+        Reference(2, 0x1000, 0),
+        Advance(512),
+        Advance(493),
+        Reference(2, 0x1000, 0),
+        Advance(1),
+        Reference(2, 0x1100, 0xFFFF_FF80),
+        Reference(3, 0, 0),
+        Store(0x02A, Half, 0x0FFF),
+        Reference(2, 0xFFFF_1000, 0xFFFF_FF80),
+        Lines(159),
+        Reference(2, 0xFFFF_1000 + 0x9F00, 0xFFFF_B000),
+        Advance(226),
+        Place(160, 0),
+        Reference(2, 0xFFFF_1000, 0),
+        Lines(67),
+        Reference(2, 0xFFFF_1000, 0),
+    ],
+    // A byte in the VRAM from 10000h up is dropped in mode 0, where sprites have it, and written twice in mode 3.
+    &[
+        Store(0x0201_0000, Byte, 0x5A),
+        Load(0x0201_0000, Half, 0x0000),
+        Store(0x000, Half, 0x0003),
+        Store(0x0201_0000, Byte, 0x5A),
+        Load(0x0201_0000, Half, 0x5A5A),
+    ],
+];
+
+#[test]
+fn registers_keep_their_table(rt: HostRuntime) -> Result<(), Fail> {
+    for moves in MOVES {
+        let mut board = board_of(rt.alloc())?;
+        play_all(&rt, &mut board, moves);
+    }
+    Ok(())
+}
+
+/// A DMA unit reads 0 in the BIOS, which begins with another word.
+#[test]
+fn a_unit_reads_no_bios(rt: HostRuntime) -> Result<(), Fail> {
+    let mut board = board_of(rt.alloc())?;
+    board.core.store(0x0300_0000, Word, 0xFFFF_FFFF, false);
+    assert_eq!(rt; board.core.load(0, 0, Word, false), (0x1234_5678, 1));
+    for one in [
+        Store(0x0D4, Word, 0x0000_0000),
+        Store(0x0D8, Word, 0x0300_0000),
+        Store(0x0DC, Word, 0x8400_0001),
+        Unit(Some(4)),
+    ] {
+        play(&rt, &mut board, one);
+    }
+    assert_eq!(rt; board.core.load(0, 0x0300_0000, Word, false), (0, 1));
+    Ok(())
+}
+
+/// Memories have their sizes, and what stands in none of them reads 0.
+#[test]
+fn memories_have_their_names(rt: HostRuntime) -> Result<(), Fail> {
+    let mut board = board_of(rt.alloc())?;
+    board.core.store(0x0300_0002, Byte, 0x5A, false);
+    board.core.store(0x0200_0000, Word, 0x1234_5678, false);
+    for (name, length, first) in [
+        (MemoryName::Io, 0, 0),
+        (MemoryName::Wram, 0x4_0000, 0x78),
+        (MemoryName::Iwram, 0x8000, 0),
+        (MemoryName::Palette, 0x400, 0),
+        (MemoryName::Vram, 0x1_8000, 0),
+        (MemoryName::Oam, 0x400, 0),
+        (MemoryName::Backup, 0x8000, 0xFF),
+    ] {
+        let bytes = board.core.memory(name);
+        assert_eq!(rt; bytes.len(), length);
+        if let Some(byte) = bytes.first() {
+            assert_eq!(rt; *byte, first);
+        }
+    }
+    assert_eq!(rt;
+        board.core.load(0, 0x0300_0000, Word, false),
+        (0x005A_0000, 1)
+    );
+    assert_eq!(rt; board.core.load(0, 0x0400_0400, Word, false), (0, 1));
+    assert_eq!(rt; board.core.code(0x0400_0130, Half), 0x03FF);
+    Ok(())
+}
