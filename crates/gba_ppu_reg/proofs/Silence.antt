@@ -31,7 +31,8 @@ before-now : (most : ℕ) (p : Position) → comes p ≡ true → cycles_before 
 unfolding cycles_before
 before-now most p e = rw e refl
 
-before-later : (most : ℕ) (p : Position) → comes p ≡ false → cycles_before (suc most) p ≡ suc (cycles_before most (cycle p))
+before-later : (most : ℕ) (p : Position) → comes p ≡ false
+    → cycles_before (suc most) p ≡ suc (cycles_before most (cycle p))
 unfolding cycles_before
 before-later most p e = rw e refl
 

@@ -25,7 +25,8 @@ before-is event (suc most) (suc count) ts within silent next =
     (λ small. ap event (after_cycles-inside count ts) ∙ next (omega (arith, small))) in
     rw (silent 0 (omega arith)) (ap suc later)
 
-before-now : (event : FourTimers → Bool) (most : ℕ) (ts : FourTimers) → event ts ≡ true → cycles_before event (suc most) ts ≡ 0
+before-now : (event : FourTimers → Bool) (most : ℕ) (ts : FourTimers) → event ts ≡ true
+    → cycles_before event (suc most) ts ≡ 0
 unfolding cycles_before
 before-now event most ts e = rw e refl
 
@@ -38,7 +39,8 @@ pub before-none : (event : FourTimers → Bool) (ts : FourTimers) → cycles_bef
 unfolding cycles_before
 before-none event ts = refl
 
-most_by : (event : FourTimers → Bool) (most : ℕ) (ts : FourTimers) (now : Bool) → event ts ≡ now → cycles_before event most ts ≤ most
+most_by : (event : FourTimers → Bool) (most : ℕ) (ts : FourTimers) (now : Bool) → event ts ≡ now
+    → cycles_before event most ts ≤ most
 most_by event zero ts now e = (let none = before-none event ts in omega (arith, none))
 most_by event (suc most) ts true e = (let none = before-now event most ts e in omega (arith, none))
 most_by event (suc most) ts false e =
@@ -146,7 +148,8 @@ before-after event (suc most) (suc count) ts within silent =
     omega (arith, later, rest, moved, same)
 
 -- an event that comes now, or doesn't
-pub before-here : (event : FourTimers → Bool) (most : ℕ) (ts : FourTimers) → 1 ≤ most → event ts ≡ true → cycles_before event most ts ≡ 0
+pub before-here : (event : FourTimers → Bool) (most : ℕ) (ts : FourTimers) → 1 ≤ most → event ts ≡ true
+    → cycles_before event most ts ≡ 0
 before-here event zero ts some e = absurd (omega (arith, some))
 before-here event (suc most) ts some e = before-now event most ts e
 

@@ -51,7 +51,8 @@ more-than a b e = grind arith
 
 one-comes : (q : ℕ) (ts : FourTimers) (lower left right : Bool) → own_quiets ts ≡ q
     → nat_le (min (own_quiet ts.timer0) (own_quiet ts.timer1)) (min (own_quiet ts.timer2) (own_quiet ts.timer3)) ≡ lower
-    → nat_le (own_quiet ts.timer0) (own_quiet ts.timer1) ≡ left → nat_le (own_quiet ts.timer2) (own_quiet ts.timer3) ≡ right
+    → nat_le (own_quiet ts.timer0) (own_quiet ts.timer1) ≡ left
+    → nat_le (own_quiet ts.timer2) (own_quiet ts.timer3) ≡ right
     → q < 512 → any_overflow (after_skip q ts) ≡ true
 one-comes q ts true true right e a b c small =
     comes-first q ts (omega (arith, e, at-most _ _ a, at-most _ _ b)) small
@@ -104,7 +105,8 @@ below_of number ts =
     else if number == 2 then overflow1 ts
     else overflow2 ts
 
-cycle-at_by : (number : ℕ) (ts : FourTimers) (a b c : Bool) → nat_eq number 0 ≡ a → nat_eq number 1 ≡ b → nat_eq number 2 ≡ c
+cycle-at_by : (number : ℕ) (ts : FourTimers) (a b c : Bool) → nat_eq number 0 ≡ a → nat_eq number 1 ≡ b
+    → nat_eq number 2 ≡ c
     → timer_at number (cycle ts) ≡ timer_after (below_of number ts) (timer_at number ts)
 unfolding cycle below_of
 cycle-at_by number ts true b c e f g = rw e refl
@@ -112,10 +114,12 @@ cycle-at_by number ts false true c e f g = rw (e, f) refl
 cycle-at_by number ts false false true e f g = rw (e, f, g) refl
 cycle-at_by number ts false false false e f g = rw (e, f, g) refl
 
-cycle-at : (number : ℕ) (ts : FourTimers) → timer_at number (cycle ts) ≡ timer_after (below_of number ts) (timer_at number ts)
+cycle-at : (number : ℕ) (ts : FourTimers)
+    → timer_at number (cycle ts) ≡ timer_after (below_of number ts) (timer_at number ts)
 cycle-at number ts = cycle-at_by number ts (nat_eq number 0) (nat_eq number 1) (nat_eq number 2) refl refl refl
 
-overflow-at_by : (number : ℕ) (ts : FourTimers) (a b c : Bool) → nat_eq number 0 ≡ a → nat_eq number 1 ≡ b → nat_eq number 2 ≡ c
+overflow-at_by : (number : ℕ) (ts : FourTimers) (a b c : Bool) → nat_eq number 0 ≡ a → nat_eq number 1 ≡ b
+    → nat_eq number 2 ≡ c
     → overflow_at number ts ≡ overflows (below_of number ts) (timer_at number ts)
 unfolding below_of
 overflow-at_by number ts true b c e f g = rw e refl
@@ -123,7 +127,8 @@ overflow-at_by number ts false true c e f g = rw (e, f) refl
 overflow-at_by number ts false false true e f g = rw (e, f, g) refl
 overflow-at_by number ts false false false e f g = rw (e, f, g) refl
 
-overflow-at : (number : ℕ) (ts : FourTimers) → overflow_at number ts ≡ overflows (below_of number ts) (timer_at number ts)
+overflow-at : (number : ℕ) (ts : FourTimers)
+    → overflow_at number ts ≡ overflows (below_of number ts) (timer_at number ts)
 overflow-at number ts = overflow-at_by number ts (nat_eq number 0) (nat_eq number 1) (nat_eq number 2) refl refl refl
 
 after-alone_by : (below : Bool) (t : Timer) (running cascade : Bool) → is_running t ≡ running → is_cascade t ≡ cascade
@@ -132,13 +137,15 @@ after-alone_by below t false cascade r k f = rw r refl
 after-alone_by below t true false r k f = rw (r, k) refl
 after-alone_by below t true true r k f = cc
 
-overflows-alone_by : (below : Bool) (t : Timer) (running cascade : Bool) → is_running t ≡ running → is_cascade t ≡ cascade
+overflows-alone_by : (below : Bool) (t : Timer) (running cascade : Bool) → is_running t ≡ running
+    → is_cascade t ≡ cascade
     → follows t ≡ false → overflows below t ≡ overflows false t
 overflows-alone_by below t false cascade r k f = rw r refl
 overflows-alone_by below t true false r k f = rw (r, k) refl
 overflows-alone_by below t true true r k f = cc
 
-alone-at : (count number : ℕ) (ts : FourTimers) → follows (timer_at number ts) ≡ false → count ≤ own_quiet (timer_at number ts)
+alone-at : (count number : ℕ) (ts : FourTimers) → follows (timer_at number ts) ≡ false
+    → count ≤ own_quiet (timer_at number ts)
     → timer_at number (after_cycles count ts) ≡ skipped_timer count (timer_at number ts)
 unfolding after_cycles
 alone-at zero number ts alone h = sym (skipped-none (timer_at number ts))
@@ -151,7 +158,8 @@ alone-at (suc count) number ts alone h =
     ∙ cycle-skipped count t (omega (arith, h))
     ∙ ap (λ n. skipped_timer n t) (add-one count)
 
-overflow-after : (count number : ℕ) (ts : FourTimers) → follows (timer_at number ts) ≡ false → count ≤ own_quiet (timer_at number ts)
+overflow-after : (count number : ℕ) (ts : FourTimers) → follows (timer_at number ts) ≡ false
+    → count ≤ own_quiet (timer_at number ts)
     → overflow_at number (after_cycles count ts) ≡ overflows (below_of number (after_cycles count ts)) (skipped_timer count (timer_at number ts))
 overflow-after count number ts alone h =
     overflow-at number (after_cycles count ts)
@@ -169,7 +177,8 @@ quiet_of-is number ts alone =
     (λ small. overflow-after (own_quiet t) number ts alone (omega arith) ∙ overflows-next _ t small))
 
 -- no timer overflows where none does
-none-at : (number : ℕ) (ts : FourTimers) (a b c : Bool) → nat_eq number 0 ≡ a → nat_eq number 1 ≡ b → nat_eq number 2 ≡ c
+none-at : (number : ℕ) (ts : FourTimers) (a b c : Bool) → nat_eq number 0 ≡ a → nat_eq number 1 ≡ b
+    → nat_eq number 2 ≡ c
     → any_overflow ts ≡ false → overflow_at number ts ≡ false
 none-at number ts true b c e f g none = rw e (none-of _ (overflow1 ts) (none-of _ (overflow2 ts || overflow3 ts) none))
 none-at number ts false true c e f g none =
@@ -179,7 +188,8 @@ none-at number ts false false true e f g none =
 none-at number ts false false false e f g none =
     rw (e, f, g) (nor-other (overflow2 ts) _ (nor-other (overflow0 ts || overflow1 ts) _ none))
 
-pub silent-at : (number count : ℕ) (ts : FourTimers) → count < quiet ts → overflow_at number (after_cycles count ts) ≡ false
+pub silent-at : (number count : ℕ) (ts : FourTimers) → count < quiet ts
+    → overflow_at number (after_cycles count ts) ≡ false
 unfolding quiet
 silent-at number count ts small =
     none-at number (after_cycles count ts) _ _ _ refl refl refl (before-silent any_overflow 512 count ts small)
@@ -221,7 +231,8 @@ stops-here number left q ts mid e h m due =
     omega (arith, part, here)
 
 pub goes-past : (number left q : ℕ) (ts mid next : FourTimers) → q ≡ quiet ts → q < left → mid ≡ after_cycles q ts
-    → overflow_at number mid ≡ false → next ≡ cycle mid → before number left ts ≡ q + 1 + before number (left - q - 1) next
+    → overflow_at number mid ≡ false → next ≡ cycle mid
+    → before number left ts ≡ q + 1 + before number (left - q - 1) next
 goes-past number left q ts mid next e h m due n =
     let part = quiet-part number left q ts e h in
     let past = before-past (overflow_at number) (left - q) (after_cycles q ts) (omega (arith, h)) (ap (overflow_at number) (sym m) ∙ due) in
@@ -255,10 +266,12 @@ bit-3 a b c false = grind (arith, nat_tests)
 is-numeral : (number k : ℕ) → nat_eq number k ≡ true → number ≡ k
 is-numeral number k e = grind arith
 
-is-last : (number : ℕ) → number < 4 → nat_eq number 0 ≡ false → nat_eq number 1 ≡ false → nat_eq number 2 ≡ false → number ≡ 3
+is-last : (number : ℕ) → number < 4 → nat_eq number 0 ≡ false → nat_eq number 1 ≡ false → nat_eq number 2 ≡ false
+    → number ≡ 3
 is-last number h e f g = grind arith
 
-mark-at_by : (number : ℕ) (ts : FourTimers) (a b c : Bool) → nat_eq number 0 ≡ a → nat_eq number 1 ≡ b → nat_eq number 2 ≡ c
+mark-at_by : (number : ℕ) (ts : FourTimers) (a b c : Bool) → nat_eq number 0 ≡ a → nat_eq number 1 ≡ b
+    → nat_eq number 2 ≡ c
     → number < 4 → bit (overflow_mark ts) number ≡ overflow_at number ts
 unfolding overflow_mark weighed
 mark-at_by number ts true b c e f g h =
