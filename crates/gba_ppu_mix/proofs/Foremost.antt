@@ -1,14 +1,12 @@
 -- The two foremost candidates of a stack.
 use Rattle.std.proofs.Common.{◌≡◌, ℕ, ◌<◌, ◌≤◌, ◌⊎◌, Bool, true, false, nat_lt, List, [], ◌∷◌, ⊎_elim, inl, inr, ap, sym, ◌∙◌, refl, subst, arith}
-use Rattle.std.proofs.lemmas.Bool.{le-ltb, ltb-true, ltb-false}
+use Rattle.std.proofs.lemmas.Bool.{ltb-true, ltb-false}
 use Rattle.gba_ppu_dot.specs.declared.dot.Dot.{Dot}
 use Rattle.gba_ppu_mix.specs.Foremost.{HasForemost, IsOneOf, and_if, and_layer, candidates_of, front_candidates, is_candidate}
-use Rattle.gba_ppu_mix.specs.Stacks.{Dots, bottom, front_of, nearer, sprite_rank, stack_of, with_candidate, with_dot}
-use Rattle.gba_ppu_mix.specs.Stacks.{Candidate}
+use Rattle.gba_ppu_mix.specs.Stacks.{Candidate, Dots, Stack, bottom, front_of, nearer, sprite_rank, stack_of, with_candidate, with_dot}
 use Rattle.gba_ppu_mix.specs.declared.stacks.Layer.{Layer}
 use Rattle.gba_ppu_mix.specs.declared.stacks.Layer.TheVariants.{Background0, Background1, Background2, Background3, Sprites}
 use Rattle.gba_ppu_mix.specs.declared.stacks.Ranks.{Ranks}
-use Rattle.gba_ppu_mix.specs.Stacks.{Stack}
 
 all : List Candidate → Stack
 all [] = bottom
@@ -161,36 +159,3 @@ pub of_layers : (shows : ℕ) (ranks : Ranks) (dots : Dots)
 of_layers shows ranks dots =
     let P : Stack → Type 0 = λ t. HasForemost (candidates_of shows ranks dots) t in
     subst P (sym (layers_are shows ranks dots)) (of_all (candidates_of shows ranks dots))
-
--- a layer behind both changes nothing
-behind_both_same : (c : Candidate) (s : Stack) → s.top.rank ≤ s.second.rank → s.second.rank ≤ c.rank → with_candidate c s ≡ s
-unfolding with_candidate
-behind_both_same c s order h =
-    rw (le-ltb c.rank s.top.rank (omega arith), le-ltb c.rank s.second.rank h) refl
-
-no_change_by : (shows : ℕ) (layer : Layer) (rank : ℕ) (dot : Dot) (s : Stack) (w : Bool)
-    → is_candidate shows layer dot ≡ w → s.top.rank ≤ s.second.rank → s.second.rank ≤ rank
-    → with_dot shows layer rank dot s ≡ s
-unfolding with_dot
-no_change_by shows layer rank dot s true e order h = rw e (behind_both_same record { rank = rank; layer = layer } s order h)
-no_change_by shows layer rank dot s false e order h = rw e refl
-
-no_change : (shows : ℕ) (layer : Layer) (rank : ℕ) (dot : Dot) (s : Stack) → s.top.rank ≤ s.second.rank
-    → s.second.rank ≤ rank → with_dot shows layer rank dot s ≡ s
-no_change shows layer rank dot s order h =
-    no_change_by shows layer rank dot s (is_candidate shows layer dot) refl order h
-
--- where backgrounds 2 and 3 are behind the two that were found, these are the two
-pub front_is_whole : (shows : ℕ) (ranks : Ranks) (dots : Dots)
-    → (front_of shows ranks dots).second.rank ≤ ranks.background2
-    → (front_of shows ranks dots).second.rank ≤ ranks.background3
-    → stack_of shows ranks dots ≡ front_of shows ranks dots
-unfolding stack_of
-front_is_whole shows ranks dots h k =
-    let front = front_of shows ranks dots in
-    let P : Stack → Type 0 = λ t. t.top.rank ≤ t.second.rank in
-    let order : front.top.rank ≤ front.second.rank =
-    subst P (sym (front_is shows ranks dots)) (of_all (front_candidates shows ranks dots)).order in
-    ap (with_dot shows Background3 ranks.background3 dots.background3)
-    (no_change shows Background2 ranks.background2 dots.background2 front order h)
-    ∙ no_change shows Background3 ranks.background3 dots.background3 front order k

@@ -6,12 +6,11 @@ use Rattle.gba_ppu_dot.specs.declared.dot.Dot.{Dot}
 use Rattle.gba_ppu_dot.specs.declared.dot.DotKind.{DotKind}
 use Rattle.gba_ppu_dot.specs.declared.dot.DotKind.TheVariants.{Plain, Semi}
 use Rattle.gba_ppu_blend.specs.Colours.{both, brighter, darker}
-use Rattle.gba_ppu_mix.specs.Stacks.{Dots, dot_of, layer_bit}
+use Rattle.gba_ppu_mix.specs.Stacks.{Dots, Stack, dot_of, layer_bit}
 use Rattle.gba_ppu_mix.specs.declared.blending.Blending.{Blending}
 use Rattle.gba_ppu_mix.specs.declared.blending.Effect.{Effect}
 use Rattle.gba_ppu_mix.specs.declared.blending.Effect.TheVariants.{Unchanged, Alpha, Brighter, Darker}
 use Rattle.gba_ppu_mix.specs.declared.stacks.Layer.{Layer}
-use Rattle.gba_ppu_mix.specs.Stacks.{Stack}
 
 -- BLDCNT, BLDALPHA and BLDY (GBATEK, LCD I/O Color Special Effects). Coefficients are sixteenths, and above 16 count as 16.
 abbrev pub effect_of : ℕ → Effect

@@ -1,12 +1,10 @@
 use Rattle.std.specs.Prelude.{◌≡◌, ℕ, Bool, ◌&&◌, ◌≤◌, ◌⊎◌, List, [], ◌∷◌, if◌then◌else◌}
 use Rattle.gba_terms.specs.Bits.{bit}
 use Rattle.gba_ppu_dot.specs.declared.dot.Dot.{Dot}
-use Rattle.gba_ppu_mix.specs.Stacks.{Dots, bottom, layer_bit, sprite_rank, stack_of}
-use Rattle.gba_ppu_mix.specs.Stacks.{Candidate}
+use Rattle.gba_ppu_mix.specs.Stacks.{Candidate, Dots, Stack, bottom, layer_bit, sprite_rank, stack_of}
 use Rattle.gba_ppu_mix.specs.declared.stacks.Layer.{Layer}
 use Rattle.gba_ppu_mix.specs.declared.stacks.Layer.TheVariants.{Background0, Background1, Background2, Background3, Sprites}
 use Rattle.gba_ppu_mix.specs.declared.stacks.Ranks.{Ranks}
-use Rattle.gba_ppu_mix.specs.Stacks.{Stack}
 
 -- Which two candidates a stack has, without the order in which they come.
 -- The candidates at a place beside the backdrop: the layers that show and whose dots are opaque.
