@@ -1,7 +1,5 @@
 //! The serial unit on the board: its registers at every width, and what the cable does, by moves and what they must show.
 
-ghost use Rattle.std.specs.Prelude.{◌≡◌, ◌+◌, ◌*◌};
-
 use Move::{
     Advance, Begins, Calm, Count, Ends, Kept, Load, Reply, Silent, Start, Store, Tells, Word,
 };
@@ -86,24 +84,17 @@ fn advance<R: Abort>(rt: &R, board: &mut Board, cycles: u32) {
     }
 }
 
-/// The least end that leaves room for the next transfer.
-fn room_end<R: Abort>(rt: &R, board: &Board) -> u64
-    ensures { result ≡ 512 * (board.now.ended.count + 1) }
-{
-    let count = board.ended.count();
-    assert!(rt; count <= 1_000_000);
-    512 * (count + 1)
-}
-
 fn take<R: Abort>(rt: &R, board: &mut Board, due: Incoming) {
-    assert!(rt; room_end(rt, board) <= board.core.serial().next_end());
+    let count = board.ended.count();
+    assert!(rt; count <= 1_000_000 && 512 * (count + 1) <= board.core.serial().next_end());
     assert!(rt; board.ended.until() <= 1_000_000 && due.arrival < board.ended.until());
     assert!(rt; due.signal.clock < due.arrival);
     board.take(&due);
 }
 
 fn end<R: Abort>(rt: &R, board: &mut Board) {
-    assert!(rt; room_end(rt, board) <= board.core.serial().next_end());
+    let count = board.ended.count();
+    assert!(rt; count <= 1_000_000 && 512 * (count + 1) <= board.core.serial().next_end());
     assert!(rt; board.core.clock() < board.ended.until());
     board.end_due();
 }

@@ -139,7 +139,7 @@ fn two_consoles_in_multi(rt: HostRuntime) -> Result<(), Fail> {
     let alloc = rt.alloc();
     let mut cable = Cable::new(alloc, 512, [STARTS_MULTI, AWAITS_MULTI])?;
     cable.run(&rt, alloc, 10_000)?;
-    let end = cable.started(&rt, 0) + 5220;
+    let end = u64::from(cable.started(&rt, 0)?) + 5220;
     let words = [0x1234, 0xABCD, 0xFFFF, 0xFFFF];
     let mut first = transfer(end, Multi, words, 0x1234, 0);
     first.interrupt = true;
@@ -160,7 +160,7 @@ fn nobody_answers_in_multi(rt: HostRuntime) -> Result<(), Fail> {
     let alloc = rt.alloc();
     let mut cable = Cable::new(alloc, 512, [STARTS_ALONE, AWAITS_BYTE])?;
     cable.run(&rt, alloc, 10_000)?;
-    let end = cable.started(&rt, 0) + 5220;
+    let end = u64::from(cable.started(&rt, 0)?) + 5220;
     let words = [0x1234, 0xFFFF, 0xFFFF, 0xFFFF];
     let mut first = transfer(end, Multi, words, 0x1234, 0);
     first.error = true;
@@ -175,8 +175,8 @@ fn both_start(rt: HostRuntime) -> Result<(), Fail> {
     let alloc = rt.alloc();
     let mut cable = Cable::new(alloc, 512, [STARTS_WORD, STARTS_WORD])?;
     cable.run(&rt, alloc, 10_000)?;
-    let start = cable.started(&rt, 0);
-    assert_eq!(rt; cable.started(&rt, 1), start);
+    let start = u64::from(cable.started(&rt, 0)?);
+    assert_eq!(rt; u64::from(cable.started(&rt, 1)?), start);
     let both = transfer(start + 2048, Normal32, [0; 4], 0x0123_4567, 0xFFFF_FFFF);
     ended(&rt, &cable.consoles[0], both);
     ended(&rt, &cable.consoles[1], both);
@@ -189,7 +189,7 @@ fn bytes_are_exchanged(rt: HostRuntime) -> Result<(), Fail> {
     let alloc = rt.alloc();
     let mut cable = Cable::new(alloc, 1, [STARTS_BYTE, AWAITS_BYTE])?;
     cable.run(&rt, alloc, 3_000)?;
-    let end = cable.started(&rt, 0) + 516;
+    let end = u64::from(cable.started(&rt, 0)?) + 516;
     ended(
         &rt,
         &cable.consoles[0],

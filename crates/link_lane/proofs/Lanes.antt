@@ -35,6 +35,7 @@ use Rattle.link_table.specs.declared.key.Key.{Key}
 use Rattle.link_table.specs.Text.{script_of}
 use Rattle.link_table.specs.Seated.{SeatState, with_made}
 use Rattle.link_inbox.specs.Waiting.{InboxState}
+use Rattle.crossbeam_utils.specs.declared.cache_padded.CachePadded.{CachePadded}
 use Rattle.link_lane.specs.declared.lane.Lane.TheInside.{Inside}
 use Rattle.link_lane.specs.Following.{LaneState, key_cut, known_of, Opens}
 use Rattle.link_lane.specs.Hearing.{Hears, IsLane, lane_state}
@@ -126,6 +127,7 @@ heard_lane : {N C : Type 0} (kind : NodeKind C) (plain : N → C) (bound : N →
       inbox = inbox;
       taken = taken;
       horizon = l.horizon;
+      apart = l.apart;
     })
 heard_lane {C = C} kind plain bound l h peer q inbox taken below apart hears up waits wide own others =
     let cut : Cut C = key_cut plain h.key in
@@ -240,6 +242,7 @@ pub looked_lane : {N C : Type 0} (kind : NodeKind C) → IsLawful kind → (plai
       inbox = l.inbox;
       taken = l.taken;
       horizon = l.horizon;
+      apart = l.apart;
     })
 looked_lane {N = N} {C = C} kind law plain bound l h peer clock counted seat below apart is looks =
     let cut : Cut C = key_cut plain h.key in
@@ -295,6 +298,7 @@ looked_lane {N = N} {C = C} kind law plain bound l h peer clock counted seat bel
       inbox = l.inbox;
       taken = l.taken;
       horizon = l.horizon;
+      apart = l.apart;
     })) (sym seat_is)
     (heard_lane kind plain bound l h peer q l.inbox l.taken below apart heard up
     (h.follows.waits_are
@@ -387,6 +391,7 @@ pub fetched_lane : {N C : Type 0} (kind : NodeKind C) (plain : N → C) (bound :
       inbox = inbox;
       taken = slice_set l.taken peer next;
       horizon = l.horizon;
+      apart = l.apart;
     })
 fetched_lane {N = N} {C = C} kind plain bound l h peer arrival next x seat inbox f seat_is arrival_is next_is cases =
     let cut : Cut C = key_cut plain h.key in
@@ -429,6 +434,7 @@ fetched_lane {N = N} {C = C} kind plain bound l h peer arrival next x seat inbox
       inbox = inbox;
       taken = slice_set l.taken peer next;
       horizon = l.horizon;
+      apart = l.apart;
     })) (sym seat_is)
     (heard_lane kind plain bound l h peer q inbox (slice_set l.taken peer next) below f.apart
     (fetched_heard s i peer (kind.clock (plain l.node)) p f.left hears) (fetched_up p hears.based) waits
@@ -476,16 +482,17 @@ nothing_taken (suc (suc (suc (suc n)))) = refl
 -- a lane before its first step
 pub opened : {N C : Type 0} (kind : NodeKind C) → IsLawful kind → (plain : N → C) (bound : N → ℕ) (node : N)
     (seat : SeatState (Key N)) (opening : List Incoming) → Opens kind plain bound node seat opening
-    → (inbox : InboxState) → inbox.waits ≡ opening
+    → (inbox : InboxState) → inbox.waits ≡ opening → (apart : CachePadded (Unit {0}))
     → IsLane kind plain bound (record {
       node = node;
       seat = seat;
       inbox = inbox;
       taken = 0 ∷ 0 ∷ 0 ∷ 0 ∷ [];
       horizon = 0;
+      apart = apart;
     })
 unfolding script_of
-opened {N = N} {C = C} kind law plain bound node seat opening o inbox inbox_is =
+opened {N = N} {C = C} kind law plain bound node seat opening o inbox inbox_is apart =
     let key : Key N = o.key in
     let cut : Cut C = key_cut plain key in
     let s : Script = script_of kind plain key in
@@ -511,6 +518,7 @@ opened {N = N} {C = C} kind law plain bound node seat opening o inbox inbox_is =
       inbox = inbox;
       taken = 0 ∷ 0 ∷ 0 ∷ 0 ∷ [];
       horizon = 0;
+      apart = apart;
     })) (sym o.seat_is)
     (record {
       key = key;

@@ -436,6 +436,7 @@ pub stepped_lane : {N C : Type 0} (kind : NodeKind C) → IsLawful kind → (pla
       inbox = inbox;
       taken = l.taken;
       horizon = l.horizon;
+      apart = l.apart;
     })
 stepped_lane {N = N} {C = C} kind law plain bound l h end silent made inbox go node node_is limit after seat_is =
     let cut : Cut C = key_cut plain h.key in
@@ -457,6 +458,7 @@ stepped_lane {N = N} {C = C} kind law plain bound l h end silent made inbox go n
       inbox = inbox;
       taken = l.taken;
       horizon = l.horizon;
+      apart = l.apart;
     })) (sym seat_is)
     (record {
       key = h.key;

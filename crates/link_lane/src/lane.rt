@@ -17,12 +17,13 @@ ghost use Rattle.link_lane.specs.Pausing.{peer_of, IsAhead, IsAheadTo, IsCaught,
 ghost use Rattle.link_lane.specs.Pausing.{IsNearest, IsStill, IsHeldUp, BeginsBelow, IsBlocked};
 
 use crate::pause::Pause;
-use crossbeam_utils::Backoff;
+use crossbeam_utils::CachePadded;
 use gba_store::Gate;
 use link_inbox::Inbox;
 use link_node::{Incoming, Node, Signal};
 use link_table::{Look, Seat, Shared};
 use std::alloc::Global;
+use std::hint;
 use std::marker::Model;
 
 /// A peer's horizon: the clock that was seen last of it, and the first clock at which a signal that is still unseen may
@@ -43,6 +44,8 @@ pub struct Lane<N: Node> {
     inbox: Inbox,
     taken: [u64; 4],
     horizon: u64,
+    // The lane behind this one in a list has cache lines of its own, since another thread writes them.
+    apart: CachePadded<()>,
 }
 
 impl<N: Node> Model for Lane<N> {
@@ -74,7 +77,7 @@ pub struct LaneParts<N: Node> {
 }
 
 /// The most cycles that a lane goes on before its peers see it.
-const UNSEEN: u64 = 128;
+const UNSEEN: u64 = 256;
 
 /// Puts the signal that a step sends, if it sends one.
 fn tell<N: Node>(shared: &Shared<N>, seat: &mut Seat<N>, signal: Option<Signal>)
@@ -118,6 +121,7 @@ impl<N: Node> Lane<N> {
             inbox,
             taken: [0; 4],
             horizon: 0,
+            apart: CachePadded::new(()),
         })
     }
 
@@ -152,6 +156,7 @@ impl<N: Node> Lane<N> {
             inbox,
             taken: _,
             horizon: _,
+            apart: _,
         } = self;
         LaneParts {
             node,
@@ -271,13 +276,12 @@ impl<N: Node> Lane<N> {
         ensures polled { result.end ≤ N.clock (N.plain self.new.node) →
             HasHeard polls self.old.seat.players self.old self.new }
     {
-        let backoff = Backoff::new();
         let mut nearest = self.listen(shared);
         for turn in 1..polls {
             if self.clock() < nearest.end {
                 return nearest;
             }
-            backoff.spin();
+            hint::spin_loop();
             nearest = self.listen(shared);
         }
         nearest

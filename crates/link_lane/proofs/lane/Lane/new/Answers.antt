@@ -17,7 +17,7 @@ new-requires g c =
     let few : length c.args.opening.now ≤ 10236
     = few_wait kind law g.N.Node.plain g.N.Node.bound _
     (opened kind law g.N.Node.plain g.N.Node.bound c.args.node c.args.seat c.args.opening.now c.requires
-    (record { waits = c.args.opening.now; due = [] }) refl) in
+    (record { waits = c.args.opening.now; due = [] }) refl (record { before = []; value = tt; after = [] })) in
     omega arith
 
 pub invariant_of-result : goal.invariant_of-result
@@ -31,4 +31,4 @@ invariant_of-result g c =
       fits = g.met.N.Node.fits;
     } in
     opened kind law g.N.Node.plain g.N.Node.bound c.args.node c.args.seat c.args.opening.now c.requires c.in-Ok.inbox
-    c.in-Ok.ensures
+    c.in-Ok.ensures _
