@@ -1,35 +1,8 @@
 //! Lines of colours, blended.
 
+use crate::arithmetic::{alpha_of, brighter_of, darker_of};
 use gba_ppu_mix::{blend_alpha, brighten, darken};
 use std::test::Fail;
-
-/// Part `number` of a colour: red is 0, green 1, blue 2.
-fn part(colour: u16, number: usize) -> u16 {
-    match number {
-        0 => colour % 32,
-        1 => colour / 32 % 32,
-        _ => colour / 1024 % 32,
-    }
-}
-
-fn joined(parts: [u16; 3]) -> u16 {
-    parts[0] % 32 + parts[1] % 32 * 32 + parts[2] % 32 * 1024
-}
-
-fn alpha_part(top: u16, below: u16, eva: u8, evb: u8) -> u16 {
-    let front = top.wrapping_mul(u16::from(eva));
-    let back = below.wrapping_mul(u16::from(evb));
-    (front.wrapping_add(back) / 16).min(31)
-}
-
-fn brighter_part(part: u16, evy: u8) -> u16 {
-    let room = 31u16.saturating_sub(part);
-    part.wrapping_add(room.wrapping_mul(u16::from(evy)) / 16)
-}
-
-fn darker_part(part: u16, evy: u8) -> u16 {
-    part.wrapping_sub(part.wrapping_mul(u16::from(evy)) / 16)
-}
 
 /// Some colours, with bit 15 set in some, the first of them by a number.
 fn colours_from(first: u16) -> [u16; 70] {
@@ -40,31 +13,6 @@ fn colours_from(first: u16) -> [u16; 70] {
         next = next.wrapping_mul(25173).wrapping_add(13849);
     }
     colours
-}
-
-/// The formula, part by part.
-fn alpha_of(top: u16, below: u16, eva: u8, evb: u8) -> u16 {
-    let mut parts = [0; 3];
-    for number in 0..3 {
-        parts[number] = alpha_part(part(top, number), part(below, number), eva, evb);
-    }
-    joined(parts)
-}
-
-fn brighter_of(colour: u16, evy: u8) -> u16 {
-    let mut parts = [0; 3];
-    for number in 0..3 {
-        parts[number] = brighter_part(part(colour, number), evy);
-    }
-    joined(parts)
-}
-
-fn darker_of(colour: u16, evy: u8) -> u16 {
-    let mut parts = [0; 3];
-    for number in 0..3 {
-        parts[number] = darker_part(part(colour, number), evy);
-    }
-    joined(parts)
 }
 
 /// Seventeen places: two vectors of eight, and one place after them.

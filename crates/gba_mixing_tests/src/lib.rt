@@ -1,6 +1,8 @@
 #![tactic(auto)]
-//! Tests of sprites, of mixed lines and of blended ones: worked lines of each.
+//! Tests of sprites, of mixed lines and of blended ones: worked lines of each, and random ones against a plain program.
 
+#[cfg(test)]
+mod arithmetic;
 #[cfg(test)]
 mod blending;
 #[cfg(test)]
@@ -9,6 +11,10 @@ mod kernels;
 mod memory;
 #[cfg(test)]
 mod order;
+#[cfg(test)]
+mod plain;
+#[cfg(test)]
+mod random;
 #[cfg(test)]
 mod scene;
 #[cfg(test)]

@@ -18,7 +18,7 @@ pub(crate) fn registers_of(writes: &[(u32, u16)]) -> PictureRegisters {
     registers
 }
 
-fn put_half<R: Abort>(rt: &R, bytes: &mut [u8], offset: usize, half: u16) {
+pub(crate) fn put_half<R: Abort>(rt: &R, bytes: &mut [u8], offset: usize, half: u16) {
     assert!(rt; offset < bytes.len());
     assert!(rt; bytes.len() - offset > 1);
     bytes[offset] = (half % 0x100) as u8;
