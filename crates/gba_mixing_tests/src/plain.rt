@@ -38,7 +38,7 @@ enum Layer {
 
 /// The part of the screen that a place is in (GBATEK, LCD I/O Window Feature).
 #[derive(Clone, Copy)]
-pub(crate) enum Region {
+pub enum Region {
     /// The whole screen, where no window is on.
     Screen,
     Window0,
@@ -49,7 +49,7 @@ pub(crate) enum Region {
 
 /// What is done to the foremost colour (GBATEK, LCD I/O Color Special Effects).
 #[derive(Clone, Copy)]
-pub(crate) enum Effect {
+pub enum Effect {
     Unchanged,
     Alpha,
     /// The alpha blending of a semi-transparent sprite.
@@ -60,7 +60,7 @@ pub(crate) enum Effect {
 
 /// A place of the line: its colour, and how it came to be.
 #[derive(Clone, Copy)]
-pub(crate) struct Pixel {
+pub struct Pixel {
     pub colour: u16,
     pub region: Region,
     pub effect: Effect,
@@ -414,7 +414,7 @@ fn pixel_at(
 }
 
 /// The places of a line from 0 to 159, from left to right. Video memory has 98,304 bytes.
-pub(crate) fn pixel_line(
+pub fn pixel_line(
     r: &PictureRegisters,
     palette: &[u8; 1024],
     vram: &[u8],

@@ -5,16 +5,22 @@ ghost use Rattle.link_order.specs.NodeKind.{kind_of};
 ghost use Rattle.link_run.specs.Going.{MayGo, Went, AllWent};
 
 use gba_store::Gate;
-use link_lane::Lane;
+use link_lane::{Lane, Pause};
 use link_node::Node;
 use link_table::Shared;
-use std::thread;
 use std::thread::{Threads, join_mut};
+use std::{hint, thread};
 
-/// How often a lane looks at its peers before it lets other threads go first.
-const POLLS: u32 = 4;
+/// How often a lane looks at all its peers before it waits for one of them.
+const POLLS: u32 = 1;
 
-/// How often it does so in one pause.
+/// How often it looks at the clock of the one that it waits for.
+const LOOKS: u32 = 64;
+
+/// How many of these looks come before it lets other threads go first.
+const SPINS: u32 = 16;
+
+/// How often it waits in one pause, where each time the peer goes on, but not far enough.
 const ATTEMPTS: u32 = 1024;
 
 /// What all lanes of a round share.
@@ -26,19 +32,42 @@ pub(crate) struct Work<'a, R, N: Node, G> {
     pub until: u64,
 }
 
-/// Lets a lane advance to the end, or till it has waited for one peer for 4,096 polls.
+/// Waits until the peer for which a lane has stopped goes on, and answers whether it did.
+fn wait<N: Node>(shared: &Shared<N>, pause: Pause) -> bool {
+    let Pause::Blocked { peer, seen } = pause else {
+        return true;
+    };
+    for look in 0..LOOKS {
+        if shared.clock_of(peer) != Some(seen) {
+            return true;
+        }
+        if look < SPINS {
+            hint::spin_loop();
+        } else {
+            thread::yield_now();
+        }
+    }
+    false
+}
+
+/// Lets a lane advance to the end, or till it has waited long enough for its peers: 1,024 times for one that goes on, and
+/// half as often after each time that it doesn't.
 fn go<R, N: Node, G: Gate>(work: &Work<R, N, G>, lane: &mut Lane<N>)
     requires { MayGo work.now.shared.now work.now.until lane.old }
     ensures { Went (kind_of N.clock N.was N.next) N.plain N.bound work.now.until lane.old lane.new }
 {
-    lane.advance(work.shared, work.gate, work.until, POLLS);
+    let mut pause = lane.advance(work.shared, work.gate, work.until, POLLS);
     let mut clock = lane.clock();
     let mut left = ATTEMPTS;
     while left > 1 && clock < work.until {
-        thread::yield_now();
-        lane.advance(work.shared, work.gate, work.until, POLLS);
+        let less = if wait(work.shared, pause) {
+            left - 1
+        } else {
+            left / 2
+        };
+        pause = lane.advance(work.shared, work.gate, work.until, POLLS);
         let now = lane.clock();
-        left = if now > clock { ATTEMPTS } else { left - 1 };
+        left = if now > clock { ATTEMPTS } else { less };
         clock = clock.max(now);
     }
 }

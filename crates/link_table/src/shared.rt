@@ -60,6 +60,16 @@ impl<N: Node> Shared<N> {
         }
     }
 
+    /// The clock in a player's word, with no seat. It serves to wait and promises nothing: what a lane may rest on, `look`
+    /// tells. None where there is no such player at any table.
+    pub fn clock_of(&self, player: u32) -> Option<u64> {
+        if player < 4 {
+            Some(self.table.shared.peek(clock_place(player)) % (1 << 40))
+        } else {
+            None
+        }
+    }
+
     /// Loads the first signal of a peer that the seat hasn't fetched, by its number. Its entry is never overwritten.
     pub fn fetch(&self, seat: &mut Seat<N>, peer: u32, index: u64) -> Signal
         requires table { seat.old.table ≡ self.now }

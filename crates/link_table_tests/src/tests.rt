@@ -109,6 +109,18 @@ fn a_look_tells_steps_and_a_fetch_the_signal(rt: HostRuntime) -> Result<(), Fail
     Ok(())
 }
 
+#[test]
+fn a_clock_is_seen_without_a_seat(rt: HostRuntime) -> Result<(), Fail> {
+    let first = ticker(2, 8, 1_000);
+    let second = ticker(2, 8, 1_000);
+    let (shared, own, mut other) = two_consoles(&rt, rt.alloc(), first, second, 16)?;
+    steps(&rt, &shared, &mut other, 3);
+    assert_eq!(rt; shared.clock_of(0), Some(own.clock()));
+    assert_eq!(rt; shared.clock_of(1), Some(9));
+    assert_eq!(rt; shared.clock_of(4), None);
+    Ok(())
+}
+
 /// Rounds of two consoles, the first one with a signal in each cycle, until its clock is at the end. It answers how many
 /// signals were fetched.
 fn play(
