@@ -1,6 +1,6 @@
 //! Paints: what a layer has at a place, as one halfword.
 
-ghost use Rattle.std.specs.Prelude.{◌≡◌, ◌≢◌, ℕ, ◌*◌, ◌%◌, ◌<◌, length, slice_index, slice_index_or};
+ghost use Rattle.std.specs.Prelude.{◌≡◌, ◌≢◌, ℕ, ◌+◌, ◌*◌, ◌%◌, ◌<◌, ◌≤◌, length, slice_index, slice_index_or};
 ghost use Rattle.gba_ppu_dot.specs.Dots.{clear_dot};
 ghost use Rattle.gba_ppu_dot.specs.Paints.{colour_of as colour_of_dot, paint_of as paint_of_dot, palette_colour};
 
@@ -50,6 +50,19 @@ pub fn paint_of(palette: &[u8], dot: Dot) -> u16
     }
 }
 
+/// The paints of eight dots, from a place on.
+fn paint_eight(palette: &[u8], dots: &[Dot], at: usize, paints: &mut [u16])
+    requires palette { length palette.now ≡ 1024 }
+    requires dots { at + 8 ≤ length dots.now }
+    requires paints { at + 8 ≤ length paints.old }
+    ensures before { (k : ℕ) → k < at → slice_index paints.new k ≡ slice_index paints.old k }
+    ensures here { (i : ℕ) → i < 8 → slice_index paints.new (at + i) ≡ paint_of_dot palette.now (slice_index_or dots.now (at + i) clear_dot) }
+{
+    for i in 0..8 {
+        paints[at + i] = paint_of(palette, dots[at + i]);
+    }
+}
+
 /// The paints of a line of 240 dots.
 pub fn paint_line(palette: &[u8], dots: &[Dot], paints: &mut [u16])
     requires palette { length palette.now ≡ 1024 }
@@ -57,8 +70,8 @@ pub fn paint_line(palette: &[u8], dots: &[Dot], paints: &mut [u16])
     requires paints { length paints.old ≡ 240 }
     ensures { (x : ℕ) → x < 240 → slice_index paints.new x ≡ paint_of_dot palette.now (slice_index_or dots.now x clear_dot) }
 {
-    for x in 0..240 {
-        paints[x] = paint_of(palette, dots[x]);
+    for part in 0..30 {
+        paint_eight(palette, dots, 8 * part, paints);
     }
 }
 

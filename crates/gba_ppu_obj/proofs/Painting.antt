@@ -4,7 +4,7 @@ use Rattle.std.proofs.lemmas.Bool.{cases_lt, le-ltb, lt-ltb}
 use Rattle.std.proofs.Math.Bool.{and-false}
 use Rattle.gba_ppu_dot.specs.Dots.{clear_dot}
 use Rattle.gba_ppu_dot.specs.declared.dot.Dot.{Dot}
-use Rattle.gba_ppu_obj.specs.Attributes.{box_height, box_width, is_row_shown, is_shown, left_of, top_of}
+use Rattle.gba_ppu_obj.specs.Attributes.{box_height, box_width, is_double, is_row_shown, is_shown, left_of, top_of}
 use Rattle.gba_ppu_obj.specs.Order.{first_over, over}
 use Rattle.gba_ppu_obj.specs.Places.{box_column, box_row}
 use Rattle.gba_ppu_obj.specs.Sprites.{attributes_dot, box_number}
@@ -92,3 +92,9 @@ high_at_most a = grind arith
 
 pub too_low : (a : Attributes) (q : ℕ) → 128 ≤ q → is_row_shown a q ≡ false
 too_low a q h = rw (le-ltb q (box_height a) (omega (arith, high_at_most a))) (and-false (is_shown a))
+
+undoubled_at_most : (a : Attributes) → is_double a ≡ false → box_height a ≤ 64
+undoubled_at_most a e = grind (arith, e)
+
+pub too_low_undoubled : (a : Attributes) (q : ℕ) → is_double a ≡ false → 64 ≤ q → is_row_shown a q ≡ false
+too_low_undoubled a q e h = rw (le-ltb q (box_height a) (omega (arith, undoubled_at_most a e))) (and-false (is_shown a))

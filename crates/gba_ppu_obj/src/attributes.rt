@@ -85,7 +85,8 @@ impl Attributes {
         bit(u32::from(self.first), 8)
     }
 
-    fn is_double(self) -> bool
+    /// Whether its box is twice as wide and twice as high as its picture.
+    pub fn is_double(self) -> bool
         ensures { result ≡ is_double self }
     {
         self.is_affine() && bit(u32::from(self.first), 9)

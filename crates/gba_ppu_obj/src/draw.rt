@@ -1,6 +1,6 @@
 //! Drawing a sprite.
 
-ghost use Rattle.std.specs.Prelude.{◌≡◌, ℕ, ◌+◌, ◌-◌, ◌<◌, ◌≤◌, length, slice_index_or};
+ghost use Rattle.std.specs.Prelude.{◌≡◌, ℕ, ◌+◌, ◌-◌, ◌/◌, ◌<◌, ◌≤◌, length, slice_index_or};
 ghost use Rattle.gba_ppu_dot.specs.declared.dot.Dot.{Dot};
 ghost use Rattle.gba_ppu_obj.specs.Attributes.{attributes_of, box_height, box_width, is_row_shown as is_row_of_box};
 ghost use Rattle.gba_ppu_obj.specs.Order.{over as dot_over};
@@ -37,6 +37,7 @@ fn straight_number(vram: &[u8], s: &Sprite, a: Attributes, q: u32, p: u32) -> u8
     picture_number(vram, s, across, down)
 }
 
+/// The place in the picture in 256ths of a dot: those tell a place past the picture's edge by one comparison.
 #[tactic(auto, unfolding(crate::specs::Places::turned_place))]
 fn turned_place(
     across: u32,
@@ -48,11 +49,13 @@ fn turned_place(
     q: u32,
 ) -> u32
     requires side { side ≤ 64 }
-    ensures { result ≡ place_turned across down box_wide box_high side p q }
+    ensures { result / 0x100 ≡ place_turned across down box_wide box_high side p q }
 {
     let from_left = across.wrapping_mul(p.wrapping_sub(box_wide / 2));
     let from_top = down.wrapping_mul(q.wrapping_sub(box_high / 2));
-    (from_left.wrapping_add(from_top) / 0x100 + side / 2) % 0x100_0000
+    from_left
+        .wrapping_add(from_top)
+        .wrapping_add(0x100 * (side / 2))
 }
 
 #[tactic(auto, unfolding(crate::specs::Sprites::turned_number))]
@@ -71,8 +74,8 @@ fn turned_number(
 {
     let across = turned_place(t.pa, t.pb, box_wide, box_high, s.width, p, q);
     let down = turned_place(t.pc, t.pd, box_wide, box_high, s.height, p, q);
-    if across < s.width && down < s.height {
-        picture_number(vram, s, across, down)
+    if across < 0x100 * s.width && down < 0x100 * s.height {
+        picture_number(vram, s, across / 0x100, down / 0x100)
     } else {
         0
     }
@@ -165,12 +168,15 @@ fn box_row(top: u32, line: u32) -> u32
     (line + (256 - top)) % 256
 }
 
-/// Whether the row `q` of the box of a sprite is shown. No box is higher than 128.
-#[tactic(auto, using(crate::proofs::Painting::too_low))]
+/// Whether the row `q` of the box of a sprite is shown. No box is higher than 128, and none that isn't doubled than 64.
+#[tactic(auto, using(crate::proofs::Painting::too_low, crate::proofs::Painting::too_low_undoubled))]
 fn is_row_shown(a: Attributes, q: u32) -> bool
     ensures { result ≡ is_row_of_box a q }
 {
     if q >= 128 {
+        return false;
+    }
+    if q >= 64 && !a.is_double() {
         return false;
     }
     a.is_shown() && q < a.box_height()

@@ -26,13 +26,10 @@ pub fn put_number(dots: &mut [Dot], x: usize, s: &Sprite, number: u8)
     }
     let best = dots[x];
     if !best.opaque || s.priority < best.priority {
-        dots[x] = Dot {
-            opaque: true,
-            entry: s.palette_start + u16::from(number),
-            direct: false,
-            priority: s.priority,
-            kind: s.kind,
-            window: best.window,
-        };
+        dots[x].opaque = true;
+        dots[x].entry = s.palette_start + u16::from(number);
+        dots[x].direct = false;
+        dots[x].priority = s.priority;
+        dots[x].kind = s.kind;
     }
 }

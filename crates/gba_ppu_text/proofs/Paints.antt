@@ -1,9 +1,8 @@
 -- Paints of dots, and lines of them.
-use Rattle.std.proofs.Common.{◌≡◌, ℕ, zero, suc, ◌+◌, ◌-◌, ◌*◌, ◌/◌, ◌%◌, ◌^◌, ◌<◌, ◌≤◌, Bool, true, false, List, length, slice_index, slice_set, refl, subst, ap, sym, ◌∙◌, ⊎_elim, arith}
+use Rattle.std.proofs.Common.{◌≡◌, ℕ, zero, suc, ◌+◌, ◌-◌, ◌*◌, ◌/◌, ◌%◌, ◌^◌, ◌<◌, ◌≤◌, Bool, true, false, List, slice_index, refl, ap, sym, ◌∙◌, arith}
 use Rattle.std.specs.Prelude.{◌==◌, if◌then◌else◌}
 use Rattle.std.proofs.Math.Nat.{zero-div}
-use Rattle.std.proofs.lemmas.Bool.{cases_lt, le-ltb, lt-ltb}
-use Rattle.std.proofs.lemmas.List.{get_or-set_other, get_or-set_same}
+use Rattle.std.proofs.lemmas.Bool.{le-ltb, lt-ltb}
 use Rattle.gba_ppu_dot.specs.Bytes.{tile_byte}
 use Rattle.std.proofs.lemmas.Bool.Decides.{nat_tests}
 use Rattle.gba_terms.specs.Bits.{bit, field}
@@ -62,20 +61,6 @@ bytes_seen palette vram numbers control entry column row h e is =
     ∙ numbered palette (priority_of control) 0 (number_at vram control entry column row)
     ∙ rw e refl
 
--- eight places more
-pub eight_paints : (paint : ℕ → ℕ) (old new : List ℕ) (n : ℕ) → ((k : ℕ) → k < 8 * n → slice_index old k ≡ paint k)
-    → ((k : ℕ) → k < 8 * n → slice_index new k ≡ slice_index old k)
-    → ((i : ℕ) → i < 8 → slice_index new (8 * n + i) ≡ paint (8 * n + i))
-    → (k : ℕ) → k < 8 * (n + 1) → slice_index new k ≡ paint k
-eight_paints paint old new n was before here k h =
-    ⊎_elim
-    (λ (low : k < 8 * n). before k low ∙ was k low)
-    (λ (high : 8 * n ≤ k).
-    let e : 8 * n + (k - 8 * n) ≡ k = omega arith in
-    let P : ℕ → Type 0 = λ j. slice_index new j ≡ paint j in
-    subst P e (here (k - 8 * n) (omega arith)))
-    (cases_lt k (8 * n))
-
 -- a row of nibbles as one number
 byte_at : (vram : List ℕ) (start k low a : ℕ) → start % 4 ≡ 0 → start < 0x10000 → k < 4 → a ≡ slice_index vram (start + k)
     → field a low 4 ≡ field (tile_byte vram (start + k)) low 4
@@ -133,20 +118,3 @@ no_nibbles vram start column h =
   where
     nothing : (low : ℕ) → field 0 low 4 ≡ 0
     nothing low = ap (λ n. n % 2 ^ 4) (zero-div (2 ^ low))
-
--- one place more
-pub place_more : (paint : ℕ → ℕ) (paints : List ℕ) (at column new : ℕ) → at + column < length paints
-    → ((i : ℕ) → i < column → slice_index paints (at + i) ≡ paint i) → new ≡ paint column
-    → (i : ℕ) → i < column + 1 → slice_index (slice_set paints (at + column) new) (at + i) ≡ paint i
-place_more paint paints at column new room was is i h =
-    ⊎_elim
-    (λ (low : i < column). get_or-set_other paints (at + column) (at + i) new 0 (λ f. omega (arith, low, f)) ∙ was i low)
-    (λ (high : column ≤ i).
-    let e : column ≡ i = omega arith in
-    let P : ℕ → Type 0 = λ j. slice_index (slice_set paints (at + column) new) (at + j) ≡ paint j in
-    subst P e (get_or-set_same paints (at + column) new 0 room ∙ is))
-    (cases_lt i column)
-
-pub place_kept : (paints old : List ℕ) (at column new : ℕ) → ((k : ℕ) → k < at → slice_index paints k ≡ slice_index old k)
-    → (k : ℕ) → k < at → slice_index (slice_set paints (at + column) new) k ≡ slice_index old k
-place_kept paints old at column new was k h = get_or-set_other paints (at + column) k new 0 (λ f. omega (arith, h, f)) ∙ was k h

@@ -1,6 +1,6 @@
 //! The shared table.
 
-ghost use Rattle.std.specs.Prelude.{ℕ, ◌≡◌, ◌≢◌, ◌+◌, ◌*◌, ◌%◌, ◌<◌, ◌≤◌, ◌^◌, [], ◌∷◌, Some, IsSome, slice_get};
+ghost use Rattle.std.specs.Prelude.{ℕ, ◌≡◌, ◌≢◌, ◌+◌, ◌*◌, ◌%◌, ◌<◌, ◌≤◌, ◌^◌, [], ◌∷◌, Some, IfSome, IsSome, is_some, nat_lt, slice_get};
 ghost use Rattle.link_order.specs.NodeKind.{kind_of};
 ghost use Rattle.link_node.specs.Due.{FitsWidths};
 ghost use Rattle.link_script.specs.Script.{told};
@@ -60,9 +60,12 @@ impl<N: Node> Shared<N> {
         }
     }
 
-    /// The clock in a player's word, with no seat. It serves to wait and promises nothing: what a lane may rest on, `look`
-    /// tells. None where there is no such player at any table.
-    pub fn clock_of(&self, player: u32) -> Option<u64> {
+    /// The clock in a player's word, in cycles, with no seat. It serves to wait, and promises nothing of the player's lane:
+    /// what a lane may rest on, `look` tells. None where there is no such player at any table.
+    pub fn clock_of(&self, player: u32) -> Option<u64>
+        ensures player { is_some result ≡ nat_lt player 4 }
+        ensures clock { IfSome result (λ clock. clock < 2 ^ 40) }
+    {
         if player < 4 {
             Some(self.table.shared.peek(clock_place(player)) % (1 << 40))
         } else {

@@ -1,7 +1,7 @@
 use Rattle.std.proofs.Common.{◌*◌, ◌∙◌, slice_index, arith}
 use Rattle.gba_terms.specs.Bits.{field}
 use Rattle.gba_ppu_text.specs.Text.{mirrored}
-use Rattle.gba_ppu_text.proofs.Paints.{place_kept, place_more}
+use Rattle.gba_ppu_dot.proofs.Lists.{place_kept, place_more}
 use Rattle.gba_ppu_text.proofs.paint.paint_nibbles.Goals as goal
 
 pub loop-column-preserved : goal.loop-column-preserved

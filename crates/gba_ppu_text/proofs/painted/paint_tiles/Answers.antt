@@ -1,7 +1,7 @@
 use Rattle.std.proofs.Common.{◌+◌, ◌*◌, ◌/◌, ◌∙◌, ap}
 use Rattle.gba_ppu_dot.specs.Paints.{paint_of}
 use Rattle.gba_ppu_text.specs.Text.{is_wide, map_dot, on_map}
-use Rattle.gba_ppu_text.proofs.Paints.{eight_paints}
+use Rattle.gba_ppu_dot.proofs.Lists.{eight_paints}
 use Rattle.gba_ppu_text.proofs.Tiles.{drawn_here}
 use Rattle.gba_ppu_text.proofs.painted.paint_tiles.Goals as goal
 
