@@ -15,7 +15,7 @@ use std::{hint, thread};
 const POLLS: u32 = 1;
 
 /// How often it looks at the clock of the one that it waits for.
-const LOOKS: u32 = 64;
+const LOOKS: u32 = 1024;
 
 /// How many of these looks come before it lets other threads go first.
 const SPINS: u32 = 16;
