@@ -1,20 +1,20 @@
 -- A console that is alone on its cable: its own run is the global order's.
-use Rattle.std.proofs.Common.{◌≡◌, ◌≤◌, ◌<◌, ◌+◌, ℕ, zero, suc, Bool, true, false, List, [], ◌∷◌, ◌∙◌, length, map, get_or, refl, sym, ap, arith, if◌then◌else◌}
+use Rattle.std.proofs.Common.{◌≡◌, ◌≤◌, ◌+◌, ℕ, zero, suc, Bool, true, false, List, [], ◌∷◌, ◌∙◌, length, get_or, refl, sym, ap, arith, if◌then◌else◌}
 use Rattle.std.specs.List.{All}
-use Rattle.std.specs.Prelude.{IfSome, Option, Some, None, filter, nat_lt, slice_set}
+use Rattle.std.specs.Prelude.{Option, Some, None, filter, nat_lt, slice_set}
 use Rattle.link_node.specs.declared.signal.Signal.{Signal}
 use Rattle.link_order.proofs.Lists.{all_head, all_map, all_nil, all_tail}
 use Rattle.link_order.proofs.Sound.{joined_all}
-use Rattle.link_order.specs.Cut.{Cut, IsCable, IsSound, IsSoundSignal, is_live, live}
+use Rattle.link_order.specs.Cut.{IsCable, IsSound, IsSoundSignal, is_live, live}
 use Rattle.link_order.specs.GlobalOrder.{after_turns, cycles_left, trace_of, with_signal}
 use Rattle.link_order.specs.declared.sent.Sent.{Sent}
 use Rattle.gba_console.proofs.Alone.{turns, turns-end, turns-go}
 use Rattle.gba_console.proofs.Unlimited.{stepped-unlimited}
-use Rattle.gba_console.specs.Alone.{alone}
+use Rattle.gba_console.specs.Alone.{alone, console_kind}
 use Rattle.gba_console.specs.Machine.{Machine, clock_of, without_limit}
 use Rattle.gba_console.specs.Run.{IsEnough, StepPasses, run, run_to}
 use Rattle.gba_console.specs.Step.{next, told}
-use Rattle.gba_session.specs.Start.{console_kind, run_until}
+use Rattle.gba_session.specs.Start.{run_until}
 
 -- how far a console may run is no part of its run
 by-test : (test : Bool) (x y m : Machine) → x ≡ without_limit y

@@ -6,7 +6,7 @@ use Rattle.link_order.proofs.Lists.{all_cons, all_head, all_nil, all_tail}
 use Rattle.link_order.proofs.Starts.{sound_start}
 use Rattle.link_order.specs.Cut.{IsCable, IsFresh, IsSound, hop_of, opening, plain_cut}
 use Rattle.gba_joblog.specs.Soundness.{IsJob}
-use Rattle.gba_session.specs.Start.{console_kind}
+use Rattle.gba_console.specs.Alone.{console_kind}
 use Rattle.gba_console.specs.Machine.{Machine, limit_of, without_limit}
 use Rattle.gba_image.specs.declared.images.ConsoleImages.{ConsoleImages}
 use Rattle.gba_joblog.specs.Draft.{silent_console}

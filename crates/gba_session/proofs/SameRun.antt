@@ -13,7 +13,8 @@ use Rattle.gba_image.specs.declared.images.ConsoleImages.{ConsoleImages}
 use Rattle.gba_joblog.specs.Job.{ConsoleJob, WholeJob}
 use Rattle.gba_session.proofs.Consoles.{consoles-length, files-long}
 use Rattle.gba_session.specs.Files.{all_files, asks_of}
-use Rattle.gba_session.specs.Start.{console_at, console_kind, consoles_from, end_of, run_until, start_of}
+use Rattle.gba_console.specs.Alone.{console_kind}
+use Rattle.gba_session.specs.Start.{console_at, consoles_from, end_of, run_until, start_of}
 use Rattle.gba_session.specs.declared.files.Asks.{Asks}
 
 -- consoles that run alike over the same images: what they state of digests and the numbers of their lines may differ

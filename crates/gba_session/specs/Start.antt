@@ -1,6 +1,6 @@
 use Rattle.std.specs.Prelude.{ℕ, ◌+◌, List, [], ◌∷◌, length, map}
-use Rattle.gba_console.specs.Machine.{Machine, clock_of, reset, without_limit}
-use Rattle.gba_console.specs.Step.{node_next}
+use Rattle.gba_console.specs.Alone.{console_kind}
+use Rattle.gba_console.specs.Machine.{Machine, reset, without_limit}
 use Rattle.gba_console.specs.declared.keys.KeyState.{KeyState}
 use Rattle.gba_image.specs.declared.images.ConsoleImages.{ConsoleImages}
 use Rattle.gba_io.specs.declared.made.Room.{Room}
@@ -10,17 +10,9 @@ use Rattle.gba_joblog.specs.declared.job.KeyChange.{KeyChange}
 use Rattle.gba_joblog.specs.declared.job.OutKind.TheVariants.{Frames, Samples, Words}
 use Rattle.link_order.specs.Cut.{Cut, live, opening}
 use Rattle.link_order.specs.GlobalOrder.{run}
-use Rattle.link_order.specs.NodeKind.{NodeKind, kind_of}
 
 -- The consoles of a job at reset, and where they are once the job's cycles are over. The changes of their keys stand in
 -- the job, those of key files too.
-
--- a console as the cable sees it
-abbrev pub was_of : Machine → ℕ
-was_of m = m.was
-
-abbrev pub console_kind : NodeKind Machine
-console_kind = kind_of clock_of was_of node_next
 
 -- the changes of a console's keys
 abbrev pub key_state : KeyChange → KeyState

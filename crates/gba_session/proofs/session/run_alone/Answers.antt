@@ -1,10 +1,10 @@
 use Rattle.std.proofs.Common.{◌≡◌, ℕ, List, [], ◌∷◌, ◌∙◌, length, map, slice_set, ap, sym, subst, arith}
-use Rattle.gba_console.specs.Alone.{alone}
+use Rattle.gba_console.specs.Alone.{alone, console_kind}
 use Rattle.gba_console.specs.Machine.{Machine, without_limit}
 use Rattle.gba_console.specs.Run.{run_to}
 use Rattle.gba_session.proofs.Alone.{IsClose, alone-runs, alone-sound, close-run, one-is, set-one, sound-close, sound-own}
 use Rattle.gba_session.proofs.session.run_alone.Goals as goal
-use Rattle.gba_session.specs.Start.{console_kind, run_until}
+use Rattle.gba_session.specs.Start.{run_until}
 use Rattle.link_order.specs.Cut.{Cut, IsSound}
 use Rattle.link_order.specs.declared.sent.Sent.{Sent}
 

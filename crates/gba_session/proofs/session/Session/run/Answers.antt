@@ -1,4 +1,4 @@
-use Rattle.std.proofs.Common.{◌≡◌, ℕ, List, map, subst, sym, arith}
+use Rattle.std.proofs.Common.{◌≡◌, ℕ, List, subst, sym, arith}
 use Rattle.std.specs.List.{All}
 use Rattle.gba_session.proofs.Limits.{same-length}
 use Rattle.gba_session.proofs.session.Session.run.Goals as goal
