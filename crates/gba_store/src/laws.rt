@@ -6,6 +6,7 @@ ghost use Rattle.gba_store.specs.Memory.{Memory};
 
 use crate::outside::Store;
 use crate::system::FileStore;
+use std::fs::File;
 use std::rt::Files;
 
 /// What a store in memory says of its reads fixes its counts.
@@ -14,7 +15,7 @@ pub fn memory_counts_exactly()
 {}
 
 /// And so does what the real store says of its reads.
-pub fn real_files_count_exactly<R: Files + Drop>()
+pub fn real_files_count_exactly<R: Files<File = File> + Drop>()
     ensures { CountsExactly ⟦<FileStore<R> as Store>⟧.Reads
         ⟦<FileStore<R> as Store>⟧.absences ⟦<FileStore<R> as Store>⟧.faults }
 {}

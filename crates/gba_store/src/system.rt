@@ -1,4 +1,7 @@
 //! The real store and sink: the files of the current folder, and standard output. They tell nothing of content.
+//!
+//! What was read is held by a shared lock of the system as long as the store is there, and what is made empty by a lock of
+//! its own as long as the sink is: so no file that was read is emptied, whatever name leads to it.
 
 ghost use Rattle.std.specs.Prelude.{◌≡◌, ◌≤◌, Some, None};
 ghost use Rattle.std.specs.Result.{result_err};
@@ -6,42 +9,65 @@ ghost use Rattle.gba_store.specs.Counts.{absences_after, read_faults_after, writ
 
 use crate::outside::{ReadError, Sink, Store, WriteError};
 use std::alloc::Global;
-use std::fs::{File, OpenOptions};
+use std::fs::{File, OpenOptions, TryLockError};
 use std::io::{self, ErrorKind, Read, Write};
 use std::rt::Files;
 
 /// Reads the files of the current folder. It counts each fault and each absence from 0, up to the last value of a u64.
-/// It says of a read only what that counts.
+/// It says of a read only what that counts. It keeps a lock on each file that it has read, which others may share: who
+/// would make that file empty finds it held, under whatever name.
 #[derive(Drop)]
-pub struct FileStore<R: Files + Drop> {
+pub struct FileStore<R: Files<File = File> + Drop> {
     runtime: R,
+    held: Vec<File>,
     faults: u64,
     absences: u64,
 }
 
-impl<R: Files + Drop> FileStore<R> {
-    /// A store with no fault and no absence yet.
-    pub fn new(runtime: R) -> FileStore<R>
+impl<R: Files<File = File> + Drop> FileStore<R> {
+    /// A store with no fault and no absence yet, which keeps its locks in memory of this allocator.
+    pub fn new(runtime: R, alloc: Global) -> FileStore<R>
         ensures no_fault { ⟦<FileStore<R> as Store>⟧.faults result ≡ 0 }
         ensures no_absence { ⟦<FileStore<R> as Store>⟧.absences result ≡ 0 }
     {
         FileStore {
             runtime,
+            held: Vec::new(alloc),
             faults: 0,
             absences: 0,
         }
     }
 }
 
-fn read_front<R: Files>(runtime: &R, alloc: Global, name: &str, most: u64) -> io::Result<Vec<u8>> {
+/// Whether a lock was refused because somebody else has one. Where the file system knows no locks, nobody has.
+fn is_held_by_another(locked: Result<(), TryLockError>) -> bool {
+    matches!(&locked, Err(TryLockError::WouldBlock))
+}
+
+/// Whether a file is one that a lock protects: not a terminal, a pipe or another device.
+fn is_on_disk(file: &File) -> io::Result<bool> {
+    Ok(file.metadata()?.is_file())
+}
+
+/// The front of a file, which is held from then on. One that is being written is refused.
+fn read_and_hold<R: Files<File = File>>(
+    runtime: &R,
+    alloc: Global,
+    held: &mut Vec<File>,
+    name: &str,
+    most: u64,
+) -> io::Result<Vec<u8>> {
+    let mut file = File::open(runtime, name)?;
+    if is_on_disk(&file)? && is_held_by_another(file.try_lock_shared()) {
+        return Err(io::Error::from(ErrorKind::WouldBlock));
+    }
     let mut bytes = Vec::new(alloc);
-    File::open(runtime, name)?
-        .take(most)
-        .read_to_end(&mut bytes)?;
+    Read::by_ref(&mut file).take(most).read_to_end(&mut bytes)?;
+    held.push(file)?;
     Ok(bytes)
 }
 
-impl<R: Files + Drop> Store for FileStore<R> {
+impl<R: Files<File = File> + Drop> Store for FileStore<R> {
     ghost Tells = { ⊥ };
 
     ghost files = { λ _ _. None };
@@ -53,14 +79,16 @@ impl<R: Files + Drop> Store for FileStore<R> {
     ghost Reads = { λ _ _ refusal old new.
         (new.absences ≡ absences_after refusal old.absences) × (new.faults ≡ read_faults_after refusal old.faults) };
 
-    /// A file that the system doesn't find is absent. Every other refusal but want of memory is a fault.
+    /// A file that the system doesn't find is absent. Every other refusal but want of memory is a fault, and so is a file
+    /// that a sink has made empty and still holds.
     fn read(&mut self, alloc: Global, name: &str, most: u64) -> Result<Vec<u8>, ReadError>
         ensures counts { (self.new.absences ≡ absences_after (result_err result) self.old.absences)
             × (self.new.faults ≡ read_faults_after (result_err result) self.old.faults) }
         ensures later_absences { self.old.absences ≤ self.new.absences }
         ensures later_faults { self.old.faults ≤ self.new.faults }
     {
-        let error = match read_front(&self.runtime, alloc, name, most) {
+        let read = read_and_hold(&self.runtime, alloc, &mut self.held, name, most);
+        let error = match read {
             Ok(bytes) => return Ok(bytes),
             Err(error) => error,
         };
@@ -79,22 +107,25 @@ impl<R: Files + Drop> Store for FileStore<R> {
 }
 
 /// Writes the files of the current folder, and standard output under the name `-`. It counts each fault and each want
-/// of memory from 0, up to the last value of a u64.
+/// of memory from 0, up to the last value of a u64. It keeps a lock on each file that it has made empty, so that no other
+/// run writes it meanwhile.
 #[derive(Drop)]
-pub struct StdSink<R: Files + Print + Drop> {
+pub struct StdSink<R: Files<File = File> + Print + Drop> {
     runtime: R,
+    held: Vec<File>,
     faults: u64,
     wants: u64,
 }
 
-impl<R: Files + Print + Drop> StdSink<R> {
-    /// A sink with no fault and no want yet.
-    pub fn new(runtime: R) -> StdSink<R>
+impl<R: Files<File = File> + Print + Drop> StdSink<R> {
+    /// A sink with no fault and no want yet, which keeps its locks in memory of this allocator.
+    pub fn new(runtime: R, alloc: Global) -> StdSink<R>
         ensures no_fault { ⟦<StdSink<R> as Sink>⟧.faults result ≡ 0 }
         ensures no_want { ⟦<StdSink<R> as Sink>⟧.wants result ≡ 0 }
     {
         StdSink {
             runtime,
+            held: Vec::new(alloc),
             faults: 0,
             wants: 0,
         }
@@ -117,8 +148,25 @@ impl<R: Files + Print + Drop> StdSink<R> {
     }
 }
 
-fn make_empty<R: Files>(runtime: &R, name: &str) -> io::Result<()> {
-    let _file = File::create(runtime, name)?;
+/// Makes a file empty and holds it. One that somebody has read and holds, or that another run writes, is refused, and
+/// stays as it is.
+fn empty_and_hold<R: Files<File = File>>(
+    runtime: &R,
+    held: &mut Vec<File>,
+    name: &str,
+) -> io::Result<()> {
+    let file = OpenOptions::new()
+        .append(true)
+        .create(true)
+        .open(runtime, name)?;
+    if !is_on_disk(&file)? {
+        return Ok(());
+    }
+    if is_held_by_another(file.try_lock()) {
+        return Err(io::Error::from(ErrorKind::WouldBlock));
+    }
+    file.set_len(0)?;
+    held.push(file)?;
     Ok(())
 }
 
@@ -137,7 +185,7 @@ fn print_bytes<R: Print>(runtime: &R, bytes: &[u8]) -> io::Result<()> {
     output.flush()
 }
 
-impl<R: Files + Print + Drop> Sink for StdSink<R> {
+impl<R: Files<File = File> + Print + Drop> Sink for StdSink<R> {
     ghost Tells = { ⊥ };
 
     ghost files = { λ _ _. None };
@@ -146,7 +194,8 @@ impl<R: Files + Print + Drop> Sink for StdSink<R> {
 
     ghost wants = { λ sink. sink.wants };
 
-    /// Standard output can't be made empty: `create` of `-` is a fault.
+    /// Standard output can't be made empty: `create` of `-` is a fault, and so is one of a file that is held, by this run
+    /// or another.
     fn create(&mut self, name: &str) -> Result<(), WriteError>
         ensures faults { self.new.faults ≡ write_faults_after (result_err result) self.old.faults }
         ensures wants { self.new.wants ≡ wants_after (result_err result) self.old.wants }
@@ -157,7 +206,7 @@ impl<R: Files + Print + Drop> Sink for StdSink<R> {
             self.faults = self.faults.saturating_add(1);
             return Err(WriteError::Failed);
         }
-        match make_empty(&self.runtime, name) {
+        match empty_and_hold(&self.runtime, &mut self.held, name) {
             Ok(()) => Ok(()),
             Err(error) => Err(self.refusal(&error)),
         }

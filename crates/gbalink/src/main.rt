@@ -31,8 +31,8 @@ fn main(rt: HostRuntime) -> ExitCode {
     let Ok(words) = args.collect::<Vec<String>>(rt.alloc()) else {
         return ExitCode::from(NO_MEMORY);
     };
-    let mut store = FileStore::new(rt);
-    let mut out = StdSink::new(rt);
+    let mut store = FileStore::new(rt, rt.alloc());
+    let mut out = StdSink::new(rt, rt.alloc());
     ExitCode::from(gba_link(
         &rt,
         rt.alloc(),
