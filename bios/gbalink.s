@@ -1,0 +1,545 @@
+; A BIOS of this project's own. It starts a cartridge, calls the handler of interrupts, and has the functions that a
+; program calls by SWI, as GBATEK's section "BIOS Functions" describes them. docs/PROFILE.md says what it leaves out.
+;
+; A function is called with its number in the byte at lr - 2, in ARM and Thumb state. It gets its parameters in r0 to
+; r3, gives results in r0, r1 and r3, and keeps all other registers, the flags, the mode and the state. It runs in system
+; mode on the caller's stack, with the caller's I and F bits, so that interrupts are taken within it. The routines below
+; are free to change r0 to r3, r11 and r12, since the caller's r2, r11 and r12 are put back for them; what else they
+; change they keep on the stack. 'Cycles' are those of a whole call from code that costs one cycle a word, and what
+; the addresses given by the caller cost comes on top where it is said.
+;
+; Some addresses: the halfword 03007ff8 has the flags of interrupts that handlers have seen, for IntrWait; the byte
+; 03007ffa tells SoftReset where to go; the word 03007ffc is the handler. They are reached below 04000000, where the
+; inner RAM is seen again.
+
+; ---------------------------------------------------------------------------------------------------------------------
+; Vectors
+
+        b     start
+        b     undefined
+        b     call_entry
+        b     other_exception        ; prefetch abort
+        b     other_exception        ; data abort
+        b     other_exception        ; not used
+        b     interrupt
+        b     other_exception        ; fast interrupt
+
+; An undefined instruction is passed over.
+undefined:
+        movs  pc, lr
+
+; The other exceptions don't come on this console.
+other_exception:
+        subs  pc, lr, #4
+
+; The entry of an interrupt: keeps what a called routine may change, calls the handler with r0 = 04000000 in interrupt
+; mode with interrupts off, and goes on where the interrupt came. 24 bytes of the interrupt's stack. 20 cycles to
+; the handler, 14 back.
+interrupt:
+        stmdb sp!, {r0-r3, r12, lr}
+        mov   r0, #0x04000000
+        mov   lr, pc                 ; behind the next instruction
+        ldr   pc, [r0, #-4]
+        ldmia sp!, {r0-r3, r12, lr}
+        subs  pc, lr, #4
+
+; ---------------------------------------------------------------------------------------------------------------------
+; Calls
+
+; The entry of a call: 16 bytes of the supervisor's stack and 8 of the caller's. A number above 2a returns. 41 cycles
+; to the function where the stacks are in the inner RAM, and 19 back.
+call_entry:
+        stmdb sp!, {r11, r12, lr}
+        mrs   r11, spsr
+        stmdb sp!, {r11}             ; a call from a handler of interrupts makes it anew
+        ldrb  r12, [lr, #-2]         ; the number
+        and   r11, r11, #0xc0        ; the caller's I and F
+        orr   r11, r11, #0x1f        ; system mode
+        msr   cpsr_c, r11
+        stmdb sp!, {r2, lr}
+        cmp   r12, #0x2a
+        ldrls r11, call_table_place
+        mov   lr, pc                 ; call_end
+        ldrls pc, [r11, r12, lsl #2]
+call_end:
+        ldmia sp!, {r2, lr}
+        msr   cpsr_c, #0xd3          ; the supervisor's mode, masked: an interrupt's call would change its SPSR
+        ldmia sp!, {r11}
+        msr   spsr_fsxc, r11
+        ldmia sp!, {r11, r12, lr}
+        movs  pc, lr
+
+call_table_place:
+        .word call_table
+call_table:
+        .word soft_reset, register_ram_reset, halt, halt                     ; 00 to 03
+        .word interrupt_wait, vblank_wait, divide, divide_swapped            ; 04 to 07
+        .word square_root, arc_tangent, arc_tangent_2, copy_units            ; 08 to 0b
+        .word copy_blocks, bios_checksum, background_affine, sprite_affine   ; 0c to 0f
+        .word unpack_bits, unpack_lz77_bytes, unpack_lz77_halves             ; 10 to 12
+        .word unpack_huffman, unpack_runs_bytes, unpack_runs_halves          ; 13 to 15
+        .word unfilter_bytes, unfilter_bytes_halves, unfilter_halves         ; 16 to 18
+        .word sound_bias, nothing, nothing, nothing                          ; 19 to 1c
+        .word nothing, nothing, key_to_frequency, nothing                    ; 1d to 20
+        .word nothing, nothing, nothing, nothing                             ; 21 to 24
+        .word multi_boot, hard_reset, custom_halt, nothing                   ; 25 to 28
+        .word nothing, nothing                                               ; 29 and 2a
+
+; The sound driver's functions: return, with all registers kept.
+nothing:
+        mov   pc, lr
+
+; 25 MultiBoot: r0 becomes 1, the answer for a failure.
+multi_boot:
+        mov   r0, #1
+        mov   pc, lr
+
+; ---------------------------------------------------------------------------------------------------------------------
+; Start and resets
+
+; 26 HardReset: all memories and registers as after a start, and then a start. Doesn't return.
+hard_reset:
+        msr   cpsr_c, #0xdf          ; system mode, masked: the handler is cleared too
+        ldr   sp, system_stack       ; in what isn't cleared
+        mov   r0, #0xff
+        bl    register_ram_reset
+
+; The start, also at reset: gives some I/O registers their values, and goes to the cartridge at 08000000, or halts where
+; there is none: each cartridge has the byte 96 at b2. Some 500 cycles.
+start:
+        msr   cpsr_c, #0xd3          ; the supervisor's mode, interrupts off
+        mov   r12, #0x04000000
+        add   r11, r12, #0x100
+        mov   r0, #1
+        strb  r0, [r12, #0x300]      ; POSTFLG
+        mov   r0, #0x80
+        strh  r0, [r12]              ; DISPCNT: a blank picture
+        mov   r0, #0x8000
+        strh  r0, [r11, #0x34]       ; RCNT
+        mov   r0, #0x200
+        strh  r0, [r12, #0x88]       ; SOUNDBIAS
+        mov   r0, #0x100
+        strh  r0, [r12, #0x20]       ; the scales of the affine backgrounds: PA and PD of 2 and 3
+        strh  r0, [r12, #0x26]
+        strh  r0, [r12, #0x30]
+        strh  r0, [r12, #0x36]
+        mov   r4, #0                 ; to the cartridge
+        mov   r0, #0x08000000
+        ldrb  r0, [r0, #0xb2]
+        teq   r0, #0x96
+        beq   reset_to
+        mov   r0, #0
+        add   r11, r12, #0x200
+        strh  r0, [r11]              ; IE: nothing ends the halt
+no_cartridge:
+        strb  r0, [r12, #0x301]
+        b     no_cartridge
+
+; 00 SoftReset: goes to 08000000, or to 02000000 where the byte 03007ffa isn't 0. IME becomes 0; 03007e00 to 03007fff, r0
+; to r12, the lr and the SPSR of all modes become 0; the stacks of supervisor, interrupt and system begin anew; system
+; mode, interrupts not masked. Some 450 cycles.
+soft_reset:
+        mov   r12, #0x04000000
+        ldrb  r4, [r12, #-6]
+reset_to:
+        msr   cpsr_c, #0xd3
+        mov   r0, #0
+        add   r11, r12, #0x200
+        strh  r0, [r11, #8]          ; IME
+        mov   r1, #0
+        mov   r2, #0
+        mov   r3, #0
+        mov   r11, #0x03000000
+        add   r11, r11, #0x7e00
+        mov   r12, #32
+reset_stacks:
+        stmia r11!, {r0-r3}
+        subs  r12, r12, #1
+        bne   reset_stacks
+        msr   cpsr_c, #0xd1          ; fast interrupt
+        mov   lr, #0
+        msr   spsr_fsxc, r0
+        msr   cpsr_c, #0xd7          ; abort
+        mov   lr, #0
+        msr   spsr_fsxc, r0
+        msr   cpsr_c, #0xdb          ; undefined
+        mov   lr, #0
+        msr   spsr_fsxc, r0
+        msr   cpsr_c, #0xd3          ; supervisor
+        ldr   sp, supervisor_stack
+        mov   lr, #0
+        msr   spsr_fsxc, r0
+        msr   cpsr_c, #0xd2          ; interrupt
+        ldr   sp, interrupt_stack
+        mov   lr, #0
+        msr   spsr_fsxc, r0
+        msr   cpsr_c, #0x1f          ; system
+        ldr   sp, system_stack
+        mov   lr, #0
+        cmp   r4, #0
+        mov   r4, #0
+        mov   r5, #0
+        mov   r6, #0
+        mov   r7, #0
+        mov   r8, #0
+        mov   r9, #0
+        mov   r10, #0
+        mov   r11, #0
+        mov   r12, #0
+        bne   reset_to_ram
+        msr   cpsr_f, #0
+        mov   pc, #0x08000000
+reset_to_ram:
+        msr   cpsr_f, #0
+        mov   pc, #0x02000000
+
+supervisor_stack:
+        .word 0x03007fe0
+interrupt_stack:
+        .word 0x03007fa0
+system_stack:
+        .word 0x03007f00
+
+; 01 RegisterRamReset: r0 says by its bits what becomes as after a start: 0 the work RAM, 1 the inner RAM but for its last
+; 200h bytes, 2 the palette, 3 VRAM, 4 OAM, 5 the serial registers, 6 those of sound, 7 all others, IME among them. The
+; picture becomes blank in any case. Memories take at most twice the cycles of their writes, registers some 900 in all.
+register_ram_reset:
+        stmdb sp!, {r4-r8, lr}
+        mov   r12, #0x04000000
+        mov   r3, #0x80
+        strh  r3, [r12]              ; DISPCNT
+        mov   r3, #0
+        mov   r4, #0
+        mov   r5, #0
+        mov   r6, #0
+        mov   r7, #0
+        mov   r8, #0
+        mov   r11, #0
+        mov   r12, #0
+        tst   r0, #0x01
+        movne r1, #0x02000000
+        movne r2, #0x40000
+        blne  clear_memory
+        tst   r0, #0x02
+        movne r1, #0x03000000
+        movne r2, #0x7e00
+        blne  clear_memory
+        tst   r0, #0x04
+        movne r1, #0x05000000
+        movne r2, #0x400
+        blne  clear_memory
+        tst   r0, #0x08
+        movne r1, #0x06000000
+        movne r2, #0x18000
+        blne  clear_memory
+        tst   r0, #0x10
+        movne r1, #0x07000000
+        movne r2, #0x400
+        blne  clear_memory
+        mov   r12, #0x04000000
+        add   r4, r12, #0x100        ; the registers from 100h and from 200h
+        add   r5, r12, #0x200
+        tst   r0, #0x20
+        blne  reset_serial
+        tst   r0, #0x40
+        blne  reset_sound
+        tst   r0, #0x80
+        blne  reset_others
+        ldmia sp!, {r4-r8, pc}
+
+; Clears r2 bytes, a multiple of 32 but not 0, from r1 on: r3 to r8, r11 and r12 are 0. 13 cycles and what eight writes cost
+; above 1 each for 32 bytes.
+clear_memory:
+        stmia r1!, {r3-r8, r11, r12}
+        subs  r2, r2, #32
+        bne   clear_memory
+        mov   pc, lr
+
+; Clears r2 halfwords of the registers from r1 on: r3 is 0. 7 cycles each.
+clear_registers:
+        strh  r3, [r1], #2
+        subs  r2, r2, #1
+        bne   clear_registers
+        mov   pc, lr
+
+; The three parts of the registers. r12, r4 and r5 are 04000000, 04000100 and 04000200, and r3 is 0.
+reset_serial:
+        mov   r6, lr
+        add   r1, r4, #0x20          ; the words, SIOCNT and the word to send
+        mov   r2, #6
+        bl    clear_registers
+        strh  r3, [r4, #0x40]        ; JOYCNT
+        add   r1, r4, #0x50          ; the words of the JOY bus, and its state
+        mov   r2, #5
+        bl    clear_registers
+        mov   r1, #0x8000
+        strh  r1, [r4, #0x34]        ; RCNT
+        mov   pc, r6
+
+reset_sound:
+        mov   r6, lr
+        add   r1, r12, #0x90         ; the wave
+        mov   r2, #8
+        bl    clear_registers
+        add   r1, r12, #0x60         ; the tones
+        mov   r2, #17
+        bl    clear_registers
+        mov   r1, #0x8800
+        strh  r1, [r12, #0x82]       ; the queues become empty
+        strh  r3, [r12, #0x82]
+        strh  r3, [r12, #0x84]
+        mov   r1, #0x200
+        strh  r1, [r12, #0x88]       ; SOUNDBIAS
+        mov   pc, r6
+
+reset_others:
+        mov   r6, lr
+        strh  r3, [r5, #8]           ; IME
+        strh  r3, [r5]               ; IE
+        add   r1, r12, #0x04         ; the picture
+        mov   r2, #41
+        bl    clear_registers
+        mov   r1, #0x100
+        strh  r1, [r12, #0x20]       ; the scales of the affine backgrounds
+        strh  r1, [r12, #0x26]
+        strh  r1, [r12, #0x30]
+        strh  r1, [r12, #0x36]
+        add   r1, r12, #0xb0         ; DMA
+        mov   r2, #24
+        bl    clear_registers
+        mov   r1, r4                 ; the timers
+        mov   r2, #8
+        bl    clear_registers
+        strh  r3, [r4, #0x32]        ; KEYCNT
+        mvn   r1, #0
+        strh  r1, [r5, #2]           ; IF
+        strh  r3, [r5, #4]           ; WAITCNT
+        mov   pc, r6
+
+; ---------------------------------------------------------------------------------------------------------------------
+; Halts
+
+; 02 Halt and 03 Stop: wait until an interrupt is requested that IE has, also where interrupts are off. 4 cycles and the
+; halt.
+halt:
+        mov   r12, #0x04000000
+        mov   r11, #0
+        strb  r11, [r12, #0x301]
+        mov   pc, lr
+
+; 27 CustomHalt: the same with r2 as the number that is written.
+custom_halt:
+        mov   r12, #0x04000000
+        strb  r2, [r12, #0x301]
+        mov   pc, lr
+
+; 05 VBlankIntrWait: waits for a new interrupt of VBlank.
+vblank_wait:
+        mov   r0, #1
+        mov   r1, #1
+
+; 04 IntrWait: waits until a handler has put one of the interrupts r1 into the halfword 03007ff8. Where r0 isn't 0, those
+; that are there before are taken away first. IME becomes 1; those of r1 that came are taken away, and no others. The
+; flags are looked at with IME 0, and the halt comes before it is 1 again, so that no interrupt can come between, be
+; handled and be waited for in vain. 23 cycles for an old flag; else 23 and, for each interrupt that comes, its
+; handler and 21.
+interrupt_wait:
+        mov   r12, #0x04000000
+        add   r2, r12, #0x200
+interrupt_look:
+        mov   r3, #0
+        strh  r3, [r2, #8]           ; IME
+        ldrh  r11, [r12, #-8]
+        bic   r3, r11, r1
+        strh  r3, [r12, #-8]
+        cmp   r0, #0                 ; whether these are old flags
+        movne r11, #0
+        mov   r0, #0
+        mov   r3, #1
+        tst   r11, r1
+        streqb r0, [r12, #0x301]
+        strh  r3, [r2, #8]           ; the handler is called behind this
+        beq   interrupt_look
+        mov   pc, lr
+
+; ---------------------------------------------------------------------------------------------------------------------
+; Arithmetic
+
+; 07 DivArm: Div with r0 and r1 the other way round.
+divide_swapped:
+        mov   r3, r0
+        mov   r0, r1
+        mov   r1, r3
+
+; 06 Div: r0 becomes the signed quotient r0 / r1, cut towards 0, r1 the remainder, which has the numerator's sign, and r3
+; the quotient without its sign. A denominator of 0 gives 1, or -1 for a numerator below 0, with the numerator as the
+; remainder and r3 = 1. At most 217 cycles.
+divide:
+        cmp   r1, #0
+        beq   divide_by_zero
+        stmdb sp!, {r4, lr}
+        mov   r3, r0                 ; the remainder's sign
+        eor   r4, r0, r1             ; the quotient's sign
+        cmp   r0, #0
+        rsblt r0, r0, #0
+        cmp   r1, #0
+        rsblt r1, r1, #0
+        bl    divide_unsigned
+        cmp   r3, #0
+        rsblt r1, r1, #0
+        mov   r3, r0
+        cmp   r4, #0
+        rsblt r0, r0, #0
+        ldmia sp!, {r4, pc}
+divide_by_zero:
+        mov   r1, r0
+        mov   r3, #1
+        mov   r0, r0, asr #31
+        orr   r0, r0, #1
+        mov   pc, lr
+
+; r0 becomes r0 / r1 and r1 the remainder, all unsigned and r1 from 1 to 80000000h; r2, r11 and r12 are changed. Each bit
+; of the quotient takes three steps: twice the remainder and the numerator's next bit, minus the denominator, which is
+; added again where there was a borrow; the carry is the quotient's bit, and goes into r0 behind the numerator. 128
+; cycles.
+divide_unsigned:
+        rsb   r2, r1, #0             ; the denominator's negative
+        mov   r1, #0                 ; the remainder
+        mov   r11, #4                ; times eight bits
+        adds  r0, r0, r0
+divide_bits:
+        adcs  r1, r2, r1, lsl #1
+        subcc r1, r1, r2
+        adcs  r0, r0, r0
+        adcs  r1, r2, r1, lsl #1
+        subcc r1, r1, r2
+        adcs  r0, r0, r0
+        adcs  r1, r2, r1, lsl #1
+        subcc r1, r1, r2
+        adcs  r0, r0, r0
+        adcs  r1, r2, r1, lsl #1
+        subcc r1, r1, r2
+        adcs  r0, r0, r0
+        adcs  r1, r2, r1, lsl #1
+        subcc r1, r1, r2
+        adcs  r0, r0, r0
+        adcs  r1, r2, r1, lsl #1
+        subcc r1, r1, r2
+        adcs  r0, r0, r0
+        adcs  r1, r2, r1, lsl #1
+        subcc r1, r1, r2
+        adcs  r0, r0, r0
+        adcs  r1, r2, r1, lsl #1
+        subcc r1, r1, r2
+        adcs  r0, r0, r0
+        sub   r11, r11, #1
+        teq   r11, #0                ; keeps the carry
+        bne   divide_bits
+        mov   pc, lr
+
+; 08 Sqrt: r0 becomes the root of r0, unsigned and rounded down. At most 209 cycles.
+square_root:
+        mov   r2, r0                 ; what is left of the square
+        mov   r0, #0
+        mov   r11, #0x40000000
+square_root_bit:
+        add   r12, r0, r11
+        cmp   r2, r12
+        subcs r2, r2, r12
+        mov   r0, r0, lsr #1
+        addcs r0, r0, r11
+        movs  r11, r11, lsr #2
+        bne   square_root_bit
+        mov   pc, lr
+
+; 09 ArcTan: r0 becomes the angle whose tangent is its low halfword, signed with 14 bits behind the point: -4000h to 4000h
+; for a quarter of a turn each way, a signed halfword extended, to the nearest within one. At most 78 cycles.
+arc_tangent:
+        mov   r0, r0, lsl #16
+        mov   r3, r0, asr #31        ; the sign
+        mov   r0, r0, asr #14
+        eor   r0, r0, r3
+        sub   r0, r0, r3             ; without it, with 16 bits behind the point
+
+; The same of r0 with 16 bits behind the point, 0 to 20000h, and with the sign of r3, 0 or -1. The table has the angles of
+; each 128th, and between them the line is taken. r1, r2 and r12 are changed.
+arc_tangent_line:
+        ldr   r12, arc_tangent_place
+        mov   r2, r0, lsr #9
+        add   r12, r12, r2, lsl #1
+        sub   r2, r0, r2, lsl #9     ; the place on the line, of 512
+        ldrh  r0, [r12]
+        ldrh  r12, [r12, #2]
+        sub   r12, r12, r0
+        mul   r12, r2, r12
+        add   r0, r12, r0, lsl #9
+        add   r0, r0, #0x400         ; rounded: the table has two more bits and the line nine
+        mov   r0, r0, lsr #11
+        eor   r0, r0, r3
+        sub   r0, r0, r3
+        mov   pc, lr
+
+arc_tangent_place:
+        .word arc_tangent_table
+
+; 0A ArcTan2: r0 becomes the angle of the point (r0, r1), both signed halfwords, 0 to FFFFh for a turn, to the nearest within
+; one. The angle of the greater of both is that of the axis, and the rest has a tangent of at most 1. At most 270 cycles.
+arc_tangent_2:
+        mov   r0, r0, lsl #16
+        mov   r1, r1, lsl #16
+        orrs  r2, r0, r1
+        moveq pc, lr                 ; no angle: 0
+        stmdb sp!, {r4-r6, lr}
+        mov   r4, r0, asr #16        ; x
+        mov   r5, r1, asr #16        ; y
+        cmp   r4, #0
+        rsblt r0, r4, #0
+        movge r0, r4
+        cmp   r5, #0
+        rsblt r1, r5, #0
+        movge r1, r5
+        cmp   r0, r1
+        bcc   arc_tangent_2_steep
+        mov   r6, r4, lsr #31        ; near the x axis: half a turn where x is below 0
+        mov   r6, r6, lsl #15
+        mov   r2, r0
+        mov   r0, r1, lsl #16
+        mov   r1, r2
+        eor   r3, r4, r5
+        b     arc_tangent_2_add
+arc_tangent_2_steep:
+        cmp   r5, #0                 ; near the y axis: a quarter of a turn, or three
+        movge r6, #0x4000
+        movlt r6, #0xc000
+        mov   r0, r0, lsl #16
+        eor   r3, r4, r5
+        mvn   r3, r3                 ; the tangent is -x / y
+arc_tangent_2_add:
+        bl    divide_unsigned
+        mov   r3, r3, asr #31
+        bl    arc_tangent_line
+        add   r0, r0, r6
+        mov   r0, r0, lsl #16
+        mov   r0, r0, lsr #16
+        ldmia sp!, {r4-r6, pc}
+
+; 0D GetBiosChecksum: r0 becomes the sum of the words of this image. 12,842 cycles.
+bios_checksum:
+        stmdb sp!, {r4-r7}
+        mov   r12, #0
+        mov   r0, #0
+bios_checksum_words:
+        ldmia r12!, {r1-r7, r11}
+        add   r0, r0, r1
+        add   r0, r0, r2
+        add   r0, r0, r3
+        add   r0, r0, r4
+        add   r0, r0, r5
+        add   r0, r0, r6
+        add   r0, r0, r7
+        add   r0, r0, r11
+        cmp   r12, #0x4000
+        bcc   bios_checksum_words
+        ldmia sp!, {r4-r7}
+        mov   pc, lr
+
