@@ -543,3 +543,263 @@ bios_checksum_words:
         ldmia sp!, {r4-r7}
         mov   pc, lr
 
+; ---------------------------------------------------------------------------------------------------------------------
+; Copies and fills
+;
+; All of them have the source in r0 and the target in r1. Sources in the BIOS are refused: then nothing is written.
+
+; Z is set where r0 is no source for r3 bytes: where the bits 25 to 27 of its address, or of the end, are 0. r11 is
+; changed. 8 cycles.
+check_source:
+        tst   r0, #0x0e000000
+        addne r11, r0, r3
+        tstne r11, #0x0e000000
+        mov   pc, lr
+
+; 0C CpuFastSet: the bits 0 to 20 of r2 are a number of words, rounded up to a multiple of eight; bit 24 asks for a fill by
+; the source's first word. Some 100 cycles, and for eight words 23 of a copy or 13 of a fill and what their accesses
+; cost above 1 each.
+copy_blocks:
+        mov   r3, r2, lsl #11
+        movs  r3, r3, lsr #9         ; in bytes
+        moveq pc, lr
+        stmdb sp!, {r4-r10, lr}
+        bl    check_source
+        beq   copy_end
+        add   r3, r3, #31
+        bic   r3, r3, #31
+        tst   r2, #0x01000000
+        bne   copy_blocks_fill
+        bl    copy_words
+        ldmia sp!, {r4-r10, pc}
+copy_blocks_fill:
+        bic   r0, r0, #3
+        ldr   r2, [r0]
+        bl    fill_words
+copy_end:
+        ldmia sp!, {r4-r10, pc}
+
+; 0B CpuSet: the bits 0 to 20 of r2 are a number of halfwords, or of words where bit 26 is set; bit 24 asks for a fill by
+; the source's first one. Units are copied from the first to the last: an overlapping target repeats the source.
+; Memories are copied by blocks of words where that makes no difference, registers and the SRAM else. Some 170
+; cycles, and for eight words of a memory 23 of a copy or 13 of a fill, for eight halfwords whose places in their words
+; differ 23, for a unit alone at most 7, and what their accesses cost above 1 each.
+copy_units:
+        mov   r3, r2, lsl #11
+        tst   r2, #0x04000000
+        moveq r3, r3, lsr #10        ; in bytes
+        movne r3, r3, lsr #9
+        cmp   r3, #0
+        moveq pc, lr
+        stmdb sp!, {r4-r10, lr}
+        bl    check_source
+        beq   copy_end
+        tst   r2, #0x04000000
+        beq   copy_halves
+        bic   r0, r0, #3
+        bic   r1, r1, #3
+        tst   r2, #0x01000000
+        ldrne r2, [r0]
+        blne  fill_words
+        bne   copy_end
+        mov   r11, r0
+        bl    check_memory
+        mov   r11, r1
+        bleq  check_memory
+        beq   copy_word_units        ; between registers or in the SRAM: they may overlap
+        bl    repeat_overlap
+        bl    copy_words
+        ldmia sp!, {r4-r10, pc}
+copy_word_units:
+        bl    copy_words_rest
+        ldmia sp!, {r4-r10, pc}
+
+; Z is set where the address r11 is one of registers or of the SRAM, which tell words from halfwords. r11 is changed. 7
+; cycles.
+check_memory:
+        and   r11, r11, #0x0f000000
+        teq   r11, #0x04000000
+        teqne r11, #0x0e000000
+        teqne r11, #0x0f000000
+        mov   pc, lr
+
+; Copies r3 bytes, a multiple of 4 and maybe 0, from r0 to r1: by eight words, and then by one. r2 and r4 to r10 are
+; changed.
+copy_words:
+        subs  r3, r3, #32
+        bcc   copy_words_few
+copy_words_block:
+        ldmia r0!, {r2, r4-r10}
+        stmia r1!, {r2, r4-r10}
+        subs  r3, r3, #32
+        bcs   copy_words_block
+copy_words_few:
+        adds  r3, r3, #32
+        moveq pc, lr
+copy_words_rest:
+        ldr   r2, [r0], #4
+        str   r2, [r1], #4
+        subs  r3, r3, #4
+        bne   copy_words_rest
+        mov   pc, lr
+
+; Fills r3 bytes, a multiple of 4 and maybe 0, from r1 on with r2. Z is clear. r4 to r10 are changed.
+fill_words:
+        mov   r4, r2
+        mov   r5, r2
+        mov   r6, r2
+        mov   r7, r2
+        mov   r8, r2
+        mov   r9, r2
+        mov   r10, r2
+        subs  r3, r3, #32
+        bcc   fill_words_few
+fill_words_block:
+        stmia r1!, {r2, r4-r10}
+        subs  r3, r3, #32
+        bcs   fill_words_block
+fill_words_few:
+        add   r3, r3, #32
+fill_words_rest:
+        subs  r3, r3, #4
+        strcs r2, [r1], #4
+        bcs   fill_words_rest
+        mov   pc, lr
+
+; CpuSet with halfwords.
+copy_halves:
+        bic   r0, r0, #1
+        bic   r1, r1, #1
+        mov   r11, r1
+        tst   r2, #0x01000000
+        bne   fill_halves
+        bl    check_memory
+        mov   r11, r0
+        blne  check_memory
+        beq   copy_half_units
+        bl    repeat_overlap
+        cmp   r3, #0
+        beq   copy_end
+        tst   r1, #2
+        ldrneh r2, [r0], #2          ; up to a word of the target
+        strneh r2, [r1], #2
+        subne r3, r3, #2
+        tst   r0, #2
+        bne   copy_halves_turned
+        and   r11, r3, #2
+        bic   r3, r3, #3
+        bl    copy_words
+        movs  r3, r11
+        beq   copy_end
+copy_half_units:
+        bl    copy_halves_rest
+        ldmia sp!, {r4-r10, pc}
+
+; Copies r3 bytes, a multiple of 2 but not 0, from r0 to r1 by halfwords: 4 at once, and then by one. r2 is changed.
+copy_halves_rest:
+        subs  r3, r3, #8
+        bcc   copy_halves_few
+copy_halves_four:
+        ldrh  r2, [r0], #2
+        strh  r2, [r1], #2
+        ldrh  r2, [r0], #2
+        strh  r2, [r1], #2
+        ldrh  r2, [r0], #2
+        strh  r2, [r1], #2
+        ldrh  r2, [r0], #2
+        strh  r2, [r1], #2
+        subs  r3, r3, #8
+        bcs   copy_halves_four
+copy_halves_few:
+        adds  r3, r3, #8
+        moveq pc, lr
+copy_halves_one:
+        ldrh  r2, [r0], #2
+        strh  r2, [r1], #2
+        subs  r3, r3, #2
+        bne   copy_halves_one
+        mov   pc, lr
+
+; The target is at a word, and the source in the middle of one: r2 is the halfword that was read and not yet written.
+copy_halves_turned:
+        subs  r3, r3, #16
+        bcc   copy_halves_turned_few
+        ldrh  r2, [r0], #2
+copy_halves_turned_block:
+        ldmia r0!, {r4-r7}
+        orr   r2, r2, r4, lsl #16
+        mov   r4, r4, lsr #16
+        orr   r4, r4, r5, lsl #16
+        mov   r5, r5, lsr #16
+        orr   r5, r5, r6, lsl #16
+        mov   r6, r6, lsr #16
+        orr   r6, r6, r7, lsl #16
+        stmia r1!, {r2, r4-r6}
+        mov   r2, r7, lsr #16
+        subs  r3, r3, #16
+        bcs   copy_halves_turned_block
+        sub   r0, r0, #2
+copy_halves_turned_few:
+        adds  r3, r3, #16
+        beq   copy_end
+        b     copy_half_units
+
+; CpuSet's fill with halfwords.
+fill_halves:
+        ldrh  r2, [r0]
+        bl    check_memory
+        beq   fill_halves_units
+        orr   r2, r2, r2, lsl #16
+        tst   r1, #2
+        strneh r2, [r1], #2          ; up to a word of the target
+        subne r3, r3, #2
+        and   r0, r3, #2
+        bic   r3, r3, #3
+        bl    fill_words
+        cmp   r0, #0
+        strneh r2, [r1]
+        ldmia sp!, {r4-r10, pc}
+fill_halves_units:
+        strh  r2, [r1], #2
+        subs  r3, r3, #2
+        bne   fill_halves_units
+        ldmia sp!, {r4-r10, pc}
+
+; Where the target begins less than 32 bytes behind the source, in the same memory or in one of its repeats, units that were
+; written are read again, and what is written repeats itself. So the first bytes are copied by halfwords, a multiple of
+; that distance and at least 32, and then the source moves back to where they were written, which has the same bytes as
+; the place to which it had come. r0, r1 and r3 are as for a copy, of memories; r2, r4, r5, r11 and r12 are changed.
+repeat_overlap:
+        eor   r11, r0, r1
+        tst   r11, #0x0f000000
+        movne pc, lr
+        and   r12, r1, #0x0f000000
+        mov   r4, #17                ; the bits above an address in the inner RAM; in VRAM parts of 32 KiB repeat
+        cmp   r12, #0x02000000
+        moveq r4, #14                ; the work RAM
+        cmp   r12, #0x05000000
+        cmpne r12, #0x07000000
+        moveq r4, #22                ; the palette and OAM
+        sub   r11, r1, r0
+        mov   r11, r11, lsl r4
+        movs  r11, r11, lsr r4
+        moveq pc, lr
+        cmp   r11, #32
+        movcs pc, lr
+        mov   r4, r11
+repeat_overlap_length:
+        cmp   r4, #32
+        addcc r4, r4, r11
+        bcc   repeat_overlap_length
+        cmp   r4, r3
+        movcs r4, r3
+        sub   r3, r3, r4
+        mov   r5, r4
+repeat_overlap_unit:
+        ldrh  r2, [r0], #2
+        strh  r2, [r1], #2
+        subs  r5, r5, #2
+        bne   repeat_overlap_unit
+        sub   r0, r1, r4
+        mov   pc, lr
+
