@@ -803,3 +803,439 @@ repeat_overlap_unit:
         sub   r0, r1, r4
         mov   pc, lr
 
+; ---------------------------------------------------------------------------------------------------------------------
+; Unpacking
+;
+; All of them have the source in r0 and the target in r1. Sources in the BIOS are refused: then nothing is written. Just
+; the bytes of the unpacked size are changed: where a store is wider than what is left, the bytes behind are read and
+; written back. The forms for VRAM store halfwords alone; the byte at an even address waits in r7 for the one above it.
+
+; Reads the header at r0: r3 becomes the unpacked size, and r0 the address behind. Z is set where there is nothing to do:
+; the source is refused, or the size is 0. r11 is changed. By bytes, so that the source may be anywhere.
+read_header:
+        ldrb  r3, [r0, #1]
+        ldrb  r11, [r0, #2]
+        orr   r3, r3, r11, lsl #8
+        ldrb  r11, [r0, #3]
+        orrs  r3, r3, r11, lsl #16
+        tstne r0, #0x0e000000
+        addne r11, r0, r3
+        tstne r11, #0x0e000000
+        add   r0, r0, #4
+        mov   pc, lr
+
+; Begins a form for VRAM: where the target is odd, the byte below it waits.
+begin_halves:
+        tst   r1, #1
+        ldrneb r7, [r1, #-1]
+        mov   pc, lr
+
+; Ends a form for VRAM: where a byte waits, it is stored with the one above, which stays. r11 is changed.
+end_halves:
+        tst   r1, #1
+        ldrneb r11, [r1]
+        orrne r7, r7, r11, lsl #8
+        strneh r7, [r1, #-1]
+        mov   pc, lr
+
+; 11 LZ77UnCompWram: a byte of eight flags, the highest first, and eight blocks: a byte for the flag 0, and for 1 two, of
+; which the high four bits are a number minus 3 and the rest is a distance minus 1 back in what was unpacked. A block
+; ends where the size is reached. At most 18 cycles a byte and what the accesses cost above 1 each.
+unpack_lz77_bytes:
+        stmdb sp!, {r4-r6, lr}
+        bl    read_header
+        beq   lz77_bytes_end
+lz77_bytes_flags:
+        ldrb  r4, [r0], #1
+        mov   r4, r4, lsl #24
+        orr   r4, r4, #0x00800000    ; behind the last flag
+lz77_bytes_next:
+        movs  r4, r4, lsl #1
+        beq   lz77_bytes_flags
+        bcs   lz77_bytes_block
+        ldrb  r11, [r0], #1
+        strb  r11, [r1], #1
+        subs  r3, r3, #1
+        bne   lz77_bytes_next
+lz77_bytes_end:
+        ldmia sp!, {r4-r6, pc}
+lz77_bytes_block:
+        ldrb  r5, [r0], #1
+        ldrb  r6, [r0], #1
+        orr   r6, r6, r5, lsl #8
+        bic   r6, r6, #0xf000
+        sub   r6, r1, r6             ; the byte behind the first one
+        mov   r5, r5, lsr #4
+        add   r5, r5, #3
+        cmp   r5, r3
+        movhi r5, r3
+        sub   r3, r3, r5
+lz77_bytes_copy:
+        ldrb  r11, [r6, #-1]
+        add   r6, r6, #1
+        strb  r11, [r1], #1
+        subs  r5, r5, #1
+        bne   lz77_bytes_copy
+        cmp   r3, #0
+        bne   lz77_bytes_next
+        ldmia sp!, {r4-r6, pc}
+
+; 12 LZ77UnCompVram: the same by halfwords. A distance of one repeats the last byte, r11, which may still wait. At most 24
+; cycles a byte and what the accesses cost above 1 each.
+unpack_lz77_halves:
+        stmdb sp!, {r4-r7, lr}
+        bl    read_header
+        beq   lz77_halves_end
+        bl    begin_halves
+        ldrb  r11, [r1, #-1]
+lz77_halves_flags:
+        ldrb  r4, [r0], #1
+        mov   r4, r4, lsl #24
+        orr   r4, r4, #0x00800000
+lz77_halves_next:
+        movs  r4, r4, lsl #1
+        beq   lz77_halves_flags
+        bcs   lz77_halves_block
+        ldrb  r11, [r0], #1
+        tst   r1, #1
+        moveq r7, r11
+        orrne r7, r7, r11, lsl #8
+        strneh r7, [r1, #-1]
+        add   r1, r1, #1
+        subs  r3, r3, #1
+        bne   lz77_halves_next
+lz77_halves_last:
+        bl    end_halves
+lz77_halves_end:
+        ldmia sp!, {r4-r7, pc}
+lz77_halves_block:
+        ldrb  r5, [r0], #1
+        ldrb  r6, [r0], #1
+        orr   r6, r6, r5, lsl #8
+        bic   r12, r6, #0xf000
+        sub   r6, r1, r12
+        sub   r6, r6, #1
+        mov   r5, r5, lsr #4
+        add   r5, r5, #3
+        cmp   r5, r3
+        movhi r5, r3
+        sub   r3, r3, r5
+lz77_halves_copy:
+        cmp   r12, #0
+        ldrneb r11, [r6], #1
+        tst   r1, #1
+        moveq r7, r11
+        orrne r7, r7, r11, lsl #8
+        strneh r7, [r1, #-1]
+        add   r1, r1, #1
+        subs  r5, r5, #1
+        bne   lz77_halves_copy
+        cmp   r3, #0
+        bne   lz77_halves_next
+        b     lz77_halves_last
+
+; 14 RLUnCompWram: a byte of which bit 7 says whether its other bits are a number minus 3, of which the next byte is to be
+; repeated, or a number minus 1 of bytes that follow. A run ends where the size is reached. At most 32 cycles a byte.
+unpack_runs_bytes:
+        stmdb sp!, {r4, r5, lr}
+        bl    read_header
+        beq   runs_bytes_end
+runs_bytes_next:
+        ldrb  r4, [r0], #1
+        and   r5, r4, #0x7f
+        add   r5, r5, #1
+        tst   r4, #0x80
+        addne r5, r5, #2
+        ldrneb r11, [r0], #1
+        cmp   r5, r3
+        movhi r5, r3
+        sub   r3, r3, r5
+runs_bytes_put:
+        tst   r4, #0x80
+        ldreqb r11, [r0], #1
+        strb  r11, [r1], #1
+        subs  r5, r5, #1
+        bne   runs_bytes_put
+        cmp   r3, #0
+        bne   runs_bytes_next
+runs_bytes_end:
+        ldmia sp!, {r4, r5, pc}
+
+; 15 RLUnCompVram: the same by halfwords. At most 36 cycles a byte.
+unpack_runs_halves:
+        stmdb sp!, {r4, r5, r7, lr}
+        bl    read_header
+        beq   runs_halves_end
+        bl    begin_halves
+runs_halves_next:
+        ldrb  r4, [r0], #1
+        and   r5, r4, #0x7f
+        add   r5, r5, #1
+        tst   r4, #0x80
+        addne r5, r5, #2
+        ldrneb r11, [r0], #1
+        cmp   r5, r3
+        movhi r5, r3
+        sub   r3, r3, r5
+runs_halves_put:
+        tst   r4, #0x80
+        ldreqb r11, [r0], #1
+        tst   r1, #1
+        moveq r7, r11
+        orrne r7, r7, r11, lsl #8
+        strneh r7, [r1, #-1]
+        add   r1, r1, #1
+        subs  r5, r5, #1
+        bne   runs_halves_put
+        cmp   r3, #0
+        bne   runs_halves_next
+        bl    end_halves
+runs_halves_end:
+        ldmia sp!, {r4, r5, r7, pc}
+
+; 16 Diff8bitUnFilterWram: each byte is the difference to the one before, and the first one to 0. 10 cycles a byte.
+unfilter_bytes:
+        stmdb sp!, {lr}
+        bl    read_header
+        ldmeqia sp!, {pc}
+        mov   r12, #0
+unfilter_bytes_next:
+        ldrb  r11, [r0], #1
+        add   r12, r12, r11
+        strb  r12, [r1], #1
+        subs  r3, r3, #1
+        bne   unfilter_bytes_next
+        ldmia sp!, {pc}
+
+; 17 Diff8bitUnFilterVram: the same by halfwords. 14 cycles a byte.
+unfilter_bytes_halves:
+        stmdb sp!, {r7, lr}
+        bl    read_header
+        beq   unfilter_bytes_halves_end
+        bl    begin_halves
+        mov   r12, #0
+unfilter_bytes_halves_next:
+        ldrb  r11, [r0], #1
+        add   r12, r12, r11
+        and   r12, r12, #0xff
+        tst   r1, #1
+        moveq r7, r12
+        orrne r7, r7, r12, lsl #8
+        strneh r7, [r1, #-1]
+        add   r1, r1, #1
+        subs  r3, r3, #1
+        bne   unfilter_bytes_halves_next
+        bl    end_halves
+unfilter_bytes_halves_end:
+        ldmia sp!, {r7, pc}
+
+; 18 Diff16bitUnFilter: the same of halfwords. An odd last byte has no difference, and isn't written. 10 cycles a halfword.
+unfilter_halves:
+        stmdb sp!, {lr}
+        bl    read_header
+        ldmeqia sp!, {pc}
+        bic   r0, r0, #1
+        bic   r1, r1, #1
+        movs  r3, r3, lsr #1
+        mov   r12, #0
+unfilter_halves_next:
+        ldrneh r11, [r0], #2
+        addne r12, r12, r11
+        strneh r12, [r1], #2
+        subnes r3, r3, #1
+        bne   unfilter_halves_next
+        ldmia sp!, {pc}
+
+; 10 BitUnPack: r2 points to the number of the source's bytes, a halfword; the bits of a source's and of a target's unit,
+; a byte each; and a word whose bits 0 to 30 are added to each unit that isn't 0, and to those that are where its bit 31
+; is set. Units are taken from the low bits of a byte up, and stored from the low bits of a word up, whole words
+; alone. Other widths than 1, 2, 4 and 8, and 1 to 32, do nothing. At most 20 cycles a unit.
+unpack_bits:
+        ldrh  r3, [r2]
+        cmp   r3, #0
+        moveq pc, lr
+        stmdb sp!, {r4-r10, lr}
+        bl    check_source
+        beq   unpack_bits_end
+        ldrb  r4, [r2, #2]
+        ldrb  r5, [r2, #3]
+        ldr   r6, [r2, #4]
+        sub   r11, r4, #1
+        tst   r4, r11
+        bne   unpack_bits_end
+        cmp   r11, #8
+        bcs   unpack_bits_end
+        sub   r12, r5, #1
+        tst   r5, r12
+        bne   unpack_bits_end
+        cmp   r12, #32
+        bcs   unpack_bits_end
+        mov   r10, #1
+        mov   r10, r10, lsl r4
+        sub   r10, r10, #1           ; the bits of a source's unit
+        movs  r2, r6                 ; what a unit of 0 becomes
+        bic   r6, r6, #0x80000000
+        movmi r2, r6
+        movpl r2, #0
+        mov   r7, #0                 ; the word
+        mov   r8, #0                 ; its bits so far
+unpack_bits_byte:
+        ldrb  r11, [r0], #1
+        mov   r9, #8
+unpack_bits_unit:
+        ands  r12, r11, r10
+        addne r12, r12, r6
+        moveq r12, r2
+        orr   r7, r7, r12, lsl r8
+        add   r8, r8, r5
+        tst   r8, #32
+        strne r7, [r1], #4
+        movne r7, #0
+        movne r8, #0
+        mov   r11, r11, lsr r4
+        subs  r9, r9, r4
+        bne   unpack_bits_unit
+        subs  r3, r3, #1
+        bne   unpack_bits_byte
+unpack_bits_end:
+        ldmia sp!, {r4-r10, pc}
+
+; 13 HuffUnComp: the header's low four bits are the bits of a symbol, 4 or 8, of which a word is packed from its low bits up
+; and then stored. A byte follows that leads over the tree to the stream, whose words give bits, the highest first.
+; The tree's first byte is its root. The two nodes below a node are side by side, two bytes and twice the low six bits
+; of the node behind its even address; the bit 7 says of the first one, which the bit 0 takes, that it is a symbol,
+; and bit 6 of the second. Symbols of other widths do nothing. At most 15 cycles a bit and what the accesses cost.
+;
+; r0 is a node's address and r10 the node; r5 is the root and r6 the address of the two nodes below it. r8 has the bits
+; that are left of a word of the stream, and a 1 behind them: where a shift takes that out, r8 is 0 and the carry is
+; set, and goes behind the next word's bits. r9 has the word that is packed, with a 1 above it that goes out with its
+; last symbol.
+unpack_huffman:
+        stmdb sp!, {r4-r10, lr}
+        ldrb  r4, [r0]
+        bl    read_header
+        beq   huffman_end
+        ldrb  r7, [r0]
+        add   r7, r7, #1
+        add   r7, r0, r7, lsl #1     ; the stream
+        ldrb  r5, [r0, #1]
+        add   r0, r0, #1
+        bic   r6, r0, #1
+        and   r2, r5, #0x3f
+        add   r6, r6, r2, lsl #1
+        add   r6, r6, #2
+        mov   r8, #0x80000000
+        mov   r9, #0x80000000
+        and   r4, r4, #15
+        cmp   r4, #4
+        beq   huffman_fours
+        cmp   r4, #8
+        beq   huffman_eights
+huffman_end:
+        ldmia sp!, {r4-r10, pc}
+
+; Symbols of eight bits. Below the root:
+huffman_eights:
+        movs  r8, r8, lsl #1
+        beq   huffman_eights_word
+huffman_eights_bit:
+        tstcc r5, #0x80
+        tstcs r5, #0x40
+        adc   r0, r6, #0
+        ldrb  r10, [r0]
+        beq   huffman_eights_node
+        movs  r9, r9, lsr #8
+        orr   r9, r9, r10, lsl #24
+        bcc   huffman_eights
+huffman_eights_store:
+        subs  r3, r3, #4
+        bcc   huffman_part
+        str   r9, [r1], #4
+        mov   r9, #0x80000000
+        bne   huffman_eights
+        ldmia sp!, {r4-r10, pc}
+; Below another node:
+huffman_eights_node:
+        movs  r8, r8, lsl #1
+        beq   huffman_eights_node_word
+huffman_eights_node_bit:
+        and   r2, r10, #0x3f
+        adc   r2, r2, r2             ; with the bit
+        movcs r10, r10, lsl #1
+        tst   r10, #0x80
+        bic   r0, r0, #1
+        add   r0, r0, #2
+        ldrb  r10, [r0, r2]!
+        beq   huffman_eights_node
+        movs  r9, r9, lsr #8
+        orr   r9, r9, r10, lsl #24
+        bcc   huffman_eights
+        b     huffman_eights_store
+; The next word of the stream:
+huffman_eights_word:
+        ldr   r8, [r7], #4
+        adcs  r8, r8, r8
+        b     huffman_eights_bit
+huffman_eights_node_word:
+        ldr   r8, [r7], #4
+        adcs  r8, r8, r8
+        b     huffman_eights_node_bit
+
+; The last word has r3 + 4 bytes, 1 to 3: those behind stay.
+huffman_part:
+        rsb   r3, r3, #0
+        mov   r3, r3, lsl #3         ; the bits that stay
+        mvn   r2, #0
+        mov   r2, r2, lsr r3         ; those that are written
+        and   r9, r9, r2
+        ldr   r11, [r1]
+        bic   r11, r11, r2
+        orr   r9, r9, r11
+        str   r9, [r1]
+        ldmia sp!, {r4-r10, pc}
+
+; Symbols of four bits, in the same way.
+huffman_fours:
+        movs  r8, r8, lsl #1
+        beq   huffman_fours_word
+huffman_fours_bit:
+        tstcc r5, #0x80
+        tstcs r5, #0x40
+        adc   r0, r6, #0
+        ldrb  r10, [r0]
+        beq   huffman_fours_node
+        movs  r9, r9, lsr #4
+        orr   r9, r9, r10, lsl #28
+        bcc   huffman_fours
+huffman_fours_store:
+        subs  r3, r3, #4
+        bcc   huffman_part
+        str   r9, [r1], #4
+        mov   r9, #0x80000000
+        bne   huffman_fours
+        ldmia sp!, {r4-r10, pc}
+huffman_fours_node:
+        movs  r8, r8, lsl #1
+        beq   huffman_fours_node_word
+huffman_fours_node_bit:
+        and   r2, r10, #0x3f
+        adc   r2, r2, r2
+        movcs r10, r10, lsl #1
+        tst   r10, #0x80
+        bic   r0, r0, #1
+        add   r0, r0, #2
+        ldrb  r10, [r0, r2]!
+        beq   huffman_fours_node
+        movs  r9, r9, lsr #4
+        orr   r9, r9, r10, lsl #28
+        bcc   huffman_fours
+        b     huffman_fours_store
+huffman_fours_word:
+        ldr   r8, [r7], #4
+        adcs  r8, r8, r8
+        b     huffman_fours_bit
+huffman_fours_node_word:
+        ldr   r8, [r7], #4
+        adcs  r8, r8, r8
+        b     huffman_fours_node_bit
+
