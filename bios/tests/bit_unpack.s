@@ -1,5 +1,5 @@
-; Copies what the table's first entries say, of three words each: a source, a target and a number of halfwords, which is
-; 0 in the last one. Then calls BitUnPack with the registers r0 to r3 of each case, whose number stands before them, and
+; Copies what the table's first entries say, of three words each: a source, a target and a number of sixteen bytes,
+; which is 0 in the last one. Then calls BitUnPack with the registers r0 to r3 of each case, whose number stands before them, and
 ; stores the cycles of the calls, measured by the timers 0 and 1, from 0203c000 on.
 
         b     begin
@@ -12,10 +12,10 @@ begin:  ldr   r8, table
 copies: ldmia r8!, {r0-r2}
         cmp   r2, #0
         beq   cases
-halves: ldrh  r3, [r0], #2
-        strh  r3, [r1], #2
+more:   ldmia r0!, {r3-r6}
+        stmia r1!, {r3-r6}
         subs  r2, r2, #1
-        bne   halves
+        bne   more
         b     copies
 cases:  ldr   r9, cycles
         mov   r10, #0x04000000
