@@ -1239,3 +1239,192 @@ huffman_fours_node_word:
         adcs  r8, r8, r8
         b     huffman_fours_node_bit
 
+; ---------------------------------------------------------------------------------------------------------------------
+; Turned and scaled pictures
+
+; 0E BgAffineSet: for r2 entries of 20 bytes at r0, which are the picture's middle x and y, words with 8 bits behind the
+; point, the screen's middle x and y, the scales of x and y with 8 bits behind the point, and an angle of which the high
+; eight bits of 16 count, all halfwords, the four parameters and the place of the screen's first dot are stored at r1:
+; PA = x scale * cosine, PB = -(x scale * sine), PC = y scale * sine, PD = y scale * cosine, the products rounded down, as
+; halfwords, and the picture's middle minus them times the screen's, as words. At most 100 cycles an entry.
+background_affine:
+        cmp   r2, #0
+        moveq pc, lr
+        stmdb sp!, {r4-r10, lr}
+background_affine_next:
+        add   r11, r0, #12           ; the scales and the angle
+        bl    turn
+        strh  r5, [r1], #2
+        strh  r6, [r1], #2
+        strh  r7, [r1], #2
+        strh  r8, [r1], #2
+        ldrsh r9, [r0, #8]
+        ldrsh r10, [r0, #10]
+        ldmia r0, {r3, r4}
+        mul   r11, r5, r9
+        sub   r3, r3, r11
+        mul   r11, r6, r10
+        sub   r3, r3, r11
+        mul   r11, r7, r9
+        sub   r4, r4, r11
+        mul   r11, r8, r10
+        sub   r4, r4, r11
+        stmia r1!, {r3, r4}
+        add   r0, r0, #20
+        subs  r2, r2, #1
+        bne   background_affine_next
+        ldmia sp!, {r4-r10, pc}
+
+; 0F ObjAffineSet: for r2 entries of 8 bytes at r0, which are the scales of x and y and the angle, the four parameters are
+; stored as halfwords from r1 on, each r3 bytes behind the one before. At most 76 cycles an entry.
+sprite_affine:
+        cmp   r2, #0
+        moveq pc, lr
+        stmdb sp!, {r4-r10, lr}
+sprite_affine_next:
+        mov   r11, r0
+        bl    turn
+        strh  r5, [r1], r3
+        strh  r6, [r1], r3
+        strh  r7, [r1], r3
+        strh  r8, [r1], r3
+        add   r0, r0, #8
+        subs  r2, r2, #1
+        bne   sprite_affine_next
+        ldmia sp!, {r4-r10, pc}
+
+; r5 to r8 become PA, PB, PC and PD, signed halfwords extended, of the x scale, the y scale and the angle, three halfwords
+; at r11. r9 to r12 are changed. The table of the sine has 14 bits behind the point; the cosine is the sine a quarter of
+; a turn on. At most 49 cycles.
+turn:
+        ldrsh r9, [r11]
+        ldrsh r10, [r11, #2]
+        ldrb  r5, [r11, #5]          ; the angle's high byte
+        ldr   r12, sine_place
+        mov   r6, r5, lsl #1
+        ldrsh r6, [r12, r6]          ; sine
+        add   r5, r5, #64
+        and   r5, r5, #0xff
+        mov   r5, r5, lsl #1
+        ldrsh r5, [r12, r5]          ; cosine
+        mul   r7, r6, r10
+        mul   r8, r5, r10
+        mul   r11, r5, r9
+        mul   r12, r6, r9
+        mov   r5, r11, lsl #2        ; as they are stored
+        mov   r5, r5, asr #16
+        mov   r6, r12, asr #14
+        rsb   r6, r6, #0
+        mov   r6, r6, lsl #16
+        mov   r6, r6, asr #16
+        mov   r7, r7, lsl #2
+        mov   r7, r7, asr #16
+        mov   r8, r8, lsl #2
+        mov   r8, r8, asr #16
+        mov   pc, lr
+
+sine_place:
+        .word sine_table
+
+; ---------------------------------------------------------------------------------------------------------------------
+; Sound
+
+; 19 SoundBias: the level of SOUNDBIAS, its bits 1 to 9, goes by steps of one to 200h, or to 0 where r0 is 0; its other bits
+; stay. 12 cycles a step.
+sound_bias:
+        mov   r12, #0x04000000
+        cmp   r0, #0
+        movne r0, #0x200
+        ldrh  r1, [r12, #0x88]
+sound_bias_step:
+        mov   r2, r1, lsl #22        ; the level, without the bits above
+        movs  r2, r2, lsr #22
+        bic   r2, r2, #1
+        cmp   r2, r0
+        moveq pc, lr
+        addcc r1, r1, #2
+        subcs r1, r1, #2
+        strh  r1, [r12, #0x88]
+        b     sound_bias_step
+
+; 1F MidiKey2Freq: r0 becomes the frequency at which the key r1 plays the wave at r0, whose second word is its frequency at
+; the key 180 as the wave's own units tell: that times 2 ^ ((r1 - 180) / 12), rounded down, and for the r2 of 256 parts of
+; a halftone to the next key the line between the two. From the key 180 on it is the highest below. At most 220
+; cycles.
+key_to_frequency:
+        stmdb sp!, {r4, r5, lr}
+        ldr   r4, [r0, #4]
+        mov   r5, r2, lsl #24        ; the part of a halftone
+        mov   r0, r1
+        cmp   r0, #180
+        movcs r0, #179
+        movcs r5, #0xff000000
+        mov   r1, #12
+        bl    divide_unsigned        ; the octave, and the key within it
+        ldr   r12, halftone_place
+        add   r12, r12, r1, lsl #2
+        ldmia r12, {r1, r2}
+        sub   r2, r2, r1             ; modulo 2 ^ 32, so that the last one is right too
+        umull r12, r11, r2, r5
+        add   r1, r1, r11            ; the octave's first key is 2 ^ 31
+        umull r12, r11, r1, r4
+        rsb   r0, r0, #14
+        mov   r0, r11, lsr r0
+        ldmia sp!, {r4, r5, pc}
+
+halftone_place:
+        .word halftone_table
+
+; ---------------------------------------------------------------------------------------------------------------------
+; Tables
+
+; The angle whose tangent is k / 128, for k from 0 to 256: a turn is 40000h, rounded to the nearest,
+; round(40000h * atan(k / 128) / (2 * pi)).
+arc_tangent_table:
+        .half 0, 326, 652, 978, 1303, 1629, 1954, 2279, 2604, 2929, 3253, 3577, 3900, 4223, 4545, 4867
+        .half 5188, 5509, 5829, 6148, 6467, 6784, 7101, 7418, 7733, 8047, 8361, 8673, 8985, 9296, 9605, 9914
+        .half 10221, 10527, 10832, 11136, 11439, 11740, 12040, 12339, 12637, 12933, 13228, 13522, 13814, 14105, 14394, 14682
+        .half 14968, 15253, 15537, 15819, 16100, 16379, 16656, 16932, 17206, 17479, 17750, 18020, 18288, 18554, 18819, 19083
+        .half 19344, 19604, 19862, 20119, 20374, 20627, 20879, 21129, 21378, 21624, 21870, 22113, 22355, 22595, 22834, 23070
+        .half 23306, 23539, 23771, 24001, 24230, 24457, 24682, 24906, 25128, 25349, 25568, 25785, 26001, 26215, 26427, 26638
+        .half 26848, 27056, 27262, 27467, 27670, 27871, 28072, 28270, 28467, 28663, 28857, 29050, 29241, 29430, 29619, 29805
+        .half 29991, 30175, 30357, 30538, 30718, 30896, 31073, 31248, 31423, 31595, 31767, 31937, 32106, 32273, 32439, 32604
+        .half 32768, 32930, 33091, 33251, 33410, 33567, 33723, 33878, 34032, 34184, 34336, 34486, 34635, 34783, 34929, 35075
+        .half 35219, 35363, 35505, 35646, 35786, 35925, 36063, 36200, 36335, 36470, 36604, 36736, 36868, 36999, 37128, 37257
+        .half 37385, 37512, 37637, 37762, 37886, 38009, 38131, 38252, 38372, 38491, 38610, 38727, 38844, 38960, 39074, 39188
+        .half 39302, 39414, 39526, 39636, 39746, 39855, 39963, 40071, 40178, 40283, 40389, 40493, 40597, 40699, 40802, 40903
+        .half 41004, 41104, 41203, 41301, 41399, 41496, 41593, 41688, 41783, 41878, 41971, 42065, 42157, 42249, 42340, 42430
+        .half 42520, 42609, 42698, 42786, 42873, 42960, 43046, 43132, 43217, 43301, 43385, 43468, 43551, 43633, 43715, 43796
+        .half 43876, 43956, 44036, 44115, 44193, 44271, 44348, 44425, 44501, 44577, 44653, 44727, 44802, 44876, 44949, 45022
+        .half 45094, 45166, 45238, 45309, 45379, 45449, 45519, 45588, 45657, 45725, 45793, 45861, 45928, 45995, 46061, 46127
+        .half 46192
+
+; The sine of k of 256 steps of a turn, for k from 0 to 255: 1 is 4000h, cut towards 0,
+; trunc(4000h * sin(2 * pi * k / 256)), as halfwords in two's complement.
+sine_table:
+        .half 0, 402, 803, 1205, 1605, 2005, 2404, 2801, 3196, 3589, 3980, 4369, 4756, 5139, 5519, 5896
+        .half 6269, 6639, 7005, 7366, 7723, 8075, 8423, 8765, 9102, 9434, 9759, 10079, 10393, 10701, 11002, 11297
+        .half 11585, 11866, 12139, 12406, 12665, 12916, 13159, 13395, 13622, 13842, 14053, 14255, 14449, 14634, 14810, 14978
+        .half 15136, 15286, 15426, 15557, 15678, 15790, 15892, 15985, 16069, 16142, 16206, 16260, 16305, 16339, 16364, 16379
+        .half 16384, 16379, 16364, 16339, 16305, 16260, 16206, 16142, 16069, 15985, 15892, 15790, 15678, 15557, 15426, 15286
+        .half 15136, 14978, 14810, 14634, 14449, 14255, 14053, 13842, 13622, 13395, 13159, 12916, 12665, 12406, 12139, 11866
+        .half 11585, 11297, 11002, 10701, 10393, 10079, 9759, 9434, 9102, 8765, 8423, 8075, 7723, 7366, 7005, 6639
+        .half 6269, 5896, 5519, 5139, 4756, 4369, 3980, 3589, 3196, 2801, 2404, 2005, 1605, 1205, 803, 402
+        .half 0, 65134, 64733, 64331, 63931, 63531, 63132, 62735, 62340, 61947, 61556, 61167, 60780, 60397, 60017, 59640
+        .half 59267, 58897, 58531, 58170, 57813, 57461, 57113, 56771, 56434, 56102, 55777, 55457, 55143, 54835, 54534, 54239
+        .half 53951, 53670, 53397, 53130, 52871, 52620, 52377, 52141, 51914, 51694, 51483, 51281, 51087, 50902, 50726, 50558
+        .half 50400, 50250, 50110, 49979, 49858, 49746, 49644, 49551, 49467, 49394, 49330, 49276, 49231, 49197, 49172, 49157
+        .half 49152, 49157, 49172, 49197, 49231, 49276, 49330, 49394, 49467, 49551, 49644, 49746, 49858, 49979, 50110, 50250
+        .half 50400, 50558, 50726, 50902, 51087, 51281, 51483, 51694, 51914, 52141, 52377, 52620, 52871, 53130, 53397, 53670
+        .half 53951, 54239, 54534, 54835, 55143, 55457, 55777, 56102, 56434, 56771, 57113, 57461, 57813, 58170, 58531, 58897
+        .half 59267, 59640, 60017, 60397, 60780, 61167, 61556, 61947, 62340, 62735, 63132, 63531, 63931, 64331, 64733, 65134
+        .align
+
+; The frequency of k halftones above an octave's first key, for k from 0 to 12: an octave is 80000000h,
+; round(80000000h * 2 ^ (k / 12)), and the last one, 2 ^ 32, as 0.
+halftone_table:
+        .word 0x80000000, 0x879c7c97, 0x8facd61e, 0x9837f052, 0xa14517cc
+        .word 0xaadc0848, 0xb504f334, 0xbfc886bb, 0xcb2ff52a, 0xd744fccb
+        .word 0xe411f03a, 0xf1a1bf39, 0x00000000
+
+        .space 11140
