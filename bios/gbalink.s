@@ -5,8 +5,8 @@
 ; r3, gives results in r0, r1 and r3, and keeps all other registers, the flags, the mode and the state. It runs in system
 ; mode on the caller's stack, with the caller's I and F bits, so that interrupts are taken within it. The routines below
 ; are free to change r0 to r3, r11 and r12, since the caller's r2, r11 and r12 are put back for them; what else they
-; change they keep on the stack. 'Cycles' are those of a whole call from code that costs one cycle a word, and what
-; the addresses given by the caller cost comes on top where it is said.
+; change they keep on the stack. 'Cycles' are those of a routine by itself, with its stack in the inner RAM; the call of
+; a function takes 49 more, and more where the caller's code costs more than 1 a word.
 ;
 ; Some addresses: the halfword 03007ff8 has the flags of interrupts that handlers have seen, for IntrWait; the byte
 ; 03007ffa tells SoftReset where to go; the word 03007ffc is the handler. They are reached below 04000000, where the
@@ -34,7 +34,7 @@ other_exception:
 
 ; The entry of an interrupt: keeps what a called routine may change, calls the handler with r0 = 04000000 in interrupt
 ; mode with interrupts off, and goes on where the interrupt came. 24 bytes of the interrupt's stack. 20 cycles to
-; the handler, 14 back.
+; the handler, 11 back.
 interrupt:
         stmdb sp!, {r0-r3, r12, lr}
         mov   r0, #0x04000000
@@ -46,8 +46,8 @@ interrupt:
 ; ---------------------------------------------------------------------------------------------------------------------
 ; Calls
 
-; The entry of a call: 16 bytes of the supervisor's stack and 8 of the caller's. A number above 2a returns. 41 cycles
-; to the function where the stacks are in the inner RAM, and 19 back.
+; The entry of a call: 16 bytes of the supervisor's stack and 8 of the caller's. A number above 2a returns. 32 cycles
+; to the function and 17 back.
 call_entry:
         stmdb sp!, {r11, r12, lr}
         mrs   r11, spsr
@@ -105,7 +105,8 @@ hard_reset:
         bl    register_ram_reset
 
 ; The start, also at reset: gives some I/O registers their values, and goes to the cartridge at 08000000, or halts where
-; there is none: each cartridge has the byte 96 at b2. Some 500 cycles.
+; there is none: each cartridge has the byte 96 at b2. 378 cycles
+; from reset.
 start:
         msr   cpsr_c, #0xd3          ; the supervisor's mode, interrupts off
         mov   r12, #0x04000000
@@ -137,7 +138,7 @@ no_cartridge:
 
 ; 00 SoftReset: goes to 08000000, or to 02000000 where the byte 03007ffa isn't 0. IME becomes 0; 03007e00 to 03007fff, r0
 ; to r12, the lr and the SPSR of all modes become 0; the stacks of supervisor, interrupt and system begin anew; system
-; mode, interrupts not masked. Some 450 cycles.
+; mode, interrupts not masked. 342 cycles.
 soft_reset:
         mov   r12, #0x04000000
         ldrb  r4, [r12, #-6]
@@ -202,7 +203,7 @@ system_stack:
 
 ; 01 RegisterRamReset: r0 says by its bits what becomes as after a start: 0 the work RAM, 1 the inner RAM but for its last
 ; 200h bytes, 2 the palette, 3 VRAM, 4 OAM, 5 the serial registers, 6 those of sound, 7 all others, IME among them. The
-; picture becomes blank in any case. Memories take at most twice the cycles of their writes, registers some 900 in all.
+; picture becomes blank in any case. Memories take at most twice the cycles of their writes, registers some 800 in all.
 register_ram_reset:
         stmdb sp!, {r4-r8, lr}
         mov   r12, #0x04000000
@@ -255,7 +256,7 @@ clear_memory:
         bne   clear_memory
         mov   pc, lr
 
-; Clears r2 halfwords of the registers from r1 on: r3 is 0. 7 cycles each.
+; Clears r2 halfwords of the registers from r1 on: r3 is 0. 6 cycles each.
 clear_registers:
         strh  r3, [r1], #2
         subs  r2, r2, #1
@@ -373,7 +374,7 @@ divide_swapped:
 
 ; 06 Div: r0 becomes the signed quotient r0 / r1, cut towards 0, r1 the remainder, which has the numerator's sign, and r3
 ; the quotient without its sign. A denominator of 0 gives 1, or -1 for a numerator below 0, with the numerator as the
-; remainder and r3 = 1. At most 217 cycles.
+; remainder and r3 = 1. 146 cycles, and by DivArm 149.
 divide:
         cmp   r1, #0
         beq   divide_by_zero
@@ -400,7 +401,7 @@ divide_by_zero:
 
 ; r0 becomes r0 / r1 and r1 the remainder, all unsigned and r1 from 1 to 80000000h; r2, r11 and r12 are changed. Each bit
 ; of the quotient takes three steps: twice the remainder and the numerator's next bit, minus the denominator, which is
-; added again where there was a borrow; the carry is the quotient's bit, and goes into r0 behind the numerator. 128
+; added again where there was a borrow; the carry is the quotient's bit, and goes into r0 behind the numerator. 121
 ; cycles.
 divide_unsigned:
         rsb   r2, r1, #0             ; the denominator's negative
@@ -437,7 +438,7 @@ divide_bits:
         bne   divide_bits
         mov   pc, lr
 
-; 08 Sqrt: r0 becomes the root of r0, unsigned and rounded down. At most 209 cycles.
+; 08 Sqrt: r0 becomes the root of r0, unsigned and rounded down. 148 cycles.
 square_root:
         mov   r2, r0                 ; what is left of the square
         mov   r0, #0
@@ -453,7 +454,7 @@ square_root_bit:
         mov   pc, lr
 
 ; 09 ArcTan: r0 becomes the angle whose tangent is its low halfword, signed with 14 bits behind the point: -4000h to 4000h
-; for a quarter of a turn each way, a signed halfword extended, to the nearest within one. At most 78 cycles.
+; for a quarter of a turn each way, a signed halfword extended, to the nearest within one. 29 cycles.
 arc_tangent:
         mov   r0, r0, lsl #16
         mov   r3, r0, asr #31        ; the sign
@@ -483,7 +484,7 @@ arc_tangent_place:
         .word arc_tangent_table
 
 ; 0A ArcTan2: r0 becomes the angle of the point (r0, r1), both signed halfwords, 0 to FFFFh for a turn, to the nearest within
-; one. The angle of the greater of both is that of the axis, and the rest has a tangent of at most 1. At most 270 cycles.
+; one. The angle of the greater of both is that of the axis, and the rest has a tangent of at most 1. At most 191 cycles.
 arc_tangent_2:
         mov   r0, r0, lsl #16
         mov   r1, r1, lsl #16
@@ -523,7 +524,7 @@ arc_tangent_2_add:
         mov   r0, r0, lsr #16
         ldmia sp!, {r4-r6, pc}
 
-; 0D GetBiosChecksum: r0 becomes the sum of the words of this image. 12,842 cycles.
+; 0D GetBiosChecksum: r0 becomes the sum of the words of this image. 11,278 cycles.
 bios_checksum:
         stmdb sp!, {r4-r7}
         mov   r12, #0
@@ -557,7 +558,7 @@ check_source:
         mov   pc, lr
 
 ; 0C CpuFastSet: the bits 0 to 20 of r2 are a number of words, rounded up to a multiple of eight; bit 24 asks for a fill by
-; the source's first word. Some 100 cycles, and for eight words 23 of a copy or 13 of a fill and what their accesses
+; the source's first word. Some 50 cycles, and for eight words 23 of a copy or 13 of a fill and what their accesses
 ; cost above 1 each.
 copy_blocks:
         mov   r3, r2, lsl #11
@@ -581,7 +582,7 @@ copy_end:
 
 ; 0B CpuSet: the bits 0 to 20 of r2 are a number of halfwords, or of words where bit 26 is set; bit 24 asks for a fill by
 ; the source's first one. Units are copied from the first to the last: an overlapping target repeats the source.
-; Memories are copied by blocks of words where that makes no difference, registers and the SRAM else. Some 170
+; Memories are copied by blocks of words where that makes no difference, registers and the SRAM else. Some 100
 ; cycles, and for eight words of a memory 23 of a copy or 13 of a fill, for eight halfwords whose places in their words
 ; differ 23, for a unit alone at most 7, and what their accesses cost above 1 each.
 copy_units:
@@ -935,7 +936,7 @@ lz77_halves_copy:
         b     lz77_halves_last
 
 ; 14 RLUnCompWram: a byte of which bit 7 says whether its other bits are a number minus 3, of which the next byte is to be
-; repeated, or a number minus 1 of bytes that follow. A run ends where the size is reached. At most 32 cycles a byte.
+; repeated, or a number minus 1 of bytes that follow. A run ends where the size is reached. At most 26 cycles a byte.
 unpack_runs_bytes:
         stmdb sp!, {r4, r5, lr}
         bl    read_header
@@ -961,7 +962,7 @@ runs_bytes_put:
 runs_bytes_end:
         ldmia sp!, {r4, r5, pc}
 
-; 15 RLUnCompVram: the same by halfwords. At most 36 cycles a byte.
+; 15 RLUnCompVram: the same by halfwords. At most 30 cycles a byte.
 unpack_runs_halves:
         stmdb sp!, {r4, r5, r7, lr}
         bl    read_header
@@ -1007,7 +1008,7 @@ unfilter_bytes_next:
         bne   unfilter_bytes_next
         ldmia sp!, {pc}
 
-; 17 Diff8bitUnFilterVram: the same by halfwords. 14 cycles a byte.
+; 17 Diff8bitUnFilterVram: the same by halfwords. 15 cycles a byte.
 unfilter_bytes_halves:
         stmdb sp!, {r7, lr}
         bl    read_header
@@ -1049,7 +1050,8 @@ unfilter_halves_next:
 ; 10 BitUnPack: r2 points to the number of the source's bytes, a halfword; the bits of a source's and of a target's unit,
 ; a byte each; and a word whose bits 0 to 30 are added to each unit that isn't 0, and to those that are where its bit 31
 ; is set. Units are taken from the low bits of a byte up, and stored from the low bits of a word up, whole words
-; alone. Other widths than 1, 2, 4 and 8, and 1 to 32, do nothing. At most 20 cycles a unit.
+; alone. Other widths than 1, 2, 4 and 8, and 1 to 32, do nothing. At most 17 cycles a unit, and 8 a
+; byte of the source.
 unpack_bits:
         ldrh  r3, [r2]
         cmp   r3, #0
@@ -1246,7 +1248,7 @@ huffman_fours_node_word:
 ; point, the screen's middle x and y, the scales of x and y with 8 bits behind the point, and an angle of which the high
 ; eight bits of 16 count, all halfwords, the four parameters and the place of the screen's first dot are stored at r1:
 ; PA = x scale * cosine, PB = -(x scale * sine), PC = y scale * sine, PD = y scale * cosine, the products rounded down, as
-; halfwords, and the picture's middle minus them times the screen's, as words. At most 100 cycles an entry.
+; halfwords, and the picture's middle minus them times the screen's, as words. At most 93 cycles an entry.
 background_affine:
         cmp   r2, #0
         moveq pc, lr
@@ -1276,7 +1278,7 @@ background_affine_next:
         ldmia sp!, {r4-r10, pc}
 
 ; 0F ObjAffineSet: for r2 entries of 8 bytes at r0, which are the scales of x and y and the angle, the four parameters are
-; stored as halfwords from r1 on, each r3 bytes behind the one before. At most 76 cycles an entry.
+; stored as halfwords from r1 on, each r3 bytes behind the one before. At most 64 cycles an entry.
 sprite_affine:
         cmp   r2, #0
         moveq pc, lr
@@ -1295,7 +1297,7 @@ sprite_affine_next:
 
 ; r5 to r8 become PA, PB, PC and PD, signed halfwords extended, of the x scale, the y scale and the angle, three halfwords
 ; at r11. r9 to r12 are changed. The table of the sine has 14 bits behind the point; the cosine is the sine a quarter of
-; a turn on. At most 49 cycles.
+; a turn on. At most 47 cycles.
 turn:
         ldrsh r9, [r11]
         ldrsh r10, [r11, #2]
@@ -1349,7 +1351,7 @@ sound_bias_step:
 
 ; 1F MidiKey2Freq: r0 becomes the frequency at which the key r1 plays the wave at r0, whose second word is its frequency at
 ; the key 180 as the wave's own units tell: that times 2 ^ ((r1 - 180) / 12), rounded down, and for the r2 of 256 parts of
-; a halftone to the next key the line between the two. From the key 180 on it is the highest below. At most 220
+; a halftone to the next key the line between the two. From the key 180 on it is the highest below. At most 169
 ; cycles.
 key_to_frequency:
         stmdb sp!, {r4, r5, lr}

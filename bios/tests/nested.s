@@ -1,4 +1,4 @@
-; Calls Div 1536 times, with 7919 times the round by 7, and stores r0, r1 and r3 from 02000000 on, while two
+; Calls Div 1536 times with all flags set, 7919 times the round by 7, and stores r0, r1, r3 and CPSR from 02000000 on, while two
 ; timers interrupt it, whose periods differ a little. The handler counts its calls from 0, calls Sqrt in interrupt mode
 ; with 9973 times its number, then lets interrupts in, in system mode, and calls Div there with minus 104729 times its
 ; number by 37; it stores the results of both, r0 of Sqrt and r0 and r1 of Div, from 02020000 on. The number of the
@@ -29,8 +29,10 @@ begin:  mov   r0, #0x04000000
         ldr   r6, factor
 next:   mul   r0, r4, r6
         mov   r1, #7
+        msr   cpsr_f, #0xf0000000
         swi   #0x060000
-        stmia r5!, {r0, r1, r3}
+        mrs   r8, cpsr
+        stmia r5!, {r0, r1, r3, r8}
         add   r4, r4, #1
         cmp   r4, #1536
         bne   next
@@ -68,6 +70,7 @@ handler:
         ldr   r0, minus
         mul   r0, r4, r0
         mov   r1, #37
+        msr   cpsr_f, #0             ; other flags than those of the call that was interrupted
         swi   #0x060000
         str   r0, [r6, #4]
         str   r1, [r6, #8]
