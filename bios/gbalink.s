@@ -1350,9 +1350,8 @@ sound_bias_step:
         b     sound_bias_step
 
 ; 1F MidiKey2Freq: r0 becomes the frequency at which the key r1 plays the wave at r0, whose second word is its frequency at
-; the key 180 as the wave's own units tell: that times 2 ^ ((r1 - 180) / 12), rounded down, and for the r2 of 256 parts of
-; a halftone to the next key the line between the two. From the key 180 on it is the highest below. At most 169
-; cycles.
+; the key 180: that times 2 ^ ((r1 - 180) / 12), and for r2 of 256 parts of a halftone the place on the line to the next
+; key; the whole number below, or one beside it. From the key 180 on it is the highest below. At most 170 cycles.
 key_to_frequency:
         stmdb sp!, {r4, r5, lr}
         ldr   r4, [r0, #4]
@@ -1368,7 +1367,8 @@ key_to_frequency:
         ldmia r12, {r1, r2}
         sub   r2, r2, r1             ; modulo 2 ^ 32, so that the last one is right too
         umull r12, r11, r2, r5
-        add   r1, r1, r11            ; the octave's first key is 2 ^ 31
+        adds  r12, r12, #0x80000000  ; rounded
+        adc   r1, r1, r11            ; the octave's first key is 2 ^ 31
         umull r12, r11, r1, r4
         rsb   r0, r0, #14
         mov   r0, r11, lsr r0
@@ -1429,4 +1429,4 @@ halftone_table:
         .word 0xaadc0848, 0xb504f334, 0xbfc886bb, 0xcb2ff52a, 0xd744fccb
         .word 0xe411f03a, 0xf1a1bf39, 0x00000000
 
-        .space 11140
+        .space 11136
