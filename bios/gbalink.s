@@ -2,11 +2,11 @@
 ; program calls by SWI, as GBATEK's section "BIOS Functions" describes them. docs/PROFILE.md says what it leaves out.
 ;
 ; A function is called with its number in the byte at lr - 2, in ARM and Thumb state. It gets its parameters in r0 to
-; r3, gives results in r0, r1 and r3, and keeps all other registers, the flags, the mode and the state. It runs in system
-; mode on the caller's stack, with the caller's I and F bits, so that interrupts are taken within it. The routines below
-; are free to change r0 to r3, r11 and r12, since the caller's r2, r11 and r12 are put back for them; what else they
-; change they keep on the stack. 'Cycles' are those of a routine by itself, with its stack in the inner RAM; the call of
-; a function takes 49 more, and more where the caller's code costs more than 1 a word.
+; r3, gives results in r0, r1 and r3, and keeps all other registers, the flags, the mode and the state. It runs in
+; system mode on the caller's stack, with the caller's I and F bits, so that interrupts are taken within it. The
+; routines below are free to change r0 to r3, r11 and r12, since the caller's r2, r11 and r12 are put back for them;
+; what else they change they keep on the stack. 'Cycles' are those of a routine by itself, with its stack in the inner
+; RAM; the call of a function takes 49 more, and more where the caller's code costs more than 1 a word.
 ;
 ; Some addresses: the halfword 03007ff8 has the flags of interrupts that handlers have seen, for IntrWait; the byte
 ; 03007ffa tells SoftReset where to go; the word 03007ffc is the handler. They are reached below 04000000, where the
@@ -104,9 +104,8 @@ hard_reset:
         mov   r0, #0xff
         bl    register_ram_reset
 
-; The start, also at reset: gives some I/O registers their values, and goes to the cartridge at 08000000, or halts where
-; there is none: each cartridge has the byte 96 at b2. 378 cycles
-; from reset.
+; The start, also at reset: gives some I/O registers their values, and goes to the cartridge at 08000000, or halts
+; where there is none: each cartridge has the byte 96 at b2. 378 cycles from reset.
 start:
         msr   cpsr_c, #0xd3          ; the supervisor's mode, interrupts off
         mov   r12, #0x04000000
@@ -136,9 +135,9 @@ no_cartridge:
         strb  r0, [r12, #0x301]
         b     no_cartridge
 
-; 00 SoftReset: goes to 08000000, or to 02000000 where the byte 03007ffa isn't 0. IME becomes 0; 03007e00 to 03007fff, r0
-; to r12, the lr and the SPSR of all modes become 0; the stacks of supervisor, interrupt and system begin anew; system
-; mode, interrupts not masked. 342 cycles.
+; 00 SoftReset: goes to 08000000, or to 02000000 where the byte 03007ffa isn't 0. IME becomes 0; 03007e00 to 03007fff,
+; r0 to r12, the lr and the SPSR of all modes become 0; the stacks of supervisor, interrupt and system begin anew;
+; system mode, interrupts not masked. 342 cycles.
 soft_reset:
         mov   r12, #0x04000000
         ldrb  r4, [r12, #-6]
@@ -201,9 +200,10 @@ interrupt_stack:
 system_stack:
         .word 0x03007f00
 
-; 01 RegisterRamReset: r0 says by its bits what becomes as after a start: 0 the work RAM, 1 the inner RAM but for its last
-; 200h bytes, 2 the palette, 3 VRAM, 4 OAM, 5 the serial registers, 6 those of sound, 7 all others, IME among them. The
-; picture becomes blank in any case. Memories take at most twice the cycles of their writes, registers some 800 in all.
+; 01 RegisterRamReset: r0 says by its bits what becomes as after a start: 0 the work RAM, 1 the inner RAM but for its
+; last 200h bytes, 2 the palette, 3 VRAM, 4 OAM, 5 the serial registers, 6 those of sound, 7 all others, IME among
+; them. The picture becomes blank in any case. Memories take at most twice the cycles of their writes, registers some
+; 800 in all.
 register_ram_reset:
         stmdb sp!, {r4-r8, lr}
         mov   r12, #0x04000000
@@ -248,8 +248,8 @@ register_ram_reset:
         blne  reset_others
         ldmia sp!, {r4-r8, pc}
 
-; Clears r2 bytes, a multiple of 32 but not 0, from r1 on: r3 to r8, r11 and r12 are 0. 13 cycles and what eight writes cost
-; above 1 each for 32 bytes.
+; Clears r2 bytes, a multiple of 32 but not 0, from r1 on: r3 to r8, r11 and r12 are 0. 13 cycles and what eight
+; writes cost above 1 each for 32 bytes.
 clear_memory:
         stmia r1!, {r3-r8, r11, r12}
         subs  r2, r2, #32
@@ -320,8 +320,8 @@ reset_others:
 ; ---------------------------------------------------------------------------------------------------------------------
 ; Halts
 
-; 02 Halt and 03 Stop: wait until an interrupt is requested that IE has, also where interrupts are off. 4 cycles and the
-; halt.
+; 02 Halt and 03 Stop: wait until an interrupt is requested that IE has, also where interrupts are off. 4 cycles and
+; the halt.
 halt:
         mov   r12, #0x04000000
         mov   r11, #0
@@ -339,11 +339,11 @@ vblank_wait:
         mov   r0, #1
         mov   r1, #1
 
-; 04 IntrWait: waits until a handler has put one of the interrupts r1 into the halfword 03007ff8. Where r0 isn't 0, those
-; that are there before are taken away first. IME becomes 1; those of r1 that came are taken away, and no others. The
-; flags are looked at with IME 0, and the halt comes before it is 1 again, so that no interrupt can come between, be
-; handled and be waited for in vain. 23 cycles for an old flag; else 23 and, for each interrupt that comes, its
-; handler and 21.
+; 04 IntrWait: waits until a handler has put one of the interrupts r1 into the halfword 03007ff8. Where r0 isn't 0,
+; those that are there before are taken away first. IME becomes 1; those of r1 that came are taken away, and no
+; others. The flags are looked at with IME 0, and the halt comes before it is 1 again, so that no interrupt can come
+; between, be handled and be waited for in vain. 23 cycles for an old flag; else 23 and, for each interrupt that
+; comes, its handler and 21.
 interrupt_wait:
         mov   r12, #0x04000000
         add   r2, r12, #0x200
@@ -372,9 +372,9 @@ divide_swapped:
         mov   r0, r1
         mov   r1, r3
 
-; 06 Div: r0 becomes the signed quotient r0 / r1, cut towards 0, r1 the remainder, which has the numerator's sign, and r3
-; the quotient without its sign. A denominator of 0 gives 1, or -1 for a numerator below 0, with the numerator as the
-; remainder and r3 = 1. 146 cycles, and by DivArm 149.
+; 06 Div: r0 becomes the signed quotient r0 / r1, cut towards 0, r1 the remainder, which has the numerator's sign, and
+; r3 the quotient without its sign. A denominator of 0 gives 1, or -1 for a numerator below 0, with the numerator as
+; the remainder and r3 = 1. 146 cycles, and by DivArm 149.
 divide:
         cmp   r1, #0
         beq   divide_by_zero
@@ -399,10 +399,10 @@ divide_by_zero:
         orr   r0, r0, #1
         mov   pc, lr
 
-; r0 becomes r0 / r1 and r1 the remainder, all unsigned and r1 from 1 to 80000000h; r2, r11 and r12 are changed. Each bit
-; of the quotient takes three steps: twice the remainder and the numerator's next bit, minus the denominator, which is
-; added again where there was a borrow; the carry is the quotient's bit, and goes into r0 behind the numerator. 121
-; cycles.
+; r0 becomes r0 / r1 and r1 the remainder, all unsigned and r1 from 1 to 80000000h; r2, r11 and r12 are changed. Each
+; bit of the quotient takes three steps: twice the remainder and the numerator's next bit, minus the denominator,
+; which is added again where there was a borrow; the carry is the quotient's bit, and goes into r0 behind the
+; numerator. 121 cycles.
 divide_unsigned:
         rsb   r2, r1, #0             ; the denominator's negative
         mov   r1, #0                 ; the remainder
@@ -453,8 +453,8 @@ square_root_bit:
         bne   square_root_bit
         mov   pc, lr
 
-; 09 ArcTan: r0 becomes the angle whose tangent is its low halfword, signed with 14 bits behind the point: -4000h to 4000h
-; for a quarter of a turn each way, a signed halfword extended, to the nearest within one. 29 cycles.
+; 09 ArcTan: r0 becomes the angle whose tangent is its low halfword, signed with 14 bits behind the point: -4000h to
+; 4000h for a quarter of a turn each way, a signed halfword extended, to the nearest within one. 29 cycles.
 arc_tangent:
         mov   r0, r0, lsl #16
         mov   r3, r0, asr #31        ; the sign
@@ -462,8 +462,8 @@ arc_tangent:
         eor   r0, r0, r3
         sub   r0, r0, r3             ; without it, with 16 bits behind the point
 
-; The same of r0 with 16 bits behind the point, 0 to 20000h, and with the sign of r3, 0 or -1. The table has the angles of
-; each 128th, and between them the line is taken. r1, r2 and r12 are changed.
+; The same of r0 with 16 bits behind the point, 0 to 20000h, and with the sign of r3, 0 or -1. The table has the
+; angles of each 128th, and between them the line is taken. r1, r2 and r12 are changed.
 arc_tangent_line:
         ldr   r12, arc_tangent_place
         mov   r2, r0, lsr #9
@@ -483,8 +483,9 @@ arc_tangent_line:
 arc_tangent_place:
         .word arc_tangent_table
 
-; 0A ArcTan2: r0 becomes the angle of the point (r0, r1), both signed halfwords, 0 to FFFFh for a turn, to the nearest within
-; one. The angle of the greater of both is that of the axis, and the rest has a tangent of at most 1. At most 191 cycles.
+; 0A ArcTan2: r0 becomes the angle of the point (r0, r1), both signed halfwords, 0 to FFFFh for a turn, to the nearest
+; within one. The angle of the greater of both is that of the axis, and the rest has a tangent of at most 1. At most
+; 191 cycles.
 arc_tangent_2:
         mov   r0, r0, lsl #16
         mov   r1, r1, lsl #16
@@ -557,9 +558,9 @@ check_source:
         tstne r11, #0x0e000000
         mov   pc, lr
 
-; 0C CpuFastSet: the bits 0 to 20 of r2 are a number of words, rounded up to a multiple of eight; bit 24 asks for a fill by
-; the source's first word. Some 50 cycles, and for eight words 23 of a copy or 13 of a fill and what their accesses
-; cost above 1 each.
+; 0C CpuFastSet: the bits 0 to 20 of r2 are a number of words, rounded up to a multiple of eight; bit 24 asks for a
+; fill by the source's first word. Some 50 cycles, and for eight words 23 of a copy or 13 of a fill and what their
+; accesses cost above 1 each.
 copy_blocks:
         mov   r3, r2, lsl #11
         movs  r3, r3, lsr #9         ; in bytes
@@ -580,11 +581,11 @@ copy_blocks_fill:
 copy_end:
         ldmia sp!, {r4-r10, pc}
 
-; 0B CpuSet: the bits 0 to 20 of r2 are a number of halfwords, or of words where bit 26 is set; bit 24 asks for a fill by
-; the source's first one. Units are copied from the first to the last: an overlapping target repeats the source.
-; Memories are copied by blocks of words where that makes no difference, registers and the SRAM else. Some 100
-; cycles, and for eight words of a memory 23 of a copy or 13 of a fill, for eight halfwords whose places in their words
-; differ 23, for a unit alone at most 7, and what their accesses cost above 1 each.
+; 0B CpuSet: the bits 0 to 20 of r2 are a number of halfwords, or of words where bit 26 is set; bit 24 asks for a fill
+; by the source's first one. Units are copied from the first to the last: an overlapping target repeats the source.
+; Memories are copied by blocks of words where that makes no difference, registers and the SRAM else. Some 100 cycles,
+; and for eight words of a memory 23 of a copy or 13 of a fill, for eight halfwords whose places in their words differ
+; 23, for a unit alone at most 7, and what their accesses cost above 1 each.
 copy_units:
         mov   r3, r2, lsl #11
         tst   r2, #0x04000000
@@ -615,8 +616,8 @@ copy_word_units:
         bl    copy_words_rest
         ldmia sp!, {r4-r10, pc}
 
-; Z is set where the address r11 is one of registers or of the SRAM, which tell words from halfwords. r11 is changed. 7
-; cycles.
+; Z is set where the address r11 is one of registers or of the SRAM, which tell words from halfwords. r11 is changed.
+; 7 cycles.
 check_memory:
         and   r11, r11, #0x0f000000
         teq   r11, #0x04000000
@@ -766,10 +767,11 @@ fill_halves_units:
         bne   fill_halves_units
         ldmia sp!, {r4-r10, pc}
 
-; Where the target begins less than 32 bytes behind the source, in the same memory or in one of its repeats, units that were
-; written are read again, and what is written repeats itself. So the first bytes are copied by halfwords, a multiple of
-; that distance and at least 32, and then the source moves back to where they were written, which has the same bytes as
-; the place to which it had come. r0, r1 and r3 are as for a copy, of memories; r2, r4, r5, r11 and r12 are changed.
+; Where the target begins less than 32 bytes behind the source, in the same memory or in one of its repeats, units
+; that were written are read again, and what is written repeats itself. So the first bytes are copied by halfwords, a
+; multiple of that distance and at least 32, and then the source moves back to where they were written, which has the
+; same bytes as the place to which it had come. r0, r1 and r3 are as for a copy, of memories; r2, r4, r5, r11 and r12
+; are changed.
 repeat_overlap:
         eor   r11, r0, r1
         tst   r11, #0x0f000000
@@ -807,12 +809,13 @@ repeat_overlap_unit:
 ; ---------------------------------------------------------------------------------------------------------------------
 ; Unpacking
 ;
-; All of them have the source in r0 and the target in r1. Sources in the BIOS are refused: then nothing is written. Just
-; the bytes of the unpacked size are changed: where a store is wider than what is left, the bytes behind are read and
-; written back. The forms for VRAM store halfwords alone; the byte at an even address waits in r7 for the one above it.
+; All of them have the source in r0 and the target in r1. Sources in the BIOS are refused: then nothing is written.
+; Just the bytes of the unpacked size are changed: where a store is wider than what is left, the bytes behind are read
+; and written back. The forms for VRAM store halfwords alone; the byte at an even address waits in r7 for the one
+; above it.
 
-; Reads the header at r0: r3 becomes the unpacked size, and r0 the address behind. Z is set where there is nothing to do:
-; the source is refused, or the size is 0. r11 is changed. By bytes, so that the source may be anywhere.
+; Reads the header at r0: r3 becomes the unpacked size, and r0 the address behind. Z is set where there is nothing to
+; do: the source is refused, or the size is 0. r11 is changed. By bytes, so that the source may be anywhere.
 read_header:
         ldrb  r3, [r0, #1]
         ldrb  r11, [r0, #2]
@@ -839,9 +842,9 @@ end_halves:
         strneh r7, [r1, #-1]
         mov   pc, lr
 
-; 11 LZ77UnCompWram: a byte of eight flags, the highest first, and eight blocks: a byte for the flag 0, and for 1 two, of
-; which the high four bits are a number minus 3 and the rest is a distance minus 1 back in what was unpacked. A block
-; ends where the size is reached. At most 18 cycles a byte and what the accesses cost above 1 each.
+; 11 LZ77UnCompWram: a byte of eight flags, the highest first, and eight blocks: a byte for the flag 0, and for 1 two,
+; of which the high four bits are a number minus 3 and the rest is a distance minus 1 back in what was unpacked. A
+; block ends where the size is reached. At most 18 cycles a byte and what the accesses cost above 1 each.
 unpack_lz77_bytes:
         stmdb sp!, {r4-r6, lr}
         bl    read_header
@@ -881,8 +884,8 @@ lz77_bytes_copy:
         bne   lz77_bytes_next
         ldmia sp!, {r4-r6, pc}
 
-; 12 LZ77UnCompVram: the same by halfwords. A distance of one repeats the last byte, r11, which may still wait. At most 24
-; cycles a byte and what the accesses cost above 1 each.
+; 12 LZ77UnCompVram: the same by halfwords. A distance of one repeats the last byte, r11, which may still wait. At
+; most 24 cycles a byte and what the accesses cost above 1 each.
 unpack_lz77_halves:
         stmdb sp!, {r4-r7, lr}
         bl    read_header
@@ -935,8 +938,9 @@ lz77_halves_copy:
         bne   lz77_halves_next
         b     lz77_halves_last
 
-; 14 RLUnCompWram: a byte of which bit 7 says whether its other bits are a number minus 3, of which the next byte is to be
-; repeated, or a number minus 1 of bytes that follow. A run ends where the size is reached. At most 26 cycles a byte.
+; 14 RLUnCompWram: a byte of which bit 7 says whether its other bits are a number minus 3, of which the next byte is
+; to be repeated, or a number minus 1 of bytes that follow. A run ends where the size is reached. At most 26 cycles a
+; byte.
 unpack_runs_bytes:
         stmdb sp!, {r4, r5, lr}
         bl    read_header
@@ -1030,7 +1034,8 @@ unfilter_bytes_halves_next:
 unfilter_bytes_halves_end:
         ldmia sp!, {r7, pc}
 
-; 18 Diff16bitUnFilter: the same of halfwords. An odd last byte has no difference, and isn't written. 10 cycles a halfword.
+; 18 Diff16bitUnFilter: the same of halfwords. An odd last byte has no difference, and isn't written. 10 cycles a
+; halfword.
 unfilter_halves:
         stmdb sp!, {lr}
         bl    read_header
@@ -1047,11 +1052,11 @@ unfilter_halves_next:
         bne   unfilter_halves_next
         ldmia sp!, {pc}
 
-; 10 BitUnPack: r2 points to the number of the source's bytes, a halfword; the bits of a source's and of a target's unit,
-; a byte each; and a word whose bits 0 to 30 are added to each unit that isn't 0, and to those that are where its bit 31
-; is set. Units are taken from the low bits of a byte up, and stored from the low bits of a word up, whole words
-; alone. Other widths than 1, 2, 4 and 8, and 1 to 32, do nothing. At most 17 cycles a unit, and 8 a
-; byte of the source.
+; 10 BitUnPack: r2 points to the number of the source's bytes, a halfword; the bits of a source's and of a target's
+; unit, a byte each; and a word whose bits 0 to 30 are added to each unit that isn't 0, and to those that are where
+; its bit 31 is set. Units are taken from the low bits of a byte up, and stored from the low bits of a word up, whole
+; words alone. Other widths than 1, 2, 4 and 8, and 1 to 32, do nothing. At most 17 cycles a unit, and 8 a byte of the
+; source.
 unpack_bits:
         ldrh  r3, [r2]
         cmp   r3, #0
@@ -1102,16 +1107,17 @@ unpack_bits_unit:
 unpack_bits_end:
         ldmia sp!, {r4-r10, pc}
 
-; 13 HuffUnComp: the header's low four bits are the bits of a symbol, 4 or 8, of which a word is packed from its low bits up
-; and then stored. A byte follows that leads over the tree to the stream, whose words give bits, the highest first.
-; The tree's first byte is its root. The two nodes below a node are side by side, two bytes and twice the low six bits
-; of the node behind its even address; the bit 7 says of the first one, which the bit 0 takes, that it is a symbol,
-; and bit 6 of the second. Symbols of other widths do nothing. At most 15 cycles a bit and what the accesses cost.
+; 13 HuffUnComp: the header's low four bits are the bits of a symbol, 1, 2, 4 or 8, of which a word is packed from its
+; low bits up and then stored. A byte follows that leads over the tree to the stream, whose words give bits, the
+; highest first. The tree's first byte is its root. The two nodes below a node are side by side, two bytes and twice
+; the low six bits of the node behind its even address; the bit 7 says of the first one, which the bit 0 takes, that
+; it is a symbol, and bit 6 of the second. Symbols of other widths do nothing. At most 15 cycles a bit and what the
+; accesses cost, and with symbols of one or two bits at most 17.
 ;
-; r0 is a node's address and r10 the node; r5 is the root and r6 the address of the two nodes below it. r8 has the bits
-; that are left of a word of the stream, and a 1 behind them: where a shift takes that out, r8 is 0 and the carry is
-; set, and goes behind the next word's bits. r9 has the word that is packed, with a 1 above it that goes out with its
-; last symbol.
+; r0 is a node's address and r10 the node; r5 is the root and r6 the address of the two nodes below it. r8 has the
+; bits that are left of a word of the stream, and a 1 behind them: where a shift takes that out, r8 is 0 and the carry
+; is set, and goes behind the next word's bits. r9 has the word that is packed, with a 1 above it that goes out with
+; its last symbol.
 unpack_huffman:
         stmdb sp!, {r4-r10, lr}
         ldrb  r4, [r0]
@@ -1133,6 +1139,10 @@ unpack_huffman:
         beq   huffman_fours
         cmp   r4, #8
         beq   huffman_eights
+        rsb   r12, r4, #32
+        sub   r11, r4, #1
+        cmp   r11, #2
+        bcc   huffman_few
 huffman_end:
         ldmia sp!, {r4-r10, pc}
 
@@ -1241,14 +1251,60 @@ huffman_fours_node_word:
         adcs  r8, r8, r8
         b     huffman_fours_node_bit
 
+; Symbols of r4 bits, one or two, in the same way; r12 is 32 minus that.
+huffman_few:
+        movs  r8, r8, lsl #1
+        beq   huffman_few_word
+huffman_few_bit:
+        tstcc r5, #0x80
+        tstcs r5, #0x40
+        adc   r0, r6, #0
+        ldrb  r10, [r0]
+        beq   huffman_few_node
+        movs  r9, r9, lsr r4
+        orr   r9, r9, r10, lsl r12
+        bcc   huffman_few
+huffman_few_store:
+        subs  r3, r3, #4
+        bcc   huffman_part
+        str   r9, [r1], #4
+        mov   r9, #0x80000000
+        bne   huffman_few
+        ldmia sp!, {r4-r10, pc}
+huffman_few_node:
+        movs  r8, r8, lsl #1
+        beq   huffman_few_node_word
+huffman_few_node_bit:
+        and   r2, r10, #0x3f
+        adc   r2, r2, r2
+        movcs r10, r10, lsl #1
+        tst   r10, #0x80
+        bic   r0, r0, #1
+        add   r0, r0, #2
+        ldrb  r10, [r0, r2]!
+        beq   huffman_few_node
+        movs  r9, r9, lsr r4
+        orr   r9, r9, r10, lsl r12
+        bcc   huffman_few
+        b     huffman_few_store
+huffman_few_word:
+        ldr   r8, [r7], #4
+        adcs  r8, r8, r8
+        b     huffman_few_bit
+huffman_few_node_word:
+        ldr   r8, [r7], #4
+        adcs  r8, r8, r8
+        b     huffman_few_node_bit
+
 ; ---------------------------------------------------------------------------------------------------------------------
 ; Turned and scaled pictures
 
-; 0E BgAffineSet: for r2 entries of 20 bytes at r0, which are the picture's middle x and y, words with 8 bits behind the
-; point, the screen's middle x and y, the scales of x and y with 8 bits behind the point, and an angle of which the high
-; eight bits of 16 count, all halfwords, the four parameters and the place of the screen's first dot are stored at r1:
-; PA = x scale * cosine, PB = -(x scale * sine), PC = y scale * sine, PD = y scale * cosine, the products rounded down, as
-; halfwords, and the picture's middle minus them times the screen's, as words. At most 93 cycles an entry.
+; 0E BgAffineSet: for r2 entries of 20 bytes at r0, which are the picture's middle x and y, words with 8 bits behind
+; the point, the screen's middle x and y, the scales of x and y with 8 bits behind the point, and an angle of which
+; the high eight bits of 16 count, all halfwords, the four parameters and the place of the screen's first dot are
+; stored at r1: PA = x scale * cosine, PB = -(x scale * sine), PC = y scale * sine, PD = y scale * cosine, the
+; products rounded down, as halfwords, and the picture's middle minus them times the screen's, as words. At most 93
+; cycles an entry.
 background_affine:
         cmp   r2, #0
         moveq pc, lr
@@ -1277,8 +1333,8 @@ background_affine_next:
         bne   background_affine_next
         ldmia sp!, {r4-r10, pc}
 
-; 0F ObjAffineSet: for r2 entries of 8 bytes at r0, which are the scales of x and y and the angle, the four parameters are
-; stored as halfwords from r1 on, each r3 bytes behind the one before. At most 64 cycles an entry.
+; 0F ObjAffineSet: for r2 entries of 8 bytes at r0, which are the scales of x and y and the angle, the four parameters
+; are stored as halfwords from r1 on, each r3 bytes behind the one before. At most 64 cycles an entry.
 sprite_affine:
         cmp   r2, #0
         moveq pc, lr
@@ -1295,9 +1351,9 @@ sprite_affine_next:
         bne   sprite_affine_next
         ldmia sp!, {r4-r10, pc}
 
-; r5 to r8 become PA, PB, PC and PD, signed halfwords extended, of the x scale, the y scale and the angle, three halfwords
-; at r11. r9 to r12 are changed. The table of the sine has 14 bits behind the point; the cosine is the sine a quarter of
-; a turn on. At most 47 cycles.
+; r5 to r8 become PA, PB, PC and PD, signed halfwords extended, of the x scale, the y scale and the angle, three
+; halfwords at r11. r9 to r12 are changed. The table of the sine has 14 bits behind the point; the cosine is the sine
+; a quarter of a turn on. At most 47 cycles.
 turn:
         ldrsh r9, [r11]
         ldrsh r10, [r11, #2]
@@ -1331,8 +1387,8 @@ sine_place:
 ; ---------------------------------------------------------------------------------------------------------------------
 ; Sound
 
-; 19 SoundBias: the level of SOUNDBIAS, its bits 1 to 9, goes by steps of one to 200h, or to 0 where r0 is 0; its other bits
-; stay. 12 cycles a step.
+; 19 SoundBias: the level of SOUNDBIAS, its bits 1 to 9, goes by steps of one to 200h, or to 0 where r0 is 0; its
+; other bits stay. 12 cycles a step.
 sound_bias:
         mov   r12, #0x04000000
         cmp   r0, #0
@@ -1349,9 +1405,10 @@ sound_bias_step:
         strh  r1, [r12, #0x88]
         b     sound_bias_step
 
-; 1F MidiKey2Freq: r0 becomes the frequency at which the key r1 plays the wave at r0, whose second word is its frequency at
-; the key 180: that times 2 ^ ((r1 - 180) / 12), and for r2 of 256 parts of a halftone the place on the line to the next
-; key; the whole number below, or one beside it. From the key 180 on it is the highest below. At most 170 cycles.
+; 1F MidiKey2Freq: r0 becomes the frequency at which the key r1 plays the wave at r0, whose second word is its
+; frequency at the key 180: that times 2 ^ ((r1 - 180) / 12), and for r2 of 256 parts of a halftone the place on the
+; line to the next key; the whole number below, or one beside it. From the key 180 on it is the highest below. At most
+; 170 cycles.
 key_to_frequency:
         stmdb sp!, {r4, r5, lr}
         ldr   r4, [r0, #4]
@@ -1383,43 +1440,75 @@ halftone_place:
 ; The angle whose tangent is k / 128, for k from 0 to 256: a turn is 40000h, rounded to the nearest,
 ; round(40000h * atan(k / 128) / (2 * pi)).
 arc_tangent_table:
-        .half 0, 326, 652, 978, 1303, 1629, 1954, 2279, 2604, 2929, 3253, 3577, 3900, 4223, 4545, 4867
-        .half 5188, 5509, 5829, 6148, 6467, 6784, 7101, 7418, 7733, 8047, 8361, 8673, 8985, 9296, 9605, 9914
-        .half 10221, 10527, 10832, 11136, 11439, 11740, 12040, 12339, 12637, 12933, 13228, 13522, 13814, 14105, 14394, 14682
-        .half 14968, 15253, 15537, 15819, 16100, 16379, 16656, 16932, 17206, 17479, 17750, 18020, 18288, 18554, 18819, 19083
-        .half 19344, 19604, 19862, 20119, 20374, 20627, 20879, 21129, 21378, 21624, 21870, 22113, 22355, 22595, 22834, 23070
-        .half 23306, 23539, 23771, 24001, 24230, 24457, 24682, 24906, 25128, 25349, 25568, 25785, 26001, 26215, 26427, 26638
-        .half 26848, 27056, 27262, 27467, 27670, 27871, 28072, 28270, 28467, 28663, 28857, 29050, 29241, 29430, 29619, 29805
-        .half 29991, 30175, 30357, 30538, 30718, 30896, 31073, 31248, 31423, 31595, 31767, 31937, 32106, 32273, 32439, 32604
-        .half 32768, 32930, 33091, 33251, 33410, 33567, 33723, 33878, 34032, 34184, 34336, 34486, 34635, 34783, 34929, 35075
-        .half 35219, 35363, 35505, 35646, 35786, 35925, 36063, 36200, 36335, 36470, 36604, 36736, 36868, 36999, 37128, 37257
-        .half 37385, 37512, 37637, 37762, 37886, 38009, 38131, 38252, 38372, 38491, 38610, 38727, 38844, 38960, 39074, 39188
-        .half 39302, 39414, 39526, 39636, 39746, 39855, 39963, 40071, 40178, 40283, 40389, 40493, 40597, 40699, 40802, 40903
-        .half 41004, 41104, 41203, 41301, 41399, 41496, 41593, 41688, 41783, 41878, 41971, 42065, 42157, 42249, 42340, 42430
-        .half 42520, 42609, 42698, 42786, 42873, 42960, 43046, 43132, 43217, 43301, 43385, 43468, 43551, 43633, 43715, 43796
-        .half 43876, 43956, 44036, 44115, 44193, 44271, 44348, 44425, 44501, 44577, 44653, 44727, 44802, 44876, 44949, 45022
-        .half 45094, 45166, 45238, 45309, 45379, 45449, 45519, 45588, 45657, 45725, 45793, 45861, 45928, 45995, 46061, 46127
+        .half 0, 326, 652, 978, 1303, 1629, 1954, 2279
+        .half 2604, 2929, 3253, 3577, 3900, 4223, 4545, 4867
+        .half 5188, 5509, 5829, 6148, 6467, 6784, 7101, 7418
+        .half 7733, 8047, 8361, 8673, 8985, 9296, 9605, 9914
+        .half 10221, 10527, 10832, 11136, 11439, 11740, 12040, 12339
+        .half 12637, 12933, 13228, 13522, 13814, 14105, 14394, 14682
+        .half 14968, 15253, 15537, 15819, 16100, 16379, 16656, 16932
+        .half 17206, 17479, 17750, 18020, 18288, 18554, 18819, 19083
+        .half 19344, 19604, 19862, 20119, 20374, 20627, 20879, 21129
+        .half 21378, 21624, 21870, 22113, 22355, 22595, 22834, 23070
+        .half 23306, 23539, 23771, 24001, 24230, 24457, 24682, 24906
+        .half 25128, 25349, 25568, 25785, 26001, 26215, 26427, 26638
+        .half 26848, 27056, 27262, 27467, 27670, 27871, 28072, 28270
+        .half 28467, 28663, 28857, 29050, 29241, 29430, 29619, 29805
+        .half 29991, 30175, 30357, 30538, 30718, 30896, 31073, 31248
+        .half 31423, 31595, 31767, 31937, 32106, 32273, 32439, 32604
+        .half 32768, 32930, 33091, 33251, 33410, 33567, 33723, 33878
+        .half 34032, 34184, 34336, 34486, 34635, 34783, 34929, 35075
+        .half 35219, 35363, 35505, 35646, 35786, 35925, 36063, 36200
+        .half 36335, 36470, 36604, 36736, 36868, 36999, 37128, 37257
+        .half 37385, 37512, 37637, 37762, 37886, 38009, 38131, 38252
+        .half 38372, 38491, 38610, 38727, 38844, 38960, 39074, 39188
+        .half 39302, 39414, 39526, 39636, 39746, 39855, 39963, 40071
+        .half 40178, 40283, 40389, 40493, 40597, 40699, 40802, 40903
+        .half 41004, 41104, 41203, 41301, 41399, 41496, 41593, 41688
+        .half 41783, 41878, 41971, 42065, 42157, 42249, 42340, 42430
+        .half 42520, 42609, 42698, 42786, 42873, 42960, 43046, 43132
+        .half 43217, 43301, 43385, 43468, 43551, 43633, 43715, 43796
+        .half 43876, 43956, 44036, 44115, 44193, 44271, 44348, 44425
+        .half 44501, 44577, 44653, 44727, 44802, 44876, 44949, 45022
+        .half 45094, 45166, 45238, 45309, 45379, 45449, 45519, 45588
+        .half 45657, 45725, 45793, 45861, 45928, 45995, 46061, 46127
         .half 46192
 
 ; The sine of k of 256 steps of a turn, for k from 0 to 255: 1 is 4000h, cut towards 0,
 ; trunc(4000h * sin(2 * pi * k / 256)), as halfwords in two's complement.
 sine_table:
-        .half 0, 402, 803, 1205, 1605, 2005, 2404, 2801, 3196, 3589, 3980, 4369, 4756, 5139, 5519, 5896
-        .half 6269, 6639, 7005, 7366, 7723, 8075, 8423, 8765, 9102, 9434, 9759, 10079, 10393, 10701, 11002, 11297
-        .half 11585, 11866, 12139, 12406, 12665, 12916, 13159, 13395, 13622, 13842, 14053, 14255, 14449, 14634, 14810, 14978
-        .half 15136, 15286, 15426, 15557, 15678, 15790, 15892, 15985, 16069, 16142, 16206, 16260, 16305, 16339, 16364, 16379
-        .half 16384, 16379, 16364, 16339, 16305, 16260, 16206, 16142, 16069, 15985, 15892, 15790, 15678, 15557, 15426, 15286
-        .half 15136, 14978, 14810, 14634, 14449, 14255, 14053, 13842, 13622, 13395, 13159, 12916, 12665, 12406, 12139, 11866
-        .half 11585, 11297, 11002, 10701, 10393, 10079, 9759, 9434, 9102, 8765, 8423, 8075, 7723, 7366, 7005, 6639
-        .half 6269, 5896, 5519, 5139, 4756, 4369, 3980, 3589, 3196, 2801, 2404, 2005, 1605, 1205, 803, 402
-        .half 0, 65134, 64733, 64331, 63931, 63531, 63132, 62735, 62340, 61947, 61556, 61167, 60780, 60397, 60017, 59640
-        .half 59267, 58897, 58531, 58170, 57813, 57461, 57113, 56771, 56434, 56102, 55777, 55457, 55143, 54835, 54534, 54239
-        .half 53951, 53670, 53397, 53130, 52871, 52620, 52377, 52141, 51914, 51694, 51483, 51281, 51087, 50902, 50726, 50558
-        .half 50400, 50250, 50110, 49979, 49858, 49746, 49644, 49551, 49467, 49394, 49330, 49276, 49231, 49197, 49172, 49157
-        .half 49152, 49157, 49172, 49197, 49231, 49276, 49330, 49394, 49467, 49551, 49644, 49746, 49858, 49979, 50110, 50250
-        .half 50400, 50558, 50726, 50902, 51087, 51281, 51483, 51694, 51914, 52141, 52377, 52620, 52871, 53130, 53397, 53670
-        .half 53951, 54239, 54534, 54835, 55143, 55457, 55777, 56102, 56434, 56771, 57113, 57461, 57813, 58170, 58531, 58897
-        .half 59267, 59640, 60017, 60397, 60780, 61167, 61556, 61947, 62340, 62735, 63132, 63531, 63931, 64331, 64733, 65134
+        .half 0, 402, 803, 1205, 1605, 2005, 2404, 2801
+        .half 3196, 3589, 3980, 4369, 4756, 5139, 5519, 5896
+        .half 6269, 6639, 7005, 7366, 7723, 8075, 8423, 8765
+        .half 9102, 9434, 9759, 10079, 10393, 10701, 11002, 11297
+        .half 11585, 11866, 12139, 12406, 12665, 12916, 13159, 13395
+        .half 13622, 13842, 14053, 14255, 14449, 14634, 14810, 14978
+        .half 15136, 15286, 15426, 15557, 15678, 15790, 15892, 15985
+        .half 16069, 16142, 16206, 16260, 16305, 16339, 16364, 16379
+        .half 16384, 16379, 16364, 16339, 16305, 16260, 16206, 16142
+        .half 16069, 15985, 15892, 15790, 15678, 15557, 15426, 15286
+        .half 15136, 14978, 14810, 14634, 14449, 14255, 14053, 13842
+        .half 13622, 13395, 13159, 12916, 12665, 12406, 12139, 11866
+        .half 11585, 11297, 11002, 10701, 10393, 10079, 9759, 9434
+        .half 9102, 8765, 8423, 8075, 7723, 7366, 7005, 6639
+        .half 6269, 5896, 5519, 5139, 4756, 4369, 3980, 3589
+        .half 3196, 2801, 2404, 2005, 1605, 1205, 803, 402
+        .half 0, 65134, 64733, 64331, 63931, 63531, 63132, 62735
+        .half 62340, 61947, 61556, 61167, 60780, 60397, 60017, 59640
+        .half 59267, 58897, 58531, 58170, 57813, 57461, 57113, 56771
+        .half 56434, 56102, 55777, 55457, 55143, 54835, 54534, 54239
+        .half 53951, 53670, 53397, 53130, 52871, 52620, 52377, 52141
+        .half 51914, 51694, 51483, 51281, 51087, 50902, 50726, 50558
+        .half 50400, 50250, 50110, 49979, 49858, 49746, 49644, 49551
+        .half 49467, 49394, 49330, 49276, 49231, 49197, 49172, 49157
+        .half 49152, 49157, 49172, 49197, 49231, 49276, 49330, 49394
+        .half 49467, 49551, 49644, 49746, 49858, 49979, 50110, 50250
+        .half 50400, 50558, 50726, 50902, 51087, 51281, 51483, 51694
+        .half 51914, 52141, 52377, 52620, 52871, 53130, 53397, 53670
+        .half 53951, 54239, 54534, 54835, 55143, 55457, 55777, 56102
+        .half 56434, 56771, 57113, 57461, 57813, 58170, 58531, 58897
+        .half 59267, 59640, 60017, 60397, 60780, 61167, 61556, 61947
+        .half 62340, 62735, 63132, 63531, 63931, 64331, 64733, 65134
         .align
 
 ; The frequency of k halftones above an octave's first key, for k from 0 to 12: an octave is 80000000h,
@@ -1429,4 +1518,4 @@ halftone_table:
         .word 0xaadc0848, 0xb504f334, 0xbfc886bb, 0xcb2ff52a, 0xd744fccb
         .word 0xe411f03a, 0xf1a1bf39, 0x00000000
 
-        .space 11136
+        .space 10976

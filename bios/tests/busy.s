@@ -1,8 +1,8 @@
-; Copies what the table's first entries say, of three words each: a source, a target and a number of sixteen bytes, which
-; is 0 in the last one. Then makes the calls of the cases, whose number stands before them, while timer 2 interrupts them.
-; A case has the word of its SWI, the timer's reload, CPSR, a word that isn't used, and r0 to r3. From 0203c000 on it
-; stores four words for each: the cycles, by the timers 0 and 1, how many interrupts there were, the most cycles from
-; one to its handler, and the r0 of the handler.
+; Copies what the table's first entries say, of three words each: a source, a target and a number of sixteen bytes,
+; which is 0 in the last one. Then makes the calls of the cases, whose number stands before them, while timer 2
+; interrupts them. A case has the word of its SWI, the timer's reload, CPSR, a word that isn't used, and r0 to r3.
+; From 0203c000 on it stores four words for each: the cycles, by the timers 0 and 1, how many interrupts there were,
+; the most cycles from one to its handler, and the r0 of the handler.
 
         b     begin
         .space 0xae

@@ -1,5 +1,5 @@
-; Calls Div with the registers r0 to r3 of each case of the table, which begins with their number, and stores r0, r1, r3
-; and the cycles of the call, measured by timer 0, in the work RAM.
+; Calls Div with the registers r0 to r3 of each case of the table, which begins with their number, and stores r0, r1,
+; r3 and the cycles of the call, measured by timer 0, in the work RAM.
 
         b     begin
         .space 0xae

@@ -1,5 +1,5 @@
-; Counts its starts in the SRAM. At the first one it changes memories and registers and calls HardReset, in interrupt mode
-; and with interrupts on.
+; Counts its starts in the SRAM. At the first one it changes memories and registers and calls HardReset, in interrupt
+; mode and with interrupts on.
 
         b     begin
         .space 0xae

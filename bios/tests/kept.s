@@ -1,8 +1,8 @@
-; Calls the numbers that the table tells, each with all registers, in a mode and a state of its own, and stores what they
-; are then. The table begins with the number of cases; a case has the call's number, 1 for Thumb state and else 0, CPSR,
-; IME in the low and IE in the high halfword, r0 to r3 and sp. 17 words are stored for each from 02020000 on: r0 to r14,
-; CPSR, and IME and IE. Timer 0 requests its interrupt all the time, and the flags for IntrWait are 9 before each call. A
-; case in user mode has to be the last one.
+; Calls the numbers that the table tells, each with all registers, in a mode and a state of its own, and stores what
+; they are then. The table begins with the number of cases; a case has the call's number, 1 for Thumb state and else
+; 0, CPSR, IME in the low and IE in the high halfword, r0 to r3 and sp. 17 words are stored for each from 02020000 on:
+; r0 to r14, CPSR, and IME and IE. Timer 0 requests its interrupt all the time, and the flags for IntrWait are 9
+; before each call. A case in user mode has to be the last one.
 
         b     begin
         .space 0xae

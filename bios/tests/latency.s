@@ -1,6 +1,6 @@
-; Timer 0 interrupts a loop in the inner RAM 200 times, with periods that grow, so that each place in the loop is met. The
-; handler stores at 02000000 the most cycles from an interrupt to its first instruction, the number of interrupts, r0,
-; and whether r1 to r3 and r12 of the loop were kept.
+; Timer 0 interrupts a loop in the inner RAM 200 times, with periods that grow, so that each place in the loop is met.
+; The handler stores at 02000000 the most cycles from an interrupt to its first instruction, the number of interrupts,
+; r0, and whether r1 to r3 and r12 of the loop were kept.
 
         b     begin
         .space 0xae

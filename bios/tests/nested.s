@@ -1,8 +1,8 @@
-; Calls Div 1536 times with all flags set, 7919 times the round by 7, and stores r0, r1, r3 and CPSR from 02000000 on, while two
-; timers interrupt it, whose periods differ a little. The handler counts its calls from 0, calls Sqrt in interrupt mode
-; with 9973 times its number, then lets interrupts in, in system mode, and calls Div there with minus 104729 times its
-; number by 37; it stores the results of both, r0 of Sqrt and r0 and r1 of Div, from 02020000 on. The number of the
-; handler's calls is stored at 03000400, and the greatest depth of them at 03000408.
+; Calls Div 1536 times with all flags set, 7919 times the round by 7, and stores r0, r1, r3 and CPSR from 02000000 on,
+; while two timers interrupt it, whose periods differ a little. The handler counts its calls from 0, calls Sqrt in
+; interrupt mode with 9973 times its number, then lets interrupts in, in system mode, and calls Div there with minus
+; 104729 times its number by 37; it stores the results of both, r0 of Sqrt and r0 and r1 of Div, from 02020000 on. The
+; number of the handler's calls is stored at 03000400, and the greatest depth of them at 03000408.
 
         b     begin
         .space 0xae

@@ -1,6 +1,6 @@
-; Timer 0 overflows each 1024 cycles. 512 times this waits for a new interrupt of it by IntrWait, then some 400 cycles and
-; one more each time, and then by IntrWait for the next one, so that it comes at each place within that call. Stores the
-; number of handled interrupts at 02000000.
+; Timer 0 overflows each 1024 cycles. 512 times this waits for a new interrupt of it by IntrWait, then some 400 cycles
+; and one more each time, and then by IntrWait for the next one, so that it comes at each place within that call.
+; Stores the number of handled interrupts at 02000000.
 
         b     begin
         .space 0xae

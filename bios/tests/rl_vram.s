@@ -1,6 +1,6 @@
 ; Copies what the table's first entries say, of three words each: a source, a target and a number of sixteen bytes,
-; which is 0 in the last one. Then calls RLUnCompVram with the registers r0 to r3 of each case, whose number stands before them, and
-; stores the cycles of the calls, measured by the timers 0 and 1, from 0203c000 on.
+; which is 0 in the last one. Then calls RLUnCompVram with the registers r0 to r3 of each case, whose number stands
+; before them, and stores the cycles of the calls, measured by the timers 0 and 1, from 0203c000 on.
 
         b     begin
         .space 0xae

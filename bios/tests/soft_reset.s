@@ -1,6 +1,6 @@
 ; Changes the registers of all modes and the last 200h bytes of the inner RAM at the first start, sets IME, and calls
-; SoftReset with the byte 03007ffa as the table's first word says. At the next start it stays, and so does the code that
-; it put at 02000000 before.
+; SoftReset with the byte 03007ffa as the table's first word says. At the next start it stays, and so does the code
+; that it put at 02000000 before.
 
         b     begin
         .space 0xae

@@ -1,4 +1,5 @@
-; Comes to an undefined instruction in ARM and in Thumb state, and stays behind both with the flags that it set before.
+; Comes to an undefined instruction in ARM and in Thumb state, and stays behind both with the flags that it set
+; before.
 
         b     begin
         .space 0xae

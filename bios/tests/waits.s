@@ -1,9 +1,9 @@
-; Steps of a table, whose number it begins with. Each has four words: what is written to IE (low halfword) and IME (bit
-; 16), with the bit 31 for interrupts masked in CPSR; the halfword that is put at 03007ff8 before; r0; and r1. The number
-; of the call is in the bits 24 to 30 of the first word. Behind the call its step's line of the picture, the halfword at
-; 03007ff8, IME, the numbers of handled interrupts of VBlank, HBlank and timer 0, and the cycles by the timers 2 and 3
-; are stored, eight words for a step from 02000000 on, the last one the picture's number. Timer 0 overflows each 4096
-; cycles. The handler puts what it handles into 03007ff8.
+; Steps of a table, whose number it begins with. Each has four words: what is written to IE (low halfword) and IME
+; (bit 16), with the bit 31 for interrupts masked in CPSR; the halfword that is put at 03007ff8 before; r0; and r1.
+; The number of the call is in the bits 24 to 30 of the first word. Behind the call its step's line of the picture,
+; the halfword at 03007ff8, IME, the numbers of handled interrupts of VBlank, HBlank and timer 0, and the cycles by
+; the timers 2 and 3 are stored, eight words for a step from 02000000 on, the last one the picture's number. Timer 0
+; overflows each 4096 cycles. The handler puts what it handles into 03007ff8.
 
         b     begin
         .space 0xae
