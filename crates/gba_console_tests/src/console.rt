@@ -102,7 +102,7 @@ pub(crate) fn run<R: Abort>(rt: &R, console: &mut Console, until: u64) {
 fn jumps_and_no_memory(rt: HostRuntime) -> Result<(), Fail> {
     let mut console = console_of(rt.alloc(), &[0xEB00_0000, 0, 0x0A00_0000, 0xEA00_0FFB])?;
     assert_eq!(rt; console.all()[31], 0xD3);
-    for (count, clock, link, at) in [
+    for &(count, clock, link, at) in &[
         (1, 3, 4, 8),
         (1, 4, 4, 12),
         (1, 7, 4, 0x4000),
@@ -130,7 +130,7 @@ fn move_and_loop(rt: HostRuntime) -> Result<(), Fail> {
 /// What loads and stores see, by the program: each ends with its result in r0.
 #[test]
 fn memory_map(rt: HostRuntime) -> Result<(), Fail> {
-    for (words, count, result) in [
+    for &(words, count, result) in &[
         // MOV r1, #03000000h; MOV r2, #5; STR r2, [r1, #4]; ADD r1, r1, #8000h; LDR r0, [r1, #4]: repeated.
         (
             [
@@ -277,7 +277,7 @@ fn both_states(rt: HostRuntime) -> Result<(), Fail> {
     ];
     let mut console = console_of(rt.alloc(), &words)?;
     // The clock, r1, r15 and CPSR after each step. SUB has no borrow, so C is set.
-    for (clock, value, at, status) in [
+    for &(clock, value, at, status) in &[
         (1, 0, 4, 0xD3),
         (4, 0, 8, 0xF3),
         (5, 5, 0xA, 0xF3),
@@ -368,7 +368,7 @@ struct Program<'a> {
 /// interrupt lasts for ever, 16 cycles at a time; WAITCNT prices from the next instruction on.
 #[test]
 fn devices_in_steps(rt: HostRuntime) -> Result<(), Fail> {
-    for one in [
+    for &one in &[
         // MOV r1, #04000000h; MOV r2, #80h; ADD r3, r1, #100h; STRH r2, [r3, #2]; LDRH r0, [r3]
         Program {
             words: &[
@@ -472,7 +472,7 @@ fn keys_change_in_their_order(rt: HostRuntime) -> Result<(), Fail> {
 /// only where IME is 1 and I is 0.
 #[test]
 fn a_halt_ends(rt: HostRuntime) -> Result<(), Fail> {
-    for (master, status, clock, at, zero) in [
+    for &(master, status, clock, at, zero) in &[
         (0xE3A0_5000, 0xE321_F0D3, 53, 0x40, 1),
         (0xE3A0_5000, 0xE321_F053, 53, 0x40, 1),
         (0xE3A0_5001, 0xE321_F0D3, 53, 0x40, 1),

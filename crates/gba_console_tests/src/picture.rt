@@ -17,7 +17,7 @@ fn colour_at<R: Abort>(rt: &R, frames: &[u8], frame: usize, line: usize, column:
 #[test]
 fn frames_are_whole_with_line_159(rt: HostRuntime) -> Result<(), Fail> {
     let mut console = console_of(rt.alloc(), &[0xEAFF_FFFE])?;
-    for (until, clock, frames, bytes, pairs) in [
+    for &(until, clock, frames, bytes, pairs) in &[
         (196_893, 196_893, 0, 0, 384),
         (196_894, 196_896, 1, 76_800, 384),
         (477_789, 477_789, 1, 76_800, 933),

@@ -54,7 +54,7 @@ fn play<R: Abort>(rt: &R, presses: &[Press]) {
 }
 
 /// Any of A and B: true at the first of them, and again only after both were let go.
-const ANY: [Press; 7] = [
+static ANY: [Press; 7] = [
     Control(0x4003, false),
     Keys(0x004, false),
     Keys(0x001, true),
@@ -65,7 +65,7 @@ const ANY: [Press; 7] = [
 ];
 
 /// All of A and B.
-const ALL: [Press; 5] = [
+static ALL: [Press; 5] = [
     Control(0xC003, false),
     Keys(0x001, false),
     Keys(0x003, true),
@@ -74,7 +74,7 @@ const ALL: [Press; 5] = [
 ];
 
 /// No key is chosen: never, whichever way.
-const NONE: [Press; 4] = [
+static NONE: [Press; 4] = [
     Keys(0x3FF, false),
     Control(0x4000, false),
     Control(0xC000, false),
@@ -82,7 +82,7 @@ const NONE: [Press; 4] = [
 ];
 
 /// The edge by writes of KEYCNT while keys are held.
-const BY_CONTROL: [Press; 6] = [
+static BY_CONTROL: [Press; 6] = [
     Keys(0x009, false),
     Control(0x0008, false),
     Control(0x4008, true),

@@ -25,7 +25,7 @@ pub(crate) const HEADER: [(usize, u8); 2] = [(0xB2, 0x96), (0xBD, 0x51)];
 
 #[test]
 fn a_bios_has_its_length(rt: HostRuntime) -> Result<(), Fail> {
-    for (length, fault) in [
+    for &(length, fault) in &[
         (0, Some(ImageError::BiosLength)),
         (16_383, Some(ImageError::BiosLength)),
         (16_384, None),
@@ -42,7 +42,7 @@ fn a_bios_has_its_length(rt: HostRuntime) -> Result<(), Fail> {
 
 #[test]
 fn a_save_has_its_length(rt: HostRuntime) -> Result<(), Fail> {
-    for (length, fault) in [
+    for &(length, fault) in &[
         (0, Some(ImageError::SaveLength)),
         (32_767, Some(ImageError::SaveLength)),
         (32_768, None),
@@ -62,7 +62,7 @@ type Row<'a> = (usize, &'a [(usize, u8)], Option<ImageError>);
 
 #[test]
 fn a_cartridge_is_refused_for_its_first_fault(rt: HostRuntime) -> Result<(), Fail> {
-    let rows: [Row; 13] = [
+    static ROWS: [Row; 13] = [
         (0, &[], Some(ImageError::TooShort)),
         (191, &HEADER, Some(ImageError::TooShort)),
         (192, &[], Some(ImageError::FixedByte)),
@@ -89,7 +89,7 @@ fn a_cartridge_is_refused_for_its_first_fault(rt: HostRuntime) -> Result<(), Fai
         (33_554_432, &HEADER, None),
         (33_554_433, &[], Some(ImageError::TooLong)),
     ];
-    for (length, bytes, fault) in rows {
+    for &(length, bytes, fault) in &ROWS {
         let cart = Cartridge::check(image(&rt, rt.alloc(), length, bytes)?);
         assert_eq!(rt; cart.err(), fault);
     }
@@ -102,7 +102,7 @@ fn a_cartridge_is_refused_for_its_first_fault(rt: HostRuntime) -> Result<(), Fai
 /// The refusals' names in reports.
 #[test]
 fn refusals_have_names(rt: HostRuntime) -> Result<(), Fail> {
-    for (error, name) in [
+    for &(error, name) in &[
         (ImageError::BiosLength, "BiosLength"),
         (ImageError::TooShort, "TooShort"),
         (ImageError::TooLong, "TooLong"),

@@ -10,9 +10,6 @@ mod exceptions;
 mod flag_words;
 pub mod laws;
 mod registers;
-#[cfg(test)]
-mod tests;
-
 pub use apart::RegisterFile as Registers;
 pub use condition::Flags;
 pub use exceptions::Exception;

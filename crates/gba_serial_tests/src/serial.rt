@@ -215,7 +215,7 @@ struct Case {
 
 /// Player 0 starts in Multi with nobody there. In the transfer the words, RCNT and SIOCNT's bits 0, 1, 7, 12 and 13 stay,
 /// and the word that goes is the one at the start. The error is set at the end, and cleared by the next start.
-const STARTED: [Move; 42] = [
+static STARTED: [Move; 42] = [
     Write(0, RCNT, 0),
     Write(0, SEND, 0x1234),
     Write(0, SIOCNT, 0x6003),
@@ -269,7 +269,7 @@ const STARTED: [Move; 42] = [
 ];
 
 /// Player 1 answers player 0's start once, and its own bit 7 starts nothing.
-const ANSWERED: [Move; 22] = [
+static ANSWERED: [Move; 22] = [
     Write(0, RCNT, 0),
     Write(0, SEND, 0xABCD),
     Write(0, SIOCNT, 0x2003),
@@ -304,7 +304,7 @@ const ANSWERED: [Move; 22] = [
 
 /// Starts that a console in Multi ignores: of player 2, of itself, of nobody, with a speed of 4, of other modes, and one
 /// whose transfer would end 511 cycles after the arrival. One of 512 cycles is answered.
-const REFUSED_IN_MULTI: [Move; 19] = [
+static REFUSED_IN_MULTI: [Move; 19] = [
     Write(0, RCNT, 0),
     Write(0, SIOCNT, 0x2000),
     TellsMode(0, Multi),
@@ -329,7 +329,7 @@ const REFUSED_IN_MULTI: [Move; 19] = [
 /// Starts that a console in Normal8 ignores: without bit 7, of a player that isn't wired, with a speed of 2, of other
 /// modes, one that would end 511 cycles after its arrival, and with the inside clock. The last is answered, with the low
 /// byte of its word, and no reply changes it.
-const REFUSED_IN_NORMAL: [Move; 31] = [
+static REFUSED_IN_NORMAL: [Move; 31] = [
     Write(0, RCNT, 0),
     Write(0, SEND, 0x12A5),
     TellsMode(0, Normal8),
@@ -373,7 +373,7 @@ const REFUSED_IN_NORMAL: [Move; 31] = [
 
 /// Replies in Multi: the last of a player counts, with its low 16 bits; one of this console itself, of a player that isn't
 /// there, or at the end comes to nothing.
-const REPLIES: [Move; 18] = [
+static REPLIES: [Move; 18] = [
     Write(0, RCNT, 0),
     Write(0, SEND, 0x0100),
     Write(0, SIOCNT, 0x2001),
@@ -409,7 +409,7 @@ const REPLIES: [Move; 18] = [
 ];
 
 /// Replies in Normal32: only the wired peer's, the last of them.
-const NORMAL_REPLIES: [Move; 20] = [
+static NORMAL_REPLIES: [Move; 20] = [
     Write(0, RCNT, 0),
     Write(0, SIODATA0, 0x5678),
     Write(0, SIODATA1, 0x1234),
@@ -441,7 +441,7 @@ const NORMAL_REPLIES: [Move; 20] = [
 ];
 
 /// The high byte of the send word doesn't go in Normal8, and is 0 at the end; of the reply only the low byte counts.
-const HIGH_BYTE: [Move; 9] = [
+static HIGH_BYTE: [Move; 9] = [
     Write(0, RCNT, 0),
     Write(0, SEND, 0x125A),
     TellsMode(0, Normal8),
@@ -462,7 +462,7 @@ const HIGH_BYTE: [Move; 9] = [
 ];
 
 /// Player 2 starts in Normal8: it tells nothing and hears nobody.
-const UNHEARD: [Move; 10] = [
+static UNHEARD: [Move; 10] = [
     Write(0, RCNT, 0),
     Write(0, SEND, 0x1277),
     TellsMode(0, Normal8),
@@ -484,7 +484,7 @@ const UNHEARD: [Move; 10] = [
 ];
 
 /// One console alone, in Multi and in Normal32: its transfers end with its own word, and with all ones.
-const ALONE: [Move; 15] = [
+static ALONE: [Move; 15] = [
     Write(0, RCNT, 0),
     Write(0, SEND, 7),
     Write(0, SIOCNT, 0x2000),
@@ -519,7 +519,7 @@ const ALONE: [Move; 15] = [
 ];
 
 /// In mode Other bit 7 isn't stored. A bit 7 from before starts nothing where the mode becomes Multi, and reads 0 there.
-const OTHER: [Move; 26] = [
+static OTHER: [Move; 26] = [
     Reads(RCNT, 0x8000),
     Reads(SIOCNT, 0),
     Write(0, SIOCNT, 0xFFFF),
@@ -548,7 +548,7 @@ const OTHER: [Move; 26] = [
     TellsStart(18, Multi, 0, 0),
 ];
 
-const CASES: [Case; 11] = [
+static CASES: [Case; 11] = [
     Case {
         seat: (0, 2, 512),
         moves: &STARTED,
@@ -615,7 +615,7 @@ fn units_do_as_worked_out(rt: HostRuntime) -> Result<(), Fail> {
 }
 
 /// SIOCNT's bits that choose each mode, with RCNT 0.
-const MODES: [(u16, LinkMode); 4] = [
+static MODES: [(u16, LinkMode); 4] = [
     (0x0000, Normal8),
     (0x1000, Normal32),
     (0x2000, Multi),
@@ -633,8 +633,8 @@ fn open<R: Abort>(rt: &R, count: u32, control: u16) -> Serial {
 /// From each mode to each: it is told where it is another one, by SIOCNT and by RCNT.
 #[test]
 fn modes_are_told_once(rt: HostRuntime) -> Result<(), Fail> {
-    for (from, old) in MODES {
-        for (to, new) in MODES {
+    for &(from, old) in &MODES {
+        for &(to, new) in &MODES {
             let mut unit = open(&rt, 2, from);
             assert_eq!(rt; unit.mode(), old);
             let _first = unit.outgoing(0);
@@ -679,7 +679,7 @@ fn peers_are_known_by_what_they_told(rt: HostRuntime) -> Result<(), Fail> {
     for player in 0..4 {
         assert_eq!(rt; unit.known(player), Other);
     }
-    for (_, mode) in MODES {
+    for &(_, mode) in &MODES {
         hears(&rt, &mut unit, incoming(1, 20, signal(4, mode)), None);
         assert_eq!(rt; unit.known(1), mode);
         assert_eq!(rt; unit.read(SIOCNT), 0x2000);
@@ -702,7 +702,7 @@ fn peers_are_known_by_what_they_told(rt: HostRuntime) -> Result<(), Fail> {
 fn bits_are_protected_in_a_transfer(rt: HostRuntime) -> Result<(), Fail> {
     let mut unit = open(&rt, 2, 0x2001);
     unit.write(1, SIOCNT, 0x2081);
-    for (bit, stays) in [
+    for &(bit, stays) in &[
         (0x0001, true),
         (0x0002, true),
         (0x0008, false),
@@ -722,7 +722,7 @@ fn bits_are_protected_in_a_transfer(rt: HostRuntime) -> Result<(), Fail> {
 }
 
 /// Mode and speed, consoles, and how long the transfer lasts with a delay of 512.
-const LENGTHS: [(u16, u32, u64); 10] = [
+static LENGTHS: [(u16, u32, u64); 10] = [
     (0x2000, 2, 62_892),
     (0x2001, 2, 15_696),
     (0x2002, 2, 10_476),
@@ -737,7 +737,7 @@ const LENGTHS: [(u16, u32, u64); 10] = [
 
 #[test]
 fn transfers_last_by_mode_and_speed(rt: HostRuntime) -> Result<(), Fail> {
-    for (control, count, length) in LENGTHS {
+    for &(control, count, length) in &LENGTHS {
         let mut unit = open(&rt, count, control);
         unit.write(1000, SIOCNT, control | 0x0080);
         assert_eq!(rt; Some(unit.end()), length.checked_add(1000));
