@@ -193,7 +193,7 @@ struct Case {
 }
 
 /// RCNT and the halfword behind it, the four words at each width, and what stands between them and KEYINPUT.
-static WIDTHS: [Move; 30] = [
+const WIDTHS: [Move; 30] = [
     Load(0x134, Width::Word, 0x0000_8000),
     Load(0x135, Byte, 0x80),
     Kept(0x134, 0x8000),
@@ -228,7 +228,7 @@ static WIDTHS: [Move; 30] = [
 
 /// Bytes of SIOCNT keep the other one: the mode by its high byte, and a start by its low one. A word over SIOCNT and the
 /// send word starts with the old send word.
-static BYTES: [Move; 18] = [
+const BYTES: [Move; 18] = [
     Store(0x134, Half, 0),
     Store(0x12A, Half, 0x1111),
     Store(0x128, Byte, 0x03),
@@ -251,7 +251,7 @@ static BYTES: [Move; 18] = [
 
 /// Player 0's transfer of two consoles at speed 3 ends 5,220 cycles after its start, with both words, and asks for its
 /// interrupt. It is counted and kept. The unit is ready: the peer is in Multi.
-static MULTI: [Move; 25] = [
+const MULTI: [Move; 25] = [
     Store(0x134, Half, 0),
     Store(0x12A, Half, 0x1234),
     Store(0x128, Half, 0x6003),
@@ -292,7 +292,7 @@ static MULTI: [Move; 25] = [
 
 /// A transfer ends before a signal that arrives at its end, so that reply comes too late. Without bit 14 no interrupt is
 /// requested. It is counted where it isn't kept.
-static LATE: [Move; 12] = [
+const LATE: [Move; 12] = [
     Store(0x134, Half, 0),
     Store(0x12A, Half, 0x1234),
     Store(0x128, Half, 0x2083),
@@ -308,7 +308,7 @@ static LATE: [Move; 12] = [
 ];
 
 /// A reply that arrives a cycle before the end counts.
-static IN_TIME: [Move; 7] = [
+const IN_TIME: [Move; 7] = [
     Store(0x134, Half, 0),
     Store(0x12A, Half, 0x1234),
     Store(0x128, Half, 0x2083),
@@ -319,7 +319,7 @@ static IN_TIME: [Move; 7] = [
 ];
 
 /// Player 1 waits in Normal8 and answers. At the end its send word is the peer's, with a high byte of 0.
-static ANSWERED: [Move; 16] = [
+const ANSWERED: [Move; 16] = [
     Store(0x134, Half, 0),
     Store(0x12A, Half, 0x77A5),
     Store(0x128, Half, 0x4080),
@@ -350,7 +350,7 @@ static ANSWERED: [Move; 16] = [
 ];
 
 /// A word in Normal32 that nobody answers comes back as ones, in both halves.
-static ALONE: [Move; 12] = [
+const ALONE: [Move; 12] = [
     Store(0x134, Half, 0),
     Store(0x120, Width::Word, 0x0123_4567),
     Store(0x128, Half, 0x5081),
@@ -377,7 +377,7 @@ static ALONE: [Move; 12] = [
 ];
 
 /// The mode is compared with that at the step's beginning, and a reset unit tells nothing.
-static MODES: [Move; 8] = [
+const MODES: [Move; 8] = [
     Silent,
     Calm(true),
     Store(0x134, Half, 0),

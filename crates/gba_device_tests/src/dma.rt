@@ -312,7 +312,7 @@ static REGISTERS: [Move; 24] = [
 
 #[test]
 fn channels_transfer_as_worked_out(rt: HostRuntime) -> Result<(), Fail> {
-    static CASES: [&[Move]; 16] = [
+    let cases: [&[Move]; 16] = [
         &HALVES_UP,
         &WORDS_DOWN,
         &DOWN_PAST_0,
@@ -330,7 +330,7 @@ fn channels_transfer_as_worked_out(rt: HostRuntime) -> Result<(), Fail> {
         &STARTS_A_LOWER,
         &REGISTERS,
     ];
-    for &moves in &CASES {
+    for moves in cases {
         play(&rt, moves);
     }
     Ok(())

@@ -194,10 +194,10 @@ static REGISTERS: [Move; 12] = [
 
 #[test]
 fn queues_sound_as_worked_out(rt: HostRuntime) -> Result<(), Fail> {
-    static CASES: [&[Move]; 9] = [
+    let cases: [&[Move]; 9] = [
         &FULL, &ORDER, &ASKING, &BOTH, &VOLUMES, &SIDES, &EXTREMES, &RESETS, &REGISTERS,
     ];
-    for &moves in &CASES {
+    for moves in cases {
         play(&rt, moves);
     }
     Ok(())

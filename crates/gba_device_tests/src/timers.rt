@@ -236,7 +236,7 @@ static REGISTERS: [Move; 10] = [
 
 #[test]
 fn timers_count_as_worked_out(rt: HostRuntime) -> Result<(), Fail> {
-    static CASES: [&[Move]; 12] = [
+    let cases: [&[Move]; 12] = [
         &CASCADE,
         &PRESCALERS,
         &CHANGED_PRESCALER,
@@ -250,7 +250,7 @@ fn timers_count_as_worked_out(rt: HostRuntime) -> Result<(), Fail> {
         &QUIET_CASCADES,
         &REGISTERS,
     ];
-    for &moves in &CASES {
+    for moves in cases {
         play(&rt, moves);
     }
     Ok(())

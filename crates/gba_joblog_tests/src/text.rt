@@ -92,7 +92,7 @@ fn long_lines_and_other_bytes_are_refused(rt: HostRuntime) -> Result<(), Fail> {
     assert!(rt; has_words(&longest, &[&longest]));
     let mut long = vec![in rt.alloc(); b'7'; 400]?;
     long.push(0xff)?;
-    static CASES: [(&[u8], TextKind); 9] = [
+    let cases: [(&[u8], TextKind); 9] = [
         (&long, TextKind::Long),
         (b"a\x00", TextKind::Byte),
         (b"a\x1f", TextKind::Byte),
@@ -103,7 +103,7 @@ fn long_lines_and_other_bytes_are_refused(rt: HostRuntime) -> Result<(), Fail> {
         (b" \xff\n", TextKind::Byte),
         (b" ", TextKind::Missing),
     ];
-    for &(text, kind) in &CASES {
+    for (text, kind) in cases {
         assert!(rt; refuses(text, kind), "of {text:?}");
     }
     Ok(())

@@ -62,7 +62,7 @@ type Row<'a> = (usize, &'a [(usize, u8)], Option<ImageError>);
 
 #[test]
 fn a_cartridge_is_refused_for_its_first_fault(rt: HostRuntime) -> Result<(), Fail> {
-    static ROWS: [Row; 13] = [
+    let rows: [Row; 13] = [
         (0, &[], Some(ImageError::TooShort)),
         (191, &HEADER, Some(ImageError::TooShort)),
         (192, &[], Some(ImageError::FixedByte)),
@@ -89,7 +89,7 @@ fn a_cartridge_is_refused_for_its_first_fault(rt: HostRuntime) -> Result<(), Fai
         (33_554_432, &HEADER, None),
         (33_554_433, &[], Some(ImageError::TooLong)),
     ];
-    for &(length, bytes, fault) in &ROWS {
+    for (length, bytes, fault) in rows {
         let cart = Cartridge::check(image(&rt, rt.alloc(), length, bytes)?);
         assert_eq!(rt; cart.err(), fault);
     }

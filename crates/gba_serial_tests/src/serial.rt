@@ -215,7 +215,7 @@ struct Case {
 
 /// Player 0 starts in Multi with nobody there. In the transfer the words, RCNT and SIOCNT's bits 0, 1, 7, 12 and 13 stay,
 /// and the word that goes is the one at the start. The error is set at the end, and cleared by the next start.
-static STARTED: [Move; 42] = [
+const STARTED: [Move; 42] = [
     Write(0, RCNT, 0),
     Write(0, SEND, 0x1234),
     Write(0, SIOCNT, 0x6003),
@@ -269,7 +269,7 @@ static STARTED: [Move; 42] = [
 ];
 
 /// Player 1 answers player 0's start once, and its own bit 7 starts nothing.
-static ANSWERED: [Move; 22] = [
+const ANSWERED: [Move; 22] = [
     Write(0, RCNT, 0),
     Write(0, SEND, 0xABCD),
     Write(0, SIOCNT, 0x2003),
@@ -304,7 +304,7 @@ static ANSWERED: [Move; 22] = [
 
 /// Starts that a console in Multi ignores: of player 2, of itself, of nobody, with a speed of 4, of other modes, and one
 /// whose transfer would end 511 cycles after the arrival. One of 512 cycles is answered.
-static REFUSED_IN_MULTI: [Move; 19] = [
+const REFUSED_IN_MULTI: [Move; 19] = [
     Write(0, RCNT, 0),
     Write(0, SIOCNT, 0x2000),
     TellsMode(0, Multi),
@@ -329,7 +329,7 @@ static REFUSED_IN_MULTI: [Move; 19] = [
 /// Starts that a console in Normal8 ignores: without bit 7, of a player that isn't wired, with a speed of 2, of other
 /// modes, one that would end 511 cycles after its arrival, and with the inside clock. The last is answered, with the low
 /// byte of its word, and no reply changes it.
-static REFUSED_IN_NORMAL: [Move; 31] = [
+const REFUSED_IN_NORMAL: [Move; 31] = [
     Write(0, RCNT, 0),
     Write(0, SEND, 0x12A5),
     TellsMode(0, Normal8),
@@ -373,7 +373,7 @@ static REFUSED_IN_NORMAL: [Move; 31] = [
 
 /// Replies in Multi: the last of a player counts, with its low 16 bits; one of this console itself, of a player that isn't
 /// there, or at the end comes to nothing.
-static REPLIES: [Move; 18] = [
+const REPLIES: [Move; 18] = [
     Write(0, RCNT, 0),
     Write(0, SEND, 0x0100),
     Write(0, SIOCNT, 0x2001),
@@ -409,7 +409,7 @@ static REPLIES: [Move; 18] = [
 ];
 
 /// Replies in Normal32: only the wired peer's, the last of them.
-static NORMAL_REPLIES: [Move; 20] = [
+const NORMAL_REPLIES: [Move; 20] = [
     Write(0, RCNT, 0),
     Write(0, SIODATA0, 0x5678),
     Write(0, SIODATA1, 0x1234),
@@ -441,7 +441,7 @@ static NORMAL_REPLIES: [Move; 20] = [
 ];
 
 /// The high byte of the send word doesn't go in Normal8, and is 0 at the end; of the reply only the low byte counts.
-static HIGH_BYTE: [Move; 9] = [
+const HIGH_BYTE: [Move; 9] = [
     Write(0, RCNT, 0),
     Write(0, SEND, 0x125A),
     TellsMode(0, Normal8),
@@ -462,7 +462,7 @@ static HIGH_BYTE: [Move; 9] = [
 ];
 
 /// Player 2 starts in Normal8: it tells nothing and hears nobody.
-static UNHEARD: [Move; 10] = [
+const UNHEARD: [Move; 10] = [
     Write(0, RCNT, 0),
     Write(0, SEND, 0x1277),
     TellsMode(0, Normal8),
@@ -484,7 +484,7 @@ static UNHEARD: [Move; 10] = [
 ];
 
 /// One console alone, in Multi and in Normal32: its transfers end with its own word, and with all ones.
-static ALONE: [Move; 15] = [
+const ALONE: [Move; 15] = [
     Write(0, RCNT, 0),
     Write(0, SEND, 7),
     Write(0, SIOCNT, 0x2000),
@@ -519,7 +519,7 @@ static ALONE: [Move; 15] = [
 ];
 
 /// In mode Other bit 7 isn't stored. A bit 7 from before starts nothing where the mode becomes Multi, and reads 0 there.
-static OTHER: [Move; 26] = [
+const OTHER: [Move; 26] = [
     Reads(RCNT, 0x8000),
     Reads(SIOCNT, 0),
     Write(0, SIOCNT, 0xFFFF),
