@@ -23,18 +23,9 @@ pub fn decode_half(half: u16) -> DecodedHalf
     ensures { result.half ≡ half }
 {
     operations_fit();
-    make_decoded(half, decode(half))
-}
-
-/// A halfword with its operation.
-pub fn make_decoded(half: u16, op: Option<ThumbOp>) -> DecodedHalf
-    requires operation { op ≡ operation half }
-    requires fits { IfSome op Fits }
-    ensures { result.half ≡ half }
-{
     DecodedHalf {
         half,
-        form: form_of_half(op),
+        form: form_of_half(decode(half)),
     }
 }
 
