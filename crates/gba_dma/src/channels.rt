@@ -8,8 +8,8 @@ use crate::channel::{Channel, IDLE};
 use crate::{DmaEvent, Unit};
 use std::marker::Model;
 
-/// The four channels (GBATEK, GBA DMA Transfers). All numbers are 0 at reset. Whatever is called, an active channel is enabled,
-/// and an enabled one has units left.
+/// The four channels (GBATEK, GBA DMA Transfers). All numbers are 0 at reset. Whatever is called, an active channel is
+/// enabled, and an enabled one has units left.
 #[derive(Clone, Copy, Debug)]
 pub struct Channels {
     channel0: Channel,
