@@ -3,7 +3,6 @@
 ghost use Rattle.std.specs.Prelude.{◌≡◌, ◌<◌, IfSome};
 ghost use Rattle.gba_thumb_exec.specs.Forms.{branch_by, branch_distance, branch_form, branch_if, form_of, form_of_half, narrowed};
 ghost use Rattle.gba_thumb_table.specs.Limits.{Fits};
-ghost use Rattle.gba_thumb_table.specs.Table.{operation};
 
 use crate::operations::{
     add_or_subtract, block, full_register, half_by_number, half_by_register, process_full_register,
