@@ -9,10 +9,13 @@ use link_lane::{Lane, Pause};
 use link_node::Node;
 use link_table::Shared;
 use std::thread::{Threads, join_mut};
-use std::hint;
+use std::{hint, thread};
 
 /// How often a lane looks at all its peers before it waits for one of them.
 const POLLS: u32 = 1;
+
+/// How often a lane lets other threads go first until all lanes have begun.
+const TURNS: u32 = 4096;
 
 /// The most looks in vain that a lane may have left. One takes some 20 ns.
 const MOST: u64 = 1 << 19;
@@ -27,8 +30,27 @@ pub(crate) struct Work<'a, R, N: Node, G> {
     pub shared: &'a Shared<N>,
     pub gate: &'a G,
     pub until: u64,
+    pub lanes: u32,
+    pub meeting: u64,
     pub looks: u64,
-    pub lanes: u64,
+}
+
+/// Whether each of so many lanes has come to a clock.
+fn have_come<N: Node>(shared: &Shared<N>, lanes: u32, clock: u64) -> bool {
+    (0..lanes).all(|player| match shared.clock_of(player) {
+        Some(now) => clock <= now,
+        None => true,
+    })
+}
+
+/// Lets other threads go first until all lanes have come to the clock to which each one comes by itself.
+fn meet<R, N: Node, G>(work: &Work<R, N, G>) {
+    for _turn in 0..TURNS {
+        if have_come(work.shared, work.lanes, work.meeting) {
+            return;
+        }
+        thread::yield_now();
+    }
 }
 
 /// Waits until the peer for which a lane has stopped goes on, for at most so many looks. It answers how many are left.
@@ -48,10 +70,10 @@ fn wait<N: Node>(shared: &Shared<N>, pause: Pause, looks: u64) -> u64
 }
 
 /// The looks that a lane has left after so many cycles, beside which each other one of so many lanes makes as many.
-fn earn(looks: u64, cycles: u64, lanes: u64) -> u64
+fn earn(looks: u64, cycles: u64, lanes: u32) -> u64
     ensures most { result ≤ 524288 }
 {
-    let others = cycles.saturating_mul(lanes.saturating_sub(1));
+    let others = cycles.saturating_mul(u64::from(lanes.saturating_sub(1)));
     looks.saturating_add(others / CYCLES).min(MOST)
 }
 
@@ -61,6 +83,7 @@ fn go<R, N: Node, G: Gate>(work: &Work<R, N, G>, lane: &mut Lane<N>)
     ensures { Went (kind_of N.clock N.was N.next) N.plain N.bound work.now.until lane.old lane.new }
 {
     let mut pause = lane.advance(work.shared, work.gate, work.until, POLLS);
+    meet(work);
     let mut clock = lane.clock();
     let mut left = work.looks.min(MOST);
     while left > 0 && clock < work.until {

@@ -19,7 +19,7 @@ use std::thread::{Threads, available_parallelism};
 const SHORTEST: u64 = 256;
 
 /// How many looks in vain a lane has when a round begins.
-const LOOKS: u64 = 1 << 15;
+const LOOKS: u64 = 1 << 14;
 
 /// The same where there are fewer processors than lanes.
 const FEW_LOOKS: u64 = 1 << 10;
@@ -31,7 +31,7 @@ const FAIR: u64 = 1 << 20;
 const STRETCH: u64 = 1 << 16;
 
 /// How many it makes after the first round of a run, if that one hasn't.
-const FIRST_STRETCH: u64 = 1 << 22;
+const FIRST_STRETCH: u64 = 1 << 20;
 
 /// How many times as many after each further one.
 const GROWTH: u64 = 8;
@@ -59,6 +59,7 @@ fn advance_round<R: Threads + Sync, N: Node + Send + Sync, G: Gate + Sync>(
     round: Round<N>,
     gate: &G,
     until: u64,
+    meeting: u64,
     looks: u64,
 ) -> Round<N>
     requires few { length round.lanes.items ≤ 4 }
@@ -66,14 +67,15 @@ fn advance_round<R: Threads + Sync, N: Node + Send + Sync, G: Gate + Sync>(
     ensures { HasGone (kind_of N.clock N.was N.next) N.plain N.bound until round result }
 {
     let mut round = round;
-    let lanes = round.lanes.len() as u64;
+    let lanes = round.lanes.len() as u32;
     let work = Work {
         rt,
         shared: &round.shared,
         gate,
         until,
-        looks,
         lanes,
+        meeting,
+        looks,
     };
     advance_all(&work, round.lanes.as_mut_slice());
     round
@@ -98,6 +100,7 @@ fn go_round<R: Threads + Sync, N: Node + Send + Sync, G: Gate + Sync>(
     round: Round<N>,
     gate: &G,
     until: u64,
+    meeting: u64,
     looks: u64,
 ) -> Cut<N>
     requires { (cut : Cut N) × (Begins (kind_of N.clock N.was N.next) N.plain N.bound cut round)
@@ -106,7 +109,7 @@ fn go_round<R: Threads + Sync, N: Node + Send + Sync, G: Gate + Sync>(
         All (λ node. until ≤ N.bound node) cut.consoles →
         ComesNearer (kind_of N.clock N.was N.next) N.plain N.bound until cut result }
 {
-    let gone = advance_round(rt, round, gate, until, looks);
+    let gone = advance_round(rt, round, gate, until, meeting, looks);
     finish_round(gone, until)
 }
 
@@ -142,7 +145,8 @@ fn go_on<R: Threads + Sync, N: Node + Send + Sync, G: Gate + Sync>(
         All (λ node. until ≤ N.bound node) cut.consoles →
         ComesNearer (kind_of N.clock N.was N.next) N.plain N.bound until cut result }
 {
-    let mut cut = go_round(rt, round, gate, until, looks);
+    let meeting = first.saturating_add(SHORTEST).min(until);
+    let mut cut = go_round(rt, round, gate, until, meeting, looks);
     *stretch = next_stretch(*stretch, cut.least_clock().saturating_sub(first));
     go_serial(&mut cut, *stretch, until);
     cut
