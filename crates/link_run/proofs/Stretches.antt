@@ -1,10 +1,10 @@
 -- A stretch of the global order within a longer run.
-use Rattle.std.specs.Prelude.{true, List, [], ◌∷◌, nat_lt}
+use Rattle.std.specs.Prelude.{true, nat_lt}
 use Rattle.std.proofs.Common.{ℕ, zero, suc, ◌≡◌, ◌<◌, ◌≤◌, inl, inr, arith, refl, sym, ap, ◌∙◌, subst}
 use Rattle.std.proofs.lemmas.Bool.{cases_Bool, ltb-true, lt-ltb}
 use Rattle.link_order.specs.NodeKind.{NodeKind, IsLawful}
 use Rattle.link_order.specs.Cut.{Cut, count, clock_at, live, HasDelays, IsCable, IsSound}
-use Rattle.link_order.specs.GlobalOrder.{least, step, cycles_left, trace_of, trace, after_turns, run}
+use Rattle.link_order.specs.GlobalOrder.{least, step, cycles_left, trace_of, after_turns, run}
 use Rattle.link_order.proofs.Hops.{delays_same}
 use Rattle.link_order.proofs.Sound.{sound_step}
 use Rattle.link_order.proofs.Runs.{falls, trace_goes, trace_ends, trace_zero, after_none, after_one, splits}

@@ -23,7 +23,8 @@ const MOST: u64 = 1 << 19;
 /// So many cycles that the other lanes make beside it give a lane one more look.
 const CYCLES: u64 = 12;
 
-/// What all lanes of a round share.
+/// What all lanes of a round share: how many they are, the clock to which each one comes by itself, and how many looks in
+/// vain each one has at first.
 #[derive(Drop)]
 pub(crate) struct Work<'a, R, N: Node, G> {
     pub rt: &'a R,

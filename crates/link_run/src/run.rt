@@ -24,16 +24,16 @@ const LOOKS: u64 = 1 << 14;
 /// The same where there are fewer processors than lanes.
 const FEW_LOOKS: u64 = 1 << 10;
 
-/// A round that makes so many cycles has paid for itself.
+/// A round in which the lane that is furthest behind comes so many cycles on has paid for itself.
 const FAIR: u64 = 1 << 20;
 
 /// How many cycles the global order makes after a round that has paid for itself.
 const STRETCH: u64 = 1 << 16;
 
-/// How many it makes after the first round of a run, if that one hasn't.
+/// How many it makes after the first round of a run where that one hasn't.
 const FIRST_STRETCH: u64 = 1 << 20;
 
-/// How many times as many after each further one.
+/// How many times as long each stretch is after a round that hasn't as the one before it.
 const GROWTH: u64 = 8;
 
 /// The looks of each of so many lanes at the start of a round.
@@ -152,9 +152,11 @@ fn go_on<R: Threads + Sync, N: Node + Send + Sync, G: Gate + Sync>(
     cut
 }
 
-/// Runs a cut until every clock is at least `until`, by rounds of lanes on threads. It comes to the cut that the global
-/// order makes, however the threads are scheduled. A node alone has nobody to run beside and goes straight through; so
-/// does the rest of a run for which no memory is left. Only a lane's steps enter the gate.
+/// Runs a cut until every clock is at least `until`: by rounds of lanes on threads, and after each round by a stretch of
+/// the global order, which is the longer the less the round was worth. It comes to the cut that the global order makes,
+/// however the threads are scheduled. A node alone has nobody to run beside and goes straight through; so do nodes with a
+/// delay below 256 cycles, and the rest of a run for which no memory is left. Only a lane's steps enter the gate: what the
+/// global order steps doesn't, between the rounds neither.
 pub fn run_to<R: Threads + Sync, N: Node + Send + Sync, G: Gate + Sync>(
     rt: &R,
     alloc: Global,

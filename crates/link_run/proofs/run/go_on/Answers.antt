@@ -1,7 +1,5 @@
-use Rattle.std.proofs.Common.{◌≤◌, arith, ◌∙◌}
-use Rattle.link_run.specs.Round.{ComesNearer}
+use Rattle.std.proofs.Common.{arith, ◌∙◌}
 use Rattle.link_core.proofs.Keeping.{limits_stay}
-use Rattle.link_order.specs.NodeKind.{kind_of}
 use Rattle.link_run.proofs.run.go_on.Goals as goal
 
 pub go_serial-requires : goal.go_serial-requires

@@ -1,7 +1,7 @@
 use Rattle.std.proofs.Common.{◌≤◌, arith}
 use Rattle.link_order.specs.NodeKind.{NodeKind, IsLawful, kind_of}
 use Rattle.link_order.specs.Cut.{plain_cut}
-use Rattle.link_run.proofs.Stretches.{IsStretch, stretch}
+use Rattle.link_run.proofs.Stretches.{stretch}
 use Rattle.link_run.proofs.run.go_serial.Goals as goal
 
 pub returns-clause-same_end : goal.returns-clause-same_end
