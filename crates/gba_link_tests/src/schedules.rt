@@ -228,6 +228,7 @@ fn have_words<R: Abort>(
 /// A gate that counts how often it was entered or asked.
 trait Counting: Gate {
     fn begin(number: u64) -> Self;
+
     fn count(&self) -> u64;
 }
 

@@ -10,6 +10,7 @@ mod exceptions;
 mod flag_words;
 pub mod laws;
 mod registers;
+
 pub use apart::RegisterFile as Registers;
 pub use condition::Flags;
 pub use exceptions::Exception;

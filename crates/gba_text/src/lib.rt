@@ -8,6 +8,7 @@ mod cursor;
 mod kinds;
 mod numbers;
 mod pieces;
+
 pub use cursor::Cursor;
 pub use kinds::{TextError, TextKind};
 pub use numbers::number_in;

@@ -8,6 +8,7 @@ ghost use Rattle.gba_word.specs.Extension.{sign_extension};
 mod kinds;
 mod shifter;
 mod sums;
+
 pub use kinds::Shift;
 pub use shifter::{rotate, rotate_immediate, shift, shift_fixed, shift_within};
 pub use sums::{Sum, add_carry, add_plain, subtract};
