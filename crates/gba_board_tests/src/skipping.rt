@@ -31,7 +31,7 @@ fn board(alloc: Global) -> Result<Board, Fail> {
         bytes.push(0)?;
     }
     let images = ConsoleImages {
-        bios: Bios::check(bytes).map_err(|_| "no BIOS")?,
+        bios: Bios::check(bytes).ok().ok_or("no BIOS")?,
         cart: None,
         save: None,
     };
