@@ -69,6 +69,3 @@ fn of_form(form: Form, word: u32) -> Option<ArmOp>
         Form::Undefined => None,
     }
 }
-
-#[cfg(test)]
-mod tests;

@@ -5,7 +5,7 @@ use crate::assembled::gives_word;
 // Each operation with every form of its operand, and numbers by their least turn.
 #[test]
 fn data_processing_is_encoded(rt: HostRuntime) {
-    let cases: [(&[u8], u32); 70] = [
+    static CASES: [(&[u8], u32); 70] = [
         (b"and r1, r2, #255", 0xE20210FF),
         (b"ands r3, r4, r5", 0xE0143005),
         (b"andeqs r6, r7, r8, lsl #31", 0x00176F88),
@@ -77,7 +77,7 @@ fn data_processing_is_encoded(rt: HostRuntime) {
         (b"movhi r0, r1", 0x81A00001),
         (b"movls r0, r1", 0x91A00001),
     ];
-    for (source, word) in cases {
+    for &(source, word) in &CASES {
         assert!(rt;
             gives_word(rt.alloc(), source, word),
             "{source:?} isn't {word:08x}"
@@ -88,7 +88,7 @@ fn data_processing_is_encoded(rt: HostRuntime) {
 // Each operation with every form of its operand, and numbers by their least turn.
 #[test]
 fn comparisons_and_moves_are_encoded(rt: HostRuntime) {
-    let cases: [(&[u8], u32); 38] = [
+    static CASES: [(&[u8], u32); 38] = [
         (b"movge r0, r1", 0xA1A00001),
         (b"movlt r0, r1", 0xB1A00001),
         (b"movgt r0, r1", 0xC1A00001),
@@ -128,7 +128,7 @@ fn comparisons_and_moves_are_encoded(rt: HostRuntime) {
         (b"add sp, sp, #16", 0xE28DD010),
         (b"add r0, r15, #8", 0xE28F0008),
     ];
-    for (source, word) in cases {
+    for &(source, word) in &CASES {
         assert!(rt;
             gives_word(rt.alloc(), source, word),
             "{source:?} isn't {word:08x}"
@@ -139,7 +139,7 @@ fn comparisons_and_moves_are_encoded(rt: HostRuntime) {
 // Both multiplies and the four long ones, with conditions and the set letter.
 #[test]
 fn multiplies_are_encoded(rt: HostRuntime) {
-    let cases: [(&[u8], u32); 18] = [
+    static CASES: [(&[u8], u32); 18] = [
         (b"mul r1, r2, r3", 0xE0010392),
         (b"muls r1, r2, r3", 0xE0110392),
         (b"muleqs r4, r5, r6", 0x00140695),
@@ -159,7 +159,7 @@ fn multiplies_are_encoded(rt: HostRuntime) {
         (b"smlals r1, r2, r3, r4", 0xE0F21493),
         (b"smlalges r5, r6, r7, r8", 0xA0F65897),
     ];
-    for (source, word) in cases {
+    for &(source, word) in &CASES {
         assert!(rt;
             gives_word(rt.alloc(), source, word),
             "{source:?} isn't {word:08x}"
@@ -170,7 +170,7 @@ fn multiplies_are_encoded(rt: HostRuntime) {
 // Every form of an address, forward and backward, up to the greatest offset.
 #[test]
 fn words_and_bytes_are_loaded(rt: HostRuntime) {
-    let cases: [(&[u8], u32); 50] = [
+    static CASES: [(&[u8], u32); 50] = [
         (b"ldr r0, [r1]", 0xE5910000),
         (b"ldr r0, [r1]!", 0xE5B10000),
         (b"ldr r0, [r1, #4]", 0xE5910004),
@@ -222,7 +222,7 @@ fn words_and_bytes_are_loaded(rt: HostRuntime) {
         (b"strbt r0, [r1], #-1", 0xE4610001),
         (b"strmibt r0, [r1], -r2", 0x46610002),
     ];
-    for (source, word) in cases {
+    for &(source, word) in &CASES {
         assert!(rt;
             gives_word(rt.alloc(), source, word),
             "{source:?} isn't {word:08x}"
@@ -233,7 +233,7 @@ fn words_and_bytes_are_loaded(rt: HostRuntime) {
 // Every form of an address, forward and backward, up to the greatest offset.
 #[test]
 fn the_other_transfers_are_encoded(rt: HostRuntime) {
-    let cases: [(&[u8], u32); 28] = [
+    static CASES: [(&[u8], u32); 28] = [
         (b"ldrh r0, [r1]", 0xE1D100B0),
         (b"ldrh r0, [r1]!", 0xE1F100B0),
         (b"ldrh r0, [r1, #255]", 0xE1D10FBF),
@@ -263,7 +263,7 @@ fn the_other_transfers_are_encoded(rt: HostRuntime) {
         (b"ldr r1, [pc, #8]", 0xE59F1008),
         (b"str r15, [r0]", 0xE580F000),
     ];
-    for (source, word) in cases {
+    for &(source, word) in &CASES {
         assert!(rt;
             gives_word(rt.alloc(), source, word),
             "{source:?} isn't {word:08x}"
@@ -274,7 +274,7 @@ fn the_other_transfers_are_encoded(rt: HostRuntime) {
 // Blocks in their four orders, swaps, the status registers, BX and SWI.
 #[test]
 fn blocks_swaps_and_status_are_encoded(rt: HostRuntime) {
-    let cases: [(&[u8], u32); 48] = [
+    static CASES: [(&[u8], u32); 48] = [
         (b"ldmia r1, {r0, r2}", 0xE8910005),
         (b"ldmia r1!, {r0-r3, lr}", 0xE8B1400F),
         (b"ldmhiia sp!, {r4-r11}^", 0x88FD0FF0),
@@ -324,7 +324,7 @@ fn blocks_swaps_and_status_are_encoded(rt: HostRuntime) {
         (b"swi #0xffffff", 0xEFFFFFFF),
         (b"swieq #0x123456", 0x0F123456),
     ];
-    for (source, word) in cases {
+    for &(source, word) in &CASES {
         assert!(rt;
             gives_word(rt.alloc(), source, word),
             "{source:?} isn't {word:08x}"
@@ -335,7 +335,7 @@ fn blocks_swaps_and_status_are_encoded(rt: HostRuntime) {
 // Targets that are numbers, reckoned by hand from address 0: both ends of a branch and of a load, and lists as sets.
 #[test]
 fn what_numbers_lead_to_is_encoded(rt: HostRuntime) {
-    let cases: [(&[u8], u32); 43] = [
+    static CASES: [(&[u8], u32); 43] = [
         (b"beq 0x100", 0x0A00003E),
         (b"bleq 0x100", 0x0B00003E),
         (b"bne 0x100", 0x1A00003E),
@@ -380,7 +380,7 @@ fn what_numbers_lead_to_is_encoded(rt: HostRuntime) {
         (b"stmdb sp!, {}", 0xE92D0000),
         (b"ldmia r1, {r3-r3, r3, r0}", 0xE8910009),
     ];
-    for (source, word) in cases {
+    for &(source, word) in &CASES {
         assert!(rt;
             gives_word(rt.alloc(), source, word),
             "{source:?} isn't {word:08x}"

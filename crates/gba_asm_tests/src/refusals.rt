@@ -7,7 +7,7 @@ use std::test::Fail;
 // Bytes that no form uses, and names that no statement has.
 #[test]
 fn what_isnt_of_the_language_is_unknown(rt: HostRuntime) {
-    let cases: [&[u8]; 61] = [
+    static CASES: [&[u8]; 61] = [
         b"mov r0, r1 @ x",
         b"mov r0, =1",
         b"mov r0, 'a'",
@@ -70,7 +70,7 @@ fn what_isnt_of_the_language_is_unknown(rt: HostRuntime) {
         b"x: y",
         b"mov r0, r1 \x00",
     ];
-    for source in cases {
+    for &source in &CASES {
         assert!(rt;
             refuses(rt.alloc(), source, 1, AsmKind::Unknown),
             "{source:?}"
@@ -81,7 +81,7 @@ fn what_isnt_of_the_language_is_unknown(rt: HostRuntime) {
 // Names that no Thumb statement has.
 #[test]
 fn names_of_the_other_state_are_unknown(rt: HostRuntime) {
-    let cases: [&[u8]; 18] = [
+    static CASES: [&[u8]; 18] = [
         b"bal 0",
         b"beqal 0",
         b"moveq r0, r1",
@@ -101,7 +101,7 @@ fn names_of_the_other_state_are_unknown(rt: HostRuntime) {
         b"LSL r0, r1",
         b"bnv 0",
     ];
-    for source in cases {
+    for &source in &CASES {
         assert!(rt;
             refuses_thumb(rt.alloc(), source, AsmKind::Unknown),
             "{source:?}"
@@ -112,7 +112,7 @@ fn names_of_the_other_state_are_unknown(rt: HostRuntime) {
 // Operands that aren't one of the statement's forms.
 #[test]
 fn operands_of_no_form_are_refused(rt: HostRuntime) {
-    let cases: [&[u8]; 68] = [
+    static CASES: [&[u8]; 68] = [
         b"mov r0",
         b"mov",
         b"mov r0,",
@@ -182,7 +182,7 @@ fn operands_of_no_form_are_refused(rt: HostRuntime) {
         b"ldrb r0, 8",
         b"strh r0, 8",
     ];
-    for source in cases {
+    for &source in &CASES {
         assert!(rt;
             refuses(rt.alloc(), source, 1, AsmKind::Operand),
             "{source:?}"
@@ -193,7 +193,7 @@ fn operands_of_no_form_are_refused(rt: HostRuntime) {
 // Operands that aren't one of the statement's forms.
 #[test]
 fn other_operands_of_no_form_are_refused(rt: HostRuntime) {
-    let cases: [&[u8]; 68] = [
+    static CASES: [&[u8]; 68] = [
         b"ldmia r0, {r3-r1}",
         b"ldmia r0, {r1",
         b"ldmia r0, r1}",
@@ -263,7 +263,7 @@ fn other_operands_of_no_form_are_refused(rt: HostRuntime) {
         b"mov r0, r1 mov r0, r1",
         b"mov! r0, r1",
     ];
-    for source in cases {
+    for &source in &CASES {
         assert!(rt;
             refuses(rt.alloc(), source, 1, AsmKind::Operand),
             "{source:?}"
@@ -274,7 +274,7 @@ fn other_operands_of_no_form_are_refused(rt: HostRuntime) {
 // Operands that aren't one of the Thumb statement's forms.
 #[test]
 fn thumb_operands_of_no_form_are_refused(rt: HostRuntime) {
-    let cases: [&[u8]; 78] = [
+    static CASES: [&[u8]; 78] = [
         b"lsl r8, r1, #1",
         b"lsl r0, r8, #1",
         b"lsl r0, r1, r2",
@@ -354,7 +354,7 @@ fn thumb_operands_of_no_form_are_refused(rt: HostRuntime) {
         b"swi 1",
         b"swi",
     ];
-    for source in cases {
+    for &source in &CASES {
         assert!(rt;
             refuses_thumb(rt.alloc(), source, AsmKind::Operand),
             "{source:?}"
@@ -365,7 +365,7 @@ fn thumb_operands_of_no_form_are_refused(rt: HostRuntime) {
 // Numbers one past each end, from address 0.
 #[test]
 fn numbers_without_an_encoding_are_out_of_range(rt: HostRuntime) {
-    let cases: [&[u8]; 36] = [
+    static CASES: [&[u8]; 36] = [
         b"mov r0, #0x101",
         b"mov r0, #0x102",
         b"mov r0, #0x1fe00",
@@ -403,7 +403,7 @@ fn numbers_without_an_encoding_are_out_of_range(rt: HostRuntime) {
         b".byte 256",
         b".byte 1, 256",
     ];
-    for source in cases {
+    for &source in &CASES {
         assert!(rt;
             refuses(rt.alloc(), source, 1, AsmKind::Range),
             "{source:?}"
@@ -414,7 +414,7 @@ fn numbers_without_an_encoding_are_out_of_range(rt: HostRuntime) {
 // Numbers one past each end, or no multiple of their unit, from address 0.
 #[test]
 fn thumb_numbers_without_an_encoding_are_out_of_range(rt: HostRuntime) {
-    let cases: [&[u8]; 39] = [
+    static CASES: [&[u8]; 39] = [
         b"lsl r0, r1, #32",
         b"lsr r0, r1, #0",
         b"lsr r0, r1, #33",
@@ -455,7 +455,7 @@ fn thumb_numbers_without_an_encoding_are_out_of_range(rt: HostRuntime) {
         b"bl 0xffc00002",
         b"bl 1",
     ];
-    for source in cases {
+    for &source in &CASES {
         assert!(rt;
             refuses_thumb(rt.alloc(), source, AsmKind::Range),
             "{source:?}"
@@ -467,7 +467,7 @@ fn thumb_numbers_without_an_encoding_are_out_of_range(rt: HostRuntime) {
 // tested where a statement has a form.
 #[test]
 fn the_first_refused_line_decides(rt: HostRuntime) {
-    let cases: [(&[u8], u64, AsmKind); 46] = [
+    static CASES: [(&[u8], u64, AsmKind); 46] = [
         (b"mov r0, r0\nfoo", 2, AsmKind::Unknown),
         (b"mov r0, r0\r\n\r\n mov r0", 3, AsmKind::Operand),
         (b"b nowhere\n", 1, AsmKind::Label),
@@ -519,7 +519,7 @@ fn the_first_refused_line_decides(rt: HostRuntime) {
         (b".thumb\n.space 3\nbl 0", 3, AsmKind::Range),
         (b".thumb\nmov r0, r0\n.arm\nmov r0, r0", 4, AsmKind::Range),
     ];
-    for (source, line, kind) in cases {
+    for &(source, line, kind) in &CASES {
         assert!(rt; refuses(rt.alloc(), source, line, kind), "{source:?}");
     }
 }

@@ -35,7 +35,7 @@ adder:  .word 1013904223
 seed:   .word 305419896
 ";
 
-const SENDER_WORDS: [u32; 26] = [
+static SENDER_WORDS: [u32; 26] = [
     0xE3A04301, 0xE2845C01, 0xE3A00000, 0xE1C503B4, 0xE59F003C, 0xE1C502B8, 0xE59F6044, 0xE59F7038,
     0xE59F8038, 0xE0298796, 0xE1A06009, 0xE1A00826, 0xE1C502BA, 0xE1D502B8, 0xE3100080, 0x1AFFFFFC,
     0xE3100008, 0x0AFFFFFA, 0xE59F0008, 0xE1C502B8, 0xEAFFFFF3, 0x00002003, 0x00002083, 0x0019660D,
@@ -51,7 +51,7 @@ fn a_whole_program_is_assembled(rt: HostRuntime) -> Result<(), Fail> {
 // Labels of earlier and of later lines, on lines of their own, in either case, up to 32 letters; two states.
 #[test]
 fn labels_lead_to_what_follows_them(rt: HostRuntime) -> Result<(), Fail> {
-    let cases: [(&[u8], &[u32]); 12] = [
+    static CASES: [(&[u8], &[u32]); 12] = [
         (b"b x\nx: bx lr\n", &[0xEAFFFFFF, 0xE12FFF1E]),
         (b"x: b x", &[0xEAFFFFFE]),
         (b"x:\ny:\n  b x\n  b y", &[0xEAFFFFFE, 0xEAFFFFFD]),
@@ -74,7 +74,7 @@ fn labels_lead_to_what_follows_them(rt: HostRuntime) -> Result<(), Fail> {
         ),
         (b"a: .word b\nb: .word a", &[4, 0]),
     ];
-    for (source, words) in cases {
+    for &(source, words) in &CASES {
         assert!(rt; gives_words(rt.alloc(), source, words)?, "{source:?}");
     }
     Ok(())
@@ -82,13 +82,13 @@ fn labels_lead_to_what_follows_them(rt: HostRuntime) -> Result<(), Fail> {
 
 #[test]
 fn directives_give_their_bytes(rt: HostRuntime) {
-    let cases: [(&[u8], &[u8]); 19] = [
+    static CASES: [(&[u8], &[u8]); 19] = [
         (b"", b""),
         (b"\n\r\n \t\n", b""),
         (b"; all \xff\x00\r\n", b""),
         (b".arm\n.thumb\n.arm", b""),
         (b".word 0x12345678", b"\x78\x56\x34\x12"),
-        (b".word 4294967295, 0XFF".as_slice(), b""),
+        (b".word 4294967295, 0XFF", b""),
         (b".half 1, 0xFFfF , 258", b"\x01\x00\xff\xff\x02\x01"),
         (b".byte 0, 255,0x0a", b"\x00\xff\x0a"),
         (b".space 3", b"\0\0\0"),
@@ -100,10 +100,10 @@ fn directives_give_their_bytes(rt: HostRuntime) {
         (b".space 4\n.align\n.byte 2", b"\0\0\0\0\x02"),
         (b".byte 1 ; \xff $ ; x\n.byte 2", b"\x01\x02"),
         (b"x:.byte 1;x:\n.byte 2", b"\x01\x02"),
-        (b".thumb\n.byte 1\n.half 2\n".as_slice(), b""),
+        (b".thumb\n.byte 1\n.half 2\n", b""),
         (b".word 0000000000000000000001", b"\x01\0\0\0"),
     ];
-    for (source, bytes) in cases {
+    for &(source, bytes) in &CASES {
         let refused = source == b".word 4294967295, 0XFF".as_slice()
             || source == b".thumb\n.byte 1\n.half 2\n".as_slice();
         assert!(rt; refused != gives(rt.alloc(), source, bytes), "{source:?}");
@@ -113,7 +113,7 @@ fn directives_give_their_bytes(rt: HostRuntime) {
 // Blanks stand between any two tokens, or nowhere.
 #[test]
 fn blanks_stand_where_they_like(rt: HostRuntime) -> Result<(), Fail> {
-    let cases: [(&[u8], &[u32]); 7] = [
+    static CASES: [(&[u8], &[u32]); 7] = [
         (b"\tldr\tr0 , [ r1 , # - 4 ] !\t", &[0xE5310004]),
         (b"ldr r0,[r1,#-4]!", &[0xE5310004]),
         (b" x\t: mov r0,r1,lsl#2", &[0xE1A00101]),
@@ -122,7 +122,7 @@ fn blanks_stand_where_they_like(rt: HostRuntime) -> Result<(), Fail> {
         (b"mov r0, #0xAb", &[0xE3A000AB]),
         (b"mov r0, r1;mov r0", &[0xE1A00001]),
     ];
-    for (source, words) in cases {
+    for &(source, words) in &CASES {
         assert!(rt; gives_words(rt.alloc(), source, words)?, "{source:?}");
     }
     Ok(())

@@ -5,7 +5,7 @@ use crate::assembled::{gives_half, gives_halves};
 // Each statement with every form of its operands, numbers at both ends.
 #[test]
 fn thumb_statements_are_encoded(rt: HostRuntime) {
-    let cases: [(&[u8], u16); 60] = [
+    static CASES: [(&[u8], u16); 60] = [
         (b"lsl r1, r2, #0", 0x0011),
         (b"lsl r1, r2, #1", 0x0051),
         (b"lsl r1, r2, #31", 0x07D1),
@@ -67,7 +67,7 @@ fn thumb_statements_are_encoded(rt: HostRuntime) {
         (b"ldr r1, [r2, #0]", 0x6811),
         (b"ldr r1, [r2, #4]", 0x6851),
     ];
-    for (source, half) in cases {
+    for &(source, half) in &CASES {
         assert!(rt;
             gives_half(rt.alloc(), source, half),
             "{source:?} isn't {half:04x}"
@@ -78,7 +78,7 @@ fn thumb_statements_are_encoded(rt: HostRuntime) {
 // Each statement with every form of its operands, numbers at both ends.
 #[test]
 fn the_other_thumb_statements_are_encoded(rt: HostRuntime) {
-    let cases: [(&[u8], u16); 36] = [
+    static CASES: [(&[u8], u16); 36] = [
         (b"ldr r7, [r6, #124]", 0x6FF7),
         (b"str r1, [r2, #0]", 0x6011),
         (b"str r1, [r2, #4]", 0x6051),
@@ -116,7 +116,7 @@ fn the_other_thumb_statements_are_encoded(rt: HostRuntime) {
         (b"swi #0", 0xDF00),
         (b"swi #255", 0xDFFF),
     ];
-    for (source, half) in cases {
+    for &(source, half) in &CASES {
         assert!(rt;
             gives_half(rt.alloc(), source, half),
             "{source:?} isn't {half:04x}"
@@ -127,7 +127,7 @@ fn the_other_thumb_statements_are_encoded(rt: HostRuntime) {
 // Two low registers are added and moved by format 5 and compared by format 4; branches to numbers, reckoned by hand from address 0.
 #[test]
 fn the_form_as_written_picks_the_format(rt: HostRuntime) {
-    let cases: [(&[u8], u16); 21] = [
+    static CASES: [(&[u8], u16); 21] = [
         (b"mov r1, r2", 0x4611),
         (b"add r1, r2", 0x4411),
         (b"mov r8, r9", 0x46C8),
@@ -150,7 +150,7 @@ fn the_form_as_written_picks_the_format(rt: HostRuntime) {
         (b"blt 0", 0xDBFE),
         (b"bgt 0", 0xDCFE),
     ];
-    for (source, half) in cases {
+    for &(source, half) in &CASES {
         assert!(rt;
             gives_half(rt.alloc(), source, half),
             "{source:?} isn't {half:04x}"
@@ -161,14 +161,14 @@ fn the_form_as_written_picks_the_format(rt: HostRuntime) {
 // BL's two halves: the high eleven bits of the distance, and the low ones.
 #[test]
 fn calls_are_two_halfwords(rt: HostRuntime) {
-    let cases: [(&[u8], [u16; 2]); 5] = [
+    static CASES: [(&[u8], [u16; 2]); 5] = [
         (b"bl 4", [0xF000, 0xF800]),
         (b"bl 0", [0xF7FF, 0xFFFE]),
         (b"bl 0x1236", [0xF001, 0xF919]),
         (b"bl 0x400002", [0xF3FF, 0xFFFF]),
         (b"bl 0xffc00004", [0xF400, 0xF800]),
     ];
-    for (source, halves) in cases {
+    for &(source, halves) in &CASES {
         assert!(rt; gives_halves(rt.alloc(), source, halves), "{source:?}");
     }
 }

@@ -653,7 +653,7 @@ fn a_unit_reads_no_bios(rt: HostRuntime) -> Result<(), Fail> {
     let mut board = board_of(rt.alloc())?;
     board.core.store(0x0300_0000, Word, 0xFFFF_FFFF, false);
     assert_eq!(rt; board.core.load(0, 0, Word, false), (0x1234_5678, 1));
-    for one in [
+    for &one in &[
         Store(0x0D4, Word, 0x0000_0000),
         Store(0x0D8, Word, 0x0300_0000),
         Store(0x0DC, Word, 0x8400_0001),
@@ -671,7 +671,7 @@ fn memories_have_their_names(rt: HostRuntime) -> Result<(), Fail> {
     let mut board = board_of(rt.alloc())?;
     board.core.store(0x0300_0002, Byte, 0x5A, false);
     board.core.store(0x0200_0000, Word, 0x1234_5678, false);
-    for (name, length, first) in [
+    for &(name, length, first) in &[
         (MemoryName::Io, 0, 0),
         (MemoryName::Wram, 0x4_0000, 0x78),
         (MemoryName::Iwram, 0x8000, 0),

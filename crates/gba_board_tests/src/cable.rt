@@ -50,7 +50,7 @@ pub(crate) fn bios_of(alloc: Global, first: u32) -> Result<Bios, Fail> {
     for _ in bytes.len()..16_384 {
         bytes.push(0)?;
     }
-    Ok(Bios::check(bytes).map_err(|_| "no BIOS")?)
+    Ok(Bios::check(bytes).ok().ok_or("no BIOS")?)
 }
 
 /// A board of a player of so many on a cable with a delay. Room for a million cycles.

@@ -10,7 +10,7 @@ use std::test::Fail;
 
 /// The registers that run, as words: direct sound from timers 0 and 1, four timers of which timer 1 counts timer 0's
 /// overflows, with their interrupts, and the picture's interrupts with line 3 to match.
-const RUNNING: [(u32, u32); 8] = [
+static RUNNING: [(u32, u32); 8] = [
     (0x084, 0x0000_0080),
     (0x080, 0x4300_0000),
     (0x0A0, 0x4433_2211),
@@ -22,7 +22,7 @@ const RUNNING: [(u32, u32); 8] = [
 ];
 
 /// Lengths of moves.
-const MOVES: [u32; 8] = [16, 1, 3, 512, 16, 225, 47, 16];
+static MOVES: [u32; 8] = [16, 1, 3, 512, 16, 225, 47, 16];
 
 /// A board of one console, with room for a million cycles.
 fn board(alloc: Global) -> Result<Board, Fail> {
@@ -31,7 +31,7 @@ fn board(alloc: Global) -> Result<Board, Fail> {
         bytes.push(0)?;
     }
     let images = ConsoleImages {
-        bios: Bios::check(bytes).map_err(|_| "no BIOS")?,
+        bios: Bios::check(bytes).ok().ok_or("no BIOS")?,
         cart: None,
         save: None,
     };

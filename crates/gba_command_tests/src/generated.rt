@@ -9,7 +9,7 @@ use std::thread::Threads;
 
 /// Some words of an image by their offsets; the seeds of players 0 to 3 for the number 7, which stand at 100, are
 /// 7 * 2,654,435,761 + K * 40,503 + 1 modulo 2^32.
-const WORDS: [(usize, u32); 5] = [
+static WORDS: [(usize, u32); 5] = [
     (0, 0xE3A0_4301), // MOV r4, #04000000h
     (36, 0xE029_8796), // MLA r9, r6, r7, r8
     (80, 0xEAFF_FFF3), // B 24h
@@ -28,7 +28,7 @@ console 2\nbios g.2.bios\nout words\nout state\n\
 console 3\nbios g.3.bios\nout words\nout state\nend\n";
 
 /// The files of a run under one OUT and under another.
-const WRITTEN: [(&str, &str); 9] = [
+static WRITTEN: [(&str, &str); 9] = [
     ("g.0.words", "h.0.words"),
     ("g.0.state", "h.0.state"),
     ("g.1.words", "h.1.words"),
@@ -53,7 +53,7 @@ fn files_are_made(rt: HostRuntime) -> Result<(), Fail> {
     for player in 0..4 {
         let image = answer.file(IMAGES[player]);
         assert_eq!(rt; image.len(), 16_384);
-        for (offset, word) in WORDS {
+        for &(offset, word) in &WORDS {
             has_word(&rt, image, offset, word);
         }
         has_word(&rt, image, 100, SEEDS[player]);
@@ -108,7 +108,7 @@ fn made_jobs_are_run(rt: HostRuntime) -> Result<(), Fail> {
         let again = run_made(&rt, alloc, &made, job)?;
         assert_eq!(rt; again.status, 0, "of {job}");
         assert_eq!(rt; again.report(), made.report(), "of {job}");
-        for (first, second) in WRITTEN {
+        for &(first, second) in &WRITTEN {
             assert_eq!(rt;
                 again.file(second),
                 made.file(first),
@@ -120,7 +120,7 @@ fn made_jobs_are_run(rt: HostRuntime) -> Result<(), Fail> {
 }
 
 /// Numbers of creates and of appends that fail, and the file that is told.
-const FAILURES: [(&[u64], &[u64], &[u8]); 6] = [
+static FAILURES: [(&[u64], &[u64], &[u8]); 6] = [
     (&[1], &[], b"sink g.0.bios\n"),
     (&[4], &[], b"sink g.3.bios\n"),
     (&[5], &[], b"sink g.job\n"),
@@ -132,7 +132,7 @@ const FAILURES: [(&[u64], &[u64], &[u8]); 6] = [
 /// The order of the files: the images, the job, and those of the run.
 #[test]
 fn failures_are_told(rt: HostRuntime) -> Result<(), Fail> {
-    for (creates, appends, report) in FAILURES {
+    for &(creates, appends, report) in &FAILURES {
         let failing = Failing {
             creates,
             appends,

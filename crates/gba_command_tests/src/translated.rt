@@ -9,7 +9,7 @@ type Translation<'a> = (&'a str, &'a [u8], &'a [u8], &'a [u8]);
 
 /// A branch to the next line, and then back; eight bytes that are no code, and their listing assembled again; the two
 /// halves of BL; a word, a halfword and a byte at the end.
-const TRANSLATIONS: [Translation<'static>; 7] = [
+static TRANSLATIONS: [Translation<'static>; 7] = [
     (
         "asm",
         b"b x\nx: bx lr\n",
@@ -46,7 +46,7 @@ const TRANSLATIONS: [Translation<'static>; 7] = [
 
 #[test]
 fn files_are_translated(rt: HostRuntime) -> Result<(), Fail> {
-    for (command, read, written, report) in TRANSLATIONS {
+    for &(command, read, written, report) in &TRANSLATIONS {
         let answer = call(&rt, rt.alloc(), &[command, "s", "o"], &[("s", read)])?;
         assert_eq!(rt; answer.status, 0, "of {command} {read:?}");
         assert_eq!(rt; answer.file("o"), written, "of {command} {read:?}");
@@ -56,7 +56,7 @@ fn files_are_translated(rt: HostRuntime) -> Result<(), Fail> {
 }
 
 /// Sources that aren't of the language, and their reports.
-const REFUSED: [(&[u8], &[u8]); 5] = [
+static REFUSED: [(&[u8], &[u8]); 5] = [
     (b"b nowhere\n", b"source s line 1 Label\n"),
     (b"mov r0\n", b"source s line 1 Operand\n"),
     (b"mov r0, #0x101\n", b"source s line 1 Range\n"),
@@ -66,7 +66,7 @@ const REFUSED: [(&[u8], &[u8]); 5] = [
 
 #[test]
 fn sources_are_refused(rt: HostRuntime) -> Result<(), Fail> {
-    for (source, report) in REFUSED {
+    for &(source, report) in &REFUSED {
         let answer = call(&rt, rt.alloc(), &["asm", "s", "o"], &[("s", source)])?;
         assert_eq!(rt; answer.status, 8, "of {source:?}");
         assert_eq!(rt; answer.report(), report, "of {source:?}");
@@ -76,7 +76,7 @@ fn sources_are_refused(rt: HostRuntime) -> Result<(), Fail> {
 }
 
 /// The file that isn't there, and calls that fail: the status, the report, and what OUT has then.
-const FAILURES: [Failure<'static>; 5] = [
+static FAILURES: [Failure<'static>; 5] = [
     ("asm", "t", NOTHING_FAILS, 3, b"absent t\n", b""),
     ("tdis", "t", NOTHING_FAILS, 3, b"absent t\n", b""),
     (
@@ -118,7 +118,7 @@ type Failure<'a> = (&'a str, &'a str, Failing<'a>, u8, &'a [u8], &'a [u8]);
 
 #[test]
 fn failures_are_told(rt: HostRuntime) -> Result<(), Fail> {
-    for (command, name, failing, status, report, written) in FAILURES {
+    for &(command, name, failing, status, report, written) in &FAILURES {
         let files = [("s", b"bx lr\n".as_slice())];
         let answer = call_with(&rt, rt.alloc(), &[command, name, "o"], &files, failing)?;
         assert_eq!(rt; answer.status, status, "of {command}");

@@ -11,7 +11,7 @@ const LONG: &str =
     "ooooooooooooooooooooooooooooooooooooooooooooooooooooooooooooooooooooooooooooooooooooooooooooooooooooooooooooooooooooooooooooooooooooooooooooooooooooooooooooooooooooooooooooooooooooo";
 
 /// Words that are no command.
-const WRONG: [&[&str]; 30] = [
+static WRONG: [&[&str]; 30] = [
     &["asm"],
     &["asm", "s"],
     &["asm", "s", "o", "o"],
@@ -46,7 +46,7 @@ const WRONG: [&[&str]; 30] = [
 
 #[test]
 fn words_are_refused(rt: HostRuntime) -> Result<(), Fail> {
-    for words in WRONG {
+    for &words in &WRONG {
         let answer = call(&rt, rt.alloc(), words, &[("s", b"bx lr\n")])?;
         assert_eq!(rt; answer.status, 2, "of {words:?}");
         assert_eq!(rt; answer.report(), b"words\n".as_slice(), "of {words:?}");
@@ -57,7 +57,7 @@ fn words_are_refused(rt: HostRuntime) -> Result<(), Fail> {
 
 /// Words that are a command, and the front of what it reports. The bytes of the source are listed as a word that is no
 /// operation and two bytes, and as a load of a byte, a load of a word and a shift.
-const RIGHT: [(&[&str], &[u8]); 7] = [
+static RIGHT: [(&[&str], &[u8]); 7] = [
     (&["asm", "s", "s.o"], b"asm 4\n"),
     (&["dis", "s", "a/o"], b"dis 39\n"),
     (&["tdis", "s", "o"], b"dis 64\n"),
@@ -72,7 +72,7 @@ const RIGHT: [(&[&str], &[u8]); 7] = [
 
 #[test]
 fn words_are_commands(rt: HostRuntime) -> Result<(), Fail> {
-    for (words, report) in RIGHT {
+    for &(words, report) in &RIGHT {
         let answer = call(&rt, rt.alloc(), words, &[("s", b"bx lr\n")])?;
         assert_eq!(rt; answer.status, 0, "of {words:?}");
         assert!(rt; answer.report().starts_with(report), "of {words:?}");

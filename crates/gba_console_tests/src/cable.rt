@@ -26,7 +26,7 @@ fn bios_of(alloc: Global, source: &[u8]) -> Result<Bios, Fail> {
     for _ in bios.len()..16_384 {
         bios.push(0)?;
     }
-    Ok(Bios::check(bios).map_err(|_| "no BIOS")?)
+    Ok(Bios::check(bios).ok().ok_or("no BIOS")?)
 }
 
 /// A console of a player of so many on a cable with a delay, whose BIOS is this source.
@@ -125,6 +125,6 @@ impl Cable {
             }
         }
         assert_eq!(rt; starts, 1);
-        Ok(u32::try_from(clock).map_err(|_| "a late start")?)
+        Ok(u32::try_from(clock).ok().ok_or("a late start")?)
     }
 }

@@ -16,7 +16,7 @@ pub(crate) fn bios_of(alloc: Global, words: &[u32]) -> Result<Bios, Fail> {
     for _ in bios.len()..16_384 {
         bios.push(0)?;
     }
-    Ok(Bios::check(bios).map_err(|_| "no BIOS")?)
+    Ok(Bios::check(bios).ok().ok_or("no BIOS")?)
 }
 
 /// Room for a million cycles, where frames and samples are kept.
@@ -68,7 +68,7 @@ fn cartridge_of(alloc: Global, words: &[u32]) -> Result<Cartridge, Fail> {
     for word in words {
         bytes.extend_from_slice(&word.to_le_bytes())?;
     }
-    Ok(Cartridge::check(bytes).map_err(|_| "no cartridge")?)
+    Ok(Cartridge::check(bytes).ok().ok_or("no cartridge")?)
 }
 
 /// A console with a cartridge.
@@ -102,7 +102,7 @@ pub(crate) fn run<R: Abort>(rt: &R, console: &mut Console, until: u64) {
 fn jumps_and_no_memory(rt: HostRuntime) -> Result<(), Fail> {
     let mut console = console_of(rt.alloc(), &[0xEB00_0000, 0, 0x0A00_0000, 0xEA00_0FFB])?;
     assert_eq!(rt; console.all()[31], 0xD3);
-    for (count, clock, link, at) in [
+    for &(count, clock, link, at) in &[
         (1, 3, 4, 8),
         (1, 4, 4, 12),
         (1, 7, 4, 0x4000),
@@ -130,7 +130,7 @@ fn move_and_loop(rt: HostRuntime) -> Result<(), Fail> {
 /// What loads and stores see, by the program: each ends with its result in r0.
 #[test]
 fn memory_map(rt: HostRuntime) -> Result<(), Fail> {
-    for (words, count, result) in [
+    for &(words, count, result) in &[
         // MOV r1, #03000000h; MOV r2, #5; STR r2, [r1, #4]; ADD r1, r1, #8000h; LDR r0, [r1, #4]: repeated.
         (
             [
@@ -228,7 +228,7 @@ fn memory_map(rt: HostRuntime) -> Result<(), Fail> {
 /// and MOV r5, #1 is changed into MOV r5, #2 by the word before it, which is seen at once.
 #[test]
 fn code_in_the_inner_ram(rt: HostRuntime) -> Result<(), Fail> {
-    let words = [
+    static WORDS: [u32; 16] = [
         0xE3A0_3000, // 00 MOV r3, #0
         0xE3A0_1403, // 04 MOV r1, #03000000h
         0xE593_0000, // 08 LDR r0, [r3]: the first word, since this one stands in the BIOS
@@ -246,7 +246,7 @@ fn code_in_the_inner_ram(rt: HostRuntime) -> Result<(), Fail> {
         0xEAFF_FFFE, // 38 B to itself
         0xE3A0_5002, // 3C MOV r5, #2
     ];
-    let mut console = console_of(rt.alloc(), &words)?;
+    let mut console = console_of(rt.alloc(), &WORDS)?;
     // 1 + 1 + 3 + 1 + 1 + (1 + 5 + 1) + (1 + 5) + 3 + 1 + 3 cycles.
     steps(&rt, &mut console, 10, 27);
     assert_eq!(rt; console.all()[15], 0x0300_0000);
@@ -267,7 +267,7 @@ fn code_in_the_inner_ram(rt: HostRuntime) -> Result<(), Fail> {
 /// BX into Thumb state, where MOV and SUB make flags, and BX r15 back to ARM state at the word above it.
 #[test]
 fn both_states(rt: HostRuntime) -> Result<(), Fail> {
-    let words = [
+    static WORDS: [u32; 6] = [
         0xE3A0_0009, // 00 MOV r0, #9
         0xE12F_FF10, // 04 BX r0
         0x3903_2105, // 08 MOV r1, #5; 0A SUB r1, #3
@@ -275,9 +275,9 @@ fn both_states(rt: HostRuntime) -> Result<(), Fail> {
         0xE281_1001, // 10 ADD r1, r1, #1
         0xEAFF_FFFE, // 14 B to itself
     ];
-    let mut console = console_of(rt.alloc(), &words)?;
+    let mut console = console_of(rt.alloc(), &WORDS)?;
     // The clock, r1, r15 and CPSR after each step. SUB has no borrow, so C is set.
-    for (clock, value, at, status) in [
+    for &(clock, value, at, status) in &[
         (1, 0, 4, 0xD3),
         (4, 0, 8, 0xF3),
         (5, 5, 0xA, 0xF3),
@@ -299,7 +299,7 @@ fn both_states(rt: HostRuntime) -> Result<(), Fail> {
 /// a load that isn't aligned, the VRAM's second half at its repeat, and the SRAM at 8 and 32 bits.
 #[test]
 fn the_memory_map_has_its_prices(rt: HostRuntime) -> Result<(), Fail> {
-    let words = [
+    static WORDS: [u32; 20] = [
         0xE3A0_1302, // 00 MOV r1, #08000000h
         0xE591_0000, // 04 LDR r0, [r1]: 1 + (5 + 3) + 1
         0xE281_2C02, // 08 ADD r2, r1, #200h
@@ -321,7 +321,7 @@ fn the_memory_map_has_its_prices(rt: HostRuntime) -> Result<(), Fail> {
         0xEAFF_FFFE, // 48 B to itself
         0x4433_2211, // 4C
     ];
-    let mut console = console_with(rt.alloc(), &words, &[])?;
+    let mut console = console_with(rt.alloc(), &WORDS, &[])?;
     steps(&rt, &mut console, 2, 11);
     steps(&rt, &mut console, 2, 19);
     steps(&rt, &mut console, 5, 39);
@@ -368,7 +368,7 @@ struct Program<'a> {
 /// interrupt lasts for ever, 16 cycles at a time; WAITCNT prices from the next instruction on.
 #[test]
 fn devices_in_steps(rt: HostRuntime) -> Result<(), Fail> {
-    for one in [
+    for &one in &[
         // MOV r1, #04000000h; MOV r2, #80h; ADD r3, r1, #100h; STRH r2, [r3, #2]; LDRH r0, [r3]
         Program {
             words: &[
@@ -416,7 +416,7 @@ fn devices_in_steps(rt: HostRuntime) -> Result<(), Fail> {
 /// change of the keys: KEYCNT 4001h, IE 1000h, IME 1, I 0.
 #[test]
 fn a_key_interrupts(rt: HostRuntime) -> Result<(), Fail> {
-    let words = [
+    static WORDS: [u32; 13] = [
         0xE3A0_1301, // 00 MOV r1, #04000000h
         0xE281_1E13, // 04 ADD r1, r1, #130h
         0xE3A0_2901, // 08 MOV r2, #4000h
@@ -433,7 +433,7 @@ fn a_key_interrupts(rt: HostRuntime) -> Result<(), Fail> {
     ];
     for (at, clock) in [(99, 102), (100, 105), (102, 105), (103, 108), (105, 108)] {
         let changes = [KeyState { clock: at, keys: 1 }];
-        let mut console = console_with_keys(rt.alloc(), &words, &changes)?;
+        let mut console = console_with_keys(rt.alloc(), &WORDS, &changes)?;
         steps(&rt, &mut console, 12, 15);
         run(&rt, &mut console, clock - 3);
         assert_eq!(rt; console.clock(), clock - 3);
@@ -472,7 +472,7 @@ fn keys_change_in_their_order(rt: HostRuntime) -> Result<(), Fail> {
 /// only where IME is 1 and I is 0.
 #[test]
 fn a_halt_ends(rt: HostRuntime) -> Result<(), Fail> {
-    for (master, status, clock, at, zero) in [
+    for &(master, status, clock, at, zero) in &[
         (0xE3A0_5000, 0xE321_F0D3, 53, 0x40, 1),
         (0xE3A0_5000, 0xE321_F053, 53, 0x40, 1),
         (0xE3A0_5001, 0xE321_F0D3, 53, 0x40, 1),
@@ -513,7 +513,7 @@ fn a_halt_ends(rt: HostRuntime) -> Result<(), Fail> {
 /// of 6 + 1 + 2 cycles and the others of 6 + 1.
 #[test]
 fn a_count_of_0_moves_65536_units(rt: HostRuntime) -> Result<(), Fail> {
-    let words = [
+    static WORDS: [u32; 9] = [
         0xE3A0_0301, // 00 MOV r0, #04000000h
         0xE280_00D4, // 04 ADD r0, r0, #D4h
         0xE3A0_1402, // 08 MOV r1, #02000000h
@@ -524,7 +524,7 @@ fn a_count_of_0_moves_65536_units(rt: HostRuntime) -> Result<(), Fail> {
         0xE580_3008, // 1C STR r3, [r0, #8]
         0xEAFF_FFFE, // 20 B to itself
     ];
-    let mut console = console_of(rt.alloc(), &words)?;
+    let mut console = console_of(rt.alloc(), &WORDS)?;
     steps(&rt, &mut console, 8, 11);
     steps(&rt, &mut console, 1, 20);
     steps(&rt, &mut console, 1, 27);
@@ -540,7 +540,7 @@ fn a_count_of_0_moves_65536_units(rt: HostRuntime) -> Result<(), Fail> {
 /// after it goes on.
 #[test]
 fn a_unit_wakes_nothing(rt: HostRuntime) -> Result<(), Fail> {
-    let words = [
+    static WORDS: [u32; 19] = [
         0xE3A0_0301, // 00 MOV r0, #04000000h
         0xE280_1C02, // 04 ADD r1, r0, #200h
         0xE3A0_2008, // 08 MOV r2, #8
@@ -561,7 +561,7 @@ fn a_unit_wakes_nothing(rt: HostRuntime) -> Result<(), Fail> {
         0xE288_8001, // 44 ADD r8, r8, #1
         0xEAFF_FFFE, // 48 B to itself
     ];
-    let mut console = console_of(rt.alloc(), &words)?;
+    let mut console = console_of(rt.alloc(), &WORDS)?;
     steps(&rt, &mut console, 17, 22);
     // 3 + 1 + 2 cycles, and 3 + 1.
     steps(&rt, &mut console, 1, 28);

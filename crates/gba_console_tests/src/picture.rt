@@ -17,7 +17,7 @@ fn colour_at<R: Abort>(rt: &R, frames: &[u8], frame: usize, line: usize, column:
 #[test]
 fn frames_are_whole_with_line_159(rt: HostRuntime) -> Result<(), Fail> {
     let mut console = console_of(rt.alloc(), &[0xEAFF_FFFE])?;
-    for (until, clock, frames, bytes, pairs) in [
+    for &(until, clock, frames, bytes, pairs) in &[
         (196_893, 196_893, 0, 0, 384),
         (196_894, 196_896, 1, 76_800, 384),
         (477_789, 477_789, 1, 76_800, 933),
@@ -42,14 +42,14 @@ fn frames_are_whole_with_line_159(rt: HostRuntime) -> Result<(), Fail> {
 #[test]
 fn lines_are_drawn_when_their_hblank_begins(rt: HostRuntime) -> Result<(), Fail> {
     // MOV r0, #04000000h; MOV r1, #05000000h; LDRH r2, [r0, #6]; STRH r2, [r1]; B back to the load
-    let words = [
+    static WORDS: [u32; 5] = [
         0xE3A0_0301,
         0xE3A0_1405,
         0xE1D0_20B6,
         0xE1C1_20B0,
         0xEAFF_FFFC,
     ];
-    let mut console = console_of(rt.alloc(), &words)?;
+    let mut console = console_of(rt.alloc(), &WORDS)?;
     run(&rt, &mut console, 500_000);
     assert_eq!(rt; console.counts().frames, 2);
     for frame in 0..2 {

@@ -97,7 +97,7 @@ fn play<R: Abort>(rt: &R, moves: &[Move]) {
 }
 
 /// Two halfwords upwards. The addresses are aligned at each unit, and their low bits are kept.
-const HALVES_UP: [Move; 7] = [
+static HALVES_UP: [Move; 7] = [
     Start(3, 0x0200_0001, 0x0300_0003, 2, 0x8000),
     Next(3, 0x0200_0000, 0x0300_0002, Half, true),
     Done(None),
@@ -108,7 +108,7 @@ const HALVES_UP: [Move; 7] = [
 ];
 
 /// Two words, the source downwards, the destination fixed, with the interrupt.
-const WORDS_DOWN: [Move; 7] = [
+static WORDS_DOWN: [Move; 7] = [
     Start(0, 0x0200_0010, 0x0300_0000, 2, 0xC4C0),
     Next(0, 0x0200_0010, 0x0300_0000, Word, true),
     Done(None),
@@ -119,7 +119,7 @@ const WORDS_DOWN: [Move; 7] = [
 ];
 
 /// The source fixed, and the destination down past 0, where addresses wrap.
-const DOWN_PAST_0: [Move; 4] = [
+static DOWN_PAST_0: [Move; 4] = [
     Start(1, 0x0800_0000, 0x0000_0000, 2, 0x8120),
     Next(1, 0x0800_0000, 0x0000_0000, Half, true),
     Done(None),
@@ -127,7 +127,7 @@ const DOWN_PAST_0: [Move; 4] = [
 ];
 
 /// Source step 3 goes up as 0 does; destination step 3 goes up while the run lasts.
-const STEP_3: [Move; 4] = [
+static STEP_3: [Move; 4] = [
     Start(2, 0x0200_0000, 0x0300_0000, 2, 0x85E0),
     Next(2, 0x0200_0000, 0x0300_0000, Word, true),
     Done(None),
@@ -135,7 +135,7 @@ const STEP_3: [Move; 4] = [
 ];
 
 /// At VBlank again and again: the count and the destination are loaded again, and the source goes on.
-const RELOADED: [Move; 15] = [
+static RELOADED: [Move; 15] = [
     Start(2, 0x0200_0000, 0x0300_0000, 2, 0x9260),
     Idle,
     Event(HBlank),
@@ -154,7 +154,7 @@ const RELOADED: [Move; 15] = [
 ];
 
 /// Repeating at VBlank without the reload: the destination goes on.
-const NOT_RELOADED: [Move; 6] = [
+static NOT_RELOADED: [Move; 6] = [
     Start(0, 0x0200_0000, 0x0300_0000, 1, 0x9200),
     Event(VBlank),
     Done(None),
@@ -164,7 +164,7 @@ const NOT_RELOADED: [Move; 6] = [
 ];
 
 /// At timing 0 nothing repeats, and at HBlank only what repeats.
-const ENDED: [Move; 12] = [
+static ENDED: [Move; 12] = [
     Start(1, 0x0200_0000, 0x0300_0000, 1, 0x8200),
     Done(None),
     Idle,
@@ -180,7 +180,7 @@ const ENDED: [Move; 12] = [
 ];
 
 /// A trigger of an active channel is ignored.
-const TRIGGERED_TWICE: [Move; 7] = [
+static TRIGGERED_TWICE: [Move; 7] = [
     Start(1, 0x0200_0000, 0x0300_0000, 3, 0xA200),
     Event(HBlank),
     Done(None),
@@ -191,7 +191,7 @@ const TRIGGERED_TWICE: [Move; 7] = [
 ];
 
 /// For a queue the run has four words and a fixed destination, whatever count, width and steps say.
-const FOR_A_QUEUE: [Move; 17] = [
+static FOR_A_QUEUE: [Move; 17] = [
     Start(1, 0x0200_0000, 0x0400_00A0, 100, 0xF200),
     Idle,
     Left(1, 100),
@@ -212,7 +212,7 @@ const FOR_A_QUEUE: [Move; 17] = [
 ];
 
 /// Channel 2 for queue B.
-const FOR_QUEUE_B: [Move; 6] = [
+static FOR_QUEUE_B: [Move; 6] = [
     Start(2, 0x0200_0000, 0x0400_00A4, 1, 0xB000),
     Event(QueueA),
     Idle,
@@ -222,7 +222,7 @@ const FOR_QUEUE_B: [Move; 6] = [
 ];
 
 /// Channels 0 and 3 have no such timing, nor has channel 1 at another address.
-const NO_QUEUE: [Move; 9] = [
+static NO_QUEUE: [Move; 9] = [
     Start(0, 0x0200_0000, 0x0400_00A0, 1, 0xB000),
     Start(3, 0x0200_0000, 0x0400_00A0, 1, 0xB000),
     Start(1, 0x0200_0000, 0x0400_00A2, 1, 0xB000),
@@ -235,7 +235,7 @@ const NO_QUEUE: [Move; 9] = [
 ];
 
 /// Another timing without a start triggers nothing, and counts from then on.
-const OTHER_TIMING: [Move; 8] = [
+static OTHER_TIMING: [Move; 8] = [
     Start(3, 0x0200_0000, 0x0300_0000, 1, 0x9000),
     Write(0x0DE, 0x8000),
     Idle,
@@ -247,7 +247,7 @@ const OTHER_TIMING: [Move; 8] = [
 ];
 
 /// A unit writes 0 to its own control: the run has ended, without the interrupt, and the unit isn't counted.
-const STOPS_ITSELF: [Move; 7] = [
+static STOPS_ITSELF: [Move; 7] = [
     Start(3, 0x0200_0000, 0x0400_00DE, 4, 0xC040),
     Next(3, 0x0200_0000, 0x0400_00DE, Half, true),
     Write(0x0DE, 0x0000),
@@ -258,7 +258,7 @@ const STOPS_ITSELF: [Move; 7] = [
 ];
 
 /// Units of channel 0 that start channel 3: it comes after channel 0 has ended.
-const STARTS_A_HIGHER: [Move; 9] = [
+static STARTS_A_HIGHER: [Move; 9] = [
     Start(0, 0x0200_0000, 0x0400_00DE, 2, 0xC040),
     Next(0, 0x0200_0000, 0x0400_00DE, Half, true),
     Write(0x0DE, 0x8000),
@@ -271,7 +271,7 @@ const STARTS_A_HIGHER: [Move; 9] = [
 ];
 
 /// A unit of channel 3 that starts channel 0: it is counted for channel 3, and channel 0 goes first.
-const STARTS_A_LOWER: [Move; 8] = [
+static STARTS_A_LOWER: [Move; 8] = [
     Start(3, 0x0200_0000, 0x0400_00BA, 2, 0x8040),
     Next(3, 0x0200_0000, 0x0400_00BA, Half, true),
     Write(0x0BA, 0x8000),
@@ -283,7 +283,7 @@ const STARTS_A_LOWER: [Move; 8] = [
 ];
 
 /// The bits that are stored and those that read; other offsets.
-const REGISTERS: [Move; 24] = [
+static REGISTERS: [Move; 24] = [
     Start(0, 0xFFFF_FFFF, 0xFFFF_FFFF, 0xFFFF, 0x7FFF),
     Start(2, 0xFFFF_FFFF, 0xFFFF_FFFF, 0xFFFF, 0x7FFF),
     Start(3, 0xFFFF_FFFF, 0xFFFF_FFFF, 0xFFFF, 0x7FFF),

@@ -8,7 +8,7 @@ use std::test::Fail;
 type Way = ((u32, u32), u32, Option<u32>, Option<u32>, (u32, u32));
 
 /// Places around the dots 1,006 and 1,232, and the last line.
-const WAYS: [Way; 16] = [
+static WAYS: [Way; 16] = [
     ((0, 1000), 10, Some(6), None, (0, 1010)),
     ((0, 1230), 5, None, Some(2), (1, 3)),
     ((3, 1004), 1, None, None, (3, 1005)),
@@ -85,7 +85,7 @@ fn positions_move_as_worked_out(rt: HostRuntime) -> Result<(), Fail> {
 }
 
 /// Dots and for how many cycles nothing comes from there.
-const QUIET: [(u32, u32); 9] = [
+static QUIET: [(u32, u32); 9] = [
     (0, 512),
     (493, 512),
     (494, 511),
@@ -118,7 +118,7 @@ fn positions_skip_where_nothing_comes(rt: HostRuntime) -> Result<(), Fail> {
 }
 
 /// Places and what DISPSTAT reads there with line 160 to match and the VCount interrupt, and VCOUNT.
-const STATUS: [((u32, u32), u16); 9] = [
+static STATUS: [((u32, u32), u16); 9] = [
     ((0, 0), 0xA020),
     ((0, 1005), 0xA020),
     ((0, 1006), 0xA022),
@@ -150,7 +150,7 @@ fn status_reads_the_place(rt: HostRuntime) -> Result<(), Fail> {
 }
 
 /// Offsets, and what reads and what is stored after a write of FFFFh.
-const MASKS: [(u32, u16, u16); 30] = [
+static MASKS: [(u32, u16, u16); 30] = [
     (0x000, 0xFFF7, 0xFFF7),
     (0x002, 0, 0),
     (0x004, 0xFF38, 0xFF38),

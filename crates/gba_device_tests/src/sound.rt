@@ -53,7 +53,7 @@ fn play<R: Abort>(rt: &R, moves: &[Move]) {
 }
 
 /// Eight words fill a queue. A ninth is dropped, one at 29 bytes too, and one at 28 is taken.
-const FULL: [Move; 18] = [
+static FULL: [Move; 18] = [
     Push(A, 1, true),
     Push(A, 2, true),
     Push(A, 3, true),
@@ -75,7 +75,7 @@ const FULL: [Move; 18] = [
 ];
 
 /// The low byte of a word leaves first. An empty queue keeps its current byte, and asks.
-const ORDER: [Move; 10] = [
+static ORDER: [Move; 10] = [
     Write(0x082, 0x4000),
     Push(A, 0x4433_2211, true),
     Overflow(0, true, false),
@@ -89,7 +89,7 @@ const ORDER: [Move; 10] = [
 ];
 
 /// A queue asks where 16 bytes or fewer are left. Each takes bytes at its own timer alone; the sound is off.
-const ASKING: [Move; 15] = [
+static ASKING: [Move; 15] = [
     Write(0x082, 0x4000),
     Push(B, 0x0101_0101, true),
     Push(B, 0x0202_0202, true),
@@ -108,7 +108,7 @@ const ASKING: [Move; 15] = [
 ];
 
 /// Both queues at timer 1.
-const BOTH: [Move; 6] = [
+static BOTH: [Move; 6] = [
     Write(0x082, 0x4400),
     Push(A, 0x7F, true),
     Push(B, 0x80, true),
@@ -118,7 +118,7 @@ const BOTH: [Move; 6] = [
 ];
 
 /// 7Fh at full volume is 127 times 64, and 80h at half volume is 128 times 32 below 0.
-const VOLUMES: [Move; 9] = [
+static VOLUMES: [Move; 9] = [
     Write(0x084, 0x0080),
     Write(0x082, 0x0304),
     Push(A, 0x0000_807F, true),
@@ -131,7 +131,7 @@ const VOLUMES: [Move; 9] = [
 ];
 
 /// A goes left and B goes right, then the other way round; both to one side are added.
-const SIDES: [Move; 14] = [
+static SIDES: [Move; 14] = [
     Write(0x084, 0x0080),
     Push(A, 0x01, true),
     Push(B, 0xFF, true),
@@ -149,7 +149,7 @@ const SIDES: [Move; 14] = [
 ];
 
 /// The greatest and the least sample, and none while the sound is off.
-const EXTREMES: [Move; 10] = [
+static EXTREMES: [Move; 10] = [
     Write(0x082, 0x330C),
     Write(0x084, 0x0080),
     Push(A, 0x0000_7F80, true),
@@ -163,7 +163,7 @@ const EXTREMES: [Move; 10] = [
 ];
 
 /// A reset bit empties its queue and makes the current byte 0; it isn't stored.
-const RESETS: [Move; 10] = [
+static RESETS: [Move; 10] = [
     Push(A, 0x0101_0101, true),
     Push(B, 0x0202_0202, true),
     Overflow(0, true, true),
@@ -177,7 +177,7 @@ const RESETS: [Move; 10] = [
 ];
 
 /// The bits that are stored; SOUNDBIAS at reset; other offsets.
-const REGISTERS: [Move; 12] = [
+static REGISTERS: [Move; 12] = [
     Reads(0x088, 0x0200),
     Write(0x082, 0xFFFF),
     Reads(0x082, 0x770F),

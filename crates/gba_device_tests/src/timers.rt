@@ -63,7 +63,7 @@ fn play<R: Abort>(rt: &R, moves: &[Move]) {
 }
 
 /// Timer 0 at FFFFh with reload FFFFh overflows in each of twenty cycles, and timer 1 counts them by cascade.
-const CASCADE: [Move; 8] = [
+static CASCADE: [Move; 8] = [
     Write(0x100, 0xFFFF),
     Write(0x106, 0x0084),
     Write(0x102, 0x0080),
@@ -75,7 +75,7 @@ const CASCADE: [Move; 8] = [
 ];
 
 /// The prescalers 1, 64, 256 and 1,024 over 1,024 cycles.
-const PRESCALERS: [Move; 10] = [
+static PRESCALERS: [Move; 10] = [
     Write(0x102, 0x0080),
     Write(0x106, 0x0081),
     Write(0x10A, 0x0082),
@@ -90,7 +90,7 @@ const PRESCALERS: [Move; 10] = [
 
 /// After ten cycles of 64 the prescaler becomes 256, and the phase goes on: 246 cycles are left to the next count. Then
 /// ten cycles, and the prescaler 1: the next cycle counts.
-const CHANGED_PRESCALER: [Move; 11] = [
+static CHANGED_PRESCALER: [Move; 11] = [
     Write(0x102, 0x0081),
     Cycles(10, 0, 0),
     Write(0x102, 0x0082),
@@ -105,7 +105,7 @@ const CHANGED_PRESCALER: [Move; 11] = [
 ];
 
 /// Run set while running keeps the counter; a start takes the reload.
-const RUN_WHILE_RUNNING: [Move; 10] = [
+static RUN_WHILE_RUNNING: [Move; 10] = [
     Write(0x100, 0x1000),
     Write(0x102, 0x0080),
     Cycles(5, 0, 0),
@@ -119,7 +119,7 @@ const RUN_WHILE_RUNNING: [Move; 10] = [
 ];
 
 /// A cascade timer stands still where the timer below is stopped.
-const LOWER_STOPS: [Move; 9] = [
+static LOWER_STOPS: [Move; 9] = [
     Write(0x104, 0xFFFE),
     Write(0x106, 0x0080),
     Write(0x10A, 0x0084),
@@ -132,7 +132,7 @@ const LOWER_STOPS: [Move; 9] = [
 ];
 
 /// A reload that is written while the timer runs is taken at the overflow.
-const RELOAD_WHILE_RUNNING: [Move; 8] = [
+static RELOAD_WHILE_RUNNING: [Move; 8] = [
     Write(0x10C, 0xFFF0),
     Write(0x10E, 0x0080),
     Write(0x10C, 0x8000),
@@ -144,7 +144,7 @@ const RELOAD_WHILE_RUNNING: [Move; 8] = [
 ];
 
 /// Timers 2 and 3 overflow together where timer 3 cascades at FFFFh.
-const TWO_OVERFLOWS: [Move; 6] = [
+static TWO_OVERFLOWS: [Move; 6] = [
     Write(0x108, 0xFFFF),
     Write(0x10C, 0xFFFF),
     Write(0x10E, 0x0084),
@@ -154,7 +154,7 @@ const TWO_OVERFLOWS: [Move; 6] = [
 ];
 
 /// A counter at FFFEh with prescaler 64 is quiet for 127 cycles, and overflows in the next.
-const SKIPPED: [Move; 8] = [
+static SKIPPED: [Move; 8] = [
     Write(0x100, 0xFFFE),
     Write(0x102, 0x0081),
     Quiet(127),
@@ -167,7 +167,7 @@ const SKIPPED: [Move; 8] = [
 
 /// Timer 0 at FFFFh with prescaler 64 and phase 60, the others stopped. Then the prescaler 256, and the prescaler 1, for
 /// which the phase is past its end.
-const PHASE_60: [Move; 10] = [
+static PHASE_60: [Move; 10] = [
     Write(0x100, 0xFFFF),
     Write(0x102, 0x0081),
     Cycles(60, 0, 0),
@@ -181,7 +181,7 @@ const PHASE_60: [Move; 10] = [
 ];
 
 /// The last count of each prescaler: with 1,024 the overflow is past the 512 cycles that are looked at, up to its phase 512.
-const LAST_COUNTS: [Move; 14] = [
+static LAST_COUNTS: [Move; 14] = [
     Write(0x104, 0xFFFF),
     Write(0x106, 0x0080),
     Quiet(0),
@@ -200,7 +200,7 @@ const LAST_COUNTS: [Move; 14] = [
 
 /// Timer 1 counts the overflows of timer 0, which come every second cycle, and timer 2 those of timer 1. A stopped timer
 /// ends the row.
-const QUIET_CASCADES: [Move; 17] = [
+static QUIET_CASCADES: [Move; 17] = [
     Write(0x100, 0xFFFE),
     Write(0x104, 0xFFFE),
     Write(0x108, 0xFFFF),
@@ -221,7 +221,7 @@ const QUIET_CASCADES: [Move; 17] = [
 ];
 
 /// Bits that aren't stored; timer 0 is no cascade timer; other offsets; idle timers are quiet.
-const REGISTERS: [Move; 10] = [
+static REGISTERS: [Move; 10] = [
     Write(0x102, 0xFF7F),
     Reads(0x102, 0x0043),
     Write(0x106, 0xFF7F),

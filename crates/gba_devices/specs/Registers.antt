@@ -48,6 +48,8 @@ read_of WaitControl offset d = bit_and d.waits (row_at system_rows 0x204).read_m
 read_of PostFlag offset d = bit_and (truth_number d.posted) (row_at system_rows 0x300).read_mask
 read_of Nobody offset d = 0
 
+-- The record may have any numbers, and a halfword is cut to its 16 bits, since every state of a bus has to read what fits. Of
+-- the devices' own numbers the cut takes nothing, as the clauses `whole` of what reads a halfword say.
 unfoldable pub half_read : ℕ → Devices → ℕ
 half_read offset d = read_of (owner_of offset) offset d % 2 ^ 16
 
@@ -76,6 +78,7 @@ stored_of DmaBlock offset d = dma_kept offset d.channels
 stored_of TimerBlock offset d = timer_kept offset d.timers
 stored_of owner offset d = read_of owner offset d
 
+-- cut as `half_read` is, so that the state file has 16 bits of every record
 unfoldable pub half_stored : ℕ → Devices → ℕ
 half_stored offset d = stored_of (owner_of offset) offset d % 2 ^ 16
 

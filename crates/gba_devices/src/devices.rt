@@ -112,7 +112,8 @@ impl Devices {
         self.set.pending()
     }
 
-    /// Whether nothing asks for more than an instruction: no halt, no interrupt that IME lets in, and no other prices.
+    /// Whether nothing asks for more than an instruction: no halt, no interrupt that IME lets in, no active DMA channel, and
+    /// no other prices.
     #[inline]
     pub fn is_calm(&self) -> bool
         ensures { result ≡ is_calm self.now }

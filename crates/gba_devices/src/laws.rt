@@ -2,7 +2,6 @@
 
 ghost use Rattle.std.specs.Prelude.{ℕ};
 ghost use Rattle.gba_devices.specs.Cycles.{CyclePasses, CyclesPass, SkipsCycles};
-ghost use Rattle.gba_devices.specs.Fits.{ReadsFit};
 ghost use Rattle.gba_devices.specs.Keeping.{CalmHasBegun, WritesKeep};
 ghost use Rattle.gba_devices.specs.State.{Devices};
 
@@ -25,11 +24,6 @@ pub fn cycles_pass()
 /// The same of one cycle, in which the picture's place moves by a dot.
 pub fn cycle_keeps()
     ensures { (d : Devices) → CyclePasses d }
-{}
-
-/// What is read has zeros above its width.
-pub fn reads_fit()
-    ensures { ReadsFit }
 {}
 
 /// A write of a register leaves the clock, the picture's place and the prices of this step.

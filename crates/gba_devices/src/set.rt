@@ -10,7 +10,7 @@ use crate::place::Place;
 use crate::registers::{Owner, merged, owner_of};
 use gba_bus::Width;
 use gba_dma::{Channel, Channels, DmaEvent, Unit};
-use gba_irq::{Interrupts, Keypad};
+use gba_irq::{Halt, Interrupts, Keypad};
 use gba_ppu_reg::{PictureRegisters, Position, Reference};
 use gba_sound::Queues;
 use gba_timer::{Timer, Timers};
@@ -48,7 +48,7 @@ pub(crate) struct DeviceSet {
     waits: u16,
     priced: u16,
     posted: bool,
-    halted: bool,
+    halt: Halt,
 }
 
 impl Model for DeviceSet {
@@ -68,7 +68,7 @@ impl Model for DeviceSet {
       waits = d.waits;
       priced = d.priced;
       posted = d.posted;
-      halted = d.halted;
+      halted = d.halt.halted;
     } };
 }
 
@@ -83,7 +83,7 @@ impl DeviceSet {
     ghost use Rattle.gba_sound.specs.Queues.{left_sample, queue_at, right_sample};
     ghost use Rattle.gba_timer.specs.Timers.{requests};
     ghost use Rattle.gba_devices.specs.Cycles.{asked_by, at_hblank, at_line, at_place, device_cycle, pairless, placed, quiet, rung, skipped, sounded, status_of, with_bit, with_timer_requests};
-    ghost use Rattle.gba_devices.specs.Registers.{half_kept, half_read, half_stored, half_written, halves_written, io_loaded, io_stored, keyed, with_key_control, with_key_request, word_written};
+    ghost use Rattle.gba_devices.specs.Registers.{half_kept, half_read, half_stored, half_written, halves_written, io_loaded, io_stored, keyed, owner_of as owner_in, read_of, stored_of, with_key_control, with_key_request, word_written};
     ghost use Rattle.gba_devices.specs.State.{after_dma_unit, asks_entry, begun, devices_at_reset, is_calm, is_idle, with_dma_request, woken};
 
     /// The devices at reset.
@@ -102,7 +102,7 @@ impl DeviceSet {
             waits: 0,
             priced: 0,
             posted: false,
-            halted: false,
+            halt: Halt { halted: false },
         }
     }
 
@@ -127,7 +127,7 @@ impl DeviceSet {
     pub(crate) fn halted(&self) -> bool
         ensures { result ≡ self.now.halted }
     {
-        self.halted
+        self.halt.halted
     }
 
     pub(crate) fn master(&self) -> bool
@@ -243,7 +243,7 @@ impl DeviceSet {
     pub(crate) fn is_calm(&self) -> bool
         ensures { result ≡ is_calm self.now }
     {
-        !self.halted
+        !self.halt.halted
             && !self.asks_entry()
             && !self.channels.is_moving()
             && self.waits == self.priced
@@ -253,7 +253,7 @@ impl DeviceSet {
     pub(crate) fn is_idle(&self) -> bool
         ensures { result ≡ is_idle self.now }
     {
-        self.halted
+        self.halt.halted
             && !self.interrupts.pending()
             && !self.channels.is_moving()
             && self.waits == self.priced
@@ -270,7 +270,7 @@ impl DeviceSet {
     pub(crate) fn wake(&mut self)
         ensures { self.new ≡ woken self.old }
     {
-        self.halted = false;
+        self.halt.halted = false;
     }
 
     fn request_key(&mut self, rose: bool)
@@ -300,7 +300,8 @@ impl DeviceSet {
     /// What a halfword reads.
     #[tactic(auto, unfolding(crate::specs::Registers::half_read))]
     fn half_read(&self, offset: u32) -> u16
-        ensures { result ≡ half_read offset self.now }
+        ensures value { result ≡ half_read offset self.now }
+        ensures whole { result ≡ read_of (owner_in offset) offset self.now }
     {
         match owner_of(offset) {
             Owner::PictureBlock => self.picture.read_at(offset, &self.place.at()),
@@ -344,7 +345,8 @@ impl DeviceSet {
     /// What is stored at a halfword, for the state file.
     #[tactic(auto, unfolding(crate::specs::Registers::half_stored, crate::specs::Registers::half_read))]
     pub(crate) fn half_stored(&self, offset: u32) -> u16
-        ensures { result ≡ half_stored offset self.now }
+        ensures value { result ≡ half_stored offset self.now }
+        ensures whole { result ≡ stored_of (owner_in offset) offset self.now }
     {
         match owner_of(offset) {
             Owner::PictureBlock => self.picture_stored(offset, &self.place.at()),
@@ -364,7 +366,7 @@ impl DeviceSet {
         ensures { self.new ≡ record self.old { posted = bit value 0; halted = self.old.halted || bit lanes 8 } }
     {
         self.posted = bit(u32::from(value), 0);
-        self.halted = self.halted || bit(u32::from(lanes), 8);
+        self.halt.halted = self.halt.halted || bit(u32::from(lanes), 8);
     }
 
     /// Writes the bytes of a halfword that `lanes` has.

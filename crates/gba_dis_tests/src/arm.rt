@@ -6,7 +6,7 @@ use std::test::Fail;
 // Each class of operation, with its flags, forms and conditions (ARM Architecture Reference Manual, A3 to A5).
 #[test]
 fn each_class_has_its_statement(rt: HostRuntime) -> Result<(), Fail> {
-    let cases: [(u32, &[u8]); 30] = [
+    static CASES: [(u32, &[u8]); 30] = [
         (0xE12FFF1E, b"bx r14"),
         (0x012FFF13, b"bxeq r3"),
         (0xE0010392, b"mul r1, r2, r3"),
@@ -41,7 +41,7 @@ fn each_class_has_its_statement(rt: HostRuntime) -> Result<(), Fail> {
         (0xCB800000, b"blgt 0xfe000008"),
         (0xD0000000, b"andle r0, r0, r0"),
     ];
-    for (word, line) in cases {
+    for &(word, line) in &CASES {
         assert!(rt;
             lists_word(rt.alloc(), word, line)?,
             "{word:08x} isn't {line:?}"
@@ -53,7 +53,7 @@ fn each_class_has_its_statement(rt: HostRuntime) -> Result<(), Fail> {
 // Data processing with every kind of operand (A5.1): immediates by their least turn, shifts by constants and by registers.
 #[test]
 fn data_processing_has_its_operands(rt: HostRuntime) -> Result<(), Fail> {
-    let cases: [(u32, &[u8]); 34] = [
+    static CASES: [(u32, &[u8]); 34] = [
         (0xE0010002, b"and r0, r1, r2"),
         (0xE0310002, b"eors r0, r1, r2"),
         (0xE0410002, b"sub r0, r1, r2"),
@@ -89,7 +89,7 @@ fn data_processing_has_its_operands(rt: HostRuntime) -> Result<(), Fail> {
         (0xE1A00372, b"mov r0, r2, ror r3"),
         (0xE1510412, b"cmp r1, r2, lsl r4"),
     ];
-    for (word, line) in cases {
+    for &(word, line) in &CASES {
         assert!(rt;
             lists_word(rt.alloc(), word, line)?,
             "{word:08x} isn't {line:?}"
@@ -101,7 +101,7 @@ fn data_processing_has_its_operands(rt: HostRuntime) -> Result<(), Fail> {
 // Loads and stores (A5.2, A5.3) with every kind of address. A load from r15 is no target, and U 0 with offset 0 has its sign.
 #[test]
 fn transfers_have_their_addresses(rt: HostRuntime) -> Result<(), Fail> {
-    let cases: [(u32, &[u8]); 27] = [
+    static CASES: [(u32, &[u8]); 27] = [
         (0xE5910000, b"ldr r0, [r1, #0x0]"),
         (0xE5110000, b"ldr r0, [r1, #-0x0]"),
         (0xE59F0004, b"ldr r0, [r15, #0x4]"),
@@ -130,7 +130,7 @@ fn transfers_have_their_addresses(rt: HostRuntime) -> Result<(), Fail> {
         (0xE00210B3, b"strh r1, [r2], -r3"),
         (0x01FF10DF, b"ldreqsb r1, [r15, #0xf]!"),
     ];
-    for (word, line) in cases {
+    for &(word, line) in &CASES {
         assert!(rt;
             lists_word(rt.alloc(), word, line)?,
             "{word:08x} isn't {line:?}"
@@ -142,7 +142,7 @@ fn transfers_have_their_addresses(rt: HostRuntime) -> Result<(), Fail> {
 // Words without an operation, under condition 15, or with bits that no statement gives: bits that should be one or zero, fields that a statement leaves out, a turn that isn't the least.
 #[test]
 fn other_words_are_data(rt: HostRuntime) -> Result<(), Fail> {
-    let cases: [(u32, &[u8]); 21] = [
+    static CASES: [(u32, &[u8]); 21] = [
         (0xE7F000F0, b".word 0xe7f000f0"),
         (0xEE000000, b".word 0xee000000"),
         (0xEC000000, b".word 0xec000000"),
@@ -165,7 +165,7 @@ fn other_words_are_data(rt: HostRuntime) -> Result<(), Fail> {
         (0xE0F210B4, b".word 0xe0f210b4"),
         (0xE19211B3, b".word 0xe19211b3"),
     ];
-    for (word, line) in cases {
+    for &(word, line) in &CASES {
         assert!(rt;
             lists_word(rt.alloc(), word, line)?,
             "{word:08x} isn't {line:?}"

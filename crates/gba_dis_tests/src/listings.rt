@@ -7,7 +7,7 @@ use std::test::Fail;
 // Bytes that make no whole word or halfword stand at the end, and a Thumb listing begins with its directive.
 #[test]
 fn left_bytes_stand_at_the_end(rt: HostRuntime) {
-    let cases: [(Set, &[u8], &[u8]); 9] = [
+    static CASES: [(Set, &[u8], &[u8]); 9] = [
         (Set::Arm, b"", b""),
         (Set::Arm, b"\x1e", b".byte 0x1e\n"),
         (
@@ -26,7 +26,7 @@ fn left_bytes_stand_at_the_end(rt: HostRuntime) {
             b".thumb\n.half 0xdef0\nmov r0, #0x0\n.byte 0x05\n",
         ),
     ];
-    for (set, bytes, text) in cases {
+    for &(set, bytes, text) in &CASES {
         assert!(rt; lists(rt.alloc(), set, bytes, text), "{set:?} {bytes:?}");
     }
 }
@@ -35,7 +35,7 @@ fn left_bytes_stand_at_the_end(rt: HostRuntime) {
 // or second first, or is the last halfword is data.
 #[test]
 fn the_halves_of_a_call_are_one_line(rt: HostRuntime) {
-    let cases: [(&[u8], &[u8]); 9] = [
+    static CASES: [(&[u8], &[u8]); 9] = [
         (b"\x00\xf0\x02\xf8", b".thumb\nbl 0x00000008\n"),
         (b"\xff\xf7\xfe\xff", b".thumb\nbl 0x00000000\n"),
         (b"\xff\xf3\xff\xff", b".thumb\nbl 0x00400002\n"),
@@ -58,7 +58,7 @@ fn the_halves_of_a_call_are_one_line(rt: HostRuntime) {
         ),
         (b"\x00\x20\x00\xf0", b".thumb\nmov r0, #0x0\n.half 0xf000\n"),
     ];
-    for (bytes, text) in cases {
+    for &(bytes, text) in &CASES {
         assert!(rt; lists(rt.alloc(), Set::Thumb, bytes, text), "{bytes:?}");
     }
 }

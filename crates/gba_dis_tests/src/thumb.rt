@@ -6,7 +6,7 @@ use std::test::Fail;
 // Each format (GBATEK, THUMB.1 to THUMB.5). A shift by 0 and every number stand there.
 #[test]
 fn each_format_has_its_statement(rt: HostRuntime) -> Result<(), Fail> {
-    let cases: [(u16, &[u8]); 43] = [
+    static CASES: [(u16, &[u8]); 43] = [
         (0x0011, b"lsl r1, r2, #0x0"),
         (0x0051, b"lsl r1, r2, #0x1"),
         (0x07D1, b"lsl r1, r2, #0x1f"),
@@ -51,7 +51,7 @@ fn each_format_has_its_statement(rt: HostRuntime) -> Result<(), Fail> {
         (0x4770, b"bx r14"),
         (0x4778, b"bx r15"),
     ];
-    for (half, line) in cases {
+    for &(half, line) in &CASES {
         assert!(rt;
             lists_half(rt.alloc(), half, line)?,
             "{half:04x} isn't {line:?}"
@@ -63,7 +63,7 @@ fn each_format_has_its_statement(rt: HostRuntime) -> Result<(), Fail> {
 // Loads, stores, sums and branches (GBATEK, THUMB.6 to THUMB.18), with offsets in bytes, and branches from address 0.
 #[test]
 fn the_other_formats_have_their_statements(rt: HostRuntime) -> Result<(), Fail> {
-    let cases: [(u16, &[u8]); 43] = [
+    static CASES: [(u16, &[u8]); 43] = [
         (0x4900, b"ldr r1, [r15, #0x0]"),
         (0x49FF, b"ldr r1, [r15, #0x3fc]"),
         (0x58D1, b"ldr r1, [r2, r3]"),
@@ -108,7 +108,7 @@ fn the_other_formats_have_their_statements(rt: HostRuntime) -> Result<(), Fail> 
         (0xD9FE, b"bls 0x00000000"),
         (0xDBFE, b"blt 0x00000000"),
     ];
-    for (half, line) in cases {
+    for &(half, line) in &CASES {
         assert!(rt;
             lists_half(rt.alloc(), half, line)?,
             "{half:04x} isn't {line:?}"
@@ -120,7 +120,7 @@ fn the_other_formats_have_their_statements(rt: HostRuntime) -> Result<(), Fail> 
 // Halfwords without an operation, or that the assembler writes otherwise: CMP of two low registers by format 5, BX with bits of a register that it hasn't, and a half of BL.
 #[test]
 fn other_halfwords_are_data(rt: HostRuntime) -> Result<(), Fail> {
-    let cases: [(u16, &[u8]); 10] = [
+    static CASES: [(u16, &[u8]); 10] = [
         (0xDE00, b".half 0xde00"),
         (0xB100, b".half 0xb100"),
         (0xB600, b".half 0xb600"),
@@ -132,7 +132,7 @@ fn other_halfwords_are_data(rt: HostRuntime) -> Result<(), Fail> {
         (0xF000, b".half 0xf000"),
         (0xF801, b".half 0xf801"),
     ];
-    for (half, line) in cases {
+    for &(half, line) in &CASES {
         assert!(rt;
             lists_half(rt.alloc(), half, line)?,
             "{half:04x} isn't {line:?}"

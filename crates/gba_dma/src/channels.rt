@@ -8,7 +8,8 @@ use crate::channel::{Channel, IDLE};
 use crate::{DmaEvent, Unit};
 use std::marker::Model;
 
-/// The four channels (GBATEK, GBA DMA Transfers). All numbers are 0 at reset.
+/// The four channels (GBATEK, GBA DMA Transfers). All numbers are 0 at reset. Whatever is called, an active channel is
+/// enabled, and an enabled one has units left.
 #[derive(Clone, Copy, Debug)]
 pub struct Channels {
     channel0: Channel,
@@ -19,12 +20,15 @@ pub struct Channels {
 
 impl Model for Channels {
     ghost use Rattle.gba_dma.specs.Channels.{FourChannels};
+    ghost use Rattle.gba_dma.specs.Consistency.{AreConsistent};
 
     ghost Value = { FourChannels };
 
     ghost view = { λ cs. record { channel0 = cs.channel0; channel1 = cs.channel1; channel2 = cs.channel2; channel3 = cs.channel3 } };
 
     ghost inverse = { λ cs. record { channel0 = cs.channel0; channel1 = cs.channel1; channel2 = cs.channel2; channel3 = cs.channel3 } };
+
+    ghost invariant = { λ cs. AreConsistent (record { channel0 = cs.channel0; channel1 = cs.channel1; channel2 = cs.channel2; channel3 = cs.channel3 }) };
 }
 
 /// The bits of a halfword that a write stores.
@@ -58,6 +62,7 @@ fn read_mask(offset: u32) -> u16
 impl Channels {
     ghost use Rattle.std.specs.Prelude.{◌≡◌, ◌<◌, IfSome};
     ghost use Rattle.gba_dma.specs.Channels.{after_lowest_unit, after_trigger, after_unit_at, channel_at, channels_at_reset, dma_kept, dma_read, dma_written, interrupt_at, is_moving, lowest_active, lowest_interrupt, next_unit};
+    ghost use Rattle.gba_dma.specs.Consistency.{HasRun};
 
     /// The channels at reset.
     pub fn new() -> Channels
@@ -121,6 +126,7 @@ impl Channels {
     }
 
     /// Makes those channels active that wait for the event.
+    #[tactic(auto, using(crate::proofs::Consistent::event_keeps))]
     pub fn trigger(&mut self, event: DmaEvent)
         ensures { self.new ≡ after_trigger event self.old }
     {
@@ -157,6 +163,7 @@ impl Channels {
     pub fn next_unit(&self) -> Option<Unit>
         ensures unit { result ≡ next_unit self.now }
         ensures channel { IfSome result (λ unit. unit.channel < 4) }
+        ensures run { IfSome result (λ unit. HasRun (channel_at unit.channel self.now)) }
     {
         match self.lowest_active() {
             None => None,

@@ -2,7 +2,7 @@
 
 ghost use Rattle.gba_dma.specs.Consistency.{StaysConsistent};
 
-/// An active channel is enabled and has units left, whatever is written and whatever comes.
+/// At reset and after every call an active channel is enabled, and an enabled one has units left.
 pub fn stays_consistent()
     ensures { StaysConsistent }
 {}

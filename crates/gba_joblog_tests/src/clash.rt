@@ -5,7 +5,7 @@ use gba_joblog::Job;
 
 #[test]
 fn a_job_clashes_with_its_outputs(rt: HostRuntime) {
-    let cases: [(&[u8], &str, &str, Option<u64>); 20] = [
+    static CASES: [(&[u8], &str, &str, Option<u64>); 20] = [
         (FIRST, "j", "g", None),
         (FIRST, "g.0.state", "g", Some(0)),
         (FIRST, "g.1.state", "g", None),
@@ -82,7 +82,7 @@ fn a_job_clashes_with_its_outputs(rt: HostRuntime) {
             Some(10),
         ),
     ];
-    for (text, name, out, want) in cases {
+    for &(text, name, out, want) in &CASES {
         match Job::parse(rt.alloc(), text) {
             Ok(job) => assert_eq!(rt; job.clash(name, out), want, "of {text:?} as {name}"),
             Err(_) => panic!(rt; "no job"),

@@ -24,7 +24,7 @@ fn are_changes(changes: &[KeyChange], want: &[(u64, u16)]) -> bool {
 
 #[test]
 fn keys_are_read(rt: HostRuntime) {
-    let cases: [(&[u8], &[(u64, u16)], u64); 5] = [
+    static CASES: [(&[u8], &[(u64, u16)], u64); 5] = [
         (
             b"gbalink 1\ncycles 1\nconsole 0\nkey 100 001\nbios b\nend\n",
             &[(100, 0x001)],
@@ -51,7 +51,7 @@ fn keys_are_read(rt: HostRuntime) {
             4,
         ),
     ];
-    for (text, want, line) in cases {
+    for &(text, want, line) in &CASES {
         match Job::parse(rt.alloc(), text) {
             Ok(job) => {
                 let [console] = job.consoles.as_slice() else {
@@ -122,14 +122,14 @@ fn keys_are_refused(rt: HostRuntime) -> Result<(), Fail> {
         whole.extend_from_slice(text)?;
         assert!(rt; refuses(rt.alloc(), &whole, *line, *kind), "of {text:?}");
     }
-    let outside: [(&[u8], u64, JobKind); 5] = [
+    static OUTSIDE: [(&[u8], u64, JobKind); 5] = [
         (b"key 5 001", 1, JobKind::Order),
         (b"keys k", 1, JobKind::Order),
         (b"gbalink 1\nkey x", 2, JobKind::Order),
         (b"gbalink 1\ncycles 1\nkey 5 001", 3, JobKind::Order),
         (b"gbalink 1\ncycles 1\nkeys -", 3, JobKind::Order),
     ];
-    for (text, line, kind) in outside {
+    for &(text, line, kind) in &OUTSIDE {
         assert!(rt; refuses(rt.alloc(), text, line, kind), "of {text:?}");
     }
     Ok(())
@@ -137,7 +137,7 @@ fn keys_are_refused(rt: HostRuntime) -> Result<(), Fail> {
 
 #[test]
 fn key_files_are_read(rt: HostRuntime) {
-    let cases: [(&[u8], &[(u64, u16)]); 6] = [
+    static CASES: [(&[u8], &[(u64, u16)]); 6] = [
         (b"", &[]),
         (b"\n# \xff\x00 5 001\n \t\n#", &[]),
         (b"0 000", &[(0, 0)]),
@@ -148,7 +148,7 @@ fn key_files_are_read(rt: HostRuntime) {
         (b"00000000000000000012 0aB\n", &[(12, 0x0ab)]),
         (b"1 200\n2 100\n", &[(1, 0x200), (2, 0x100)]),
     ];
-    for (text, want) in cases {
+    for &(text, want) in &CASES {
         match parse_keys(rt.alloc(), text) {
             Ok(changes) => assert!(rt; are_changes(&changes, want), "of {text:?}"),
             Err(_) => assert!(rt; false, "of {text:?}"),
@@ -217,14 +217,14 @@ fn a_console_has_1000000_changes(rt: HostRuntime) -> Result<(), Fail> {
         Ok(changes) => assert_eq!(rt; changes.len(), 1_000_000),
         Err(_) => panic!(rt; "no changes"),
     }
-    let more: [(&[u8], JobKind); 5] = [
+    static MORE: [(&[u8], JobKind); 5] = [
         (b"7 001\n8", JobKind::Long),
         (b"6 001", JobKind::Order),
         (b"7 400", JobKind::Number),
         (b"7", JobKind::Missing),
         (b"7 001 7", JobKind::Extra),
     ];
-    for (back, kind) in more {
+    for &(back, kind) in &MORE {
         let text = repeated(rt.alloc(), b"", b"7 001\n", 1_000_000, back)?;
         assert!(rt;
             refuses_keys(rt.alloc(), &text, 1_000_001, kind),

@@ -27,7 +27,7 @@ fn says(job: &Job, cycles: u64, bios: &str, line: u64, state: bool) -> bool {
 
 #[test]
 fn jobs_are_read(rt: HostRuntime) {
-    let cases: [(&[u8], u64, &str, u64, bool); 9] = [
+    static CASES: [(&[u8], u64, &str, u64, bool); 9] = [
         (FIRST, 1, "b", 4, true),
         (
             b"gbalink 1\ncycles 1\nconsole 0\nbios b\nout state\nend",
@@ -86,7 +86,7 @@ fn jobs_are_read(rt: HostRuntime) {
             false,
         ),
     ];
-    for (text, cycles, bios, line, state) in cases {
+    for &(text, cycles, bios, line, state) in &CASES {
         match Job::parse(rt.alloc(), text) {
             Ok(job) => assert!(rt; says(&job, cycles, bios, line, state), "of {text:?}"),
             Err(_) => assert_eq!(rt; line, 0, "of {text:?}"),
@@ -124,7 +124,7 @@ fn cartridges_and_saves_are_read(rt: HostRuntime) {
 // The delays of jobs: without a line, the least, the greatest, and before `cycles`.
 #[test]
 fn delays_are_read(rt: HostRuntime) {
-    let cases: [(&[u8], u64); 5] = [
+    static CASES: [(&[u8], u64); 5] = [
         (b"gbalink 1\ncycles 1\nconsole 0\nbios b\nend\n", 512),
         (b"gbalink 1\ncycles 1\ndelay 1\nconsole 0\nbios b\nend\n", 1),
         (
@@ -140,7 +140,7 @@ fn delays_are_read(rt: HostRuntime) {
             512,
         ),
     ];
-    for (text, delay) in cases {
+    for &(text, delay) in &CASES {
         match Job::parse(rt.alloc(), text) {
             Ok(job) => assert_eq!(rt; job.delay, delay, "of {text:?}"),
             Err(_) => panic!(rt; "no job"),

@@ -345,7 +345,7 @@ static DIGESTS: [(&[u8], bool, &[u8], JobKind); 14] = [
 
 #[test]
 fn digests_are_refused(rt: HostRuntime) -> Result<(), Fail> {
-    let lines: [&[u8]; 6] = [
+    static LINES: [&[u8]; 6] = [
         b"bios b",
         b"cart c",
         b"save s",
@@ -353,7 +353,7 @@ fn digests_are_refused(rt: HostRuntime) -> Result<(), Fail> {
         b"out frames",
         b"out save",
     ];
-    for line in lines {
+    for &line in &LINES {
         for (before, stated, after, kind) in &DIGESTS {
             let digits: &[u8] = if *stated { OF_NOTHING } else { b"" };
             let text = joined(rt.alloc(), &[HEAD, line, before, digits, after])?;
@@ -363,12 +363,12 @@ fn digests_are_refused(rt: HostRuntime) -> Result<(), Fail> {
             assert!(rt; refuses(rt.alloc(), &text, at, *kind), "of {text:?}");
         }
     }
-    let short: [&[u8]; 3] = [
+    static SHORT: [&[u8]; 3] = [
         b"e3b0c44298fc1c149afbf4c8996fb92427ae41e4649b934ca495991b7852b85",
         b"e3b0c44298fc1c149afbf4c8996fb92427ae41e4649b934ca495991b7852b8",
         b"e3b0c44298fc1c149afbf4c8996fb92427ae41e4649b934ca495991b7852b85g",
     ];
-    for digits in short {
+    for &digits in &SHORT {
         let text = joined(rt.alloc(), &[HEAD, b"bios b sha256 ", digits, b" x"])?;
         assert!(rt;
             refuses(rt.alloc(), &text, 4, JobKind::Digest),
@@ -448,7 +448,7 @@ fn a_job_has_134217728_bytes(rt: HostRuntime) -> Result<(), Fail> {
 
 #[test]
 fn refusals_are_told_by_line_and_kind(rt: HostRuntime) -> Result<(), Fail> {
-    for (kind, name) in [
+    for &(kind, name) in &[
         (JobKind::Byte, "Byte"),
         (JobKind::Word, "Word"),
         (JobKind::Number, "Number"),

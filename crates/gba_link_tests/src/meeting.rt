@@ -1,8 +1,8 @@
-//! Two consoles whose lanes meet: neither goes on before the other has come.
+//! Two consoles whose lanes meet: neither goes on before the other has come, in single steps and in bursts.
 
 use crate::calls::{call_through, image_of, stored};
 use gba_store::Gate;
-use std::sync::atomic::{AtomicBool, Ordering};
+use std::sync::atomic::{AtomicBool, AtomicU32, Ordering};
 use std::test::Fail;
 
 /// No wait takes more turns of its loop.
@@ -61,5 +61,64 @@ fn two_lanes_meet(rt: HostRuntime) -> Result<(), Fail> {
     }
     assert_eq!(rt; answer.status, 0);
     assert!(rt; answer.report().starts_with(REPORT.as_bytes()));
+    Ok(())
+}
+
+/// How many questions are asked two by two.
+const QUESTIONS: u32 = 8;
+
+/// An open gate. It holds each first one of two questions whether it is open until the second one comes, so each two of
+/// them are asked by two threads, each of which has come as many bursts far as the other.
+#[derive(Drop)]
+struct Pairing {
+    asked: AtomicU32,
+    missed: AtomicBool,
+}
+
+impl Gate for Pairing {
+    fn enter(&self, _player: u32, _clock: u64) {}
+
+    fn is_open(&self) -> bool {
+        let number = self.asked.fetch_add(1, Ordering::SeqCst);
+        if number >= QUESTIONS || number % 2 == 1 || self.missed.load(Ordering::SeqCst) {
+            return true;
+        }
+        for _turn in 0..MOST {
+            if self.asked.load(Ordering::SeqCst) > number + 1 {
+                return true;
+            }
+            std::hint::spin_loop();
+        }
+        self.missed.store(true, Ordering::SeqCst);
+        true
+    }
+}
+
+const LONGER_JOB: &str =
+    "gbalink 1\ncycles 6000\nconsole 0\nbios b\nout state\nconsole 1\nbios b\nout state\nend\n";
+
+/// The same loop: 2,000 steps, and a pair of samples at each multiple of 512 from 512 on.
+const LONGER_REPORT: &str =
+    "console 0 clock 6000 frames 0 samples 11 words 0\nconsole 1 clock 6000 frames 0 samples 11 words 0\nlog ";
+
+#[test]
+fn two_bursts_meet(rt: HostRuntime) -> Result<(), Fail> {
+    let alloc = rt.alloc();
+    let gate = Pairing {
+        asked: AtomicU32::new(0),
+        missed: AtomicBool::new(false),
+    };
+    let files = vec![in alloc;
+        stored(alloc, "j", Vec::from_slice(alloc, LONGER_JOB.as_bytes())?)?,
+        stored(alloc, "b", image_of(alloc, &[0xEAFF_FFFE])?)?,
+    ]?;
+    let answer = call_through(&rt, alloc, &["run", "j", "g"], files, &gate)?;
+    assert!(rt; !gate.missed.load(Ordering::SeqCst), "a lane asks alone");
+    assert!(rt;
+        gate.asked.load(Ordering::SeqCst) >= QUESTIONS,
+        "no lanes go in bursts"
+    );
+    assert_eq!(rt; answer.status, 0);
+    assert!(rt; answer.report().starts_with(LONGER_REPORT.as_bytes()));
     Ok(())
 }

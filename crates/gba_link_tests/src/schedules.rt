@@ -41,6 +41,32 @@ impl Gate for Holding {
     }
 }
 
+/// An open gate that holds each of some bursts for a while, by a row of numbers that look random, and counts all of them.
+#[derive(Drop)]
+struct OpenHolding {
+    number: AtomicU64,
+    questions: AtomicU64,
+}
+
+impl Gate for OpenHolding {
+    fn enter(&self, _player: u32, _clock: u64) {}
+
+    fn is_open(&self) -> bool {
+        let question = self.questions.fetch_add(1, Ordering::SeqCst);
+        let number = next_random(self.number.load(Ordering::SeqCst) ^ question);
+        self.number.store(number, Ordering::SeqCst);
+        if (number >> 62) == 0 {
+            std::thread::yield_now();
+        }
+        if (number >> 62) == 1 {
+            for _turn in 0..(number >> 40) % 1_000 {
+                std::hint::spin_loop();
+            }
+        }
+        true
+    }
+}
+
 /// A cable: so many consoles, of which the first runs one program and the others another one, the delay, the job's cycles,
 /// and the words of the first console and of each other one.
 #[derive(Clone, Copy)]
@@ -199,8 +225,41 @@ fn have_words<R: Abort>(
     Ok(())
 }
 
-/// All schedules of a cable come to what it comes to without a gate. It answers how often the gates were entered.
-fn run_cable<R: Abort + Threads + Sync>(
+/// A gate that counts how often it was entered or asked.
+trait Counting: Gate {
+    fn begin(number: u64) -> Self;
+
+    fn count(&self) -> u64;
+}
+
+impl Counting for Holding {
+    fn begin(number: u64) -> Holding {
+        Holding {
+            number: AtomicU64::new(number),
+            entries: AtomicU64::new(0),
+        }
+    }
+
+    fn count(&self) -> u64 {
+        self.entries.load(Ordering::SeqCst)
+    }
+}
+
+impl Counting for OpenHolding {
+    fn begin(number: u64) -> OpenHolding {
+        OpenHolding {
+            number: AtomicU64::new(number),
+            questions: AtomicU64::new(0),
+        }
+    }
+
+    fn count(&self) -> u64 {
+        self.questions.load(Ordering::SeqCst)
+    }
+}
+
+/// All schedules of a cable come to what it comes to without a gate. It answers the sum of the gates' counts.
+fn run_cable<R: Abort + Threads + Sync, G: Counting + Sync + Drop>(
     rt: &R,
     alloc: Global,
     cable: &Cable<'_>,
@@ -208,27 +267,41 @@ fn run_cable<R: Abort + Threads + Sync>(
     let words = ["run", "j", "g"];
     let free = call(rt, alloc, &words, files_of(alloc, cable)?)?;
     have_words(rt, alloc, cable, &free)?;
-    let mut entries = 0u64;
+    let mut sum = 0u64;
     for schedule in 0..SCHEDULES {
-        let gate = Holding {
-            number: AtomicU64::new(next_random(schedule)),
-            entries: AtomicU64::new(0),
-        };
+        let gate = G::begin(next_random(schedule));
         let held = call_through(rt, alloc, &words, files_of(alloc, cable)?, &gate)?;
         are_the_same(rt, alloc, &free, &held)?;
-        entries = entries.saturating_add(gate.entries.load(Ordering::SeqCst));
+        sum = sum.saturating_add(gate.count());
     }
-    Ok(entries)
+    Ok(sum)
+}
+
+/// How many lanes the rounds begin with that all schedules of a cable have: lanes are tried where a delay is 256 or more.
+fn lanes_of(cable: &Cable<'_>) -> u64 {
+    if cable.consoles == 1 || cable.delay < 256 {
+        0
+    } else {
+        u64::from(cable.consoles).saturating_mul(SCHEDULES)
+    }
 }
 
 #[test]
 fn a_thousand_schedules_write_the_same(rt: HostRuntime) -> Result<(), Fail> {
     for cable in &CABLES {
-        let entries = run_cable(&rt, rt.alloc(), cable)?;
-        // each step of a lane enters the gate, and lasts at most 16 cycles
-        let most = u64::from(cable.consoles).saturating_mul(SCHEDULES);
-        let expected = if cable.consoles == 1 { 0 } else { most };
-        assert!(rt; entries >= expected.saturating_mul(cable.cycles / 16));
+        let entries = run_cable::<_, Holding>(&rt, rt.alloc(), cable)?;
+        // each lane goes at least one delay far by itself, and each step of it enters the gate and lasts at most 16 cycles
+        let steps = cable.delay.min(cable.cycles) / 16;
+        assert!(rt; entries >= lanes_of(cable).saturating_mul(steps));
+    }
+    Ok(())
+}
+
+#[test]
+fn a_thousand_schedules_of_bursts_write_the_same(rt: HostRuntime) -> Result<(), Fail> {
+    for cable in &CABLES {
+        let questions = run_cable::<_, OpenHolding>(&rt, rt.alloc(), cable)?;
+        assert!(rt; questions >= lanes_of(cable));
     }
     Ok(())
 }

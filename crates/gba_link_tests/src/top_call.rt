@@ -147,7 +147,7 @@ fn branch_runs_one_step(rt: HostRuntime) -> Result<(), Fail> {
 }
 
 /// Words that are no command.
-const WRONG_WORDS: [&[&str]; 12] = [
+static WRONG_WORDS: [&[&str]; 12] = [
     &[],
     &["run", "j"],
     &["run", "j", "g", "g"],
@@ -164,7 +164,7 @@ const WRONG_WORDS: [&[&str]; 12] = [
 
 #[test]
 fn words_are_refused(rt: HostRuntime) -> Result<(), Fail> {
-    for words in WRONG_WORDS {
+    for &words in &WRONG_WORDS {
         let case = Case {
             words,
             status: 2,
@@ -179,7 +179,7 @@ fn words_are_refused(rt: HostRuntime) -> Result<(), Fail> {
 /// Images, as the first word and the length, and what is answered for them.
 #[test]
 fn images_are_judged(rt: HostRuntime) -> Result<(), Fail> {
-    for (image, status, report) in [
+    for &(image, status, report) in &[
         (None, 3, "absent b\n"),
         (Some((LOOP, 16_383)), 6, "image b BiosLength\n"),
         (Some((LOOP, 16_385)), 6, "image b BiosLength\n"),
@@ -197,7 +197,7 @@ fn images_are_judged(rt: HostRuntime) -> Result<(), Fail> {
 }
 
 /// Numbers of reads that fail, and the report: it names the file that was to be read next, and no read follows.
-const FAILING_READS: [(&[u64], &str); 4] = [
+static FAILING_READS: [(&[u64], &str); 4] = [
     (&[1], "store j\n"),
     (&[2], "store b\n"),
     (&[1, 2], "store j\n"),
@@ -206,7 +206,7 @@ const FAILING_READS: [(&[u64], &str); 4] = [
 
 /// Numbers of creates and of appends that fail, the report, and what the state file and the log have then. All files are
 /// created before any has a byte, and the log is the last of them.
-const FAILING_WRITES: [FailingWrite<'static>; 5] = [
+static FAILING_WRITES: [FailingWrite<'static>; 5] = [
     (&[1], &[], "sink g.0.state\n", None, None),
     (&[2], &[], "sink g.log\n", Some(""), None),
     (&[], &[1], "sink g.0.state\n", Some(HALF_OF_STATE), Some("")),
@@ -238,7 +238,7 @@ type FailingWrite<'a> = (
 #[test]
 fn failing_calls_are_told(rt: HostRuntime) -> Result<(), Fail> {
     let alloc = rt.alloc();
-    for (failing_reads, report) in FAILING_READS {
+    for &(failing_reads, report) in &FAILING_READS {
         let case = Case {
             failing_reads,
             status: 4,
@@ -247,7 +247,7 @@ fn failing_calls_are_told(rt: HostRuntime) -> Result<(), Fail> {
         };
         play(&rt, alloc, "j", "g", &case)?;
     }
-    for (failing_creates, failing_appends, report, state, log) in FAILING_WRITES {
+    for &(failing_creates, failing_appends, report, state, log) in &FAILING_WRITES {
         let case = Case {
             failing_creates,
             failing_appends,
@@ -299,7 +299,7 @@ fn refusals_keep_their_status(rt: HostRuntime) -> Result<(), Fail> {
 }
 
 /// Jobs whose run would write one of their inputs, the log or another console's output; and the least such line.
-const CLASHES: [(&str, &str); 3] = [
+static CLASHES: [(&str, &str); 3] = [
     (
         "gbalink 1\ncycles 1\nconsole 0\nbios g.0.state\nout state\nend\n",
         "job j line 4 Clash\n",
@@ -325,7 +325,7 @@ fn names_at_their_edges(rt: HostRuntime) -> Result<(), Fail> {
         ..REFUSED
     };
     play(&rt, alloc, "g.0.state", "g", &clash)?;
-    for (job, report) in CLASHES {
+    for &(job, report) in &CLASHES {
         let case = Case {
             job: Some(job),
             status: 5,
@@ -342,7 +342,7 @@ fn names_at_their_edges(rt: HostRuntime) -> Result<(), Fail> {
 }
 
 /// Files that are no jobs, and the report of each.
-const WRONG_JOBS: [(&str, &str); 19] = [
+static WRONG_JOBS: [(&str, &str); 19] = [
     ("", "job j line 1 Missing\n"),
     ("gbalink 2\n", "job j line 1 Word\n"),
     ("gbalink 1\ncycles 0\n", "job j line 2 Number\n"),
@@ -401,7 +401,7 @@ const WRONG_JOBS: [(&str, &str); 19] = [
 ];
 
 /// Other spellings of jobs of one branch, their logs and their summaries.
-const OTHER_SPELLINGS: [(&str, &str, &str); 4] = [
+static OTHER_SPELLINGS: [(&str, &str, &str); 4] = [
     (
         "gbalink 1\r\ncycles 1\r\nconsole 0\r\nbios b\r\nout state\r\nend\r\n",
         LOG_OF_BRANCH,
@@ -433,7 +433,7 @@ const SUMMARY_OF_SILENCE: &str =
 #[test]
 fn jobs_are_read_or_refused(rt: HostRuntime) -> Result<(), Fail> {
     let alloc = rt.alloc();
-    for (job, report) in WRONG_JOBS {
+    for &(job, report) in &WRONG_JOBS {
         let case = Case {
             job: Some(job),
             status: 5,
@@ -442,7 +442,7 @@ fn jobs_are_read_or_refused(rt: HostRuntime) -> Result<(), Fail> {
         };
         play(&rt, alloc, "j", "g", &case)?;
     }
-    for (job, log, report) in OTHER_SPELLINGS {
+    for &(job, log, report) in &OTHER_SPELLINGS {
         let case = Case {
             job: Some(job),
             report,
@@ -622,7 +622,7 @@ fn images_are_checked_in_their_order(rt: HostRuntime) -> Result<(), Fail> {
         cart: None,
         save: None,
     };
-    for (images, status, report) in [
+    for &(images, status, report) in &[
         (none, 3, "absent b\n"),
         (
             Images {
@@ -751,7 +751,7 @@ fn key_files(alloc: Global, case: &KeyCase<'_>) -> Result<Vec<StoredFile>, Fail>
 #[test]
 fn keys_are_read(rt: HostRuntime) -> Result<(), Fail> {
     let alloc = rt.alloc();
-    for case in [
+    for &case in &[
         KeyCase {
             lines: "",
             file: None,

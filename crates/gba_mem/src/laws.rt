@@ -1,8 +1,9 @@
 //! Laws over the definitions. Each is the contract of a function that takes no value.
 
-ghost use Rattle.gba_mem.specs.Fits.{ReadsFit};
+ghost use Rattle.gba_mem.specs.Fits.{CutsNothing};
 
-/// What is read has zeros above its width.
-pub fn reads_fit()
-    ensures { ReadsFit }
+/// The number that is read of bytes is their sum, the lowest byte first: the cut to the width in the definitions takes nothing
+/// off it.
+pub fn cuts_nothing()
+    ensures { CutsNothing }
 {}

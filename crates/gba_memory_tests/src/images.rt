@@ -25,7 +25,7 @@ pub(crate) const HEADER: [(usize, u8); 2] = [(0xB2, 0x96), (0xBD, 0x51)];
 
 #[test]
 fn a_bios_has_its_length(rt: HostRuntime) -> Result<(), Fail> {
-    for (length, fault) in [
+    for &(length, fault) in &[
         (0, Some(ImageError::BiosLength)),
         (16_383, Some(ImageError::BiosLength)),
         (16_384, None),
@@ -42,7 +42,7 @@ fn a_bios_has_its_length(rt: HostRuntime) -> Result<(), Fail> {
 
 #[test]
 fn a_save_has_its_length(rt: HostRuntime) -> Result<(), Fail> {
-    for (length, fault) in [
+    for &(length, fault) in &[
         (0, Some(ImageError::SaveLength)),
         (32_767, Some(ImageError::SaveLength)),
         (32_768, None),
@@ -102,7 +102,7 @@ fn a_cartridge_is_refused_for_its_first_fault(rt: HostRuntime) -> Result<(), Fai
 /// The refusals' names in reports.
 #[test]
 fn refusals_have_names(rt: HostRuntime) -> Result<(), Fail> {
-    for (error, name) in [
+    for &(error, name) in &[
         (ImageError::BiosLength, "BiosLength"),
         (ImageError::TooShort, "TooShort"),
         (ImageError::TooLong, "TooLong"),

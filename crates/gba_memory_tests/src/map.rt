@@ -7,7 +7,7 @@ use std::process::Abort;
 /// Both ends of each region, and the addresses beside them (GBATEK, GBA Memory Map).
 #[test]
 fn regions_have_both_ends(rt: HostRuntime) {
-    for (first, last, region) in [
+    for &(first, last, region) in &[
         (0x0000_0000, 0x0000_3FFF, Region::Bios),
         (0x0000_4000, 0x01FF_FFFF, Region::Other),
         (0x0200_0000, 0x02FF_FFFF, Region::Work),
@@ -55,7 +55,7 @@ fn costs<R: Abort>(
 #[test]
 fn memory_has_its_prices(rt: HostRuntime) {
     let waits = WaitControl { value: 0xFFFF };
-    for (address, byte, half, word) in [
+    for &(address, byte, half, word) in &[
         (0x0000_3FFF, 1, 1, 1),
         (0x0000_4000, 1, 1, 1),
         (0x0100_0000, 1, 1, 1),
@@ -83,7 +83,7 @@ type Waits = (u16, u32, [u32; 4]);
 
 /// The wait control is 0 at reset, and 4317h where most games set it: ROM 3 and 1, SRAM 8, view 2 8 and 8 (GBATEK, GBA
 /// System Control).
-const WAITS: [Waits; 12] = [
+static WAITS: [Waits; 12] = [
     (0x0000, 0x0800_0000, [5, 3, 8, 6]),
     (0x0000, 0x0A00_0000, [5, 5, 10, 10]),
     (0x0000, 0x0C00_0000, [5, 9, 14, 18]),
@@ -100,7 +100,7 @@ const WAITS: [Waits; 12] = [
 
 #[test]
 fn waits_are_chosen_for_each_view(rt: HostRuntime) {
-    for (value, address, [half, next_half, word, next_word]) in WAITS {
+    for &(value, address, [half, next_half, word, next_word]) in &WAITS {
         let waits = WaitControl { value };
         costs(&rt, &waits, address, Width::Byte, false, half);
         costs(&rt, &waits, address, Width::Byte, true, next_half);

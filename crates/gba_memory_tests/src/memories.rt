@@ -57,7 +57,7 @@ fn memories<R: Abort>(
 }
 
 /// Each memory that repeats, at both ends of a period and of its region, at each width.
-const MIRRORS: [Move; 38] = [
+static MIRRORS: [Move; 38] = [
     Store(0, 0x0200_0000, Word, 0x4433_2211),
     Reads(0x0200_0003, Word, 0x4433_2211),
     Reads(0x0204_0001, Half, 0x2211),
@@ -100,7 +100,7 @@ const MIRRORS: [Move; 38] = [
 
 /// A byte written to the palette or to the VRAM below the tiles of sprites goes to both bytes of its halfword. Those
 /// tiles and the OAM drop it. The tiles begin at 10000h in modes 0 to 2, and at 14000h in the others.
-const BYTES: [Move; 24] = [
+static BYTES: [Move; 24] = [
     Store(0, 0x0700_0000, Byte, 0x5A),
     Reads(0x0700_0000, Word, 0),
     Store(0, 0x0600_0001, Byte, 0xFF5A),
@@ -128,7 +128,7 @@ const BYTES: [Move; 24] = [
 ];
 
 /// What drops writes and reads 0, and the BIOS, which reads 0 from outside.
-const DROPS: [Move; 22] = [
+static DROPS: [Move; 22] = [
     ReadsFrom(0x0000_0000, 0x0000_0000, Word, 0x4433_2211),
     ReadsFrom(0x0000_3FFF, 0x0000_0003, Half, 0x4433),
     ReadsFrom(0x0000_0100, 0x0000_3FFF, Byte, 0x55),
@@ -154,7 +154,7 @@ const DROPS: [Move; 22] = [
 ];
 
 /// The SRAM has one byte at a time.
-const SRAM: [Move; 12] = [
+static SRAM: [Move; 12] = [
     Reads(0x0E00_0000, Word, 0xFFFF_FFFF),
     Store(0, 0x0E00_0000, Byte, 0x5A),
     Reads(0x0E00_0000, Word, 0x5A5A_5A5A),
@@ -199,7 +199,7 @@ type Row<'a> = (usize, &'a [(usize, u8)], &'a [Move]);
 /// ROM in its three views, and past its image, where a halfword reads its own number.
 #[test]
 fn rom_reads_past_its_image(rt: HostRuntime) -> Result<(), Fail> {
-    let rows: [Row; 4] = [
+    static ROWS: [Row; 4] = [
         (
             192,
             &[(0, 0x11), (3, 0x44), (0xBF, 0x77)],
@@ -246,7 +246,7 @@ fn rom_reads_past_its_image(rt: HostRuntime) -> Result<(), Fail> {
             ],
         ),
     ];
-    for (length, bytes, moves) in rows {
+    for &(length, bytes, moves) in &ROWS {
         let cart = cartridge(&rt, rt.alloc(), length, bytes)?;
         let mut memory = memories(&rt, rt.alloc(), Some(cart), None)?;
         play(&rt, &mut memory, moves);
@@ -293,7 +293,7 @@ fn memories_are_lent(rt: HostRuntime) -> Result<(), Fail> {
 }
 
 /// One store to each memory that can be written.
-const LENT: [Move; 6] = [
+static LENT: [Move; 6] = [
     Store(0, 0x0200_0003, Byte, 0x01),
     Store(0, 0x03FF_FFFC, Word, 0x0200_0000),
     Store(0, 0x0500_0003, Byte, 0x03),

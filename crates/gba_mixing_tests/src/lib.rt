@@ -1,11 +1,8 @@
 #![tactic(auto)]
 //! Tests of sprites, of mixed lines and of blended ones: worked lines of each, and random ones against a plain program.
 
+#[cfg(test)]
 mod arithmetic;
-mod plain;
-
-pub use plain::{Effect, Pixel, Region, pixel_line};
-
 #[cfg(test)]
 mod blending;
 #[cfg(test)]
@@ -14,6 +11,8 @@ mod kernels;
 mod memory;
 #[cfg(test)]
 mod order;
+#[cfg(test)]
+mod plain;
 #[cfg(test)]
 mod random;
 #[cfg(test)]

@@ -7,7 +7,7 @@ use std::test::Fail;
 type Line = (&'static [(u32, u16)], &'static [(usize, u16)]);
 
 /// By priority, sprites before backgrounds, backgrounds by number; layers that are off, and modes that don't have them.
-const LINES: [Line; 24] = [
+static LINES: [Line; 24] = [
     (&[(0x000, 0x1F00)], &[(20, YELLOW), (40, RED), (100, RED)]),
     (
         &[(0x000, 0x1F00), (0x008, 0x0801)],

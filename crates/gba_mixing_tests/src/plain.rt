@@ -92,7 +92,7 @@ struct LayerLines {
 }
 
 /// The layers from the front, where their priorities are the same. The backdrop is behind all of them.
-const FROM_FRONT: [Layer; 5] = [
+static FROM_FRONT: [Layer; 5] = [
     Layer::Sprites,
     Layer::Background0,
     Layer::Background1,
@@ -176,7 +176,7 @@ impl LayerLines {
         requires line { line < 160 }
     {
         let mut lines = LayerLines::CLEAR;
-        for layer in FROM_FRONT {
+        for &layer in &FROM_FRONT {
             if is_layer_on(r, layer) {
                 lines.draw(r, vram, oam, line, layer);
             }
@@ -306,7 +306,7 @@ impl Stack {
         requires { x < 240 }
     {
         let mut stack = self;
-        for layer in FROM_FRONT {
+        for &layer in &FROM_FRONT {
             let dot = lines.dot_at(layer, x);
             if dot.opaque && dot.priority == priority && shows(r, region, layer.bit()) {
                 stack = stack.with_behind(surface_of(palette, layer, dot));

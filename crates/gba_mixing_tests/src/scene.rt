@@ -23,7 +23,7 @@ pub(crate) const SPRITE: Object = (3, 0x000A, 0x0014, 0x0000);
 
 /// Every dot of tile 0 is number 1. The maps of backgrounds 0 to 3 begin at 4000h, 4800h, 5000h and 5800h; all their
 /// entries name tile 0, with palettes 1 to 4.
-const FILLS: [Fill; 6] = [
+static FILLS: [Fill; 6] = [
     (0x0000, 16, 0x1111),
     (0x4000, 0x400, 0x1000),
     (0x4800, 0x400, 0x2000),

@@ -36,7 +36,7 @@ struct Case<'a> {
 const STRAIGHT: [u16; 4] = [0x0100, 0, 0, 0x0100];
 
 /// Tile 1 has the dots 1 to 8 in its first row with 4 bits, and 11 to 15 and 1 to 3 in its second one.
-const COLUMNS: [Fill; 4] = [
+static COLUMNS: [Fill; 4] = [
     (0x1_0020, 1, 0x4321),
     (0x1_0022, 1, 0x8765),
     (0x1_0024, 1, 0xEDCB),
@@ -88,7 +88,7 @@ fn try_case<R: Abort>(rt: &R, alloc: Global, case: &Case) -> Result<(), AllocErr
 type Sides = (u16, u16, usize, u32);
 
 /// All shapes and sizes (GBATEK, LCD OBJ OAM Attributes).
-const SIDES: [Sides; 12] = [
+static SIDES: [Sides; 12] = [
     (0x0032, 0x0064, 8, 8),
     (0x0032, 0x4064, 16, 16),
     (0x0032, 0x8064, 32, 32),
@@ -148,7 +148,7 @@ fn each_shape_has_its_sides_in_each_size(rt: HostRuntime) -> Result<(), Fail> {
 type Row = (u16, u32, &'static [Object], &'static [(usize, Want)]);
 
 /// A sprite of 8 x 8 dots at places, mirrored and upside down; columns go round at 512 and lines at 256.
-const PLACES: [Row; 10] = [
+static PLACES: [Row; 10] = [
     (
         0x0040,
         10,
@@ -238,7 +238,7 @@ type Tiles = (u16, u32, Object, &'static [Fill], &'static [(usize, Want)]);
 
 /// Sprites at (0, 0): tiles one after another and in rows of 32, with 4 and with 8 bits; an odd number with 8 bits, which
 /// loses its bit 0 in rows alone; numbers past 1,023, which begin anew; in modes 3 to 5 numbers from 512 on alone.
-const TILES: [Tiles; 16] = [
+static TILES: [Tiles; 16] = [
     (
         0x0040,
         0,
@@ -376,7 +376,7 @@ type Turn = (u32, u16, [u16; 4], &'static [(usize, Want)]);
 
 /// As it is; in a doubled box, whose middle is the picture's; mirrored about its middle, so that the first column is past the
 /// edge; at half the steps, which round down, in both boxes; at double steps; turned by a quarter; moved into the second row.
-const TURNS: [Turn; 10] = [
+static TURNS: [Turn; 10] = [
     (
         10,
         0x010A,
@@ -475,7 +475,7 @@ type Pile = (&'static [Object], u8, Want);
 
 /// The least priority is in front, and of one priority the least number, with both kinds. The sprite window hides nothing and
 /// is hidden by nothing; of mode 3 and of shape 3 nothing is seen, nor of a hidden sprite.
-const PILES: [Pile; 10] = [
+static PILES: [Pile; 10] = [
     (
         &[(3, 0x000A, 0x0014, 0x1401), (5, 0x000A, 0x0014, 0x2001)],
         0,

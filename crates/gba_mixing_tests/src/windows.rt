@@ -8,7 +8,7 @@ type Line = (u32, &'static [(u32, u16)], &'static [(usize, u16)]);
 
 /// Background 0 shows in the window alone. Sides that are turned round, that reach past the edge, that are empty, and that
 /// begin past the edge, across in each window and down.
-const SIDES: [Line; 16] = [
+static SIDES: [Line; 16] = [
     (
         0,
         &[(0x000, 0x2100), (0x040, 0xC832), (0x044, 0x00A0)],
@@ -111,7 +111,7 @@ fn windows_hold_what_is_between_their_sides(rt: HostRuntime) -> Result<(), Fail>
 
 /// A sprite of the window is at 20. Window 0 comes before window 1, that before the sprite window, and that before what is
 /// outside; each layer has its bit; the sprite window needs sprites to be on; without windows everything shows.
-const CHOICES: [Line; 12] = [
+static CHOICES: [Line; 12] = [
     (
         10,
         &[
@@ -263,7 +263,7 @@ const BRIGHT: u16 = 0x4210;
 
 /// Without a layer the backdrop is brightened where effects show: outside of window 0, inside of it, and with the sprite
 /// window, which has no place while sprites are off. As a second target, or blended, or as no target, it stays.
-const BACKDROPS: [Line; 6] = [
+static BACKDROPS: [Line; 6] = [
     (
         10,
         &[(0x000, 0x2000), (0x048, 0x001F), (0x04A, 0x0020)],

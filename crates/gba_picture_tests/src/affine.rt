@@ -10,7 +10,7 @@ type Line = (&'static [(u32, u16)], &'static [(usize, Want)]);
 /// The map begins at 0000h and the tiles at 4000h. The map's first entry is tile 1, whose first dot is 9; the last entry of
 /// the first row, by the size, is tile 2, whose last dot of its first row is 8; the first of the second row, with 128 dots,
 /// is tile 3, whose first dot is 6.
-const TILES: [(usize, u8); 9] = [
+static TILES: [(usize, u8); 9] = [
     (0x4040, 9),
     (0x4087, 8),
     (0x40C0, 6),
@@ -23,7 +23,7 @@ const TILES: [(usize, u8); 9] = [
 ];
 
 /// Each size at its right edge, with the step 1, without and with wrapping; steps of -1; steps of -1/2, which round down.
-const LINES: [Line; 14] = [
+static LINES: [Line; 14] = [
     (
         &[(0x00C, 0x0004), (0x020, 0x0100)],
         &[(0, Entry(9)), (1, Clear), (127, Entry(8)), (128, Clear)],

@@ -9,7 +9,7 @@ type Corner = (&'static [(u32, u16)], u32, &'static [(usize, Want)]);
 
 /// The map begins at 0800h and has up to four blocks of 2 KiB. The first entry of block n names tile n + 1, which has 8
 /// bits; its first dot is n + 1 and its other dots are 0.
-const FOUR_BLOCKS: [(usize, u8); 8] = [
+static FOUR_BLOCKS: [(usize, u8); 8] = [
     (0x0040, 1),
     (0x0080, 2),
     (0x00C0, 3),
@@ -21,7 +21,7 @@ const FOUR_BLOCKS: [(usize, u8); 8] = [
 ];
 
 /// Each size at the edges of its blocks: 256 x 256, 512 x 256, 256 x 512, whose lower block is the next one, and 512 x 512.
-const CORNERS: [Corner; 16] = [
+static CORNERS: [Corner; 16] = [
     (&[(0x008, 0x0180)], 0, &[(0, Entry(1)), (8, Clear)]),
     (
         &[(0x008, 0x0180), (0x010, 256), (0x012, 256)],

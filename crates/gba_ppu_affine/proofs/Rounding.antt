@@ -1,55 +1,13 @@
 -- Places by words are places by signed numbers.
-use Rattle.std.proofs.Common.{◌≡◌, ℕ, suc, ◌+◌, ◌-◌, ◌*◌, ◌/◌, ◌%◌, ◌^◌, ◌<◌, ◌≤◌, ◌⊎◌, Bool, true, false, nat_eq, refl, ap, sym, subst, ◌∙◌, inl, inr, ⊎_elim, arith}
-use Rattle.std.specs.Prelude.{ℤ, pos, negsuc, neg_ℤ, ◌+ℤ◌, ◌*ℤ◌, ◌≤ℤ◌, if◌then◌else◌}
+use Rattle.std.proofs.Common.{◌≡◌, ℕ, suc, ◌+◌, ◌-◌, ◌*◌, ◌/◌, ◌%◌, ◌^◌, ◌<◌, ◌≤◌, Bool, true, false, nat_eq, ap, sym, subst, ◌∙◌, inl, inr, arith}
+use Rattle.std.specs.Prelude.{ℤ, pos, negsuc, neg_ℤ, ◌+ℤ◌, ◌*ℤ◌, if◌then◌else◌}
 use Rattle.std.specs.Int.{int_div_euclid, int_rem_euclid}
-use Rattle.std.proofs.lemmas.Bool.{cases_lt}
 use Rattle.std.proofs.lemmas.Int.{ints}
 use Rattle.std.proofs.Math.Nat.{mul-le-mul}
-use Rattle.gba_terms.specs.Bits.{bit}
 use Rattle.gba_word.specs.Extension.{sign_extension}
+use Rattle.gba_ppu_dot.specs.Signed.{signed}
+use Rattle.gba_ppu_dot.proofs.Signed.{IsStep, StandsFor, extension_is_step, point, signed_high, signed_low}
 use Rattle.gba_ppu_affine.specs.Affine.{map_side}
-use Rattle.gba_ppu_affine.specs.Rounding.{signed}
-
--- A natural number stands for a signed one that isn't far from 0: it has some turns of 2 ^ 32 more.
-pub record StandsFor (far : ℕ) (z : ℤ) (n : ℕ) : Type 0 where
-  turns : ℕ
-  sum : z +ℤ pos (2 ^ 32 * turns) ≡ pos n
-  least : negsuc far ≤ℤ z
-  most : z ≤ℤ pos far
-
--- a reference point
-signed_low : (word : ℕ) → word < 2 ^ 31 → signed word ≡ pos word
-signed_low word h = grind arith
-
-signed_high : (word : ℕ) → 2 ^ 31 ≤ word → word < 2 ^ 32 → signed word ≡ negsuc (2 ^ 32 - 1 - word)
-signed_high word l h = grind arith
-
-point_low : (word : ℕ) → word < 2 ^ 31 → StandsFor (2 ^ 31) (pos word) word
-point_low word h = record {
-  turns = 0;
-  sum = omega (arith, ints);
-  least = omega (arith, ints);
-  most = omega (arith, ints);
-}
-
-point_high : (word : ℕ) → 2 ^ 31 ≤ word → word < 2 ^ 32 → StandsFor (2 ^ 31) (negsuc (2 ^ 32 - 1 - word)) word
-point_high word l h = record {
-  turns = 1;
-  sum = omega (arith, ints);
-  least = omega (arith, ints);
-  most = omega (arith, ints);
-}
-
-point : (word : ℕ) → word < 2 ^ 32 → StandsFor (2 ^ 31) (signed word) word
-point word h =
-    ⊎_elim
-    (λ (low : word < 2 ^ 31).
-    let P : ℤ → Type 0 = λ z. StandsFor (2 ^ 31) z word in
-    subst P (sym (signed_low word low)) (point_low word low))
-    (λ (high : 2 ^ 31 ≤ word).
-    let P : ℤ → Type 0 = λ z. StandsFor (2 ^ 31) z word in
-    subst P (sym (signed_high word high h)) (point_high word high h))
-    (cases_lt word (2 ^ 31))
 
 -- so many steps
 steps_low : (step x : ℕ) → step < 2 ^ 15 → x < 240 → StandsFor (2 ^ 23) (pos step *ℤ pos x) (step * x)
@@ -76,16 +34,7 @@ steps_high step less x e h k =
       most = omega (arith, ints);
     }
 
--- a parameter's step is small, forth or back
-step_of : (negative : Bool) (parameter : ℕ) → bit parameter 15 ≡ negative
-    → ((if negative then parameter % 2 ^ 16 + (2 ^ 32 - 2 ^ 16) else parameter % 2 ^ 16) < 2 ^ 15)
-    ⊎ ((2 ^ 32 - 2 ^ 15 ≤ (if negative then parameter % 2 ^ 16 + (2 ^ 32 - 2 ^ 16) else parameter % 2 ^ 16))
-    × ((if negative then parameter % 2 ^ 16 + (2 ^ 32 - 2 ^ 16) else parameter % 2 ^ 16) < 2 ^ 32))
-step_of true parameter e = inr (grind arith, omega arith)
-step_of false parameter e = inl (grind arith)
-
-steps_by : (step x : ℕ) → x < 240 → (step < 2 ^ 15) ⊎ ((2 ^ 32 - 2 ^ 15 ≤ step) × (step < 2 ^ 32))
-    → StandsFor (2 ^ 23) (signed step *ℤ pos x) (step * x)
+steps_by : (step x : ℕ) → x < 240 → IsStep step → StandsFor (2 ^ 23) (signed step *ℤ pos x) (step * x)
 steps_by step x k (inl low) =
     let P : ℤ → Type 0 = λ z. StandsFor (2 ^ 23) (z *ℤ pos x) (step * x) in
     subst P (sym (signed_low step (omega arith))) (steps_low step x low k)
@@ -108,7 +57,7 @@ pub stands : (start parameter x : ℕ) → start < 2 ^ 32 → x < 240
 stands start parameter x h k =
     added (signed start) (signed (sign_extension parameter 16) *ℤ pos x) start (sign_extension parameter 16 * x)
     (point start h)
-    (steps_by (sign_extension parameter 16) x k (step_of (bit parameter 15) parameter refl))
+    (steps_by (sign_extension parameter 16) x k (extension_is_step parameter))
 
 -- the word of such a number
 abbrev pub Sum : ℤ → ℕ → Type 0

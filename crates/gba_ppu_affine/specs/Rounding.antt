@@ -1,15 +1,11 @@
-use Rattle.std.specs.Prelude.{◌≡◌, ℕ, ◌-◌, ◌%◌, ◌^◌, ◌<◌, ℤ, pos, negsuc, ◌+ℤ◌, ◌*ℤ◌, if◌then◌else◌}
+use Rattle.std.specs.Prelude.{◌≡◌, ℕ, ◌%◌, ◌^◌, ◌<◌, ℤ, pos, ◌+ℤ◌, ◌*ℤ◌}
 use Rattle.std.specs.Int.{int_div_euclid, int_rem_euclid}
-use Rattle.gba_terms.specs.Bits.{bit}
 use Rattle.gba_word.specs.Extension.{sign_extension}
+use Rattle.gba_ppu_dot.specs.Signed.{signed}
 use Rattle.gba_ppu_affine.specs.Affine.{map_side}
 use Rattle.gba_ppu_affine.specs.Places.{place_of}
 
 -- The places by words are those by signed numbers that don't wrap.
-
--- what a word stands for as a signed number
-abbrev pub signed : ℕ → ℤ
-signed word = if bit word 31 then negsuc (2 ^ 32 - 1 - word) else pos word
 
 -- the whole part of the signed sum, rounded down
 abbrev pub exact_place : ℕ → ℕ → ℕ → ℤ

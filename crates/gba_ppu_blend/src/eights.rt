@@ -14,12 +14,13 @@ pub fn eight_from(line: &[u16], at: usize) -> u16x8
     u16x8::from_slice(&line[at..])
 }
 
-/// Stores eight halfwords from a place on.
+/// Stores eight halfwords from a place on, and leaves the places before and after them.
 #[inline(always)]
 pub fn put_eight(lanes: u16x8, at: usize, out: &mut [u16])
     requires { at + 8 ≤ length out.old }
     ensures before { (x : ℕ) → x < at → slice_index out.new x ≡ slice_index out.old x }
     ensures here { (i : ℕ) → i < 8 → slice_index out.new (at + i) ≡ slice_index lanes i }
+    ensures after { (x : ℕ) → at + 8 ≤ x → slice_index out.new x ≡ slice_index out.old x }
 {
     let colours = lanes.to_array();
     for k in 0..8 {

@@ -13,6 +13,7 @@ fn blend_eight<E: LaneEffect>(effect: &E, top: &[u16], below: &[u16], at: usize,
     requires out { at + 8 ≤ length out.old }
     ensures before { (x : ℕ) → x < at → slice_index out.new x ≡ slice_index out.old x }
     ensures here { (i : ℕ) → i < 8 → slice_index out.new (at + i) ≡ E.colour effect.now (slice_index top.now (at + i)) (slice_index below.now (at + i)) }
+    ensures after { (x : ℕ) → at + 8 ≤ x → slice_index out.new x ≡ slice_index out.old x }
 {
     let lanes = effect.eight(eight_from(top, at), eight_from(below, at));
     put_eight(lanes, at, out);

@@ -2,3 +2,4 @@ pub mod Bytes
 pub mod Control
 pub mod Dots
 pub mod Paints
+pub mod Signed

@@ -1,11 +1,11 @@
 -- The two foremost candidates of a stack.
-use Rattle.std.proofs.Common.{◌≡◌, ℕ, ◌<◌, ◌≤◌, ◌⊎◌, Bool, true, false, nat_lt, List, [], ◌∷◌, ⊎_elim, inl, inr, ap, sym, ◌∙◌, refl, subst, arith}
+use Rattle.std.proofs.Common.{◌≡◌, ℕ, ◌+◌, ◌<◌, ◌≤◌, ◌⊎◌, Bool, true, false, nat_lt, List, [], ◌∷◌, ⊎_elim, inl, inr, ap, sym, ◌∙◌, refl, subst, arith}
 use Rattle.std.proofs.lemmas.Bool.{ltb-true, ltb-false}
 use Rattle.gba_ppu_dot.specs.declared.dot.Dot.{Dot}
-use Rattle.gba_ppu_mix.specs.Foremost.{HasForemost, IsOneOf, and_if, and_layer, candidates_of, front_candidates, is_candidate}
+use Rattle.gba_ppu_mix.specs.Foremost.{HasForemost, HasTwoLayers, IsOneOf, and_if, and_layer, candidates_of, front_candidates, is_candidate}
 use Rattle.gba_ppu_mix.specs.Stacks.{Candidate, Dots, Stack, bottom, front_of, nearer, sprite_rank, stack_of, with_candidate, with_dot}
 use Rattle.gba_ppu_mix.specs.declared.stacks.Layer.{Layer}
-use Rattle.gba_ppu_mix.specs.declared.stacks.Layer.TheVariants.{Background0, Background1, Background2, Background3, Sprites}
+use Rattle.gba_ppu_mix.specs.declared.stacks.Layer.TheVariants.{Background0, Background1, Background2, Background3, Sprites, Backdrop, Nothing}
 use Rattle.gba_ppu_mix.specs.declared.stacks.Ranks.{Ranks}
 
 all : List Candidate → Stack
@@ -159,3 +159,83 @@ pub of_layers : (shows : ℕ) (ranks : Ranks) (dots : Dots)
 of_layers shows ranks dots =
     let P : Stack → Type 0 = λ t. HasForemost (candidates_of shows ranks dots) t in
     subst P (sym (layers_are shows ranks dots)) (of_all (candidates_of shows ranks dots))
+
+-- The layers come in this order, and each comes once.
+turn : Layer → ℕ
+turn Nothing = 0
+turn Backdrop = 1
+turn Sprites = 2
+turn Background0 = 3
+turn Background1 = 4
+turn Background2 = 5
+turn Background3 = 6
+
+-- the layers of a stack come before some turn, and are two
+record AreTwoBefore (n : ℕ) (s : Stack) : Type 0 where
+  top : turn s.top.layer < n
+  second : turn s.second.layer < n
+  two : turn s.top.layer ≡ turn s.second.layer → ⊥
+
+two_later : (n : ℕ) (s : Stack) → AreTwoBefore n s → AreTwoBefore (n + 1) s
+two_later n s h = record { top = omega (arith, h.top); second = omega (arith, h.second); two = h.two }
+
+two_new_top : (c : Candidate) (s : Stack) → AreTwoBefore (turn c.layer) s
+    → AreTwoBefore (turn c.layer + 1) record { top = c; second = s.top }
+two_new_top c s h = record {
+  top = omega arith;
+  second = omega (arith, h.top);
+  two = λ e. absurd (omega (arith, e, h.top));
+}
+
+two_new_second : (c : Candidate) (s : Stack) → AreTwoBefore (turn c.layer) s
+    → AreTwoBefore (turn c.layer + 1) record { top = s.top; second = c }
+two_new_second c s h = record {
+  top = omega (arith, h.top);
+  second = omega arith;
+  two = λ e. absurd (omega (arith, e, h.top));
+}
+
+two_nearer : (c : Candidate) (s : Stack) (w : Bool) → nat_lt c.rank s.second.rank ≡ w → AreTwoBefore (turn c.layer) s
+    → AreTwoBefore (turn c.layer + 1) record { top = s.top; second = nearer c s.second }
+two_nearer c s true e h = rw e (two_new_second c s h)
+two_nearer c s false e h = rw e (two_later (turn c.layer) s h)
+
+two_by : (c : Candidate) (s : Stack) (w : Bool) → nat_lt c.rank s.top.rank ≡ w → AreTwoBefore (turn c.layer) s
+    → AreTwoBefore (turn c.layer + 1) (with_candidate c s)
+two_by c s true e h =
+    let P : Stack → Type 0 = λ t. AreTwoBefore (turn c.layer + 1) t in
+    subst P (sym (in_front_of c s e)) (two_new_top c s h)
+two_by c s false e h =
+    let P : Stack → Type 0 = λ t. AreTwoBefore (turn c.layer + 1) t in
+    subst P (sym (behind_top c s e)) (two_nearer c s (nat_lt c.rank s.second.rank) refl h)
+
+two_with_dot : (shows : ℕ) (layer : Layer) (rank : ℕ) (dot : Dot) (s : Stack) (w : Bool) → is_candidate shows layer dot ≡ w
+    → AreTwoBefore (turn layer) s → AreTwoBefore (turn layer + 1) (with_dot shows layer rank dot s)
+unfolding with_dot
+two_with_dot shows layer rank dot s true e h =
+    rw e (two_by record { rank = rank; layer = layer } s (nat_lt rank s.top.rank) refl h)
+two_with_dot shows layer rank dot s false e h = rw e (two_later (turn layer) s h)
+
+two_more : (shows : ℕ) (layer : Layer) (rank : ℕ) (dot : Dot) (s : Stack)
+    → AreTwoBefore (turn layer) s → AreTwoBefore (turn layer + 1) (with_dot shows layer rank dot s)
+two_more shows layer rank dot s h = two_with_dot shows layer rank dot s (is_candidate shows layer dot) refl h
+
+two_at_bottom : AreTwoBefore 2 bottom
+unfolding turn
+two_at_bottom = record { top = omega arith; second = omega arith; two = λ e. absurd (omega (arith, e)) }
+
+two_in_front : (shows : ℕ) (ranks : Ranks) (dots : Dots) → AreTwoBefore 5 (front_of shows ranks dots)
+unfolding front_of turn
+two_in_front shows ranks dots =
+    two_more shows Background1 ranks.background1 dots.background1 _
+    (two_more shows Background0 ranks.background0 dots.background0 _
+    (two_more shows Sprites (sprite_rank dots.sprite.priority) dots.sprite bottom two_at_bottom))
+
+two_of_all : (shows : ℕ) (ranks : Ranks) (dots : Dots) → AreTwoBefore 7 (stack_of shows ranks dots)
+unfolding stack_of turn
+two_of_all shows ranks dots =
+    two_more shows Background3 ranks.background3 dots.background3 _
+    (two_more shows Background2 ranks.background2 dots.background2 _ (two_in_front shows ranks dots))
+
+pub two_layers : HasTwoLayers
+two_layers shows ranks dots e = (two_of_all shows ranks dots).two (ap turn e)

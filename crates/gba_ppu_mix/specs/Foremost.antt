@@ -45,3 +45,10 @@ pub record HasForemost (cs : List Candidate) (s : Stack) : Type 0 where
 
 abbrev pub HasForemostOfLayers : Type 0
 HasForemostOfLayers = (shows : ℕ) (ranks : Ranks) (dots : Dots) → HasForemost (candidates_of shows ranks dots) (stack_of shows ranks dots)
+
+-- The second layer is never the top one again: the backdrop and nothing behind it count as layers too.
+abbrev pub AreTwoLayers : Stack → Type 0
+AreTwoLayers s = s.top.layer ≡ s.second.layer → ⊥
+
+abbrev pub HasTwoLayers : Type 0
+HasTwoLayers = (shows : ℕ) (ranks : Ranks) (dots : Dots) → AreTwoLayers (stack_of shows ranks dots)

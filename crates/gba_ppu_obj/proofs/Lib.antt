@@ -1,3 +1,4 @@
 pub mod Foremost
 pub mod Painting
+pub mod Rounding
 pub mod Turning

@@ -86,15 +86,19 @@ drawn_at m vram oam a y x q left width start end first old new row_is left_is wi
     (cases_lt x end))
     (cases_lt x start)
 
+-- a row past the box's height isn't shown
+past_box : (a : Attributes) (q most : ℕ) → box_height a ≤ most → most ≤ q → is_row_shown a q ≡ false
+past_box a q most high low = rw (le-ltb q (box_height a) (omega (arith, high, low))) (and-false (is_shown a))
+
 -- no box is higher than 128
 high_at_most : (a : Attributes) → box_height a ≤ 128
 high_at_most a = grind arith
 
 pub too_low : (a : Attributes) (q : ℕ) → 128 ≤ q → is_row_shown a q ≡ false
-too_low a q h = rw (le-ltb q (box_height a) (omega (arith, high_at_most a))) (and-false (is_shown a))
+too_low a q h = past_box a q 128 (high_at_most a) h
 
 undoubled_at_most : (a : Attributes) → is_double a ≡ false → box_height a ≤ 64
 undoubled_at_most a e = grind (arith, e)
 
 pub too_low_undoubled : (a : Attributes) (q : ℕ) → is_double a ≡ false → 64 ≤ q → is_row_shown a q ≡ false
-too_low_undoubled a q e h = rw (le-ltb q (box_height a) (omega (arith, undoubled_at_most a e))) (and-false (is_shown a))
+too_low_undoubled a q e h = past_box a q 64 (undoubled_at_most a e) h

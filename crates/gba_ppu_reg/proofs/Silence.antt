@@ -3,7 +3,8 @@ use Rattle.std.proofs.Common.{◌≡◌, ℕ, zero, suc, ◌+◌, ◌-◌, ◌<�
 use Rattle.std.specs.Prelude.{◌==◌, ◌||◌, min, nat_eq, nat_lt, if◌then◌else◌}
 use Rattle.gba_ppu_reg.specs.declared.position.Position.{Position}
 use Rattle.gba_ppu_reg.specs.Position.{IsPosition, after_cycles, begins_hblank, begins_line, cycle, distance}
-use Rattle.gba_ppu_reg.specs.Quiet.{QuietPlaces, comes, cycles_before, quiet}
+use Rattle.gba_ppu_reg.specs.Quiet.{QuietPlaces, comes, quiet}
+use Rattle.gba_register.proofs.Before as steps
 use Rattle.gba_ppu_reg.proofs.Moving.{comes_at}
 
 after_cycles-inside : (count : ℕ) (p : Position) → after_cycles count (cycle p) ≡ cycle (after_cycles count p)
@@ -11,56 +12,9 @@ unfolding after_cycles
 after_cycles-inside zero p = refl
 after_cycles-inside (suc count) p = ap cycle (after_cycles-inside count p)
 
--- so many cycles without an event, and then one with it or the last
-before-is : (most count : ℕ) (p : Position) → count ≤ most
-    → ((k : ℕ) → k < count → comes (after_cycles k p) ≡ false)
-    → (count < most → comes (after_cycles count p) ≡ true)
-    → cycles_before most p ≡ count
-unfolding cycles_before after_cycles
-before-is zero zero p within silent next = refl
-before-is zero (suc count) p within silent next = absurd (omega (arith, within))
-before-is (suc most) zero p within silent next = rw (next (omega arith)) refl
-before-is (suc most) (suc count) p within silent next =
-    let later =
-    before-is most count (cycle p) (omega (arith, within))
-    (λ k small. ap comes (after_cycles-inside k p) ∙ silent (suc k) (omega (arith, small)))
-    (λ small. ap comes (after_cycles-inside count p) ∙ next (omega (arith, small))) in
-    rw (silent 0 (omega arith)) (ap suc later)
-
-before-now : (most : ℕ) (p : Position) → comes p ≡ true → cycles_before (suc most) p ≡ 0
-unfolding cycles_before
-before-now most p e = rw e refl
-
-before-later : (most : ℕ) (p : Position) → comes p ≡ false
-    → cycles_before (suc most) p ≡ suc (cycles_before most (cycle p))
-unfolding cycles_before
-before-later most p e = rw e refl
-
-before-none : (p : Position) → cycles_before 0 p ≡ 0
-unfolding cycles_before
-before-none p = refl
-
-silent_by : (most count : ℕ) (p : Position) (now : Bool) → comes p ≡ now → count < cycles_before most p
-    → comes (after_cycles count p) ≡ false
+is_after : steps.IsAfter Position cycle after_cycles
 unfolding after_cycles
-silent_by zero count p now e h = (let none = before-none p in absurd (omega (arith, none, h)))
-silent_by (suc most) count p true e h = (let none = before-now most p e in absurd (omega (arith, none, h)))
-silent_by (suc most) zero p false e h = e
-silent_by (suc most) (suc count) p false e h =
-    let later = before-later most p e in
-    ap comes (sym (after_cycles-inside count p))
-    ∙ silent_by most count (cycle p) (comes (cycle p)) refl (omega (arith, later, h))
-
-next_by : (most : ℕ) (p : Position) (now : Bool) → comes p ≡ now → cycles_before most p < most
-    → comes (after_cycles (cycles_before most p) p) ≡ true
-unfolding after_cycles
-next_by zero p now e h = absurd (omega (arith, h))
-next_by (suc most) p true e h = ap (λ n. comes (after_cycles n p)) (before-now most p e) ∙ e
-next_by (suc most) p false e h =
-    let later = before-later most p e in
-    ap (λ n. comes (after_cycles n p)) later
-    ∙ ap comes (sym (after_cycles-inside (cycles_before most (cycle p)) p))
-    ∙ next_by most (cycle p) (comes (cycle p)) refl (omega (arith, later, h))
+is_after = record { none = λ p. refl; more = λ count p. sym (after_cycles-inside count p) }
 
 none-of : (one other : Bool) → (one || other) ≡ false → one ≡ false
 none-of false other none = refl
@@ -78,17 +32,17 @@ no-hblank : (count : ℕ) (p : Position) → count < quiet p → begins_hblank (
 unfolding quiet
 no-hblank count p h =
     ap begins_hblank (one-more count p)
-    ∙ none-of _ (begins_line (cycle (after_cycles count p))) (silent_by 512 count p (comes p) refl h)
+    ∙ none-of _ (begins_line (cycle (after_cycles count p))) (steps.before-silent cycle after_cycles is_after comes 512 count p h)
 
 no-line : (count : ℕ) (p : Position) → count < quiet p → begins_line (after_cycles (count + 1) p) ≡ false
 unfolding quiet
 no-line count p h =
     ap begins_line (one-more count p)
-    ∙ nor-other (begins_hblank (cycle (after_cycles count p))) _ (silent_by 512 count p (comes p) refl h)
+    ∙ nor-other (begins_hblank (cycle (after_cycles count p))) _ (steps.before-silent cycle after_cycles is_after comes 512 count p h)
 
 then-comes : (p : Position) → quiet p < 512 → comes (after_cycles (quiet p) p) ≡ true
 unfolding quiet
-then-comes p h = next_by 512 p (comes p) refl h
+then-comes p h = steps.before-next cycle after_cycles is_after comes 512 p h
 
 pub quiet-places : QuietPlaces
 quiet-places = record { no_hblank = no-hblank; no_line = no-line; next = then-comes }
@@ -119,7 +73,7 @@ unfolding quiet
 quiet-is p sound =
     let a = distance 1006 p in
     let b = distance 0 p in
-    sym (before-is 512 (min (min a b - 1) 512) p (omega arith)
+    sym (steps.before-is cycle after_cycles is_after comes 512 (min (min a b - 1) 512) p (omega arith)
     (λ k small. comes-is k p sound.dot (omega (arith, small)) ∙ not-yet a b k (omega (arith, small)))
     (λ small. comes-is (min (min a b - 1) 512) p sound.dot (omega (arith, small))
     ∙ just-now a b (min (min a b - 1) 512) (some-way 1006 p sound.dot) (some-way 0 p sound.dot) (omega (arith, small))))

@@ -1,4 +1,5 @@
-use Rattle.std.specs.Prelude.{◌≡◌, ℕ, zero, suc, ◌+◌, ◌<◌, Bool, true, false, ◌||◌, if◌then◌else◌}
+use Rattle.std.specs.Prelude.{◌≡◌, ℕ, ◌+◌, ◌<◌, Bool, true, false, ◌||◌}
+use Rattle.gba_register.specs.Before.{steps_before}
 use Rattle.gba_ppu_reg.specs.declared.position.Position.{Position}
 use Rattle.gba_ppu_reg.specs.Position.{IsPosition, after_cycles, begins_hblank, begins_line, cycle}
 
@@ -8,9 +9,8 @@ abbrev pub comes : Position → Bool
 comes p = begins_hblank (cycle p) || begins_line (cycle p)
 
 -- of so many cycles, those before the first one in which something comes
-unfoldable pub cycles_before : ℕ → Position → ℕ
-cycles_before zero p = 0
-cycles_before (suc most) p = if comes p then 0 else suc (cycles_before most (cycle p))
+abbrev pub cycles_before : ℕ → Position → ℕ
+cycles_before most p = steps_before cycle comes most p
 
 -- the greatest number of cycles up to 512 in none of which anything comes
 unfoldable pub quiet : Position → ℕ

@@ -45,7 +45,7 @@ pub fn patterned(slow: bool) -> Ram {
 // Address, CPSR, r0 and r1, the word; r0, r15, CPSR and cycles after it over memory of price 1.
 #[test]
 fn worked_words(rt: HostRuntime) {
-    for (address, status, r0, r1, word, want) in [
+    for &(address, status, r0, r1, word, want) in &[
         (0, 0xd3, 9, 0x8000_0000, 0xe1b0_0021, (0, 4, 0x6000_00d3, 1)),
         (0, 0xd3, 9, 9, 0xe7f0_00f0, (9, 4, 0xdb, 4)),
         (0, 0x1f, 7, 0xff00, 0xe000_0191, (0xfe01_0000, 4, 0x1f, 3)),
@@ -155,7 +155,7 @@ fn conditions(rt: HostRuntime) {
 // r1 and the word at 08000100h; r0, r14, r15, CPSR and cycles over slow memory. r0 and r14 were 9 and 0, CPSR 10h.
 #[test]
 fn r15_in_each_place(rt: HostRuntime) {
-    for (r1, word, want) in [
+    for &(r1, word, want) in &[
         (0, 0xe1a0_000f, (0x0800_0108, 0, 0x0800_0104, 0x10, 2)),
         (0, 0xe28f_0004, (0x0800_010c, 0, 0x0800_0104, 0x10, 2)),
         (0, 0xe1a0_011f, (0x0800_010c, 0, 0x0800_0104, 0x10, 3)),
@@ -204,7 +204,7 @@ fn r15_in_each_place(rt: HostRuntime) {
 
 #[test]
 fn r15_stored(rt: HostRuntime) {
-    for (word, want) in [
+    for &(word, want) in &[
         (0xe581_f000, 0x0800_010c),
         (0xe881_8000, 0x0800_010c),
         (0xe101_009f, 0x0800_0108),
@@ -223,7 +223,7 @@ fn r15_stored(rt: HostRuntime) {
 // CPSR, SPSR and r1 before the word; CPSR, SPSR and r15 after it.
 #[test]
 fn status_registers(rt: HostRuntime) {
-    for (status, saved, r1, word, want) in [
+    for &(status, saved, r1, word, want) in &[
         (
             0x10,
             0,
@@ -346,7 +346,7 @@ fn status_registers(rt: HostRuntime) {
 // In IRQ, with the S bit, the user's r13 moves and the base is IRQ's; in USR there is one r13.
 #[test]
 fn blocks_of_user_registers(rt: HostRuntime) {
-    for (status, word, want) in [
+    for &(status, word, want) in &[
         (0x92, 0xe8c1_2000, (0xaaaa, 0xbbbb, 0x0200_0000, 0xaaaa)),
         (0x92, 0xe881_2000, (0xaaaa, 0xbbbb, 0x0200_0000, 0xbbbb)),
         (
@@ -403,7 +403,7 @@ fn operations_at_a_thumb_address(rt: HostRuntime) {
         amount: 0,
     };
     let op = ComputeOp::Mov;
-    for (op, want) in [
+    for &(op, want) in &[
         (
             ArmOp::Compute {
                 cond,

@@ -11,7 +11,7 @@ type Case = (u32, u32, u32, u32, u32, u32, u32);
 // and CPSR 30000010h.
 type ProductCase = (u32, u32, u32, u32, u32, u32, u32);
 
-const OPERATIONS: [Case; 114] = [
+static OPERATIONS: [Case; 114] = [
     (0xe0110002, 5, 3, 0x30000010, 1, 0x30000010, 2),
     (0xe0110002, 3, 5, 0x00000010, 1, 0x00000010, 2),
     (
@@ -254,7 +254,7 @@ const OPERATIONS: [Case; 114] = [
     ),
 ];
 
-const PRODUCTS: [ProductCase; 26] = [
+static PRODUCTS: [ProductCase; 26] = [
     (0xe0103291, 7, 6, 0x2a, 0xfffffff0, 0x30000010, 3),
     (
         0xe0103291, 0xffffffff, 0xff00, 0xffff0100, 0xfffffff0, 0xb0000010, 4,
@@ -307,7 +307,7 @@ const PRODUCTS: [ProductCase; 26] = [
 
 #[test]
 fn operations_and_operands(rt: HostRuntime) {
-    for (word, r1, r2, status, r0, new_status, cycles) in OPERATIONS {
+    for &(word, r1, r2, status, r0, new_status, cycles) in &OPERATIONS {
         let mut registers = at(0x0800_0100, status, [9, r1, r2, 7]);
         let took = execute_decoded(&mut registers, &mut Ram::new(true), &decode_word(word));
         let after = (registers.cpsr(), registers.get(15), took);
@@ -326,7 +326,7 @@ fn operations_and_operands(rt: HostRuntime) {
 
 #[test]
 fn products(rt: HostRuntime) {
-    for (word, r1, r2, r0, r3, status, cycles) in PRODUCTS {
+    for &(word, r1, r2, r0, r3, status, cycles) in &PRODUCTS {
         let mut registers = at(0x0800_0100, 0x3000_0010, [1, r1, r2, 0xffff_fff0]);
         let took = execute_decoded(&mut registers, &mut Ram::new(true), &decode_word(word));
         let after = (registers.cpsr(), registers.get(15), took);

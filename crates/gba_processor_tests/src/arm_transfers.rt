@@ -15,7 +15,7 @@ type TransferCase = (u32, u32, u32, u32, u32, u32, u32, u32);
 // words begin at 02000010h where the word goes up, else at 02000008h.
 type BlockCase = (u32, u32, [u32; 4], [u32; 3], u32);
 
-const TRANSFERS: [TransferCase; 92] = [
+static TRANSFERS: [TransferCase; 92] = [
     (
         0xe4110004, 0x2000010, 8, 0x54433221, 0x200000c, 0x10, 0x54433221, 10,
     ),
@@ -294,7 +294,7 @@ const TRANSFERS: [TransferCase; 92] = [
     ),
 ];
 
-const BLOCKS: [BlockCase; 40] = [
+static BLOCKS: [BlockCase; 40] = [
     (
         0xe8130005,
         0,
@@ -579,7 +579,7 @@ const BLOCKS: [BlockCase; 40] = [
 
 #[test]
 fn single_transfers(rt: HostRuntime) {
-    for (word, r1, r2, r0, new_r1, address, stored, cycles) in TRANSFERS {
+    for &(word, r1, r2, r0, new_r1, address, stored, cycles) in &TRANSFERS {
         let mut registers = at(0x0800_0100, 0x2000_0010, [0xa1b2_c3d4, r1, r2, 2]);
         let mut ram = patterned(true);
         let took = execute_decoded(&mut registers, &mut ram, &decode_word(word));
@@ -604,7 +604,7 @@ fn single_transfers(rt: HostRuntime) {
 
 #[test]
 fn block_transfers(rt: HostRuntime) {
-    for (word, low, after, stored, cycles) in BLOCKS {
+    for &(word, low, after, stored, cycles) in &BLOCKS {
         let mut registers = at(0x0800_0100, 0x10, [0xa, 0xb, 0xc, 0xd]);
         registers.set(bits(word, 16, 4), 0x0200_0010 + low % 4);
         let mut ram = patterned(true);

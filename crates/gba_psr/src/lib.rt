@@ -10,8 +10,6 @@ mod exceptions;
 mod flag_words;
 pub mod laws;
 mod registers;
-#[cfg(test)]
-mod tests;
 
 pub use apart::RegisterFile as Registers;
 pub use condition::Flags;

@@ -548,7 +548,7 @@ const OTHER: [Move; 26] = [
     TellsStart(18, Multi, 0, 0),
 ];
 
-const CASES: [Case; 11] = [
+static CASES: [Case; 11] = [
     Case {
         seat: (0, 2, 512),
         moves: &STARTED,
@@ -615,7 +615,7 @@ fn units_do_as_worked_out(rt: HostRuntime) -> Result<(), Fail> {
 }
 
 /// SIOCNT's bits that choose each mode, with RCNT 0.
-const MODES: [(u16, LinkMode); 4] = [
+static MODES: [(u16, LinkMode); 4] = [
     (0x0000, Normal8),
     (0x1000, Normal32),
     (0x2000, Multi),
@@ -633,8 +633,8 @@ fn open<R: Abort>(rt: &R, count: u32, control: u16) -> Serial {
 /// From each mode to each: it is told where it is another one, by SIOCNT and by RCNT.
 #[test]
 fn modes_are_told_once(rt: HostRuntime) -> Result<(), Fail> {
-    for (from, old) in MODES {
-        for (to, new) in MODES {
+    for &(from, old) in &MODES {
+        for &(to, new) in &MODES {
             let mut unit = open(&rt, 2, from);
             assert_eq!(rt; unit.mode(), old);
             let _first = unit.outgoing(0);
@@ -679,7 +679,7 @@ fn peers_are_known_by_what_they_told(rt: HostRuntime) -> Result<(), Fail> {
     for player in 0..4 {
         assert_eq!(rt; unit.known(player), Other);
     }
-    for (_, mode) in MODES {
+    for &(_, mode) in &MODES {
         hears(&rt, &mut unit, incoming(1, 20, signal(4, mode)), None);
         assert_eq!(rt; unit.known(1), mode);
         assert_eq!(rt; unit.read(SIOCNT), 0x2000);
@@ -702,7 +702,7 @@ fn peers_are_known_by_what_they_told(rt: HostRuntime) -> Result<(), Fail> {
 fn bits_are_protected_in_a_transfer(rt: HostRuntime) -> Result<(), Fail> {
     let mut unit = open(&rt, 2, 0x2001);
     unit.write(1, SIOCNT, 0x2081);
-    for (bit, stays) in [
+    for &(bit, stays) in &[
         (0x0001, true),
         (0x0002, true),
         (0x0008, false),
@@ -722,7 +722,7 @@ fn bits_are_protected_in_a_transfer(rt: HostRuntime) -> Result<(), Fail> {
 }
 
 /// Mode and speed, consoles, and how long the transfer lasts with a delay of 512.
-const LENGTHS: [(u16, u32, u64); 10] = [
+static LENGTHS: [(u16, u32, u64); 10] = [
     (0x2000, 2, 62_892),
     (0x2001, 2, 15_696),
     (0x2002, 2, 10_476),
@@ -737,7 +737,7 @@ const LENGTHS: [(u16, u32, u64); 10] = [
 
 #[test]
 fn transfers_last_by_mode_and_speed(rt: HostRuntime) -> Result<(), Fail> {
-    for (control, count, length) in LENGTHS {
+    for &(control, count, length) in &LENGTHS {
         let mut unit = open(&rt, count, control);
         unit.write(1000, SIOCNT, control | 0x0080);
         assert_eq!(rt; Some(unit.end()), length.checked_add(1000));

@@ -8,8 +8,6 @@ mod cursor;
 mod kinds;
 mod numbers;
 mod pieces;
-#[cfg(test)]
-mod tests;
 
 pub use cursor::Cursor;
 pub use kinds::{TextError, TextKind};

@@ -3,7 +3,6 @@
 ghost use Rattle.std.specs.Prelude.{◌≡◌, ◌<◌, IfSome};
 ghost use Rattle.gba_thumb_exec.specs.Forms.{branch_by, branch_distance, branch_form, branch_if, form_of, form_of_half, narrowed};
 ghost use Rattle.gba_thumb_table.specs.Limits.{Fits};
-ghost use Rattle.gba_thumb_table.specs.Table.{operation};
 
 use crate::operations::{
     add_or_subtract, block, full_register, half_by_number, half_by_register, process_full_register,
@@ -23,18 +22,9 @@ pub fn decode_half(half: u16) -> DecodedHalf
     ensures { result.half ≡ half }
 {
     operations_fit();
-    make_decoded(half, decode(half))
-}
-
-/// A halfword with its operation.
-pub fn make_decoded(half: u16, op: Option<ThumbOp>) -> DecodedHalf
-    requires operation { op ≡ operation half }
-    requires fits { IfSome op Fits }
-    ensures { result.half ≡ half }
-{
     DecodedHalf {
         half,
-        form: form_of_half(op),
+        form: form_of_half(decode(half)),
     }
 }
 

@@ -56,6 +56,3 @@ fn of_form(form: Form, half: u32) -> Option<ThumbOp>
         Form::Undefined => None,
     }
 }
-
-#[cfg(test)]
-mod tests;

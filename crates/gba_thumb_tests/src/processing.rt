@@ -7,7 +7,7 @@ use gba_thumb_exec::execute;
 type Case = (u32, u32, u32, u16, (u32, u32, u32, u32));
 
 // shifts by a constant, add and subtract, and numbers
-const NUMBERS: [Case; 15] = [
+static NUMBERS: [Case; 15] = [
     (
         0x3000_0030,
         9,
@@ -68,7 +68,7 @@ const NUMBERS: [Case; 15] = [
 ];
 
 // the sixteen operations on r0 and r1; a shift by a register costs one more, MUL as many as the old r0 asks
-const REGISTERS: [Case; 27] = [
+static REGISTERS: [Case; 27] = [
     (
         0x3000_0030,
         0xf0f0_f0f0,
@@ -204,14 +204,14 @@ fn after(status: u32, r0: u32, r1: u32, half: u16) -> ((u32, u32, u32, u32), u32
 
 #[test]
 fn shifts_and_numbers(rt: HostRuntime) {
-    for (status, r0, r1, half, want) in NUMBERS {
+    for &(status, r0, r1, half, want) in &NUMBERS {
         assert_eq!(rt; after(status, r0, r1, half), (want, 2), "{half:x}");
     }
 }
 
 #[test]
 fn operations_on_two_registers(rt: HostRuntime) {
-    for (status, r0, r1, half, want) in REGISTERS {
+    for &(status, r0, r1, half, want) in &REGISTERS {
         assert_eq!(rt; after(status, r0, r1, half), (want, 2), "{half:x}");
     }
 }

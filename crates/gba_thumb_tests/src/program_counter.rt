@@ -7,7 +7,7 @@ use gba_thumb_exec::execute;
 // 02000004h and r14 03000041h.
 type Case = (u32, u32, u32, u16, (u32, u32, u32, u32, u32, u32));
 
-const HIGH_REGISTERS: [Case; 14] = [
+static HIGH_REGISTERS: [Case; 14] = [
     (
         0x0800_0000,
         9,
@@ -122,7 +122,7 @@ const HIGH_REGISTERS: [Case; 14] = [
     ),
 ];
 
-const ADDRESSES: [Case; 11] = [
+static ADDRESSES: [Case; 11] = [
     (
         0x0800_0000,
         9,
@@ -258,7 +258,7 @@ const ADDRESSES: [Case; 11] = [
     ),
 ];
 
-const BRANCHES: [Case; 12] = [
+static BRANCHES: [Case; 12] = [
     (
         0x0800_0000,
         9,
@@ -361,7 +361,7 @@ fn after(address: u32, r0: u32, r1: u32, half: u16) -> (u32, u32, u32, u32, u32,
 
 #[test]
 fn high_registers(rt: HostRuntime) {
-    for (address, r0, r1, half, want) in HIGH_REGISTERS {
+    for &(address, r0, r1, half, want) in &HIGH_REGISTERS {
         assert_eq!(rt;
             after(address, r0, r1, half),
             want,
@@ -372,7 +372,7 @@ fn high_registers(rt: HostRuntime) {
 
 #[test]
 fn addresses(rt: HostRuntime) {
-    for (address, r0, r1, half, want) in ADDRESSES {
+    for &(address, r0, r1, half, want) in &ADDRESSES {
         assert_eq!(rt;
             after(address, r0, r1, half),
             want,
@@ -383,7 +383,7 @@ fn addresses(rt: HostRuntime) {
 
 #[test]
 fn branches_and_traps(rt: HostRuntime) {
-    for (address, r0, r1, half, want) in BRANCHES {
+    for &(address, r0, r1, half, want) in &BRANCHES {
         assert_eq!(rt;
             after(address, r0, r1, half),
             want,

@@ -1,6 +1,6 @@
 //! Registers and memory before a halfword.
 
-use crate::Regions;
+use crate::regions::Regions;
 use gba_bus::{Bus, Width};
 use gba_psr::Registers;
 

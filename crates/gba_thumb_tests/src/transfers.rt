@@ -8,7 +8,7 @@ use gba_thumb_exec::execute;
 // r0 is A1B2C3D4h and r14 03000041h; the word is at the address that stands after the halfword.
 type Case = (u32, u32, u32, u16, u32, (u32, u32, u32, u32, u32, u32));
 
-const SINGLES: [Case; 18] = [
+static SINGLES: [Case; 18] = [
     (
         0x0200_0000,
         5,
@@ -155,7 +155,7 @@ const SINGLES: [Case; 18] = [
     ),
 ];
 
-const BLOCKS: [Case; 16] = [
+static BLOCKS: [Case; 16] = [
     (
         0,
         0,
@@ -310,7 +310,7 @@ fn after(
 
 #[test]
 fn single_transfers(rt: HostRuntime) {
-    for (r1, r2, r13, half, place, want) in SINGLES {
+    for &(r1, r2, r13, half, place, want) in &SINGLES {
         assert_eq!(rt;
             after((r1, r2), r13, half, place),
             (want, 0x3000_0030),
@@ -321,7 +321,7 @@ fn single_transfers(rt: HostRuntime) {
 
 #[test]
 fn stacks_and_blocks(rt: HostRuntime) {
-    for (r1, r2, r13, half, place, want) in BLOCKS {
+    for &(r1, r2, r13, half, place, want) in &BLOCKS {
         assert_eq!(rt;
             after((r1, r2), r13, half, place),
             (want, 0x3000_0030),

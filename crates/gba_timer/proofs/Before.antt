@@ -1,6 +1,7 @@
 -- The cycles before an event.
 use Rattle.std.proofs.Common.{◌≡◌, ℕ, zero, suc, ◌+◌, ◌-◌, ◌<◌, ◌≤◌, Bool, true, false, refl, ap, sym, ◌∙◌, arith}
 use Rattle.std.specs.Prelude.{◌||◌, min, nat_le}
+use Rattle.gba_register.proofs.Before as steps
 use Rattle.gba_timer.specs.Timers.{FourTimers, after_cycles, cycle}
 use Rattle.gba_timer.specs.Quiet.{CountsBefore, cycles_before}
 
@@ -9,35 +10,28 @@ unfolding after_cycles
 after_cycles-inside zero ts = refl
 after_cycles-inside (suc count) ts = ap cycle (after_cycles-inside count ts)
 
+is_after : steps.IsAfter FourTimers cycle after_cycles
+unfolding after_cycles
+is_after = record { none = λ ts. refl; more = λ count ts. sym (after_cycles-inside count ts) }
+
 -- so many cycles without the event, and then one with it or the last
 pub before-is : (event : FourTimers → Bool) (most count : ℕ) (ts : FourTimers) → count ≤ most
     → ((k : ℕ) → k < count → event (after_cycles k ts) ≡ false)
     → (count < most → event (after_cycles count ts) ≡ true)
     → cycles_before event most ts ≡ count
-unfolding cycles_before after_cycles
-before-is event zero zero ts within silent next = refl
-before-is event zero (suc count) ts within silent next = absurd (omega (arith, within))
-before-is event (suc most) zero ts within silent next = rw (next (omega arith)) refl
-before-is event (suc most) (suc count) ts within silent next =
-    let later =
-    before-is event most count (cycle ts) (omega (arith, within))
-    (λ k small. ap event (after_cycles-inside k ts) ∙ silent (suc k) (omega (arith, small)))
-    (λ small. ap event (after_cycles-inside count ts) ∙ next (omega (arith, small))) in
-    rw (silent 0 (omega arith)) (ap suc later)
+before-is event most count ts within silent next =
+    steps.before-is cycle after_cycles is_after event most count ts within silent next
 
 before-now : (event : FourTimers → Bool) (most : ℕ) (ts : FourTimers) → event ts ≡ true
     → cycles_before event (suc most) ts ≡ 0
-unfolding cycles_before
-before-now event most ts e = rw e refl
+before-now event most ts e = steps.before-now cycle event most ts e
 
 before-later : (event : FourTimers → Bool) (most : ℕ) (ts : FourTimers) → event ts ≡ false
     → cycles_before event (suc most) ts ≡ suc (cycles_before event most (cycle ts))
-unfolding cycles_before
-before-later event most ts e = rw e refl
+before-later event most ts e = steps.before-later cycle event most ts e
 
 pub before-none : (event : FourTimers → Bool) (ts : FourTimers) → cycles_before event 0 ts ≡ 0
-unfolding cycles_before
-before-none event ts = refl
+before-none event ts = steps.before-none cycle event ts
 
 most_by : (event : FourTimers → Bool) (most : ℕ) (ts : FourTimers) (now : Bool) → event ts ≡ now
     → cycles_before event most ts ≤ most
@@ -51,36 +45,13 @@ most_by event (suc most) ts false e =
 pub before-most : (event : FourTimers → Bool) (most : ℕ) (ts : FourTimers) → cycles_before event most ts ≤ most
 before-most event most ts = most_by event most ts (event ts) refl
 
-silent_by : (event : FourTimers → Bool) (most count : ℕ) (ts : FourTimers) (now : Bool) → event ts ≡ now
-    → count < cycles_before event most ts → event (after_cycles count ts) ≡ false
-unfolding after_cycles
-silent_by event zero count ts now e h = (let none = before-none event ts in absurd (omega (arith, none, h)))
-silent_by event (suc most) count ts true e h = (let none = before-now event most ts e in absurd (omega (arith, none, h)))
-silent_by event (suc most) zero ts false e h = e
-silent_by event (suc most) (suc count) ts false e h =
-    let later = before-later event most ts e in
-    ap event (sym (after_cycles-inside count ts))
-    ∙ silent_by event most count (cycle ts) (event (cycle ts)) refl (omega (arith, later, h))
-
 pub before-silent : (event : FourTimers → Bool) (most count : ℕ) (ts : FourTimers) → count < cycles_before event most ts
     → event (after_cycles count ts) ≡ false
-before-silent event most count ts h = silent_by event most count ts (event ts) refl h
-
-next_by : (event : FourTimers → Bool) (most : ℕ) (ts : FourTimers) (now : Bool) → event ts ≡ now
-    → cycles_before event most ts < most → event (after_cycles (cycles_before event most ts) ts) ≡ true
-unfolding after_cycles
-next_by event zero ts now e h = absurd (omega (arith, h))
-next_by event (suc most) ts true e h = ap (λ n. event (after_cycles n ts)) (before-now event most ts e) ∙ e
-next_by event (suc most) ts false e h =
-    let later = before-later event most ts e in
-    let rest = cycles_before event most (cycle ts) in
-    ap (λ n. event (after_cycles n ts)) later
-    ∙ ap event (sym (after_cycles-inside rest ts))
-    ∙ next_by event most (cycle ts) (event (cycle ts)) refl (omega (arith, later, h))
+before-silent event most count ts h = steps.before-silent cycle after_cycles is_after event most count ts h
 
 pub before-next : (event : FourTimers → Bool) (most : ℕ) (ts : FourTimers) → cycles_before event most ts < most
     → event (after_cycles (cycles_before event most ts) ts) ≡ true
-before-next event most ts h = next_by event most ts (event ts) refl h
+before-next event most ts h = steps.before-next cycle after_cycles is_after event most ts h
 
 pub neither : (one other : Bool) → one ≡ false → other ≡ false → (one || other) ≡ false
 neither false false here there = refl

@@ -1,12 +1,12 @@
-use Rattle.std.specs.Prelude.{◌≡◌, ℕ, zero, suc, ◌<◌, ◌≤◌, ◌==◌, Bool, true, false, ◌||◌, min, if◌then◌else◌}
+use Rattle.std.specs.Prelude.{◌≡◌, ℕ, ◌<◌, ◌≤◌, ◌==◌, Bool, true, false, ◌||◌, min, if◌then◌else◌}
+use Rattle.gba_register.specs.Before.{steps_before}
 use Rattle.gba_timer.specs.Timers.{FourTimers, after_cycles, cycle, overflow0, overflow1, overflow2, overflow3, overflow_mark}
 
 -- For how many cycles nothing comes, if nothing is written. An event is what a cycle has or hasn't, as an overflow.
 
 -- of so many cycles, those before the first one that has an event
-unfoldable pub cycles_before : (FourTimers → Bool) → ℕ → FourTimers → ℕ
-cycles_before event zero ts = 0
-cycles_before event (suc most) ts = if event ts then 0 else suc (cycles_before event most (cycle ts))
+abbrev pub cycles_before : (FourTimers → Bool) → ℕ → FourTimers → ℕ
+cycles_before event most ts = steps_before cycle event most ts
 
 -- whether a timer by its number overflows in a cycle, 3 for any above, and whether any does
 abbrev pub overflow_at : ℕ → FourTimers → Bool

@@ -8,8 +8,6 @@ ghost use Rattle.gba_word.specs.Extension.{sign_extension};
 mod kinds;
 mod shifter;
 mod sums;
-#[cfg(test)]
-mod tests;
 
 pub use kinds::Shift;
 pub use shifter::{rotate, rotate_immediate, shift, shift_fixed, shift_within};

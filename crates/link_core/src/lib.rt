@@ -7,6 +7,7 @@
 mod burst;
 mod cut;
 mod horizon;
+mod lists;
 mod nodes;
 mod shell;
 mod signals;
@@ -15,4 +16,6 @@ pub use cut::{Cut, CutRefused};
 pub use horizon::{Seen, may_step};
 pub use link_laws as laws;
 pub use link_order::Sent;
+pub use lists::keep;
 pub use shell::Shell;
+pub use signals::index_of_due;

@@ -39,8 +39,8 @@ fn index_of_sent(list: &[Sent], one: &Sent) -> usize
     list.len()
 }
 
-/// The index at which a due signal stands in the order of arrivals, then of senders.
-fn index_of_due(list: &[Incoming], one: &Incoming) -> usize
+/// The index at which a due signal stands in a list that is in the order of arrivals, then of senders.
+pub fn index_of_due(list: &[Incoming], one: &Incoming) -> usize
     ensures within { result ≤ length list.now }
     ensures placed { insert list.now result one.now ≡ place_due one.now list.now }
 {

@@ -2,13 +2,12 @@
 //! What waits for a console: signals by arrival, then by sender, with room for all that can be unread.
 
 ghost use Rattle.std.specs.Prelude.{ℕ, false, ◌≡◌, ◌+◌, ◌-◌, ◌<◌, ◌≤◌, ◌++◌, ◌∷◌, [], length, take, drop, IfOk};
-ghost use Rattle.std.specs.List.{insert};
 ghost use Rattle.std.specs.Vec.{vec_len, vec_capacity};
-ghost use Rattle.link_order.specs.Order.{is_before};
-ghost use Rattle.link_order.specs.Due.{arrival_of, player_of, place_due};
+ghost use Rattle.link_order.specs.Due.{place_due};
 ghost use Rattle.link_inbox.specs.Waiting.{has_arrived, next_arrival, arrived, later};
 
 use circular_buffer::HeapCircularBuffer;
+use link_core::index_of_due;
 use link_node::Incoming;
 use std::alloc::{AllocError, Global};
 use std::marker::Model;
@@ -36,26 +35,6 @@ impl Model for Inbox {
         (b.waits.capacity ≡ 16384) × (length b.waits.items ≤ 16384) × (16384 ≤ vec_capacity b.due) };
 }
 
-/// Whether a signal stands before another.
-fn is_due_before(one: &Incoming, other: &Incoming) -> bool
-    ensures { result ≡ is_before arrival_of player_of one.now other.now }
-{
-    one.arrival < other.arrival || (one.arrival == other.arrival && one.sender < other.sender)
-}
-
-/// The index at which a signal stands among others.
-fn index_of(list: &[Incoming], one: &Incoming) -> usize
-    ensures within { result ≤ length list.now }
-    ensures placed { insert list.now result one.now ≡ place_due one.now list.now }
-{
-    for (i, other) in list.iter().enumerate() {
-        if is_due_before(one, other) {
-            return i;
-        }
-    }
-    list.len()
-}
-
 /// Puts the last signal of a list in its place among the others.
 fn settle(list: &mut [Incoming])
     requires { 0 < length list.old }
@@ -63,7 +42,7 @@ fn settle(list: &mut [Incoming])
 {
     let last = list.len() - 1;
     let one = list[last];
-    let index = index_of(&list[..last], &one);
+    let index = index_of_due(&list[..last], &one);
     list[index..].rotate_right(1);
 }
 

@@ -7,3 +7,4 @@ pub mod Wholes
 pub mod Finishings
 pub mod Beginnings
 pub mod Roundings
+pub mod Stretches

@@ -1,6 +1,6 @@
 //! Lanes side by side.
 
-ghost use Rattle.std.specs.Prelude.{◌≤◌, length, All};
+ghost use Rattle.std.specs.Prelude.{◌<◌, ◌≤◌, length, All};
 ghost use Rattle.link_order.specs.NodeKind.{kind_of};
 ghost use Rattle.link_run.specs.Going.{MayGo, Went, AllWent};
 
@@ -14,61 +14,87 @@ use std::{hint, thread};
 /// How often a lane looks at all its peers before it waits for one of them.
 const POLLS: u32 = 1;
 
-/// How often it looks at the clock of the one that it waits for.
-const LOOKS: u32 = 1024;
+/// How often a lane lets other threads go first until all lanes have begun.
+const TURNS: u32 = 4096;
 
-/// How many of these looks come before it lets other threads go first.
-const SPINS: u32 = 16;
+/// The most looks in vain that a lane may have left. One takes some 20 ns.
+const MOST: u64 = 1 << 19;
 
-/// How often it waits in one pause, where each time the peer goes on, but not far enough.
-const ATTEMPTS: u32 = 1024;
+/// So many cycles that the other lanes make beside it give a lane one more look.
+const CYCLES: u64 = 12;
 
-/// What all lanes of a round share.
+/// What all lanes of a round share: how many they are, the clock to which each one comes by itself, and how many looks in
+/// vain each one has at first.
 #[derive(Drop)]
 pub(crate) struct Work<'a, R, N: Node, G> {
     pub rt: &'a R,
     pub shared: &'a Shared<N>,
     pub gate: &'a G,
     pub until: u64,
+    pub lanes: u32,
+    pub meeting: u64,
+    pub looks: u64,
 }
 
-/// Waits until the peer for which a lane has stopped goes on, and answers whether it did.
-fn wait<N: Node>(shared: &Shared<N>, pause: Pause) -> bool {
-    let Pause::Blocked { peer, seen } = pause else {
-        return true;
-    };
-    for look in 0..LOOKS {
-        if shared.clock_of(peer) != Some(seen) {
-            return true;
+/// Whether each of so many lanes has come to a clock.
+fn have_come<N: Node>(shared: &Shared<N>, lanes: u32, clock: u64) -> bool {
+    (0..lanes).all(|player| match shared.clock_of(player) {
+        Some(now) => clock <= now,
+        None => true,
+    })
+}
+
+/// Lets other threads go first until all lanes have come to the clock to which each one comes by itself.
+fn meet<R, N: Node, G>(work: &Work<R, N, G>) {
+    for _turn in 0..TURNS {
+        if have_come(work.shared, work.lanes, work.meeting) {
+            return;
         }
-        if look < SPINS {
-            hint::spin_loop();
-        } else {
-            thread::yield_now();
-        }
+        thread::yield_now();
     }
-    false
 }
 
-/// Lets a lane advance to the end, or till it has waited long enough for its peers: 1,024 times for one that goes on, and
-/// half as often after each time that it doesn't.
+/// Waits until the peer for which a lane has stopped goes on, for at most so many looks. It answers how many are left.
+fn wait<N: Node>(shared: &Shared<N>, pause: Pause, looks: u64) -> u64
+    requires some { 0 < looks }
+    ensures fewer { result < looks }
+{
+    let Pause::Blocked { peer, seen } = pause else {
+        return looks - 1;
+    };
+    let mut left = looks - 1;
+    while left > 0 && shared.clock_of(peer) == Some(seen) {
+        hint::spin_loop();
+        left -= 1;
+    }
+    left
+}
+
+/// The looks that a lane has left after so many cycles, beside which each other one of so many lanes makes as many.
+fn earn(looks: u64, cycles: u64, lanes: u32) -> u64
+    ensures most { result ≤ 524288 }
+{
+    let others = cycles.saturating_mul(u64::from(lanes.saturating_sub(1)));
+    looks.saturating_add(others / CYCLES).min(MOST)
+}
+
+/// Lets a lane advance to the end, or till it has no look left.
 fn go<R, N: Node, G: Gate>(work: &Work<R, N, G>, lane: &mut Lane<N>)
     requires { MayGo work.now.shared.now work.now.until lane.old }
     ensures { Went (kind_of N.clock N.was N.next) N.plain N.bound work.now.until lane.old lane.new }
 {
     let mut pause = lane.advance(work.shared, work.gate, work.until, POLLS);
+    meet(work);
     let mut clock = lane.clock();
-    let mut left = ATTEMPTS;
-    while left > 1 && clock < work.until {
-        let less = if wait(work.shared, pause) {
-            left - 1
-        } else {
-            left / 2
-        };
+    let mut left = work.looks.min(MOST);
+    while left > 0 && clock < work.until {
+        left = wait(work.shared, pause, left);
         pause = lane.advance(work.shared, work.gate, work.until, POLLS);
         let now = lane.clock();
-        left = if now > clock { ATTEMPTS } else { less };
-        clock = clock.max(now);
+        if now > clock {
+            left = earn(left, now - clock, work.lanes);
+            clock = now;
+        }
     }
 }
 

@@ -9,26 +9,13 @@ ghost use Rattle.link_order.specs.Due.{incoming, place_due, waiting};
 ghost use Rattle.link_run.specs.Rounds.{node_of, seat_of_lane};
 ghost use Rattle.link_run.specs.Opening.{CanOpen, CanOpenAll};
 
-use link_core::Sent;
+use link_core::{Sent, keep};
 use link_inbox::Inbox;
 use link_lane::{Lane, LaneParts, LaneRefused};
 use link_node::{Incoming, Node};
 use link_order::hop;
 use link_table::Seat;
 use std::alloc::{AllocError, Global};
-
-/// Puts a value behind the others of a list that has room for it.
-pub(crate) fn keep<T>(list: &mut Vec<T>, one: T)
-    requires { vec_len list.old < vec_capacity list.old }
-    ensures items { list.new.items ≡ list.old.items ++ one ∷ [] }
-    ensures room { vec_capacity list.old ≤ vec_capacity list.new }
-    ensures len { vec_len list.new ≡ vec_len list.old + 1 }
-{
-    match list.push(one) {
-        Ok(()) => {}
-        Err(_) => unreachable!(),
-    }
-}
 
 /// Puts a sent signal among those that wait for a player, where it can still take it.
 fn put_one(inbox: &mut Inbox, one: &Sent, delay: u64, player: u32, was: u64)

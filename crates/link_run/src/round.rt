@@ -9,8 +9,8 @@ ghost use Rattle.link_run.specs.Rounds.{node_of, seat_of_lane, waits_of, AreLane
 ghost use Rattle.link_run.specs.Round.{IsRound, Begins};
 
 use crate::gather::{add_all_waiting, add_rests};
-use crate::opening::{Opened, keep, open_lanes};
-use link_core::{Cut, Shell};
+use crate::opening::{Opened, open_lanes};
+use link_core::{Cut, Shell, keep};
 use link_lane::{Lane, LaneParts};
 use link_node::{Incoming, Node};
 use link_table::{Seat, Shared};

@@ -127,8 +127,9 @@ fn a_thousand_schedules_come_to_one_cut(rt: HostRuntime) -> Result<(), Fail> {
             )?);
         }
     }
+    // the first step of each of the eighteen lanes whose delay is no shorter than that at which lanes are tried
     assert!(rt;
-        entries > 10_000,
+        entries >= 1_800,
         "the gate is entered before the steps of lanes"
     );
     Ok(())

@@ -1,5 +1,5 @@
 -- What the store of a clock word asks of the table, and what it makes of the seat.
-use Rattle.std.specs.Prelude.{[], length, Option, None, Some, IsSome}
+use Rattle.std.specs.Prelude.{[], length, Option, None, IsSome}
 use Rattle.std.specs.Prelude.{false, if◌then◌else◌, option_to_list}
 use Rattle.std.proofs.Common.{ℕ, ◌≡◌, ◌+◌, ◌%◌, ◌<◌, ◌≤◌, ◌^◌, arith, refl, sym, ap, ◌∙◌, subst, inl, inr}
 use Rattle.std.proofs.lemmas.Bool.{cases_Bool}
@@ -10,7 +10,6 @@ use mir.Val.{bool_byte}
 use Rattle.atomic_table.specs.Table.{Allows, step}
 use Rattle.link_node.specs.declared.signal.Signal.{Signal}
 use Rattle.link_order.specs.NodeKind.{NodeKind}
-use Rattle.link_order.specs.Way.{Move}
 use Rattle.link_script.specs.Script.{Script, now, sent, IsSoundMove}
 use Rattle.link_script.proofs.Scripts.{sent_small, sent_next}
 use Rattle.link_rule.specs.declared.view.Peer.{Peer}

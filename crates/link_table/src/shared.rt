@@ -87,6 +87,8 @@ impl<N: Node> Shared<N> {
         ensures clock { result.clock < 2 ^ 40 }
         ensures widths { FitsWidths result }
     {
+        // Reading a field opens the seat to the proof: by its invariant a table has at most four players, and so a peer
+        // is below 4.
         let _ = &seat.taken;
         let place = ring_place(peer, index);
         let head = self

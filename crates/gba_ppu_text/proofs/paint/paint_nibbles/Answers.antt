@@ -1,4 +1,4 @@
-use Rattle.std.proofs.Common.{◌*◌, ◌∙◌, slice_index, arith}
+use Rattle.std.proofs.Common.{◌*◌, slice_index, arith}
 use Rattle.gba_terms.specs.Bits.{field}
 use Rattle.gba_ppu_text.specs.Text.{mirrored}
 use Rattle.gba_ppu_dot.proofs.Lists.{place_kept, place_more}

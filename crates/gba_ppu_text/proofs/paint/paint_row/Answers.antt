@@ -1,7 +1,6 @@
-use Rattle.std.proofs.Common.{◌≡◌, ◌<◌, ◌+◌, ◌-◌, ◌*◌, ◌%◌, sym, ap, ◌∙◌, arith}
+use Rattle.std.proofs.Common.{◌≡◌, ◌<◌, ◌+◌, ◌-◌, ◌*◌, ◌%◌, sym, ◌∙◌, arith}
 use Rattle.std.proofs.lemmas.Simd.{get_or-chunk}
 use Rattle.gba_terms.specs.Bits.{field}
-use Rattle.gba_ppu_text.specs.Paint.{number_paint}
 use Rattle.gba_ppu_text.specs.Text.{mirrored}
 use Rattle.gba_ppu_text.proofs.Paints.{bytes_seen, nibble_is, nibbles_seen}
 use Rattle.gba_ppu_text.proofs.paint.paint_row.Goals as goal

@@ -7,13 +7,8 @@ use Rattle.link_order.specs.GlobalOrder.{least}
 use Rattle.link_core.proofs.Keeping.{all_done, run_over, limits_stay}
 use Rattle.link_run.proofs.run.run_to.Goals as goal
 
-pub run_serial-requires : goal.run_serial-requires
-run_serial-requires g c =
-    limits_stay g.N.Node.bound c.loop-alloc.cut.consoles c.args.cut.consoles c.args.until c.loop-alloc.invariant.limits
-    c.requires
-
-pub go_round-cut-requires-after_bounds : goal.go_round-cut-requires-after_bounds
-go_round-cut-requires-after_bounds g c κs within = (
+pub go_on-cut-requires-after_bounds : goal.go_on-cut-requires-after_bounds
+go_on-cut-requires-after_bounds g c κs within = (
   c.loop-alloc.cut,
   c.in-Ok.ensures.made,
   limits_stay g.N.Node.bound c.loop-alloc.cut.consoles c.args.cut.consoles c.args.until c.loop-alloc.invariant.limits
@@ -26,13 +21,13 @@ loop-alloc-smaller g c =
     let p : Cut g.N.Node.Record = plain_cut g.N.Node.plain c.loop-alloc.cut in
     let early : clock_at kind p (least kind p) < c.args.until
     = subst (λ (n : ℕ). n < c.args.until) c.least_clock.ensures.value c.loop-alloc-test.true in
-    (c.go_round-cut.ensures c.loop-alloc.cut c.in-Ok.ensures.made
+    (c.go_on-cut.ensures c.loop-alloc.cut c.in-Ok.ensures.made
     (limits_stay g.N.Node.bound c.loop-alloc.cut.consoles c.args.cut.consoles c.args.until c.loop-alloc.invariant.limits
     c.requires)).fewer early
 
 pub loop-alloc-preserved : goal.loop-alloc-preserved
 loop-alloc-preserved g c =
-    let nearer = c.go_round-cut.ensures c.loop-alloc.cut c.in-Ok.ensures.made
+    let nearer = c.go_on-cut.ensures c.loop-alloc.cut c.in-Ok.ensures.made
     (limits_stay g.N.Node.bound c.loop-alloc.cut.consoles c.args.cut.consoles c.args.until c.loop-alloc.invariant.limits
     c.requires) in
     record {

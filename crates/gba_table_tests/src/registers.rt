@@ -1,11 +1,13 @@
-use crate::*;
+//! Registers, their banks and status registers by hand.
 
-const MODES: [u32; 7] = [0x10, 0x11, 0x12, 0x13, 0x17, 0x1b, 0x1f];
+use gba_psr::*;
+
+static MODES: [u32; 7] = [0x10, 0x11, 0x12, 0x13, 0x17, 0x1b, 0x1f];
 
 // Registers into which each mode in the order above wrote its number and the register's.
 fn written_from_each_mode() -> Registers {
     let mut registers = Registers::reset();
-    for mode in MODES {
+    for &mode in &MODES {
         registers.set_cpsr(mode);
         for number in 0..16 {
             registers.set(number, mode * 0x100 + number);
@@ -18,7 +20,7 @@ fn written_from_each_mode() -> Registers {
 #[test]
 fn each_mode_sees_its_bank(rt: HostRuntime) {
     let mut registers = written_from_each_mode();
-    for (mode, r7, r8, r12, r13, r14, r15) in [
+    for &(mode, r7, r8, r12, r13, r14, r15) in &[
         (0x10, 0x1f07, 0x1f08, 0x1f0c, 0x1f0d, 0x1f0e, 0x1f0f),
         (0x11, 0x1f07, 0x1108, 0x110c, 0x110d, 0x110e, 0x1f0f),
         (0x12, 0x1f07, 0x1f08, 0x1f0c, 0x120d, 0x120e, 0x1f0f),
@@ -42,7 +44,7 @@ fn each_mode_sees_its_bank(rt: HostRuntime) {
 #[test]
 fn the_37_numbers_stand_in_order(rt: HostRuntime) {
     let mut registers = written_from_each_mode();
-    for mode in MODES {
+    for &mode in &MODES {
         registers.set_cpsr(mode);
         registers.set_spsr(0x4000_0000 + mode);
     }
@@ -95,7 +97,7 @@ fn the_37_numbers_stand_in_order(rt: HostRuntime) {
 // The number written in SVC, and what CPSR and SPSR are then.
 #[test]
 fn status_registers_keep_their_bits(rt: HostRuntime) {
-    for (value, cpsr, spsr) in [
+    for &(value, cpsr, spsr) in &[
         (0x0000_0033, 0x0000_0033, 0x0000_0033),
         (0x0000_0014, 0x0000_0013, 0x0000_0014),
         (0x0000_0000, 0x0000_0013, 0x0000_0000),
@@ -126,7 +128,7 @@ fn status_registers_keep_their_bits(rt: HostRuntime) {
 
 #[test]
 fn flags_are_the_top_four_bits(rt: HostRuntime) {
-    for (status, negative, zero, carry, overflow) in [
+    for &(status, negative, zero, carry, overflow) in &[
         (0x8000_00d3, true, false, false, false),
         (0x4000_0010, false, true, false, false),
         (0x2000_0011, false, false, true, false),
@@ -151,7 +153,7 @@ fn flags_are_the_top_four_bits(rt: HostRuntime) {
 // The exception, its link, CPSR before it, CPSR in it and r15.
 #[test]
 fn exceptions_enter_and_leave(rt: HostRuntime) {
-    for (kind, link, before, inside, counter) in [
+    for &(kind, link, before, inside, counter) in &[
         (Exception::Undefined, 0x4, 0xd3, 0xdb, 0x4),
         (
             Exception::Software,

@@ -1,7 +1,9 @@
-use crate::*;
+//! Arithmetic of words by hand, from the equations of the ARM Architecture Reference Manual.
+
+use gba_word::*;
 
 // What the ARM manual's equations give, by hand: kind, word, amount, shifted word, carry out. The carry in doesn't count.
-const SHIFTS: [(Shift, u32, u8, u32, bool); 56] = [
+static SHIFTS: [(Shift, u32, u8, u32, bool); 56] = [
     (Shift::Lsl, 0x8000_0001, 1, 0x0000_0002, true),
     (Shift::Lsl, 0x8000_0001, 31, 0x8000_0000, false),
     (Shift::Lsl, 0x8000_0001, 32, 0, true),
@@ -61,7 +63,7 @@ const SHIFTS: [(Shift, u32, u8, u32, bool); 56] = [
 ];
 
 // The same for a written amount of 0, which some kinds read otherwise: kind, word, carry in, shifted word, carry out.
-const WRITTEN_ZEROS: [(Shift, u32, bool, u32, bool); 10] = [
+static WRITTEN_ZEROS: [(Shift, u32, bool, u32, bool); 10] = [
     (Shift::Lsl, 0x8000_0001, false, 0x8000_0001, false),
     (Shift::Lsl, 0x8000_0001, true, 0x8000_0001, true),
     (Shift::Lsr, 0x8000_0001, false, 0, true),
@@ -76,7 +78,7 @@ const WRITTEN_ZEROS: [(Shift, u32, bool, u32, bool); 10] = [
 
 #[test]
 fn shifts_by_registers_and_numbers(rt: HostRuntime) {
-    for (kind, word, amount, shifted, out) in SHIFTS {
+    for &(kind, word, amount, shifted, out) in &SHIFTS {
         for carry in [false, true] {
             assert_eq!(rt;
                 shift(kind, word, amount, carry),
@@ -101,7 +103,7 @@ fn shifts_by_registers_and_numbers(rt: HostRuntime) {
 
 #[test]
 fn shifts_by_zero(rt: HostRuntime) {
-    for (kind, word, carry, shifted, out) in WRITTEN_ZEROS {
+    for &(kind, word, carry, shifted, out) in &WRITTEN_ZEROS {
         assert_eq!(rt;
             shift(kind, word, 0, carry),
             (word, carry),
@@ -151,7 +153,7 @@ fn sums_at_the_edges(rt: HostRuntime) {
 
 #[test]
 fn fields_signs_and_turned_bytes(rt: HostRuntime) {
-    for (value, width, want) in [
+    for &(value, width, want) in &[
         (0x80, 8, 0xffff_ff80),
         (0x7f, 8, 0x7f),
         (0x1280, 8, 0xffff_ff80),
@@ -166,7 +168,7 @@ fn fields_signs_and_turned_bytes(rt: HostRuntime) {
             "{value:x} from {width} bits"
         );
     }
-    for (value, turn, carry, want, out) in [
+    for &(value, turn, carry, want, out) in &[
         (0xff, 0, false, 0xff, false),
         (0xff, 0, true, 0xff, true),
         (0xff, 1, false, 0xc000_003f, true),

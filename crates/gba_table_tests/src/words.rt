@@ -1,5 +1,6 @@
-use super::*;
-use crate::operation::ArmOp as Op;
+//! ARM words and their operations by hand, from the diagrams of the ARM Architecture Reference Manual.
+
+use gba_arm_table::{ArmOp as Op, *};
 use gba_word::Shift;
 use std::process::Abort;
 

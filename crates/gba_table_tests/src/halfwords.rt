@@ -1,11 +1,12 @@
-use super::*;
-use crate::operation::ThumbOp as Op;
+//! Thumb halfwords and their operations: all of them against a second reading of the formats, and some by hand.
+
 use gba_arm_table::EncodeError;
+use gba_thumb_table::{ThumbOp as Op, *};
 use std::process::Abort;
 
 // The formats once more, each drawn from bit 15 down, in the order in which they are tried. A run of one
 // letter is a field; `.` is any bit.
-const PATTERNS: [(u32, &[u8; 16]); 20] = [
+static PATTERNS: [(u32, &[u8; 16]); 20] = [
     (2, b"00011ioxxxsssddd"),
     (1, b"000oonnnnnsssddd"),
     (3, b"001oodddnnnnnnnn"),
@@ -56,7 +57,7 @@ fn letter(half: u16, pattern: &[u8; 16], letter: u8) -> u16 {
 
 /// The operation of a halfword by the patterns alone.
 fn plain_reading(half: u16) -> Option<Op> {
-    for (format, pattern) in PATTERNS {
+    for &(format, pattern) in &PATTERNS {
         if has_pattern(half, pattern) {
             return operation_by_letters(format, half, pattern);
         }
@@ -414,7 +415,7 @@ fn worked_halfwords_agree(rt: HostRuntime) {
         assert_eq!(rt; decode(half), Some(op), "the halfword {half:#06x}");
         assert_eq!(rt; encode(&op), Ok(half), "the operation {op:?}");
     }
-    for half in [
+    for &half in &[
         0xB100u16, 0xB3FF, 0xB600, 0xB800, 0xBBFF, 0xBE00, 0xBFFF, 0xDE00, 0xDEFF, 0xE800, 0xEFFF,
     ] {
         assert_eq!(rt; decode(half), None, "the halfword {half:#06x}");

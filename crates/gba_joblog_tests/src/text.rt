@@ -1,10 +1,12 @@
-use crate::*;
+//! Lines, words and numbers of texts.
+
+use gba_text::*;
 use std::test::Fail;
 
 // Each line without its end, and whether the text's lines are just these.
 #[test]
 fn lines_end_at_lf_cr_lf_and_the_end(rt: HostRuntime) {
-    let cases: [(&[u8], &[&[u8]]); 11] = [
+    static CASES: [(&[u8], &[&[u8]]); 11] = [
         (b"", &[]),
         (b"\n", &[b""]),
         (b"\r\n", &[b""]),
@@ -17,7 +19,7 @@ fn lines_end_at_lf_cr_lf_and_the_end(rt: HostRuntime) {
         (b"# \xff\x00\n\n", &[b"# \xff\x00", b""]),
         (b" x \r\n\ty", &[b" x ", b"\ty"]),
     ];
-    for (text, want) in cases {
+    for &(text, want) in &CASES {
         let mut cursor = Cursor::new(text);
         let mut number = 0u64;
         for line in want {
@@ -70,7 +72,7 @@ fn refused<T>(line: u64, kind: TextKind) -> Result<T, TextError> {
 
 #[test]
 fn words_are_parted_by_spaces_and_tabs(rt: HostRuntime) {
-    let cases: [(&[u8], &[&[u8]]); 6] = [
+    static CASES: [(&[u8], &[&[u8]]); 6] = [
         (b"", &[]),
         (b" \t ", &[]),
         (b"a", &[b"a"]),
@@ -78,7 +80,7 @@ fn words_are_parted_by_spaces_and_tabs(rt: HostRuntime) {
         (b"a  b\t\tc \t~!#;\"", &[b"a", b"b", b"c", b"~!#;\""]),
         (b"# a", &[b"#", b"a"]),
     ];
-    for (text, want) in cases {
+    for &(text, want) in &CASES {
         assert!(rt; has_words(text, want), "of {text:?}");
     }
 }
@@ -109,7 +111,7 @@ fn long_lines_and_other_bytes_are_refused(rt: HostRuntime) -> Result<(), Fail> {
 
 #[test]
 fn numbers_have_1_to_20_digits_and_a_range(rt: HostRuntime) {
-    let cases: [(&[u8], u64, u64, Option<u64>); 15] = [
+    static CASES: [(&[u8], u64, u64, Option<u64>); 15] = [
         (b"0", 0, u64::MAX, Some(0)),
         (b"7", 7, 7, Some(7)),
         (b"6", 7, 7, None),
@@ -126,7 +128,7 @@ fn numbers_have_1_to_20_digits_and_a_range(rt: HostRuntime) {
         (b"5a", 0, 99, None),
         (b"1_0", 0, 99, None),
     ];
-    for (text, least, most, want) in cases {
+    for &(text, least, most, want) in &CASES {
         let mut cursor = Cursor::new(text);
         assert!(rt; cursor.line().is_some());
         match want {
@@ -145,7 +147,7 @@ fn numbers_have_1_to_20_digits_and_a_range(rt: HostRuntime) {
 
 #[test]
 fn hexadecimal_numbers_have_just_so_many_digits(rt: HostRuntime) {
-    let cases: [(&[u8], u32, Option<u64>); 11] = [
+    static CASES: [(&[u8], u32, Option<u64>); 11] = [
         (b"3ff", 3, Some(0x3ff)),
         (b"3Ff", 3, Some(0x3ff)),
         (b"000", 3, Some(0)),
@@ -158,7 +160,7 @@ fn hexadecimal_numbers_have_just_so_many_digits(rt: HostRuntime) {
         (b"ffffffffffffffff", 16, Some(u64::MAX)),
         (b"0123456789ABCDEF", 16, Some(0x0123_4567_89ab_cdef)),
     ];
-    for (text, digits, want) in cases {
+    for &(text, digits, want) in &CASES {
         let mut cursor = Cursor::new(text);
         assert!(rt; cursor.line().is_some());
         match want {
@@ -211,7 +213,7 @@ fn a_look_at_a_word_takes_nothing(rt: HostRuntime) {
 
 #[test]
 fn refusals_print_line_and_cause(rt: HostRuntime) -> Result<(), Fail> {
-    for (kind, want) in [
+    for &(kind, want) in &[
         (TextKind::Byte, "line 3: a byte that may not stand there"),
         (TextKind::Missing, "line 3: a word is missing"),
         (TextKind::Number, "line 3: no number in the range"),
