@@ -583,9 +583,9 @@ copy_end:
 
 ; 0B CpuSet: the bits 0 to 20 of r2 are a number of halfwords, or of words where bit 26 is set; bit 24 asks for a fill
 ; by the source's first one. Units are copied from the first to the last: an overlapping target repeats the source.
-; Memories are copied by blocks of words where that makes no difference, registers and the SRAM else. Some 100 cycles,
-; and for eight words of a memory 23 of a copy or 13 of a fill, for eight halfwords whose places in their words differ
-; 23, for a unit alone at most 7, and what their accesses cost above 1 each.
+; Memories are copied by blocks of words, which makes no difference to them; halfwords of registers and of the SRAM
+; one by one. Some 100 cycles, and for eight words of a memory 23 of a copy or 13 of a fill, for eight halfwords whose
+; places in their words differ 23, for a unit alone at most 7, and what their accesses cost above 1 each.
 copy_units:
         mov   r3, r2, lsl #11
         tst   r2, #0x04000000
