@@ -27,44 +27,43 @@ pub(crate) const ROOM: Room = Room {
     words: true,
 };
 
+/// A console with these images, whose keys change.
+fn console_of_images(
+    alloc: Global,
+    images: ConsoleImages,
+    keys: Vec<KeyState>,
+) -> Result<Console, Fail> {
+    Ok(Console::new(alloc, 0, 1, 512, images, keys, ROOM)?)
+}
+
 /// A console whose BIOS begins with these words, without a cartridge.
 pub(crate) fn console_of(alloc: Global, words: &[u32]) -> Result<Console, Fail> {
+    let bios = bios_of(alloc, words)?;
     let images = ConsoleImages {
-        bios: bios_of(alloc, words)?,
+        bios,
         cart: None,
         save: None,
     };
-    Ok(Console::new(alloc, 0, 1, 512, images, Vec::new(alloc), ROOM)?)
+    console_of_images(alloc, images, Vec::new(alloc))
 }
 
 /// The same, whose keys change.
 fn console_with_keys(alloc: Global, words: &[u32], keys: &[KeyState]) -> Result<Console, Fail> {
+    let changes = Vec::from_slice(alloc, keys)?;
+    let bios = bios_of(alloc, words)?;
     let images = ConsoleImages {
-        bios: bios_of(alloc, words)?,
+        bios,
         cart: None,
         save: None,
     };
-    Ok(Console::new(
-        alloc,
-        0,
-        1,
-        512,
-        images,
-        Vec::from_slice(alloc, keys)?,
-        ROOM,
-    )?)
+    console_of_images(alloc, images, changes)
 }
 
 /// A cartridge with these words from C0h up, and 0 elsewhere but in its header.
 fn cartridge_of(alloc: Global, words: &[u32]) -> Result<Cartridge, Fail> {
-    let mut bytes = Vec::new(alloc);
-    for place in 0..0xC0 {
-        bytes.push(match place {
-            0xB2 => 0x96,
-            0xBD => 0x51,
-            _ => 0,
-        })?;
-    }
+    let mut bytes = vec![in alloc; 0; 0xC0]?;
+    bytes[0xB2] = 0x96;
+    bytes[0xBD] = 0x51;
     for word in words {
         bytes.extend_from_slice(&word.to_le_bytes())?;
     }
@@ -73,12 +72,14 @@ fn cartridge_of(alloc: Global, words: &[u32]) -> Result<Cartridge, Fail> {
 
 /// A console with a cartridge.
 fn console_with(alloc: Global, words: &[u32], cart: &[u32]) -> Result<Console, Fail> {
+    let cartridge = cartridge_of(alloc, cart)?;
+    let bios = bios_of(alloc, words)?;
     let images = ConsoleImages {
-        bios: bios_of(alloc, words)?,
-        cart: Some(cartridge_of(alloc, cart)?),
+        bios,
+        cart: Some(cartridge),
         save: None,
     };
-    Ok(Console::new(alloc, 0, 1, 512, images, Vec::new(alloc), ROOM)?)
+    console_of_images(alloc, images, Vec::new(alloc))
 }
 
 /// Makes steps, and asserts the clock after them.
@@ -88,6 +89,28 @@ fn steps<R: Abort>(rt: &R, console: &mut Console, count: usize, clock: u64) {
         console.step();
     }
     assert_eq!(rt; console.clock(), clock);
+}
+
+/// Makes steps so many at a time, and asserts the clock after each of these.
+fn steps_to<R: Abort>(rt: &R, console: &mut Console, courses: &[(usize, u64)]) {
+    for (count, clock) in courses {
+        steps(rt, console, *count, *clock);
+    }
+}
+
+/// Some registers, by their places in the list of all of them, have these numbers.
+fn has<R: Abort>(rt: &R, console: &Console, registers: &[(usize, u32)]) {
+    let all = console.all();
+    for (place, number) in registers {
+        assert_eq!(rt; all.get(*place), Some(number), "at {place}");
+    }
+}
+
+/// Some bytes of a memory, by their places.
+fn has_bytes<R: Abort>(rt: &R, memory: &[u8], bytes: &[(usize, u8)]) {
+    for (place, byte) in bytes {
+        assert_eq!(rt; memory.get(*place), Some(byte), "at {place}");
+    }
 }
 
 /// Makes steps up to a clock.
@@ -249,18 +272,13 @@ fn code_in_the_inner_ram(rt: HostRuntime) -> Result<(), Fail> {
     let mut console = console_of(rt.alloc(), &WORDS)?;
     // 1 + 1 + 3 + 1 + 1 + (1 + 5 + 1) + (1 + 5) + 3 + 1 + 3 cycles.
     steps(&rt, &mut console, 10, 27);
-    assert_eq!(rt; console.all()[15], 0x0300_0000);
-    assert_eq!(rt; console.all()[6], 0xE3A0_3000);
+    has(&rt, &console, &[(15, 0x0300_0000), (6, 0xE3A0_3000)]);
     // LDR 3, STR 2, MOV 1, ADD 1, B 3.
     steps(&rt, &mut console, 5, 37);
-    let registers = console.all();
-    assert_eq!(rt; registers[0], 0);
-    assert_eq!(rt; registers[5], 0x12);
-    assert_eq!(rt; registers[15], 0x0300_0010);
+    has(&rt, &console, &[(0, 0), (5, 0x12), (15, 0x0300_0010)]);
     let inner = console.board().core.memory(MemoryName::Iwram);
     assert_eq!(rt; inner.len(), 0x8000);
-    assert_eq!(rt; inner[8], 0x02);
-    assert_eq!(rt; inner[11], 0xE3);
+    has_bytes(&rt, inner, &[(8, 0x02), (11, 0xE3)]);
     Ok(())
 }
 
@@ -322,19 +340,28 @@ fn the_memory_map_has_its_prices(rt: HostRuntime) -> Result<(), Fail> {
         0x4433_2211, // 4C
     ];
     let mut console = console_with(rt.alloc(), &WORDS, &[])?;
-    steps(&rt, &mut console, 2, 11);
-    steps(&rt, &mut console, 2, 19);
-    steps(&rt, &mut console, 5, 39);
-    steps(&rt, &mut console, 5, 49);
-    steps(&rt, &mut console, 4, 64);
-    let registers = console.all();
-    assert_eq!(rt; registers[0], 0);
-    assert_eq!(rt; registers[3], 0x0100);
-    assert_eq!(rt; registers[7], 0x3322_1144);
-    assert_eq!(rt; registers[10], 0x4433_2211);
-    // r13 of the supervisor.
-    assert_eq!(rt; registers[25], 0x5A5A_5A5A);
-    assert_eq!(rt; console.board().core.memory(MemoryName::Backup)[0], 0x5A);
+    steps_to(
+        &rt,
+        &mut console,
+        &[(2, 11), (2, 19), (5, 39), (5, 49), (4, 64)],
+    );
+    // The last one is r13 of the supervisor.
+    has(
+        &rt,
+        &console,
+        &[
+            (0, 0),
+            (3, 0x0100),
+            (7, 0x3322_1144),
+            (10, 0x4433_2211),
+            (25, 0x5A5A_5A5A),
+        ],
+    );
+    has_bytes(
+        &rt,
+        console.board().core.memory(MemoryName::Backup),
+        &[(0, 0x5A)],
+    );
     Ok(())
 }
 
@@ -576,18 +603,28 @@ fn a_unit_wakes_nothing(rt: HostRuntime) -> Result<(), Fail> {
     Ok(())
 }
 
+/// Runs up to some clocks, and asserts the clock and the number of the pairs then.
+fn makes_pairs<R: Abort>(rt: &R, console: &mut Console, courses: &[(u64, u64, u64)]) {
+    for (until, clock, pairs) in courses {
+        run(rt, console, *until);
+        assert_eq!(rt; console.clock(), *clock);
+        assert_eq!(rt; console.counts().samples, *pairs);
+    }
+}
+
 /// A branch to itself for 1,024 cycles: two pairs, at 512 and at 1,024, and the sound is off.
 #[test]
 fn pairs_go_with_the_clock(rt: HostRuntime) -> Result<(), Fail> {
     let mut console = console_of(rt.alloc(), &[0xEAFF_FFFE])?;
-    for (until, clock, pairs) in [(511, 513, 1), (1023, 1023, 1), (1024, 1026, 2)] {
-        run(&rt, &mut console, until);
-        assert_eq!(rt; console.clock(), clock);
-        assert_eq!(rt; console.counts().samples, pairs);
-    }
+    makes_pairs(
+        &rt,
+        &mut console,
+        &[(511, 513, 1), (1023, 1023, 1), (1024, 1026, 2)],
+    );
     assert_eq!(rt; console.samples(), [0; 8].as_slice());
-    assert_eq!(rt; console.take_samples(rt.alloc()).len(), 8);
+    let taken = console.take_samples(rt.alloc());
+    assert_eq!(rt; taken.len(), 8);
     assert_eq!(rt; console.samples().len(), 0);
-    assert_eq!(rt; console.counts().samples, 2);
+    makes_pairs(&rt, &mut console, &[(1024, 1026, 2)]);
     Ok(())
 }

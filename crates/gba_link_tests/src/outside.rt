@@ -28,60 +28,91 @@ fn write_pieces(rt: HostRuntime, name: &str, pieces: &[&[u8]]) -> Result<(), Fai
     Ok(())
 }
 
-/// A file is written in pieces, read whole and in part, and not found once it is gone.
+/// Whether the front of a file, of at most so many bytes, is read and is just this.
+fn reads(
+    rt: HostRuntime,
+    store: &mut FileStore<HostRuntime>,
+    name: &str,
+    most: u64,
+    want: &[u8],
+) -> bool {
+    match store.read(rt.alloc(), name, most) {
+        Ok(bytes) => bytes.as_slice() == want,
+        Err(_) => false,
+    }
+}
+
+/// How a read of a file is refused.
+fn refusal_of(
+    rt: HostRuntime,
+    store: &mut FileStore<HostRuntime>,
+    name: &str,
+) -> Option<ReadError> {
+    store.read(rt.alloc(), name, 9).err()
+}
+
+/// Whether a sink of its own may make a file empty, and lets go of it.
+fn creates(rt: HostRuntime, name: &str) -> Result<(), WriteError> {
+    StdSink::new(rt, rt.alloc()).create(name)
+}
+
+/// A file is written in pieces, and read whole and in part.
 #[test]
 fn real_files(rt: HostRuntime) -> Result<(), Fail> {
-    let alloc = rt.alloc();
     let made = name_of(&rt, "real")?;
     let name = made.as_str();
-    let mut store = FileStore::new(rt, alloc);
-    write_pieces(rt, name, &[])?;
-    assert_eq!(rt; store.read(alloc, name, 9)?.as_slice(), b"".as_slice());
-    fs::remove_file(&rt, name)?;
+    let mut store = FileStore::new(rt, rt.alloc());
     write_pieces(rt, name, &[b"abc", b"de"])?;
-    assert_eq!(rt; store.read(alloc, name, 9)?.as_slice(), b"abcde".as_slice());
-    assert_eq!(rt; store.read(alloc, name, 4)?.as_slice(), b"abcd".as_slice());
-    fs::remove_file(&rt, name)?;
-    assert_eq!(rt;
-        store.read(alloc, name, 9).map(|_| ()),
-        Err(ReadError::Absent)
-    );
-    StdSink::new(rt, alloc).append(name, b"f")?;
-    assert_eq!(rt; store.read(alloc, name, 9)?.as_slice(), b"f".as_slice());
+    assert!(rt; reads(rt, &mut store, name, 9, b"abcde"));
+    assert!(rt; reads(rt, &mut store, name, 4, b"abcd"));
     fs::remove_file(&rt, name)?;
     Ok(())
 }
 
-/// A file that was read isn't made empty while its store is there, also under another name, and one that was made empty is
-/// neither read nor made empty again while its sink is there.
+/// A file that is gone is absent, one that was made empty has no byte, and an append makes one that isn't there.
+#[test]
+fn files_that_come_and_go(rt: HostRuntime) -> Result<(), Fail> {
+    let made = name_of(&rt, "gone")?;
+    let name = made.as_str();
+    let mut store = FileStore::new(rt, rt.alloc());
+    assert_eq!(rt; refusal_of(rt, &mut store, name), Some(ReadError::Absent));
+    StdSink::new(rt, rt.alloc()).append(name, b"f")?;
+    assert!(rt; reads(rt, &mut store, name, 9, b"f"));
+    fs::remove_file(&rt, name)?;
+    write_pieces(rt, name, &[])?;
+    assert!(rt; reads(rt, &mut store, name, 9, b""));
+    fs::remove_file(&rt, name)?;
+    Ok(())
+}
+
+/// A file that was read isn't made empty while its store is there, under this name and another one.
+fn are_held_by_a_store(rt: HostRuntime, name: &str, link: &str) {
+    let mut store = FileStore::new(rt, rt.alloc());
+    assert!(rt; reads(rt, &mut store, name, 9, b"kept"));
+    assert_eq!(rt; creates(rt, name), Err(WriteError::Failed));
+    assert_eq!(rt; creates(rt, link), Err(WriteError::Failed));
+    assert!(rt; reads(rt, &mut store, link, 9, b"kept"));
+}
+
+/// A file that was made empty is neither read nor made empty again while its sink is there.
+fn are_held_by_a_sink(rt: HostRuntime, name: &str, link: &str) {
+    let mut sink = StdSink::new(rt, rt.alloc());
+    assert_eq!(rt; sink.create(link), Ok(()));
+    let mut store = FileStore::new(rt, rt.alloc());
+    assert_eq!(rt; refusal_of(rt, &mut store, name), Some(ReadError::Failed));
+    assert_eq!(rt; creates(rt, name), Err(WriteError::Failed));
+}
+
 #[test]
 fn held_files(rt: HostRuntime) -> Result<(), Fail> {
-    let alloc = rt.alloc();
     let made = name_of(&rt, "held")?;
     let linked = name_of(&rt, "linked")?;
-    let (name, link) = (made.as_str(), linked.as_str());
-    write_pieces(rt, name, &[b"kept"])?;
-    fs::hard_link(&rt, name, link)?;
-    let mut sink = StdSink::new(rt, alloc);
-    {
-        let mut store = FileStore::new(rt, alloc);
-        assert_eq!(rt; store.read(alloc, name, 9)?.as_slice(), b"kept".as_slice());
-        assert_eq!(rt; sink.create(name), Err(WriteError::Failed));
-        assert_eq!(rt; sink.create(link), Err(WriteError::Failed));
-        assert_eq!(rt; store.read(alloc, link, 9)?.as_slice(), b"kept".as_slice());
-    }
-    sink.create(link)?;
-    let mut store = FileStore::new(rt, alloc);
-    assert_eq!(rt;
-        store.read(alloc, name, 9).map(|_| ()),
-        Err(ReadError::Failed)
-    );
-    assert_eq!(rt;
-        StdSink::new(rt, alloc).create(name),
-        Err(WriteError::Failed)
-    );
-    fs::remove_file(&rt, name)?;
-    fs::remove_file(&rt, link)?;
+    write_pieces(rt, made.as_str(), &[b"kept"])?;
+    fs::hard_link(&rt, made.as_str(), linked.as_str())?;
+    are_held_by_a_store(rt, made.as_str(), linked.as_str());
+    are_held_by_a_sink(rt, made.as_str(), linked.as_str());
+    fs::remove_file(&rt, made.as_str())?;
+    fs::remove_file(&rt, linked.as_str())?;
     Ok(())
 }
 
