@@ -205,27 +205,37 @@ fn bytes_are_exchanged(rt: HostRuntime) -> Result<(), Fail> {
     Ok(())
 }
 
+/// A step that takes nothing, where the console isn't at a clock yet; it tells nothing.
+fn idle_before<R: Abort>(rt: &R, console: &mut Console, clock: u64) {
+    if console.clock() < clock {
+        assert!(rt; turn(rt, console, &[]).is_none());
+    }
+}
+
 /// Steps that take nothing, up to a clock at which one begins.
 fn idle_to<R: Abort>(rt: &R, console: &mut Console, clock: u64) {
     for _ in 0..clock {
-        if console.clock() < clock {
-            let told = turn(rt, console, &[]);
-            assert!(rt; told.is_none());
-        }
+        idle_before(rt, console, clock);
     }
     assert_eq!(rt; console.clock(), clock);
+}
+
+/// What the first of so many steps tells that tells something.
+fn first_told<R: Abort>(rt: &R, console: &mut Console, steps: usize) -> Option<Signal> {
+    for _ in 0..steps {
+        let told = turn(rt, console, &[]);
+        if told.is_some() {
+            return told;
+        }
+    }
+    None
 }
 
 /// A signal of 100 over a delay of 1,024 is taken by the step that begins at 1,124, and not by that at 1,123.
 #[test]
 fn a_signal_arrives(rt: HostRuntime) -> Result<(), Fail> {
     let mut sender = console_of(rt.alloc(), (0, 2, 1024), TELLS_LATER)?;
-    let mut told = None;
-    for _ in 0..101 {
-        if told.is_none() {
-            told = turn(&rt, &mut sender, &[]);
-        }
-    }
+    let told = first_told(&rt, &mut sender, 101);
     let signal = Signal {
         clock: 100,
         mode: Normal8,
@@ -253,6 +263,33 @@ fn run<R: Abort>(rt: &R, console: &mut Console, until: u64) {
     console.run_to(until);
 }
 
+/// A step by a turn that takes nothing, where the console isn't at a clock yet.
+fn turn_before<R: Abort>(rt: &R, console: &mut Console, clock: u64) {
+    if console.clock() < clock {
+        let _ = turn(rt, console, &[]);
+    }
+}
+
+/// Steps by turns that take nothing, up to a clock.
+fn turn_to<R: Abort>(rt: &R, console: &mut Console, clock: u64) {
+    for _ in 0..clock {
+        turn_before(rt, console, clock);
+    }
+}
+
+/// Two consoles have the same clocks, transfers and serial registers.
+fn are_the_same<R: Abort>(rt: &R, one: &Console, other: &Console) {
+    assert_eq!(rt; (one.clock(), one.was()), (other.clock(), other.was()));
+    assert!(rt; one.words() == other.words(), "{:?}", one.words());
+    for half in [0x120, 0x122, 0x128, 0x12A, 0x134, 0x202] {
+        let (here, there) = (
+            one.board().core.io_half(half),
+            other.board().core.io_half(half),
+        );
+        assert_eq!(rt; here, there, "at {half:x}");
+    }
+}
+
 /// A console alone makes the same steps by turns as by a run.
 #[test]
 fn runs_are_turns(rt: HostRuntime) -> Result<(), Fail> {
@@ -260,20 +297,8 @@ fn runs_are_turns(rt: HostRuntime) -> Result<(), Fail> {
         let mut one = console_of(rt.alloc(), (0, 1, 512), source)?;
         let mut other = console_of(rt.alloc(), (0, 1, 512), source)?;
         run(&rt, &mut one, 9_001);
-        for _ in 0..9_001 {
-            if other.clock() < 9_001 {
-                let _ = turn(&rt, &mut other, &[]);
-            }
-        }
-        assert_eq!(rt; one.clock(), other.clock());
-        assert_eq!(rt; one.was(), other.was());
-        assert!(rt; one.words() == other.words(), "{:?}", one.words());
-        for half in [0x120, 0x122, 0x128, 0x12A, 0x134, 0x202] {
-            assert_eq!(rt;
-                one.board().core.io_half(half),
-                other.board().core.io_half(half)
-            );
-        }
+        turn_to(&rt, &mut other, 9_001);
+        are_the_same(&rt, &one, &other);
     }
     Ok(())
 }
