@@ -532,7 +532,9 @@ struct Written {
 }
 
 fn text_of(alloc: Global, bytes: Option<&[u8]>) -> Result<String, Fail> {
-    let text = str::from_utf8(bytes.unwrap_or(b"".as_slice())).map_err(|_| "no text")?;
+    let text = str::from_utf8(bytes.unwrap_or(b"".as_slice()))
+        .ok()
+        .ok_or("no text")?;
     Ok(String::from_str(alloc, text)?)
 }
 
