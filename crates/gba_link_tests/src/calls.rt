@@ -8,7 +8,7 @@ use std::test::Fail;
 use std::thread::Threads;
 
 /// A file of these bytes.
-pub(crate) fn stored(alloc: Global, name: &str, bytes: Vec<u8>) -> Result<StoredFile, AllocError> {
+pub fn stored(alloc: Global, name: &str, bytes: Vec<u8>) -> Result<StoredFile, AllocError> {
     Ok(StoredFile {
         name: String::from_str(alloc, name)?,
         bytes,
@@ -16,7 +16,7 @@ pub(crate) fn stored(alloc: Global, name: &str, bytes: Vec<u8>) -> Result<Stored
 }
 
 /// A BIOS that begins with these words.
-pub(crate) fn image_of(alloc: Global, code: &[u32]) -> Result<Vec<u8>, AllocError> {
+pub fn image_of(alloc: Global, code: &[u32]) -> Result<Vec<u8>, AllocError> {
     let mut bios = Vec::new(alloc);
     for word in code {
         bios.extend_from_slice(&word.to_le_bytes())?;
@@ -29,14 +29,14 @@ pub(crate) fn image_of(alloc: Global, code: &[u32]) -> Result<Vec<u8>, AllocErro
 
 /// What a call left: its status, and the files, of which `-` is standard output.
 #[derive(Drop)]
-pub(crate) struct Answer {
-    pub(crate) status: u8,
-    pub(crate) out: MemorySink,
+pub struct Answer {
+    pub status: u8,
+    pub out: MemorySink,
 }
 
 impl Answer {
     /// Standard output.
-    pub(crate) fn report(&self) -> &[u8] {
+    pub fn report(&self) -> &[u8] {
         self.out.bytes("-").unwrap_or(b"".as_slice())
     }
 }
@@ -50,7 +50,7 @@ fn copies_of(alloc: Global, words: &[&str]) -> Result<Vec<String>, AllocError> {
 }
 
 /// A call with these words over a store and a sink.
-pub(crate) fn call_with<R: Abort + Threads + Sync>(
+pub fn call_with<R: Abort + Threads + Sync>(
     rt: &R,
     alloc: Global,
     words: &[&str],
@@ -63,7 +63,7 @@ pub(crate) fn call_with<R: Abort + Threads + Sync>(
 }
 
 /// A call with these words over these files, in which nothing fails, and whose lanes go through this gate.
-pub(crate) fn call_through<R: Abort + Threads + Sync, G: Gate + Sync>(
+pub fn call_through<R: Abort + Threads + Sync, G: Gate + Sync>(
     rt: &R,
     alloc: Global,
     words: &[&str],
@@ -78,7 +78,7 @@ pub(crate) fn call_through<R: Abort + Threads + Sync, G: Gate + Sync>(
 }
 
 /// The same with no gate.
-pub(crate) fn call<R: Abort + Threads + Sync>(
+pub fn call<R: Abort + Threads + Sync>(
     rt: &R,
     alloc: Global,
     words: &[&str],

@@ -1,15 +1,9 @@
 #![tactic(auto)]
-//! Tests of the outside, of the top call over files in memory, and of its lanes.
+//! Tests of the top call over files in memory, and calls of it for other tests.
 
-#[cfg(test)]
 mod calls;
-#[cfg(test)]
-mod linked;
-#[cfg(test)]
-mod meeting;
-#[cfg(test)]
-mod outside;
-#[cfg(test)]
-mod schedules;
+
+pub use calls::{Answer, call, call_through, call_with, image_of, stored};
+
 #[cfg(test)]
 mod top_call;

@@ -1,6 +1,6 @@
 //! The top call over files in memory.
 
-use crate::calls::{Answer, call, call_with, image_of, stored};
+use crate::{Answer, call, call_with, image_of, stored};
 use gba_store::{MemorySink, MemoryStore, StoredFile};
 use std::alloc::{AllocError, Global};
 use std::process::Abort;

@@ -1,6 +1,6 @@
 //! Two consoles whose lanes meet: neither goes on before the other has come, in single steps and in bursts.
 
-use crate::calls::{call_through, image_of, stored};
+use gba_link_tests::{call_through, image_of, stored};
 use gba_store::Gate;
 use std::sync::atomic::{AtomicBool, AtomicU32, Ordering};
 use std::test::Fail;

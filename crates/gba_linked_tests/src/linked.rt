@@ -1,7 +1,7 @@
 //! Consoles on a cable, and their logs: what is written is stated by hand, from the formats, the cycles of the programs
 //! and the rules of transfers. The digests are those that `sha256sum` gives for these bytes.
 
-use crate::calls::{Answer, call, image_of, stored};
+use gba_link_tests::{Answer, call, image_of, stored};
 use gba_store::StoredFile;
 use std::alloc::{AllocError, Global};
 use std::process::Abort;

@@ -1,7 +1,7 @@
 //! A thousand schedules of cable jobs, each with one result.
 
-use crate::calls::{Answer, call, call_through, image_of, stored};
 use crate::linked::{AWAITS_BYTE, AWAITS_MULTI, STARTS_BYTE, STARTS_MULTI};
+use gba_link_tests::{Answer, call, call_through, image_of, stored};
 use gba_store::{Gate, StoredFile};
 use std::alloc::{AllocError, Global};
 use std::process::Abort;

@@ -1,0 +1,5 @@
+#![tactic(auto)]
+//! Tests of the outside: the real store and sink, and the chosen failures of those in memory.
+
+#[cfg(test)]
+mod outside;
