@@ -220,22 +220,12 @@ fn idle_to<R: Abort>(rt: &R, console: &mut Console, clock: u64) {
     assert_eq!(rt; console.clock(), clock);
 }
 
-/// What the first of so many steps tells that tells something.
-fn first_told<R: Abort>(rt: &R, console: &mut Console, steps: usize) -> Option<Signal> {
-    for _ in 0..steps {
-        let told = turn(rt, console, &[]);
-        if told.is_some() {
-            return told;
-        }
-    }
-    None
-}
-
 /// A signal of 100 over a delay of 1,024 is taken by the step that begins at 1,124, and not by that at 1,123.
 #[test]
 fn a_signal_arrives(rt: HostRuntime) -> Result<(), Fail> {
     let mut sender = console_of(rt.alloc(), (0, 2, 1024), TELLS_LATER)?;
-    let told = first_told(&rt, &mut sender, 101);
+    idle_to(&rt, &mut sender, 100);
+    let told = turn(&rt, &mut sender, &[]);
     let signal = Signal {
         clock: 100,
         mode: Normal8,
