@@ -3,7 +3,6 @@
 use gba_link::gba_link;
 use gba_store::{Gate, MemorySink, MemoryStore, NoGate, StoredFile};
 use std::alloc::{AllocError, Global};
-use std::process::Abort;
 use std::test::Fail;
 use std::thread::Threads;
 
@@ -50,7 +49,7 @@ fn copies_of(alloc: Global, words: &[&str]) -> Result<Vec<String>, AllocError> {
 }
 
 /// A call with these words over a store and a sink.
-pub fn call_with<R: Abort + Threads + Sync>(
+pub fn call_with<R: Threads + Sync>(
     rt: &R,
     alloc: Global,
     words: &[&str],
@@ -63,7 +62,7 @@ pub fn call_with<R: Abort + Threads + Sync>(
 }
 
 /// A call with these words over these files, in which nothing fails, and whose lanes go through this gate.
-pub fn call_through<R: Abort + Threads + Sync, G: Gate + Sync>(
+pub fn call_through<R: Threads + Sync, G: Gate + Sync>(
     rt: &R,
     alloc: Global,
     words: &[&str],
@@ -78,7 +77,7 @@ pub fn call_through<R: Abort + Threads + Sync, G: Gate + Sync>(
 }
 
 /// The same with no gate.
-pub fn call<R: Abort + Threads + Sync>(
+pub fn call<R: Threads + Sync>(
     rt: &R,
     alloc: Global,
     words: &[&str],
