@@ -5,11 +5,11 @@ ghost use Rattle.gba_command.specs.Views.{conclusion_value, end_of, run_value};
 ghost use Rattle.gba_command.specs.Writing.{sink_state};
 
 use crate::cause::Cause;
-use crate::line::Line;
 use crate::outputs::Outputs;
 use crate::refusal::Refusal;
 use crate::writing::{report, write_run};
 use gba_store::Sink;
+use gba_text::Line;
 
 /// What a run that is written answers: 0, or the refusal with which it ends.
 fn conclude<O: Sink>(out: &mut O, end: &Result<Line, Cause>) -> u8

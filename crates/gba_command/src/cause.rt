@@ -6,11 +6,11 @@ ghost use Rattle.gba_asm_words.specs.Kinds.{kind_name as asm_kind_name};
 ghost use Rattle.gba_image.specs.Names.{error_name};
 ghost use Rattle.gba_joblog.specs.Kinds.{kind_name};
 
-use crate::line::{Line, add_text, line_of};
 use crate::refusal::{Name, line_about};
 use gba_asm_words::{AsmError, AsmKind};
 use gba_image::ImageError;
 use gba_joblog::{JobError, JobKind, digits_of};
+use gba_text::{Line, add_text, line_of};
 use itoa::Buffer;
 
 /// Why a command is refused, as its words and the files say. Each cause has a status and one line of report.

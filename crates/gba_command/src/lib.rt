@@ -4,9 +4,7 @@
 
 mod answering;
 mod cause;
-pub mod hexadecimal;
 pub mod laws;
-mod line;
 mod outputs;
 mod reading;
 mod refusal;
@@ -15,7 +13,6 @@ mod writing;
 
 pub use answering::answer;
 pub use cause::Cause;
-pub use line::{Line, add_text};
 pub use outputs::{OutputFile, Outputs};
 pub use reading::read_file;
 pub use refusal::{Name, Refusal, name_in_report};

@@ -3,7 +3,7 @@
 ghost use Rattle.std.specs.Prelude.{◌≤◌, string_len};
 
 use crate::cause::Cause;
-use crate::line::Line;
+use gba_text::Line;
 
 /// A file to be written: its name of at most 200 bytes, and its bytes.
 #[derive(Drop)]

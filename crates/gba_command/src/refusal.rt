@@ -4,8 +4,8 @@ ghost use Rattle.std.specs.Prelude.{◌≡◌, ◌+◌, ◌≤◌, ◌++◌, len
 ghost use Rattle.arrayvec.specs.ArrayVec.{array_vec_len};
 
 use crate::cause::Cause;
-use crate::line::{Line, add_text, line_of};
 use arrayvec::ArrayVec;
+use gba_text::{Line, add_text, line_of};
 
 /// A file's name in a report: at most 200 bytes.
 pub type Name = ArrayVec<u8, 200>;

@@ -6,10 +6,10 @@ ghost use Rattle.gba_command.specs.Views.{conclusion_value, output_value, run_va
 ghost use Rattle.gba_command.specs.Writing.{Create, Append, Performs, PerformsAll, addition, calls_of, creation, file_calls, sink_state, summary_calls};
 
 use crate::cause::Cause;
-use crate::line::{Line, line_of};
 use crate::outputs::{OutputFile, Outputs};
 use crate::refusal::{Name, line_about, name_in_report};
 use gba_store::{Sink, WriteError};
+use gba_text::{Line, line_of};
 
 /// Why the writing of a run stopped.
 #[derive(Drop)]

@@ -6,11 +6,11 @@ ghost use Rattle.gba_output.specs.StateFile.{affine_line, channel_line, channel_
 ghost use Rattle.gba_output.specs.Truths.{truth as truth_of};
 
 use crate::state::{add, add_hex_bytes, truth};
-use gba_command::hexadecimal::{hex_byte, hex_word};
 use gba_dma::Channel;
 use gba_io::Core;
 use gba_ppu_reg::{Position, Reference};
 use gba_timer::Timer;
+use gba_word::hexadecimal::{hex_byte, hex_word};
 use itoa::Buffer;
 
 /// Adds a blank and a number.

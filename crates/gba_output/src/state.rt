@@ -10,10 +10,10 @@ ghost use Rattle.gba_output.specs.Truths.{truth as truth_of};
 use crate::cable::add_cable_lines;
 use crate::devices::{add_channel_lines, add_picture_lines, add_queue_lines, add_timer_lines};
 use arrayvec::ArrayVec;
-use gba_command::hexadecimal::{hex_byte, hex_offset, hex_word};
-use gba_command::{Line, add_text};
 use gba_console::Console;
 use gba_io::{Core, MemoryName};
+use gba_text::{Line, add_text};
+use gba_word::hexadecimal::{hex_byte, hex_offset, hex_word};
 use itoa::Buffer;
 
 /// The room of a state file in bytes: its heading has at most 96, each of the 37 registers at most 18, each timer at most

@@ -4,8 +4,8 @@ ghost use Rattle.std.specs.Prelude.{◌≡◌, ◌+◌, ◌*◌, ◌≤◌, ◌+
 ghost use Rattle.gba_output.specs.Words.{half_text, multi_words, words_in, words_line, words_text};
 
 use crate::state::{add, truth};
-use gba_command::hexadecimal::{hex_half, hex_low_byte, hex_word};
 use gba_serial::Transfer;
+use gba_word::hexadecimal::{hex_half, hex_low_byte, hex_word};
 use itoa::Buffer;
 use link_node::LinkMode;
 

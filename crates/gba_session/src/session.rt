@@ -11,7 +11,6 @@ ghost use Rattle.gba_session.specs.Start.{console_at, consoles_from, key_states,
 ghost use Rattle.link_order.specs.Cut.{plain_cut};
 
 use crate::files::{ConsoleFiles, Room, asks_of};
-use gba_command::Line;
 use gba_console::laws::{enough, steps_pass};
 use gba_console::{Console, KeyState};
 use gba_image::ConsoleImages;
@@ -20,6 +19,7 @@ use gba_joblog::{Job, JobConsole, KeyChange, OutKind};
 use gba_output::add_summary;
 use gba_store::Gate;
 use gba_terms::NoMemory;
+use gba_text::Line;
 use link_core::Cut;
 use link_run::run_to;
 use std::alloc::{AllocError, Global};

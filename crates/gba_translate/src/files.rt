@@ -5,7 +5,8 @@ ghost use Rattle.arrayvec.specs.ArrayVec.{array_vec_len};
 ghost use Rattle.gba_command.specs.Views.{run_value};
 ghost use Rattle.gba_translate.specs.Translation.{count_line as count_line_of, one_file};
 
-use gba_command::{Line, OutputFile, Outputs, add_text};
+use gba_command::{OutputFile, Outputs};
+use gba_text::{Line, add_text};
 use itoa::Buffer;
 use std::alloc::{AllocError, Global};
 

@@ -1,10 +1,12 @@
 #![tactic(auto)]
-//! Arithmetic on the ARM7TDMI's 32-bit words. Each function is the arithmetic of whole numbers that its contract names.
+//! Arithmetic on the ARM7TDMI's 32-bit words, and their hexadecimal digits. Each function is the arithmetic of whole numbers
+//! that its contract names.
 
 ghost use Rattle.std.specs.Prelude.{◌≡◌, ◌+◌, ◌<◌, ◌≤◌};
 ghost use Rattle.gba_terms.specs.Bits.{field, bit};
 ghost use Rattle.gba_word.specs.Extension.{sign_extension};
 
+pub mod hexadecimal;
 mod kinds;
 mod shifter;
 mod sums;

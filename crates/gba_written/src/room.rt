@@ -8,10 +8,11 @@ ghost use Rattle.gba_written.specs.Written.{conclusion, log_line};
 use crate::names::Names;
 use crate::naming::{all_names, log_name};
 use crate::outputs::{add_file, write_consoles};
-use gba_command::{Cause, Line, OutputFile, Outputs, add_text};
+use gba_command::{Cause, OutputFile, Outputs};
 use gba_joblog::{Job, digest_of, digits_of};
 use gba_log::{print, printed_len};
 use gba_session::ConsoleFiles;
+use gba_text::{Line, add_text};
 use std::alloc::{AllocError, Global};
 use std::marker::Model;
 

@@ -3,7 +3,7 @@
 ghost use Rattle.std.specs.Prelude.{◌≡◌, ◌<◌};
 ghost use Rattle.gba_terms.specs.Hexadecimal.{hex, hex_digit as hex_digit_of};
 
-use gba_word::bits;
+use crate::bits;
 
 fn hex_digit(digit: u32) -> u8
     requires { digit < 16 }

@@ -20,7 +20,7 @@ pub fn add_text(line: &mut Line, bytes: &[u8])
 }
 
 /// A line that is this text.
-pub(crate) fn line_of(text: &[u8]) -> Line
+pub fn line_of(text: &[u8]) -> Line
     requires { length text.now ≤ 1024 }
     ensures { result.items ≡ text.now }
 {
