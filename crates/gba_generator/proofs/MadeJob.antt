@@ -1,5 +1,5 @@
 -- The generator's job is a job of the language, and its lines are read as that job.
-use Rattle.std.proofs.Common.{◌≡◌, ◌≤◌, ◌<◌, ◌^◌, ℕ, ◌+◌, Bool, true, false, ◌&&◌, not, nat_le, List, [], ◌∷◌, ◌++◌, length, codes, Option, Some, None, refl, sym, ap, ◌∙◌, length-append, le-leb, lit<, lit≤, arith}
+use Rattle.std.proofs.Common.{◌≡◌, ◌≤◌, ◌<◌, ◌^◌, ℕ, ◌+◌, Bool, true, false, ◌&&◌, not, nat_le, List, [], ◌∷◌, ◌++◌, length, codes, refl, sym, ap, ◌∙◌, length-append, le-leb, lit<, lit≤, arith}
 use Rattle.std.specs.Prelude.{decimal}
 use Rattle.std.specs.List.{All, list_all}
 use Rattle.std.specs.Str.{bytes_eq}
@@ -17,8 +17,9 @@ use Rattle.gba_joblog.specs.Language.{job_of}
 use Rattle.gba_joblog.specs.Log.{changes_text, line_of, log_text}
 use Rattle.gba_joblog.specs.Log as log
 use Rattle.gba_joblog.specs.Names.{is_name, is_name_byte, longest_name}
+use Rattle.gba_joblog.specs.Outputs.{EachKind}
 use Rattle.gba_joblog.specs.Soundness.{IsConsole, IsJob, IsOutput}
-use Rattle.gba_joblog.specs.declared.job.OutLine.{OutLine}
+use Rattle.gba_joblog.specs.declared.outputs.OutKind.TheVariants.{Frames, Samples, Words, State, Save}
 use Rattle.gba_generator.specs.Job.{asked, bios_file, console, console_text, job, job_text}
 use Rattle.gba_generator.specs.Law.{IsReadAs}
 
@@ -81,29 +82,24 @@ bios-named out player is few =
     let named : list_all is_name_byte more ≡ true = rw (digit-named player few) refl in
     rw digit (name-longer out more is.0 named (lit≤ tt) (omega (arith, is.1)))
 
-outs-sound : All IsOutput asked
-outs-sound =
-    let words : Option OutLine = Some (record { digest = None }) in
-    let fifth : List (Option OutLine) = None ∷ [] in
-    let fourth : List (Option OutLine) = words ∷ fifth in
-    let third : List (Option OutLine) = words ∷ fourth in
-    let second : List (Option OutLine) = None ∷ third in
-    All-cons IsOutput None second tt (All-cons IsOutput None third tt (All-cons IsOutput words fourth tt
-    (All-cons IsOutput words fifth tt (All-cons IsOutput None [] tt (All-nil IsOutput)))))
+outs-sound : EachKind IsOutput asked
+outs-sound Frames = tt
+outs-sound Samples = tt
+outs-sound Words = tt
+outs-sound State = tt
+outs-sound Save = tt
 
 console-sound : (out : List ℕ) (player : ℕ) → IsOut out → player < 4 → IsConsole (console out player)
 console-sound out player is few = record {
-  part = record {
-    bios = record { named = bios-named out player is few; stated = tt };
+  bios = record { named = bios-named out player is few; stated = tt };
+  lines = record {
     cart = tt;
     save = tt;
     keys = tt;
     changes = changes.none;
     apart = λ none. refl;
-    five = refl;
     outs = outs-sound;
   };
-  image = refl;
 }
 
 all-sound : (out : List ℕ) → IsOut out

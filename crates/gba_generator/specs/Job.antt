@@ -1,10 +1,13 @@
 -- The job that runs the consoles whose images are made of a number. This project's profile.
 use Rattle.std.specs.Prelude.{ℕ, ◌+◌, ◌*◌, List, [], ◌∷◌, ◌++◌, codes, decimal, Option, Some, None}
-use Rattle.gba_joblog.specs.Draft.{silent_console}
+use Rattle.gba_joblog.specs.Draft.{silent_console, with_image}
 use Rattle.gba_joblog.specs.Job.{ConsoleJob, WholeJob}
 use Rattle.gba_joblog.specs.Log.{line_of}
+use Rattle.gba_joblog.specs.Outputs.{per_kind, with_kind}
 use Rattle.gba_joblog.specs.Statements.{named_file, asked_output}
 use Rattle.gba_joblog.specs.declared.job.OutLine.{OutLine}
+use Rattle.gba_joblog.specs.declared.outputs.OutKind.TheVariants.{Words, State}
+use Rattle.gba_joblog.specs.declared.outputs.PerKind.{PerKind}
 
 -- the names of the files that are made under OUT
 abbrev pub bios_file : List ℕ → ℕ → List ℕ
@@ -14,13 +17,13 @@ abbrev pub job_file : List ℕ → List ℕ
 job_file out = out ++ codes ".job"
 
 -- the words and the state are asked for
-abbrev pub asked : List (Option OutLine)
-asked = None ∷ None ∷ Some (asked_output None) ∷ Some (asked_output None) ∷ None ∷ []
+abbrev pub asked : PerKind (Option OutLine)
+asked = with_kind Words (Some (asked_output None)) (with_kind State (Some (asked_output None)) (per_kind (λ _. None)))
 
 -- a console with its BIOS; four lines say it, after the three lines of the head
 abbrev pub console : List ℕ → ℕ → ConsoleJob
 console out player =
-    record silent_console { bios = Some (named_file (bios_file out player) None (5 + 4 * player)); outs = asked }
+    with_image (record silent_console { outs = asked }) (named_file (bios_file out player) None (5 + 4 * player))
 
 -- the delay of the cable in cycles
 abbrev pub delay : ℕ

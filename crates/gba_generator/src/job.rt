@@ -7,7 +7,7 @@ ghost use Rattle.gba_joblog.specs.Views.{console_value, job_value};
 ghost use Rattle.gba_generator.specs.Job.{job as job_of, job_text as job_text_of, console as console_of};
 
 use crate::names::bios_name;
-use gba_joblog::{FileLine, Job, JobConsole, OutKind};
+use gba_joblog::{FileLine, Job, JobConsole, OutKind, OutLine, PerKind};
 use gba_log::{print, printed_len};
 use std::alloc::{AllocError, Global};
 
@@ -31,17 +31,18 @@ fn console(alloc: Global, out: &str, player: u64) -> Result<JobConsole, AllocErr
         digest: None,
         line: LINES_BEFORE + LINES_OF_CONSOLE * player,
     };
-    let mut made = JobConsole {
-        bios: Some(bios),
+    let asked = Some(OutLine { digest: None });
+    let mut outs = PerKind::all(None);
+    outs.put(OutKind::Words, asked);
+    outs.put(OutKind::State, asked);
+    Ok(JobConsole {
+        bios,
         cart: None,
         save: None,
         keys: None,
         changes: Vec::new(alloc),
-        outs: [None; 5],
-    };
-    made.ask_for(OutKind::Words, None);
-    made.ask_for(OutKind::State, None);
-    Ok(made)
+        outs,
+    })
 }
 
 /// The job of four consoles with the images that are made of a number, which run for so many cycles of 16,777,216 Hz and

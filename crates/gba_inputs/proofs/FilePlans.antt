@@ -13,7 +13,7 @@ use Rattle.gba_joblog.specs.KeyFile.{longest_keys}
 use Rattle.gba_joblog.specs.declared.job.KeyChange.{KeyChange}
 use Rattle.gba_joblog.specs.declared.kinds.JobKind.TheVariants.{Long}
 use Rattle.gba_inputs.specs.Inputs.{DigestedImage}
-use Rattle.gba_inputs.specs.InputsPlan.{ImageForm, accepted, bios_plan, image_plan, judged_image, judged_keys, key_file_plan, keys_or_refusal}
+use Rattle.gba_inputs.specs.InputsPlan.{ImageForm, accepted, image_plan, judged_image, judged_keys, key_file_plan, keys_or_refusal}
 
 module _ {Store : Type 0} (gives : List ℕ → ℕ → Result (List ℕ) ReadError → Store → Store → Type 0) where
   -- a read by a name, with a report of a name, both of which are that of the file
@@ -65,9 +65,3 @@ module _ {Store : Type 0} (gives : List ℕ → ℕ → Result (List ℕ) ReadEr
       bytes (end_of view result)
       (by_name longest_keys (λ n. Job n (error_at 0 Long)) named.name report text old new (Ok bytes) is same goes)
       (goes-judged gives view (keys_or_refusal named bytes) result new judged)
-
-  -- what is read for a line goes by the line
-  pub same-bios : (one other : NamedFile) (old new : Store) (end : Result DigestedImage Stop) → one ≡ other
-      → GoesTo gives (bios_plan one) old new end → GoesTo gives (bios_plan other) old new end
-  same-bios one other old new end is goes =
-      subst (λ (named : NamedFile). GoesTo gives (bios_plan named) old new end) is goes

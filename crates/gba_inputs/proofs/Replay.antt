@@ -1,7 +1,7 @@
 -- The log of a run says a job with the same inputs, whose log it is.
 use Rattle.std.proofs.Common.{◌≡◌, ℕ, ◌+◌, true, List, [], ◌∷◌, ◌++◌, length, map, Option, Some, None, Result, Ok, Err, refl, ap, sym, subst, ◌∙◌, arith}
 use Rattle.std.specs.List.{All, AllZip}
-use Rattle.std.specs.Prelude.{IfSome, is_some, option_map}
+use Rattle.std.specs.Prelude.{IfSome, option_map}
 use Rattle.std.specs.Str.{bytes_eq}
 use Rattle.std.proofs.lemmas.List.{append-nil, append_assoc}
 use Rattle.std.proofs.lemmas.List.Elements.{All-cons, All-head, All-nil, All-tail}
@@ -12,16 +12,17 @@ use Rattle.gba_command.specs.Cause.{Cause}
 use Rattle.gba_command.specs.Plan.{each, judgement, outcome}
 use Rattle.gba_command.proofs.Comes.{file-ok, file-reads, outcome-done, outcome-parts, outcome-then}
 use Rattle.gba_joblog.specs.Job.{ConsoleJob, NamedFile, WholeJob}
-use Rattle.gba_joblog.specs.Log.{console_text, consoles_text, file_text, log_text}
+use Rattle.gba_joblog.specs.Log.{any_file_text, console_text, consoles_text, log_text}
 use Rattle.gba_joblog.specs.LogLaw.{unlined_console, unlined_file, without_key_file}
 use Rattle.gba_joblog.specs.Soundness.{IsConsole, IsJob}
 use Rattle.gba_joblog.specs.declared.job.KeyChange.{KeyChange}
 use Rattle.gba_joblog.specs.declared.job.OutLine.{OutLine}
+use Rattle.gba_joblog.specs.declared.outputs.PerKind.{PerKind}
 use Rattle.gba_joblog.proofs.LogAgain.{job-again}
 use Rattle.gba_joblog.proofs.Steps.{ok-is, some-is}
-use Rattle.gba_inputs.specs.Filled.{filled_console, filled_consoles, log_job, with_digest, with_outputs}
+use Rattle.gba_inputs.specs.Filled.{any_with_digest, filled_console, filled_consoles, log_job, with_digest, with_outputs}
 use Rattle.gba_inputs.specs.Inputs.{ConsoleInputs, DigestedImage, digested}
-use Rattle.gba_inputs.specs.InputsPlan.{ImageForm, accepted, after_bios, after_cart, after_keys, after_save, any_cart_plan, any_image_plan, any_keys_plan, any_save_plan, bios_file, bios_form, bios_plan, cart_form, console_plan, digest_of, found, image_plan, inputs_of, inputs_plan, judged_image, save_form}
+use Rattle.gba_inputs.specs.InputsPlan.{ImageForm, accepted, after_bios, after_cart, after_keys, after_save, any_cart_plan, any_image_plan, any_keys_plan, any_save_plan, bios_form, bios_plan, cart_form, console_plan, digest_of, found, image_plan, inputs_of, inputs_plan, judged_image, save_form}
 use Rattle.gba_inputs.specs.Law.{AreInputs, AreOutputs, IsKept, IsReplayed, KeepsImages, asked_of}
 use Rattle.gba_inputs.proofs.SoundInputs.{accepted-is, filled_consoles-sound, inputs-sound, zip-long}
 
@@ -67,7 +68,7 @@ image-unlined files form one other same = ap (λ (named : NamedFile). outcome fi
 
 any-again : (old new : Files) (form : ImageForm) (named later : Option NamedFile) (image : Option DigestedImage)
     → IfSome named (IsKept old new) → outcome old (any_image_plan form named) ≡ Ok image
-    → option_map unlined_file later ≡ option_map unlined_file (with_digest named (option_map digest_of image))
+    → option_map unlined_file later ≡ option_map unlined_file (any_with_digest named (option_map digest_of image))
     → outcome new (any_image_plan form later) ≡ Ok image
 any-again old new form None None image kept h same =
     outcome-done new None ∙ ap (λ i. Ok i) (ok-is None image (sym (outcome-done old None) ∙ h))
@@ -84,14 +85,12 @@ any-again old new form (Some named) (Some later) image kept h same =
     outcome-then new (image_plan form later) found parts.0 (Ok image) again
     (outcome-done new (Some parts.0) ∙ ap (λ i. Ok i) is)
 
-bios-again : (old new : Files) (named later : Option NamedFile) (image : DigestedImage) → is_some named ≡ true
-    → IfSome named (IsKept old new) → outcome old (bios_plan (bios_file named)) ≡ Ok image
-    → option_map unlined_file later ≡ option_map unlined_file (with_digest named (Some image.digest))
-    → outcome new (bios_plan (bios_file later)) ≡ Ok image
-bios-again old new None later image some kept h same = absurd cc
-bios-again old new (Some named) None image some kept h same = absurd cc
-bios-again old new (Some named) (Some later) image some kept h same =
-    image-unlined new bios_form later (record named { digest = Some image.digest }) (some-is _ _ same)
+bios-again : (old new : Files) (named later : NamedFile) (image : DigestedImage)
+    → IsKept old new named → outcome old (bios_plan named) ≡ Ok image
+    → unlined_file later ≡ unlined_file (with_digest named (Some image.digest))
+    → outcome new (bios_plan later) ≡ Ok image
+bios-again old new named later image kept h same =
+    image-unlined new bios_form later (record named { digest = Some image.digest }) same
     ∙ image-again old new bios_form named image kept h
 
 keys-again : (files : Files) (changes : List KeyChange) (keys : Option NamedFile) → option_map unlined_file keys ≡ None
@@ -102,7 +101,7 @@ keys-again files changes (Some named) none = absurd cc
 -- ---- a console
 
 -- a console that a log says of this one, with these outputs
-abbrev IsSaid : ConsoleJob → ConsoleInputs → List (Option OutLine) → ConsoleJob → Type 0
+abbrev IsSaid : ConsoleJob → ConsoleInputs → PerKind (Option OutLine) → ConsoleJob → Type 0
 IsSaid console inputs outs later =
     unlined_console later ≡ unlined_console (without_key_file (record (filled_console console inputs) { outs = outs }))
 
@@ -110,11 +109,11 @@ IsSaid console inputs outs later =
 abbrev Has : Files → ConsoleJob → ConsoleInputs → Type 0
 Has files console inputs = outcome files (console_plan console) ≡ Ok inputs
 
-console-again : (old new : Files) (console later : ConsoleJob) (inputs : ConsoleInputs) (outs : List (Option OutLine))
+console-again : (old new : Files) (console later : ConsoleJob) (inputs : ConsoleInputs) (outs : PerKind (Option OutLine))
     → IsConsole console → KeepsImages old new console → Has old console inputs → IsSaid console inputs outs later
     → Has new later inputs
 console-again old new console later inputs outs sound kept h said =
-    let b = outcome-parts old (bios_plan (bios_file console.bios)) (after_bios console) inputs h in
+    let b = outcome-parts old (bios_plan console.bios) (after_bios console) inputs h in
     let c = outcome-parts old (any_cart_plan console.cart) (after_cart console b.0) inputs b.2 in
     let s = outcome-parts old (any_save_plan console.save) (after_save console b.0 c.0) inputs c.2 in
     let k = outcome-parts old (any_keys_plan console.changes console.keys) (after_keys b.0 c.0 s.0) inputs s.2 in
@@ -122,13 +121,13 @@ console-again old new console later inputs outs sound kept h said =
     ok-is (inputs_of b.0 c.0 s.0 k.0) inputs (sym (outcome-done old (inputs_of b.0 c.0 s.0 k.0)) ∙ k.2) in
     let S : ConsoleInputs → Type 0 = λ i. IsSaid console i outs later in
     let here : S (inputs_of b.0 c.0 s.0 k.0) = subst S (sym is) said in
-    let bios = bios-again old new console.bios later.bios b.0 sound.image kept.bios b.1 (ap (λ (c : ConsoleJob). c.bios) here) in
+    let bios = bios-again old new console.bios later.bios b.0 kept.bios b.1 (ap (λ (c : ConsoleJob). c.bios) here) in
     let cart = any-again old new cart_form console.cart later.cart c.0 kept.cart c.1 (ap (λ (c : ConsoleJob). c.cart) here) in
     let save = any-again old new save_form console.save later.save s.0 kept.save s.1 (ap (λ (c : ConsoleJob). c.save) here) in
     let changes : later.changes ≡ k.0 = ap (λ (c : ConsoleJob). c.changes) here in
     let keys = keys-again new later.changes later.keys (ap (λ (c : ConsoleJob). c.keys) here) in
     let read : outcome new (any_keys_plan later.changes later.keys) ≡ Ok k.0 = keys ∙ ap (λ cs. Ok cs) changes in
-    outcome-then new (bios_plan (bios_file later.bios)) (after_bios later) b.0 (Ok inputs) bios
+    outcome-then new (bios_plan later.bios) (after_bios later) b.0 (Ok inputs) bios
     (outcome-then new (any_cart_plan later.cart) (after_cart later b.0) c.0 (Ok inputs) cart
     (outcome-then new (any_save_plan later.save) (after_save later b.0 c.0) s.0 (Ok inputs) save
     (outcome-then new (any_keys_plan later.changes later.keys) (after_keys b.0 c.0 s.0) k.0 (Ok inputs) read
@@ -168,7 +167,7 @@ gives-each files (console ∷ consoles) done (i ∷ inputs) given =
     (gives-each files consoles (done ++ i ∷ []) inputs given.1 ∙ ap (λ all. Ok all) (append_assoc done (i ∷ []) inputs))
 
 -- the consoles that a log says of these
-abbrev AreSaid : List ConsoleJob → List ConsoleInputs → List (List (Option OutLine)) → List ConsoleJob → Type 0
+abbrev AreSaid : List ConsoleJob → List ConsoleInputs → List (PerKind (Option OutLine)) → List ConsoleJob → Type 0
 AreSaid consoles inputs outs later =
     map unlined_console later ≡ map unlined_console (map without_key_file (with_outputs (filled_consoles consoles inputs) outs))
 
@@ -179,7 +178,7 @@ tail-is : (x y : ConsoleJob) (xs ys : List ConsoleJob) → x ∷ xs ≡ y ∷ ys
 tail-is x y xs ys h = cc
 
 consoles-again : (old new : Files) (consoles later : List ConsoleJob) (inputs : List ConsoleInputs)
-    (outs : List (List (Option OutLine))) → All IsConsole consoles → length outs ≡ length consoles
+    (outs : List (PerKind (Option OutLine))) → All IsConsole consoles → length outs ≡ length consoles
     → All (KeepsImages old new) consoles → AllZip (Has old) consoles inputs → AreSaid consoles inputs outs later
     → AllZip (Has new) later inputs
 unfolding filled_consoles with_outputs
@@ -198,7 +197,7 @@ consoles-again old new (c ∷ consoles) (l ∷ later) (i ∷ inputs) (o ∷ outs
     )
 
 -- they are asked for these outputs
-consoles-asked : (consoles later : List ConsoleJob) (inputs : List ConsoleInputs) (outs : List (List (Option OutLine)))
+consoles-asked : (consoles later : List ConsoleJob) (inputs : List ConsoleInputs) (outs : List (PerKind (Option OutLine)))
     → length consoles ≡ length inputs → length outs ≡ length consoles → AreSaid consoles inputs outs later
     → map asked_of later ≡ outs
 unfolding filled_consoles with_outputs
@@ -215,7 +214,7 @@ consoles-asked (c ∷ consoles) (l ∷ later) (i ∷ inputs) (o ∷ outs) read l
 
 -- ---- the job of a log is sound
 
-pub with_outputs-sound : (consoles : List ConsoleJob) (outs : List (List (Option OutLine))) → All IsConsole consoles
+pub with_outputs-sound : (consoles : List ConsoleJob) (outs : List (PerKind (Option OutLine))) → All IsConsole consoles
     → All AreOutputs outs → length outs ≡ length consoles
     → All IsConsole (with_outputs consoles outs) × (length (with_outputs consoles outs) ≡ length consoles)
 unfolding with_outputs
@@ -226,21 +225,19 @@ with_outputs-sound (c ∷ consoles) (o ∷ outs) sound right long =
     let asked = All-head AreOutputs o outs right in
     let rest = with_outputs-sound consoles outs (All-tail IsConsole c consoles sound) (All-tail AreOutputs o outs right) (omega arith) in
     let first : IsConsole (record c { outs = o }) = record {
-      part = record {
-        bios = here.part.bios;
-        cart = here.part.cart;
-        save = here.part.save;
-        keys = here.part.keys;
-        changes = here.part.changes;
-        apart = here.part.apart;
-        five = asked.five;
-        outs = asked.each;
+      bios = here.bios;
+      lines = record {
+        cart = here.lines.cart;
+        save = here.lines.save;
+        keys = here.lines.keys;
+        changes = here.lines.changes;
+        apart = here.lines.apart;
+        outs = asked;
       };
-      image = here.image;
     } in
     (All-cons IsConsole (record c { outs = o }) (with_outputs consoles outs) first rest.0, omega (arith, rest.1))
 
-log_job-sound : (job : WholeJob) (inputs : List ConsoleInputs) (outs : List (List (Option OutLine))) → IsJob job
+log_job-sound : (job : WholeJob) (inputs : List ConsoleInputs) (outs : List (PerKind (Option OutLine))) → IsJob job
     → AllZip AreInputs job.consoles inputs → length outs ≡ length job.consoles → All AreOutputs outs
     → IsJob (log_job job inputs outs)
 log_job-sound job inputs outs sound read long right =
@@ -258,14 +255,15 @@ log_job-sound job inputs outs sound read long right =
 
 -- ---- a log goes by what is said but for lines and key files
 
-file-unlined : (front : List ℕ) (named : Option NamedFile) → file_text front (option_map unlined_file named) ≡ file_text front named
+file-unlined : (front : List ℕ) (named : Option NamedFile)
+    → any_file_text front (option_map unlined_file named) ≡ any_file_text front named
 file-unlined front None = refl
 file-unlined front (Some named) = refl
 
 console-unlined : (player : ℕ) (console : ConsoleJob)
     → console_text player (unlined_console (without_key_file console)) ≡ console_text player console
 unfolding console_text
-console-unlined player console = rw (file-unlined, file-unlined, file-unlined) refl
+console-unlined player console = rw (file-unlined, file-unlined) refl
 
 consoles-unlined : (player : ℕ) (consoles : List ConsoleJob)
     → consoles_text player (map unlined_console (map without_key_file consoles)) ≡ consoles_text player consoles
@@ -277,25 +275,27 @@ consoles-unlined player (c ∷ consoles) =
 
 -- a digest is stated again
 stated-again : (named later : Option NamedFile) (digest : Option (List ℕ))
-    → option_map unlined_file later ≡ option_map unlined_file (with_digest named digest)
-    → option_map unlined_file (with_digest later digest) ≡ option_map unlined_file (with_digest named digest)
+    → option_map unlined_file later ≡ option_map unlined_file (any_with_digest named digest)
+    → option_map unlined_file (any_with_digest later digest) ≡ option_map unlined_file (any_with_digest named digest)
 stated-again None None digest same = refl
 stated-again None (Some later) digest same = absurd cc
 stated-again (Some named) None digest same = absurd cc
 stated-again (Some named) (Some later) digest same =
     ap (λ (f : NamedFile). Some (record f { digest = digest })) (some-is _ _ same)
 
-console-said : (console later : ConsoleJob) (inputs : ConsoleInputs) (outs : List (Option OutLine))
+console-said : (console later : ConsoleJob) (inputs : ConsoleInputs) (outs : PerKind (Option OutLine))
     → IsSaid console inputs outs later
     → unlined_console (without_key_file (record (filled_console later inputs) { outs = outs }))
     ≡ unlined_console (without_key_file (record (filled_console console inputs) { outs = outs }))
 console-said console later inputs outs said =
-    let bios = stated-again console.bios later.bios (Some inputs.digests.bios) (ap (λ (c : ConsoleJob). c.bios) said) in
+    let bios : unlined_file (with_digest later.bios (Some inputs.digests.bios))
+    ≡ unlined_file (with_digest console.bios (Some inputs.digests.bios)) =
+    ap (λ (c : ConsoleJob). with_digest c.bios (Some inputs.digests.bios)) said in
     let cart = stated-again console.cart later.cart inputs.digests.cart (ap (λ (c : ConsoleJob). c.cart) said) in
     let save = stated-again console.save later.save inputs.digests.save (ap (λ (c : ConsoleJob). c.save) said) in
     rw (bios, cart, save) refl
 
-consoles-said : (consoles later : List ConsoleJob) (inputs : List ConsoleInputs) (outs : List (List (Option OutLine)))
+consoles-said : (consoles later : List ConsoleJob) (inputs : List ConsoleInputs) (outs : List (PerKind (Option OutLine)))
     → AreSaid consoles inputs outs later
     → map unlined_console (map without_key_file (with_outputs (filled_consoles later inputs) outs))
     ≡ map unlined_console (map without_key_file (with_outputs (filled_consoles consoles inputs) outs))
@@ -312,7 +312,7 @@ consoles-said (c ∷ consoles) (l ∷ later) (i ∷ inputs) (o ∷ outs) said =
     let rest = consoles-said consoles later inputs outs (tail-is _ _ _ _ said) in
     rw (first, rest) refl
 
-own-text : (job again : WholeJob) (inputs : List ConsoleInputs) (outs : List (List (Option OutLine)))
+own-text : (job again : WholeJob) (inputs : List ConsoleInputs) (outs : List (PerKind (Option OutLine)))
     → again.cycles ≡ job.cycles → again.delay ≡ job.delay → AreSaid job.consoles inputs outs again.consoles
     → log_text (log_job again inputs outs) ≡ log_text (log_job job inputs outs)
 unfolding log_text
@@ -324,7 +324,7 @@ own-text job again inputs outs cycles delay said =
     ∙ consoles-unlined 0 (with_outputs (filled_consoles job.consoles inputs) outs) in
     rw (cycles, delay, text) refl
 
-pub replayed : (old new : Files) (job : WholeJob) (inputs : List ConsoleInputs) (outs : List (List (Option OutLine)))
+pub replayed : (old new : Files) (job : WholeJob) (inputs : List ConsoleInputs) (outs : List (PerKind (Option OutLine)))
     → IsJob job → length outs ≡ length job.consoles → All AreOutputs outs
     → outcome old (inputs_plan job.consoles) ≡ Ok inputs → All (KeepsImages old new) job.consoles
     → IsReplayed new job inputs outs

@@ -1,5 +1,5 @@
 -- What is read for sound consoles is sound, and so is a job with it written in.
-use Rattle.std.proofs.Common.{◌≡◌, ℕ, true, List, [], ◌∷◌, ◌++◌, length, Option, Some, None, Result, Ok, Err, refl, sym, ap, subst, ◌∙◌, arith}
+use Rattle.std.proofs.Common.{◌≡◌, ℕ, List, [], ◌∷◌, ◌++◌, length, Option, Some, None, Result, Ok, Err, refl, sym, ap, subst, ◌∙◌, arith}
 use Rattle.std.specs.List.{All, AllZip}
 use Rattle.std.specs.Prelude.{IfOk, IfSome, is_some, option_map}
 use Rattle.std.proofs.lemmas.List.{append_assoc, append-nil}
@@ -22,9 +22,9 @@ use Rattle.gba_joblog.specs.declared.kinds.JobError.{JobError}
 use Rattle.gba_joblog.proofs.Digests.{IsDigest-sha256}
 use Rattle.gba_joblog.proofs.SoundChanges.{keys-sound}
 use Rattle.gba_joblog.proofs.Steps.{ok-is}
-use Rattle.gba_inputs.specs.Filled.{filled, filled_console, filled_consoles, with_digest}
+use Rattle.gba_inputs.specs.Filled.{any_with_digest, filled, filled_console, filled_consoles}
 use Rattle.gba_inputs.specs.Inputs.{ConsoleInputs, DigestedImage, digested}
-use Rattle.gba_inputs.specs.InputsPlan.{ImageForm, accepted, after_bios, after_cart, after_digest, after_keys, after_save, any_cart_plan, any_keys_plan, any_save_plan, bios_file, bios_form, bios_plan, cart_form, compared, console_plan, digest_of, found, image_of, image_plan, inputs_of, inputs_plan, judged_image, judged_keys, keys_or_fault, keys_or_refusal, save_form, unless_fault}
+use Rattle.gba_inputs.specs.InputsPlan.{ImageForm, accepted, after_bios, after_cart, after_digest, after_keys, after_save, any_cart_plan, any_keys_plan, any_save_plan, bios_form, bios_plan, cart_form, compared, console_plan, digest_of, found, image_of, image_plan, inputs_of, inputs_plan, judged_image, judged_keys, keys_or_fault, keys_or_refusal, save_form, unless_fault}
 use Rattle.gba_inputs.specs.Law.{AreInputs, Passes}
 
 abbrev pub read_file : List ℕ → ℕ → Cause → Plan (List ℕ)
@@ -101,12 +101,12 @@ any_keys-sound own (Some named) changes sound h =
 console-sound : (console : ConsoleJob) (inputs : ConsoleInputs) → IsConsole console
     → ComesTo (console_plan console) inputs → AreInputs console inputs
 console-sound console inputs sound h =
-    let b = comes-bind (bios_plan (bios_file console.bios)) (after_bios console) inputs h in
+    let b = comes-bind (bios_plan console.bios) (after_bios console) inputs h in
     let c = comes-bind (any_cart_plan console.cart) (after_cart console b.0) inputs b.2 in
     let s = comes-bind (any_save_plan console.save) (after_save console b.0 c.0) inputs c.2 in
     let k = comes-bind (any_keys_plan console.changes console.keys) (after_keys b.0 c.0 s.0) inputs s.2 in
     let is = comes-done (inputs_of b.0 c.0 s.0 k.0) inputs k.2 in
-    let bios = image-sound bios_form (bios_file console.bios) b.0 b.1 in
+    let bios = image-sound bios_form console.bios b.0 b.1 in
     let cart = any_cart-sound console.cart c.0 c.1 in
     let save = any_save-sound console.save s.0 s.1 in
     rw (← is) (record {
@@ -116,7 +116,7 @@ console-sound console inputs sound h =
       has_cart = cart.has;
       has_save = save.has;
       digests = rw (ap digest_of bios.is, cart.digest, save.digest) refl;
-      changes = any_keys-sound console.changes console.keys k.0 sound.part.changes k.1;
+      changes = any_keys-sound console.changes console.keys k.0 sound.lines.changes k.1;
     })
 
 -- what is read for consoles after others
@@ -153,31 +153,24 @@ inputs-sound files consoles inputs sound h =
     plan-sound consoles inputs sound (outcome-comes files (inputs_plan consoles) inputs h)
 
 with_digest-sound : (named : Option NamedFile) (image : Option (List ℕ)) → IfSome named IsFile
-    → IfSome (with_digest named (option_map sha256 image)) IsFile
+    → IfSome (any_with_digest named (option_map sha256 image)) IsFile
 with_digest-sound None image h = tt
 with_digest-sound (Some named) None h = record { named = h.named; stated = tt }
 with_digest-sound (Some named) (Some bytes) h = record { named = h.named; stated = IsDigest-sha256 bytes }
-
-some-with : (named : Option NamedFile) (digest : Option (List ℕ)) → is_some named ≡ true
-    → is_some (with_digest named digest) ≡ true
-some-with None digest h = h
-some-with (Some named) digest h = refl
 
 filled_console-sound : (console : ConsoleJob) (inputs : ConsoleInputs) → IsConsole console → AreInputs console inputs
     → IsConsole (filled_console console inputs)
 filled_console-sound console inputs sound read =
     rw read.digests (record {
-      part = record {
-        bios = with_digest-sound console.bios (Some inputs.images.bios) sound.part.bios;
-        cart = with_digest-sound console.cart inputs.images.cart sound.part.cart;
-        save = with_digest-sound console.save inputs.images.save sound.part.save;
+      bios = record { named = sound.bios.named; stated = IsDigest-sha256 inputs.images.bios };
+      lines = record {
+        cart = with_digest-sound console.cart inputs.images.cart sound.lines.cart;
+        save = with_digest-sound console.save inputs.images.save sound.lines.save;
         keys = tt;
         changes = read.changes;
         apart = λ there. absurd cc;
-        five = sound.part.five;
-        outs = sound.part.outs;
+        outs = sound.lines.outs;
       };
-      image = some-with console.bios (Some (sha256 inputs.images.bios)) sound.image;
     })
 
 -- consoles with their inputs written in

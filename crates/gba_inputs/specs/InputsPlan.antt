@@ -98,11 +98,6 @@ abbrev pub any_keys_plan : List KeyChange → Option NamedFile → Plan (List Ke
 any_keys_plan changes None = Done changes
 any_keys_plan changes (Some named) = key_file_plan named
 
--- the line of a console's BIOS image, which every console of a job has
-abbrev pub bios_file : Option NamedFile → NamedFile
-bios_file None = record { name = []; digest = None; line = 0 }
-bios_file (Some named) = named
-
 abbrev pub image_of : DigestedImage → List ℕ
 image_of image = image.image
 
@@ -130,7 +125,7 @@ abbrev pub after_bios : ConsoleJob → DigestedImage → Plan ConsoleInputs
 after_bios console bios = bind (any_cart_plan console.cart) (after_cart console bios)
 
 abbrev pub console_plan : ConsoleJob → Plan ConsoleInputs
-console_plan console = bind (bios_plan (bios_file console.bios)) (after_bios console)
+console_plan console = bind (bios_plan console.bios) (after_bios console)
 
 -- the inputs of consoles, one console after another
 abbrev pub inputs_plan : List ConsoleJob → Plan (List ConsoleInputs)

@@ -8,7 +8,9 @@ use Rattle.gba_image.specs.declared.error.ImageError.{ImageError}
 use Rattle.gba_image.specs.declared.images.ConsoleImages.{ConsoleImages}
 use Rattle.gba_joblog.specs.Language.{job_of}
 use Rattle.gba_joblog.specs.Log.{log_text}
+use Rattle.gba_joblog.specs.Outputs.{EachKind}
 use Rattle.gba_joblog.specs.declared.job.OutLine.{OutLine}
+use Rattle.gba_joblog.specs.declared.outputs.PerKind.{PerKind}
 use Rattle.gba_joblog.specs.Job.{ConsoleJob, NamedFile, WholeJob}
 use Rattle.gba_joblog.specs.Soundness.{AreChanges, IsConsole, IsJob, IsOutput}
 use Rattle.gba_store.specs.Files.{Files}
@@ -52,9 +54,8 @@ FilledIsSound =
     → IsJob (filled job inputs)
 
 -- the outputs of a console, with the digests stated for them
-pub record AreOutputs (outs : List (Option OutLine)) : Type 0 where
-  pub five : length outs ≡ 5
-  pub each : All IsOutput outs
+abbrev pub AreOutputs : PerKind (Option OutLine) → Type 0
+AreOutputs outs = EachKind IsOutput outs
 
 -- new files have the bytes of this one as the old files had them
 abbrev pub IsKept : Files → Files → NamedFile → Type 0
@@ -62,17 +63,17 @@ IsKept old new file = new file.name ≡ old file.name
 
 -- New files have the images of a console as the old files had them. Of its key file nothing is said.
 pub record KeepsImages (old new : Files) (console : ConsoleJob) : Type 0 where
-  pub bios : IfSome console.bios (IsKept old new)
+  pub bios : IsKept old new console.bios
   pub cart : IfSome console.cart (IsKept old new)
   pub save : IfSome console.save (IsKept old new)
 
 -- what a console is asked for
-abbrev pub asked_of : ConsoleJob → List (Option OutLine)
+abbrev pub asked_of : ConsoleJob → PerKind (Option OutLine)
 asked_of console = console.outs
 
 -- The log of a run is read as a job of as many cycles, the same delay and these outputs. Over these files every input of
 -- it passes its check and has the digest that the log states, and is the same; and its own log is this log.
-pub record IsReplayed (files : Files) (job : WholeJob) (inputs : List ConsoleInputs) (outs : List (List (Option OutLine))) : Type 0 where
+pub record IsReplayed (files : Files) (job : WholeJob) (inputs : List ConsoleInputs) (outs : List (PerKind (Option OutLine))) : Type 0 where
   pub again : WholeJob
   pub read : job_of (log_text (log_job job inputs outs)) ≡ Ok again
   pub cycles : again.cycles ≡ job.cycles
@@ -84,7 +85,7 @@ pub record IsReplayed (files : Files) (job : WholeJob) (inputs : List ConsoleInp
 -- The files over which the log is run need the images of the job alone: its key files are written in.
 abbrev pub LogsAreReplayed : Type 0
 LogsAreReplayed =
-    (old new : Files) (job : WholeJob) (inputs : List ConsoleInputs) (outs : List (List (Option OutLine))) → IsJob job
+    (old new : Files) (job : WholeJob) (inputs : List ConsoleInputs) (outs : List (PerKind (Option OutLine))) → IsJob job
     → length outs ≡ length job.consoles → All AreOutputs outs
     → outcome old (inputs_plan job.consoles) ≡ Ok inputs → All (KeepsImages old new) job.consoles
     → IsReplayed new job inputs outs

@@ -4,7 +4,7 @@ ghost use Rattle.std.specs.Prelude.{◌≡◌, length, map, option_map};
 ghost use Rattle.std.specs.List.{AllZip};
 ghost use Rattle.gba_joblog.specs.Soundness.{IsJob};
 ghost use Rattle.gba_joblog.specs.Views.{console_value, file_value, job_value};
-ghost use Rattle.gba_inputs.specs.Filled.{filled, filled_console, filled_consoles, filled_with, with_digest};
+ghost use Rattle.gba_inputs.specs.Filled.{any_with_digest, filled, filled_console, filled_consoles, filled_with};
 ghost use Rattle.gba_inputs.specs.Law.{AreInputs};
 ghost use Rattle.gba_inputs.specs.Views.{images_of, inputs_value};
 
@@ -15,7 +15,7 @@ use std::mem;
 
 /// States the digest of an input that may be named.
 fn state(file: &mut Option<FileLine>, digest: Option<[u8; 32]>)
-    ensures { option_map file_value file.new ≡ with_digest (option_map file_value file.old) digest }
+    ensures { option_map file_value file.new ≡ any_with_digest (option_map file_value file.old) digest }
 {
     if let Some(file) = file {
         file.digest = digest;
@@ -27,8 +27,7 @@ fn state(file: &mut Option<FileLine>, digest: Option<[u8; 32]>)
 pub fn fill(console: &mut JobConsole, digests: &ImageDigests, changes: Vec<KeyChange>)
     ensures { console_value console.new ≡ filled_with (console_value console.old) digests.now changes.items }
 {
-    let bios = digests.bios;
-    state(&mut console.bios, Some(bios));
+    console.bios.digest = Some(digests.bios);
     state(&mut console.cart, digests.cart);
     state(&mut console.save, digests.save);
     console.keys = None;

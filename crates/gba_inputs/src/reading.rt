@@ -4,10 +4,10 @@ ghost use Rattle.std.specs.Prelude.{◌≡◌, ◌++◌, ◌∷◌, [], IfErr, I
 ghost use Rattle.std.specs.List.{All, AllZip};
 ghost use Rattle.gba_command.specs.Reading.{Gives, GoesTo};
 ghost use Rattle.gba_command.specs.Views.{end_of};
-ghost use Rattle.gba_joblog.specs.Soundness.{IsConsole, IsFile};
+ghost use Rattle.gba_joblog.specs.Soundness.{IsConsole};
 ghost use Rattle.gba_command.specs.declared.refusal.Refusal.TheVariants.{NoMemory};
-ghost use Rattle.gba_joblog.specs.Views.{console_value, file_value};
-ghost use Rattle.gba_inputs.specs.InputsPlan.{bios_file as bios_file_of, console_plan, inputs_of as inputs_of_all, inputs_plan};
+ghost use Rattle.gba_joblog.specs.Views.{console_value};
+ghost use Rattle.gba_inputs.specs.InputsPlan.{console_plan, inputs_of as inputs_of_all, inputs_plan};
 ghost use Rattle.gba_inputs.specs.Law.{AreInputs};
 ghost use Rattle.gba_inputs.specs.Views.{all_inputs_value, digested_value, inputs_value};
 
@@ -16,21 +16,9 @@ use crate::inputs::{Digested, ImageDigests, Inputs};
 use crate::keys::read_any_keys;
 use gba_command::Refusal;
 use gba_image::{Bios, Cartridge, ConsoleImages, Save};
-use gba_joblog::{FileLine, JobConsole, KeyChange};
+use gba_joblog::{JobConsole, KeyChange};
 use gba_store::Store;
 use std::alloc::Global;
-
-/// The line of a console's BIOS image, which every console of a job has.
-fn bios_file(console: &JobConsole) -> &FileLine
-    requires { IsConsole (console_value console.now) }
-    ensures file { file_value result.now ≡ bios_file_of (console_value console.now).bios }
-    ensures sound { IsFile (file_value result.now) }
-{
-    match &console.bios {
-        Some(file) => file,
-        None => unreachable!(),
-    }
-}
 
 /// What was read for a console, in one.
 fn inputs_of(
@@ -83,7 +71,7 @@ fn read_console<S: Store>(
     ensures { GoesTo (Gives S.Tells S.files S.Reads S.absences S.faults) (console_plan (console_value console.now))
         store.old store.new (end_of inputs_value result) }
 {
-    let bios = read_bios(alloc, store, bios_file(console))?;
+    let bios = read_bios(alloc, store, &console.bios)?;
     let cart = read_any_cartridge(alloc, store, &console.cart)?;
     let save = read_any_save(alloc, store, &console.save)?;
     let changes = read_any_keys(alloc, store, console.changes.as_slice(), &console.keys)?;

@@ -257,7 +257,7 @@ fn inputs_are_read_and_written_in(rt: HostRuntime) -> Result<(), Fail> {
         fill(console, &digests, inputs.changes);
         assert!(rt; console.keys.is_none());
         assert_eq!(rt; console.changes.len(), changes);
-        assert_eq!(rt; digest_at(&console.bios), Some(bios));
+        assert_eq!(rt; console.bios.digest, Some(bios));
         assert_eq!(rt; digest_at(&console.cart), cart);
         assert_eq!(rt; digest_at(&console.save).is_some(), is_first);
         is_first = false;

@@ -1,4 +1,5 @@
 pub mod Digests
+pub mod EachKind
 pub mod NameTexts
 pub mod Reading
 pub mod OutputNames

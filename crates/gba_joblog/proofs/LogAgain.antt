@@ -1,6 +1,6 @@
 -- The log of a job is read as the same job.
-use Rattle.std.proofs.Common.{◌≡◌, ℕ, ◌+◌, ◌≤◌, ◌^◌, true, List, [], ◌∷◌, ◌++◌, length, map, Some, None, Ok, refl, ap, sym, subst, ◌∙◌, lit≤, arith}
-use Rattle.std.specs.Prelude.{codes, decimal, is_some}
+use Rattle.std.proofs.Common.{◌≡◌, ℕ, ◌+◌, ◌≤◌, ◌^◌, List, [], ◌∷◌, ◌++◌, length, map, Some, None, Ok, refl, ap, sym, subst, ◌∙◌, lit≤, arith}
+use Rattle.std.specs.Prelude.{codes, decimal}
 use Rattle.std.specs.List.{All}
 use Rattle.std.proofs.lemmas.List.{append-nil, append_assoc, length-append, map-append}
 use Rattle.std.proofs.lemmas.List.Elements.{All-head, All-tail}
@@ -16,7 +16,7 @@ use Rattle.gba_joblog.specs.Statements.{Console, Cycles, Delay, End, Version, ar
 use Rattle.gba_joblog.specs.declared.draft.Place.TheVariants.{Ended, Head}
 use Rattle.gba_joblog.proofs.LogLines.{Reads, head, inside, line-reads, number-line, reads-nothing, reads-then}
 use Rattle.gba_joblog.proofs.LogLength.{log-short}
-use Rattle.gba_joblog.proofs.LogParts.{body-read}
+use Rattle.gba_joblog.proofs.LogParts.{as_draft, body-read}
 use Rattle.gba_joblog.proofs.Reading.{answer_of-lines}
 use Rattle.gba_joblog.proofs.Relation.{leads_none, led}
 use Rattle.gba_joblog.proofs.Spelling.{IsLine, are_more, are_none}
@@ -76,15 +76,15 @@ first-plus : (n t q : ℕ) → plus_statement n (Console 0) (head t q) ≡ insid
 unfolding plus_statement
 first-plus n t q = refl
 
-next-says : (t q : ℕ) (whole : List ConsoleJob) (last : ConsoleJob) → is_some last.bios ≡ true → length whole + 1 ≤ 3
-    → words_say (inside t q whole last) (codes "console" ∷ decimal (length whole + 1) ∷ []) ≡ Ok (Some (Console (length whole + 1)))
+next-says : (t q : ℕ) (whole : List ConsoleJob) (last : ConsoleJob) → length whole + 1 ≤ 3
+    → words_say (inside t q whole (as_draft last)) (codes "console" ∷ decimal (length whole + 1) ∷ []) ≡ Ok (Some (Console (length whole + 1)))
 unfolding keyword_of refusal_at arguments
-next-says t q whole last image few =
+next-says t q whole last few =
     let is = player-again (length whole + 1) [] few in
-    rw (is, image) refl
+    rw is refl
 
 next-plus : (n t q player : ℕ) (whole : List ConsoleJob) (last : ConsoleJob)
-    → plus_statement n (Console player) (inside t q whole last) ≡ inside t q (whole ++ last ∷ []) silent_console
+    → plus_statement n (Console player) (inside t q whole (as_draft last)) ≡ inside t q (whole ++ last ∷ []) silent_console
 unfolding plus_statement
 next-plus n t q player whole last = refl
 
@@ -99,40 +99,38 @@ record ConsolesRead (n t q : ℕ) (whole : List ConsoleJob) (last : ConsoleJob) 
   after : ℕ
   before : List ConsoleJob
   latest : ConsoleJob
-  image : is_some latest.bios ≡ true
   same : map unlined_console (before ++ latest ∷ [])
       ≡ map unlined_console (whole ++ last ∷ []) ++ map unlined_console (map without_key_file consoles)
-  reads : Reads n (inside t q whole last) (consoles_text (length whole + 1) consoles) after (inside t q before latest)
+  reads : Reads n (inside t q whole (as_draft last)) (consoles_text (length whole + 1) consoles) after
+      (inside t q before (as_draft latest))
 
 consoles-read : (n t q : ℕ) (whole : List ConsoleJob) (last : ConsoleJob) (consoles : List ConsoleJob)
-    → is_some last.bios ≡ true → All IsConsole consoles → length whole + 1 + length consoles ≤ 4
+    → All IsConsole consoles → length whole + 1 + length consoles ≤ 4
     → ConsolesRead n t q whole last consoles
 unfolding consoles_text
-consoles-read n t q whole last [] image sound few = record {
+consoles-read n t q whole last [] sound few = record {
   after = n;
   before = whole;
   latest = last;
-  image = image;
   same = sym (append-nil (map unlined_console (whole ++ last ∷ [])));
-  reads = reads-nothing n (inside t q whole last);
+  reads = reads-nothing n (inside t q whole (as_draft last));
 }
-consoles-read n t q whole last (console ∷ consoles) image sound few =
+consoles-read n t q whole last (console ∷ consoles) sound few =
     let player = length whole + 1 in
-    let opened = line-reads n (inside t q whole last) (codes "console") (decimal player ∷ []) (Console player)
-    (console-line player (omega arith)) (next-says t q whole last image (omega arith)) in
+    let opened = line-reads n (inside t q whole (as_draft last)) (codes "console") (decimal player ∷ []) (Console player)
+    (console-line player (omega arith)) (next-says t q whole last (omega arith)) in
     let start = rw (next-plus (n + 1) t q player whole last) at opened in
     let body = body-read (n + 1) t q (whole ++ last ∷ []) console (All-head IsConsole console consoles sound) in
     let long : length (whole ++ last ∷ []) ≡ length whole + 1 = length-append whole (last ∷ []) in
-    let rest = consoles-read body.after t q (whole ++ last ∷ []) body.last consoles body.image
+    let rest = consoles-read body.after t q (whole ++ last ∷ []) body.last consoles
     (All-tail IsConsole console consoles sound) (omega (arith, long)) in
-    let P : ℕ → Type 0 = λ k. Reads body.after (inside t q (whole ++ last ∷ []) body.last) (consoles_text (k + 1) consoles)
-    rest.after (inside t q rest.before rest.latest) in
+    let P : ℕ → Type 0 = λ k. Reads body.after (inside t q (whole ++ last ∷ []) (as_draft body.last)) (consoles_text (k + 1) consoles)
+    rest.after (inside t q rest.before (as_draft rest.latest)) in
     let reads : P (length whole + 1) = subst P long rest.reads in
     record {
       after = rest.after;
       before = rest.before;
       latest = rest.latest;
-      image = rest.image;
       same = rest.same ∙ ap (λ front. front ++ map unlined_console (map without_key_file consoles))
           (map-append unlined_console (whole ++ last ∷ []) (body.last ∷ []))
           ∙ append_assoc (map unlined_console (whole ++ last ∷ [])) (unlined_console body.last ∷ []) (map unlined_console (map without_key_file consoles))
@@ -147,9 +145,8 @@ record AllRead (n t q : ℕ) (consoles : List ConsoleJob) : Type 0 where
   after : ℕ
   before : List ConsoleJob
   latest : ConsoleJob
-  image : is_some latest.bios ≡ true
   same : map unlined_console (before ++ latest ∷ []) ≡ map unlined_console (map without_key_file consoles)
-  reads : Reads n (head t q) (consoles_text 0 consoles) after (inside t q before latest)
+  reads : Reads n (head t q) (consoles_text 0 consoles) after (inside t q before (as_draft latest))
 
 all-read : (n t q : ℕ) (consoles : List ConsoleJob) → All IsConsole consoles → 1 ≤ length consoles
     → length consoles ≤ 4 → AllRead n t q consoles
@@ -159,12 +156,11 @@ all-read n t q (console ∷ consoles) sound some few =
     let opened = line-reads n (head t q) (codes "console") (decimal 0 ∷ []) (Console 0) (console-line 0 (omega arith)) (first-says t q) in
     let start = rw (first-plus (n + 1) t q) at opened in
     let body = body-read (n + 1) t q [] console (All-head IsConsole console consoles sound) in
-    let rest = consoles-read body.after t q [] body.last consoles body.image (All-tail IsConsole console consoles sound) (omega arith) in
+    let rest = consoles-read body.after t q [] body.last consoles (All-tail IsConsole console consoles sound) (omega arith) in
     record {
       after = rest.after;
       before = rest.before;
       latest = rest.latest;
-      image = rest.image;
       same = rest.same ∙ ap (λ c. c ∷ map unlined_console (map without_key_file consoles)) body.same;
       reads = reads-then _ _ _ _ _ _ (console_text 0 console) _
           (rw console_text-is (reads-then _ _ _ _ _ _ (line_of (codes "console") (decimal 0 ∷ [])) _ start body.reads))
@@ -176,17 +172,17 @@ all-read n t q (console ∷ consoles) sound some few =
 end-line : IsLine (codes "end") []
 end-line = record { keyword = record { some = omega arith; bytes = refl }; words = are_none; plain = refl; short = lit≤ tt }
 
-end-says : (t q : ℕ) (whole : List ConsoleJob) (last : ConsoleJob) → is_some last.bios ≡ true
-    → words_say (inside t q whole last) (codes "end" ∷ []) ≡ Ok (Some End)
+end-says : (t q : ℕ) (whole : List ConsoleJob) (last : ConsoleJob)
+    → words_say (inside t q whole (as_draft last)) (codes "end" ∷ []) ≡ Ok (Some End)
 unfolding keyword_of refusal_at arguments
-end-says t q whole last image = rw image refl
+end-says t q whole last = refl
 
 abbrev ended : ℕ → ℕ → List ConsoleJob → Draft
 ended t q whole =
     record { place = Ended; cycles = Some t; delay = Some q; consoles = whole; last = silent_console }
 
 end-plus : (n t q : ℕ) (whole : List ConsoleJob) (last : ConsoleJob)
-    → plus_statement n End (inside t q whole last) ≡ ended t q (whole ++ last ∷ [])
+    → plus_statement n End (inside t q whole (as_draft last)) ≡ ended t q (whole ++ last ∷ [])
 unfolding plus_statement
 end-plus n t q whole last = refl
 
@@ -218,8 +214,8 @@ log-read job sound =
     (number-line (codes "delay") q (record { some = omega arith; bytes = refl }) refl (lit≤ tt) (omega (arith, sound.few_delay)))
     (delay-says t q sound.some_delay sound.few_delay)) in
     let all = all-read 3 t q job.consoles sound.each sound.some_consoles sound.few_consoles in
-    let last = rw (end-plus (all.after + 1) t q all.before all.latest) at (line-reads all.after (inside t q all.before all.latest)
-    (codes "end") [] End end-line (end-says t q all.before all.latest all.image)) in
+    let last = rw (end-plus (all.after + 1) t q all.before all.latest) at (line-reads all.after (inside t q all.before (as_draft all.latest))
+    (codes "end") [] End end-line (end-says t q all.before all.latest)) in
     record {
       after = all.after + 1;
       whole = all.before ++ all.latest ∷ [];

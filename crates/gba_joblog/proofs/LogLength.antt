@@ -1,21 +1,20 @@
 -- A log isn't longer than a job may be.
-use Rattle.std.proofs.Common.{◌≡◌, ℕ, ◌+◌, ◌*◌, ◌<◌, ◌≤◌, ◌^◌, List, [], ◌∷◌, ◌++◌, length, Option, Some, None, lit≤, arith}
-use Rattle.std.specs.Prelude.{IfSome, codes, decimal, slice_get}
-use Rattle.std.specs.List.{All}
+use Rattle.std.proofs.Common.{ℕ, ◌+◌, ◌*◌, ◌<◌, ◌≤◌, ◌^◌, List, [], ◌∷◌, ◌++◌, length, Option, Some, None, lit≤, arith}
+use Rattle.std.specs.Prelude.{IfSome, codes, decimal}
+use Rattle.std.specs.List.{All, flat_map}
 use Rattle.std.proofs.lemmas.List.{length-append}
 use Rattle.std.proofs.lemmas.List.Elements.{All-head, All-tail}
-use Rattle.std.proofs.lemmas.Option.{slice_get-get_or}
 use Rattle.hex.specs.Hex.{encode_lower}
 use Rattle.gba_joblog.specs.Digests.{IsDigest}
 use Rattle.gba_joblog.specs.Job.{ConsoleJob, NamedFile, WholeJob}
 use Rattle.gba_joblog.specs.Language.{longest_job}
-use Rattle.gba_joblog.specs.Log.{after_words, asked_text, change_text, changes_text, console_text, consoles_text, digest_words, file_text, files_text, keys_word, line_of, log_text, out_text, outs_text}
-use Rattle.gba_joblog.specs.Soundness.{IsChange, IsConsole, IsFile, IsJob, IsOutput, IsPartOfConsole}
-use Rattle.gba_joblog.specs.Statements.{asked_in, out_name, output_of, place_of}
+use Rattle.gba_joblog.specs.Log.{after_words, any_file_text, asked_text, change_text, changes_text, console_text, consoles_text, digest_words, file_text, files_text, keys_word, line_of, log_text, out_text, outs_text}
+use Rattle.gba_joblog.specs.Outputs.{all_kinds, out_name}
+use Rattle.gba_joblog.specs.Soundness.{IsChange, IsConsole, IsFile, IsJob, IsOutput}
+use Rattle.gba_joblog.specs.Statements.{output_of}
 use Rattle.gba_joblog.specs.declared.job.KeyChange.{KeyChange}
-use Rattle.gba_joblog.specs.declared.job.OutKind.{OutKind}
-use Rattle.gba_joblog.specs.declared.job.OutKind.TheVariants as output
 use Rattle.gba_joblog.specs.declared.job.OutLine.{OutLine}
+use Rattle.gba_joblog.specs.declared.outputs.OutKind.{OutKind}
 use Rattle.gba_joblog.proofs.NameTexts.{name-short}
 use Rattle.gba_joblog.proofs.SpelledValues.{decimal-short, digits-long, out-short}
 
@@ -28,10 +27,8 @@ number-short : (front : List ℕ) (n : ℕ) → length front ≤ 8 → n < 2 ^ 6
 number-short front n short small =
     omega (arith, length-append front (32 ∷ (decimal n ++ codes "\n")), length-append (decimal n) (codes "\n"), decimal-short n small)
 
-file-short : (front : List ℕ) (file : Option NamedFile) → length front ≤ 8 → IfSome file IsFile
-    → length (file_text front file) ≤ 282
-file-short front None short is = omega arith
-file-short front (Some file) short is =
+file-short : (front : List ℕ) (file : NamedFile) → length front ≤ 8 → IsFile file → length (file_text front file) ≤ 282
+file-short front file short is =
     let after = after_words (digest_words file.digest) in
     omega (
       arith,
@@ -40,6 +37,11 @@ file-short front (Some file) short is =
       name-short file.name is.named,
       digest-short file.digest is.stated,
     )
+
+any-file_short : (front : List ℕ) (file : Option NamedFile) → length front ≤ 8 → IfSome file IsFile
+    → length (any_file_text front file) ≤ 282
+any-file_short front None short is = omega arith
+any-file_short front (Some file) short is = file-short front file short is
 
 change-short : (change : KeyChange) → IsChange change → length (change_text change) ≤ 29
 change-short change is =
@@ -66,59 +68,38 @@ asked-short name None short is = omega arith
 asked-short name (Some asked) short is =
     omega (arith, length-append name (after_words (digest_words asked.digest)), digest-short asked.digest is)
 
-at_output : (outs : List (Option OutLine)) → length outs ≡ 5 → All IsOutput outs → (place : ℕ) → place < 5
-    → IsOutput (asked_in (slice_get outs place))
-at_output outs long sound place lt =
-    let found = slice_get-get_or outs place None (omega arith) in
-    rw found (sound place None (omega arith))
+out-text_short : (console : ConsoleJob) (out : OutKind) → IsConsole console → length (out_text console out) ≤ 84
+out-text_short console out sound = asked-short (out_name out) (output_of console out) (out-short out) (sound.lines.outs out)
 
-place-below : (out : OutKind) → place_of out < 5
-place-below output.Frames = omega arith
-place-below output.Samples = omega arith
-place-below output.Words = omega arith
-place-below output.State = omega arith
-place-below output.Save = omega arith
-
-out-text_short : (console : ConsoleJob) (out : OutKind) → IsPartOfConsole console → length (out_text console out) ≤ 84
-out-text_short console out sound =
-    asked-short (out_name out) (output_of console out) (out-short out)
-    (at_output console.outs sound.five sound.outs (place_of out) (place-below out))
-
-outs-short : (console : ConsoleJob) → IsPartOfConsole console → length (outs_text console) ≤ 420
-outs-short console sound =
-    let a = out_text console output.Frames in
-    let b = out_text console output.Samples in
-    let c = out_text console output.Words in
-    let d = out_text console output.State in
-    let e = out_text console output.Save in
+kinds-short : (console : ConsoleJob) (kinds : List OutKind) → IsConsole console
+    → length (flat_map (out_text console) kinds) ≤ 84 * length kinds
+kinds-short console [] sound = omega arith
+kinds-short console (kind ∷ kinds) sound =
     omega (
       arith,
-      length-append a (b ++ (c ++ (d ++ e))),
-      length-append b (c ++ (d ++ e)),
-      length-append c (d ++ e),
-      length-append d e,
-      out-text_short console output.Frames sound,
-      out-text_short console output.Samples sound,
-      out-text_short console output.Words sound,
-      out-text_short console output.State sound,
-      out-text_short console output.Save sound,
+      length-append (out_text console kind) (flat_map (out_text console) kinds),
+      out-text_short console kind sound,
+      kinds-short console kinds sound,
     )
 
-files-short : (console : ConsoleJob) → IsPartOfConsole console → length (files_text console) ≤ 846
+outs-short : (console : ConsoleJob) → IsConsole console → length (outs_text console) ≤ 420
+outs-short console sound = kinds-short console all_kinds sound
+
+files-short : (console : ConsoleJob) → IsConsole console → length (files_text console) ≤ 846
 files-short console sound =
     let a = file_text (codes "bios") console.bios in
-    let b = file_text (codes "cart") console.cart in
-    let c = file_text (codes "save") console.save in
+    let b = any_file_text (codes "cart") console.cart in
+    let c = any_file_text (codes "save") console.save in
     omega (
       arith,
       length-append a (b ++ c),
       length-append b c,
       file-short (codes "bios") console.bios (lit≤ tt) sound.bios,
-      file-short (codes "cart") console.cart (lit≤ tt) sound.cart,
-      file-short (codes "save") console.save (lit≤ tt) sound.save,
+      any-file_short (codes "cart") console.cart (lit≤ tt) sound.lines.cart,
+      any-file_short (codes "save") console.save (lit≤ tt) sound.lines.save,
     )
 
-console-short : (player : ℕ) (console : ConsoleJob) → player < 2 ^ 64 → IsPartOfConsole console
+console-short : (player : ℕ) (console : ConsoleJob) → player < 2 ^ 64 → IsConsole console
     → length (console_text player console) ≤ 29001296
 unfolding console_text
 console-short player console small sound =
@@ -133,8 +114,8 @@ console-short player console small sound =
       length-append c d,
       number-short (codes "console") player (lit≤ tt) small,
       files-short console sound,
-      changes-short console.changes sound.changes.each,
-      sound.changes.few,
+      changes-short console.changes sound.lines.changes.each,
+      sound.lines.changes.few,
       outs-short console sound,
     )
 
@@ -147,7 +128,7 @@ consoles-short player (console ∷ consoles) few sound =
     omega (
       arith,
       length-append (console_text player console) (consoles_text (player + 1) consoles),
-      console-short player console (omega arith) first.part,
+      console-short player console (omega arith) first,
       consoles-short (player + 1) consoles (omega arith) (All-tail IsConsole console consoles sound),
     )
 

@@ -6,7 +6,7 @@ use Rattle.gba_text.specs.Lines.{lines}
 use Rattle.gba_text.specs.Words.{words}
 use Rattle.hex.specs.Hex.{encode_lower}
 use Rattle.gba_joblog.specs.Digests.{IsDigest}
-use Rattle.gba_joblog.specs.Draft.{Draft, silent_console}
+use Rattle.gba_joblog.specs.Draft.{Draft, DraftConsole, silent_console}
 use Rattle.gba_joblog.specs.Files.{Leads, is_comment}
 use Rattle.gba_joblog.specs.Job.{ConsoleJob}
 use Rattle.gba_joblog.specs.Kinds.{◌>>=◌}
@@ -95,6 +95,6 @@ abbrev pub head : ℕ → ℕ → Draft
 head cycles delay =
     record { place = Head; cycles = Some cycles; delay = Some delay; consoles = []; last = silent_console }
 
-abbrev pub inside : ℕ → ℕ → List ConsoleJob → ConsoleJob → Draft
+abbrev pub inside : ℕ → ℕ → List ConsoleJob → DraftConsole → Draft
 inside cycles delay whole last =
     record { place = Inside; cycles = Some cycles; delay = Some delay; consoles = whole; last = last }

@@ -1,26 +1,31 @@
 -- The lines of one console of a log.
-use Rattle.std.proofs.Common.{◌≡◌, ℕ, ◌+◌, ◌-◌, ◌<◌, ◌≤◌, ◌^◌, true, false, List, [], ◌∷◌, ◌++◌, length, nat_le, nat_lt, Option, Some, None, Ok, refl, ap, sym, subst, lit≤, arith}
-use Rattle.std.specs.Prelude.{IfSome, codes, decimal, is_some, option_map, slice_get}
-use Rattle.std.specs.List.{All}
+use Rattle.std.proofs.Common.{◌≡◌, ℕ, ◌+◌, ◌-◌, ◌<◌, ◌≤◌, ◌^◌, true, false, List, [], ◌∷◌, ◌++◌, length, nat_le, nat_lt, Option, Some, None, Ok, refl, ap, subst, lit≤, arith}
+use Rattle.std.specs.Prelude.{IfSome, codes, decimal, is_some, option_map}
+use Rattle.std.specs.List.{flat_map}
 use Rattle.std.proofs.Math.Seq.{get_or-append_seam}
 use Rattle.std.proofs.lemmas.Bool.{le-leb, lt-ltb}
 use Rattle.std.proofs.lemmas.List.{append-nil, append_assoc, get_or_append_left, length-append}
 use Rattle.gba_joblog.specs.Changes.{change_at, least_clock, most_changes}
 use Rattle.gba_joblog.specs.Digests.{IsDigest}
+use Rattle.gba_joblog.specs.Draft.{DraftConsole}
 use Rattle.gba_joblog.specs.Files.{is_comment}
 use Rattle.gba_joblog.specs.Job.{ConsoleJob, NamedFile}
 use Rattle.gba_joblog.specs.Language.{words_say}
-use Rattle.gba_joblog.specs.Log.{asked_text, change_text, changes_text, digest_words, file_text, files_text, keys_word, outs_text}
+use Rattle.gba_joblog.specs.Log.{any_file_text, asked_text, change_text, changes_text, digest_words, file_text, files_text, keys_word, out_text, outs_text}
 use Rattle.gba_joblog.specs.LogLaw.{unlined_console, unlined_file, without_key_file}
 use Rattle.gba_joblog.specs.Names.{is_name}
+use Rattle.gba_joblog.specs.Outputs.{all_kinds, at_kind, out_name, per_kind, with_kind}
 use Rattle.gba_joblog.specs.Soundness.{AreChanges, IsChange, IsConsole, IsFile, IsOutput}
-use Rattle.gba_joblog.specs.Statements.{File, Key, Out, arguments, asked_in, asks_for, file_refusal, keyword_of, named_file, out_name, plus_statement, refusal_at, with_file, with_output}
+use Rattle.gba_joblog.specs.Statements.{File, Key, Out, arguments, file_refusal, keyword_of, named_file, plus_statement, refusal_at, with_file, with_output}
 use Rattle.gba_joblog.specs.declared.job.FileKind.{FileKind}
 use Rattle.gba_joblog.specs.declared.job.FileKind.TheVariants as file
 use Rattle.gba_joblog.specs.declared.job.KeyChange.{KeyChange}
-use Rattle.gba_joblog.specs.declared.job.OutKind.{OutKind}
-use Rattle.gba_joblog.specs.declared.job.OutKind.TheVariants as output
 use Rattle.gba_joblog.specs.declared.job.OutLine.{OutLine}
+use Rattle.gba_joblog.specs.declared.outputs.OutKind.{OutKind}
+use Rattle.gba_joblog.specs.declared.outputs.OutKind.TheVariants.{Frames, Samples, State, Save}
+use Rattle.gba_joblog.specs.declared.outputs.OutKind.TheVariants as output
+use Rattle.gba_joblog.specs.declared.outputs.PerKind.{PerKind}
+use Rattle.gba_joblog.proofs.EachKind.{all_with}
 use Rattle.gba_joblog.proofs.LogLines.{Reads, inside, line-reads, reads-nothing, reads-then, stated-line}
 use Rattle.gba_joblog.proofs.NameTexts.{name-short}
 use Rattle.gba_joblog.proofs.SoundChanges.{last-least}
@@ -28,12 +33,12 @@ use Rattle.gba_joblog.proofs.Spelling.{IsLine, IsWord, are_more, are_none, space
 use Rattle.gba_joblog.proofs.SpelledValues.{IsWord-decimal, IsWord-keys, IsWord-name, IsWord-out, decimal-short, digest-again, keys-again, name-again, number-again, out-again, out-short}
 
 -- a console as far as its lines are read
-abbrev pub part : Option NamedFile → Option NamedFile → Option NamedFile → List KeyChange → List (Option OutLine) → ConsoleJob
+abbrev pub part : Option NamedFile → Option NamedFile → Option NamedFile → List KeyChange → PerKind (Option OutLine) → DraftConsole
 part bios cart save changes outs =
     record { bios = bios; cart = cart; save = save; keys = None; changes = changes; outs = outs }
 
-abbrev pub no_outs : List (Option OutLine)
-no_outs = None ∷ None ∷ None ∷ None ∷ None ∷ []
+abbrev pub no_outs : PerKind (Option OutLine)
+no_outs = per_kind (λ _. None)
 
 -- ---- files
 
@@ -61,7 +66,7 @@ file_word-short file.Cart = lit≤ tt
 file_word-short file.Save = lit≤ tt
 file_word-short file.Keys = lit≤ tt
 
-file-says : (t q : ℕ) (whole : List ConsoleJob) (last : ConsoleJob) (f : FileKind) (name : List ℕ) (stated : Option (List ℕ))
+file-says : (t q : ℕ) (whole : List ConsoleJob) (last : DraftConsole) (f : FileKind) (name : List ℕ) (stated : Option (List ℕ))
     → file_refusal f last ≡ None → is_name name ≡ true → IfSome stated IsDigest
     → words_say (inside t q whole last) (file_word f ∷ name ∷ digest_words stated) ≡ Ok (Some (File f name stated))
 unfolding keyword_of refusal_at arguments
@@ -83,32 +88,26 @@ file-says t q whole last file.Keys name stated place named right =
     rw (place, a, b) refl
 
 -- a console with the file that may be found
-abbrev pub put_file : FileKind → Option NamedFile → ConsoleJob → ConsoleJob
+abbrev pub put_file : FileKind → Option NamedFile → DraftConsole → DraftConsole
 put_file f None last = last
 put_file f (Some named) last = with_file f named last
 
--- the line of a file that may be named: it is found again, but for its line
-record FileReads (n t q : ℕ) (whole : List ConsoleJob) (last : ConsoleJob) (f : FileKind) (named : Option NamedFile) : Type 0 where
-  after : ℕ
-  found : Option NamedFile
-  same : option_map unlined_file found ≡ option_map unlined_file named
-  reads : Reads n (inside t q whole last) (file_text (file_word f) named) after (inside t q whole (put_file f found last))
-
-file-plus : (n t q : ℕ) (whole : List ConsoleJob) (last : ConsoleJob) (f : FileKind) (name : List ℕ) (stated : Option (List ℕ))
+file-plus : (n t q : ℕ) (whole : List ConsoleJob) (last : DraftConsole) (f : FileKind) (name : List ℕ) (stated : Option (List ℕ))
     → plus_statement n (File f name stated) (inside t q whole last)
     ≡ inside t q whole (with_file f (named_file name stated n) last)
 unfolding plus_statement
 file-plus n t q whole last f name stated = refl
 
-file-reads : (n t q : ℕ) (whole : List ConsoleJob) (last : ConsoleJob) (f : FileKind) (named : Option NamedFile)
-    → file_refusal f last ≡ None → IfSome named IsFile → FileReads n t q whole last f named
-file-reads n t q whole last f None place sound = record {
-  after = n;
-  found = None;
-  same = refl;
-  reads = reads-nothing n (inside t q whole last);
-}
-file-reads n t q whole last f (Some named) place sound =
+-- the line of a file that is named: it is found again, but for its line
+record NamedReads (n t q : ℕ) (whole : List ConsoleJob) (last : DraftConsole) (f : FileKind) (named : NamedFile) : Type 0 where
+  after : ℕ
+  found : NamedFile
+  same : unlined_file found ≡ unlined_file named
+  reads : Reads n (inside t q whole last) (file_text (file_word f) named) after (inside t q whole (with_file f found last))
+
+named-reads : (n t q : ℕ) (whole : List ConsoleJob) (last : DraftConsole) (f : FileKind) (named : NamedFile)
+    → file_refusal f last ≡ None → IsFile named → NamedReads n t q whole last f named
+named-reads n t q whole last f named place sound =
     let line = stated-line (file_word f) named.name named.digest (file_word-word f) (IsWord-name named.name sound.named)
     (file_word-plain f (spaced (named.name ∷ digest_words named.digest))) (file_word-short f)
     (name-short named.name sound.named) sound.stated in
@@ -117,14 +116,34 @@ file-reads n t q whole last f (Some named) place sound =
     (File f named.name named.digest) line says in
     record {
       after = n + 1;
-      found = Some (named_file named.name named.digest (n + 1));
+      found = named_file named.name named.digest (n + 1);
       same = refl;
       reads = rw (file-plus (n + 1) t q whole last f named.name named.digest) at reads;
     }
 
-put-bios : (found : Option NamedFile) → put_file file.Bios found (part None None None [] no_outs) ≡ part found None None [] no_outs
-put-bios None = refl
-put-bios (Some named) = refl
+-- the line of a file that may be named
+record FileReads (n t q : ℕ) (whole : List ConsoleJob) (last : DraftConsole) (f : FileKind) (named : Option NamedFile) : Type 0 where
+  after : ℕ
+  found : Option NamedFile
+  same : option_map unlined_file found ≡ option_map unlined_file named
+  reads : Reads n (inside t q whole last) (any_file_text (file_word f) named) after (inside t q whole (put_file f found last))
+
+file-reads : (n t q : ℕ) (whole : List ConsoleJob) (last : DraftConsole) (f : FileKind) (named : Option NamedFile)
+    → file_refusal f last ≡ None → IfSome named IsFile → FileReads n t q whole last f named
+file-reads n t q whole last f None place sound = record {
+  after = n;
+  found = None;
+  same = refl;
+  reads = reads-nothing n (inside t q whole last);
+}
+file-reads n t q whole last f (Some named) place sound =
+    let line = named-reads n t q whole last f named place sound in
+    record {
+      after = line.after;
+      found = Some line.found;
+      same = ap (λ file. Some file) line.same;
+      reads = line.reads;
+    }
 
 put-cart : (a found : Option NamedFile) → put_file file.Cart found (part a None None [] no_outs) ≡ part a found None [] no_outs
 put-cart a None = refl
@@ -137,24 +156,24 @@ put-save a b (Some named) = refl
 -- the lines of a console's files
 pub record FilesRead (n t q : ℕ) (whole : List ConsoleJob) (console : ConsoleJob) : Type 0 where
   pub after : ℕ
-  pub bios : Option NamedFile
+  pub bios : NamedFile
   pub cart : Option NamedFile
   pub save : Option NamedFile
-  pub same_bios : option_map unlined_file bios ≡ option_map unlined_file console.bios
+  pub same_bios : unlined_file bios ≡ unlined_file console.bios
   pub same_cart : option_map unlined_file cart ≡ option_map unlined_file console.cart
   pub same_save : option_map unlined_file save ≡ option_map unlined_file console.save
   pub reads : Reads n (inside t q whole (part None None None [] no_outs)) (files_text console) after
-      (inside t q whole (part bios cart save [] no_outs))
+      (inside t q whole (part (Some bios) cart save [] no_outs))
 
 pub files-read : (n t q : ℕ) (whole : List ConsoleJob) (console : ConsoleJob) → IsConsole console
     → FilesRead n t q whole console
 files-read n t q whole console sound =
-    let bios = file-reads n t q whole (part None None None [] no_outs) file.Bios console.bios refl sound.part.bios in
-    let cart = file-reads bios.after t q whole (part bios.found None None [] no_outs) file.Cart console.cart refl sound.part.cart in
-    let save = file-reads cart.after t q whole (part bios.found cart.found None [] no_outs) file.Save console.save refl sound.part.save in
-    let a = rw (put-bios bios.found) at bios.reads in
-    let b = rw (put-cart bios.found cart.found) at cart.reads in
-    let c = rw (put-save bios.found cart.found save.found) at save.reads in
+    let bios = named-reads n t q whole (part None None None [] no_outs) file.Bios console.bios refl sound.bios in
+    let image = Some bios.found in
+    let cart = file-reads bios.after t q whole (part image None None [] no_outs) file.Cart console.cart refl sound.lines.cart in
+    let save = file-reads cart.after t q whole (part image cart.found None [] no_outs) file.Save console.save refl sound.lines.save in
+    let b = rw (put-cart image cart.found) at cart.reads in
+    let c = rw (put-save image cart.found save.found) at save.reads in
     record {
       after = save.after;
       bios = bios.found;
@@ -163,8 +182,8 @@ files-read n t q whole console sound =
       same_bios = bios.same;
       same_cart = cart.same;
       same_save = save.same;
-      reads = reads-then _ _ _ _ _ _ (file_text (codes "bios") console.bios) _ a
-          (reads-then _ _ _ _ _ _ (file_text (codes "cart") console.cart) _ b c);
+      reads = reads-then _ _ _ _ _ _ (file_text (codes "bios") console.bios) _ bios.reads
+          (reads-then _ _ _ _ _ _ (any_file_text (codes "cart") console.cart) _ b c);
     }
 
 -- ---- key changes
@@ -262,8 +281,8 @@ changes-read n t q whole bios cart save before (change ∷ changes) all =
 
 -- ---- outputs
 
-out-says : (t q : ℕ) (whole : List ConsoleJob) (last : ConsoleJob) (out : OutKind) (stated : Option (List ℕ))
-    → asks_for last out ≡ false → IfSome stated IsDigest
+out-says : (t q : ℕ) (whole : List ConsoleJob) (last : DraftConsole) (out : OutKind) (stated : Option (List ℕ))
+    → is_some (at_kind last.outs out) ≡ false → IfSome stated IsDigest
     → words_say (inside t q whole last) (codes "out" ∷ out_name out ∷ digest_words stated) ≡ Ok (Some (Out out stated))
 unfolding keyword_of refusal_at arguments
 out-says t q whole last out stated free right =
@@ -271,16 +290,16 @@ out-says t q whole last out stated free right =
     let b = digest-again stated right in
     rw (a, free, b) refl
 
-abbrev pub put_out : OutKind → Option OutLine → ConsoleJob → ConsoleJob
+abbrev pub put_out : OutKind → Option OutLine → DraftConsole → DraftConsole
 put_out out None last = last
 put_out out (Some asked) last = with_output out asked last
 
 -- the line of an output that may be asked for
-record OutReads (n t q : ℕ) (whole : List ConsoleJob) (last : ConsoleJob) (out : OutKind) (asked : Option OutLine) : Type 0 where
+record OutReads (n t q : ℕ) (whole : List ConsoleJob) (last : DraftConsole) (out : OutKind) (asked : Option OutLine) : Type 0 where
   after : ℕ
   reads : Reads n (inside t q whole last) (asked_text (out_name out) asked) after (inside t q whole (put_out out asked last))
 
-out-plus : (n t q : ℕ) (whole : List ConsoleJob) (last : ConsoleJob) (out : OutKind) (asked : OutLine)
+out-plus : (n t q : ℕ) (whole : List ConsoleJob) (last : DraftConsole) (out : OutKind) (asked : OutLine)
     → plus_statement n (Out out asked.digest) (inside t q whole last) ≡ inside t q whole (with_output out asked last)
 unfolding plus_statement
 out-plus n t q whole last out asked = refl
@@ -288,8 +307,8 @@ out-plus n t q whole last out asked = refl
 out-word : IsWord (codes "out")
 out-word = record { some = omega arith; bytes = refl }
 
-out-reads : (n t q : ℕ) (whole : List ConsoleJob) (last : ConsoleJob) (out : OutKind) (asked : Option OutLine)
-    → asks_for last out ≡ false → IsOutput asked → OutReads n t q whole last out asked
+out-reads : (n t q : ℕ) (whole : List ConsoleJob) (last : DraftConsole) (out : OutKind) (asked : Option OutLine)
+    → is_some (at_kind last.outs out) ≡ false → IsOutput asked → OutReads n t q whole last out asked
 out-reads n t q whole last out None free sound =
     record { after = n; reads = reads-nothing n (inside t q whole last) }
 out-reads n t q whole last out (Some asked) free sound =
@@ -300,60 +319,56 @@ out-reads n t q whole last out (Some asked) free sound =
     (Out out asked.digest) line says in
     record { after = n + 1; reads = rw (out-plus (n + 1) t q whole last out asked) at reads }
 
--- the five outputs of a console
-pub record Five (outs : List (Option OutLine)) : Type 0 where
-  pub frames : Option OutLine
-  pub samples : Option OutLine
-  pub words : Option OutLine
-  pub state : Option OutLine
-  pub save : Option OutLine
-  pub are : outs ≡ frames ∷ samples ∷ words ∷ state ∷ save ∷ []
+-- an output that isn't asked for yet, put in
+put-out : (kind : OutKind) (found : Option OutLine) (bios cart save : Option NamedFile) (changes : List KeyChange)
+    (outs : PerKind (Option OutLine)) → at_kind outs kind ≡ None
+    → put_out kind found (part bios cart save changes outs)
+    ≡ part bios cart save changes (with_kind kind found outs)
+put-out kind (Some asked) bios cart save changes outs free = refl
+put-out Frames None bios cart save changes outs free =
+    ap (λ one. part bios cart save changes (with_kind Frames one outs)) free
+put-out Samples None bios cart save changes outs free =
+    ap (λ one. part bios cart save changes (with_kind Samples one outs)) free
+put-out output.Words None bios cart save changes outs free =
+    ap (λ one. part bios cart save changes (with_kind output.Words one outs)) free
+put-out State None bios cart save changes outs free =
+    ap (λ one. part bios cart save changes (with_kind State one outs)) free
+put-out Save None bios cart save changes outs free =
+    ap (λ one. part bios cart save changes (with_kind Save one outs)) free
 
-five : (outs : List (Option OutLine)) → length outs ≡ 5 → Five outs
-five [] h = absurd (omega arith)
-five (a ∷ []) h = absurd (omega arith)
-five (a ∷ b ∷ []) h = absurd (omega arith)
-five (a ∷ b ∷ c ∷ []) h = absurd (omega arith)
-five (a ∷ b ∷ c ∷ d ∷ []) h = absurd (omega arith)
-five (a ∷ b ∷ c ∷ d ∷ e ∷ []) h = record { frames = a; samples = b; words = c; state = d; save = e; are = refl }
-five (a ∷ b ∷ c ∷ d ∷ e ∷ f ∷ rest) h = absurd (omega arith)
+-- none of these kinds is asked for when its turn comes
+abbrev pub AreFree : List OutKind → PerKind (Option OutLine) → Type 0
+AreFree [] outs = Unit {0}
+AreFree (kind ∷ kinds) outs =
+    (at_kind outs kind ≡ None) × ((found : Option OutLine) → AreFree kinds (with_kind kind found outs))
 
-module _ (bios cart save : Option NamedFile) (changes : List KeyChange) where
-  put-frames : (found : Option OutLine) → put_out output.Frames found (part bios cart save changes no_outs)
-      ≡ part bios cart save changes (found ∷ None ∷ None ∷ None ∷ None ∷ [])
-  put-frames None = refl
-  put-frames (Some asked) = refl
+all-free : AreFree all_kinds no_outs
+all-free = (refl, λ a. (refl, λ b. (refl, λ c. (refl, λ d. (refl, λ e. tt)))))
 
-  put-samples : (a found : Option OutLine)
-      → put_out output.Samples found (part bios cart save changes (a ∷ None ∷ None ∷ None ∷ None ∷ []))
-      ≡ part bios cart save changes (a ∷ found ∷ None ∷ None ∷ None ∷ [])
-  put-samples a None = refl
-  put-samples a (Some asked) = refl
+-- the lines of a console's outputs of these kinds
+pub record KindsRead (n t q : ℕ) (whole : List ConsoleJob) (bios cart save : Option NamedFile) (changes : List KeyChange)
+    (outs : PerKind (Option OutLine)) (console : ConsoleJob) (kinds : List OutKind) : Type 0 where
+  pub after : ℕ
+  pub reads : Reads n (inside t q whole (part bios cart save changes outs)) (flat_map (out_text console) kinds) after
+      (inside t q whole (part bios cart save changes (all_with kinds console.outs outs)))
 
-  put-words : (a b found : Option OutLine)
-      → put_out output.Words found (part bios cart save changes (a ∷ b ∷ None ∷ None ∷ None ∷ []))
-      ≡ part bios cart save changes (a ∷ b ∷ found ∷ None ∷ None ∷ [])
-  put-words a b None = refl
-  put-words a b (Some asked) = refl
-
-  put-state : (a b c found : Option OutLine)
-      → put_out output.State found (part bios cart save changes (a ∷ b ∷ c ∷ None ∷ None ∷ []))
-      ≡ part bios cart save changes (a ∷ b ∷ c ∷ found ∷ None ∷ [])
-  put-state a b c None = refl
-  put-state a b c (Some asked) = refl
-
-  put-saved : (a b c d found : Option OutLine)
-      → put_out output.Save found (part bios cart save changes (a ∷ b ∷ c ∷ d ∷ None ∷ []))
-      ≡ part bios cart save changes (a ∷ b ∷ c ∷ d ∷ found ∷ [])
-  put-saved a b c d None = refl
-  put-saved a b c d (Some asked) = refl
-
--- the lines of five outputs
-abbrev pub texts : List (Option OutLine) → List ℕ
-texts outs =
-    asked_text (codes "frames") (asked_in (slice_get outs 0)) ++ (asked_text (codes "samples") (asked_in (slice_get outs 1))
-    ++ (asked_text (codes "words") (asked_in (slice_get outs 2)) ++ (asked_text (codes "state") (asked_in (slice_get outs 3))
-    ++ asked_text (codes "save") (asked_in (slice_get outs 4)))))
+kinds-read : (n t q : ℕ) (whole : List ConsoleJob) (bios cart save : Option NamedFile) (changes : List KeyChange)
+    (outs : PerKind (Option OutLine)) (console : ConsoleJob) (kinds : List OutKind) → IsConsole console
+    → AreFree kinds outs → KindsRead n t q whole bios cart save changes outs console kinds
+kinds-read n t q whole bios cart save changes outs console [] sound free =
+    record { after = n; reads = reads-nothing n (inside t q whole (part bios cart save changes outs)) }
+kinds-read n t q whole bios cart save changes outs console (kind ∷ kinds) sound free =
+    let found = at_kind console.outs kind in
+    let last = part bios cart save changes outs in
+    let unasked : is_some (at_kind last.outs kind) ≡ false = rw free.0 refl in
+    let line = out-reads n t q whole last kind found unasked (sound.lines.outs kind) in
+    let here = rw (put-out kind found bios cart save changes outs free.0) at line.reads in
+    let rest = kinds-read line.after t q whole bios cart save changes (with_kind kind found outs) console kinds sound
+    (free.1 found) in
+    record {
+      after = rest.after;
+      reads = reads-then _ _ _ _ _ _ (out_text console kind) _ here rest.reads;
+    }
 
 -- the lines of a console's outputs
 pub record OutsRead (n t q : ℕ) (whole : List ConsoleJob) (bios cart save : Option NamedFile) (changes : List KeyChange) (console : ConsoleJob) : Type 0 where
@@ -364,58 +379,46 @@ pub record OutsRead (n t q : ℕ) (whole : List ConsoleJob) (bios cart save : Op
 pub outs-read : (n t q : ℕ) (whole : List ConsoleJob) (bios cart save : Option NamedFile) (changes : List KeyChange) (console : ConsoleJob)
     → IsConsole console → OutsRead n t q whole bios cart save changes console
 outs-read n t q whole bios cart save changes console sound =
-    let is = five console.outs sound.part.five in
-    let all : All IsOutput (is.frames ∷ is.samples ∷ is.words ∷ is.state ∷ is.save ∷ []) = rw is.are at sound.part.outs in
-    let frames = out-reads n t q whole (part bios cart save changes no_outs) output.Frames is.frames refl (all 0 None (omega arith)) in
-    let samples = out-reads frames.after t q whole (part bios cart save changes (is.frames ∷ None ∷ None ∷ None ∷ None ∷ []))
-    output.Samples is.samples refl (all 1 None (omega arith)) in
-    let words = out-reads samples.after t q whole (part bios cart save changes (is.frames ∷ is.samples ∷ None ∷ None ∷ None ∷ []))
-    output.Words is.words refl (all 2 None (omega arith)) in
-    let state = out-reads words.after t q whole (part bios cart save changes (is.frames ∷ is.samples ∷ is.words ∷ None ∷ None ∷ []))
-    output.State is.state refl (all 3 None (omega arith)) in
-    let saved = out-reads state.after t q whole (part bios cart save changes (is.frames ∷ is.samples ∷ is.words ∷ is.state ∷ None ∷ []))
-    output.Save is.save refl (all 4 None (omega arith)) in
-    let a = rw (put-frames bios cart save changes is.frames) at frames.reads in
-    let b = rw (put-samples bios cart save changes is.frames is.samples) at samples.reads in
-    let c = rw (put-words bios cart save changes is.frames is.samples is.words) at words.reads in
-    let d = rw (put-state bios cart save changes is.frames is.samples is.words is.state) at state.reads in
-    let e = rw (put-saved bios cart save changes is.frames is.samples is.words is.state is.save) at saved.reads in
-    let P : List (Option OutLine) → Type 0 = λ outs. Reads n (inside t q whole (part bios cart save changes no_outs))
-    (texts outs) saved.after (inside t q whole (part bios cart save changes outs)) in
-    record {
-      after = saved.after;
-      reads = subst P (sym is.are) (reads-then _ _ _ _ _ _ (asked_text (codes "frames") is.frames) _ a
-          (reads-then _ _ _ _ _ _ (asked_text (codes "samples") is.samples) _ b
-          (reads-then _ _ _ _ _ _ (asked_text (codes "words") is.words) _ c
-          (reads-then _ _ _ _ _ _ (asked_text (codes "state") is.state) _ d e))));
-    }
+    let all = kinds-read n t q whole bios cart save changes no_outs console all_kinds sound all-free in
+    record { after = all.after; reads = all.reads }
 
 -- ---- a console's lines after its first one
+
+-- a whole console, as its lines have said it
+abbrev pub as_draft : ConsoleJob → DraftConsole
+as_draft console = record {
+  bios = Some console.bios;
+  cart = console.cart;
+  save = console.save;
+  keys = console.keys;
+  changes = console.changes;
+  outs = console.outs;
+}
 
 pub record BodyRead (n t q : ℕ) (whole : List ConsoleJob) (console : ConsoleJob) : Type 0 where
   pub after : ℕ
   pub last : ConsoleJob
-  pub image : is_some last.bios ≡ true
   pub same : unlined_console last ≡ unlined_console (without_key_file console)
   pub reads : Reads n (inside t q whole (part None None None [] no_outs))
-      (files_text console ++ (changes_text console.changes ++ outs_text console)) after (inside t q whole last)
-
-some-unlined : (found named : Option NamedFile) → option_map unlined_file found ≡ option_map unlined_file named
-    → is_some named ≡ true → is_some found ≡ true
-some-unlined None None same h = h
-some-unlined None (Some named) same h = absurd cc
-some-unlined (Some found) named same h = refl
+      (files_text console ++ (changes_text console.changes ++ outs_text console)) after (inside t q whole (as_draft last))
 
 pub body-read : (n t q : ℕ) (whole : List ConsoleJob) (console : ConsoleJob) → IsConsole console
     → BodyRead n t q whole console
 body-read n t q whole console sound =
     let files = files-read n t q whole console sound in
-    let changes = changes-read files.after t q whole files.bios files.cart files.save [] console.changes sound.part.changes in
-    let outs = outs-read changes.after t q whole files.bios files.cart files.save console.changes console sound in
+    let image = Some files.bios in
+    let changes = changes-read files.after t q whole image files.cart files.save [] console.changes sound.lines.changes in
+    let outs = outs-read changes.after t q whole image files.cart files.save console.changes console sound in
     record {
       after = outs.after;
-      last = part files.bios files.cart files.save console.changes console.outs;
-      image = some-unlined files.bios console.bios files.same_bios sound.image;
+      last = record {
+        bios = files.bios;
+        cart = files.cart;
+        save = files.save;
+        keys = None;
+        changes = console.changes;
+        outs = console.outs;
+      };
       same = rw (files.same_bios, files.same_cart, files.same_save) refl;
       reads = reads-then _ _ _ _ _ _ (files_text console) _ files.reads
           (reads-then _ _ _ _ _ _ (changes_text console.changes) _ changes.reads outs.reads);

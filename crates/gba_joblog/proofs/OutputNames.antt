@@ -1,14 +1,17 @@
 -- Names of outputs, piece by piece.
 use Rattle.std.proofs.Common.{◌≡◌, ℕ, ◌+◌, ◌<◌, Bool, true, false, cond, ◌&&◌, ◌||◌, List, [], ◌∷◌, ◌++◌, length, take, drop, map, get_or, nat_eq, ◌≤◌, Option, Some, None, refl, ap, sym, subst, ◌∙◌, arith}
-use Rattle.std.specs.List.{All}
+use Rattle.std.specs.List.{All, list_any}
 use Rattle.std.specs.Cmp.Lexicographic.{pointwise}
 use Rattle.std.specs.Prelude.{codes, decimal, option_and_then}
 use Rattle.std.specs.Str.{bytes_eq}
 use Rattle.std.proofs.Math.Bool.{and-false}
 use Rattle.std.proofs.lemmas.List.{drop_more, drop_all, get_or-map, length-map}
 use Rattle.std.proofs.lemmas.Bool.Decides.{nat_tests}
-use Rattle.gba_joblog.specs.Clash.{after_text, tail_after, ends_as, console_writes, writes, least, console_clash, inputs_clash}
+use Rattle.gba_joblog.specs.Clash.{after_text, asks_as, tail_after, ends_as, console_writes, writes, writes_as, least, console_clash, inputs_clash}
 use Rattle.gba_joblog.specs.Job.{ConsoleJob}
+use Rattle.gba_joblog.specs.Outputs.{all_kinds, out_name}
+use Rattle.gba_joblog.specs.Statements.{asks_for}
+use Rattle.gba_joblog.specs.declared.outputs.OutKind.{OutKind}
 
 -- the bytes are this text; there may be none
 abbrev pub is_text : List ℕ → Option (List ℕ) → Bool
@@ -43,24 +46,34 @@ name_is name out digits text =
     ∙ then_text text (codes ".") (option_and_then (after_text digits) (option_and_then (after_text (codes "."))
     (after_text out name)))
 
+-- tests that are the same everywhere
+any-same : {X : Type 0} (p q : X → Bool) (xs : List X) → ((x : X) → p x ≡ q x) → list_any p xs ≡ list_any q xs
+any-same p q [] same = refl
+any-same p q (x ∷ xs) same = rw (same x, any-same p q xs same) refl
+
+any-false : {X : Type 0} (p : X → Bool) (xs : List X) → ((x : X) → p x ≡ false) → list_any p xs ≡ false
+any-false p [] none = refl
+any-false p (x ∷ xs) none = rw (none x) (any-false p xs none)
+
 pub console_writes-tail : (out : List ℕ) (player : ℕ) (console : ConsoleJob) (name tail : List ℕ)
     → tail_after out (decimal player) name ≡ Some tail
     → console_writes out player console name ≡ ends_as console tail
 unfolding console_writes
 console_writes-tail out player console name tail e =
-    let is : (text : List ℕ) → bytes_eq name (out ++ (codes "." ++ (decimal player ++ (codes "." ++ text))))
-    ≡ bytes_eq tail text = λ text. name_is name out (decimal player) text ∙ ap (is_text text) e in
-    rw (is (codes "frames"), is (codes "samples"), is (codes "words"), is (codes "state"), is (codes "save")) refl
+    let is : (kind : OutKind) → writes_as out player console name kind ≡ asks_as console tail kind =
+    λ kind. ap (λ t. asks_for console kind && t)
+    (name_is name out (decimal player) (out_name kind) ∙ ap (is_text (out_name kind)) e) in
+    any-same (writes_as out player console name) (asks_as console tail) all_kinds is
 
 pub console_writes-no_tail : (out : List ℕ) (player : ℕ) (console : ConsoleJob) (name : List ℕ)
     → tail_after out (decimal player) name ≡ None
     → console_writes out player console name ≡ false
 unfolding console_writes
 console_writes-no_tail out player console name e =
-    let is : (text : List ℕ) → bytes_eq name (out ++ (codes "." ++ (decimal player ++ (codes "." ++ text))))
-    ≡ false = λ text. name_is name out (decimal player) text ∙ ap (is_text text) e in
-    rw (is (codes "frames"), is (codes "samples"), is (codes "words"), is (codes "state"), is (codes "save"))
-    (simp and-false)
+    let is : (kind : OutKind) → writes_as out player console name kind ≡ false =
+    λ kind. ap (λ t. asks_for console kind && t)
+    (name_is name out (decimal player) (out_name kind) ∙ ap (is_text (out_name kind)) e) ∙ and-false (asks_for console kind) in
+    any-false (writes_as out player console name) all_kinds is
 
 pub writes-more : (out : List ℕ) (player : ℕ) (console : ConsoleJob) (consoles : List ConsoleJob) (name : List ℕ)
     → writes out player (console ∷ consoles) name

@@ -1,23 +1,24 @@
 -- Every job that is read is sound: each line keeps what is said so far sound.
 use Rattle.std.proofs.Common.{◌≡◌, ◌≤◌, ◌^◌, ℕ, ◌+◌, Bool, true, false, cond, not, List, [], ◌∷◌, length, Option, Some, None, Result, Ok, Err, refl, ap, sym, subst, ◌∙◌, arith}
-use Rattle.std.specs.Prelude.{IfOk, IfSome, is_some, slice_set, unwrap_or}
+use Rattle.std.specs.Prelude.{IfOk, IfSome, is_some, unwrap_or}
 use Rattle.std.specs.List.{All}
-use Rattle.std.proofs.lemmas.List.{length-append, length-set}
-use Rattle.std.proofs.lemmas.List.Elements.{All-nil, All-push, All-replicate, All-set}
+use Rattle.std.proofs.lemmas.List.{length-append}
+use Rattle.std.proofs.lemmas.List.Elements.{All-nil, All-push}
 use Rattle.std.proofs.lemmas.Bool.{false≢true}
 use Rattle.gba_text.specs.Lines.{lines}
 use Rattle.gba_text.specs.Words.{words}
 use Rattle.gba_joblog.specs.Answers.{Parses}
 use Rattle.gba_joblog.specs.Changes.{change_at}
-use Rattle.gba_joblog.specs.Draft.{Draft, nothing_said, silent_console}
+use Rattle.gba_joblog.specs.Draft.{Draft, DraftConsole, nothing_said, silent_console, with_image}
 use Rattle.gba_joblog.specs.Files.{Leads, EndsIn, is_said}
 use Rattle.gba_joblog.specs.Job.{ConsoleJob, NamedFile, WholeJob}
 use Rattle.gba_joblog.specs.Kinds.{◌>>=◌, holds}
 use Rattle.gba_joblog.specs.Language.{jobs, line_says, said_with, words_say, words_say_if, keyword_says, statement_of, unless_ended, plus_statement_if, job_at_end, job_at_place, job_with, job_of, usual_delay}
 use Rattle.gba_joblog.specs.Names.{is_name}
 use Rattle.gba_joblog.specs.Operands.{Words, Taken, word_at, number_at, name_in, name_of, name_at, digest_at, player_at, version_at, out_kind_at, end_at}
-use Rattle.gba_joblog.specs.Soundness.{IsFile, IsOutput, IsPartOfConsole, IsConsole, IsJob}
-use Rattle.gba_joblog.specs.Statements.{Statement, Version, Cycles, Delay, Console, File, Key, Out, End, keyword_of, refusal_at, file_refusal, without_changes, without_file, once, arguments, plus_statement, at_start, in_console, has_image, next_player, whole_consoles, named_file, asked_output, with_file, place_of, asks_for}
+use Rattle.gba_joblog.specs.Outputs.{EachKind, at_kind}
+use Rattle.gba_joblog.specs.Soundness.{AreConsoleLines, IsFile, IsOutput, IsPartOfConsole, IsConsole, IsJob}
+use Rattle.gba_joblog.specs.Statements.{Statement, and_whole, Version, Cycles, Delay, Console, File, Key, Out, End, keyword_of, refusal_at, file_refusal, without_changes, without_file, once, arguments, plus_statement, at_start, in_console, has_image, next_player, whole_consoles, named_file, asked_output, with_file}
 use Rattle.gba_joblog.specs.declared.draft.Place.{Place}
 use Rattle.gba_joblog.specs.declared.draft.Place.TheVariants.{Start, Head, Inside, Ended}
 use Rattle.gba_joblog.specs.declared.job.FileKind.{FileKind}
@@ -27,8 +28,11 @@ use Rattle.gba_joblog.specs.declared.job.OutLine.{OutLine}
 use Rattle.gba_joblog.specs.declared.kinds.ParseRefused.{ParseRefused}
 use Rattle.gba_joblog.specs.declared.kinds.JobKind.{JobKind}
 use Rattle.gba_joblog.specs.declared.kinds.JobKind.TheVariants.{Repeated, Missing}
+use Rattle.gba_joblog.specs.declared.outputs.OutKind.TheVariants.{Frames, Samples, State, Save}
+use Rattle.gba_joblog.specs.declared.outputs.OutKind.TheVariants as output
 use Rattle.gba_joblog.specs.declared.statement.Keyword.{Keyword}
 use Rattle.gba_joblog.specs.declared.statement.Keyword.TheVariants as keyword
+use Rattle.gba_joblog.proofs.EachKind.{put-holds}
 use Rattle.gba_joblog.proofs.Relation.{says}
 use Rattle.gba_joblog.proofs.SoundChanges.{none, change_at-keeps}
 use Rattle.gba_joblog.proofs.Steps.{bind-ok, ok-is, some-is, held-true, error_at-some, number_at-range, player_at-is, digest_at-is}
@@ -53,19 +57,17 @@ pub record IsDraft (d : Draft) : Type 0 where
   each : All IsConsole d.consoles
   count : AreCounted d.place (length d.consoles)
 
-no_output : All IsOutput silent_console.outs
-no_output = All-replicate IsOutput 5 None tt
+silent-asks : EachKind IsOutput silent_console.outs
+silent-asks Frames = tt
+silent-asks Samples = tt
+silent-asks output.Words = tt
+silent-asks State = tt
+silent-asks Save = tt
 
 silent : IsPartOfConsole silent_console
 silent = record {
   bios = tt;
-  cart = tt;
-  save = tt;
-  keys = tt;
-  changes = none;
-  apart = λ _. refl;
-  five = refl;
-  outs = no_output;
+  lines = record { cart = tt; save = tt; keys = tt; changes = none; apart = λ _. refl; outs = silent-asks };
 }
 
 pub begins : IsDraft nothing_said
@@ -110,71 +112,77 @@ name_at-is ws t h =
     let b = bind-ok (word_at ws) name_in t h in
     name-is b.0.value t.value (error_at-some _ _ (name_of b.0.value) t b.2)
 
-with_file-keeps : (f : FileKind) (named : NamedFile) (c : ConsoleJob) → IsFile named → IsPartOfConsole c
+with_file-keeps : (f : FileKind) (named : NamedFile) (c : DraftConsole) → IsFile named → IsPartOfConsole c
     → file_refusal f c ≡ None → IsPartOfConsole (with_file f named c)
-with_file-keeps file.Bios named c is h place = record {
-  bios = is;
-  cart = h.cart;
-  save = h.save;
-  keys = h.keys;
-  changes = h.changes;
-  apart = h.apart;
-  five = h.five;
-  outs = h.outs;
-}
+with_file-keeps file.Bios named c is h place = record { bios = is; lines = h.lines }
 with_file-keeps file.Cart named c is h place = record {
   bios = h.bios;
-  cart = is;
-  save = h.save;
-  keys = h.keys;
-  changes = h.changes;
-  apart = h.apart;
-  five = h.five;
-  outs = h.outs;
+  lines = record {
+    cart = is;
+    save = h.lines.save;
+    keys = h.lines.keys;
+    changes = h.lines.changes;
+    apart = h.lines.apart;
+    outs = h.lines.outs;
+  };
 }
 with_file-keeps file.Save named c is h place = record {
   bios = h.bios;
-  cart = h.cart;
-  save = is;
-  keys = h.keys;
-  changes = h.changes;
-  apart = h.apart;
-  five = h.five;
-  outs = h.outs;
+  lines = record {
+    cart = h.lines.cart;
+    save = is;
+    keys = h.lines.keys;
+    changes = h.lines.changes;
+    apart = h.lines.apart;
+    outs = h.lines.outs;
+  };
 }
 with_file-keeps file.Keys named c is h place = record {
   bios = h.bios;
-  cart = h.cart;
-  save = h.save;
-  keys = is;
-  changes = h.changes;
-  apart = λ _. no_changes c.changes (once (is_some c.keys)) place;
-  five = h.five;
-  outs = h.outs;
+  lines = record {
+    cart = h.lines.cart;
+    save = h.lines.save;
+    keys = is;
+    changes = h.lines.changes;
+    apart = λ _. no_changes c.changes (once (is_some c.keys)) place;
+    outs = h.lines.outs;
+  };
 }
 
-closes : (place : Place) (consoles : List ConsoleJob) (last : ConsoleJob) → All IsConsole consoles
-    → IsPartOfConsole last → has_image place last ≡ true → All IsConsole (whole_consoles place consoles last)
-closes Start consoles last h part image = h
-closes Head consoles last h part image = h
-closes Inside consoles last h part image =
-    All-push IsConsole consoles last h (record { part = part; image = image })
-closes Ended consoles last h part image = h
+and_whole-sound : (consoles : List ConsoleJob) (last : DraftConsole) (bios : Option NamedFile) → All IsConsole consoles
+    → IfSome bios IsFile
+    → AreConsoleLines last.cart last.save last.keys last.changes last.outs
+    → All IsConsole (and_whole consoles last bios)
+and_whole-sound consoles last None h is lines = h
+and_whole-sound consoles last (Some bios) h is lines =
+    All-push IsConsole consoles (with_image last bios) h (record { bios = is; lines = lines })
 
-whole-count : (place : Place) (consoles : List ConsoleJob) (last : ConsoleJob)
+closes : (place : Place) (consoles : List ConsoleJob) (last : DraftConsole) → All IsConsole consoles
+    → IsPartOfConsole last → All IsConsole (whole_consoles place consoles last)
+closes Start consoles last h part = h
+closes Head consoles last h part = h
+closes Inside consoles last h part = and_whole-sound consoles last last.bios h part.bios part.lines
+closes Ended consoles last h part = h
+
+and_whole-count : (consoles : List ConsoleJob) (last : DraftConsole) (bios : Option NamedFile) → is_some bios ≡ true
+    → length (and_whole consoles last bios) ≡ length consoles + 1
+and_whole-count consoles last None image = absurd cc
+and_whole-count consoles last (Some bios) image = length-append consoles (with_image last bios ∷ [])
+
+whole-count : (place : Place) (consoles : List ConsoleJob) (last : DraftConsole) → has_image place last ≡ true
     → length (whole_consoles place consoles last) ≡ next_player place (length consoles)
-whole-count Start consoles last = refl
-whole-count Head consoles last = refl
-whole-count Inside consoles last = length-append consoles (last ∷ [])
-whole-count Ended consoles last = refl
+whole-count Start consoles last image = refl
+whole-count Head consoles last image = refl
+whole-count Inside consoles last image = and_whole-count consoles last last.bios image
+whole-count Ended consoles last image = refl
 
-ends_with : (place : Place) (consoles : List ConsoleJob) (last : ConsoleJob) → in_console place None ≡ None
+ends_with : (place : Place) (consoles : List ConsoleJob) (last : DraftConsole) → in_console place None ≡ None
     → AreCounted place (length consoles) → is_some last.bios ≡ true
-    → AreCounted Ended (length (whole_consoles place consoles last)) × (has_image place last ≡ true)
+    → AreCounted Ended (length (whole_consoles place consoles last))
 ends_with Start consoles last here count image = absurd cc
 ends_with Head consoles last here count image = absurd cc
 ends_with Inside consoles last here count image =
-    let long = length-append consoles (last ∷ []) in ((omega (arith, long), omega (arith, long)), image)
+    let long = and_whole-count consoles last last.bios image in (omega (arith, long), omega (arith, long))
 ends_with Ended consoles last here count image = absurd cc
 
 -- each keyword with its operands keeps what is said sound
@@ -214,8 +222,8 @@ keeps n d keyword.Console ws s h place e =
       cycles = h.cycles;
       delay = h.delay;
       last = silent;
-      each = closes d.place d.consoles d.last h.each h.last image;
-      count = rw whole-count few.1;
+      each = closes d.place d.consoles d.last h.each h.last;
+      count = rw (whole-count d.place d.consoles d.last image) few.1;
     })
 keeps n d (keyword.File f) ws s h place e =
     let b = bind-ok (name_at ws)
@@ -244,41 +252,42 @@ keeps n d keyword.Key ws s h place e =
       delay = h.delay;
       last = record {
         bios = h.last.bios;
-        cart = h.last.cart;
-        save = h.last.save;
-        keys = h.last.keys;
-        changes = change_at-keeps d.last.changes ws b.0 h.last.changes b.1;
-        apart = λ there. absurd (false≢true (sym alone ∙ there));
-        five = h.last.five;
-        outs = h.last.outs;
+        lines = record {
+          cart = h.last.lines.cart;
+          save = h.last.lines.save;
+          keys = h.last.lines.keys;
+          changes = change_at-keeps d.last.changes ws b.0 h.last.lines.changes b.1;
+          apart = λ there. absurd (false≢true (sym alone ∙ there));
+          outs = h.last.lines.outs;
+        };
       };
       each = h.each;
       count = h.count;
     })
 keeps n d keyword.Out ws s h place e =
     let b = bind-ok (out_kind_at ws)
-    (λ out. holds (not (asks_for d.last out.value)) Repeated >>= (λ _. digest_at out.words >>= (λ digest. end_at
+    (λ out. holds (not (is_some (at_kind d.last.outs out.value))) Repeated >>= (λ _. digest_at out.words >>= (λ digest. end_at
     digest.words >>= (λ _. Ok (Out out.value digest.value))))) s e in
-    let c = bind-ok (holds (not (asks_for d.last b.0.value)) Repeated) (λ _. digest_at b.0.words >>= (λ digest. end_at
+    let c = bind-ok (holds (not (is_some (at_kind d.last.outs b.0.value))) Repeated) (λ _. digest_at b.0.words >>= (λ digest. end_at
     digest.words >>= (λ _. Ok (Out b.0.value digest.value)))) s b.2 in
     let g = bind-ok (digest_at b.0.words) (λ digest. end_at digest.words >>= (λ _. Ok
     (Out b.0.value digest.value))) s c.2 in
     let f = bind-ok (end_at g.0.words) (λ _. Ok (Out b.0.value g.0.value)) s g.2 in
-    let same : s ≡ Out b.0.value g.0.value = sym (ok-is (Out b.0.value g.0.value) s f.2) in
+    let same : s ≡ Out b.0.value g.0.value = sym {a = Out b.0.value g.0.value} (ok-is (Out b.0.value g.0.value) s f.2) in
     let asked : OutLine = asked_output g.0.value in
-    let five : length (slice_set d.last.outs (place_of b.0.value) (Some asked)) ≡ 5 = rw length-set h.last.five in
     rw same (record {
       cycles = h.cycles;
       delay = h.delay;
       last = record {
         bios = h.last.bios;
-        cart = h.last.cart;
-        save = h.last.save;
-        keys = h.last.keys;
-        changes = h.last.changes;
-        apart = h.last.apart;
-        five = five;
-        outs = All-set IsOutput d.last.outs (place_of b.0.value) (Some asked) (digest_at-is b.0.words g.0 g.1) h.last.outs;
+        lines = record {
+          cart = h.last.lines.cart;
+          save = h.last.lines.save;
+          keys = h.last.lines.keys;
+          changes = h.last.lines.changes;
+          apart = h.last.lines.apart;
+          outs = put-holds IsOutput b.0.value (Some asked) d.last.outs (digest_at-is b.0.words g.0 g.1) h.last.lines.outs;
+        };
       };
       each = h.each;
       count = h.count;
@@ -288,13 +297,12 @@ keeps n d keyword.End ws s h place e =
     let c = bind-ok (end_at ws) (λ _. Ok End) s b.2 in
     let same : s ≡ End = sym (ok-is End s c.2) in
     let image : is_some d.last.bios ≡ true = held-true (is_some d.last.bios) Missing b.0 b.1 in
-    let ends = ends_with d.place d.consoles d.last place h.count image in
     rw same (record {
       cycles = h.cycles;
       delay = h.delay;
       last = silent;
-      each = closes d.place d.consoles d.last h.each h.last ends.1;
-      count = ends.0;
+      each = closes d.place d.consoles d.last h.each h.last;
+      count = ends_with d.place d.consoles d.last place h.count image;
     })
 
 not-ended : (place : Place) (said : Result (Option Statement) JobKind) (s : Statement)

@@ -18,10 +18,10 @@ use Rattle.gba_joblog.specs.Digests.{IsDigest, digest_size}
 use Rattle.gba_joblog.specs.Log.{digest_words, keys_word}
 use Rattle.gba_joblog.specs.Names.{is_name, is_name_byte, longest_name}
 use Rattle.gba_joblog.specs.Operands.{Words, digest_at, digest_of, digits_at, keys_at, name_at, number_at, operand, out_kind_at, player_at, version_at}
-use Rattle.gba_joblog.specs.Statements.{out_name}
-use Rattle.gba_joblog.specs.declared.job.OutKind.{OutKind}
-use Rattle.gba_joblog.specs.declared.job.OutKind.TheVariants.{Frames, Samples, State, Save}
-use Rattle.gba_joblog.specs.declared.job.OutKind.TheVariants as output
+use Rattle.gba_joblog.specs.Outputs.{out_name}
+use Rattle.gba_joblog.specs.declared.outputs.OutKind.{OutKind}
+use Rattle.gba_joblog.specs.declared.outputs.OutKind.TheVariants.{Frames, Samples, State, Save}
+use Rattle.gba_joblog.specs.declared.outputs.OutKind.TheVariants as output
 use Rattle.gba_joblog.proofs.Spelling.{AreWords, IsWord, are_more, are_none, is_word_byte, list_all-weaker}
 
 -- decimal numbers

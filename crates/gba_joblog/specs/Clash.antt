@@ -1,11 +1,12 @@
 -- Names of output files that are also the name of the job or of an input.
 use Rattle.std.specs.Prelude.{ℕ, ◌+◌, Bool, false, ◌&&◌, ◌||◌, nat_le, nat_eq, List, [], ◌∷◌, ◌++◌, length, take, drop, codes, decimal, Option, Some, None, option_and_then, if◌then◌else◌}
 use Rattle.std.specs.Cmp.Lexicographic.{pointwise}
+use Rattle.std.specs.List.{list_any}
 use Rattle.std.specs.Str.{bytes_eq}
 use Rattle.gba_joblog.specs.Job.{ConsoleJob, NamedFile, WholeJob}
-use Rattle.gba_joblog.specs.Statements.{asks_for, out_name}
-use Rattle.gba_joblog.specs.declared.job.OutKind.{OutKind}
-use Rattle.gba_joblog.specs.declared.job.OutKind.TheVariants.{Frames, Samples, Words, State, Save}
+use Rattle.gba_joblog.specs.Outputs.{all_kinds, is_named, out_name}
+use Rattle.gba_joblog.specs.Statements.{asks_for}
+use Rattle.gba_joblog.specs.declared.outputs.OutKind.{OutKind}
 
 -- the name of a console's output under OUT, as `OUT.0.state`
 abbrev pub output_file : List ℕ → ℕ → OutKind → List ℕ
@@ -16,10 +17,7 @@ abbrev pub writes_as : List ℕ → ℕ → ConsoleJob → List ℕ → OutKind 
 writes_as out player console name kind = asks_for console kind && bytes_eq name (output_file out player kind)
 
 unfoldable pub console_writes : List ℕ → ℕ → ConsoleJob → List ℕ → Bool
-console_writes out player console name =
-    writes_as out player console name Frames || writes_as out player console name Samples
-    || writes_as out player console name Words || writes_as out player console name State
-    || writes_as out player console name Save
+console_writes out player console name = list_any (writes_as out player console name) all_kinds
 
 -- whether one of these consoles, which stand after so many others, writes a file of this name
 unfoldable pub writes : List ℕ → ℕ → List ConsoleJob → List ℕ → Bool
@@ -42,15 +40,18 @@ least (Some m) None = Some m
 least (Some m) (Some n) = if nat_le m n then Some m else Some n
 
 -- the line of an input, where its name is that of an output
-abbrev pub line_of : (List ℕ → Bool) → Option NamedFile → Option ℕ
-line_of is_written None = None
-line_of is_written (Some file) = if is_written file.name then Some file.line else None
+abbrev pub line_of : (List ℕ → Bool) → NamedFile → Option ℕ
+line_of is_written file = if is_written file.name then Some file.line else None
+
+abbrev pub any_line_of : (List ℕ → Bool) → Option NamedFile → Option ℕ
+any_line_of is_written None = None
+any_line_of is_written (Some file) = line_of is_written file
 
 unfoldable pub console_clash : (List ℕ → Bool) → ConsoleJob → Option ℕ
 console_clash is_written console =
     least (line_of is_written console.bios)
-    (least (line_of is_written console.cart)
-    (least (line_of is_written console.save) (line_of is_written console.keys)))
+    (least (any_line_of is_written console.cart)
+    (least (any_line_of is_written console.save) (any_line_of is_written console.keys)))
 
 unfoldable pub inputs_clash : (List ℕ → Bool) → List ConsoleJob → Option ℕ
 inputs_clash is_written [] = None
@@ -76,10 +77,8 @@ tail_after out player name =
     option_and_then (after_text (codes "."))
     (option_and_then (after_text player) (option_and_then (after_text (codes ".")) (after_text out name)))
 
+abbrev pub asks_as : ConsoleJob → List ℕ → OutKind → Bool
+asks_as console tail kind = asks_for console kind && is_named tail kind
+
 abbrev pub ends_as : ConsoleJob → List ℕ → Bool
-ends_as console tail =
-    (asks_for console Frames && bytes_eq tail (codes "frames"))
-    || (asks_for console Samples && bytes_eq tail (codes "samples"))
-    || (asks_for console Words && bytes_eq tail (codes "words"))
-    || (asks_for console State && bytes_eq tail (codes "state"))
-    || (asks_for console Save && bytes_eq tail (codes "save"))
+ends_as console tail = list_any (asks_as console tail) all_kinds

@@ -1,7 +1,20 @@
-use Rattle.std.specs.Prelude.{ℕ, List, [], ◌∷◌, Option, None}
-use Rattle.gba_joblog.specs.Job.{ConsoleJob}
+use Rattle.std.specs.Prelude.{ℕ, List, [], Option, None}
+use Rattle.gba_joblog.specs.Job.{ConsoleJob, NamedFile}
+use Rattle.gba_joblog.specs.Outputs.{per_kind}
 use Rattle.gba_joblog.specs.declared.draft.Place.{Place}
 use Rattle.gba_joblog.specs.declared.draft.Place.TheVariants.{Start}
+use Rattle.gba_joblog.specs.declared.job.KeyChange.{KeyChange}
+use Rattle.gba_joblog.specs.declared.job.OutLine.{OutLine}
+use Rattle.gba_joblog.specs.declared.outputs.PerKind.{PerKind}
+
+-- what the lines of a console have said as far as they are read; its BIOS image may not be named yet
+pub record DraftConsole : Type 0 where
+  pub bios : Option NamedFile
+  pub cart : Option NamedFile
+  pub save : Option NamedFile
+  pub keys : Option NamedFile
+  pub changes : List KeyChange
+  pub outs : PerKind (Option OutLine)
 
 -- What the lines before have said: where in the job the next line stands, the cycles, the cable's delay, the consoles
 -- that are whole, and what is said of the console whose lines stand here.
@@ -10,17 +23,28 @@ pub record Draft : Type 0 where
   pub cycles : Option ℕ
   pub delay : Option ℕ
   pub consoles : List ConsoleJob
-  pub last : ConsoleJob
+  pub last : DraftConsole
 
 -- a console of which nothing is said
-abbrev pub silent_console : ConsoleJob
+abbrev pub silent_console : DraftConsole
 silent_console = record {
   bios = None;
   cart = None;
   save = None;
   keys = None;
   changes = [];
-  outs = None ∷ None ∷ None ∷ None ∷ None ∷ [];
+  outs = per_kind (λ _. None);
+}
+
+-- a console of which everything is said, with this BIOS image
+abbrev pub with_image : DraftConsole → NamedFile → ConsoleJob
+with_image console bios = record {
+  bios = bios;
+  cart = console.cart;
+  save = console.save;
+  keys = console.keys;
+  changes = console.changes;
+  outs = console.outs;
 }
 
 -- before the first line

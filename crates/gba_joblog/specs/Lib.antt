@@ -1,4 +1,5 @@
 pub mod Kinds
+pub mod Outputs
 pub mod Job
 pub mod Names
 pub mod Draft

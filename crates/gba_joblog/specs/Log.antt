@@ -1,13 +1,14 @@
 -- The log: a job in one spelling.
 use Rattle.std.specs.Prelude.{ℕ, ◌+◌, ◌/◌, ◌%◌, List, [], ◌∷◌, ◌++◌, codes, decimal, slice_index, Option, Some, None}
+use Rattle.std.specs.List.{flat_map}
 use Rattle.hex.specs.Hex.{encode_lower, lower_digits}
 use Rattle.gba_joblog.specs.Job.{ConsoleJob, NamedFile, WholeJob}
 use Rattle.gba_joblog.specs.Operands.{Words}
-use Rattle.gba_joblog.specs.Statements.{out_name, output_of}
+use Rattle.gba_joblog.specs.Outputs.{all_kinds, out_name}
+use Rattle.gba_joblog.specs.Statements.{output_of}
 use Rattle.gba_joblog.specs.declared.job.KeyChange.{KeyChange}
-use Rattle.gba_joblog.specs.declared.job.OutKind.{OutKind}
-use Rattle.gba_joblog.specs.declared.job.OutKind.TheVariants as output
 use Rattle.gba_joblog.specs.declared.job.OutLine.{OutLine}
+use Rattle.gba_joblog.specs.declared.outputs.OutKind.{OutKind}
 
 -- what follows a word of a line: a space before each of the other words, and the line feed
 abbrev pub after_words : Words → List ℕ
@@ -23,10 +24,14 @@ abbrev pub digest_words : Option (List ℕ) → Words
 digest_words None = []
 digest_words (Some digest) = codes "sha256" ∷ encode_lower digest ∷ []
 
--- the line of an input, where the console has it
-abbrev pub file_text : List ℕ → Option NamedFile → List ℕ
-file_text keyword None = []
-file_text keyword (Some file) = line_of keyword (file.name ∷ digest_words file.digest)
+-- the line of an input
+abbrev pub file_text : List ℕ → NamedFile → List ℕ
+file_text keyword file = line_of keyword (file.name ∷ digest_words file.digest)
+
+-- the same, where the console has it
+abbrev pub any_file_text : List ℕ → Option NamedFile → List ℕ
+any_file_text keyword None = []
+any_file_text keyword (Some file) = file_text keyword file
 
 -- pressed keys as three lower case digits
 abbrev pub keys_word : ℕ → List ℕ
@@ -51,14 +56,12 @@ abbrev pub out_text : ConsoleJob → OutKind → List ℕ
 out_text console out = asked_text (out_name out) (output_of console out)
 
 abbrev pub outs_text : ConsoleJob → List ℕ
-outs_text console =
-    out_text console output.Frames ++ (out_text console output.Samples ++ (out_text console output.Words
-    ++ (out_text console output.State ++ out_text console output.Save)))
+outs_text console = flat_map (out_text console) all_kinds
 
 abbrev pub files_text : ConsoleJob → List ℕ
 files_text console =
     file_text (codes "bios") console.bios
-    ++ (file_text (codes "cart") console.cart ++ file_text (codes "save") console.save)
+    ++ (any_file_text (codes "cart") console.cart ++ any_file_text (codes "save") console.save)
 
 -- The lines of the console of this number. The key file isn't named: its changes stand as lines.
 unfoldable pub console_text : ℕ → ConsoleJob → List ℕ

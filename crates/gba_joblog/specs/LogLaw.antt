@@ -11,7 +11,7 @@ unlined_file file = record file { line = 0 }
 
 abbrev pub unlined_console : ConsoleJob → ConsoleJob
 unlined_console console = record {
-  bios = option_map unlined_file console.bios;
+  bios = unlined_file console.bios;
   cart = option_map unlined_file console.cart;
   save = option_map unlined_file console.save;
   keys = option_map unlined_file console.keys;

@@ -7,9 +7,8 @@ use Rattle.gba_text.specs.Numbers.{is_number, number_of, hex_number_of}
 use Rattle.gba_joblog.specs.Digests.{digest_size}
 use Rattle.gba_joblog.specs.Kinds.{◌>>=◌}
 use Rattle.gba_joblog.specs.Names.{is_name}
-use Rattle.gba_joblog.specs.declared.job.OutKind.{OutKind}
-use Rattle.gba_joblog.specs.declared.job.OutKind.TheVariants.{Frames, Samples, State, Save}
-use Rattle.gba_joblog.specs.declared.job.OutKind.TheVariants as output
+use Rattle.gba_joblog.specs.Outputs.{kind_named}
+use Rattle.gba_joblog.specs.declared.outputs.OutKind.{OutKind}
 use Rattle.gba_joblog.specs.declared.kinds.JobKind.{JobKind}
 use Rattle.gba_joblog.specs.declared.kinds.JobKind.TheVariants.{Word, Number, Name, Digest, Order, Missing, Extra}
 
@@ -77,18 +76,8 @@ version_in t = or_refused Word t.words (version_of t.value)
 unfoldable pub version_at : Words → Result (Taken Bool) JobKind
 version_at words = word_at words >>= version_in
 
--- the outputs that can be asked for
-abbrev pub out_kind_of : List ℕ → Option OutKind
-out_kind_of word =
-    if bytes_eq word (codes "frames") then Some Frames
-    else if bytes_eq word (codes "samples") then Some Samples
-    else if bytes_eq word (codes "words") then Some output.Words
-    else if bytes_eq word (codes "state") then Some State
-    else if bytes_eq word (codes "save") then Some Save
-    else None
-
 abbrev pub out_kind_in : Taken (List ℕ) → Result (Taken OutKind) JobKind
-out_kind_in t = or_refused Word t.words (out_kind_of t.value)
+out_kind_in t = or_refused Word t.words (kind_named t.value)
 
 -- the kind of an output
 unfoldable pub out_kind_at : Words → Result (Taken OutKind) JobKind

@@ -4,12 +4,15 @@ use Rattle.std.specs.List.{All}
 use Rattle.std.specs.List.Sorted.{IsNonDecreasingBy}
 use Rattle.gba_joblog.specs.Changes.{most_changes}
 use Rattle.gba_joblog.specs.Digests.{IsDigest}
+use Rattle.gba_joblog.specs.Draft.{DraftConsole}
 use Rattle.gba_joblog.specs.Job.{ConsoleJob, NamedFile, WholeJob}
 use Rattle.gba_joblog.specs.Language.{job_of}
 use Rattle.gba_joblog.specs.KeyFile.{keys_of}
 use Rattle.gba_joblog.specs.Names.{is_name}
+use Rattle.gba_joblog.specs.Outputs.{EachKind}
 use Rattle.gba_joblog.specs.declared.job.KeyChange.{KeyChange}
 use Rattle.gba_joblog.specs.declared.job.OutLine.{OutLine}
+use Rattle.gba_joblog.specs.declared.outputs.PerKind.{PerKind}
 
 -- a file with a name of 1 to 200 bytes; what is stated with it may be a digest
 pub record IsFile (file : NamedFile) : Type 0 where
@@ -35,21 +38,25 @@ pub record AreChanges (changes : List KeyChange) : Type 0 where
   pub rising : IsNonDecreasingBy (λ change. change.clock) changes
   pub few : length changes ≤ most_changes
 
--- what the lines of a console, all of them or some, say
-pub record IsPartOfConsole (console : ConsoleJob) : Type 0 where
+-- what the lines of a console say beside that of its BIOS image
+pub record AreConsoleLines (cartridge backup key_file : Option NamedFile) (key_changes : List KeyChange)
+    (asked : PerKind (Option OutLine)) : Type 0 where
+  pub cart : IfSome cartridge IsFile
+  pub save : IfSome backup IsFile
+  pub keys : IfSome key_file IsFile
+  pub changes : AreChanges key_changes
+  pub apart : IsSome key_file → key_changes ≡ []
+  pub outs : EachKind IsOutput asked
+
+-- a console as far as its lines are read
+pub record IsPartOfConsole (console : DraftConsole) : Type 0 where
   pub bios : IfSome console.bios IsFile
-  pub cart : IfSome console.cart IsFile
-  pub save : IfSome console.save IsFile
-  pub keys : IfSome console.keys IsFile
-  pub changes : AreChanges console.changes
-  pub apart : IsSome console.keys → console.changes ≡ []
-  pub five : length console.outs ≡ 5
-  pub outs : All IsOutput console.outs
+  pub lines : AreConsoleLines console.cart console.save console.keys console.changes console.outs
 
 -- a whole console has its BIOS image
 pub record IsConsole (console : ConsoleJob) : Type 0 where
-  pub part : IsPartOfConsole console
-  pub image : IsSome console.bios
+  pub bios : IsFile console.bios
+  pub lines : AreConsoleLines console.cart console.save console.keys console.changes console.outs
 
 -- a job of one to four consoles, in the ranges of the language
 pub record IsJob (job : WholeJob) : Type 0 where

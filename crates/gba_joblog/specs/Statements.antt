@@ -1,18 +1,18 @@
 -- The table of statements. Each keyword has its spelling, its place, its operands, and what it says.
-use Rattle.std.specs.Prelude.{ℕ, ◌+◌, ◌^◌, Bool, true, false, List, [], ◌∷◌, ◌++◌, length, codes, not, Option, Some, None, Result, Ok, is_some, slice_get, slice_set, if◌then◌else◌}
+use Rattle.std.specs.Prelude.{ℕ, ◌+◌, ◌^◌, Bool, true, false, List, [], ◌∷◌, ◌++◌, length, codes, not, Option, Some, None, Result, Ok, is_some, if◌then◌else◌}
 use Rattle.std.specs.Str.{bytes_eq}
 use Rattle.gba_joblog.specs.Changes.{change_at}
-use Rattle.gba_joblog.specs.Draft.{Draft, silent_console}
+use Rattle.gba_joblog.specs.Draft.{Draft, DraftConsole, silent_console, with_image}
 use Rattle.gba_joblog.specs.Job.{ConsoleJob, NamedFile}
 use Rattle.gba_joblog.specs.Kinds.{◌>>=◌, holds}
+use Rattle.gba_joblog.specs.Outputs.{at_kind, with_kind}
 use Rattle.gba_joblog.specs.Operands.{Words, number_at, name_at, digest_at, player_at, version_at, out_kind_at, end_at}
 use Rattle.gba_joblog.specs.declared.draft.Place.{Place}
 use Rattle.gba_joblog.specs.declared.draft.Place.TheVariants.{Start, Head, Inside, Ended}
 use Rattle.gba_joblog.specs.declared.job.FileKind.{FileKind}
 use Rattle.gba_joblog.specs.declared.job.FileKind.TheVariants as file
 use Rattle.gba_joblog.specs.declared.job.KeyChange.{KeyChange}
-use Rattle.gba_joblog.specs.declared.job.OutKind.{OutKind}
-use Rattle.gba_joblog.specs.declared.job.OutKind.TheVariants as output
+use Rattle.gba_joblog.specs.declared.outputs.OutKind.{OutKind}
 use Rattle.gba_joblog.specs.declared.job.OutLine.{OutLine}
 use Rattle.gba_joblog.specs.declared.kinds.JobKind.{JobKind}
 use Rattle.gba_joblog.specs.declared.kinds.JobKind.TheVariants as kind
@@ -74,14 +74,14 @@ without_changes [] refusal = refusal
 without_changes (_ ∷ _) _ = Some kind.Order
 
 -- what a console says of an input
-abbrev pub file_of : FileKind → ConsoleJob → Option NamedFile
+abbrev pub file_of : FileKind → DraftConsole → Option NamedFile
 file_of file.Bios console = console.bios
 file_of file.Cart console = console.cart
 file_of file.Save console = console.save
 file_of file.Keys console = console.keys
 
 -- each input is named once
-abbrev pub file_refusal : FileKind → ConsoleJob → Option JobKind
+abbrev pub file_refusal : FileKind → DraftConsole → Option JobKind
 file_refusal file.Bios console = once (is_some console.bios)
 file_refusal file.Cart console = once (is_some console.cart)
 file_refusal file.Save console = once (is_some console.save)
@@ -118,42 +118,21 @@ refusal_at d keyword.Key = in_console d.place (without_file (is_some d.last.keys
 refusal_at d keyword.Out = in_console d.place None
 refusal_at d keyword.End = in_console d.place None
 
--- where an output stands among the five
-abbrev pub place_of : OutKind → ℕ
-place_of output.Frames = 0
-place_of output.Samples = 1
-place_of output.Words = 2
-place_of output.State = 3
-place_of output.Save = 4
-
--- the name of an output, in jobs and at the end of its file's name
-abbrev pub out_name : OutKind → List ℕ
-out_name output.Frames = codes "frames"
-out_name output.Samples = codes "samples"
-out_name output.Words = codes "words"
-out_name output.State = codes "state"
-out_name output.Save = codes "save"
-
-abbrev pub asked_in : Option (Option OutLine) → Option OutLine
-asked_in (Some asked) = asked
-asked_in None = None
-
 -- what a console is asked for of an output, if it is
 abbrev pub output_of : ConsoleJob → OutKind → Option OutLine
-output_of console out = asked_in (slice_get console.outs (place_of out))
-
-abbrev pub is_asked : Option (Option OutLine) → Bool
-is_asked (Some (Some _)) = true
-is_asked (Some None) = false
-is_asked None = false
+output_of console out = at_kind console.outs out
 
 -- whether a console asks for an output
 abbrev pub asks_for : ConsoleJob → OutKind → Bool
-asks_for console out = is_asked (slice_get console.outs (place_of out))
+asks_for console out = is_some (output_of console out)
 
 -- the consoles once the one whose lines stand here is whole
-abbrev pub whole_consoles : Place → List ConsoleJob → ConsoleJob → List ConsoleJob
-whole_consoles Inside consoles last = consoles ++ last ∷ []
+abbrev pub and_whole : List ConsoleJob → DraftConsole → Option NamedFile → List ConsoleJob
+and_whole consoles last (Some bios) = consoles ++ with_image last bios ∷ []
+and_whole consoles last None = consoles
+
+abbrev pub whole_consoles : Place → List ConsoleJob → DraftConsole → List ConsoleJob
+whole_consoles Inside consoles last = and_whole consoles last last.bios
 whole_consoles Start consoles last = consoles
 whole_consoles Head consoles last = consoles
 whole_consoles Ended consoles last = consoles
@@ -166,7 +145,7 @@ next_player Head whole = whole
 next_player Ended whole = whole
 
 -- whether the console whose lines stand here has its BIOS image
-abbrev pub has_image : Place → ConsoleJob → Bool
+abbrev pub has_image : Place → DraftConsole → Bool
 has_image Inside last = is_some last.bios
 has_image Start last = true
 has_image Head last = true
@@ -201,7 +180,7 @@ arguments d keyword.Key words = do
   Ok (Key change)
 arguments d keyword.Out words = do
   out ← out_kind_at words
-  _ ← holds (not (asks_for d.last out.value)) kind.Repeated
+  _ ← holds (not (is_some (at_kind d.last.outs out.value))) kind.Repeated
   digest ← digest_at out.words
   _ ← end_at digest.words
   Ok (Out out.value digest.value)
@@ -217,15 +196,15 @@ abbrev pub asked_output : Option (List ℕ) → OutLine
 asked_output digest = record { digest = digest }
 
 -- a console with this line of an input
-abbrev pub with_file : FileKind → NamedFile → ConsoleJob → ConsoleJob
+abbrev pub with_file : FileKind → NamedFile → DraftConsole → DraftConsole
 with_file file.Bios named console = record console { bios = Some named }
 with_file file.Cart named console = record console { cart = Some named }
 with_file file.Save named console = record console { save = Some named }
 with_file file.Keys named console = record console { keys = Some named }
 
 -- a console that is asked for this output
-abbrev pub with_output : OutKind → OutLine → ConsoleJob → ConsoleJob
-with_output out asked console = record console { outs = slice_set console.outs (place_of out) (Some asked) }
+abbrev pub with_output : OutKind → OutLine → DraftConsole → DraftConsole
+with_output out asked console = record console { outs = with_kind out (Some asked) console.outs }
 
 -- what is said once the console whose lines stand here is whole, and the next line stands at this place
 abbrev pub closed : Place → Draft → Draft

@@ -1,8 +1,9 @@
 use Rattle.std.specs.Prelude.{map, option_map, string_bytes}
-use Rattle.gba_joblog.specs.Draft.{Draft}
+use Rattle.gba_joblog.specs.Draft.{Draft, DraftConsole}
 use Rattle.gba_joblog.specs.Job.{ConsoleJob, NamedFile, WholeJob}
 use Rattle.gba_joblog.specs.Statements.{Statement, Version, Cycles, Delay, Console, File, Key, Out, End}
 use Rattle.gba_joblog.specs.declared.draft.DraftJob.{DraftJob}
+use Rattle.gba_joblog.specs.declared.console.DraftConsole.{DraftConsole as ConsoleText}
 use Rattle.gba_joblog.specs.declared.job.FileLine.{FileLine}
 use Rattle.gba_joblog.specs.declared.job.Job.{Job}
 use Rattle.gba_joblog.specs.declared.job.JobConsole.{JobConsole}
@@ -15,6 +16,16 @@ file_value file = record { name = string_bytes file.name; digest = file.digest; 
 
 abbrev pub console_value : JobConsole → ConsoleJob
 console_value console = record {
+  bios = file_value console.bios;
+  cart = option_map file_value console.cart;
+  save = option_map file_value console.save;
+  keys = option_map file_value console.keys;
+  changes = console.changes.items;
+  outs = console.outs;
+}
+
+abbrev pub draft_console_value : ConsoleText → DraftConsole
+draft_console_value console = record {
   bios = option_map file_value console.bios;
   cart = option_map file_value console.cart;
   save = option_map file_value console.save;
@@ -32,7 +43,7 @@ draft_value draft = record {
   cycles = draft.cycles;
   delay = draft.delay;
   consoles = map console_value draft.consoles.items;
-  last = console_value draft.last;
+  last = draft_console_value draft.last;
 }
 
 abbrev pub statement_value : Line → Statement

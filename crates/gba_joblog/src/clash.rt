@@ -2,10 +2,11 @@
 
 ghost use Rattle.std.specs.Prelude.{◌≡◌, ◌<◌, ◌^◌, decimal, map, option_map};
 ghost use Rattle.std.specs.Str.{bytes_eq};
-ghost use Rattle.gba_joblog.specs.Clash.{after_text, clash_of, console_clash as console_clash_of, console_writes as console_writes_of, ends_as as ends_as_of, inputs_clash as inputs_clash_of, is_output as is_output_of, least as least_of, line_of as line_of_of, log_file, tail_after as tail_after_of, writes as writes_of};
+ghost use Rattle.gba_joblog.specs.Clash.{after_text, any_line_of as any_line_of_of, asks_as as asks_as_of, clash_of, console_clash as console_clash_of, console_writes as console_writes_of, ends_as as ends_as_of, inputs_clash as inputs_clash_of, is_output as is_output_of, least as least_of, line_of as line_of_of, log_file, tail_after as tail_after_of, writes as writes_of};
 ghost use Rattle.gba_joblog.specs.Views.{console_value, file_value, job_value};
 
-use crate::job::{FileLine, Job, JobConsole, OutKind};
+use crate::job::{FileLine, Job, JobConsole};
+use crate::outputs::{KINDS, OutKind};
 use itoa::Buffer;
 
 /// What follows `OUT.K.` in a name.
@@ -19,15 +20,23 @@ fn tail_after<'a>(name: &'a [u8], out: &[u8], player: &[u8]) -> Option<&'a [u8]>
         .strip_prefix(b".".as_slice())
 }
 
+/// Whether a console is asked for an output that has this name.
+fn asks_as(console: &JobConsole, tail: &[u8], kind: OutKind) -> bool
+    ensures { result ≡ asks_as_of (console_value console.now) tail.now kind }
+{
+    console.asks_for(kind) && tail == kind.name().as_bytes()
+}
+
 /// Whether a console is asked for the output of this name.
 fn ends_as(console: &JobConsole, tail: &[u8]) -> bool
     ensures { result ≡ ends_as_of (console_value console.now) tail.now }
 {
-    (console.asks_for(OutKind::Frames) && tail == b"frames".as_slice())
-        || (console.asks_for(OutKind::Samples) && tail == b"samples".as_slice())
-        || (console.asks_for(OutKind::Words) && tail == b"words".as_slice())
-        || (console.asks_for(OutKind::State) && tail == b"state".as_slice())
-        || (console.asks_for(OutKind::Save) && tail == b"save".as_slice())
+    for kind in KINDS {
+        if asks_as(console, tail, kind) {
+            return true;
+        }
+    }
+    false
 }
 
 /// Whether console `player` writes a file of this name.
@@ -90,18 +99,23 @@ fn least(a: Option<u64>, b: Option<u64>) -> Option<u64>
 }
 
 /// The line of an input that an output would be.
-fn line_of(out: &[u8], consoles: &[JobConsole], file: &Option<FileLine>) -> Option<u64>
+fn line_of(out: &[u8], consoles: &[JobConsole], file: &FileLine) -> Option<u64>
+    ensures { result ≡ line_of_of (is_output_of out.now (map console_value consoles.now)) (file_value file.now) }
+{
+    if is_output(out, consoles, file.name.as_bytes()) {
+        Some(file.line)
+    } else {
+        None
+    }
+}
+
+/// The line of an input that may be there, and that an output would be.
+fn any_line_of(out: &[u8], consoles: &[JobConsole], file: &Option<FileLine>) -> Option<u64>
     ensures { result
-        ≡ line_of_of (is_output_of out.now (map console_value consoles.now)) (option_map file_value file.now) }
+        ≡ any_line_of_of (is_output_of out.now (map console_value consoles.now)) (option_map file_value file.now) }
 {
     match file {
-        Some(file) => {
-            if is_output(out, consoles, file.name.as_bytes()) {
-                Some(file.line)
-            } else {
-                None
-            }
-        }
+        Some(file) => line_of(out, consoles, file),
         None => None,
     }
 }
@@ -113,9 +127,9 @@ fn console_clash(out: &[u8], consoles: &[JobConsole], console: &JobConsole) -> O
         ≡ console_clash_of (is_output_of out.now (map console_value consoles.now)) (console_value console.now) }
 {
     let bios = line_of(out, consoles, &console.bios);
-    let cart = line_of(out, consoles, &console.cart);
-    let save = line_of(out, consoles, &console.save);
-    let keys = line_of(out, consoles, &console.keys);
+    let cart = any_line_of(out, consoles, &console.cart);
+    let save = any_line_of(out, consoles, &console.save);
+    let keys = any_line_of(out, consoles, &console.keys);
     least(bios, least(cart, least(save, keys)))
 }
 

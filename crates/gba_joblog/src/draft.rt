@@ -7,6 +7,7 @@ ghost use Rattle.gba_joblog.specs.Language.{job_at_end as job_at_end_of};
 ghost use Rattle.gba_joblog.specs.Statements.{closed, named_file as named_file_of, next_player as next_player_of, plus_statement};
 ghost use Rattle.gba_joblog.specs.Views.{draft_value, file_value, job_value, statement_value};
 
+use crate::console::DraftConsole;
 use crate::job::{FileLine, Job, JobConsole};
 use crate::kinds::{JobError, JobKind};
 use crate::statement::Line;
@@ -38,7 +39,7 @@ pub(crate) struct DraftJob {
     /// The consoles that are whole.
     pub(crate) consoles: Vec<JobConsole>,
     /// The console whose lines stand here.
-    pub(crate) last: JobConsole,
+    pub(crate) last: DraftConsole,
 }
 
 fn named_file(
@@ -66,7 +67,7 @@ impl DraftJob {
             cycles: None,
             delay: None,
             consoles: Vec::new(alloc),
-            last: JobConsole::silent(alloc),
+            last: DraftConsole::silent(alloc),
         }
     }
 
@@ -85,9 +86,11 @@ impl DraftJob {
     fn close(&mut self, alloc: Global, place: Place) -> Result<(), AllocError>
         ensures { OnOk result (draft_value self.new ≡ closed place (draft_value self.old)) }
     {
-        let last = mem::replace(&mut self.last, JobConsole::silent(alloc));
+        let last = mem::replace(&mut self.last, DraftConsole::silent(alloc));
         if self.place == Place::Inside {
-            self.consoles.push(last)?;
+            if let Some(whole) = last.whole() {
+                self.consoles.push(whole)?;
+            }
         }
         self.place = place;
         Ok(())

@@ -6,6 +6,7 @@
 
 mod changes;
 mod clash;
+mod console;
 mod digest;
 mod draft;
 mod job;
@@ -15,12 +16,14 @@ pub mod laws;
 mod lines;
 mod names;
 mod operands;
+mod outputs;
 mod parse;
 mod statement;
 
 pub use digest::{digest_of, digits_of};
-pub use job::{FileLine, Job, JobConsole, KeyChange, OutKind, OutLine};
+pub use job::{FileLine, Job, JobConsole, KeyChange, OutLine};
 pub use key_file::{LONGEST_KEYS, parse_keys};
 pub use kinds::{JobError, JobKind, ParseRefused};
 pub use names::is_name;
+pub use outputs::{KINDS, OutKind, PerKind};
 pub use parse::LONGEST_JOB;

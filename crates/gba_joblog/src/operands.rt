@@ -6,9 +6,9 @@ ghost use Rattle.gba_text.specs.Words.{fault_of};
 ghost use Rattle.gba_joblog.specs.Answers.{Agrees, Takes};
 ghost use Rattle.gba_joblog.specs.Operands.{digest_at as digest_at_of, digits_at as digits_at_of, end_at as end_at_of, has_words as has_words_of, keys_at as keys_at_of, name_at as name_at_of, number_at as number_at_of, out_kind_at as out_kind_at_of, player_at as player_at_of, version_at as version_at_of, word_at as word_at_of};
 
-use crate::job::OutKind;
 use crate::kinds::JobKind;
 use crate::names::{is_name, name_text};
+use crate::outputs::OutKind;
 use gba_text::Cursor;
 use hex::FromHex;
 
@@ -118,22 +118,7 @@ pub(crate) fn out_kind_at(cursor: &mut Cursor<'_>) -> Result<OutKind, JobKind>
     ensures lines { cursor.new.lines ≡ cursor.old.lines }
 {
     let word = word_at(cursor)?;
-    if word == b"frames".as_slice() {
-        return Ok(OutKind::Frames);
-    }
-    if word == b"samples".as_slice() {
-        return Ok(OutKind::Samples);
-    }
-    if word == b"words".as_slice() {
-        return Ok(OutKind::Words);
-    }
-    if word == b"state".as_slice() {
-        return Ok(OutKind::State);
-    }
-    if word == b"save".as_slice() {
-        return Ok(OutKind::Save);
-    }
-    Err(JobKind::Word)
+    OutKind::named(word).ok_or(JobKind::Word)
 }
 
 fn all_digits(word: &[u8]) -> bool

@@ -4,13 +4,15 @@ ghost use Rattle.std.specs.Prelude.{◌≡◌, ◌<◌};
 ghost use Rattle.gba_text.specs.Words.{fault_of};
 ghost use Rattle.gba_joblog.specs.Answers.{Agrees};
 ghost use Rattle.gba_joblog.specs.Statements.{arguments as arguments_of, file_refusal as file_refusal_of, has_image as has_image_of, keyword_of as keyword_spelled, once as once_of, refusal_at as refusal_at_of};
-ghost use Rattle.gba_joblog.specs.Views.{console_value, draft_value, statement_value};
+ghost use Rattle.gba_joblog.specs.Views.{draft_console_value, draft_value, statement_value};
 
 use crate::changes::change_at;
+use crate::console::DraftConsole;
 use crate::draft::{DraftJob, Place};
-use crate::job::{FileKind, JobConsole, KeyChange, OutKind};
+use crate::job::{FileKind, KeyChange};
 use crate::kinds::JobKind;
 use crate::operands::{digest_at, end_at, name_at, number_at, out_kind_at, player_at, version_at};
+use crate::outputs::OutKind;
 use gba_text::Cursor;
 
 /// The greatest number of cycles.
@@ -87,8 +89,8 @@ fn once(said: bool) -> Option<JobKind>
 }
 
 /// Why a console's line of an input may not stand here, if so.
-fn file_refusal(kind: FileKind, console: &JobConsole) -> Option<JobKind>
-    ensures { result ≡ file_refusal_of kind (console_value console.now) }
+fn file_refusal(kind: FileKind, console: &DraftConsole) -> Option<JobKind>
+    ensures { result ≡ file_refusal_of kind (draft_console_value console.now) }
 {
     match kind {
         FileKind::Bios => once(console.bios.is_some()),
@@ -124,7 +126,7 @@ pub(crate) fn refusal_at(draft: &DraftJob, keyword: Keyword) -> Option<JobKind>
 
 /// Whether the console whose lines stand here has its BIOS image.
 fn has_image(draft: &DraftJob) -> bool
-    ensures { result ≡ has_image_of draft.now.place (console_value draft.now.last) }
+    ensures { result ≡ has_image_of draft.now.place (draft_console_value draft.now.last) }
 {
     match draft.place {
         Place::Inside => draft.last.bios.is_some(),

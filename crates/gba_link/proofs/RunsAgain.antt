@@ -27,13 +27,13 @@ use Rattle.gba_joblog.specs.Language.{job_of, longest_job}
 use Rattle.gba_joblog.specs.Log.{log_text}
 use Rattle.gba_joblog.specs.Soundness.{IsJob}
 use Rattle.gba_joblog.specs.declared.job.OutLine.{OutLine}
+use Rattle.gba_joblog.specs.declared.outputs.PerKind.{PerKind}
 use Rattle.gba_joblog.specs.declared.kinds.JobError.{JobError}
 use Rattle.gba_joblog.specs.declared.kinds.JobKind.TheVariants.{Long}
 use Rattle.gba_link.specs.AgainLaw.{HasLog, RunsAgain, SaysJob, bytes_of}
 use Rattle.gba_link.specs.RunPlan.{after_inputs, after_job, end_with, files_at, images_in, job_or_refusal, job_plan, job_refusal, result_of_run, run_plan, summary_lines, unless_clash, whole_run_plan, without_clash, written_at}
 use Rattle.gba_session.proofs.SameRun.{RunsAlike, asks-alike, end-alike, end-many}
 use Rattle.gba_session.specs.Files.{all_files, asks_of}
-use Rattle.gba_session.specs.Files as session
 use Rattle.gba_store.specs.Files.{Files}
 use Rattle.gba_written.proofs.LogRoom.{all-stated, logged-sound}
 use Rattle.gba_written.proofs.RunAgain.{AreStatedBy, asked-filled, filled-alike, outs-again, written-end, written-outputs, written-under}
@@ -144,10 +144,10 @@ module _ (job : WholeJob) (inputs : List ConsoleInputs) (is : IsJob job) (read :
   abbrev cut : Cut Machine
   cut = end_with job inputs
 
-  abbrev made : List session.Files
+  abbrev made : List (PerKind (List ℕ))
   made = files_at whole cut
 
-  abbrev outs : List (List (Option OutLine))
+  abbrev outs : List (PerKind (Option OutLine))
   outs = all_outs whole.consoles made
 
   abbrev lines : List ℕ

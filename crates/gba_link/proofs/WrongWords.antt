@@ -12,7 +12,7 @@ use Rattle.gba_command.specs.Writing.{Run}
 use Rattle.gba_command.proofs.Plans.{Names, refused-named, refuses-alone}
 use Rattle.gba_image.specs.declared.error.ImageError.{ImageError}
 use Rattle.gba_inputs.specs.Inputs.{ConsoleInputs, DigestedImage, digested}
-use Rattle.gba_inputs.specs.InputsPlan.{ImageForm, accepted, after_bios, after_cart, after_digest, after_keys, after_save, any_cart_plan, any_keys_plan, any_save_plan, bios_file, bios_form, bios_plan, cart_form, cart_plan, compared_with, console_plan, found, image_plan, key_file_plan, keys_or_fault, keys_or_refusal, save_form, save_plan, unless_fault}
+use Rattle.gba_inputs.specs.InputsPlan.{ImageForm, accepted, after_bios, after_cart, after_digest, after_keys, after_save, any_cart_plan, any_keys_plan, any_save_plan, bios_form, bios_plan, cart_form, cart_plan, compared_with, console_plan, found, image_plan, key_file_plan, keys_or_fault, keys_or_refusal, save_form, save_plan, unless_fault}
 use Rattle.gba_joblog.specs.Clash.{clash_of}
 use Rattle.gba_joblog.specs.Job.{ConsoleJob, NamedFile, WholeJob}
 use Rattle.gba_joblog.specs.KeyFile.{keys_of}
@@ -116,8 +116,8 @@ console-apart console following rest h =
     let at-cart : (bios : DigestedImage) → Names Words (bind (after_bios console bios) following) → ⊥ = λ bios k.
     any-cart-apart console.cart (λ cart. bind (after_cart console bios cart) following) (at-save bios)
     (names-together (any_cart_plan console.cart) (after_cart console bios) following k) in
-    image-apart bios_form (bios_file console.bios) (λ bios. bind (after_bios console bios) following) at-cart
-    (names-together (bios_plan (bios_file console.bios)) (after_bios console) following h)
+    image-apart bios_form console.bios (λ bios. bind (after_bios console bios) following) at-cart
+    (names-together (bios_plan console.bios) (after_bios console) following h)
 
 consoles-apart : {Y : Type 0} (done : List ConsoleInputs) (consoles : List ConsoleJob) (following : List ConsoleInputs → Plan Y)
     → ((x : List ConsoleInputs) → Names Words (following x) → ⊥)

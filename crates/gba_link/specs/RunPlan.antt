@@ -16,8 +16,9 @@ use Rattle.gba_joblog.specs.Job.{WholeJob}
 use Rattle.gba_joblog.specs.Language.{job_of, longest_job}
 use Rattle.gba_joblog.specs.declared.kinds.JobError.{JobError}
 use Rattle.gba_joblog.specs.declared.kinds.JobKind.TheVariants.{Long, Clash}
+use Rattle.gba_joblog.specs.declared.outputs.PerKind.{PerKind}
 use Rattle.gba_output.specs.StateFile.{summary_line}
-use Rattle.gba_session.specs.Files.{Files, all_files, asks_of}
+use Rattle.gba_session.specs.Files.{all_files, asks_of}
 use Rattle.gba_session.specs.Start.{end_of}
 use Rattle.gba_written.specs.Names.{run_names}
 use Rattle.gba_written.specs.Written.{written}
@@ -56,7 +57,7 @@ images_in inputs = inputs.images
 abbrev pub end_with : WholeJob → List ConsoleInputs → Cut Machine
 end_with job inputs = end_of (filled job inputs) (map images_in inputs)
 
-abbrev pub files_at : WholeJob → Cut Machine → List Files
+abbrev pub files_at : WholeJob → Cut Machine → List (PerKind (List ℕ))
 files_at job cut = all_files (map asks_of job.consoles) cut.consoles
 
 abbrev pub summary_lines : List Machine → List ℕ

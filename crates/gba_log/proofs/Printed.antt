@@ -1,9 +1,12 @@
 -- A text is added to a buffer, piece by piece.
 use Rattle.std.proofs.Common.{◌≡◌, ℕ, ◌+◌, ◌<◌, ◌≤◌, List, [], ◌∷◌, ◌++◌, length, drop, get_or, map, refl, sym, ap, ◌∙◌, arith}
 use Rattle.std.proofs.lemmas.List.{append-nil, append_assoc, drop_all, drop_more, length-append}
+use Rattle.std.specs.List.{flat_map}
 use Rattle.gba_joblog.specs.Job.{ConsoleJob}
 use Rattle.gba_joblog.specs.declared.job.KeyChange.{KeyChange}
 use Rattle.gba_joblog.specs.Log.{change_text, changes_text, console_text, consoles_text}
+use Rattle.gba_joblog.specs.declared.outputs.OutKind.{OutKind}
+use Rattle.gba_joblog.specs.declared.outputs.OutKind.TheVariants.{Frames}
 use Rattle.gba_joblog.proofs.OutputNames.{at_item}
 use Rattle.gba_log.specs.Room.{Buffer, Grew, HasRoom}
 
@@ -68,6 +71,11 @@ changes_text-at changes i lt =
 
 pub changes_text-past : (changes : List KeyChange) (i : ℕ) → length changes ≤ i → changes_text (drop i changes) ≡ []
 changes_text-past changes i past = ap changes_text (drop_all i changes past) ∙ changes_text-none
+
+-- the outputs from this place of the kinds on
+pub kinds-at : (text : OutKind → List ℕ) (kinds : List OutKind) (i : ℕ) → i < length kinds
+    → flat_map text (drop i kinds) ≡ text (get_or kinds i Frames) ++ flat_map text (drop (i + 1) kinds)
+kinds-at text kinds i lt = ap (flat_map text) (drop_more kinds i Frames lt)
 
 pub consoles_text-none : (player : ℕ) → consoles_text player [] ≡ []
 unfolding consoles_text

@@ -3,11 +3,11 @@
 ghost use Rattle.std.specs.Prelude.{◌≡◌, ◌*◌, ◌≤◌, ◌<◌, ◌^◌, [], ◌∷◌, IfSome, decimal, length, map, option_map};
 ghost use Rattle.std.specs.List.{All};
 ghost use Rattle.gba_joblog.specs.Digests.{IsDigest};
-ghost use Rattle.gba_joblog.specs.Soundness.{IsConsole, IsFile, IsJob, IsPartOfConsole};
+ghost use Rattle.gba_joblog.specs.Soundness.{IsConsole, IsFile, IsJob};
 ghost use Rattle.gba_joblog.specs.Views.{console_value, file_value, job_value};
-ghost use Rattle.gba_joblog.specs.Log.{after_words, change_text, changes_text, console_text, consoles_text, digest_words, file_text, files_text, line_of, log_text, out_text, outs_text};
+ghost use Rattle.gba_joblog.specs.Log.{after_words, any_file_text, change_text, changes_text, console_text, consoles_text, digest_words, file_text, files_text, line_of, log_text, out_text, outs_text};
 
-use gba_joblog::{FileLine, Job, JobConsole, KeyChange, OutKind};
+use gba_joblog::{FileLine, Job, JobConsole, KINDS, KeyChange, OutKind};
 use itoa::Buffer;
 
 /// The bytes of `sha256` and 64 digits, with the spaces before them, and of the line's end.
@@ -42,17 +42,25 @@ fn digest_len(digest: &Option<[u8; 32]>) -> u64
 }
 
 /// The bytes of the line of an input.
-fn file_len(keyword: &[u8], file: &Option<FileLine>) -> u64
+fn file_len(keyword: &[u8], file: &FileLine) -> u64
+    requires keyword { length keyword.now ≤ 8 }
+    requires sound { IsFile (file_value file.now) }
+    ensures value { result ≡ length (file_text keyword.now (file_value file.now)) }
+    ensures most { result ≤ 282 }
+{
+    let name = file.name.as_bytes();
+    keyword.len() as u64 + name.len() as u64 + digest_len(&file.digest) + 1
+}
+
+/// The bytes of the line of an input that may be there.
+fn any_file_len(keyword: &[u8], file: &Option<FileLine>) -> u64
     requires keyword { length keyword.now ≤ 8 }
     requires sound { IfSome (option_map file_value file.now) IsFile }
-    ensures value { result ≡ length (file_text keyword.now (option_map file_value file.now)) }
+    ensures value { result ≡ length (any_file_text keyword.now (option_map file_value file.now)) }
     ensures most { result ≤ 282 }
 {
     match file {
-        Some(file) => {
-            let name = file.name.as_bytes();
-            keyword.len() as u64 + name.len() as u64 + digest_len(&file.digest) + 1
-        }
+        Some(file) => file_len(keyword, file),
         None => 0,
     }
 }
@@ -81,7 +89,7 @@ fn changes_len(changes: &[KeyChange]) -> u64
 
 /// The bytes of the line of an output.
 fn out_len(console: &JobConsole, out: OutKind) -> u64
-    requires { IsPartOfConsole (console_value console.now) }
+    requires { IsConsole (console_value console.now) }
     ensures value { result ≡ length (out_text (console_value console.now) out) }
     ensures most { result ≤ 84 }
 {
@@ -93,28 +101,28 @@ fn out_len(console: &JobConsole, out: OutKind) -> u64
 
 /// The bytes of the lines of the outputs.
 fn outs_len(console: &JobConsole) -> u64
-    requires { IsPartOfConsole (console_value console.now) }
+    requires { IsConsole (console_value console.now) }
     ensures value { result ≡ length (outs_text (console_value console.now)) }
     ensures most { result ≤ 420 }
 {
-    out_len(console, OutKind::Frames)
-        + out_len(console, OutKind::Samples)
-        + out_len(console, OutKind::Words)
-        + out_len(console, OutKind::State)
-        + out_len(console, OutKind::Save)
+    let mut total = 0;
+    for kind in KINDS {
+        total += out_len(console, kind);
+    }
+    total
 }
 
 /// The bytes of the lines of a console.
 #[tactic(auto, unfolding(gba_joblog::specs::Log::console_text))]
 fn console_len(player: u64, console: &JobConsole) -> u64
-    requires { IsPartOfConsole (console_value console.now) }
+    requires { IsConsole (console_value console.now) }
     ensures value { result ≡ length (console_text player (console_value console.now)) }
     ensures most { result ≤ 29001296 }
 {
     number_len(b"console", player)
         + file_len(b"bios", &console.bios)
-        + file_len(b"cart", &console.cart)
-        + file_len(b"save", &console.save)
+        + any_file_len(b"cart", &console.cart)
+        + any_file_len(b"save", &console.save)
         + changes_len(console.changes.as_slice())
         + outs_len(console)
 }

@@ -4,10 +4,10 @@ ghost use Rattle.std.specs.Prelude.{◌≡◌, ◌+◌, ◌<◌, ◌≤◌, ◌+
 ghost use Rattle.std.specs.List.{All};
 ghost use Rattle.gba_joblog.specs.Soundness.{IsChange, IsConsole, IsJob};
 ghost use Rattle.gba_joblog.specs.Views.{console_value, file_value, job_value};
-ghost use Rattle.gba_joblog.specs.Log.{after_words, change_text, changes_text, console_text, consoles_text, digest_words, file_text, files_text, keys_word, line_of, log_text, out_text, outs_text};
+ghost use Rattle.gba_joblog.specs.Log.{after_words, any_file_text, change_text, changes_text, console_text, consoles_text, digest_words, file_text, files_text, keys_word, line_of, log_text, out_text, outs_text};
 ghost use Rattle.gba_log.specs.Room.{Grew, HasRoom};
 
-use gba_joblog::{FileLine, Job, JobConsole, KeyChange, OutKind, digits_of};
+use gba_joblog::{FileLine, Job, JobConsole, KINDS, KeyChange, OutKind, digits_of};
 use itoa::Buffer;
 
 /// The digits of pressed keys.
@@ -48,15 +48,23 @@ fn add_digest(into: &mut Vec<u8>, digest: &Option<[u8; 32]>)
 }
 
 /// Adds the line of an input.
-fn add_file(into: &mut Vec<u8>, keyword: &[u8], file: &Option<FileLine>)
-    requires { HasRoom into.old (file_text keyword.now (option_map file_value file.now)) }
-    ensures { Grew into.old into.new (file_text keyword.now (option_map file_value file.now)) }
+fn add_file(into: &mut Vec<u8>, keyword: &[u8], file: &FileLine)
+    requires { HasRoom into.old (file_text keyword.now (file_value file.now)) }
+    ensures { Grew into.old into.new (file_text keyword.now (file_value file.now)) }
+{
+    add(into, keyword);
+    add(into, b" ");
+    add(into, file.name.as_bytes());
+    add_digest(into, &file.digest);
+}
+
+/// Adds the line of an input that may be there.
+fn add_any_file(into: &mut Vec<u8>, keyword: &[u8], file: &Option<FileLine>)
+    requires { HasRoom into.old (any_file_text keyword.now (option_map file_value file.now)) }
+    ensures { Grew into.old into.new (any_file_text keyword.now (option_map file_value file.now)) }
 {
     if let Some(file) = file {
-        add(into, keyword);
-        add(into, b" ");
-        add(into, file.name.as_bytes());
-        add_digest(into, &file.digest);
+        add_file(into, keyword, file);
     }
 }
 
@@ -115,11 +123,9 @@ fn add_outs(into: &mut Vec<u8>, console: &JobConsole)
     requires { HasRoom into.old (outs_text (console_value console.now)) }
     ensures { Grew into.old into.new (outs_text (console_value console.now)) }
 {
-    add_out(into, console, OutKind::Frames);
-    add_out(into, console, OutKind::Samples);
-    add_out(into, console, OutKind::Words);
-    add_out(into, console, OutKind::State);
-    add_out(into, console, OutKind::Save);
+    for kind in KINDS {
+        add_out(into, console, kind);
+    }
 }
 
 /// Adds the lines of the files of a console.
@@ -128,8 +134,8 @@ fn add_files(into: &mut Vec<u8>, console: &JobConsole)
     ensures { Grew into.old into.new (files_text (console_value console.now)) }
 {
     add_file(into, b"bios", &console.bios);
-    add_file(into, b"cart", &console.cart);
-    add_file(into, b"save", &console.save);
+    add_any_file(into, b"cart", &console.cart);
+    add_any_file(into, b"save", &console.save);
 }
 
 /// Adds the lines of a console.

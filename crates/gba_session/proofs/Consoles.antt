@@ -9,16 +9,15 @@ use Rattle.gba_joblog.specs.Soundness.{IsJob}
 use Rattle.gba_console.specs.Alone.{console_kind}
 use Rattle.gba_console.specs.Machine.{Machine, limit_of, without_limit}
 use Rattle.gba_image.specs.declared.images.ConsoleImages.{ConsoleImages}
-use Rattle.gba_joblog.specs.Draft.{silent_console}
+use Rattle.gba_joblog.specs.declared.outputs.PerKind.{PerKind}
+use Rattle.gba_joblog.proofs.OutputNames.{at_item}
 use Rattle.gba_joblog.specs.Job.{ConsoleJob, WholeJob}
-use Rattle.gba_session.specs.Files.{Files, all_files, asks_of, files_of}
+use Rattle.gba_session.specs.Files.{all_files, asks_of, files_of}
 use Rattle.gba_session.specs.Start.{console_at, consoles_from}
 use Rattle.gba_joblog.specs.Views.{console_value}
 use Rattle.gba_joblog.specs.declared.job.JobConsole.{JobConsole}
 use Rattle.gba_session.specs.Session.{RoomFor, room_for}
 use Rattle.gba_session.specs.Views.{files_value}
-use Rattle.gba_session.specs.declared.files.Asks.{Asks}
-use Rattle.gba_session.specs.declared.files.ConsoleFiles.{ConsoleFiles}
 
 -- The consoles of a job, one after another.
 
@@ -30,15 +29,16 @@ unfolding consoles_from
 consoles-cons job player console consoles left one rest is = rw is refl
 
 -- the consoles so far and those that are left
-pub consoles-more : (job : WholeJob) (player : ℕ) (made : List Machine) (console : Machine) (one : ConsoleImages)
-    (rest : List ConsoleImages) (all : List Machine) → player < length job.consoles
+pub consoles-more : (job : WholeJob) (player : ℕ) (said : ConsoleJob) (made : List Machine) (console : Machine)
+    (one : ConsoleImages) (rest : List ConsoleImages) (all : List Machine) → player < length job.consoles
+    → said ≡ get_or job.consoles player said
     → made ++ consoles_from job player (drop player job.consoles) (one ∷ rest) ≡ all
-    → console ≡ console_at job player (get_or job.consoles player silent_console) one
+    → console ≡ console_at job player said one
     → (made ++ (without_limit console ∷ [])) ++ consoles_from job (player + 1) (drop (player + 1) job.consoles) rest ≡ all
-consoles-more job player made console one rest all within before is =
+consoles-more job player said made console one rest all within here before is =
     let cs = job.consoles in
-    let split : drop player cs ≡ get_or cs player silent_console ∷ drop (player + 1) cs = rw add-one (drop-cons cs player silent_console within) in
-    let more = consoles-cons job player (get_or cs player silent_console) (drop (player + 1) cs) (drop player cs) one rest split in
+    let split : drop player cs ≡ said ∷ drop (player + 1) cs = at_item cs player said within here in
+    let more = consoles-cons job player said (drop (player + 1) cs) (drop player cs) one rest split in
     let left = consoles_from job (player + 1) (drop (player + 1) cs) rest in
     append_assoc made (without_limit console ∷ []) left
     ∙ ap (λ (m : Machine). made ++ (without_limit m ∷ left)) is
@@ -49,16 +49,17 @@ map-one : (old : List Machine) (console : Machine)
     → map without_limit (old ++ (console ∷ [])) ≡ map without_limit old ++ (without_limit console ∷ [])
 map-one old console = map-append without_limit old (console ∷ [])
 
-pub kept-consoles : (job : WholeJob) (player : ℕ) (old new : List Machine) (console : Machine) (one : ConsoleImages)
-    (left rest : List ConsoleImages) (all : List Machine) → player < length job.consoles
+pub kept-consoles : (job : WholeJob) (player : ℕ) (said : ConsoleJob) (old new : List Machine) (console : Machine)
+    (one : ConsoleImages) (left rest : List ConsoleImages) (all : List Machine) → player < length job.consoles
+    → said ≡ get_or job.consoles player said
     → new ≡ old ++ (console ∷ []) → left ≡ one ∷ rest
-    → console ≡ console_at job player (get_or job.consoles player silent_console) one
+    → console ≡ console_at job player said one
     → map without_limit old ++ consoles_from job player (drop player job.consoles) left ≡ all
     → map without_limit new ++ consoles_from job (player + 1) (drop (player + 1) job.consoles) rest ≡ all
-kept-consoles job player old new console one left rest all within kept split is before =
+kept-consoles job player said old new console one left rest all within here kept split is before =
     ap (λ ms. map without_limit ms ++ consoles_from job (player + 1) (drop (player + 1) job.consoles) rest) kept
     ∙ ap (λ ms. ms ++ consoles_from job (player + 1) (drop (player + 1) job.consoles) rest) (map-one old console)
-    ∙ consoles-more job player (map without_limit old) console one rest all within
+    ∙ consoles-more job player said (map without_limit old) console one rest all within here
     (ap (λ (xs : List ConsoleImages). map without_limit old ++ consoles_from job player (drop player job.consoles) xs) (sym split)
     ∙ before) is
 
@@ -124,12 +125,12 @@ module _ (job : WholeJob) (images : List ConsoleImages) (made : List Machine) (s
       }
 
 -- the files so far and those that are left
-files-cons : (asks : Asks) (rest left : List Asks) (m : Machine) (machines others : List Machine) → left ≡ asks ∷ rest
+files-cons : (asks : PerKind Bool) (rest left : List (PerKind Bool)) (m : Machine) (machines others : List Machine) → left ≡ asks ∷ rest
     → others ≡ m ∷ machines → all_files left others ≡ files_of asks m ∷ all_files rest machines
 unfolding all_files
 files-cons asks rest left m machines others a b = rw (a, b) refl
 
-pub files-none : (left : List Asks) → all_files left [] ≡ []
+pub files-none : (left : List (PerKind Bool)) → all_files left [] ≡ []
 unfolding all_files
 files-none [] = refl
 files-none (asks ∷ left) = refl
@@ -173,8 +174,8 @@ pub rooms-many : (until : ℕ) (consoles : List ConsoleJob) (rooms : List RoomFo
 rooms-many until consoles rooms is = ap length is ∙ length-map consoles (room_for until)
 
 -- one more file
-pub files-more : (files : List ConsoleFiles) (new : List ConsoleFiles) (one : ConsoleFiles) (room : RoomFor)
-    (left rest : List RoomFor) (m : Machine) (others machines : List Machine) (all : List Files)
+pub files-more : {Z : Type 0} (files new : List (PerKind (Vec ℕ Z))) (one : PerKind (Vec ℕ Z)) (room : RoomFor)
+    (left rest : List RoomFor) (m : Machine) (others machines : List Machine) (all : List (PerKind (List ℕ)))
     → new ≡ files ++ (one ∷ []) → left ≡ room ∷ rest → others ≡ m ∷ machines
     → files_value one ≡ files_of room.asks m
     → map files_value files ++ all_files (map (λ (r : RoomFor). r.asks) left) (map without_limit others) ≡ all
@@ -186,13 +187,13 @@ files-more files new one room left rest m others machines all grew split parted 
     ap (λ xs. map files_value xs ++ tail) grew
     ∙ ap (λ xs. xs ++ tail) (map-append files_value files (one ∷ []))
     ∙ append_assoc made (files_value one ∷ []) tail
-    ∙ ap (λ (f : Files). made ++ (f ∷ tail)) filled
+    ∙ ap (λ (f : PerKind (List ℕ)). made ++ (f ∷ tail)) filled
     ∙ ap (λ fs. made ++ fs)
     (sym (files-cons room.asks (map asks rest) (map asks left) (without_limit m) (map without_limit machines)
     (map without_limit others) (ap (map asks) split) (ap (map without_limit) parted)))
     ∙ before
 
-pub files-whole : (files : List Files) (left : List RoomFor) (others : List Machine) (all : List Files)
+pub files-whole : (files : List (PerKind (List ℕ))) (left : List RoomFor) (others : List Machine) (all : List (PerKind (List ℕ)))
     → length others ≡ 0 → files ++ all_files (map (λ (r : RoomFor). r.asks) left) (map without_limit others) ≡ all
     → files ≡ all
 files-whole files left others all over before =
@@ -227,7 +228,7 @@ rooms-rest until left rest room is all =
     all_tail Q room rest (subst (All Q) is all)
 
 -- there are as many files as consoles
-pub files-long : (asks : List Asks) (machines : List Machine) → length asks ≡ length machines
+pub files-long : (asks : List (PerKind Bool)) (machines : List Machine) → length asks ≡ length machines
     → length (all_files asks machines) ≡ length asks
 unfolding all_files
 files-long [] machines same = refl

@@ -1,6 +1,6 @@
 -- What the run of a job depends on: its cycles, its delay, and for each console the changes of its keys and what it is
 -- asked for.
-use Rattle.std.proofs.Common.{◌≡◌, ℕ, ◌+◌, ◌∙◌, List, [], ◌∷◌, length, map, Option, Some, None, refl, ap, sym}
+use Rattle.std.proofs.Common.{◌≡◌, ℕ, ◌+◌, ◌∙◌, Bool, List, [], ◌∷◌, length, map, Option, Some, None, refl, ap, sym}
 use Rattle.std.specs.List.{AllZip}
 use Rattle.std.specs.Prelude.{slice_get}
 use Rattle.std.proofs.lemmas.List.{length-map, length-set}
@@ -11,11 +11,11 @@ use Rattle.link_node.specs.declared.signal.Incoming.{Incoming}
 use Rattle.gba_console.specs.Machine.{Machine, without_limit}
 use Rattle.gba_image.specs.declared.images.ConsoleImages.{ConsoleImages}
 use Rattle.gba_joblog.specs.Job.{ConsoleJob, WholeJob}
+use Rattle.gba_joblog.specs.declared.outputs.PerKind.{PerKind}
 use Rattle.gba_session.proofs.Consoles.{consoles-length, files-long}
 use Rattle.gba_session.specs.Files.{all_files, asks_of}
 use Rattle.gba_console.specs.Alone.{console_kind}
 use Rattle.gba_session.specs.Start.{console_at, consoles_from, end_of, run_until, start_of}
-use Rattle.gba_session.specs.declared.files.Asks.{Asks}
 
 -- consoles that run alike over the same images: what they state of digests and the numbers of their lines may differ
 pub record RunsAs (one other : ConsoleJob) : Type 0 where
@@ -26,9 +26,9 @@ console-alike : (job other : WholeJob) (player : ℕ) (one later : ConsoleJob) (
     → other.cycles ≡ job.cycles → other.delay ≡ job.delay → length other.consoles ≡ length job.consoles → RunsAs one later
     → console_at other player later images ≡ console_at job player one images
 console-alike job other player one later images cycles delay many alike =
-    let frames = ap (λ (asks : Asks). asks.frames) alike.asks in
-    let samples = ap (λ (asks : Asks). asks.samples) alike.asks in
-    let words = ap (λ (asks : Asks). asks.words) alike.asks in
+    let frames = ap (λ (asks : PerKind Bool). asks.frames) alike.asks in
+    let samples = ap (λ (asks : PerKind Bool). asks.samples) alike.asks in
+    let words = ap (λ (asks : PerKind Bool). asks.words) alike.asks in
     rw (cycles, delay, many, alike.changes, frames, samples, words) refl
 
 consoles-alike : (job other : WholeJob) (player : ℕ) (consoles later : List ConsoleJob) (images : List ConsoleImages)
@@ -69,8 +69,8 @@ asks-alike [] [] alike = refl
 asks-alike [] (l ∷ later) alike = absurd alike
 asks-alike (c ∷ consoles) [] alike = absurd alike
 asks-alike (c ∷ consoles) (l ∷ later) alike =
-    ap (λ (asks : Asks). asks ∷ map asks_of later) alike.0.asks
-    ∙ ap (λ (asks : List Asks). asks_of c ∷ asks) (asks-alike consoles later alike.1)
+    ap (λ (asks : PerKind Bool). asks ∷ map asks_of later) alike.0.asks
+    ∙ ap (λ (asks : List (PerKind Bool)). asks_of c ∷ asks) (asks-alike consoles later alike.1)
 
 -- after a run there are as many consoles as before
 stepped-many : {C : Type 0} (kind : NodeKind C) (cut : Cut C) (i : ℕ) (due : List Incoming) (stepped : Option C)

@@ -7,7 +7,7 @@ use Rattle.gba_io.specs.declared.made.Room.{Room}
 use Rattle.gba_joblog.specs.Job.{ConsoleJob, WholeJob}
 use Rattle.gba_joblog.specs.Statements.{asks_for}
 use Rattle.gba_joblog.specs.declared.job.KeyChange.{KeyChange}
-use Rattle.gba_joblog.specs.declared.job.OutKind.TheVariants.{Frames, Samples, Words}
+use Rattle.gba_joblog.specs.declared.outputs.OutKind.TheVariants.{Frames, Samples, Words}
 use Rattle.link_order.specs.Cut.{Cut, live, opening}
 use Rattle.link_order.specs.GlobalOrder.{run}
 

@@ -1,12 +1,7 @@
-use Rattle.gba_session.specs.Files.{Files}
-use Rattle.gba_session.specs.declared.files.ConsoleFiles.{ConsoleFiles}
+use Rattle.std.specs.Prelude.{ℕ, List, Vec}
+use Rattle.gba_joblog.specs.Outputs.{at_kind, per_kind}
+use Rattle.gba_joblog.specs.declared.outputs.PerKind.{PerKind}
 
--- what the program's types stand for
-abbrev pub files_value : ConsoleFiles → Files
-files_value files = record {
-  frames = files.frames.items;
-  samples = files.samples.items;
-  words = files.words.items;
-  state = files.state.items;
-  save = files.save.items;
-}
+-- what the program's type stands for
+abbrev pub files_value : {Z : Type 0} → PerKind (Vec ℕ Z) → PerKind (List ℕ)
+files_value files = per_kind (λ kind. (at_kind files kind).items)

@@ -1,50 +1,15 @@
 //! The bytes of what a console is asked for.
 
 ghost use Rattle.std.specs.Prelude.{◌≡◌, ◌+◌, ◌*◌, ◌/◌, ◌≤◌, [], IfOk, if◌then◌else◌, length, true, vec_capacity};
-ghost use Rattle.gba_joblog.specs.Views.{console_value};
 ghost use Rattle.gba_output.specs.StateFile.{samples_file, save_file, state_file};
 ghost use Rattle.gba_output.specs.Words.{words_text};
-ghost use Rattle.gba_session.specs.Files.{asks_of as asks_of_console, files_of};
 
 use gba_console::Console;
-use gba_joblog::{JobConsole, OutKind};
+use gba_joblog::PerKind;
 use gba_output::{SAVE_ROOM, STATE_ROOM, WORDS_ROOM, write_save, write_state, write_words};
 use gba_serial::Transfer;
 use std::alloc::{AllocError, Global};
 use std::marker::Model;
-
-/// What a console is asked for.
-#[derive(Clone, Copy, Debug, PartialEq, Eq)]
-pub struct Asks {
-    pub frames: bool,
-    pub samples: bool,
-    pub words: bool,
-    pub state: bool,
-    pub save: bool,
-}
-
-/// The bytes of the outputs that a console is asked for, whole files each; of the others there are none.
-#[derive(Drop)]
-pub struct ConsoleFiles {
-    pub frames: Vec<u8>,
-    pub samples: Vec<u8>,
-    pub words: Vec<u8>,
-    pub state: Vec<u8>,
-    pub save: Vec<u8>,
-}
-
-/// What a console is asked for.
-pub(crate) fn asks_of(console: &JobConsole) -> Asks
-    ensures { result ≡ asks_of_console (console_value console.now) }
-{
-    Asks {
-        frames: console.asks_for(OutKind::Frames),
-        samples: console.asks_for(OutKind::Samples),
-        words: console.asks_for(OutKind::Words),
-        state: console.asks_for(OutKind::State),
-        save: console.asks_for(OutKind::Save),
-    }
-}
 
 /// A buffer with room for so many bytes where they are asked for.
 fn room_if(alloc: Global, asked: bool, bytes: usize) -> Result<Vec<u8>, AllocError>
@@ -62,7 +27,7 @@ fn room_if(alloc: Global, asked: bool, bytes: usize) -> Result<Vec<u8>, AllocErr
 /// clock.
 #[derive(Drop)]
 pub(crate) struct Room {
-    asks: Asks,
+    asks: PerKind<bool>,
     until: u64,
     words: Vec<u8>,
     state: Vec<u8>,
@@ -149,7 +114,7 @@ impl Room {
     ghost use Rattle.gba_session.specs.Files.{files_of};
     ghost use Rattle.gba_session.specs.Views.{files_value};
 
-    pub(crate) fn new(alloc: Global, asks: Asks, until: u64) -> Result<Room, AllocError>
+    pub(crate) fn new(alloc: Global, asks: PerKind<bool>, until: u64) -> Result<Room, AllocError>
         requires { until ≤ 2 ^ 39 }
         ensures { IfOk result (λ room. room ≡ record { asks = asks; until = until }) }
     {
@@ -164,7 +129,7 @@ impl Room {
     }
 
     /// The files of a console that ran up to the clock of this room.
-    pub(crate) fn fill(self, alloc: Global, mut console: Console) -> ConsoleFiles
+    pub(crate) fn fill(self, alloc: Global, mut console: Console) -> PerKind<Vec<u8>>
         requires { limit_of console ≤ self.until }
         ensures { files_value result ≡ files_of self.asks console }
     {
@@ -173,7 +138,7 @@ impl Room {
         let save = save_if(self.asks.save, self.save, &console);
         let samples = samples_if(alloc, self.asks.samples, &mut console);
         let frames = frames_if(alloc, self.asks.frames, &mut console);
-        ConsoleFiles {
+        PerKind {
             frames,
             samples,
             words,

@@ -4,5 +4,4 @@
 mod files;
 mod session;
 
-pub use files::{Asks, ConsoleFiles};
 pub use session::Session;

@@ -2,20 +2,19 @@
 
 ghost use Rattle.std.specs.Prelude.{◌≡◌, ◌+◌, ◌≤◌, ◌<◌, ◌^◌, ◌++◌, ◌∷◌, [], IfOk, OnOk, length, map, slice_index_or, vec_len, vec_capacity};
 ghost use Rattle.std.specs.List.{All};
-ghost use Rattle.gba_joblog.specs.Draft.{silent_console};
-ghost use Rattle.gba_joblog.specs.Soundness.{IsJob};
+ghost use Rattle.gba_joblog.specs.Soundness.{IsConsole, IsJob};
 ghost use Rattle.gba_joblog.specs.Views.{console_value, job_value};
 ghost use Rattle.gba_console.specs.Machine.{limit_of, without_limit};
 ghost use Rattle.gba_session.specs.Session.{room_for};
 ghost use Rattle.gba_session.specs.Start.{console_at, consoles_from, key_states, room_of as room_said, run_until};
 ghost use Rattle.link_order.specs.Cut.{plain_cut};
 
-use crate::files::{ConsoleFiles, Room, asks_of};
+use crate::files::Room;
 use gba_console::laws::{enough, steps_pass};
 use gba_console::{Console, KeyState};
 use gba_image::ConsoleImages;
 use gba_io::Room as ConsoleRoom;
-use gba_joblog::{Job, JobConsole, KeyChange, OutKind};
+use gba_joblog::{Job, JobConsole, KeyChange, OutKind, PerKind};
 use gba_output::add_summary;
 use gba_store::Gate;
 use gba_terms::NoMemory;
@@ -56,14 +55,15 @@ fn console_of(
     alloc: Global,
     job: &Job,
     player: usize,
+    console: &JobConsole,
     images: ConsoleImages,
 ) -> Result<Console, NoMemory>
     requires sound { IsJob (job_value job.now) }
     requires player { player < length (job_value job.now).consoles }
-    ensures { IfOk result (λ console. console
-        ≡ console_at (job_value job.now) player (slice_index_or (job_value job.now).consoles player silent_console) images) }
+    requires console { IsConsole (console_value console.now) }
+    ensures { IfOk result (λ made. made
+        ≡ console_at (job_value job.now) player (console_value console.now) images) }
 {
-    let console = &job.consoles[player];
     let keys = states_of(alloc, console.changes.as_slice())?;
     let room = room_of(job, console);
     Console::new(
@@ -88,7 +88,7 @@ fn keep<T: Drop>(all: &mut Vec<T>, one: T) -> Result<(), AllocError>
 }
 
 /// Adds one more, for which there is room.
-fn add(all: &mut Vec<ConsoleFiles>, one: ConsoleFiles)
+fn add(all: &mut Vec<PerKind<Vec<u8>>>, one: PerKind<Vec<u8>>)
     requires { vec_len all.old < vec_capacity all.old }
     ensures items { all.new.items ≡ all.old.items ++ one ∷ [] }
     ensures len { vec_len all.new ≡ vec_len all.old + 1 }
@@ -117,7 +117,7 @@ fn consoles_of(
         let Some(one) = images.next() else {
             unreachable!()
         };
-        let console = console_of(alloc, job, player, one)?;
+        let console = console_of(alloc, job, player, &job.consoles[player], one)?;
         keep(&mut consoles, console)?;
     }
     Ok(consoles)
@@ -130,7 +130,7 @@ fn rooms_of(alloc: Global, job: &Job) -> Result<Vec<Room>, AllocError>
 {
     let mut rooms = Vec::new(alloc);
     for console in job.consoles.as_slice() {
-        let room = Room::new(alloc, asks_of(console), job.cycles)?;
+        let room = Room::new(alloc, console.asks(), job.cycles)?;
         keep(&mut rooms, room)?;
     }
     Ok(rooms)
@@ -176,7 +176,7 @@ pub struct Session {
     cut: Cut<Console>,
     until: u64,
     rooms: Vec<Room>,
-    files: Vec<ConsoleFiles>,
+    files: Vec<PerKind<Vec<u8>>>,
 }
 
 impl Model for Session {
@@ -269,7 +269,7 @@ impl Session {
     }
 
     /// The files that the consoles are asked for, by player number. What they kept is taken out of them.
-    pub fn into_files(self, alloc: Global) -> Vec<ConsoleFiles>
+    pub fn into_files(self, alloc: Global) -> Vec<PerKind<Vec<u8>>>
         ensures files { map files_value result.items ≡ all_files self.asks self.cut.consoles }
         ensures count { length result.items ≡ length self.asks }
     {

@@ -1,7 +1,7 @@
 -- How much longer a log is once the digests of its outputs are stated.
-use Rattle.std.proofs.Common.{◌≡◌, ◌≤◌, ℕ, ◌+◌, ◌*◌, List, [], ◌∷◌, ◌++◌, length, Option, Some, None, refl, arith}
+use Rattle.std.proofs.Common.{◌≡◌, ◌≤◌, ℕ, ◌+◌, ◌*◌, List, [], ◌∷◌, ◌++◌, length, Option, Some, None, refl, ap, arith}
 use Rattle.std.specs.Prelude.{codes, decimal}
-use Rattle.std.specs.List.{All}
+use Rattle.std.specs.List.{All, flat_map}
 use Rattle.std.proofs.lemmas.List.{length-append}
 use Rattle.std.proofs.lemmas.List.Elements.{All-cons, All-nil}
 use Rattle.hex.specs.Hex.{encode_lower, lower_digits}
@@ -15,12 +15,14 @@ use Rattle.gba_joblog.proofs.Digests.{IsDigest-sha256}
 use Rattle.gba_joblog.specs.Job.{ConsoleJob, WholeJob}
 use Rattle.gba_joblog.specs.Log.{asked_text, changes_text, console_text, consoles_text, files_text, line_of, log_text, out_text, outs_text}
 use Rattle.gba_joblog.specs.Soundness.{IsJob, IsOutput}
-use Rattle.gba_joblog.specs.Statements.{out_name, output_of}
-use Rattle.gba_joblog.specs.declared.job.OutKind.TheVariants.{Frames, Samples, Words, State, Save}
+use Rattle.gba_joblog.specs.Outputs.{all_kinds, at_kind, out_name}
+use Rattle.gba_joblog.specs.Statements.{output_of}
 use Rattle.gba_joblog.specs.declared.job.OutLine.{OutLine}
-use Rattle.gba_session.specs.Files.{Files}
+use Rattle.gba_joblog.specs.declared.outputs.OutKind.{OutKind}
+use Rattle.gba_joblog.specs.declared.outputs.PerKind.{PerKind}
+use Rattle.gba_joblog.proofs.EachKind.{at-per_kind}
 use Rattle.gba_written.specs.Law.{digests_room}
-use Rattle.gba_written.specs.Outputs.{all_outs, outs_of, stated_out}
+use Rattle.gba_written.specs.Outputs.{all_outs, kind_stated, outs_of, stated_out}
 use Rattle.gba_written.specs.Written.{log_of, logged}
 
 -- the digest of each file is one
@@ -70,50 +72,30 @@ asked-more : (name bytes : List ℕ) (asked : Option OutLine)
 asked-more name bytes None = omega arith
 asked-more name bytes (Some asked) = digest-text name bytes asked.digest
 
--- five texts one after another
-five-texts : (a b c d e : List ℕ)
-    → length (a ++ (b ++ (c ++ (d ++ e)))) ≡ length a + (length b + (length c + (length d + length e)))
-five-texts a b c d e =
-    omega (
-      arith,
-      length-append a (b ++ (c ++ (d ++ e))),
-      length-append b (c ++ (d ++ e)),
-      length-append c (d ++ e),
-      length-append d e,
-    )
-
-abbrev stated : ConsoleJob → Files → ConsoleJob
+abbrev stated : ConsoleJob → PerKind (List ℕ) → ConsoleJob
 stated console files = record console { outs = outs_of console files }
 
-outs-are : (console : ConsoleJob) (files : Files)
-    → outs_text (stated console files)
-    ≡ asked_text (out_name Frames) (stated_out (output_of console Frames) files.frames)
-    ++ (asked_text (out_name Samples) (stated_out (output_of console Samples) files.samples)
-    ++ (asked_text (out_name Words) (stated_out (output_of console Words) files.words)
-    ++ (asked_text (out_name State) (stated_out (output_of console State) files.state)
-    ++ asked_text (out_name Save) (stated_out (output_of console Save) files.save))))
+kinds-more : (console : ConsoleJob) (files : PerKind (List ℕ)) (kinds : List OutKind)
+    → length (flat_map (out_text (stated console files)) kinds)
+    ≤ length (flat_map (out_text console) kinds) + 72 * length kinds
 unfolding outs_of
-outs-are console files = refl
-
-outs-more : (console : ConsoleJob) (files : Files)
-    → length (outs_text (stated console files)) ≤ length (outs_text console) + 360
-outs-more console files =
-    rw (outs-are console files)
+kinds-more console files [] = omega arith
+kinds-more console files (kind ∷ kinds) =
+    let is : out_text (stated console files) kind
+    ≡ asked_text (out_name kind) (stated_out (output_of console kind) (at_kind files kind)) =
+    ap (asked_text (out_name kind)) (at-per_kind (kind_stated console files) kind) in
     omega (
       arith,
-      five-texts (asked_text (out_name Frames) (stated_out (output_of console Frames) files.frames))
-          (asked_text (out_name Samples) (stated_out (output_of console Samples) files.samples))
-          (asked_text (out_name Words) (stated_out (output_of console Words) files.words))
-          (asked_text (out_name State) (stated_out (output_of console State) files.state))
-          (asked_text (out_name Save) (stated_out (output_of console Save) files.save)),
-      five-texts (out_text console Frames) (out_text console Samples) (out_text console Words) (out_text console State)
-          (out_text console Save),
-      asked-more (out_name Frames) files.frames (output_of console Frames),
-      asked-more (out_name Samples) files.samples (output_of console Samples),
-      asked-more (out_name Words) files.words (output_of console Words),
-      asked-more (out_name State) files.state (output_of console State),
-      asked-more (out_name Save) files.save (output_of console Save),
+      ap length is,
+      asked-more (out_name kind) (at_kind files kind) (output_of console kind),
+      kinds-more console files kinds,
+      length-append (out_text (stated console files) kind) (flat_map (out_text (stated console files)) kinds),
+      length-append (out_text console kind) (flat_map (out_text console) kinds),
     )
+
+outs-more : (console : ConsoleJob) (files : PerKind (List ℕ))
+    → length (outs_text (stated console files)) ≤ length (outs_text console) + 360
+outs-more console files = kinds-more console files all_kinds
 
 console-is : (player : ℕ) (console : ConsoleJob)
     → length (console_text player console)
@@ -129,7 +111,7 @@ console-is player console =
       length-append (changes_text console.changes) (outs_text console),
     )
 
-consoles-more : (player : ℕ) (consoles : List ConsoleJob) (files : List Files)
+consoles-more : (player : ℕ) (consoles : List ConsoleJob) (files : List (PerKind (List ℕ)))
     → length (consoles_text player (with_outputs consoles (all_outs consoles files)))
     ≤ length (consoles_text player consoles) + 360 * length consoles
 unfolding consoles_text with_outputs all_outs
@@ -160,7 +142,7 @@ log-is job =
       length-append (consoles_text 0 job.consoles) (line_of (codes "end") []),
     )
 
-pub log-more : (job : WholeJob) (files : List Files) → IsJob job
+pub log-more : (job : WholeJob) (files : List (PerKind (List ℕ))) → IsJob job
     → length (log_of job files) ≤ length (log_text job) + digests_room
 log-more job files sound =
     let new = log-is (logged job files) in
@@ -172,28 +154,17 @@ stated-sound : (asked : Option OutLine) (bytes : List ℕ) → IsOutput (stated_
 stated-sound None bytes = tt
 stated-sound (Some asked) bytes = digest-is bytes
 
-pub outs-sound : (console : ConsoleJob) (files : Files) → AreOutputs (outs_of console files)
+pub outs-sound : (console : ConsoleJob) (files : PerKind (List ℕ)) → AreOutputs (outs_of console files)
 unfolding outs_of
-outs-sound console files =
-    let frames = stated_out (output_of console Frames) files.frames in
-    let samples = stated_out (output_of console Samples) files.samples in
-    let words = stated_out (output_of console Words) files.words in
-    let state = stated_out (output_of console State) files.state in
-    let save = stated_out (output_of console Save) files.save in
-    record {
-      five = refl;
-      each = All-cons IsOutput frames (samples ∷ words ∷ state ∷ save ∷ []) (stated-sound (output_of console Frames) files.frames)
-          (All-cons IsOutput samples (words ∷ state ∷ save ∷ []) (stated-sound (output_of console Samples) files.samples)
-          (All-cons IsOutput words (state ∷ save ∷ []) (stated-sound (output_of console Words) files.words)
-          (All-cons IsOutput state (save ∷ []) (stated-sound (output_of console State) files.state)
-          (All-cons IsOutput save [] (stated-sound (output_of console Save) files.save) (All-nil IsOutput)))));
-    }
+outs-sound console files kind =
+    rw (at-per_kind (kind_stated console files) kind)
+    (stated-sound (output_of console kind) (at_kind files kind))
 
-pub record AreStated (consoles : List ConsoleJob) (files : List Files) : Type 0 where
+pub record AreStated (consoles : List ConsoleJob) (files : List (PerKind (List ℕ))) : Type 0 where
   pub each : All AreOutputs (all_outs consoles files)
   pub long : length (all_outs consoles files) ≡ length consoles
 
-pub all-stated : (consoles : List ConsoleJob) (files : List Files) → length files ≡ length consoles
+pub all-stated : (consoles : List ConsoleJob) (files : List (PerKind (List ℕ))) → length files ≡ length consoles
     → AreStated consoles files
 unfolding all_outs
 all-stated [] files long = record { each = All-nil AreOutputs; long = refl }
@@ -205,7 +176,7 @@ all-stated (c ∷ consoles) (one ∷ files) long =
       long = omega (arith, rest.long);
     }
 
-pub logged-sound : (job : WholeJob) (files : List Files) → IsJob job → length files ≡ length job.consoles
+pub logged-sound : (job : WholeJob) (files : List (PerKind (List ℕ))) → IsJob job → length files ≡ length job.consoles
     → IsJob (logged job files)
 logged-sound job files sound long =
     let outs = all-stated job.consoles files long in

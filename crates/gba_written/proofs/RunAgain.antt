@@ -1,7 +1,7 @@
 -- What is written under another OUT, and for a job that states the digests of its outputs.
 use Rattle.std.proofs.Common.{◌≡◌, ℕ, zero, suc, ◌+◌, ◌∙◌, Bool, true, false, List, [], ◌∷◌, ◌++◌, length, map, Option, Some, None, Ok, refl, ap, sym, arith}
-use Rattle.std.specs.Prelude.{slice_get}
-use Rattle.std.specs.List.{AllZip}
+use Rattle.std.specs.Prelude.{is_some}
+use Rattle.std.specs.List.{AllZip, flat_map}
 use Rattle.std.proofs.lemmas.List.{map-append}
 use Rattle.sha2.specs.Sha256.{sha256}
 use Rattle.gba_command.specs.Writing.{Output}
@@ -11,14 +11,19 @@ use Rattle.gba_inputs.specs.Law.{asked_of}
 use Rattle.gba_inputs.proofs.Replay.{bytes_eq-same}
 use Rattle.gba_joblog.specs.Job.{ConsoleJob, WholeJob}
 use Rattle.gba_joblog.specs.Statements.{asks_for, output_of}
-use Rattle.gba_joblog.specs.declared.job.OutKind.TheVariants.{Frames, Samples, Words, State, Save}
+use Rattle.gba_joblog.specs.Outputs.{all_kinds, at_kind}
+use Rattle.gba_joblog.specs.Clash.{output_file}
 use Rattle.gba_joblog.specs.declared.job.OutLine.{OutLine}
+use Rattle.gba_joblog.specs.declared.outputs.OutKind.{OutKind}
+use Rattle.gba_joblog.specs.declared.outputs.OutKind.TheVariants.{Frames, Samples, Words, State, Save}
+use Rattle.gba_joblog.specs.declared.outputs.PerKind.{PerKind}
+use Rattle.gba_joblog.proofs.EachKind.{at-per_kind}
 use Rattle.gba_session.proofs.SameRun.{RunsAs}
-use Rattle.gba_session.specs.Files.{Files, asks_of}
+use Rattle.gba_session.specs.Files.{asks_of}
 use Rattle.gba_written.proofs.WrittenLists.{asked-same}
 use Rattle.gba_written.specs.Law.{under}
-use Rattle.gba_written.specs.Names.{OutNames, names_from, names_of, run_names}
-use Rattle.gba_written.specs.Outputs.{all_outs, console_difference, console_outputs, difference_of, output_differs, output_if, outputs_of, outs_of, stated_out}
+use Rattle.gba_written.specs.Names.{names_from, names_of, run_names}
+use Rattle.gba_written.specs.Outputs.{all_outs, console_difference, console_outputs, difference_of, first_differs, kind_differs, kind_output, kind_stated, output_differs, output_if, outputs_of, outs_of, stated_out}
 use Rattle.gba_written.specs.Written.{log_line, log_of, written}
 
 -- ---- under another OUT
@@ -28,37 +33,28 @@ if-under : (out : List ℕ) (asked : Bool) (name bytes : List ℕ)
 if-under out true name bytes = refl
 if-under out false name bytes = refl
 
-five-under : (out : List ℕ) (a b c d e : List Output)
-    → map (under out) a ++ (map (under out) b ++ (map (under out) c ++ (map (under out) d ++ map (under out) e)))
-    ≡ map (under out) (a ++ (b ++ (c ++ (d ++ e))))
-five-under out a b c d e =
-    let f = under out in
-    ap (λ xs. map f a ++ (map f b ++ (map f c ++ xs))) (sym (map-append f d e))
-    ∙ ap (λ xs. map f a ++ (map f b ++ xs)) (sym (map-append f c (d ++ e)))
-    ∙ ap (λ xs. map f a ++ xs) (sym (map-append f b (c ++ (d ++ e))))
-    ∙ sym (map-append f a (b ++ (c ++ (d ++ e))))
+kinds-under : (out : List ℕ) (player : ℕ) (console : ConsoleJob) (files : PerKind (List ℕ)) (kinds : List OutKind)
+    → flat_map (kind_output (names_of out player) console files) kinds
+    ≡ map (under out) (flat_map (kind_output (names_of [] player) console files) kinds)
+kinds-under out player console files [] = refl
+kinds-under out player console files (kind ∷ kinds) =
+    let here : kind_output (names_of out player) console files kind
+    ≡ map (under out) (kind_output (names_of [] player) console files kind) =
+    rw (at-per_kind (output_file out player) kind, at-per_kind (output_file [] player) kind)
+    (if-under out (asks_for console kind) (output_file [] player kind) (at_kind files kind)) in
+    let rest = flat_map (kind_output (names_of [] player) console files) kinds in
+    ap (λ xs. xs ++ flat_map (kind_output (names_of out player) console files) kinds) here
+    ∙ ap (λ xs. map (under out) (kind_output (names_of [] player) console files kind) ++ xs)
+    (kinds-under out player console files kinds)
+    ∙ sym (map-append (under out) (kind_output (names_of [] player) console files kind) rest)
 
-console-under : (out : List ℕ) (player : ℕ) (console : ConsoleJob) (files : Files)
+console-under : (out : List ℕ) (player : ℕ) (console : ConsoleJob) (files : PerKind (List ℕ))
     → console_outputs (names_of out player) console files
     ≡ map (under out) (console_outputs (names_of [] player) console files)
 unfolding console_outputs
-console-under out player console files =
-    let names = names_of [] player in
-    let frames = output_if (asks_for console Frames) names.frames files.frames in
-    let samples = output_if (asks_for console Samples) names.samples files.samples in
-    let words = output_if (asks_for console Words) names.words files.words in
-    let state = output_if (asks_for console State) names.state files.state in
-    let save = output_if (asks_for console Save) names.save files.save in
-    let whole = five-under out frames samples words state save in
-    rw (
-      if-under out (asks_for console Frames) names.frames files.frames,
-      if-under out (asks_for console Samples) names.samples files.samples,
-      if-under out (asks_for console Words) names.words files.words,
-      if-under out (asks_for console State) names.state files.state,
-      if-under out (asks_for console Save) names.save files.save,
-    ) whole
+console-under out player console files = kinds-under out player console files all_kinds
 
-outputs-under : (out : List ℕ) (player count : ℕ) (consoles : List ConsoleJob) (files : List Files)
+outputs-under : (out : List ℕ) (player count : ℕ) (consoles : List ConsoleJob) (files : List (PerKind (List ℕ)))
     → outputs_of (names_from out player count) consoles files
     ≡ map (under out) (outputs_of (names_from [] player count) consoles files)
 unfolding outputs_of names_from
@@ -73,7 +69,7 @@ outputs-under out player (suc count) (c ∷ consoles) (one ∷ files) =
     ∙ sym (map-append (under out) (console_outputs (names_of [] player) c one) left)
 
 -- what is written goes by OUT alone in its names
-pub written-under : (out : List ℕ) (count : ℕ) (job : WholeJob) (files : List Files) (lines : List ℕ)
+pub written-under : (out : List ℕ) (count : ℕ) (job : WholeJob) (files : List (PerKind (List ℕ))) (lines : List ℕ)
     → (written (run_names out count) job files lines).outputs
     ≡ map (under out) (written (run_names [] count) job files lines).outputs
 written-under out count job files lines =
@@ -95,66 +91,64 @@ stated-agrees name None bytes = refl
 stated-agrees name (Some asked) bytes = rw (bytes_eq-same (sha256 bytes)) refl
 
 -- a console that says of its outputs what is stated of another's
-module _ (console later : ConsoleJob) (files : Files) (is : later.outs ≡ outs_of console files) where
-  pub asks-again : asks_of later ≡ asks_of console
+module _ (console later : ConsoleJob) (files : PerKind (List ℕ)) (is : later.outs ≡ outs_of console files) where
+  stated-kind : (kind : OutKind) → output_of later kind ≡ kind_stated console files kind
   unfolding outs_of
+  stated-kind kind = ap (λ outs. at_kind outs kind) is ∙ at-per_kind (kind_stated console files) kind
+
+  asked-kind : (kind : OutKind) → asks_for later kind ≡ asks_for console kind
+  asked-kind kind =
+      ap (λ (asked : Option OutLine). is_some asked) (stated-kind kind)
+      ∙ asked-same (output_of console kind) (at_kind files kind)
+
+  pub asks-again : asks_of later ≡ asks_of console
   asks-again =
-      rw (
-        is,
-        asked-same (slice_get console.outs 0) files.frames,
-        asked-same (slice_get console.outs 1) files.samples,
-        asked-same (slice_get console.outs 2) files.words,
-        asked-same (slice_get console.outs 3) files.state,
-        asked-same (slice_get console.outs 4) files.save,
-      ) refl
+      rw (asked-kind Frames, asked-kind Samples, asked-kind Words, asked-kind State, asked-kind Save) refl
 
   outs-one : outs_of later files ≡ outs_of console files
   unfolding outs_of
   outs-one =
-      rw (
-        is,
-        stated-twice (output_of console Frames) files.frames,
-        stated-twice (output_of console Samples) files.samples,
-        stated-twice (output_of console Words) files.words,
-        stated-twice (output_of console State) files.state,
-        stated-twice (output_of console Save) files.save,
-      ) refl
+      let twice : (kind : OutKind) → kind_stated later files kind ≡ kind_stated console files kind =
+      λ kind. ap (λ asked. stated_out asked (at_kind files kind)) (stated-kind kind)
+      ∙ stated-twice (output_of console kind) (at_kind files kind) in
+      rw (twice Frames, twice Samples, twice Words, twice State, twice Save) refl
 
-  outputs-one : (names : OutNames) → console_outputs names later files ≡ console_outputs names console files
-  unfolding console_outputs outs_of
-  outputs-one names =
-      rw (
-        is,
-        asked-same (slice_get console.outs 0) files.frames,
-        asked-same (slice_get console.outs 1) files.samples,
-        asked-same (slice_get console.outs 2) files.words,
-        asked-same (slice_get console.outs 3) files.state,
-        asked-same (slice_get console.outs 4) files.save,
-      ) refl
+  outputs-kinds : (names : PerKind (List ℕ)) (kinds : List OutKind)
+      → flat_map (kind_output names later files) kinds ≡ flat_map (kind_output names console files) kinds
+  outputs-kinds names [] = refl
+  outputs-kinds names (kind ∷ kinds) =
+      ap (λ asked. output_if asked (at_kind names kind) (at_kind files kind)
+      ++ flat_map (kind_output names later files) kinds) (asked-kind kind)
+      ∙ ap (λ outputs. kind_output names console files kind ++ outputs) (outputs-kinds names kinds)
 
-  difference-one : (names : OutNames) → console_difference names later files ≡ None
-  unfolding console_difference outs_of
-  difference-one names =
-      rw (
-        is,
-        stated-agrees names.frames (output_of console Frames) files.frames,
-        stated-agrees names.samples (output_of console Samples) files.samples,
-        stated-agrees names.words (output_of console Words) files.words,
-        stated-agrees names.state (output_of console State) files.state,
-        stated-agrees names.save (output_of console Save) files.save,
-      ) refl
+  outputs-one : (names : PerKind (List ℕ)) → console_outputs names later files ≡ console_outputs names console files
+  unfolding console_outputs
+  outputs-one names = outputs-kinds names all_kinds
 
-outs-head : (x y : List (Option OutLine)) (xs ys : List (List (Option OutLine))) → x ∷ xs ≡ y ∷ ys → x ≡ y
+  difference-kinds : (names : PerKind (List ℕ)) (kinds : List OutKind)
+      → first_differs (kind_differs names later files) kinds ≡ None
+  difference-kinds names [] = refl
+  difference-kinds names (kind ∷ kinds) =
+      let here : kind_differs names later files kind ≡ None =
+      ap (λ asked. output_differs (at_kind names kind) asked (at_kind files kind)) (stated-kind kind)
+      ∙ stated-agrees (at_kind names kind) (output_of console kind) (at_kind files kind) in
+      rw here (difference-kinds names kinds)
+
+  difference-one : (names : PerKind (List ℕ)) → console_difference names later files ≡ None
+  unfolding console_difference
+  difference-one names = difference-kinds names all_kinds
+
+outs-head : (x y : PerKind (Option OutLine)) (xs ys : List (PerKind (Option OutLine))) → x ∷ xs ≡ y ∷ ys → x ≡ y
 outs-head x y xs ys h = cc
 
-outs-tail : (x y : List (Option OutLine)) (xs ys : List (List (Option OutLine))) → x ∷ xs ≡ y ∷ ys → xs ≡ ys
+outs-tail : (x y : PerKind (Option OutLine)) (xs ys : List (PerKind (Option OutLine))) → x ∷ xs ≡ y ∷ ys → xs ≡ ys
 outs-tail x y xs ys h = cc
 
 -- consoles that say of their outputs what is stated of others'
-abbrev pub AreStatedBy : List ConsoleJob → List Files → List ConsoleJob → Type 0
+abbrev pub AreStatedBy : List ConsoleJob → List (PerKind (List ℕ)) → List ConsoleJob → Type 0
 AreStatedBy consoles files later = map asked_of later ≡ all_outs consoles files
 
-pub outs-again : (consoles later : List ConsoleJob) (files : List Files) → AreStatedBy consoles files later
+pub outs-again : (consoles later : List ConsoleJob) (files : List (PerKind (List ℕ))) → AreStatedBy consoles files later
     → all_outs later files ≡ all_outs consoles files
 unfolding all_outs
 outs-again [] [] files is = refl
@@ -166,7 +160,7 @@ outs-again (c ∷ consoles) (l ∷ later) (one ∷ files) is =
     ap (λ outs. outs ∷ all_outs later files) (outs-one c l one (outs-head _ _ _ _ is))
     ∙ ap (λ outs. outs_of c one ∷ outs) (outs-again consoles later files (outs-tail _ _ _ _ is))
 
-outputs-again : (names : List OutNames) (consoles later : List ConsoleJob) (files : List Files)
+outputs-again : (names : List (PerKind (List ℕ))) (consoles later : List ConsoleJob) (files : List (PerKind (List ℕ)))
     → AreStatedBy consoles files later → outputs_of names later files ≡ outputs_of names consoles files
 unfolding all_outs outputs_of
 outputs-again [] consoles later files is = refl
@@ -179,7 +173,7 @@ outputs-again (n ∷ names) (c ∷ consoles) (l ∷ later) (one ∷ files) is =
     ap (λ outputs. outputs ++ outputs_of names later files) (outputs-one c l one (outs-head _ _ _ _ is) n)
     ∙ ap (λ outputs. console_outputs n c one ++ outputs) (outputs-again names consoles later files (outs-tail _ _ _ _ is))
 
-difference-again : (names : List OutNames) (consoles later : List ConsoleJob) (files : List Files)
+difference-again : (names : List (PerKind (List ℕ))) (consoles later : List ConsoleJob) (files : List (PerKind (List ℕ)))
     → AreStatedBy consoles files later → difference_of names later files ≡ None
 unfolding all_outs difference_of
 difference-again [] consoles later files is = refl
@@ -192,7 +186,7 @@ difference-again (n ∷ names) (c ∷ consoles) (l ∷ later) (one ∷ files) is
     rw (here, rest) refl
 
 -- What is written for a job that states the digests of the outputs of another, where their logs are one.
-pub written-outputs : (out : List ℕ) (count : ℕ) (job other : WholeJob) (files : List Files) (lines : List ℕ)
+pub written-outputs : (out : List ℕ) (count : ℕ) (job other : WholeJob) (files : List (PerKind (List ℕ))) (lines : List ℕ)
     → AreStatedBy job.consoles files other.consoles → log_of other files ≡ log_of job files
     → (written (run_names out count) other files lines).outputs ≡ (written (run_names out count) job files lines).outputs
 written-outputs out count job other files lines is log =
@@ -202,7 +196,7 @@ written-outputs out count job other files lines is log =
     ∙ ap (λ bytes. outputs_of names.consoles job.consoles files ++ record { name = names.log; bytes = bytes } ∷ []) log
 
 -- it ends with the summary
-pub written-end : (out : List ℕ) (count : ℕ) (job other : WholeJob) (files : List Files) (lines : List ℕ)
+pub written-end : (out : List ℕ) (count : ℕ) (job other : WholeJob) (files : List (PerKind (List ℕ))) (lines : List ℕ)
     → AreStatedBy job.consoles files other.consoles → log_of other files ≡ log_of job files
     → (written (run_names out count) other files lines).end ≡ Ok (lines ++ log_line (log_of job files))
 written-end out count job other files lines is log =
@@ -211,7 +205,7 @@ written-end out count job other files lines is log =
 
 -- ---- the consoles run alike
 
-pub filled-alike : (consoles later : List ConsoleJob) (inputs : List ConsoleInputs) (files : List Files)
+pub filled-alike : (consoles later : List ConsoleJob) (inputs : List ConsoleInputs) (files : List (PerKind (List ℕ)))
     → length inputs ≡ length consoles → length files ≡ length consoles
     → AreStatedBy (filled_consoles consoles inputs) files later
     → AllZip RunsAs (filled_consoles consoles inputs) (filled_consoles later inputs)

@@ -1,43 +1,52 @@
 -- Consoles whose outputs are written, one after another.
 use Rattle.std.proofs.Common.{◌≡◌, ◌≤◌, ◌<◌, ℕ, ◌+◌, List, [], ◌∷◌, ◌++◌, ◌∙◌, length, map, take, drop, get_or, Option, Some, None, refl, sym, ap, arith, append_assoc}
-use Rattle.std.specs.Prelude.{slice_set, slice_get}
+use Rattle.std.specs.Prelude.{Vec, is_some, slice_set}
 use Rattle.std.proofs.lemmas.List.{append-nil, drop-set-lt, drop_all, drop_more, length-set, map-append, nil_from_length, take_all, take_more_set}
+use Rattle.std.specs.Global.{Global}
+use Rattle.std.specs.List.{flat_map}
 use Rattle.gba_command.specs.Cause.{Cause}
 use Rattle.gba_command.specs.Views.{output_value}
 use Rattle.gba_command.specs.Writing.{Output}
 use Rattle.gba_command.specs.declared.outputs.OutputFile.{OutputFile}
 use Rattle.gba_inputs.specs.Filled.{with_outputs}
 use Rattle.gba_joblog.specs.Job.{ConsoleJob}
-use Rattle.gba_joblog.specs.Statements.{asked_in, is_asked}
+use Rattle.gba_joblog.specs.Outputs.{all_kinds, at_kind, per_kind}
+use Rattle.gba_joblog.specs.Statements.{asks_for, output_of}
+use Rattle.gba_joblog.specs.declared.outputs.OutKind.{OutKind}
+use Rattle.gba_joblog.specs.declared.outputs.PerKind.{PerKind}
+use Rattle.gba_joblog.proofs.EachKind.{at-per_kind}
 use Rattle.gba_joblog.specs.Views.{console_value}
 use Rattle.gba_joblog.specs.declared.job.JobConsole.{JobConsole}
 use Rattle.gba_joblog.specs.declared.job.OutLine.{OutLine}
-use Rattle.gba_session.specs.Files.{Files}
 use Rattle.gba_session.specs.Views.{files_value}
-use Rattle.gba_session.specs.declared.files.ConsoleFiles.{ConsoleFiles}
-use Rattle.gba_written.specs.Names.{OutNames}
-use Rattle.gba_written.specs.Outputs.{all_outs, console_difference, console_outputs, difference_of, or_later, outputs_of, outs_of, stated_out}
+use Rattle.gba_written.specs.Outputs.{all_outs, console_difference, console_outputs, difference_of, kind_output, kind_stated, or_later, outputs_of, outs_of, stated_out}
 use Rattle.gba_written.specs.Views.{names_value}
 use Rattle.gba_written.specs.declared.names.Names.{Names}
 
 -- a console is asked for the same outputs once their digests are stated
-pub asked-same : (asked : Option (Option OutLine)) (bytes : List ℕ)
-    → is_asked (Some (stated_out (asked_in asked) bytes)) ≡ is_asked asked
+pub asked-same : (asked : Option OutLine) (bytes : List ℕ) → is_some (stated_out asked bytes) ≡ is_some asked
 asked-same None bytes = refl
-asked-same (Some None) bytes = refl
-asked-same (Some (Some line)) bytes = refl
+asked-same (Some line) bytes = refl
 
-pub outputs-same : (names : OutNames) (console : ConsoleJob) (files made : Files)
+outputs-kinds : (names : PerKind (List ℕ)) (console : ConsoleJob) (files made : PerKind (List ℕ)) (kinds : List OutKind)
+    → flat_map (kind_output names (record console { outs = outs_of console files }) made) kinds
+    ≡ flat_map (kind_output names console made) kinds
+unfolding outs_of
+outputs-kinds names console files made [] = refl
+outputs-kinds names console files made (kind ∷ kinds) =
+    let asked : is_some (at_kind (per_kind (kind_stated console files)) kind) ≡ asks_for console kind =
+    ap (λ (out : Option OutLine). is_some out) (at-per_kind (kind_stated console files) kind)
+    ∙ asked-same (output_of console kind) (at_kind files kind) in
+    rw (asked, outputs-kinds names console files made kinds) refl
+
+pub outputs-same : (names : PerKind (List ℕ)) (console : ConsoleJob) (files made : PerKind (List ℕ))
     → console_outputs names (record console { outs = outs_of console files }) made ≡ console_outputs names console made
-unfolding console_outputs outs_of
-outputs-same names console files made =
-    rw (
-      asked-same (slice_get console.outs 0) files.frames,
-      asked-same (slice_get console.outs 1) files.samples,
-      asked-same (slice_get console.outs 2) files.words,
-      asked-same (slice_get console.outs 3) files.state,
-      asked-same (slice_get console.outs 4) files.save,
-    ) refl
+unfolding console_outputs
+outputs-same names console files made = outputs-kinds names console files made all_kinds
+
+-- the files of a console as the program has them
+abbrev pub ConsoleFiles : Type 0
+ConsoleFiles = PerKind (Vec ℕ Global)
 
 -- What is written, where so much is and these are left.
 abbrev pub outputs_with : List OutputFile → List Names → List JobConsole → List ConsoleFiles → List Output
@@ -77,17 +86,17 @@ writing-begin files consoles names made a b = record {
   consoles_long = refl;
 }
 
-outputs-cons : (n : OutNames) (c : ConsoleJob) (f : Files) (ns : List OutNames) (cs : List ConsoleJob) (fs : List Files)
+outputs-cons : (n : PerKind (List ℕ)) (c : ConsoleJob) (f : PerKind (List ℕ)) (ns : List (PerKind (List ℕ))) (cs : List ConsoleJob) (fs : List (PerKind (List ℕ)))
     → outputs_of (n ∷ ns) (c ∷ cs) (f ∷ fs) ≡ console_outputs n c f ++ outputs_of ns cs fs
 unfolding outputs_of
 outputs-cons n c f ns cs fs = refl
 
-difference-cons : (n : OutNames) (c : ConsoleJob) (f : Files) (ns : List OutNames) (cs : List ConsoleJob) (fs : List Files)
+difference-cons : (n : PerKind (List ℕ)) (c : ConsoleJob) (f : PerKind (List ℕ)) (ns : List (PerKind (List ℕ))) (cs : List ConsoleJob) (fs : List (PerKind (List ℕ)))
     → difference_of (n ∷ ns) (c ∷ cs) (f ∷ fs) ≡ or_later (console_difference n c f) (difference_of ns cs fs)
 unfolding difference_of
 difference-cons n c f ns cs fs = refl
 
-stated-cons : (c : ConsoleJob) (f : Files) (cs : List ConsoleJob) (fs : List Files)
+stated-cons : (c : ConsoleJob) (f : PerKind (List ℕ)) (cs : List ConsoleJob) (fs : List (PerKind (List ℕ)))
     → with_outputs (c ∷ cs) (all_outs (c ∷ cs) (f ∷ fs)) ≡ record c { outs = outs_of c f } ∷ with_outputs cs (all_outs cs fs)
 unfolding with_outputs all_outs
 stated-cons c f cs fs = refl
@@ -104,19 +113,19 @@ split_at : {X : Type 0} (xs : List X) (i : ℕ) (x : X) → i < length xs → x 
     → drop i xs ≡ x ∷ drop (i + 1) xs
 split_at xs i x lt is = drop_more xs i x lt ∙ ap (λ y. y ∷ drop (i + 1) xs) (sym is)
 
-no-outputs : (cs : List ConsoleJob) (fs : List Files) → outputs_of [] cs fs ≡ []
+no-outputs : (cs : List ConsoleJob) (fs : List (PerKind (List ℕ))) → outputs_of [] cs fs ≡ []
 unfolding outputs_of
 no-outputs cs fs = refl
 
-no-difference : (cs : List ConsoleJob) (fs : List Files) → difference_of [] cs fs ≡ None
+no-difference : (cs : List ConsoleJob) (fs : List (PerKind (List ℕ))) → difference_of [] cs fs ≡ None
 unfolding difference_of
 no-difference cs fs = refl
 
-no-stated : (fs : List Files) → with_outputs [] (all_outs [] fs) ≡ []
+no-stated : (fs : List (PerKind (List ℕ))) → with_outputs [] (all_outs [] fs) ≡ []
 unfolding with_outputs all_outs
 no-stated fs = refl
 
-abbrev with_outs : ConsoleJob → Files → ConsoleJob
+abbrev with_outs : ConsoleJob → PerKind (List ℕ) → ConsoleJob
 with_outs console files = record console { outs = outs_of console files }
 
 module _ (outputs : List Output) (cause : Option Cause) (stated : List ConsoleJob) (count : ℕ) (files : List OutputFile)

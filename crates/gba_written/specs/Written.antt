@@ -6,7 +6,7 @@ use Rattle.gba_command.specs.Writing.{Run}
 use Rattle.gba_inputs.specs.Filled.{with_outputs}
 use Rattle.gba_joblog.specs.Job.{WholeJob}
 use Rattle.gba_joblog.specs.Log.{log_text}
-use Rattle.gba_session.specs.Files.{Files}
+use Rattle.gba_joblog.specs.declared.outputs.PerKind.{PerKind}
 use Rattle.gba_written.specs.Names.{RunNames}
 use Rattle.gba_written.specs.Outputs.{all_outs, difference_of, outputs_of}
 
@@ -15,10 +15,10 @@ use Rattle.gba_written.specs.Outputs.{all_outs, difference_of, outputs_of}
 -- a digest that is stated of an output isn't its digest.
 
 -- the job with the digests of its outputs stated; those of its inputs are stated already
-abbrev pub logged : WholeJob → List Files → WholeJob
+abbrev pub logged : WholeJob → List (PerKind (List ℕ)) → WholeJob
 logged job files = record job { consoles = with_outputs job.consoles (all_outs job.consoles files) }
 
-abbrev pub log_of : WholeJob → List Files → List ℕ
+abbrev pub log_of : WholeJob → List (PerKind (List ℕ)) → List ℕ
 log_of job files = log_text (logged job files)
 
 -- the last line of the summary
@@ -29,12 +29,12 @@ abbrev pub conclusion : Option Cause → List ℕ → Result (List ℕ) Cause
 conclusion None summary = Ok summary
 conclusion (Some cause) summary = Err cause
 
-abbrev pub written_with : RunNames → WholeJob → List Files → List ℕ → List ℕ → Run
+abbrev pub written_with : RunNames → WholeJob → List (PerKind (List ℕ)) → List ℕ → List ℕ → Run
 written_with names job files log lines = record {
   outputs = outputs_of names.consoles job.consoles files ++ record { name = names.log; bytes = log } ∷ [];
   end = conclusion (difference_of names.consoles job.consoles files) (lines ++ log_line log);
 }
 
 -- `lines` are the summary's lines of the consoles
-abbrev pub written : RunNames → WholeJob → List Files → List ℕ → Run
+abbrev pub written : RunNames → WholeJob → List (PerKind (List ℕ)) → List ℕ → Run
 written names job files lines = written_with names job files (log_of job files) lines

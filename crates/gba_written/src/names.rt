@@ -1,15 +1,13 @@
 //! The names of a console's outputs.
 
 ghost use Rattle.std.specs.Prelude.{◌≤◌, string_len};
+ghost use Rattle.gba_joblog.specs.Outputs.{at_kind};
+
+use gba_joblog::PerKind;
 
 /// The names of a console's outputs.
 #[derive(Drop)]
 pub(crate) struct Names {
-    pub(crate) frames: String,
-    pub(crate) samples: String,
-    pub(crate) words: String,
-    pub(crate) state: String,
-    pub(crate) save: String,
-    ghost short: { (string_len frames ≤ 200) × (string_len samples ≤ 200) × (string_len words ≤ 200)
-        × (string_len state ≤ 200) × (string_len save ≤ 200) },
+    pub(crate) each: PerKind<String>,
+    ghost short: { (kind : _) → string_len (at_kind each kind) ≤ 200 },
 }

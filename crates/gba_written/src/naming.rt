@@ -6,7 +6,7 @@ ghost use Rattle.gba_written.specs.Names.{names_from, names_of};
 ghost use Rattle.gba_written.specs.Views.{names_value};
 
 use crate::names::Names;
-use gba_joblog::OutKind;
+use gba_joblog::{OutKind, PerKind};
 use std::alloc::{AllocError, Global};
 
 /// The name of a console's output under OUT.
@@ -35,18 +35,8 @@ fn names_of_console(alloc: Global, out: &str, player: usize) -> Result<Names, Al
     requires { (length out.now ≤ 180) × (player < 4) }
     ensures { IfOk result (λ names. names_value names ≡ names_of out.now player) }
 {
-    let frames = name_of(alloc, out, player, OutKind::Frames)?;
-    let samples = name_of(alloc, out, player, OutKind::Samples)?;
-    let words = name_of(alloc, out, player, OutKind::Words)?;
-    let state = name_of(alloc, out, player, OutKind::State)?;
-    let save = name_of(alloc, out, player, OutKind::Save)?;
-    Ok(Names {
-        frames,
-        samples,
-        words,
-        state,
-        save,
-    })
+    let each = PerKind::make(|kind| name_of(alloc, out, player, kind))?;
+    Ok(Names { each })
 }
 
 /// Adds the names of one more console, as far as there is memory.

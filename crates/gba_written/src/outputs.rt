@@ -10,8 +10,7 @@ ghost use Rattle.gba_written.specs.Views.{names_value};
 
 use crate::names::Names;
 use gba_command::{Cause, OutputFile, name_in_report};
-use gba_joblog::{JobConsole, OutKind, OutLine, digest_of};
-use gba_session::ConsoleFiles;
+use gba_joblog::{JobConsole, KINDS, OutLine, PerKind, digest_of};
 
 /// What comes of an output's digest: its line in the log, and the refusal where another one is stated.
 #[derive(Drop)]
@@ -67,40 +66,24 @@ fn or_later(first: Option<Cause>, later: Option<Cause>) -> Option<Cause>
 
 /// States the digests of a console's outputs in its lines, and tells the first that isn't the stated one.
 #[tactic(auto, unfolding(crate::specs::Outputs::outs_of, crate::specs::Outputs::console_difference))]
-fn state_digests(console: &mut JobConsole, names: &Names, files: &ConsoleFiles) -> Option<Cause>
+fn state_digests(
+    console: &mut JobConsole,
+    names: &Names,
+    files: &PerKind<Vec<u8>>,
+) -> Option<Cause>
     ensures console { console_value console.new
         ≡ record (console_value console.old) { outs = outs_of (console_value console.old) (files_value files.now) } }
     ensures cause { option_map cause_value result
         ≡ console_difference (names_value names.now) (console_value console.old) (files_value files.now) }
 {
-    let frames = judge(
-        &names.frames,
-        console.output(OutKind::Frames),
-        files.frames.as_slice(),
-    );
-    let samples = judge(
-        &names.samples,
-        console.output(OutKind::Samples),
-        files.samples.as_slice(),
-    );
-    let words = judge(
-        &names.words,
-        console.output(OutKind::Words),
-        files.words.as_slice(),
-    );
-    let state = judge(
-        &names.state,
-        console.output(OutKind::State),
-        files.state.as_slice(),
-    );
-    let save = judge(
-        &names.save,
-        console.output(OutKind::Save),
-        files.save.as_slice(),
-    );
-    console.outs = [frames.out, samples.out, words.out, state.out, save.out];
-    let late = or_later(words.cause, or_later(state.cause, save.cause));
-    or_later(frames.cause, or_later(samples.cause, late))
+    let asked = console.outs;
+    let mut cause = None;
+    for kind in KINDS {
+        let judged = judge(names.each.at(kind), *asked.at(kind), files.at(kind).as_slice());
+        console.outs.put(kind, judged.out);
+        cause = or_later(cause, judged.cause);
+    }
+    cause
 }
 
 /// Adds a file to a list that has room for it.
@@ -131,43 +114,25 @@ fn add_output(files: &mut Vec<OutputFile>, asked: bool, name: String, bytes: Vec
 
 /// Adds the files of a console's outputs to a list that has room for them.
 #[tactic(auto, unfolding(crate::specs::Outputs::console_outputs))]
-fn add_outputs(files: &mut Vec<OutputFile>, console: &JobConsole, names: Names, made: ConsoleFiles)
+fn add_outputs(
+    files: &mut Vec<OutputFile>,
+    console: &JobConsole,
+    names: Names,
+    made: PerKind<Vec<u8>>,
+)
     requires room { vec_len files.old + 5 ≤ vec_capacity files.old }
     ensures files { map output_value files.new.items ≡ map output_value files.old.items
         ++ console_outputs (names_value names) (console_value console.now) (files_value made) }
     ensures len { vec_len files.new ≤ vec_len files.old + 5 }
     ensures room { vec_capacity files.old ≤ vec_capacity files.new }
 {
-    add_output(
-        files,
-        console.asks_for(OutKind::Frames),
-        names.frames,
-        made.frames,
-    );
-    add_output(
-        files,
-        console.asks_for(OutKind::Samples),
-        names.samples,
-        made.samples,
-    );
-    add_output(
-        files,
-        console.asks_for(OutKind::Words),
-        names.words,
-        made.words,
-    );
-    add_output(
-        files,
-        console.asks_for(OutKind::State),
-        names.state,
-        made.state,
-    );
-    add_output(
-        files,
-        console.asks_for(OutKind::Save),
-        names.save,
-        made.save,
-    );
+    let asks = console.asks();
+    let names = names.each;
+    add_output(files, asks.frames, names.frames, made.frames);
+    add_output(files, asks.samples, names.samples, made.samples);
+    add_output(files, asks.words, names.words, made.words);
+    add_output(files, asks.state, names.state, made.state);
+    add_output(files, asks.save, names.save, made.save);
 }
 
 /// Adds the files of a console's outputs, states their digests, and tells the first that isn't the stated one.
@@ -175,7 +140,7 @@ fn write_console(
     files: &mut Vec<OutputFile>,
     console: &mut JobConsole,
     names: Names,
-    made: ConsoleFiles,
+    made: PerKind<Vec<u8>>,
 ) -> Option<Cause>
     requires room { vec_len files.old + 5 ≤ vec_capacity files.old }
     ensures files { map output_value files.new.items ≡ map output_value files.old.items
@@ -197,7 +162,7 @@ pub(crate) fn write_consoles(
     files: &mut Vec<OutputFile>,
     consoles: &mut [JobConsole],
     names: Vec<Names>,
-    made: Vec<ConsoleFiles>,
+    made: Vec<PerKind<Vec<u8>>>,
 ) -> Option<Cause>
     requires names { length names.items ≡ length consoles.old }
     requires made { length made.items ≡ length consoles.old }

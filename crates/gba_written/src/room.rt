@@ -9,9 +9,8 @@ use crate::names::Names;
 use crate::naming::{all_names, log_name};
 use crate::outputs::{add_file, write_consoles};
 use gba_command::{Cause, OutputFile, Outputs};
-use gba_joblog::{Job, digest_of, digits_of};
+use gba_joblog::{Job, PerKind, digest_of, digits_of};
 use gba_log::{print, printed_len};
-use gba_session::ConsoleFiles;
 use gba_text::{Line, add_text};
 use std::alloc::{AllocError, Global};
 use std::marker::Model;
@@ -100,7 +99,7 @@ impl Room {
 
     /// What the run of a job writes: the files of its consoles' outputs, one of the other, its log, and the summary, of
     /// which the lines of the consoles are here. It takes no memory.
-    pub fn fill(self, mut job: Job, made: Vec<ConsoleFiles>, mut summary: Line) -> Outputs
+    pub fn fill(self, mut job: Job, made: Vec<PerKind<Vec<u8>>>, mut summary: Line) -> Outputs
         requires sound { IsJob (job_value job) }
         requires names { length self.names.consoles ≡ length (job_value job).consoles }
         requires log { length (log_text (job_value job)) + digests_room ≤ self.log_room }

@@ -8,7 +8,8 @@ use Rattle.gba_inputs.proofs.SoundInputs.{filled_consoles-sound, zip-long}
 use Rattle.gba_joblog.specs.Job.{WholeJob}
 use Rattle.gba_joblog.specs.Views.{job_value}
 use Rattle.gba_link.specs.RunPlan.{images_in}
-use Rattle.gba_session.specs.Files.{Files, all_files, asks_of}
+use Rattle.gba_joblog.specs.declared.outputs.PerKind.{PerKind}
+use Rattle.gba_session.specs.Files.{all_files, asks_of}
 use Rattle.gba_session.specs.Session.{Consoles, finished}
 use Rattle.gba_session.specs.Views.{files_value}
 use Rattle.gba_written.specs.Names.{RunNames, run_names}
@@ -83,7 +84,7 @@ returns g c =
     c.fill.ensures
     ∙ ap (λ (ns : RunNames). written ns job (map files_value c.into_files-files.result.items) c.summary-summary.result.items)
     c.in_ok-room.ensures.names
-    ∙ ap (λ (fs : List Files). written names job fs c.summary-summary.result.items) c.into_files-files.ensures.files
+    ∙ ap (λ (fs : List (PerKind (List ℕ))). written names job fs c.summary-summary.result.items) c.into_files-files.ensures.files
     ∙ ap (λ (ls : List ℕ). written names job (all_files session.asks session.cut.consoles) ls) c.summary-summary.ensures.lines
     ∙ ap (written_of out job) ran
     ∙ ap (run_of out job) (kept ∙ images-are old.items)

@@ -10,9 +10,8 @@ use Rattle.gba_log.proofs.lengths.consoles_len.Goals as goal
 pub console_len-total-requires : goal.console_len-total-requires
 console_len-total-requires c =
     let console = c.index-consoles-player.result in
-    let sound : IsConsole (console_value console) = holds_at IsConsole console_value c.args.consoles.now c.loop-player.player
-    console c.requires.sound c.loop-player-test.true c.index-consoles-player.is in
-    sound.part
+    holds_at IsConsole console_value c.args.consoles.now c.loop-player.player console c.requires.sound
+    c.loop-player-test.true c.index-consoles-player.is
 
 pub loop-player-preserved : goal.loop-player-preserved
 loop-player-preserved c =

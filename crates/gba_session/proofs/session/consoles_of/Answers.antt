@@ -2,10 +2,17 @@ use Rattle.std.proofs.Common.{◌≡◌, ◌<◌, ◌++◌, ◌∙◌, List, [],
 use Rattle.std.proofs.lemmas.List.{length-map, nil_from_length}
 use Rattle.gba_console.specs.Machine.{without_limit}
 use Rattle.gba_image.specs.declared.images.ConsoleImages.{ConsoleImages}
+use Rattle.gba_joblog.specs.Soundness.{IsConsole}
 use Rattle.gba_joblog.specs.Views.{console_value, job_value}
+use Rattle.gba_joblog.proofs.OutputNames.{holds_at}
 use Rattle.gba_session.specs.Start.{consoles_from}
 use Rattle.gba_session.proofs.Consoles.{consoles-none, kept-consoles, kept-limits}
 use Rattle.gba_session.proofs.session.consoles_of.Goals as goal
+
+pub console_of-console-requires-clause-console : goal.console_of-console-requires-clause-console
+console_of-console-requires-clause-console c =
+    holds_at IsConsole console_value c.args.job.now.consoles.items c.loop-player.player c.index-consoles.result
+    c.requires.sound.each (omega arith) c.index-consoles.is
 
 pub loop-player-preserved : goal.loop-player-preserved
 loop-player-preserved c =

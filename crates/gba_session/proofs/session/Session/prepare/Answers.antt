@@ -1,11 +1,11 @@
-use Rattle.std.proofs.Common.{◌≡◌, List, ◌∙◌, length, map, sym, ap, subst, arith}
+use Rattle.std.proofs.Common.{◌≡◌, Bool, List, ◌∙◌, length, map, sym, ap, subst, arith}
 use Rattle.std.specs.List.{All}
 use Rattle.gba_console.specs.Machine.{Machine, limit_of, without_limit}
 use Rattle.gba_joblog.specs.Views.{job_value}
+use Rattle.gba_joblog.specs.declared.outputs.PerKind.{PerKind}
 use Rattle.gba_session.proofs.Consoles.{asks-are, made-length, rooms-many, start-cable, start-sound, untils-are}
 use Rattle.gba_session.specs.Session.{Consoles}
 use Rattle.gba_session.specs.Start.{start_of}
-use Rattle.gba_session.specs.declared.files.Asks.{Asks}
 use Rattle.link_order.specs.Cut.{Cut, opening, plain_cut}
 use Rattle.gba_session.proofs.session.Session.prepare.Goals as goal
 
@@ -47,7 +47,7 @@ returns c =
       until = job.cycles;
       asks = map (λ room. room.asks) c.in_ok-rooms.rooms.items;
     } in
-    let by_asks : List Asks → Consoles = λ (x : List Asks). record {
+    let by_asks : List (PerKind Bool) → Consoles = λ (x : List (PerKind Bool)). record {
       cut = start_of job c.args.images.items;
       until = job.cycles;
       asks = x;
