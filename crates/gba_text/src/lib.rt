@@ -12,6 +12,6 @@ mod numbers;
 mod pieces;
 
 pub use cursor::Cursor;
-pub use kinds::{TextError, TextKind};
+pub use kinds::{LineError, TextError, TextKind};
 pub use line::{Line, add_text, line_of};
 pub use numbers::number_in;
