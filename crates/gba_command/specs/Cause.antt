@@ -1,7 +1,6 @@
 use Rattle.std.specs.Prelude.{ℕ, List, ◌++◌, codes, decimal}
 use Rattle.hex.specs.Hex.{encode_lower}
-use Rattle.gba_asm_words.specs.Kinds.{kind_name as asm_kind_name}
-use Rattle.gba_asm_words.specs.declared.kinds.AsmError.{AsmError}
+use Rattle.gba_asm_words.specs.Kinds.{AsmError, kind_name as asm_kind_name}
 use Rattle.gba_image.specs.Names.{error_name}
 use Rattle.gba_image.specs.declared.error.ImageError.{ImageError}
 use Rattle.gba_joblog.specs.Kinds.{kind_name}
