@@ -3,7 +3,7 @@
 ghost use Rattle.std.specs.Prelude.{◌≡◌, ◌<◌, true};
 ghost use Rattle.gba_text.specs.Numbers.{all_digits as all_digits_of, is_number as is_number_of};
 ghost use Rattle.gba_text.specs.Words.{fault_of};
-ghost use Rattle.gba_joblog.specs.Answers.{Agrees, Takes};
+ghost use Rattle.gba_text.specs.Answers.{Agrees, Takes};
 ghost use Rattle.gba_joblog.specs.Operands.{digest_at as digest_at_of, digits_at as digits_at_of, end_at as end_at_of, has_words as has_words_of, keys_at as keys_at_of, name_at as name_at_of, number_at as number_at_of, out_kind_at as out_kind_at_of, player_at as player_at_of, version_at as version_at_of, word_at as word_at_of};
 
 use crate::job::OutKind;
