@@ -6,10 +6,7 @@ ghost use Rattle.gba_text.specs.Answers.{Agrees};
 ghost use Rattle.gba_joblog.specs.Lines.{is_comment as is_comment_of, is_said as is_said_of};
 
 use crate::kinds::{JobError, JobKind, ParseRefused};
-use gba_text::{Cursor, TextKind};
-
-/// The most bytes of a line.
-const LONGEST_LINE: usize = 400;
+use gba_text::{Cursor, LONGEST_LINE, TextKind};
 
 pub(crate) fn make_refusal(line: u64, kind: JobKind) -> ParseRefused
     ensures { result ≡ ParseRefused.Job (record { line = line; kind = kind }) }
