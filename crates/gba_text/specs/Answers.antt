@@ -7,9 +7,9 @@ use Rattle.gba_text.specs.Languages.{Language, Says}
 use Rattle.gba_text.specs.Steps.{Taken, taken}
 
 -- a call answers what is defined: the value as contracts see it, or the refusal, with the line's number
-abbrev pub Gives : {X T : Type 0} → (X → T) → ℕ → Result X TextError → Result T TextKind → Type 0
-Gives view number (Ok x) defined = defined ≡ Ok (view x)
-Gives view number (Err e) defined = (defined ≡ Err e.kind) × (e.line ≡ number)
+abbrev pub AgreesAt : {X T : Type 0} → (X → T) → ℕ → Result X TextError → Result T TextKind → Type 0
+AgreesAt view number (Ok x) defined = defined ≡ Ok (view x)
+AgreesAt view number (Err e) defined = (defined ≡ Err e.kind) × (e.line ≡ number)
 
 -- what a step reads and the pieces left after it, or the refusal, are the defined ones
 abbrev pub Takes : {X L T K : Type 0} → (X → T) → Result X K → L → Result (Taken L T) K → Type 0
