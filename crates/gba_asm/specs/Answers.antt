@@ -17,10 +17,10 @@ use Rattle.gba_asm.specs.Places.{Labels}
 use Rattle.gba_asm.specs.Statements.{Statement, statement_value, size_of}
 
 -- a statement with its size at this address, or its refusal
-abbrev pub Says : ℕ → Result SizedStatement AsmKind → Result Statement AsmKind → Type 0
-Says address (Ok s) defined =
+abbrev pub SaysSized : ℕ → Result SizedStatement AsmKind → Result Statement AsmKind → Type 0
+SaysSized address (Ok s) defined =
     (defined ≡ Ok (statement_value s.statement)) × (s.size ≡ size_of address (statement_value s.statement))
-Says address (Err kind) defined = defined ≡ Err kind
+SaysSized address (Err kind) defined = defined ≡ Err kind
 
 -- these bytes, and then the defined ones
 abbrev pub onto : {E : Type 0} → List ℕ → Result (List ℕ) E → Result (List ℕ) E
