@@ -1,15 +1,14 @@
 -- The loops over the items of data.
 use Rattle.std.proofs.Common.{◌≡◌, ◌≤◌, ℕ, ◌+◌, Bool, false, not, List, [], ◌∷◌, ◌++◌, length, Some, None, Result, Ok, Err, refl, sym, ap, ◌∙◌, append_assoc, arith}
 use Rattle.std.proofs.lemmas.List.{append-nil}
-use Rattle.gba_asm_words.specs.Kinds.{◌>>=◌}
+use Rattle.gba_text.specs.Steps.{◌>>=◌}
 use Rattle.gba_asm_words.specs.declared.kinds.AsmKind.{AsmKind}
 use Rattle.gba_asm_words.specs.Readers.{first_token, other_tokens}
 use Rattle.gba_asm_words.specs.Tokens.{Token, Word, Mark}
 use Rattle.gba_asm.specs.declared.directives.Width.{Width}
 use Rattle.gba_asm.specs.declared.kinds.LineRefused.{LineRefused}
 use Rattle.gba_asm.specs.declared.kinds.LineRefused.TheVariants as line
-use Rattle.gba_asm.specs.Answers.{Adds}
-use Rattle.gba_asm.specs.Assembly.{onto}
+use Rattle.gba_asm.specs.Answers.{Adds, onto}
 use Rattle.gba_asm.specs.Directives.{are_items, next_due, count_words}
 use Rattle.gba_asm.specs.Encoding.{items_bytes, item_bytes}
 use Rattle.gba_asm.specs.Places.{Labels}

@@ -1,4 +1,3 @@
 pub mod CountedItems
 pub mod Passes
-pub mod Relation
 pub mod Lone

@@ -1,13 +1,15 @@
 -- A line by itself: where the next one stands after it, and its bytes whatever its number.
-use Rattle.std.proofs.Common.{◌≡◌, ◌<◌, ℕ, ◌+◌, ◌*◌, ◌^◌, ◌/◌, ◌%◌, Bool, true, false, cond, not, List, [], ◌∷◌, ◌++◌, length, replicate, Option, Some, None, option_map, Result, Ok, Err, refl, sym, ap, ◌∙◌, subst, length-append, codes, ◌≤◌, lt-ltb, le-leb, arith}
+use Rattle.std.proofs.Common.{◌≡◌, ◌<◌, ℕ, ◌+◌, ◌*◌, ◌^◌, ◌%◌, Bool, true, false, cond, not, List, [], ◌∷◌, ◌++◌, length, replicate, Option, Some, None, option_map, Result, Ok, refl, sym, ap, ◌∙◌, subst, append_assoc, length-append, codes, ◌≤◌, lt-ltb, le-leb, arith}
 use Rattle.std.specs.Int.{w16, w32, to_le_bytes}
-use Rattle.std.proofs.lemmas.List.{length-replicate}
+use Rattle.std.proofs.lemmas.List.{append-nil, length-replicate}
+use Rattle.gba_text.specs.Languages.{lines_say}
 use Rattle.gba_text.specs.Lines.{lines}
-use Rattle.gba_arm_table.specs.Encoding.{encoding as arm_encoding}
+use Rattle.gba_text.proofs.Languages.{answer_of-lines, lines_say-end, lines_say-more}
+use Rattle.gba_text.proofs.Steps.{bind-ok, held-true}
 use Rattle.gba_thumb_table.specs.Encoding.{encoding as thumb_encoding}
+use Rattle.gba_text.specs.Steps.{◌>>=◌, holds}
 use Rattle.gba_asm_words.specs.declared.kinds.AsmKind.{AsmKind}
 use Rattle.gba_asm_words.specs.declared.kinds.AsmKind.TheVariants as kind
-use Rattle.gba_asm_words.specs.Kinds.{◌>>=◌, holds}
 use Rattle.gba_asm_words.specs.Numbers.{number_of}
 use Rattle.gba_asm_words.specs.Readers.{Address, target_of}
 use Rattle.gba_asm_words.specs.Tokens.{Token, Word, Mark}
@@ -20,34 +22,25 @@ use Rattle.gba_asm_thumb.specs.Statement as thumb
 use Rattle.gba_asm.specs.declared.directives.Width.{Width}
 use Rattle.gba_asm.specs.declared.directives.Width.TheVariants as width
 use Rattle.gba_asm.specs.declared.places.Place.{Place}
-use Rattle.gba_asm.specs.Assembly.{assembly_of, line_bytes, lines_give, lone_bytes, longest_source}
+use Rattle.gba_asm.specs.Assembly.{Given, assembly_of, line_bytes, lone_bytes, longest_source, sources}
 use Rattle.gba_asm.specs.Directives.{are_items, bytes_of, count_words, directive_of}
-use Rattle.gba_asm.specs.Encoding.{item_bytes, items_bytes, data_bytes, statement_bytes, arm_word, thumb_code, thumb_bytes, encoded, aligned, in_range, address_in, address_of, below, or_operand}
+use Rattle.gba_asm.specs.Encoding.{item_bytes, items_bytes, statement_bytes, arm_word, thumb_code, thumb_bytes, encoded, aligned, in_range, address_in, address_of, below, or_operand}
 use Rattle.gba_asm.specs.Places.{Labels, labels_from, labels_of, no_labels, start, fits, place_after, past_statement, after_statement, state_after, is_repeated}
 use Rattle.gba_asm.specs.Statements.{Statement, Nothing, Mode, Data, Space, Align, Arm, Thumb, line_says, label_of, size_of, padding, directive_form, statement_of}
-use Rattle.gba_asm.proofs.Passes.{lines_give-more, lines_give-end}
-use Rattle.gba_asm.proofs.Relation.{assembly_of-lines}
-
--- what a step after another one gives, if it gives anything
-abbrev pub Gives : {A B : Type 0} → Result A AsmKind → (A → Result B AsmKind) → B → Type 0
-Gives {A = A} r f y = (x : A) × (r ≡ Ok x) × (f x ≡ Ok y)
-
-pub gave : {A B : Type 0} (r : Result A AsmKind) (f : A → Result B AsmKind) (y : B) → (r >>= f) ≡ Ok y → Gives r f y
-gave (Ok x) f y h = (x, refl, h)
-gave (Err kind) f y h = absurd cc
+use Rattle.gba_asm.proofs.Passes.{given_line}
 
 item_size : (f : Labels) (w : Width) (word bytes : List ℕ) → item_bytes f w word ≡ Ok bytes → length bytes ≡ bytes_of w
 unfolding item_bytes
 item_size f width.Word word bytes h =
-    let g = gave (or_operand (target_of word) >>= address_of f) _ bytes h in
+    let g = bind-ok (or_operand (target_of word) >>= address_of f) _ bytes h in
     let same : to_le_bytes w32 g.0 ≡ bytes = cc (g.2) in
     sym (ap length same)
 item_size f width.Half word bytes h =
-    let g = gave (or_operand (number_of word) >>= below (2 ^ 16)) _ bytes h in
+    let g = bind-ok (or_operand (number_of word) >>= below (2 ^ 16)) _ bytes h in
     let same : to_le_bytes w16 g.0 ≡ bytes = cc (g.2) in
     sym (ap length same)
 item_size f width.Byte word bytes h =
-    let g = gave (or_operand (number_of word) >>= below (2 ^ 8)) _ bytes h in
+    let g = bind-ok (or_operand (number_of word) >>= below (2 ^ 8)) _ bytes h in
     let same : g.0 ∷ [] ≡ bytes = cc (g.2) in
     sym (ap length same)
 
@@ -59,8 +52,8 @@ items_size f w [] bytes h =
     grind (arith, ap length same)
 items_size f w (Mark m ∷ items) bytes h = items_size f w items bytes h
 items_size f w (Word word ∷ items) bytes h =
-    let g = gave (item_bytes f w word) _ bytes h in
-    let g' = gave (items_bytes f w items) _ bytes g.2 in
+    let g = bind-ok (item_bytes f w word) _ bytes h in
+    let g' = bind-ok (items_bytes f w items) _ bytes g.2 in
     let same : g.0 ++ g'.0 ≡ bytes = cc (g'.2) in
     let first = item_size f w word g.0 g.1 in
     let rest = items_size f w items g'.0 g'.1 in
@@ -73,12 +66,12 @@ ops_size (Two first second) = 4
 half_size : (ops : ThumbOps) (bytes : List ℕ) → thumb_bytes ops ≡ Ok bytes → length bytes ≡ ops_size ops
 unfolding ops_size
 half_size (One op) bytes h =
-    let g = gave (encoded (thumb_encoding op)) _ bytes h in
+    let g = bind-ok (encoded (thumb_encoding op)) _ bytes h in
     let same : to_le_bytes w16 g.0 ≡ bytes = cc (g.2) in
     sym (ap length same)
 half_size (Two first second) bytes h =
-    let g = gave (encoded (thumb_encoding first)) _ bytes h in
-    let g' = gave (encoded (thumb_encoding second)) _ bytes g.2 in
+    let g = bind-ok (encoded (thumb_encoding first)) _ bytes h in
+    let g' = bind-ok (encoded (thumb_encoding second)) _ bytes g.2 in
     let same : to_le_bytes w16 g.0 ++ to_le_bytes w16 g'.0 ≡ bytes = cc (g'.2) in
     sym (ap length same)
 
@@ -105,9 +98,9 @@ thumb_statement_size : (f : Labels) (address : ℕ) (s : thumb.ThumbStatement) (
     → length bytes ≡ thumb_placing.size_of s
 unfolding thumb_code
 thumb_statement_size f address s bytes h =
-    let t = gave (address_in f (thumb_placing.target_of s)) _ bytes h in
-    let a = gave (aligned 2 address) _ bytes t.2 in
-    let o = gave (in_range (thumb_placing.operations_at address t.0 s)) _ bytes a.2 in
+    let t = bind-ok (address_in f (thumb_placing.target_of s)) _ bytes h in
+    let a = bind-ok (aligned 2 address) _ bytes t.2 in
+    let o = bind-ok (in_range (thumb_placing.operations_at address t.0 s)) _ bytes a.2 in
     half_size o.0 bytes o.2 ∙ placed_size address t.0 s o.0 (was_in_range _ _ o.1)
 
 -- a statement has as many bytes as its size says
@@ -121,8 +114,8 @@ bytes_size f address (Mode thumb) bytes h =
     let same : [] ≡ bytes = cc in
     sym (ap length same)
 bytes_size f address (Data w items) bytes h =
-    let g = gave (items_bytes f w items) _ bytes h in
-    let g' = gave (aligned (bytes_of w) address) _ bytes g.2 in
+    let g = bind-ok (items_bytes f w items) _ bytes h in
+    let g' = bind-ok (aligned (bytes_of w) address) _ bytes g.2 in
     let same : g.0 ≡ bytes = cc (g'.2) in
     sym (ap length same) ∙ items_size f w items g.0 g.1
 bytes_size f address (Space count) bytes h =
@@ -132,7 +125,7 @@ bytes_size f address Align bytes h =
     let same : replicate (padding address) 0 ≡ bytes = cc in
     sym (ap length same) ∙ length-replicate (padding address) 0
 bytes_size f address (Arm s) bytes h =
-    let g = gave (arm_word f address s) _ bytes h in
+    let g = bind-ok (arm_word f address s) _ bytes h in
     let same : to_le_bytes w32 g.0 ≡ bytes = cc (g.2) in
     sym (ap length same)
 bytes_size f address (Thumb s) bytes h = thumb_statement_size f address s bytes h
@@ -157,10 +150,6 @@ pub record IsLone (thumb : Bool) (address : ℕ) (line bytes : List ℕ) : Type 
   pub next : place_after (record { address = address; thumb = thumb }) line
       ≡ record { address = address + length bytes; thumb = thumb }
 
-held : (b : Bool) (kind : AsmKind) (x : Bool) → holds b kind ≡ Ok x → b ≡ true
-held true kind x h = refl
-held false kind x h = absurd cc
-
 after_by : (p : Place) (r : Result Statement AsmKind) (s : Statement) → r ≡ Ok s → fits p.address (size_of p.address s) ≡ true
     → past_statement p r ≡ after_statement p s
 after_by p r s e h = rw (e, h) refl
@@ -176,10 +165,10 @@ pub lone : (thumb : Bool) (address : ℕ) (line bytes : List ℕ) → lone_bytes
 unfolding lone_bytes line_bytes place_after
 lone thumb address line bytes h none some =
     let p : Place = record { address = address; thumb = thumb } in
-    let s = gave (line_says thumb line) _ bytes h in
-    let room = gave (holds (fits address (size_of address s.0)) kind.Size) _ bytes s.2 in
-    let once = gave (holds (not (is_repeated no_labels 1 (label_of line))) kind.Repeated) _ bytes room.2 in
-    let inside = held _ _ _ room.1 in
+    let s = bind-ok (line_says thumb line) _ bytes h in
+    let room = bind-ok (holds (fits address (size_of address s.0)) kind.Size) _ bytes s.2 in
+    let once = bind-ok (holds (not (is_repeated no_labels 1 (label_of line))) kind.Repeated) _ bytes room.2 in
+    let inside = held-true _ _ _ room.1 in
     let size = bytes_size no_labels address s.0 bytes once.2 in
     record {
       given = λ number. given_by number p line s.0 bytes s.1 inside none once.2;
@@ -309,13 +298,21 @@ AreLone thumb address (line ∷ lines) bytes =
     (first : List ℕ) × (rest : List ℕ) × IsLone thumb address line first × (label_of line ≡ None)
     × AreLone thumb (address + length first) lines rest × (bytes ≡ first ++ rest)
 
-pub lone_give : (thumb : Bool) (address number : ℕ) (ls : List (List ℕ)) (bytes : List ℕ) → AreLone thumb address ls bytes
-    → lines_give no_labels number (record { address = address; thumb = thumb }) ls ≡ Ok bytes
-lone_give thumb address number [] bytes h = lines_give-end no_labels number _ ∙ ap Ok (sym h)
-lone_give thumb address number (line ∷ ls) bytes h =
+pub lone_give : (thumb : Bool) (address number : ℕ) (before : List ℕ) (ls : List (List ℕ)) (bytes : List ℕ)
+    → AreLone thumb address ls bytes
+    → lines_say (sources no_labels) number (record { bytes = before; place = record { address = address; thumb = thumb } }) ls
+    ≡ Ok (before ++ bytes)
+lone_give thumb address number before [] bytes h =
+    lines_say-end (sources no_labels) number _
+    ∙ ap Ok (sym (append-nil before) ∙ ap (λ more. before ++ more) (sym h))
+lone_give thumb address number before (line ∷ ls) bytes h =
     let lone = h.2 in
-    lines_give-more no_labels number (record { address = address; thumb = thumb }) line ls
-    ∙ rw (lone.given (number + 1), lone.next, lone_give thumb (address + length h.0) (number + 1) ls h.1 h.4, h.5) refl
+    let step = given_line no_labels (number + 1) before h.0 (record { address = address; thumb = thumb })
+    (record { address = address + length h.0; thumb = thumb }) line (lone.given (number + 1)) lone.next in
+    lines_say-more (sources no_labels) number (record { bytes = before; place = record { address = address; thumb = thumb } })
+    line ls _ step
+    ∙ lone_give thumb (address + length h.0) (number + 1) (before ++ h.0) ls h.1 h.4
+    ∙ ap Ok (append_assoc before h.0 h.1 ∙ ap (λ more. before ++ more) (sym h.5))
 
 lone_labels : (thumb : Bool) (address number : ℕ) (ls : List (List ℕ)) (bytes : List ℕ) → AreLone thumb address ls bytes
     → labels_from no_labels number (record { address = address; thumb = thumb }) ls ≡ no_labels
@@ -325,14 +322,17 @@ lone_labels thumb address number (line ∷ ls) bytes h =
     let lone = h.2 in
     rw (h.3, lone.next) (lone_labels thumb (address + length h.0) (number + 1) ls h.1 h.4)
 
+abbrev begun : Given
+begun = record { bytes = []; place = start }
+
 -- a source of such lines in ARM code
 pub lone_arm : (source bytes : List ℕ) → length source ≤ longest_source → AreLone false 0 (lines source) bytes
     → assembly_of source ≡ Ok bytes
-unfolding labels_of
+unfolding labels_of assembly_of
 lone_arm source bytes short h =
-    assembly_of-lines source short
-    ∙ ap (λ (f : Labels). lines_give f 0 start (lines source)) (lone_labels false 0 0 (lines source) bytes h)
-    ∙ lone_give false 0 0 (lines source) bytes h
+    answer_of-lines (sources (labels_of source)) source (Ok bytes) short
+    (ap (λ (f : Labels). lines_say (sources f) 0 begun (lines source)) (lone_labels false 0 0 (lines source) bytes h)
+    ∙ lone_give false 0 0 [] (lines source) bytes h)
 
 thumb_says : statement_of false (Word (codes ".thumb") ∷ []) ≡ Ok (Mode true)
 unfolding statement_of directive_of directive_form
@@ -351,17 +351,17 @@ mode_gives line h none = rw (h, none) refl
 pub lone_thumb : (source line bytes : List ℕ) (rest : List (List ℕ)) → length source ≤ longest_source
     → lines source ≡ line ∷ rest → line_says false line ≡ statement_of false (Word (codes ".thumb") ∷ [])
     → label_of line ≡ None → AreLone true 0 rest bytes → assembly_of source ≡ Ok bytes
-unfolding labels_of labels_from
+unfolding labels_of labels_from assembly_of
 lone_thumb source line bytes rest short split says none h =
     let said = says ∙ thumb_says in
     let found : labels_of source ≡ no_labels =
     rw (split, none, turned line said) (lone_labels true 0 1 rest bytes h) in
-    assembly_of-lines source short
-    ∙ rw (found, split) (lines_give-more no_labels 0 start line rest ∙ rw (
-      mode_gives line said none,
-      turned line said,
-      lone_give true 0 1 rest bytes h,
-    ) refl)
+    let step = given_line no_labels 1 [] [] start (record { address = 0; thumb = true }) line (mode_gives line said none)
+    (turned line said) in
+    answer_of-lines (sources (labels_of source)) source (Ok bytes) short
+    (ap (λ (f : Labels). lines_say (sources f) 0 begun (lines source)) found
+    ∙ ap (λ (ls : List (List ℕ)). lines_say (sources no_labels) 0 begun ls) split
+    ∙ lines_say-more (sources no_labels) 0 begun line rest _ step ∙ lone_give true 0 1 [] rest bytes h)
 
 machine_said : (word : List ℕ) (ts : List Token) (s : thumb.ThumbStatement) → directive_of word ≡ None
     → thumb_statement word ts ≡ Ok s → statement_of true (Word word ∷ ts) ≡ Ok (Thumb s)

@@ -1,10 +1,11 @@
 -- The bytes of a source, or its first refused line.
-use Rattle.std.specs.Prelude.{ℕ, ◌+◌, nat_lt, Bool, not, List, [], ◌∷◌, ◌++◌, length, Result, Ok, Err, if◌then◌else◌}
+use Rattle.std.specs.Prelude.{ℕ, Bool, not, List, [], ◌++◌, Result, Ok}
+use Rattle.gba_text.specs.Languages.{Language, answer_of}
 use Rattle.gba_text.specs.Lines.{lines}
-use Rattle.gba_asm_words.specs.declared.kinds.AsmError.{AsmError}
+use Rattle.gba_text.specs.Steps.{◌>>=◌, holds}
 use Rattle.gba_asm_words.specs.declared.kinds.AsmKind.{AsmKind}
 use Rattle.gba_asm_words.specs.declared.kinds.AsmKind.TheVariants as kind
-use Rattle.gba_asm_words.specs.Kinds.{◌>>=◌, holds}
+use Rattle.gba_asm_words.specs.Kinds.{AsmError}
 use Rattle.gba_asm.specs.declared.places.Place.{Place}
 use Rattle.gba_asm.specs.Encoding.{statement_bytes}
 use Rattle.gba_asm.specs.Places.{Labels, no_labels, start, fits, place_after, labels_of, is_repeated}
@@ -24,32 +25,34 @@ line_bytes labels number p line = do
 unfoldable pub lone_bytes : Bool → ℕ → List ℕ → Result (List ℕ) AsmKind
 lone_bytes thumb address line = line_bytes no_labels 1 (record { address = address; thumb = thumb }) line
 
-abbrev pub error_at : ℕ → AsmKind → AsmError
-error_at line kind = record { line = line; kind = kind }
+-- what the lines before have given: their bytes, and where the next line stands
+pub record Given : Type 0 where
+  pub bytes : List ℕ
+  pub place : Place
 
--- these bytes, and then what follows
-abbrev pub onto : {E : Type 0} → List ℕ → Result (List ℕ) E → Result (List ℕ) E
-onto bytes (Ok more) = Ok (bytes ++ more)
-onto bytes (Err e) = Err e
+abbrev pub plus_bytes : Given → List ℕ → List ℕ → Given
+plus_bytes given line bytes = record { bytes = given.bytes ++ bytes; place = place_after given.place line }
 
--- a line's bytes before those of the lines after it, or its refusal
-abbrev pub then_lines : ℕ → Result (List ℕ) AsmKind → Result (List ℕ) AsmError → Result (List ℕ) AsmError
-then_lines number (Ok bytes) rest = onto bytes rest
-then_lines number (Err kind) rest = Err (error_at number kind)
-
--- the bytes of lines that stand after so many others, or the first refusal
-unfoldable pub lines_give : Labels → ℕ → Place → List (List ℕ) → Result (List ℕ) AsmError
-lines_give labels number p [] = Ok []
-lines_give labels number p (line ∷ rest) =
-    then_lines (number + 1) (line_bytes labels (number + 1) p line)
-    (lines_give labels (number + 1) (place_after p line) rest)
+-- what is given once the line of this number is read as well
+unfoldable pub given_with : Labels → ℕ → Given → List ℕ → Result Given AsmKind
+given_with labels number given line =
+    line_bytes labels number given.place line >>= (λ bytes. Ok (plus_bytes given line bytes))
 
 -- the most bytes of a source
 abbrev pub longest_source : ℕ
 longest_source = 1073741824
 
+-- a source whose labels are these; it may end anywhere
+abbrev pub sources : Labels → Language Given (List ℕ) AsmKind
+sources labels = record {
+  lines_of = lines;
+  longest = longest_source;
+  too_long = kind.Size;
+  nothing = record { bytes = []; place = start };
+  with_line = given_with labels;
+  at_end = λ _ given. Ok given.bytes;
+}
+
 -- the bytes of a source, or its first refused line; a source that is too long is refused with line 0
 unfoldable pub assembly_of : List ℕ → Result (List ℕ) AsmError
-assembly_of source =
-    if nat_lt longest_source (length source) then Err (error_at 0 kind.Size)
-    else lines_give (labels_of source) 0 start (lines source)
+assembly_of source = answer_of (sources (labels_of source)) source

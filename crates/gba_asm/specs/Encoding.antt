@@ -4,9 +4,9 @@ use Rattle.std.specs.Int.{w16, w32, to_le_bytes}
 use Rattle.gba_arm_table.specs.declared.encoding.EncodeError.{EncodeError}
 use Rattle.gba_arm_table.specs.Encoding.{encoding as arm_encoding}
 use Rattle.gba_thumb_table.specs.Encoding.{encoding as thumb_encoding}
+use Rattle.gba_text.specs.Steps.{◌>>=◌, holds}
 use Rattle.gba_asm_words.specs.declared.kinds.AsmKind.{AsmKind}
 use Rattle.gba_asm_words.specs.declared.kinds.AsmKind.TheVariants as kind
-use Rattle.gba_asm_words.specs.Kinds.{◌>>=◌, holds}
 use Rattle.gba_asm_words.specs.Numbers.{number_of}
 use Rattle.gba_asm_words.specs.Readers.{Target, Label, Address, target_of}
 use Rattle.gba_asm_words.specs.Tokens.{Token, Word, Mark}

@@ -1,8 +1,8 @@
 -- What a line says: a label, and a statement.
 use Rattle.std.specs.Prelude.{ℕ, ◌-◌, ◌*◌, ◌%◌, Bool, true, false, ◌&&◌, List, [], ◌∷◌, Option, Some, None, Result, Ok, Err, if◌then◌else◌}
+use Rattle.gba_text.specs.Steps.{◌>>=◌}
 use Rattle.gba_asm_words.specs.declared.kinds.AsmKind.{AsmKind}
 use Rattle.gba_asm_words.specs.declared.kinds.AsmKind.TheVariants as kind
-use Rattle.gba_asm_words.specs.Kinds.{◌>>=◌}
 use Rattle.gba_asm_words.specs.Names.{is_label}
 use Rattle.gba_asm_words.specs.Readers.{begins, other_tokens, end_at, number_at}
 use Rattle.gba_asm_words.specs.Tokens.{Token, Word, Mark, tokens, code_of, fault_of}
@@ -61,7 +61,7 @@ split_label tokens = labelled tokens
 unfoldable pub directive_form : Directive → List Token → Result Statement AsmKind
 directive_form (directive.Mode thumb) tokens = end_at tokens >>= (λ _. Ok (Mode thumb))
 directive_form (directive.Data width) tokens = if are_items width true tokens then Ok (Data width tokens) else Err kind.Operand
-directive_form directive.Space tokens = number_at tokens >>= (λ n. end_at n.tokens >>= (λ _. Ok (Space n.value)))
+directive_form directive.Space tokens = number_at tokens >>= (λ n. end_at n.left >>= (λ _. Ok (Space n.value)))
 directive_form directive.Align tokens = end_at tokens >>= (λ _. Ok Align)
 
 abbrev pub machine_form : Bool → List ℕ → List Token → Result Statement AsmKind

@@ -1,9 +1,10 @@
 //! The two passes over a source: the first finds its labels, the second makes its bytes.
 
-ghost use Rattle.std.specs.Prelude.{◌≡◌, ℕ, List, IfOk};
-ghost use Rattle.gba_text.specs.Lines.{lines};
-ghost use Rattle.gba_asm.specs.Answers.{Adds, AddsLine, Assembles, IsSaid, labels_in, refused_at};
-ghost use Rattle.gba_asm.specs.Assembly.{assembly_of, line_bytes, lines_give, lone_bytes};
+ghost use Rattle.std.specs.Prelude.{◌≡◌, ◌≤◌, ℕ, List, IfOk, length};
+ghost use Rattle.gba_text.specs.Answers.{IsSaid, Parses};
+ghost use Rattle.gba_text.specs.Languages.{answer_of};
+ghost use Rattle.gba_asm.specs.Answers.{Adds, AddsLine, labels_in, line_error, refused_at};
+ghost use Rattle.gba_asm.specs.Assembly.{assembly_of, line_bytes, lone_bytes, sources};
 ghost use Rattle.gba_asm.specs.Places.{labels_of, place_after, start};
 
 use crate::encoding::add_statement;
@@ -58,8 +59,9 @@ fn add_lines<'a>(
     labels: &Labels<'a>,
     source: &'a [u8],
 ) -> Result<Vec<u8>, AsmRefused>
-    requires { (name : List ℕ) → labels_in labels.now.places name ≡ labels_of source.now name }
-    ensures { Assembles (λ image. image.items) result (lines_give (labels_of source.now) 0 start (lines source.now)) }
+    requires labels { (name : List ℕ) → labels_in labels.now.places name ≡ labels_of source.now name }
+    requires short { length source.now ≤ 1073741824 }
+    ensures { Parses line_error (λ image. image.items) result (answer_of (sources (labels_of source.now)) source.now) }
 {
     let mut image = Vec::new(alloc);
     let mut place = Place::start();
@@ -73,9 +75,9 @@ fn add_lines<'a>(
     Ok(image)
 }
 
-#[tactic(auto, unfolding(crate::specs::Assembly::assembly_of))]
+#[tactic(auto, unfolding(crate::specs::Assembly::assembly_of, gba_text::specs::Languages::answer_of))]
 fn assemble_lines(alloc: Global, source: &[u8]) -> Result<Vec<u8>, AsmRefused>
-    ensures { Assembles (λ image. image.items) result (assembly_of source.now) }
+    ensures { Parses line_error (λ image. image.items) result (assembly_of source.now) }
 {
     if source.len() > LONGEST_SOURCE {
         return Err(AsmRefused::Source(AsmError {
@@ -90,8 +92,8 @@ fn assemble_lines(alloc: Global, source: &[u8]) -> Result<Vec<u8>, AsmRefused>
 /// The bytes of a source, or its first refused line, with line 0 where the source has more than 1,073,741,824 bytes. It
 /// takes memory for the labels and for the bytes.
 pub fn assemble(alloc: Global, source: &[u8]) -> Result<Vec<u8>, AsmRefused>
-    ensures said { IsSaid (λ image. image.items) source.now result }
-    ensures bytes { Assembles (λ image. image.items) result (assembly_of source.now) }
+    ensures said { IsSaid line_error (sources (labels_of source.now)) (λ image. image.items) source.now result }
+    ensures bytes { Parses line_error (λ image. image.items) result (assembly_of source.now) }
 {
     assemble_lines(alloc, source)
 }

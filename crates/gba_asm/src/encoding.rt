@@ -4,7 +4,8 @@ ghost use Rattle.std.specs.Prelude.{◌≡◌, ◌≤◌, ◌++◌, true, replic
 ghost use Rattle.gba_arm_table.specs.Encoding.{encoding as arm_encoding};
 ghost use Rattle.gba_thumb_table.specs.Encoding.{encoding as thumb_encoding};
 ghost use Rattle.gba_asm_words.specs.Numbers.{number_of};
-ghost use Rattle.gba_asm_words.specs.Readers.{Agrees, target_of, target_value};
+ghost use Rattle.gba_text.specs.Answers.{Agrees};
+ghost use Rattle.gba_asm_words.specs.Readers.{target_of, target_value};
 ghost use Rattle.gba_asm_words.specs.Tokens.{tokens};
 ghost use Rattle.gba_asm_arm.specs.Statement.{statement_value as arm_value};
 ghost use Rattle.gba_asm_thumb.specs.Statement.{statement_value as thumb_value};

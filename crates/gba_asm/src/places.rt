@@ -1,7 +1,7 @@
 //! Where lines stand.
 
 ghost use Rattle.std.specs.Prelude.{◌≡◌, ◌<◌, ◌^◌, Result, IfOk};
-ghost use Rattle.gba_asm.specs.Answers.{Says};
+ghost use Rattle.gba_asm.specs.Answers.{SaysSized};
 ghost use Rattle.gba_asm.specs.Places.{fits as fits_in, past_statement, start, state_after as state_after_of};
 ghost use Rattle.gba_asm.specs.Statements.{Statement as StatementValue, statement_value};
 ghost use Rattle.gba_asm_words.specs.declared.kinds.AsmKind.{AsmKind as Kind};
@@ -50,7 +50,7 @@ impl Place {
     /// Where the line after one stands that says this.
     pub(crate) fn after(self, statement: Result<SizedStatement<'_>, AsmKind>) -> Place
         requires { IfOk statement (λ s. s.size < 2 ^ 32) }
-        ensures { (defined : Result StatementValue Kind) → Says self.address statement.entry defined
+        ensures { (defined : Result StatementValue Kind) → SaysSized self.address statement.entry defined
             → result ≡ past_statement self defined }
     {
         let Ok(sized) = statement else {

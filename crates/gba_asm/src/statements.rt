@@ -2,7 +2,7 @@
 
 ghost use Rattle.std.specs.Prelude.{◌≡◌, ◌+◌, ◌≤◌, ◌<◌, ◌^◌, IfOk, length, option_map};
 ghost use Rattle.gba_asm_words.specs.Tokens.{tokens};
-ghost use Rattle.gba_asm.specs.Answers.{Says};
+ghost use Rattle.gba_asm.specs.Answers.{SaysSized};
 ghost use Rattle.gba_asm.specs.Directives.{directive_of};
 ghost use Rattle.gba_asm.specs.Statements.{directed, directive_form, label_of, line_says, machine_form, padding as padding_of, split_label as split_label_of, statement_of};
 
@@ -75,7 +75,7 @@ pub(crate) fn padding(address: u32) -> u32
 #[tactic(auto, unfolding(crate::specs::Statements::directive_form, crate::specs::Statements::size_of))]
 fn data<'a>(width: Width, tokens: &mut Tokens<'a>) -> Result<SizedStatement<'a>, AsmKind>
     requires { length tokens.old ≤ 400 }
-    ensures says { Says 0 result (directive_form (Directive.Data width) tokens.old) }
+    ensures says { SaysSized 0 result (directive_form (Directive.Data width) tokens.old) }
     ensures small { IfOk result (λ s. s.size < 2 ^ 32) }
 {
     let items = tokens.rest();
@@ -97,7 +97,7 @@ fn directed_by<'a>(
     tokens: &mut Tokens<'a>,
 ) -> Result<SizedStatement<'a>, AsmKind>
     requires { length tokens.old ≤ 400 }
-    ensures says { Says address result (directive_form directive tokens.old) }
+    ensures says { SaysSized address result (directive_form directive tokens.old) }
     ensures small { IfOk result (λ s. s.size < 2 ^ 32) }
 {
     match directive {
@@ -126,7 +126,7 @@ fn machine<'a>(
     word: &[u8],
     tokens: &mut Tokens<'a>,
 ) -> Result<SizedStatement<'a>, AsmKind>
-    ensures says { Says address result (machine_form thumb word.now tokens.old) }
+    ensures says { SaysSized address result (machine_form thumb word.now tokens.old) }
     ensures small { IfOk result (λ s. s.size < 2 ^ 32) }
 {
     if thumb {
@@ -145,7 +145,7 @@ fn named<'a>(
     tokens: &mut Tokens<'a>,
 ) -> Result<SizedStatement<'a>, AsmKind>
     requires { length tokens.old ≤ 400 }
-    ensures says { Says address result (directed thumb word.now (directive_of word.now) tokens.old) }
+    ensures says { SaysSized address result (directed thumb word.now (directive_of word.now) tokens.old) }
     ensures small { IfOk result (λ s. s.size < 2 ^ 32) }
 {
     match directive_in(word) {
@@ -162,7 +162,7 @@ fn read_statement<'a>(
     tokens: &mut Tokens<'a>,
 ) -> Result<SizedStatement<'a>, AsmKind>
     requires { length tokens.old ≤ 401 }
-    ensures says { Says address result (statement_of thumb tokens.old) }
+    ensures says { SaysSized address result (statement_of thumb tokens.old) }
     ensures small { IfOk result (λ s. s.size < 2 ^ 32) }
 {
     match tokens.next() {
@@ -176,7 +176,7 @@ fn read_statement<'a>(
 #[tactic(auto, unfolding(crate::specs::Statements::line_says, crate::specs::Statements::label_of))]
 pub(crate) fn read_line(thumb: bool, address: u32, line: &[u8]) -> ReadLine<'_>
     ensures label { option_map (λ l. l.now) result.label ≡ label_of line.now }
-    ensures says { Says address result.statement (line_says thumb line.now) }
+    ensures says { SaysSized address result.statement (line_says thumb line.now) }
     ensures small { IfOk result.statement (λ s. s.size < 2 ^ 32) }
 {
     if let Some(kind) = fault_in(line) {

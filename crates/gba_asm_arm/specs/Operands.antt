@@ -8,9 +8,9 @@ use Rattle.gba_arm_table.specs.declared.operation.Operand.{Operand}
 use Rattle.gba_arm_table.specs.declared.operation.Operand.TheVariants as operand
 use Rattle.gba_arm_table.specs.declared.operation.Source.{Source}
 use Rattle.gba_arm_table.specs.declared.operation.Source.TheVariants as source
+use Rattle.gba_text.specs.Steps.{◌>>=◌, Taken, taken}
 use Rattle.gba_asm_words.specs.declared.kinds.AsmKind.{AsmKind}
-use Rattle.gba_asm_words.specs.Kinds.{◌>>=◌}
-use Rattle.gba_asm_words.specs.Readers.{Taken, taken, word_at, begins, other_tokens, mark_at, or_operand, register_at, number_at}
+use Rattle.gba_asm_words.specs.Readers.{word_at, begins, other_tokens, mark_at, or_operand, register_at, number_at}
 use Rattle.gba_asm_words.specs.Tokens.{Token}
 use Rattle.gba_asm_arm.specs.declared.operands.ShiftName.{ShiftName}
 use Rattle.gba_asm_arm.specs.declared.operands.ShiftName.TheVariants.{Extended, By}
@@ -48,10 +48,10 @@ shift_name_of word =
     else if bytes_eq word (codes "rrx") then Some Extended
     else None
 
-abbrev pub shift_name_in : Taken (List ℕ) → Result (Taken ShiftName) AsmKind
-shift_name_in t = or_operand t.tokens (shift_name_of t.value)
+abbrev pub shift_name_in : Taken (List Token) (List ℕ) → Result (Taken (List Token) ShiftName) AsmKind
+shift_name_in t = or_operand t.left (shift_name_of t.value)
 
-unfoldable pub shift_name_at : List Token → Result (Taken ShiftName) AsmKind
+unfoldable pub shift_name_at : List Token → Result (Taken (List Token) ShiftName) AsmKind
 shift_name_at tokens = word_at tokens >>= shift_name_in
 
 -- 0 to 31 as they stand
@@ -73,41 +73,41 @@ abbrev pub fixed : ℕ → Shift → ℕ → Operand
 fixed rm kind amount = operand.Fixed rm kind amount
 
 -- a register shifted by `#` and a number (35), or by a register
-unfoldable pub shifted_by : ℕ → Shift → List Token → Result (Taken (Option Operand)) AsmKind
+unfoldable pub shifted_by : ℕ → Shift → List Token → Result (Taken (List Token) (Option Operand)) AsmKind
 shifted_by rm kind tokens =
     if begins 35 tokens
     then number_at (other_tokens tokens)
-    >>= (λ n. Ok (taken (option_map (fixed rm kind) (amount_of kind n.value)) n.tokens))
-    else register_at tokens >>= (λ rs. Ok (taken (Some (operand.ByRegister rm kind rs.value)) rs.tokens))
+    >>= (λ n. Ok (taken (option_map (fixed rm kind) (amount_of kind n.value)) n.left))
+    else register_at tokens >>= (λ rs. Ok (taken (Some (operand.ByRegister rm kind rs.value)) rs.left))
 
-unfoldable pub shifted_as : ℕ → ShiftName → List Token → Result (Taken (Option Operand)) AsmKind
+unfoldable pub shifted_as : ℕ → ShiftName → List Token → Result (Taken (List Token) (Option Operand)) AsmKind
 shifted_as rm Extended tokens = Ok (taken (Some (fixed rm Ror 0)) tokens)
 shifted_as rm (By kind) tokens = shifted_by rm kind tokens
 
 -- a register, and what follows it: a comma (44) and a shift, or nothing
-unfoldable pub register_operand : ℕ → List Token → Result (Taken (Option Operand)) AsmKind
+unfoldable pub register_operand : ℕ → List Token → Result (Taken (List Token) (Option Operand)) AsmKind
 register_operand rm tokens =
     if begins 44 tokens
-    then shift_name_at (other_tokens tokens) >>= (λ name. shifted_as rm name.value name.tokens)
+    then shift_name_at (other_tokens tokens) >>= (λ name. shifted_as rm name.value name.left)
     else Ok (taken (Some (fixed rm Lsl 0)) tokens)
 
 -- the last operand of data processing
-unfoldable pub second_at : List Token → Result (Taken (Option Operand)) AsmKind
+unfoldable pub second_at : List Token → Result (Taken (List Token) (Option Operand)) AsmKind
 second_at tokens =
     if begins 35 tokens
-    then number_at (other_tokens tokens) >>= (λ n. Ok (taken (immediate_operand (least_turn n.value)) n.tokens))
-    else register_at tokens >>= (λ rm. register_operand rm.value rm.tokens)
+    then number_at (other_tokens tokens) >>= (λ n. Ok (taken (immediate_operand (least_turn n.value)) n.left))
+    else register_at tokens >>= (λ rm. register_operand rm.value rm.left)
 
 -- a comma, and the last operand of data processing
-unfoldable pub next_second_at : List Token → Result (Taken (Option Operand)) AsmKind
-next_second_at tokens = mark_at 44 tokens >>= (λ comma. second_at comma.tokens)
+unfoldable pub next_second_at : List Token → Result (Taken (List Token) (Option Operand)) AsmKind
+next_second_at tokens = mark_at 44 tokens >>= (λ comma. second_at comma.left)
 
 -- what MSR writes
-unfoldable pub source_at : List Token → Result (Taken (Option Source)) AsmKind
+unfoldable pub source_at : List Token → Result (Taken (List Token) (Option Source)) AsmKind
 source_at tokens =
     if begins 35 tokens
-    then number_at (other_tokens tokens) >>= (λ n. Ok (taken (immediate_source (least_turn n.value)) n.tokens))
-    else register_at tokens >>= (λ rm. Ok (taken (Some (source.Plain rm.value)) rm.tokens))
+    then number_at (other_tokens tokens) >>= (λ n. Ok (taken (immediate_source (least_turn n.value)) n.left))
+    else register_at tokens >>= (λ rm. Ok (taken (Some (source.Plain rm.value)) rm.left))
 
 -- whether a letter stands first, and the letters after it
 abbrev pub has_letter : ℕ → List ℕ → Bool
@@ -146,11 +146,11 @@ saved_of word =
     else if bytes_eq word (codes "spsr") then Some true
     else None
 
-abbrev pub saved_in : Taken (List ℕ) → Result (Taken Bool) AsmKind
-saved_in t = or_operand t.tokens (saved_of t.value)
+abbrev pub saved_in : Taken (List Token) (List ℕ) → Result (Taken (List Token) Bool) AsmKind
+saved_in t = or_operand t.left (saved_of t.value)
 
 -- `cpsr` or `spsr`
-unfoldable pub saved_at : List Token → Result (Taken Bool) AsmKind
+unfoldable pub saved_at : List Token → Result (Taken (List Token) Bool) AsmKind
 saved_at tokens = word_at tokens >>= saved_in
 
 abbrev pub status_name : Bool → Option ℕ → Option StatusName
@@ -165,9 +165,9 @@ status_by (Some saved) (b ∷ letters) = if b == 95 then status_name saved (fiel
 unfoldable pub status_of : List ℕ → Option StatusName
 status_of word = if nat_lt (length word) 4 then None else status_by (saved_of (take 4 word)) (drop 4 word)
 
-abbrev pub status_in : Taken (List ℕ) → Result (Taken StatusName) AsmKind
-status_in t = or_operand t.tokens (status_of t.value)
+abbrev pub status_in : Taken (List Token) (List ℕ) → Result (Taken (List Token) StatusName) AsmKind
+status_in t = or_operand t.left (status_of t.value)
 
 -- the status register that MSR writes, with its fields
-unfoldable pub status_at : List Token → Result (Taken StatusName) AsmKind
+unfoldable pub status_at : List Token → Result (Taken (List Token) StatusName) AsmKind
 status_at tokens = word_at tokens >>= status_in

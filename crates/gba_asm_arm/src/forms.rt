@@ -1,7 +1,7 @@
 //! The forms of ARM statements: what a name says with its operands.
 
 ghost use Rattle.std.specs.Prelude.{◌≡◌};
-ghost use Rattle.gba_asm_words.specs.Readers.{Agrees};
+ghost use Rattle.gba_text.specs.Answers.{Agrees};
 ghost use Rattle.gba_asm_arm.specs.Forms.{access_form, accumulate_form, arm_statement as arm_statement_of, block_form, branch_form, compare_form, compute_form as compute_form_of, exchange_form, form_of, half_form, interrupt_form, is_at_target as is_at_target_of, load_form, long_form, move_form, multiply_form, read_status_form, swap_form, three_form, transfer_form, whole as whole_of, write_status_form};
 ghost use Rattle.gba_asm_arm.specs.Statement.{statement_value};
 

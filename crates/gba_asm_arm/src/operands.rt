@@ -1,7 +1,7 @@
 //! The operands of ARM statements but for addresses. Where a number has no encoding, an operand is None.
 
 ghost use Rattle.std.specs.Prelude.{◌≡◌, ◌≤◌, ◌<◌, ◌+◌, ◌^◌, IfSome, Some, option_map};
-ghost use Rattle.gba_asm_words.specs.Readers.{Takes};
+ghost use Rattle.gba_text.specs.Answers.{Takes};
 ghost use Rattle.gba_asm_arm.specs.Operands.{amount_from_0 as amount_from_0_of, amount_from_1 as amount_from_1_of, amount_of, ended as ended_of, fields_c as fields_c_of, fields_of, fields_s as fields_s_of, fields_x as fields_x_of, has_letter, immediate_operand as immediate_operand_of, immediate_source as immediate_source_of, next_second_at, past_letter, register_operand, saved_at, saved_of, second_at, shift_name_at, shift_name_of, shifted_as, shifted_by, source_at, status_at, status_by, status_of, least_turn as least_turn_of, weight as weight_of};
 
 use gba_arm_table::{Operand, Source};

@@ -1,7 +1,7 @@
 //! The addresses of loads and stores. Where a number has no encoding, an offset is None.
 
 ghost use Rattle.std.specs.Prelude.{◌≡◌};
-ghost use Rattle.gba_asm_words.specs.Readers.{Takes};
+ghost use Rattle.gba_text.specs.Answers.{Takes};
 ghost use Rattle.gba_asm_arm.specs.Transfers.{address as address_with, address_at, after_access, before_access, distance_at, half_offset as half_offset_of, half_transfer as half_transfer_of, in_brackets, indexed, no_distance as no_distance_of, number_distance, past_bracket, register_distance, register_offset, shifted_offset, transfer as transfer_of};
 
 use crate::operands::{ShiftName, shift_amount, take_shift_name};
@@ -137,7 +137,7 @@ fn make_address(rn: u8, pre: bool, write: bool, distance: Distance) -> Address
 
 /// The distance goes on before the access, and `!` writes it back.
 fn take_before_access(rn: u8, distance: Distance, tokens: &mut Tokens<'_>) -> Address
-    ensures { record { value = result; tokens = tokens.new } ≡ before_access rn distance tokens.old }
+    ensures { record { value = result; left = tokens.new } ≡ before_access rn distance tokens.old }
 {
     let write = tokens.takes(b'!');
     make_address(rn, true, write, distance)

@@ -6,11 +6,11 @@ use Rattle.gba_word.specs.declared.kinds.Shift.TheVariants.{Lsl, Lsr, Asr, Ror}
 use Rattle.gba_arm_table.specs.Numbers.{shift_number}
 use Rattle.gba_thumb_table.specs.declared.operation.ThumbOp.{ThumbOp}
 use Rattle.gba_thumb_table.specs.declared.operation.ThumbOp.TheVariants.{Format1, Format2, Format3, Format4, Format5, Format6, Format7, Format8, Format9, Format10, Format11, Format12, Format13, Format14, Format15, Format17}
+use Rattle.gba_text.specs.Steps.{◌>>=◌, holds, Taken}
 use Rattle.gba_asm_words.specs.declared.kinds.AsmKind.{AsmKind}
 use Rattle.gba_asm_words.specs.declared.kinds.AsmKind.TheVariants as kind
-use Rattle.gba_asm_words.specs.Kinds.{◌>>=◌, holds}
 use Rattle.gba_asm_words.specs.Lists.{list_at}
-use Rattle.gba_asm_words.specs.Readers.{Taken, begins, other_tokens, mark_at, end_at, register_at, number_at, immediate_at, target_at}
+use Rattle.gba_asm_words.specs.Readers.{begins, other_tokens, mark_at, end_at, register_at, number_at, immediate_at, target_at}
 use Rattle.gba_asm_words.specs.Tokens.{Token}
 use Rattle.gba_asm_arm.specs.Operands.{amount_of}
 use Rattle.gba_asm_thumb.specs.declared.names.Access.{Access}
@@ -27,16 +27,16 @@ whole op tokens = end_at tokens >>= (λ _. Ok (Operation op))
 abbrev pub is_low : ℕ → Bool
 is_low register = nat_lt register 8
 
-abbrev pub only_low : Taken ℕ → Result (Taken ℕ) AsmKind
+abbrev pub only_low : Taken (List Token) ℕ → Result (Taken (List Token) ℕ) AsmKind
 only_low t = if is_low t.value then Ok t else Err kind.Operand
 
 -- a register from r0 to r7
-unfoldable pub low_register_at : List Token → Result (Taken ℕ) AsmKind
+unfoldable pub low_register_at : List Token → Result (Taken (List Token) ℕ) AsmKind
 low_register_at tokens = register_at tokens >>= only_low
 
 -- a comma (44) and such a register
-unfoldable pub next_low_register_at : List Token → Result (Taken ℕ) AsmKind
-next_low_register_at tokens = mark_at 44 tokens >>= (λ comma. low_register_at comma.tokens)
+unfoldable pub next_low_register_at : List Token → Result (Taken (List Token) ℕ) AsmKind
+next_low_register_at tokens = mark_at 44 tokens >>= (λ comma. low_register_at comma.left)
 
 -- a number of bytes as a number of units of so many, None where it isn't whole or too large for any field
 abbrev pub scaled : ℕ → ℕ → Option ℕ
@@ -56,7 +56,7 @@ shifted shift rd rs amount = option_map (λ o5. Format1 (shift_number shift) o5 
 unfoldable pub fixed_shift : Shift → ℕ → ℕ → List Token → Result ThumbStatement AsmKind
 fixed_shift shift rd rs tokens = do
   n ← immediate_at tokens
-  whole (shifted shift rd rs (amount_of shift n.value)) n.tokens
+  whole (shifted shift rd rs (amount_of shift n.value)) n.left
 
 abbrev pub shift_rest : Shift → ℕ → ℕ → List Token → Result ThumbStatement AsmKind
 shift_rest shift rd rs tokens =
@@ -67,29 +67,29 @@ shift_rest shift rd rs tokens =
 unfoldable pub shift_form : Shift → List Token → Result ThumbStatement AsmKind
 shift_form shift tokens = do
   rd ← low_register_at tokens
-  rs ← next_low_register_at rd.tokens
-  shift_rest shift rd.value rs.value rs.tokens
+  rs ← next_low_register_at rd.left
+  shift_rest shift rd.value rs.value rs.left
 
 -- `rd, rs`, format 4
 unfoldable pub two_register_form : ℕ → List Token → Result ThumbStatement AsmKind
 two_register_form number tokens = do
   rd ← low_register_at tokens
-  rs ← next_low_register_at rd.tokens
-  whole (Some (Format4 number rs.value rd.value)) rs.tokens
+  rs ← next_low_register_at rd.left
+  whole (Some (Format4 number rs.value rd.value)) rs.left
 
 -- a number after `#`, format 3
 unfoldable pub number_form : ℕ → ℕ → List Token → Result ThumbStatement AsmKind
 number_form op rd tokens = do
   _ ← holds (is_low rd) kind.Operand
   n ← number_at tokens
-  whole (option_map (Format3 op rd) (scaled n.value 1)) n.tokens
+  whole (option_map (Format3 op rd) (scaled n.value 1)) n.left
 
 -- format 5
 abbrev pub high : ℕ → ℕ → ℕ → ThumbOp
 high op rd rs = Format5 op (nat_le 8 rd) (nat_le 8 rs) (rs % 8) (rd % 8)
 
 unfoldable pub move_register : ℕ → List Token → Result ThumbStatement AsmKind
-move_register rd tokens = register_at tokens >>= (λ rs. whole (Some (high 2 rd rs.value)) rs.tokens)
+move_register rd tokens = register_at tokens >>= (λ rs. whole (Some (high 2 rd rs.value)) rs.left)
 
 abbrev pub move_rest : ℕ → List Token → Result ThumbStatement AsmKind
 move_rest rd tokens =
@@ -99,15 +99,15 @@ move_rest rd tokens =
 unfoldable pub move_form : List Token → Result ThumbStatement AsmKind
 move_form tokens = do
   rd ← register_at tokens
-  comma ← mark_at 44 rd.tokens
-  move_rest rd.value comma.tokens
+  comma ← mark_at 44 rd.left
+  move_rest rd.value comma.left
 
 -- two low registers are compared by format 4
 abbrev pub compared : ℕ → ℕ → ThumbOp
 compared rd rs = if is_low rd && is_low rs then Format4 10 rs rd else high 1 rd rs
 
 unfoldable pub compare_register : ℕ → List Token → Result ThumbStatement AsmKind
-compare_register rd tokens = register_at tokens >>= (λ rs. whole (Some (compared rd rs.value)) rs.tokens)
+compare_register rd tokens = register_at tokens >>= (λ rs. whole (Some (compared rd rs.value)) rs.left)
 
 abbrev pub compare_rest : ℕ → List Token → Result ThumbStatement AsmKind
 compare_rest rd tokens =
@@ -117,12 +117,12 @@ compare_rest rd tokens =
 unfoldable pub compare_form : List Token → Result ThumbStatement AsmKind
 compare_form tokens = do
   rd ← register_at tokens
-  comma ← mark_at 44 rd.tokens
-  compare_rest rd.value comma.tokens
+  comma ← mark_at 44 rd.left
+  compare_rest rd.value comma.left
 
 -- `sp, #n`, format 13
 unfoldable pub adjust_form : Bool → List Token → Result ThumbStatement AsmKind
-adjust_form down tokens = number_at tokens >>= (λ n. whole (option_map (Format13 down) (scaled n.value 4)) n.tokens)
+adjust_form down tokens = number_at tokens >>= (λ n. whole (option_map (Format13 down) (scaled n.value 4)) n.left)
 
 -- a number after `rd, #`; r13 goes by format 13
 abbrev pub changed_by_number : ℕ → Bool → ℕ → List Token → Result ThumbStatement AsmKind
@@ -133,7 +133,7 @@ unfoldable pub three_register_form : Bool → ℕ → ℕ → List Token → Res
 three_register_form down rd rs tokens = do
   _ ← holds (is_low rd && is_low rs) kind.Operand
   rn ← low_register_at tokens
-  whole (Some (Format2 false down rn.value rs rd)) rn.tokens
+  whole (Some (Format2 false down rn.value rs rd)) rn.left
 
 -- a number added to a low register, to r13 or to r15: formats 2 and 12
 abbrev pub sum_of : ℕ → ℕ → ℕ → Result (Option ThumbOp) AsmKind
@@ -149,7 +149,7 @@ add_number rd rs tokens = do
   _ ← holds (is_low rd) kind.Operand
   n ← number_at tokens
   op ← sum_of rd rs n.value
-  whole op n.tokens
+  whole op n.left
 
 abbrev pub add_last : ℕ → ℕ → List Token → Result ThumbStatement AsmKind
 add_last rd rs tokens =
@@ -160,7 +160,7 @@ add_third rd rs tokens =
     if begins 44 tokens then add_last rd rs (other_tokens tokens) else whole (Some (high 0 rd rs)) tokens
 
 unfoldable pub add_register : ℕ → List Token → Result ThumbStatement AsmKind
-add_register rd tokens = register_at tokens >>= (λ rs. add_third rd rs.value rs.tokens)
+add_register rd tokens = register_at tokens >>= (λ rs. add_third rd rs.value rs.left)
 
 abbrev pub add_rest : ℕ → List Token → Result ThumbStatement AsmKind
 add_rest rd tokens =
@@ -170,15 +170,15 @@ add_rest rd tokens =
 unfoldable pub add_form : List Token → Result ThumbStatement AsmKind
 add_form tokens = do
   rd ← register_at tokens
-  comma ← mark_at 44 rd.tokens
-  add_rest rd.value comma.tokens
+  comma ← mark_at 44 rd.left
+  add_rest rd.value comma.left
 
 -- `rd, rs, #n`, format 2
 unfoldable pub subtract_number : ℕ → ℕ → List Token → Result ThumbStatement AsmKind
 subtract_number rd rs tokens = do
   _ ← holds (is_low rd && is_low rs) kind.Operand
   n ← number_at tokens
-  whole (option_map (λ x3. Format2 true true x3 rs rd) (scaled n.value 1)) n.tokens
+  whole (option_map (λ x3. Format2 true true x3 rs rd) (scaled n.value 1)) n.left
 
 abbrev pub subtract_last : ℕ → ℕ → List Token → Result ThumbStatement AsmKind
 subtract_last rd rs tokens =
@@ -187,8 +187,8 @@ subtract_last rd rs tokens =
 unfoldable pub subtract_register : ℕ → List Token → Result ThumbStatement AsmKind
 subtract_register rd tokens = do
   rs ← register_at tokens
-  comma ← mark_at 44 rs.tokens
-  subtract_last rd rs.value comma.tokens
+  comma ← mark_at 44 rs.left
+  subtract_last rd rs.value comma.left
 
 abbrev pub subtract_rest : ℕ → List Token → Result ThumbStatement AsmKind
 subtract_rest rd tokens =
@@ -198,12 +198,12 @@ subtract_rest rd tokens =
 unfoldable pub subtract_form : List Token → Result ThumbStatement AsmKind
 subtract_form tokens = do
   rd ← register_at tokens
-  comma ← mark_at 44 rd.tokens
-  subtract_rest rd.value comma.tokens
+  comma ← mark_at 44 rd.left
+  subtract_rest rd.value comma.left
 
 -- `rs`
 unfoldable pub exchange_form : List Token → Result ThumbStatement AsmKind
-exchange_form tokens = register_at tokens >>= (λ rs. whole (Some (high 3 0 rs.value)) rs.tokens)
+exchange_form tokens = register_at tokens >>= (λ rs. whole (Some (high 3 0 rs.value)) rs.left)
 
 -- `[rb, ro]`, formats 7 and 8
 abbrev pub by_register : Bool → Access → ℕ → ℕ → ℕ → ThumbOp
@@ -242,15 +242,15 @@ unfoldable pub register_access : Bool → Access → ℕ → ℕ → List Token 
 register_access load access rd rb tokens = do
   _ ← holds (is_low rb) kind.Operand
   ro ← low_register_at tokens
-  bracket ← mark_at 93 ro.tokens
-  whole (Some (by_register load access ro.value rb rd)) bracket.tokens
+  bracket ← mark_at 93 ro.left
+  whole (Some (by_register load access ro.value rb rd)) bracket.left
 
 unfoldable pub number_access : Bool → Access → ℕ → ℕ → List Token → Result ThumbStatement AsmKind
 number_access load access rd rb tokens = do
   n ← number_at tokens
-  bracket ← mark_at 93 n.tokens
+  bracket ← mark_at 93 n.left
   op ← by_number load access rb rd n.value
-  whole op bracket.tokens
+  whole op bracket.left
 
 abbrev pub access_rest : Bool → Access → ℕ → ℕ → List Token → Result ThumbStatement AsmKind
 access_rest load access rd rb tokens =
@@ -261,11 +261,11 @@ access_rest load access rd rb tokens =
 unfoldable pub transfer_form : Bool → Access → List Token → Result ThumbStatement AsmKind
 transfer_form load access tokens = do
   rd ← low_register_at tokens
-  comma ← mark_at 44 rd.tokens
-  bracket ← mark_at 91 comma.tokens
-  rb ← register_at bracket.tokens
-  second ← mark_at 44 rb.tokens
-  access_rest load access rd.value rb.value second.tokens
+  comma ← mark_at 44 rd.left
+  bracket ← mark_at 91 comma.left
+  rb ← register_at bracket.left
+  second ← mark_at 44 rb.left
+  access_rest load access rd.value rb.value second.left
 
 -- the registers from r0 to r7, and one more whose bit in a list has this weight
 abbrev pub stacked : Bool → ℕ → ℕ → Result (Option ThumbOp) AsmKind
@@ -279,39 +279,39 @@ unfoldable pub stack_form : Bool → ℕ → List Token → Result ThumbStatemen
 stack_form load weight tokens = do
   list ← list_at tokens
   op ← stacked load weight list.value
-  whole op list.tokens
+  whole op list.left
 
 -- `rb!, {LIST}` (33 is `!`), format 15
 unfoldable pub block_form : Bool → List Token → Result ThumbStatement AsmKind
 block_form load tokens = do
   rb ← low_register_at tokens
-  write ← mark_at 33 rb.tokens
-  comma ← mark_at 44 write.tokens
-  list ← list_at comma.tokens
+  write ← mark_at 33 rb.left
+  comma ← mark_at 44 write.left
+  list ← list_at comma.left
   _ ← holds (nat_lt list.value 256) kind.Operand
-  whole (Some (Format15 load rb.value list.value)) list.tokens
+  whole (Some (Format15 load rb.value list.value)) list.left
 
 -- `#n`, format 17
 unfoldable pub interrupt_form : List Token → Result ThumbStatement AsmKind
-interrupt_form tokens = immediate_at tokens >>= (λ n. whole (option_map Format17 (scaled n.value 1)) n.tokens)
+interrupt_form tokens = immediate_at tokens >>= (λ n. whole (option_map Format17 (scaled n.value 1)) n.left)
 
 -- `TARGET`
 unfoldable pub branch_form : List Token → Result ThumbStatement AsmKind
 branch_form tokens = do
   target ← target_at tokens
-  _ ← end_at target.tokens
+  _ ← end_at target.left
   Ok (Branch target.value)
 
 unfoldable pub branch_if_form : ℕ → List Token → Result ThumbStatement AsmKind
 branch_if_form cond tokens = do
   target ← target_at tokens
-  _ ← end_at target.tokens
+  _ ← end_at target.left
   Ok (BranchIf cond target.value)
 
 unfoldable pub call_form : List Token → Result ThumbStatement AsmKind
 call_form tokens = do
   target ← target_at tokens
-  _ ← end_at target.tokens
+  _ ← end_at target.left
   Ok (Call target.value)
 
 -- the form of each name; PUSH takes r14 too, and POP r15

@@ -1,7 +1,8 @@
 //! The forms of Thumb statements: what a name says with its operands.
 
 ghost use Rattle.std.specs.Prelude.{◌≡◌, ◌<◌, IfOk};
-ghost use Rattle.gba_asm_words.specs.Readers.{Agrees, Takes, register_at};
+ghost use Rattle.gba_text.specs.Answers.{Agrees, Takes};
+ghost use Rattle.gba_asm_words.specs.Readers.{register_at};
 ghost use Rattle.gba_asm_thumb.specs.Forms.{access_rest, add_form, add_last, add_number, add_register, add_rest, add_third, adjust_form, block_form, branch_form, branch_if_form, by_counter as by_counter_of, by_low as by_low_of, by_number as by_number_of, by_register as by_register_of, by_stack as by_stack_of, call_form, changed_by_number, compare_form, compare_register, compare_rest, compared as compared_of, exchange_form, fixed_shift, form_of, high as high_of, interrupt_form, is_low as is_low_of, low_register_at, move_form, move_register, move_rest, next_low_register_at, number_access, number_form, register_access, scaled as scaled_of, shift_form, shift_operation as shift_operation_of, shift_rest, shifted as shifted_of, stack_form, stacked as stacked_of, subtract_form, subtract_last, subtract_number, subtract_register, subtract_rest, sum_of as sum_with, three_register_form, thumb_statement as thumb_statement_of, transfer_form, two_register_form, whole as whole_of};
 ghost use Rattle.gba_asm_thumb.specs.Statement.{statement_value};
 

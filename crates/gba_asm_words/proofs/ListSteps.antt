@@ -1,10 +1,11 @@
 -- The steps of a list.
 use Rattle.std.proofs.Common.{◌≡◌, true, false, List, [], ◌∷◌, Some, None, Ok, Err, refl}
+use Rattle.gba_text.specs.Steps.{taken}
 use Rattle.gba_asm_words.specs.declared.kinds.AsmKind.{AsmKind}
 use Rattle.gba_asm_words.specs.declared.kinds.AsmKind.TheVariants.{Operand}
 use Rattle.gba_asm_words.specs.declared.lists.ListState.{ListState}
 use Rattle.gba_asm_words.specs.Lists.{list_from, list_step, is_closed}
-use Rattle.gba_asm_words.specs.Readers.{taken, first_token, other_tokens}
+use Rattle.gba_asm_words.specs.Readers.{first_token, other_tokens}
 use Rattle.gba_asm_words.specs.Tokens.{Token}
 
 pub list_from-closed : (s : ListState) (ts : List Token) → is_closed s.place ≡ true → list_from s ts ≡ Ok (taken s.list ts)

@@ -1,5 +1,5 @@
 -- A list of registers that is spelled one by one is read as it stands.
-use Rattle.std.proofs.Common.{◌≡◌, ◌<◌, ℕ, zero, suc, ◌+◌, ◌*◌, ◌/◌, ◌%◌, ◌^◌, Bool, true, false, cond, ◌==◌, List, [], ◌∷◌, ◌++◌, Some, Ok, bit_or, refl, sym, ap, ◌∙◌, lit<, arith}
+use Rattle.std.proofs.Common.{◌≡◌, ◌<◌, ℕ, zero, suc, ◌+◌, ◌*◌, ◌/◌, ◌%◌, ◌^◌, Bool, true, false, cond, ◌==◌, List, [], ◌∷◌, ◌++◌, Some, Ok, bit_or, refl, sym, ap, ◌∙◌, arith}
 use Rattle.std.proofs.Math.Nat.{mod-eq_of_lt}
 use Rattle.std.proofs.lemmas.Bool.Decides.{nat_tests}
 use Rattle.std.proofs.lemmas.Nat.{mod-pow-add, mod_below, or_comm, or_shifted}
@@ -7,7 +7,7 @@ use Rattle.gba_asm_words.specs.declared.lists.ListPlace.{ListPlace}
 use Rattle.gba_asm_words.specs.declared.lists.ListPlace.TheVariants.{Opened, AfterRegister, Closed}
 use Rattle.gba_asm_words.specs.Lists.{list_at, list_from, list_step, state}
 use Rattle.gba_asm_words.specs.Names.{register_of}
-use Rattle.gba_asm_words.specs.Readers.{taken}
+use Rattle.gba_text.specs.Steps.{taken}
 use Rattle.gba_asm_words.specs.Tokens.{Token, Word, Mark}
 use Rattle.gba_asm_words.proofs.ListSteps.{list_from-closed}
 

@@ -1,13 +1,13 @@
 -- Lists of registers in braces: `{r0, r2-r4, lr}`. A list is a set of registers: bit n of it is register n.
 use Rattle.std.specs.Prelude.{ℕ, ◌+◌, ◌-◌, ◌^◌, nat_le, Bool, true, false, ◌==◌, List, [], ◌∷◌, Option, Some, None, Result, Ok, Err, bit_or, if◌then◌else◌}
+use Rattle.gba_text.specs.Steps.{◌>>=◌, Taken, taken}
 use Rattle.gba_asm_words.specs.declared.kinds.AsmKind.{AsmKind}
 use Rattle.gba_asm_words.specs.declared.kinds.AsmKind.TheVariants.{Operand}
 use Rattle.gba_asm_words.specs.declared.lists.ListPlace.{ListPlace}
 use Rattle.gba_asm_words.specs.declared.lists.ListPlace.TheVariants.{Opened, Parted, AfterRegister, InRange, AfterRange, Closed}
 use Rattle.gba_asm_words.specs.declared.lists.ListState.{ListState}
-use Rattle.gba_asm_words.specs.Kinds.{◌>>=◌}
 use Rattle.gba_asm_words.specs.Names.{register_of}
-use Rattle.gba_asm_words.specs.Readers.{Taken, taken, mark_at}
+use Rattle.gba_asm_words.specs.Readers.{mark_at}
 use Rattle.gba_asm_words.specs.Tokens.{Token, Word, Mark}
 
 abbrev pub state : ℕ → ListPlace → ListState
@@ -63,12 +63,12 @@ is_closed (InRange first) = false
 is_closed AfterRange = false
 
 -- the rest of a list
-unfoldable pub list_from : ListState → List Token → Result (Taken ℕ) AsmKind
+unfoldable pub list_from : ListState → List Token → Result (Taken (List Token) ℕ) AsmKind
 list_from s [] = if is_closed s.place then Ok (taken s.list []) else Err Operand
 list_from s (token ∷ tokens) =
     if is_closed s.place then Ok (taken s.list (token ∷ tokens))
     else list_step s token >>= (λ next. list_from next tokens)
 
 -- a list, from its `{` (123) to its `}`
-unfoldable pub list_at : List Token → Result (Taken ℕ) AsmKind
-list_at tokens = mark_at 123 tokens >>= (λ brace. list_from (state 0 Opened) brace.tokens)
+unfoldable pub list_at : List Token → Result (Taken (List Token) ℕ) AsmKind
+list_at tokens = mark_at 123 tokens >>= (λ brace. list_from (state 0 Opened) brace.left)

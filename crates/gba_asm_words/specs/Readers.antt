@@ -1,10 +1,10 @@
 -- The readers of tokens: each takes what it reads from the front, or refuses the line.
-use Rattle.std.specs.Prelude.{◌≡◌, ℕ, Bool, true, false, ◌==◌, List, [], ◌∷◌, Option, Some, None, Result, Ok, Err, if◌then◌else◌}
+use Rattle.std.specs.Prelude.{ℕ, Bool, true, false, ◌==◌, List, [], ◌∷◌, Option, Some, None, Result, Ok, Err, if◌then◌else◌}
+use Rattle.gba_text.specs.Steps.{◌>>=◌, Taken, taken, or_refused, no_more}
 use Rattle.gba_asm_words.specs.declared.kinds.AsmKind.{AsmKind}
 use Rattle.gba_asm_words.specs.declared.kinds.AsmKind.TheVariants.{Operand}
 use Rattle.gba_asm_words.specs.declared.readers.Target as written
 use Rattle.gba_asm_words.specs.declared.readers.Target.TheVariants as target
-use Rattle.gba_asm_words.specs.Kinds.{◌>>=◌}
 use Rattle.gba_asm_words.specs.Names.{register_of, is_label}
 use Rattle.gba_asm_words.specs.Numbers.{number_of}
 use Rattle.gba_asm_words.specs.Tokens.{Token, Word, Mark}
@@ -17,26 +17,8 @@ abbrev pub other_tokens : List Token → List Token
 other_tokens [] = []
 other_tokens (_ ∷ tokens) = tokens
 
--- what is read, and the tokens after it
-pub record Taken (T : Type 0) : Type 0 where
-  pub value : T
-  pub tokens : List Token
-
-abbrev pub taken : {T : Type 0} → T → List Token → Taken T
-taken value tokens = record { value = value; tokens = tokens }
-
--- what is read and the tokens left after it, or the refusal, are the defined ones
-abbrev pub Takes : {X T : Type 0} → (X → T) → Result X AsmKind → List Token → Result (Taken T) AsmKind → Type 0
-Takes view (Ok x) tokens defined = defined ≡ Ok (taken (view x) tokens)
-Takes view (Err kind) tokens defined = defined ≡ Err kind
-
--- an answer that leaves no tokens
-abbrev pub Agrees : {X T : Type 0} → (X → T) → Result X AsmKind → Result T AsmKind → Type 0
-Agrees view (Ok x) defined = defined ≡ Ok (view x)
-Agrees view (Err kind) defined = defined ≡ Err kind
-
 -- a word, whatever it is
-abbrev pub word_at : List Token → Result (Taken (List ℕ)) AsmKind
+abbrev pub word_at : List Token → Result (Taken (List Token) (List ℕ)) AsmKind
 word_at [] = Err Operand
 word_at (Word bytes ∷ tokens) = Ok (taken bytes tokens)
 word_at (Mark mark ∷ tokens) = Err Operand
@@ -52,43 +34,42 @@ abbrev pub after_mark : ℕ → List Token → List Token
 after_mark mark tokens = if begins mark tokens then other_tokens tokens else tokens
 
 -- this mark
-abbrev pub mark_at : ℕ → List Token → Result (Taken Bool) AsmKind
+abbrev pub mark_at : ℕ → List Token → Result (Taken (List Token) Bool) AsmKind
 mark_at mark tokens = if begins mark tokens then Ok (taken true (other_tokens tokens)) else Err Operand
 
 -- nothing follows
 abbrev pub end_at : List Token → Result Bool AsmKind
-end_at [] = Ok true
-end_at (_ ∷ _) = Err Operand
+end_at tokens = no_more Operand tokens
 
-abbrev pub or_operand : {T : Type 0} → List Token → Option T → Result (Taken T) AsmKind
-or_operand tokens (Some value) = Ok (taken value tokens)
-or_operand tokens None = Err Operand
+-- what a word spells
+abbrev pub or_operand : {T : Type 0} → List Token → Option T → Result (Taken (List Token) T) AsmKind
+or_operand tokens spelled = or_refused Operand tokens spelled
 
-abbrev pub register_in : Taken (List ℕ) → Result (Taken ℕ) AsmKind
-register_in t = or_operand t.tokens (register_of t.value)
+abbrev pub register_in : Taken (List Token) (List ℕ) → Result (Taken (List Token) ℕ) AsmKind
+register_in t = or_operand t.left (register_of t.value)
 
 -- a register
-unfoldable pub register_at : List Token → Result (Taken ℕ) AsmKind
+unfoldable pub register_at : List Token → Result (Taken (List Token) ℕ) AsmKind
 register_at tokens = word_at tokens >>= register_in
 
 -- a comma (44) and a register
-unfoldable pub next_register_at : List Token → Result (Taken ℕ) AsmKind
-next_register_at tokens = mark_at 44 tokens >>= (λ comma. register_at comma.tokens)
+unfoldable pub next_register_at : List Token → Result (Taken (List Token) ℕ) AsmKind
+next_register_at tokens = mark_at 44 tokens >>= (λ comma. register_at comma.left)
 
-abbrev pub number_in : Taken (List ℕ) → Result (Taken ℕ) AsmKind
-number_in t = or_operand t.tokens (number_of t.value)
+abbrev pub number_in : Taken (List Token) (List ℕ) → Result (Taken (List Token) ℕ) AsmKind
+number_in t = or_operand t.left (number_of t.value)
 
 -- a number
-unfoldable pub number_at : List Token → Result (Taken ℕ) AsmKind
+unfoldable pub number_at : List Token → Result (Taken (List Token) ℕ) AsmKind
 number_at tokens = word_at tokens >>= number_in
 
 -- `#` (35) and a number
-unfoldable pub immediate_at : List Token → Result (Taken ℕ) AsmKind
-immediate_at tokens = mark_at 35 tokens >>= (λ hash. number_at hash.tokens)
+unfoldable pub immediate_at : List Token → Result (Taken (List Token) ℕ) AsmKind
+immediate_at tokens = mark_at 35 tokens >>= (λ hash. number_at hash.left)
 
 -- a comma, `#` and a number
-unfoldable pub next_immediate_at : List Token → Result (Taken ℕ) AsmKind
-next_immediate_at tokens = mark_at 44 tokens >>= (λ comma. immediate_at comma.tokens)
+unfoldable pub next_immediate_at : List Token → Result (Taken (List Token) ℕ) AsmKind
+next_immediate_at tokens = mark_at 44 tokens >>= (λ comma. immediate_at comma.left)
 
 -- where a statement leads: to a label, or to an address
 pub data Target : Type 0 where
@@ -110,9 +91,9 @@ number_or_label None word = label_target word
 unfoldable pub target_of : List ℕ → Option Target
 target_of word = number_or_label (number_of word) word
 
-abbrev pub target_in : Taken (List ℕ) → Result (Taken Target) AsmKind
-target_in t = or_operand t.tokens (target_of t.value)
+abbrev pub target_in : Taken (List Token) (List ℕ) → Result (Taken (List Token) Target) AsmKind
+target_in t = or_operand t.left (target_of t.value)
 
 -- a target
-unfoldable pub target_at : List Token → Result (Taken Target) AsmKind
+unfoldable pub target_at : List Token → Result (Taken (List Token) Target) AsmKind
 target_at tokens = word_at tokens >>= target_in

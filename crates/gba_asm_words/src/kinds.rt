@@ -1,9 +1,9 @@
 //! Why a source is refused.
 
 ghost use Rattle.std.specs.Prelude.{◌≡◌, Some};
-ghost use Rattle.gba_asm_words.specs.Kinds.{kind_name, refusal_text};
+ghost use Rattle.gba_asm_words.specs.Kinds.{kind_name};
 
-use std::error::Error;
+use gba_text::LineError;
 use std::fmt;
 
 /// What is wrong with a line, in the order in which it is tested.
@@ -48,22 +48,5 @@ impl fmt::Display for AsmKind {
     }
 }
 
-/// The first refused line of a source, and why it is refused.
-#[derive(Clone, Copy, Debug, PartialEq, Eq)]
-pub struct AsmError {
-    /// The line's number, from 1; 0 where the source is too long.
-    pub line: u64,
-    pub kind: AsmKind,
-}
-
-impl fmt::Display for AsmError {
-    ghost output = { λ e. Some (refusal_text e) };
-
-    fn fmt<W: fmt::Write>(&self, f: &mut fmt::Formatter<W>) -> fmt::Result {
-        let line = self.line;
-        let kind = self.kind;
-        write!(f, "line {line} {kind}")
-    }
-}
-
-impl Error for AsmError {}
+/// The first refused line of a source, and why it is refused. The line is 0 where the source is too long.
+pub type AsmError = LineError<AsmKind>;

@@ -1,9 +1,9 @@
 //! Lists of registers in braces.
 
 ghost use Rattle.std.specs.Prelude.{◌≡◌, ◌+◌, ◌-◌, ◌^◌, ◌<◌, ◌≤◌};
+ghost use Rattle.gba_text.specs.Answers.{Agrees, Takes};
 ghost use Rattle.gba_asm_words.specs.Lists.{by_mark as by_mark_of, by_word as by_word_of, closes as closes_of, is_closed as is_closed_of, list_at, list_from, list_step as list_step_of, parts as parts_of, with_range as with_range_of, with_register as with_register_of};
 ghost use Rattle.gba_asm_words.specs.Names.{register_of};
-ghost use Rattle.gba_asm_words.specs.Readers.{Agrees, Takes};
 ghost use Rattle.gba_asm_words.specs.Tokens.{token_value};
 
 use crate::kinds::AsmKind;

@@ -1,32 +1,9 @@
 //! Numbers.
 
 ghost use Rattle.std.specs.Prelude.{◌≡◌};
-ghost use Rattle.std.specs.Str.{IsAscii};
-ghost use Rattle.gba_text.specs.Numbers.{all_digits, all_hex_digits};
 ghost use Rattle.gba_asm_words.specs.Numbers.{begins_as_hexadecimal as begins_as_hexadecimal_of, decimal_of, hexadecimal_of, number_of};
 
-/// The bytes as text.
-fn ascii_text(bytes: &[u8]) -> &str
-    requires { IsAscii bytes.now }
-    ensures { result.now ≡ bytes.now }
-{
-    match str::from_utf8(bytes) {
-        Ok(text) => text,
-        Err(_) => unreachable!(),
-    }
-}
-
-fn are_digits(word: &[u8]) -> bool
-    ensures { result ≡ all_digits word.now }
-{
-    word.iter().all(|byte| byte.is_ascii_digit())
-}
-
-fn are_hex_digits(word: &[u8]) -> bool
-    ensures { result ≡ all_hex_digits word.now }
-{
-    word.iter().all(|byte| byte.is_ascii_hexdigit())
-}
+use gba_text::{are_digits, are_hex_digits, ascii_text};
 
 #[tactic(auto, unfolding(crate::specs::Numbers::decimal_of))]
 fn decimal_in(word: &[u8]) -> Option<u32>

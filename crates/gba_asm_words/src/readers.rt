@@ -1,7 +1,8 @@
 //! The readers of tokens. A refused call leaves the tokens anywhere.
 
 ghost use Rattle.std.specs.Prelude.{◌≡◌, ◌<◌, true, IfOk, option_map};
-ghost use Rattle.gba_asm_words.specs.Readers.{Agrees, Takes, after_mark, begins, end_at, immediate_at, mark_at, next_immediate_at, next_register_at, number_at, register_at, target_at, target_of, target_value, word_at};
+ghost use Rattle.gba_text.specs.Answers.{Agrees, Takes};
+ghost use Rattle.gba_asm_words.specs.Readers.{after_mark, begins, end_at, immediate_at, mark_at, next_immediate_at, next_register_at, number_at, register_at, target_at, target_of, target_value, word_at};
 
 use crate::kinds::AsmKind;
 use crate::numbers::number_in;

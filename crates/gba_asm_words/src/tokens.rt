@@ -7,10 +7,8 @@ ghost use Rattle.gba_asm_words.specs.Readers.{after_mark, begins, first_token, o
 ghost use Rattle.gba_asm_words.specs.Tokens.{code_of as code_of_line, fault_of, is_mark as is_mark_of, is_source_byte as is_source_byte_of, is_word_byte as is_word_byte_of, no_semicolon, token_value, tokens};
 
 use crate::kinds::AsmKind;
+use gba_text::{LONGEST_LINE, is_blank};
 use std::marker::Model;
-
-/// The most bytes of a line.
-const LONGEST_LINE: usize = 400;
 
 /// A token of a line.
 #[derive(Clone, Copy, Debug, PartialEq, Eq)]
@@ -34,12 +32,6 @@ impl<'a> Model for Tokens<'a> {
     ghost Value = { List Token };
 
     ghost view = { λ t. tokens t.left.now };
-}
-
-fn is_blank(byte: u8) -> bool
-    ensures { result ≡ is_blank_of byte }
-{
-    byte == b' ' || byte == b'\t'
 }
 
 fn is_word_byte(byte: u8) -> bool

@@ -1,11 +1,9 @@
 use Rattle.std.specs.Prelude.{ℕ, List, ◌++◌, codes, decimal}
 use Rattle.hex.specs.Hex.{encode_lower}
-use Rattle.gba_asm_words.specs.Kinds.{kind_name as asm_kind_name}
-use Rattle.gba_asm_words.specs.declared.kinds.AsmError.{AsmError}
+use Rattle.gba_asm_words.specs.Kinds.{AsmError, kind_name as asm_kind_name}
 use Rattle.gba_image.specs.Names.{error_name}
 use Rattle.gba_image.specs.declared.error.ImageError.{ImageError}
-use Rattle.gba_joblog.specs.Kinds.{kind_name}
-use Rattle.gba_joblog.specs.declared.kinds.JobError.{JobError}
+use Rattle.gba_joblog.specs.Kinds.{JobError, kind_name}
 
 -- why a command is refused, as its words and the files say
 pub data Cause : Type 0 where

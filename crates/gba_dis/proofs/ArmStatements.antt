@@ -20,8 +20,9 @@ use Rattle.gba_arm_table.specs.declared.operation.Source.TheVariants as source
 use Rattle.gba_arm_table.specs.declared.operation.TransferOffset.{TransferOffset}
 use Rattle.gba_arm_table.specs.declared.operation.TransferOffset.TheVariants as transfer_offset
 use Rattle.gba_arm_table.specs.Limits.{Within, operand_immediates, operand_registers, transfer_immediates, transfer_offsets, transfer_registers}
+use Rattle.gba_text.specs.Steps.{taken}
 use Rattle.gba_asm_words.specs.declared.kinds.AsmKind.{AsmKind}
-use Rattle.gba_asm_words.specs.Readers.{Address, taken, begins}
+use Rattle.gba_asm_words.specs.Readers.{Address, begins}
 use Rattle.gba_asm_words.specs.Tokens.{Token, Word, Mark}
 use Rattle.gba_asm_arm.specs.Forms.{accumulate_form, block_form, branch_form, compare_form, compute_form, exchange_form, half_form, interrupt_form, long_form, move_form, multiply_form, read_status_form, swap_form, three_form, transfer_form, write_status_form}
 use Rattle.gba_asm_arm.specs.Operands.{amount_from_0, amount_from_1, amount_of, immediate_operand, immediate_source, least_turn, next_second_at, register_operand, saved_at, saved_of, second_at, shift_name_at, shift_name_of, shifted_as, shifted_by, source_at}

@@ -16,7 +16,8 @@ use Rattle.gba_arm_table.specs.declared.operation.TransferOffset.{TransferOffset
 use Rattle.gba_arm_table.specs.declared.operation.TransferOffset.TheVariants as transfer_offset
 use Rattle.gba_arm_table.specs.Limits as limits
 use Rattle.gba_arm_table.specs.Limits.{Within, half_offsets, half_registers, source_immediates, source_registers, transfer_immediates, transfer_offsets, transfer_registers}
-use Rattle.gba_asm_words.specs.Readers.{Address, taken, begins}
+use Rattle.gba_text.specs.Steps.{taken}
+use Rattle.gba_asm_words.specs.Readers.{Address, begins}
 use Rattle.gba_asm_words.specs.Tokens.{Token, Word, Mark}
 use Rattle.gba_asm_arm.specs.Forms.{access_form, block_form, branch_form, half_form, transfer_form, write_status_form}
 use Rattle.gba_asm_arm.specs.Operands.{amount_of, fields_of, immediate_source, least_turn, saved_of, shift_name_at, shift_name_of, source_at, status_at, status_of}

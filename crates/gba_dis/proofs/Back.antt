@@ -21,7 +21,7 @@ use Rattle.gba_asm.specs.Assembly.{assembly_of, lone_bytes}
 use Rattle.gba_asm.specs.Language.{Says}
 use Rattle.gba_asm.specs.Statements.{label_of}
 use Rattle.gba_asm.proofs.Lone.{AreLone, IsLone, lone, lone_arm, lone_thumb}
-use Rattle.gba_asm.proofs.Relation.{says}
+use Rattle.gba_asm.proofs.Passes.{says}
 use Rattle.gba_dis.specs.declared.units.Set.{Set}
 use Rattle.gba_dis.specs.declared.units.Set.TheVariants.{Arm, Thumb}
 use Rattle.gba_dis.specs.declared.units.Unit.{Unit}

@@ -4,9 +4,10 @@ use Rattle.std.specs.Str.Parse.{digits_value}
 use Rattle.std.proofs.Math.Nat.{mod-eq_of_lt}
 use Rattle.std.proofs.lemmas.Bool.Decides.{nat_tests}
 use Rattle.gba_terms.specs.Hexadecimal.{hex}
+use Rattle.gba_text.specs.Steps.{taken}
 use Rattle.gba_asm_words.specs.Names.{high_register_of, low_register_of, register_of}
 use Rattle.gba_asm_words.specs.Numbers.{hexadecimal_of, number_of}
-use Rattle.gba_asm_words.specs.Readers.{Address, immediate_at, next_register_at, number_at, register_at, taken, target_at, target_of}
+use Rattle.gba_asm_words.specs.Readers.{Address, immediate_at, next_register_at, number_at, register_at, target_at, target_of}
 use Rattle.gba_asm_words.specs.Tokens.{Token, Word, Mark}
 use Rattle.gba_asm_thumb.specs.Forms.{low_register_at, next_low_register_at}
 use Rattle.gba_dis.specs.Pieces.{digit_count, digits_text, number_text, register_name}

@@ -4,8 +4,8 @@ use Rattle.std.proofs.lemmas.List.{append-nil}
 use Rattle.std.proofs.lemmas.Bool.Decides.{nat_tests}
 use Rattle.gba_terms.specs.Bits.{bit}
 use Rattle.gba_thumb_table.specs.declared.operation.ThumbOp.TheVariants.{Format14, Format15}
+use Rattle.gba_text.specs.Steps.{taken}
 use Rattle.gba_asm_words.specs.Lists.{list_at}
-use Rattle.gba_asm_words.specs.Readers.{taken}
 use Rattle.gba_asm_words.specs.Tokens.{Token, Word}
 use Rattle.gba_asm_words.specs.Tokens as token
 use Rattle.gba_asm_words.proofs.SpelledLists.{list_spelled, listed}

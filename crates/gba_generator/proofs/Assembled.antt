@@ -5,12 +5,12 @@ use Rattle.std.proofs.lemmas.Bool.Decides.{nat_tests}
 use Rattle.std.proofs.lemmas.List.{length-replicate, take_all}
 use Rattle.gba_image.specs.Checks.{bios_fault}
 use Rattle.gba_image.specs.declared.error.ImageError.{ImageError}
+use Rattle.gba_text.specs.Languages.{lines_say}
 use Rattle.gba_text.specs.Lines.{lines}
-use Rattle.gba_asm.specs.Assembly.{assembly_of, longest_source}
-use Rattle.gba_asm.specs.Language.{Says}
-use Rattle.gba_asm.specs.Places.{labels_of, no_labels}
-use Rattle.gba_asm.proofs.Relation.{one}
-use Rattle.gba_asm_words.specs.declared.kinds.AsmError.{AsmError}
+use Rattle.gba_text.proofs.Languages.{answer_of-lines}
+use Rattle.gba_asm.specs.Assembly.{Given, assembly_of, longest_source, sources}
+use Rattle.gba_asm.specs.Places.{Labels, labels_of, no_labels, start}
+use Rattle.gba_asm_words.specs.Kinds.{AsmError}
 use Rattle.gba_generator.specs.Law.{IsCode}
 use Rattle.gba_generator.specs.Source.{bios, bios_length, code, code_in, program, seed, source}
 use Rattle.gba_generator.proofs.ProgramRows.{program-rows, program_rows}
@@ -40,19 +40,26 @@ unfolding labels_of
 all-labels n ds small is =
     rw (all-lines n ds is) (rows-labels no_labels 0 0 (all_rows n ds) (all-rows n ds small is))
 
-says : (n : ℕ) (ds : List ℕ) → n < 2 ^ 32 → IsNumeral n ds → Says (text ds) (Ok (bytes_in (all_rows n ds)))
-says n ds small is =
+short : (n : ℕ) (ds : List ℕ) → IsNumeral n ds → length (text ds) ≤ longest_source
+short n ds is =
     let tail : length (codes "seed:   .word " ++ (ds ++ codes "\n")) ≡ 14 + (length ds + 1) =
     length-append (codes "seed:   .word ") (ds ++ codes "\n") ∙ ap (λ k. 14 + k) (length-append ds (codes "\n")) in
     let front : length program ≡ 579 = refl in
     let long : length (text ds) ≡ 579 + (14 + (length ds + 1)) =
     length-append program (codes "seed:   .word " ++ (ds ++ codes "\n")) ∙ ap (λ k. length program + k) tail
     ∙ ap (λ k. k + (14 + (length ds + 1))) front in
-    let short : length (text ds) ≤ longest_source = omega (arith, long, is.few) in
-    (short, rw (all-labels n ds small is, all-lines n ds is) (rows-give 0 0 (all_rows n ds) (all-rows n ds small is)))
+    omega (arith, long, is.few)
+
+abbrev begun : Given
+begun = record { bytes = []; place = start }
 
 assembles : (n : ℕ) (ds : List ℕ) → n < 2 ^ 32 → IsNumeral n ds → assembly_of (text ds) ≡ Ok (bytes_in (all_rows n ds))
-assembles n ds small is = sym (one (text ds) (Ok (bytes_in (all_rows n ds))) (says n ds small is))
+unfolding assembly_of
+assembles n ds small is =
+    answer_of-lines (sources (labels_of (text ds))) (text ds) (Ok (bytes_in (all_rows n ds))) (short n ds is)
+    (ap (λ (f : Labels). lines_say (sources f) 0 begun (lines (text ds))) (all-labels n ds small is)
+    ∙ ap (λ (ls : List (List ℕ)). lines_say (sources known) 0 begun ls) (all-lines n ds is)
+    ∙ rows-give 0 0 [] (all_rows n ds) (all-rows n ds small is))
 
 code-is : (number player : ℕ) → code number player ≡ bytes_in (all_rows (seed number player) (decimal (seed number player)))
 unfolding code

@@ -1,8 +1,11 @@
 -- Lines of words that stand one after another, and what the assembler makes of them.
-use Rattle.std.proofs.Common.{◌≡◌, ℕ, ◌+◌, false, List, [], ◌∷◌, ◌++◌, map, codes, Option, Some, None, Ok, refl, ap, ◌∙◌}
+use Rattle.std.proofs.Common.{◌≡◌, ℕ, ◌+◌, false, List, [], ◌∷◌, ◌++◌, map, codes, Option, Some, None, Ok, refl, sym, ap, ◌∙◌, append_assoc}
+use Rattle.std.proofs.lemmas.List.{append-nil}
 use Rattle.std.specs.Int.{w32, to_le_bytes}
-use Rattle.gba_asm.specs.Assembly.{line_bytes}
-use Rattle.gba_asm.specs.Language.{Give}
+use Rattle.gba_text.specs.Languages.{lines_say}
+use Rattle.gba_text.proofs.Languages.{lines_say-end, lines_say-more}
+use Rattle.gba_asm.specs.Assembly.{line_bytes, sources}
+use Rattle.gba_asm.proofs.Passes.{given_line}
 use Rattle.gba_asm.specs.Places.{Labels, labels_from, no_labels, place_after, with_label}
 use Rattle.gba_asm.specs.Statements.{label_of}
 
@@ -64,9 +67,14 @@ rows-labels labels number address (row ∷ rows) are =
     ∙ ap (λ p. labels_from (with_label (number + 1) address row.label labels) (number + 1) p (map line_in rows)) are.0.place
     ∙ rows-labels (with_label (number + 1) address row.label labels) (number + 1) (address + 4) rows are.1
 
-pub rows-give : (number address : ℕ) (rows : List Row) → AreRows number address rows
-    → Give known number (record { address = address; thumb = false }) (map line_in rows) (bytes_in rows)
-unfolding Give
-rows-give number address [] are = refl
-rows-give number address (row ∷ rows) are =
-    (row.bytes, bytes_in rows, are.0.bytes, rw are.0.place (rows-give (number + 1) (address + 4) rows are.1), refl)
+pub rows-give : (number address : ℕ) (before : List ℕ) (rows : List Row) → AreRows number address rows
+    → lines_say (sources known) number (record { bytes = before; place = record { address = address; thumb = false } }) (map line_in rows)
+    ≡ Ok (before ++ bytes_in rows)
+rows-give number address before [] are = lines_say-end (sources known) number _ ∙ ap Ok (sym (append-nil before))
+rows-give number address before (row ∷ rows) are =
+    let step = given_line known (number + 1) before row.bytes (record { address = address; thumb = false })
+    (record { address = address + 4; thumb = false }) row.line are.0.bytes are.0.place in
+    lines_say-more (sources known) number (record { bytes = before; place = record { address = address; thumb = false } })
+    row.line (map line_in rows) _ step
+    ∙ rows-give (number + 1) (address + 4) (before ++ row.bytes) rows are.1
+    ∙ ap Ok (append_assoc before row.bytes (bytes_in rows))

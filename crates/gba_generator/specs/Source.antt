@@ -1,7 +1,7 @@
 -- The BIOS images that are made of a number. This project's profile.
 use Rattle.std.specs.Prelude.{ℕ, ◌+◌, ◌-◌, ◌*◌, ◌%◌, ◌^◌, List, [], ◌++◌, length, replicate, codes, decimal, Result, Ok, Err}
 use Rattle.gba_asm.specs.Assembly.{assembly_of}
-use Rattle.gba_asm_words.specs.declared.kinds.AsmError.{AsmError}
+use Rattle.gba_asm_words.specs.Kinds.{AsmError}
 
 -- the first number of a player's sequence
 abbrev pub seed : ℕ → ℕ → ℕ

@@ -7,7 +7,7 @@ use Rattle.gba_command.specs.Reading.{GoesTo}
 use Rattle.gba_command.specs.Views.{Agrees, end_of}
 use Rattle.gba_command.specs.declared.refusal.Refusal.{Refusal}
 use Rattle.gba_command.proofs.Plans.{goes-judged, goes-stop, goes-then}
-use Rattle.gba_joblog.specs.Files.{error_at}
+use Rattle.gba_text.specs.Languages.{error_at}
 use Rattle.gba_joblog.specs.Job.{NamedFile}
 use Rattle.gba_joblog.specs.KeyFile.{longest_keys}
 use Rattle.gba_joblog.specs.declared.job.KeyChange.{KeyChange}

@@ -11,6 +11,7 @@ use Rattle.gba_store.specs.Files.{Files}
 use Rattle.gba_command.specs.Cause.{Cause}
 use Rattle.gba_command.specs.Plan.{each, judgement, outcome}
 use Rattle.gba_command.proofs.Comes.{file-ok, file-reads, outcome-done, outcome-parts, outcome-then}
+use Rattle.gba_text.proofs.Steps.{ok-is, some-is}
 use Rattle.gba_joblog.specs.Job.{ConsoleJob, NamedFile, WholeJob}
 use Rattle.gba_joblog.specs.Log.{any_file_text, console_text, consoles_text, log_text}
 use Rattle.gba_joblog.specs.LogLaw.{unlined_console, unlined_file, without_key_file}
@@ -19,7 +20,6 @@ use Rattle.gba_joblog.specs.declared.job.KeyChange.{KeyChange}
 use Rattle.gba_joblog.specs.declared.job.OutLine.{OutLine}
 use Rattle.gba_joblog.specs.declared.outputs.PerKind.{PerKind}
 use Rattle.gba_joblog.proofs.LogAgain.{job-again}
-use Rattle.gba_joblog.proofs.Steps.{ok-is, some-is}
 use Rattle.gba_inputs.specs.Filled.{any_with_digest, filled_console, filled_consoles, log_job, with_digest, with_outputs}
 use Rattle.gba_inputs.specs.Inputs.{ConsoleInputs, DigestedImage, digested}
 use Rattle.gba_inputs.specs.InputsPlan.{ImageForm, accepted, after_bios, after_cart, after_keys, after_save, any_cart_plan, any_image_plan, any_keys_plan, any_save_plan, bios_form, bios_plan, cart_form, console_plan, digest_of, found, image_plan, inputs_of, inputs_plan, judged_image, save_form}

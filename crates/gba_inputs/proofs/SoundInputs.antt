@@ -14,14 +14,14 @@ use Rattle.gba_command.specs.Views.{end_of}
 use Rattle.gba_command.specs.declared.refusal.Refusal.{Refusal}
 use Rattle.gba_store.specs.declared.outside.ReadError.{ReadError}
 use Rattle.gba_image.specs.declared.error.ImageError.{ImageError}
+use Rattle.gba_joblog.specs.Kinds.{JobError}
+use Rattle.gba_text.proofs.Steps.{ok-is}
 use Rattle.gba_joblog.specs.Job.{ConsoleJob, NamedFile, WholeJob}
 use Rattle.gba_joblog.specs.KeyFile.{keys_of}
 use Rattle.gba_joblog.specs.Soundness.{AreChanges, IsConsole, IsFile, IsJob}
 use Rattle.gba_joblog.specs.declared.job.KeyChange.{KeyChange}
-use Rattle.gba_joblog.specs.declared.kinds.JobError.{JobError}
 use Rattle.gba_joblog.proofs.Digests.{IsDigest-sha256}
 use Rattle.gba_joblog.proofs.SoundChanges.{keys-sound}
-use Rattle.gba_joblog.proofs.Steps.{ok-is}
 use Rattle.gba_inputs.specs.Filled.{any_with_digest, filled, filled_console, filled_consoles}
 use Rattle.gba_inputs.specs.Inputs.{ConsoleInputs, DigestedImage, digested}
 use Rattle.gba_inputs.specs.InputsPlan.{ImageForm, accepted, after_bios, after_cart, after_digest, after_keys, after_save, any_cart_plan, any_keys_plan, any_save_plan, bios_form, bios_plan, cart_form, compared, console_plan, digest_of, found, image_of, image_plan, inputs_of, inputs_plan, judged_image, judged_keys, keys_or_fault, keys_or_refusal, save_form, unless_fault}

@@ -7,11 +7,11 @@ use Rattle.gba_command.specs.Plan.{Plan, Done, bind, each, file, judgement}
 use Rattle.gba_image.specs.Checks.{bios_fault, cartridge_fault, save_fault}
 use Rattle.gba_image.specs.declared.error.ImageError.{ImageError}
 use Rattle.gba_image.specs.declared.error.ImageError.TheVariants.{BiosLength, TooLong, SaveLength}
-use Rattle.gba_joblog.specs.Files.{error_at}
+use Rattle.gba_joblog.specs.Kinds.{JobError}
+use Rattle.gba_text.specs.Languages.{error_at}
 use Rattle.gba_joblog.specs.Job.{ConsoleJob, NamedFile}
 use Rattle.gba_joblog.specs.KeyFile.{keys_of, longest_keys}
 use Rattle.gba_joblog.specs.declared.job.KeyChange.{KeyChange}
-use Rattle.gba_joblog.specs.declared.kinds.JobError.{JobError}
 use Rattle.gba_joblog.specs.declared.kinds.JobKind.TheVariants.{Long}
 use Rattle.gba_inputs.specs.Inputs.{ConsoleInputs, DigestedImage, digested}
 

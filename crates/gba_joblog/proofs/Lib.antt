@@ -1,9 +1,7 @@
 pub mod Digests
 pub mod EachKind
 pub mod NameTexts
-pub mod Reading
 pub mod OutputNames
-pub mod Relation
 pub mod Steps
 pub mod SoundChanges
 pub mod Sound

@@ -5,8 +5,9 @@ use Rattle.std.specs.List.{All}
 use Rattle.std.proofs.lemmas.List.{append-nil, append_assoc, length-append, map-append}
 use Rattle.std.proofs.lemmas.List.Elements.{All-head, All-tail}
 use Rattle.gba_text.specs.Lines.{lines}
+use Rattle.gba_text.proofs.Languages.{answer_of-lines, leads_none, led}
+use Rattle.gba_text.specs.Languages.{Leads}
 use Rattle.gba_joblog.specs.Draft.{Draft, nothing_said, silent_console}
-use Rattle.gba_joblog.specs.Files.{Leads}
 use Rattle.gba_joblog.specs.Job.{ConsoleJob, WholeJob}
 use Rattle.gba_joblog.specs.Language.{job_at_end, job_of, jobs, words_say}
 use Rattle.gba_joblog.specs.Log.{changes_text, console_text, consoles_text, files_text, line_of, log_text, outs_text}
@@ -17,8 +18,6 @@ use Rattle.gba_joblog.specs.declared.draft.Place.TheVariants.{Ended, Head}
 use Rattle.gba_joblog.proofs.LogLines.{Reads, head, inside, line-reads, number-line, reads-nothing, reads-then}
 use Rattle.gba_joblog.proofs.LogLength.{log-short}
 use Rattle.gba_joblog.proofs.LogParts.{as_draft, body-read}
-use Rattle.gba_joblog.proofs.Reading.{answer_of-lines}
-use Rattle.gba_joblog.proofs.Relation.{leads_none, led}
 use Rattle.gba_joblog.proofs.Spelling.{IsLine, are_more, are_none}
 use Rattle.gba_joblog.proofs.SpelledValues.{number-again, player-again, version-again}
 

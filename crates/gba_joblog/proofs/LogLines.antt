@@ -5,17 +5,18 @@ use Rattle.std.proofs.lemmas.List.{append_assoc, length-append}
 use Rattle.gba_text.specs.Lines.{lines}
 use Rattle.gba_text.specs.Words.{words}
 use Rattle.hex.specs.Hex.{encode_lower}
+use Rattle.gba_text.proofs.Languages.{leads_more}
+use Rattle.gba_text.specs.Languages.{Leads}
+use Rattle.gba_text.specs.Steps.{◌>>=◌}
 use Rattle.gba_joblog.specs.Digests.{IsDigest}
 use Rattle.gba_joblog.specs.Draft.{Draft, DraftConsole, silent_console}
-use Rattle.gba_joblog.specs.Files.{Leads, is_comment}
+use Rattle.gba_joblog.specs.Lines.{is_comment}
 use Rattle.gba_joblog.specs.Job.{ConsoleJob}
-use Rattle.gba_joblog.specs.Kinds.{◌>>=◌}
 use Rattle.gba_joblog.specs.Language.{jobs, line_says, said_with, words_say, words_say_if, plus_statement_if}
 use Rattle.gba_joblog.specs.Log.{digest_words, line_of}
 use Rattle.gba_joblog.specs.Operands.{Words}
 use Rattle.gba_joblog.specs.Statements.{Statement, plus_statement}
 use Rattle.gba_joblog.specs.declared.draft.Place.TheVariants.{Head, Inside}
-use Rattle.gba_joblog.proofs.Relation.{leads_more}
 use Rattle.gba_joblog.proofs.Spelling.{IsLine, IsWord, are_more, are_none, is_said-line, line_of-spaced, lines-first, spaced, text-line, words-line}
 use Rattle.gba_joblog.proofs.SpelledValues.{AreWords-digest, IsWord-decimal, decimal-short, digits-long}
 

@@ -8,7 +8,7 @@ use Rattle.std.proofs.lemmas.List.{append-nil, append_assoc, get_or_append_left,
 use Rattle.gba_joblog.specs.Changes.{change_at, least_clock, most_changes}
 use Rattle.gba_joblog.specs.Digests.{IsDigest}
 use Rattle.gba_joblog.specs.Draft.{DraftConsole}
-use Rattle.gba_joblog.specs.Files.{is_comment}
+use Rattle.gba_joblog.specs.Lines.{is_comment}
 use Rattle.gba_joblog.specs.Job.{ConsoleJob, NamedFile}
 use Rattle.gba_joblog.specs.Language.{words_say}
 use Rattle.gba_joblog.specs.Log.{any_file_text, asked_text, change_text, changes_text, digest_words, file_text, files_text, keys_word, out_text, outs_text}

@@ -7,15 +7,19 @@ use Rattle.std.proofs.lemmas.List.Elements.{All-nil, All-push}
 use Rattle.std.proofs.lemmas.Bool.{false≢true}
 use Rattle.gba_text.specs.Lines.{lines}
 use Rattle.gba_text.specs.Words.{words}
-use Rattle.gba_joblog.specs.Answers.{Parses}
+use Rattle.gba_text.proofs.Languages.{says}
+use Rattle.gba_text.proofs.Steps.{bind-ok, ok-is, some-is, held-true, or_refused-some}
+use Rattle.gba_text.specs.Answers.{Parses}
+use Rattle.gba_text.specs.Languages.{Leads, EndsIn}
+use Rattle.gba_text.specs.Steps.{◌>>=◌, holds, Taken}
+use Rattle.gba_joblog.specs.Answers.{line_error}
 use Rattle.gba_joblog.specs.Changes.{change_at}
 use Rattle.gba_joblog.specs.Draft.{Draft, DraftConsole, nothing_said, silent_console, with_image}
-use Rattle.gba_joblog.specs.Files.{Leads, EndsIn, is_said}
+use Rattle.gba_joblog.specs.Lines.{is_said}
 use Rattle.gba_joblog.specs.Job.{ConsoleJob, NamedFile, WholeJob}
-use Rattle.gba_joblog.specs.Kinds.{◌>>=◌, holds}
 use Rattle.gba_joblog.specs.Language.{jobs, line_says, said_with, words_say, words_say_if, keyword_says, statement_of, unless_ended, plus_statement_if, job_at_end, job_at_place, job_with, job_of, usual_delay}
 use Rattle.gba_joblog.specs.Names.{is_name}
-use Rattle.gba_joblog.specs.Operands.{Words, Taken, word_at, number_at, name_in, name_of, name_at, digest_at, player_at, version_at, out_kind_at, end_at}
+use Rattle.gba_joblog.specs.Operands.{Words, word_at, number_at, name_in, name_of, name_at, digest_at, player_at, version_at, out_kind_at, end_at}
 use Rattle.gba_joblog.specs.Outputs.{EachKind, at_kind}
 use Rattle.gba_joblog.specs.Soundness.{AreConsoleLines, IsFile, IsOutput, IsPartOfConsole, IsConsole, IsJob}
 use Rattle.gba_joblog.specs.Statements.{Statement, and_whole, Version, Cycles, Delay, Console, File, Key, Out, End, keyword_of, refusal_at, file_refusal, without_changes, without_file, once, arguments, plus_statement, at_start, in_console, has_image, next_player, whole_consoles, named_file, asked_output, with_file}
@@ -33,9 +37,8 @@ use Rattle.gba_joblog.specs.declared.outputs.OutKind.TheVariants as output
 use Rattle.gba_joblog.specs.declared.statement.Keyword.{Keyword}
 use Rattle.gba_joblog.specs.declared.statement.Keyword.TheVariants as keyword
 use Rattle.gba_joblog.proofs.EachKind.{put-holds}
-use Rattle.gba_joblog.proofs.Relation.{says}
 use Rattle.gba_joblog.proofs.SoundChanges.{none, change_at-keeps}
-use Rattle.gba_joblog.proofs.Steps.{bind-ok, ok-is, some-is, held-true, error_at-some, number_at-range, player_at-is, digest_at-is}
+use Rattle.gba_joblog.proofs.Steps.{number_at-range, player_at-is, digest_at-is}
 
 abbrev pub InRange : ℕ → Type 0
 InRange cycles = (1 ≤ cycles) × (cycles ≤ 2 ^ 31)
@@ -106,11 +109,11 @@ name-is word name h = by_test (is_name word) refl h where
   by_test true e s = let same : word ≡ name = cc in rw (← same) e
   by_test false e s = absurd cc
 
-name_at-is : (ws : Words) (t : Taken (List ℕ)) → name_at ws ≡ Ok t → is_name t.value ≡ true
+name_at-is : (ws : Words) (t : Taken Words (List ℕ)) → name_at ws ≡ Ok t → is_name t.value ≡ true
 unfolding name_at
 name_at-is ws t h =
     let b = bind-ok (word_at ws) name_in t h in
-    name-is b.0.value t.value (error_at-some _ _ (name_of b.0.value) t b.2)
+    name-is b.0.value t.value (or_refused-some _ _ (name_of b.0.value) t b.2)
 
 with_file-keeps : (f : FileKind) (named : NamedFile) (c : DraftConsole) → IsFile named → IsPartOfConsole c
     → file_refusal f c ≡ None → IsPartOfConsole (with_file f named c)
@@ -190,31 +193,31 @@ keeps : (n : ℕ) (d : Draft) (k : Keyword) (ws : Words) (s : Statement) → IsD
     → arguments d k ws ≡ Ok s → IsDraft (plus_statement n s d)
 unfolding refusal_at arguments plus_statement
 keeps n d keyword.Version ws s h place e =
-    let b = bind-ok (version_at ws) (λ version. end_at version.words >>= (λ _. Ok Version)) s e in
-    let c = bind-ok (end_at b.0.words) (λ _. Ok Version) s b.2 in
+    let b = bind-ok (version_at ws) (λ version. end_at version.left >>= (λ _. Ok Version)) s e in
+    let c = bind-ok (end_at b.0.left) (λ _. Ok Version) s b.2 in
     let same : s ≡ Version = sym (ok-is Version s c.2) in
     let here : d.place ≡ Start = starts d.place place in
     let none : length d.consoles ≡ 0 = rw here at h.count in
     rw same (record { cycles = h.cycles; delay = h.delay; last = h.last; each = h.each; count = none })
 keeps n d keyword.Cycles ws s h place e =
-    let b = bind-ok (number_at 1 (2 ^ 31) ws) (λ cycles. end_at cycles.words >>= (λ _. Ok (Cycles cycles.value))) s e in
-    let c = bind-ok (end_at b.0.words) (λ _. Ok (Cycles b.0.value)) s b.2 in
+    let b = bind-ok (number_at 1 (2 ^ 31) ws) (λ cycles. end_at cycles.left >>= (λ _. Ok (Cycles cycles.value))) s e in
+    let c = bind-ok (end_at b.0.left) (λ _. Ok (Cycles b.0.value)) s b.2 in
     let same : s ≡ Cycles b.0.value = sym (ok-is (Cycles b.0.value) s c.2) in
     let range = number_at-range 1 (2 ^ 31) ws b.0 b.1 in
     rw same (record { cycles = range; delay = h.delay; last = h.last; each = h.each; count = h.count })
 keeps n d keyword.Delay ws s h place e =
-    let b = bind-ok (number_at 1 1024 ws) (λ delay. end_at delay.words >>= (λ _. Ok (Delay delay.value))) s e in
-    let c = bind-ok (end_at b.0.words) (λ _. Ok (Delay b.0.value)) s b.2 in
+    let b = bind-ok (number_at 1 1024 ws) (λ delay. end_at delay.left >>= (λ _. Ok (Delay delay.value))) s e in
+    let c = bind-ok (end_at b.0.left) (λ _. Ok (Delay b.0.value)) s b.2 in
     let same : s ≡ Delay b.0.value = sym (ok-is (Delay b.0.value) s c.2) in
     let range = number_at-range 1 1024 ws b.0 b.1 in
     rw same (record { cycles = h.cycles; delay = range; last = h.last; each = h.each; count = h.count })
 keeps n d keyword.Console ws s h place e =
     let b = bind-ok (player_at (next_player d.place (length d.consoles)) ws)
-    (λ player. holds (has_image d.place d.last) Missing >>= (λ _. end_at player.words >>= (λ _. Ok
+    (λ player. holds (has_image d.place d.last) Missing >>= (λ _. end_at player.left >>= (λ _. Ok
     (Console player.value)))) s e in
-    let c = bind-ok (holds (has_image d.place d.last) Missing) (λ _. end_at b.0.words >>= (λ _. Ok
+    let c = bind-ok (holds (has_image d.place d.last) Missing) (λ _. end_at b.0.left >>= (λ _. Ok
     (Console b.0.value))) s b.2 in
-    let f = bind-ok (end_at b.0.words) (λ _. Ok (Console b.0.value)) s c.2 in
+    let f = bind-ok (end_at b.0.left) (λ _. Ok (Console b.0.value)) s c.2 in
     let same : s ≡ Console b.0.value = sym (ok-is (Console b.0.value) s f.2) in
     let image : has_image d.place d.last ≡ true = held-true (has_image d.place d.last) Missing c.0 c.1 in
     let few = player_at-is (next_player d.place (length d.consoles)) ws b.0 b.1 in
@@ -227,13 +230,13 @@ keeps n d keyword.Console ws s h place e =
     })
 keeps n d (keyword.File f) ws s h place e =
     let b = bind-ok (name_at ws)
-    (λ name. digest_at name.words >>= (λ digest. end_at digest.words >>= (λ _. Ok (File f name.value digest.value)))) s e in
-    let c = bind-ok (digest_at b.0.words) (λ digest. end_at digest.words >>= (λ _. Ok
+    (λ name. digest_at name.left >>= (λ digest. end_at digest.left >>= (λ _. Ok (File f name.value digest.value)))) s e in
+    let c = bind-ok (digest_at b.0.left) (λ digest. end_at digest.left >>= (λ _. Ok
     (File f b.0.value digest.value))) s b.2 in
-    let g = bind-ok (end_at c.0.words) (λ _. Ok (File f b.0.value c.0.value)) s c.2 in
+    let g = bind-ok (end_at c.0.left) (λ _. Ok (File f b.0.value c.0.value)) s c.2 in
     let same : s ≡ File f b.0.value c.0.value = sym (ok-is (File f b.0.value c.0.value) s g.2) in
     let is : IsFile (named_file b.0.value c.0.value n) =
-    record { named = name_at-is ws b.0 b.1; stated = digest_at-is b.0.words c.0 c.1 } in
+    record { named = name_at-is ws b.0 b.1; stated = digest_at-is b.0.left c.0 c.1 } in
     rw same (record {
       cycles = h.cycles;
       delay = h.delay;
@@ -266,13 +269,13 @@ keeps n d keyword.Key ws s h place e =
     })
 keeps n d keyword.Out ws s h place e =
     let b = bind-ok (out_kind_at ws)
-    (λ out. holds (not (is_some (at_kind d.last.outs out.value))) Repeated >>= (λ _. digest_at out.words >>= (λ digest. end_at
-    digest.words >>= (λ _. Ok (Out out.value digest.value))))) s e in
-    let c = bind-ok (holds (not (is_some (at_kind d.last.outs b.0.value))) Repeated) (λ _. digest_at b.0.words >>= (λ digest. end_at
-    digest.words >>= (λ _. Ok (Out b.0.value digest.value)))) s b.2 in
-    let g = bind-ok (digest_at b.0.words) (λ digest. end_at digest.words >>= (λ _. Ok
+    (λ out. holds (not (is_some (at_kind d.last.outs out.value))) Repeated >>= (λ _. digest_at out.left >>= (λ digest. end_at
+    digest.left >>= (λ _. Ok (Out out.value digest.value))))) s e in
+    let c = bind-ok (holds (not (is_some (at_kind d.last.outs b.0.value))) Repeated) (λ _. digest_at b.0.left >>= (λ digest. end_at
+    digest.left >>= (λ _. Ok (Out b.0.value digest.value)))) s b.2 in
+    let g = bind-ok (digest_at b.0.left) (λ digest. end_at digest.left >>= (λ _. Ok
     (Out b.0.value digest.value))) s c.2 in
-    let f = bind-ok (end_at g.0.words) (λ _. Ok (Out b.0.value g.0.value)) s g.2 in
+    let f = bind-ok (end_at g.0.left) (λ _. Ok (Out b.0.value g.0.value)) s g.2 in
     let same : s ≡ Out b.0.value g.0.value = sym {a = Out b.0.value g.0.value} (ok-is (Out b.0.value g.0.value) s f.2) in
     let asked : OutLine = asked_output g.0.value in
     rw same (record {
@@ -286,7 +289,7 @@ keeps n d keyword.Out ws s h place e =
           keys = h.last.lines.keys;
           changes = h.last.lines.changes;
           apart = h.last.lines.apart;
-          outs = put-holds IsOutput b.0.value (Some asked) d.last.outs (digest_at-is b.0.words g.0 g.1) h.last.lines.outs;
+          outs = put-holds IsOutput b.0.value (Some asked) d.last.outs (digest_at-is b.0.left g.0 g.1) h.last.lines.outs;
         };
       };
       each = h.each;
@@ -334,9 +337,9 @@ by_keyword d ws s (Some k) h = by_place d k ws s (refusal_at d k) refl h
 
 by_words : (d : Draft) (ws : Words) (s : Statement) → words_say d ws ≡ Ok (Some s) → IsStatement d s
 by_words d ws s h =
-    let b = bind-ok (word_at ws) (λ word. unless_ended d.place (keyword_says d word.words (keyword_of word.value)))
+    let b = bind-ok (word_at ws) (λ word. unless_ended d.place (keyword_says d word.left (keyword_of word.value)))
     (Some s) h in
-    by_keyword d b.0.words s (keyword_of b.0.value) (not-ended d.place (keyword_says d b.0.words
+    by_keyword d b.0.left s (keyword_of b.0.value) (not-ended d.place (keyword_says d b.0.left
     (keyword_of b.0.value)) s b.2)
 
 by_said : (d : Draft) (ws : Words) (s : Statement) (said : Bool) → words_say_if d ws said ≡ Ok (Some s)
@@ -409,6 +412,6 @@ sound bytes job h =
     (lines bytes) begins ends.leads) ends.end
 
 pub is_sound : {X : Type 0} (view : X → WholeJob) (bytes : List ℕ) (answer : Result X ParseRefused)
-    → Parses view answer (job_of bytes) → IfOk answer (λ x. IsJob (view x))
+    → Parses line_error view answer (job_of bytes) → IfOk answer (λ x. IsJob (view x))
 is_sound view bytes (Ok x) h = sound bytes (view x) h
 is_sound view bytes (Err e) h = tt

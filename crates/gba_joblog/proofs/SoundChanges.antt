@@ -8,19 +8,22 @@ use Rattle.std.proofs.lemmas.List.Sorted.{IsNonDecreasingBy-short, IsNonDecreasi
 use Rattle.std.proofs.lemmas.Option.{slice_get-get_or}
 use Rattle.gba_text.specs.Lines.{lines}
 use Rattle.gba_text.specs.Words.{words}
-use Rattle.gba_joblog.specs.Answers.{Parses}
+use Rattle.gba_text.proofs.Languages.{says}
+use Rattle.gba_text.proofs.Steps.{bind-ok, ok-is, some-is, held-true}
+use Rattle.gba_text.specs.Answers.{Parses}
+use Rattle.gba_text.specs.Languages.{Leads, EndsIn}
+use Rattle.gba_text.specs.Steps.{◌>>=◌, holds, Taken}
+use Rattle.gba_joblog.specs.Answers.{line_error}
 use Rattle.gba_joblog.specs.Changes.{change_at, least_clock, clock_or_start, most_changes}
-use Rattle.gba_joblog.specs.Files.{Leads, EndsIn, is_said}
+use Rattle.gba_joblog.specs.Lines.{is_said}
 use Rattle.gba_joblog.specs.KeyFile.{key_files, key_line_says, change_if, plus_change, changes_with, keys_of}
-use Rattle.gba_joblog.specs.Kinds.{◌>>=◌, holds}
-use Rattle.gba_joblog.specs.Operands.{Words, Taken, number_at, keys_at, end_at}
+use Rattle.gba_joblog.specs.Operands.{Words, number_at, keys_at, end_at}
 use Rattle.gba_joblog.specs.Soundness.{IsChange, AreChanges}
 use Rattle.gba_joblog.specs.declared.job.KeyChange.{KeyChange}
 use Rattle.gba_joblog.specs.declared.kinds.ParseRefused.{ParseRefused}
 use Rattle.gba_joblog.specs.declared.kinds.JobKind.{JobKind}
 use Rattle.gba_joblog.specs.declared.kinds.JobKind.TheVariants.{Order, Long}
-use Rattle.gba_joblog.proofs.Relation.{says}
-use Rattle.gba_joblog.proofs.Steps.{bind-ok, ok-is, some-is, held-true, number_at-range, keys_at-range}
+use Rattle.gba_joblog.proofs.Steps.{number_at-range, keys_at-range}
 
 pub none : AreChanges []
 none = record {
@@ -29,19 +32,19 @@ none = record {
   few = omega arith;
 }
 
-abbrev made : Taken ℕ → Taken ℕ → KeyChange
+abbrev made : Taken Words ℕ → Taken Words ℕ → KeyChange
 made clock keys = record { clock = clock.value; keys = keys.value }
 
-abbrev with_room : List KeyChange → Taken ℕ → Taken ℕ → Result KeyChange JobKind
+abbrev with_room : List KeyChange → Taken Words ℕ → Taken Words ℕ → Result KeyChange JobKind
 with_room before clock keys = holds (nat_lt (length before) most_changes) Long >>= (λ _. Ok (made clock keys))
 
-abbrev with_keys : List KeyChange → Taken ℕ → Taken ℕ → Result KeyChange JobKind
-with_keys before clock keys = end_at keys.words >>= (λ _. with_room before clock keys)
+abbrev with_keys : List KeyChange → Taken Words ℕ → Taken Words ℕ → Result KeyChange JobKind
+with_keys before clock keys = end_at keys.left >>= (λ _. with_room before clock keys)
 
-abbrev in_order : List KeyChange → Taken ℕ → Result KeyChange JobKind
-in_order before clock = keys_at clock.words >>= with_keys before clock
+abbrev in_order : List KeyChange → Taken Words ℕ → Result KeyChange JobKind
+in_order before clock = keys_at clock.left >>= with_keys before clock
 
-abbrev with_clock : List KeyChange → Taken ℕ → Result KeyChange JobKind
+abbrev with_clock : List KeyChange → Taken Words ℕ → Result KeyChange JobKind
 with_clock before clock = holds (nat_le (least_clock before) clock.value) Order >>= (λ _. in_order before clock)
 
 -- what a change that is read tells
@@ -56,13 +59,13 @@ unfolding change_at
 change_at-next before ws change h =
     let c = bind-ok (number_at 0 (2 ^ 38 - 1) ws) (with_clock before) change h in
     let o = bind-ok (holds (nat_le (least_clock before) c.0.value) Order) (λ _. in_order before c.0) change c.2 in
-    let k = bind-ok (keys_at c.0.words) (with_keys before c.0) change o.2 in
-    let e = bind-ok (end_at k.0.words) (λ _. with_room before c.0 k.0) change k.2 in
+    let k = bind-ok (keys_at c.0.left) (with_keys before c.0) change o.2 in
+    let e = bind-ok (end_at k.0.left) (λ _. with_room before c.0 k.0) change k.2 in
     let r = bind-ok (holds (nat_lt (length before) most_changes) Long) (λ _. Ok (made c.0 k.0)) change e.2 in
     let same : change ≡ made c.0 k.0 = sym (ok-is (made c.0 k.0) change r.2) in
     let early = number_at-range 0 (2 ^ 38 - 1) ws c.0 c.1 in
     rw same (record {
-      is = record { early = omega (arith, early.1); keys = keys_at-range c.0.words k.0 k.1 };
+      is = record { early = omega (arith, early.1); keys = keys_at-range c.0.left k.0 k.1 };
       after = leb-true _ _ (held-true _ Order o.0 o.1);
       room = ltb-true _ _ (held-true _ Long r.0 r.1);
     })
@@ -116,6 +119,6 @@ keys-sound bytes changes h =
     subst AreChanges (ok-is ends.said changes ends.end) (lines-keep 0 [] ends.said (lines bytes) none ends.leads)
 
 pub keys-are-sound : {X : Type 0} (view : X → List KeyChange) (bytes : List ℕ) (answer : Result X ParseRefused)
-    → Parses view answer (keys_of bytes) → IfOk answer (λ x. AreChanges (view x))
+    → Parses line_error view answer (keys_of bytes) → IfOk answer (λ x. AreChanges (view x))
 keys-are-sound view bytes (Ok x) h = keys-sound bytes (view x) h
 keys-are-sound view bytes (Err e) h = tt

@@ -9,7 +9,7 @@ use Rattle.gba_text.specs.Lines.{lines, onto_front}
 use Rattle.gba_text.specs.Words.{words, is_text_byte, has_text_alone, ends_before}
 use Rattle.gba_text.proofs.FirstPieces.{lines_feed, lines_more, no_blank, words_first, words_none}
 use Rattle.gba_text.proofs.Spans.{first_of_all, rest_of_all}
-use Rattle.gba_joblog.specs.Files.{is_comment, is_said}
+use Rattle.gba_joblog.specs.Lines.{is_comment, is_said}
 use Rattle.gba_joblog.specs.Log.{after_words, line_of}
 use Rattle.gba_joblog.specs.Operands.{Words}
 

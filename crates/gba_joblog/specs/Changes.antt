@@ -1,6 +1,6 @@
 -- Changes of the pressed keys, as a line says one, by itself or after a keyword.
 use Rattle.std.specs.Prelude.{ℕ, ◌^◌, ◌-◌, List, length, nat_le, nat_lt, Option, Some, None, Result, Ok, slice_get}
-use Rattle.gba_joblog.specs.Kinds.{◌>>=◌, holds}
+use Rattle.gba_text.specs.Steps.{◌>>=◌, holds}
 use Rattle.gba_joblog.specs.Operands.{Words, number_at, keys_at, end_at}
 use Rattle.gba_joblog.specs.declared.job.KeyChange.{KeyChange}
 use Rattle.gba_joblog.specs.declared.kinds.JobKind.{JobKind}
@@ -24,7 +24,7 @@ unfoldable pub change_at : List KeyChange → Words → Result KeyChange JobKind
 change_at before words = do
   clock ← number_at 0 (2 ^ 38 - 1) words
   _ ← holds (nat_le (least_clock before) clock.value) kind.Order
-  keys ← keys_at clock.words
-  _ ← end_at keys.words
+  keys ← keys_at clock.left
+  _ ← end_at keys.left
   _ ← holds (nat_lt (length before) most_changes) kind.Long
   Ok (record { clock = clock.value; keys = keys.value })

@@ -1,13 +1,16 @@
 -- Key files: the changes of a console's keys, one a line.
 use Rattle.std.specs.Prelude.{◌≡◌, ℕ, Bool, true, false, List, [], ◌∷◌, ◌++◌, Option, Some, None, Result, Ok}
+use Rattle.gba_text.specs.Lines.{lines}
 use Rattle.gba_text.specs.Words.{words}
+use Rattle.gba_joblog.specs.Kinds.{JobError}
+use Rattle.gba_text.specs.Languages.{Language, Says, answer_of}
+use Rattle.gba_text.specs.Steps.{◌>>=◌}
 use Rattle.gba_joblog.specs.Changes.{change_at}
-use Rattle.gba_joblog.specs.Files.{Language, Says, is_said, answer_of}
-use Rattle.gba_joblog.specs.Kinds.{◌>>=◌}
+use Rattle.gba_joblog.specs.Lines.{is_said}
 use Rattle.gba_joblog.specs.Operands.{Words}
 use Rattle.gba_joblog.specs.declared.job.KeyChange.{KeyChange}
-use Rattle.gba_joblog.specs.declared.kinds.JobError.{JobError}
 use Rattle.gba_joblog.specs.declared.kinds.JobKind.{JobKind}
+use Rattle.gba_joblog.specs.declared.kinds.JobKind.TheVariants as kind
 
 abbrev pub change_if : List KeyChange → Words → Bool → Result (Option KeyChange) JobKind
 change_if before words false = Ok None
@@ -30,9 +33,11 @@ abbrev pub longest_keys : ℕ
 longest_keys = 33554432
 
 -- a file of changes; it may end anywhere
-abbrev pub key_files : Language (List KeyChange) (List KeyChange)
+abbrev pub key_files : Language (List KeyChange) (List KeyChange) JobKind
 key_files = record {
+  lines_of = lines;
   longest = longest_keys;
+  too_long = kind.Long;
   nothing = [];
   with_line = λ _ before line. changes_with before line;
   at_end = λ _ changes. Ok changes;

@@ -1,7 +1,7 @@
-use Rattle.std.specs.Prelude.{List, ℕ, ◌++◌, codes, decimal, Result, Ok, Err, Bool, true, false}
+use Rattle.std.specs.Prelude.{List, ℕ, codes}
+use Rattle.gba_text.specs.declared.kinds.LineError.{LineError}
 use Rattle.gba_text.specs.declared.kinds.TextKind.{TextKind}
 use Rattle.gba_text.specs.declared.kinds.TextKind.TheVariants as text
-use Rattle.gba_joblog.specs.declared.kinds.JobError.{JobError}
 use Rattle.gba_joblog.specs.declared.kinds.JobKind.{JobKind}
 use Rattle.gba_joblog.specs.declared.kinds.JobKind.TheVariants.{Byte, Word, Number, Name, Digest, Order, Repeated, Missing, Extra, Long, Clash}
 
@@ -19,9 +19,9 @@ kind_name Extra = codes "Extra"
 kind_name Long = codes "Long"
 kind_name Clash = codes "Clash"
 
--- how a refusal is told: its line and its kind
-abbrev pub refusal_text : JobError → List ℕ
-refusal_text e = codes "line " ++ decimal e.line ++ codes " " ++ kind_name e.kind
+-- the first refused line of a job or a key file, and why it is refused
+abbrev pub JobError : Type 0
+JobError = LineError JobKind
 
 -- what is wrong with a line's bytes or its words, as a kind of the job language
 abbrev pub kind_of_text : TextKind → JobKind
@@ -29,14 +29,3 @@ kind_of_text text.Byte = Byte
 kind_of_text text.Missing = Missing
 kind_of_text text.Number = Number
 kind_of_text text.Long = Long
-
--- one step after another: the first refusal decides
-infixl 10 ◌>>=◌
-abbrev pub ◌>>=◌ : {A B : Type 0} → Result A JobKind → (A → Result B JobKind) → Result B JobKind
-(Ok x) >>= f = f x
-(Err kind) >>= f = Err kind
-
--- refused with this kind unless the test holds
-abbrev pub holds : Bool → JobKind → Result Bool JobKind
-holds true kind = Ok true
-holds false kind = Err kind

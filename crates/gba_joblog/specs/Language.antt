@@ -1,16 +1,17 @@
 -- The job language: what a line says after the lines before it, and the job that a file says.
 use Rattle.std.specs.Prelude.{◌≡◌, ℕ, ◌+◌, Bool, true, false, List, Option, Some, None, Result, Ok, Err, unwrap_or}
+use Rattle.gba_text.specs.Lines.{lines}
 use Rattle.gba_text.specs.Words.{words}
+use Rattle.gba_joblog.specs.Kinds.{JobError}
+use Rattle.gba_text.specs.Languages.{error_at, Language, Says, answer_of}
+use Rattle.gba_text.specs.Steps.{◌>>=◌}
 use Rattle.gba_joblog.specs.Draft.{Draft, nothing_said}
-pub use Rattle.gba_joblog.specs.Files.{error_at}
-use Rattle.gba_joblog.specs.Files.{Language, Says, is_said, answer_of}
+use Rattle.gba_joblog.specs.Lines.{is_said}
 use Rattle.gba_joblog.specs.Job.{WholeJob}
-use Rattle.gba_joblog.specs.Kinds.{◌>>=◌}
 use Rattle.gba_joblog.specs.Operands.{Words, word_at}
 use Rattle.gba_joblog.specs.Statements.{Statement, keyword_of, refusal_at, arguments, plus_statement}
 use Rattle.gba_joblog.specs.declared.draft.Place.{Place}
 use Rattle.gba_joblog.specs.declared.draft.Place.TheVariants.{Start, Head, Inside, Ended}
-use Rattle.gba_joblog.specs.declared.kinds.JobError.{JobError}
 use Rattle.gba_joblog.specs.declared.kinds.JobKind.{JobKind}
 use Rattle.gba_joblog.specs.declared.kinds.JobKind.TheVariants as kind
 use Rattle.gba_joblog.specs.declared.statement.Keyword.{Keyword}
@@ -34,7 +35,7 @@ unless_ended Inside said = said
 
 -- what the words of a line say, the first of which is the keyword
 abbrev pub words_say : Draft → Words → Result (Option Statement) JobKind
-words_say d words = word_at words >>= (λ word. unless_ended d.place (keyword_says d word.words (keyword_of word.value)))
+words_say d words = word_at words >>= (λ word. unless_ended d.place (keyword_says d word.left (keyword_of word.value)))
 
 abbrev pub words_say_if : Draft → Words → Bool → Result (Option Statement) JobKind
 words_say_if d words false = Ok None
@@ -77,8 +78,15 @@ abbrev pub longest_job : ℕ
 longest_job = 134217728
 
 -- a file of statements, the last of which is `end`
-abbrev pub jobs : Language Draft WholeJob
-jobs = record { longest = longest_job; nothing = nothing_said; with_line = said_with; at_end = job_at_end }
+abbrev pub jobs : Language Draft WholeJob JobKind
+jobs = record {
+  lines_of = lines;
+  longest = longest_job;
+  too_long = kind.Long;
+  nothing = nothing_said;
+  with_line = said_with;
+  at_end = job_at_end;
+}
 
 -- the job that a file says, or its refusal
 unfoldable pub job_of : List ℕ → Result WholeJob JobError

@@ -7,7 +7,7 @@ pub mod Digests
 pub mod Operands
 pub mod Changes
 pub mod Statements
-pub mod Files
+pub mod Lines
 pub mod Language
 pub mod KeyFile
 pub mod Soundness

@@ -4,8 +4,8 @@ use Rattle.std.specs.Str.{bytes_eq}
 use Rattle.std.specs.Result.{result_ok}
 use Rattle.hex.specs.Hex.{decode_sized}
 use Rattle.gba_text.specs.Numbers.{is_number, number_of, hex_number_of}
+use Rattle.gba_text.specs.Steps.{◌>>=◌, Taken, taken, or_refused, no_more}
 use Rattle.gba_joblog.specs.Digests.{digest_size}
-use Rattle.gba_joblog.specs.Kinds.{◌>>=◌}
 use Rattle.gba_joblog.specs.Names.{is_name}
 use Rattle.gba_joblog.specs.Outputs.{kind_named}
 use Rattle.gba_joblog.specs.declared.outputs.OutKind.{OutKind}
@@ -20,27 +20,15 @@ abbrev pub has_words : Words → Bool
 has_words [] = false
 has_words (_ ∷ _) = true
 
--- an operand, and the words after it
-pub record Taken (T : Type 0) : Type 0 where
-  pub value : T
-  pub words : Words
-
-abbrev pub operand : {T : Type 0} → T → Words → Taken T
-operand value words = record { value = value; words = words }
-
-abbrev pub word_at : Words → Result (Taken (List ℕ)) JobKind
+abbrev pub word_at : Words → Result (Taken Words (List ℕ)) JobKind
 word_at [] = Err Missing
-word_at (word ∷ words) = Ok (operand word words)
+word_at (word ∷ words) = Ok (taken word words)
 
-abbrev pub or_refused : {T : Type 0} → JobKind → Words → Option T → Result (Taken T) JobKind
-or_refused kind words (Some value) = Ok (operand value words)
-or_refused kind words None = Err kind
-
-abbrev pub number_in : ℕ → ℕ → Taken (List ℕ) → Result (Taken ℕ) JobKind
-number_in least most t = or_refused Number t.words (number_of least most t.value)
+abbrev pub number_in : ℕ → ℕ → Taken Words (List ℕ) → Result (Taken Words ℕ) JobKind
+number_in least most t = or_refused Number t.left (number_of least most t.value)
 
 -- a number from `least` to `most`
-unfoldable pub number_at : ℕ → ℕ → Words → Result (Taken ℕ) JobKind
+unfoldable pub number_at : ℕ → ℕ → Words → Result (Taken Words ℕ) JobKind
 number_at least most words = word_at words >>= number_in least most
 
 -- one bit for each of the ten keys
@@ -48,89 +36,88 @@ abbrev pub keys_within : Option ℕ → Option ℕ
 keys_within None = None
 keys_within (Some keys) = if nat_lt keys 1024 then Some keys else None
 
-abbrev pub keys_in : Taken (List ℕ) → Result (Taken ℕ) JobKind
-keys_in t = or_refused Number t.words (keys_within (hex_number_of 3 t.value))
+abbrev pub keys_in : Taken Words (List ℕ) → Result (Taken Words ℕ) JobKind
+keys_in t = or_refused Number t.left (keys_within (hex_number_of 3 t.value))
 
 -- the pressed keys as three hexadecimal digits, below 400h
-unfoldable pub keys_at : Words → Result (Taken ℕ) JobKind
+unfoldable pub keys_at : Words → Result (Taken Words ℕ) JobKind
 keys_at words = word_at words >>= keys_in
 
 abbrev pub name_of : List ℕ → Option (List ℕ)
 name_of word = if is_name word then Some word else None
 
-abbrev pub name_in : Taken (List ℕ) → Result (Taken (List ℕ)) JobKind
-name_in t = or_refused Name t.words (name_of t.value)
+abbrev pub name_in : Taken Words (List ℕ) → Result (Taken Words (List ℕ)) JobKind
+name_in t = or_refused Name t.left (name_of t.value)
 
 -- a file's name
-unfoldable pub name_at : Words → Result (Taken (List ℕ)) JobKind
+unfoldable pub name_at : Words → Result (Taken Words (List ℕ)) JobKind
 name_at words = word_at words >>= name_in
 
 -- the version of the language that is understood
 abbrev pub version_of : List ℕ → Option Bool
 version_of word = if bytes_eq word (codes "1") then Some true else None
 
-abbrev pub version_in : Taken (List ℕ) → Result (Taken Bool) JobKind
-version_in t = or_refused Word t.words (version_of t.value)
+abbrev pub version_in : Taken Words (List ℕ) → Result (Taken Words Bool) JobKind
+version_in t = or_refused Word t.left (version_of t.value)
 
 -- the word `1`, the version
-unfoldable pub version_at : Words → Result (Taken Bool) JobKind
+unfoldable pub version_at : Words → Result (Taken Words Bool) JobKind
 version_at words = word_at words >>= version_in
 
-abbrev pub out_kind_in : Taken (List ℕ) → Result (Taken OutKind) JobKind
-out_kind_in t = or_refused Word t.words (kind_named t.value)
+abbrev pub out_kind_in : Taken Words (List ℕ) → Result (Taken Words OutKind) JobKind
+out_kind_in t = or_refused Word t.left (kind_named t.value)
 
 -- the kind of an output
-unfoldable pub out_kind_at : Words → Result (Taken OutKind) JobKind
+unfoldable pub out_kind_at : Words → Result (Taken Words OutKind) JobKind
 out_kind_at words = word_at words >>= out_kind_in
 
 -- the greatest number of a console
 abbrev pub last_player : ℕ
 last_player = 3
 
-abbrev pub only : ℕ → Taken ℕ → Result (Taken ℕ) JobKind
+abbrev pub only : ℕ → Taken Words ℕ → Result (Taken Words ℕ) JobKind
 only next t = if t.value == next then Ok t else Err Order
 
 -- a number of another console, however great, stands where it may not
 abbrev pub no_player : List ℕ → JobKind
 no_player word = if is_number word then Order else Number
 
-abbrev pub player_of : ℕ → Taken (List ℕ) → Option ℕ → Result (Taken ℕ) JobKind
-player_of next t (Some player) = only next (operand player t.words)
+abbrev pub player_of : ℕ → Taken Words (List ℕ) → Option ℕ → Result (Taken Words ℕ) JobKind
+player_of next t (Some player) = only next (taken player t.left)
 player_of next t None = Err (no_player t.value)
 
-abbrev pub player_in : ℕ → Taken (List ℕ) → Result (Taken ℕ) JobKind
+abbrev pub player_in : ℕ → Taken Words (List ℕ) → Result (Taken Words ℕ) JobKind
 player_in next t = player_of next t (number_of 0 last_player t.value)
 
 -- the number of a console, which has to be the next one
-unfoldable pub player_at : ℕ → Words → Result (Taken ℕ) JobKind
+unfoldable pub player_at : ℕ → Words → Result (Taken Words ℕ) JobKind
 player_at next words = word_at words >>= player_in next
 
 -- the bytes that hexadecimal digits spell, two a byte, if they spell a digest
 abbrev pub digest_of : List ℕ → Option (List ℕ)
 digest_of word = result_ok (decode_sized word digest_size)
 
-abbrev pub digits_in : Taken (List ℕ) → Result (Taken (List ℕ)) JobKind
-digits_in t = or_refused Digest t.words (digest_of t.value)
+abbrev pub digits_in : Taken Words (List ℕ) → Result (Taken Words (List ℕ)) JobKind
+digits_in t = or_refused Digest t.left (digest_of t.value)
 
 -- the digits of a digest, in either case
-unfoldable pub digits_at : Words → Result (Taken (List ℕ)) JobKind
+unfoldable pub digits_at : Words → Result (Taken Words (List ℕ)) JobKind
 digits_at words = word_at words >>= digits_in
 
-abbrev pub stated : Taken (List ℕ) → Taken (Option (List ℕ))
-stated t = operand (Some t.value) t.words
+abbrev pub stated : Taken Words (List ℕ) → Taken Words (Option (List ℕ))
+stated t = taken (Some t.value) t.left
 
-abbrev pub digest_in : Taken (List ℕ) → Result (Taken (Option (List ℕ))) JobKind
-digest_in t = if bytes_eq t.value (codes "sha256") then digits_at t.words >>= (λ t. Ok (stated t)) else Err Word
+abbrev pub digest_in : Taken Words (List ℕ) → Result (Taken Words (Option (List ℕ))) JobKind
+digest_in t = if bytes_eq t.value (codes "sha256") then digits_at t.left >>= (λ t. Ok (stated t)) else Err Word
 
-abbrev pub digest_if : Words → Bool → Result (Taken (Option (List ℕ))) JobKind
-digest_if words false = Ok (operand None words)
+abbrev pub digest_if : Words → Bool → Result (Taken Words (Option (List ℕ))) JobKind
+digest_if words false = Ok (taken None words)
 digest_if words true = word_at words >>= digest_in
 
 -- the digest that the rest of the line states, by the word `sha256` and its digits; there may be none
-unfoldable pub digest_at : Words → Result (Taken (Option (List ℕ))) JobKind
+unfoldable pub digest_at : Words → Result (Taken Words (Option (List ℕ))) JobKind
 digest_at words = digest_if words (has_words words)
 
 -- nothing follows
 abbrev pub end_at : Words → Result Bool JobKind
-end_at [] = Ok true
-end_at (_ ∷ _) = Err Extra
+end_at words = no_more Extra words

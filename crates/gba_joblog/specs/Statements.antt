@@ -1,10 +1,10 @@
 -- The table of statements. Each keyword has its spelling, its place, its operands, and what it says.
 use Rattle.std.specs.Prelude.{ℕ, ◌+◌, ◌^◌, Bool, true, false, List, [], ◌∷◌, ◌++◌, length, codes, not, Option, Some, None, Result, Ok, is_some, if◌then◌else◌}
 use Rattle.std.specs.Str.{bytes_eq}
+use Rattle.gba_text.specs.Steps.{◌>>=◌, holds}
 use Rattle.gba_joblog.specs.Changes.{change_at}
 use Rattle.gba_joblog.specs.Draft.{Draft, DraftConsole, silent_console, with_image}
 use Rattle.gba_joblog.specs.Job.{ConsoleJob, NamedFile}
-use Rattle.gba_joblog.specs.Kinds.{◌>>=◌, holds}
 use Rattle.gba_joblog.specs.Outputs.{at_kind, with_kind}
 use Rattle.gba_joblog.specs.Operands.{Words, number_at, name_at, digest_at, player_at, version_at, out_kind_at, end_at}
 use Rattle.gba_joblog.specs.declared.draft.Place.{Place}
@@ -155,25 +155,25 @@ has_image Ended last = true
 unfoldable pub arguments : Draft → Keyword → Words → Result Statement JobKind
 arguments d keyword.Version words = do
   version ← version_at words
-  _ ← end_at version.words
+  _ ← end_at version.left
   Ok Version
 arguments d keyword.Cycles words = do
   cycles ← number_at 1 (2 ^ 31) words
-  _ ← end_at cycles.words
+  _ ← end_at cycles.left
   Ok (Cycles cycles.value)
 arguments d keyword.Delay words = do
   delay ← number_at 1 1024 words
-  _ ← end_at delay.words
+  _ ← end_at delay.left
   Ok (Delay delay.value)
 arguments d keyword.Console words = do
   player ← player_at (next_player d.place (length d.consoles)) words
   _ ← holds (has_image d.place d.last) kind.Missing
-  _ ← end_at player.words
+  _ ← end_at player.left
   Ok (Console player.value)
 arguments d (keyword.File file) words = do
   name ← name_at words
-  digest ← digest_at name.words
-  _ ← end_at digest.words
+  digest ← digest_at name.left
+  _ ← end_at digest.left
   Ok (File file name.value digest.value)
 arguments d keyword.Key words = do
   change ← change_at d.last.changes words
@@ -181,8 +181,8 @@ arguments d keyword.Key words = do
 arguments d keyword.Out words = do
   out ← out_kind_at words
   _ ← holds (not (is_some (at_kind d.last.outs out.value))) kind.Repeated
-  digest ← digest_at out.words
-  _ ← end_at digest.words
+  digest ← digest_at out.left
+  _ ← end_at digest.left
   Ok (Out out.value digest.value)
 arguments d keyword.End words = do
   _ ← holds (is_some d.last.bios) kind.Missing

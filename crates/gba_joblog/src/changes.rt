@@ -2,7 +2,7 @@
 
 ghost use Rattle.std.specs.Prelude.{◌≡◌, ◌<◌, None};
 ghost use Rattle.gba_text.specs.Words.{fault_of};
-ghost use Rattle.gba_joblog.specs.Answers.{Agrees};
+ghost use Rattle.gba_text.specs.Answers.{Agrees};
 ghost use Rattle.gba_joblog.specs.Changes.{change_at as change_at_of, least_clock as least_clock_of};
 
 use crate::job::KeyChange;

@@ -1,7 +1,7 @@
 //! What the lines before have said.
 
 ghost use Rattle.std.specs.Prelude.{◌≡◌, ◌+◌, ◌<◌, ◌^◌, OnOk, IfOk, vec_len};
-ghost use Rattle.gba_joblog.specs.Answers.{Finishes};
+ghost use Rattle.gba_text.specs.Answers.{Agrees};
 ghost use Rattle.gba_joblog.specs.Draft.{nothing_said};
 ghost use Rattle.gba_joblog.specs.Language.{job_at_end as job_at_end_of};
 ghost use Rattle.gba_joblog.specs.Statements.{closed, named_file as named_file_of, next_player as next_player_of, plus_statement};
@@ -142,7 +142,7 @@ impl DraftJob {
     #[tactic(auto, unfolding(crate::specs::Language::job_at_end))]
     pub(crate) fn finish(self, lines: u64) -> Result<Job, JobError>
         requires { lines + 1 < 2 ^ 64 }
-        ensures { Finishes job_value result (job_at_end_of lines (draft_value self)) }
+        ensures { Agrees job_value result (job_at_end_of lines (draft_value self)) }
     {
         let missing = JobError {
             line: lines + 1,

@@ -2,7 +2,8 @@
 
 ghost use Rattle.std.specs.Prelude.{◌≡◌, ◌<◌, [], ◌∷◌, ◌++◌, IfOk, OnOk};
 ghost use Rattle.gba_text.specs.Words.{words};
-ghost use Rattle.gba_joblog.specs.Answers.{Agrees, IsSaid, Parses, Reads};
+ghost use Rattle.gba_text.specs.Answers.{Agrees, IsSaid, Parses, Reads};
+ghost use Rattle.gba_joblog.specs.Answers.{line_error};
 ghost use Rattle.gba_joblog.specs.KeyFile.{changes_with, key_files, key_line_says, keys_of};
 ghost use Rattle.gba_joblog.specs.Soundness.{AreChanges};
 
@@ -54,7 +55,7 @@ fn read_line(
     requires given { 0 < cursor.old.number }
     requires current { cursor.old.line ≡ line.now }
     requires fresh { cursor.old.words ≡ words line.now }
-    ensures says { Reads result cursor.old.number changes.new.items (changes_with changes.old.items line.now) }
+    ensures says { Reads line_error result cursor.old.number changes.new.items (changes_with changes.old.items line.now) }
     ensures number { cursor.new.number ≡ cursor.old.number }
     ensures lines { cursor.new.lines ≡ cursor.old.lines }
 {
@@ -69,9 +70,9 @@ fn read_line(
 }
 
 /// The changes that the bytes say.
-#[tactic(auto, unfolding(crate::specs::KeyFile::keys_of, crate::specs::Files::answer_of))]
+#[tactic(auto, unfolding(crate::specs::KeyFile::keys_of, gba_text::specs::Languages::answer_of))]
 fn read_keys(alloc: Global, bytes: &[u8]) -> Result<Vec<KeyChange>, ParseRefused>
-    ensures keys { Parses (λ changes. changes.items) result (keys_of bytes.now) }
+    ensures keys { Parses line_error (λ changes. changes.items) result (keys_of bytes.now) }
 {
     if bytes.len() > LONGEST_KEYS {
         return Err(make_refusal(0, JobKind::Long));
@@ -91,8 +92,8 @@ fn read_keys(alloc: Global, bytes: &[u8]) -> Result<Vec<KeyChange>, ParseRefused
 /// Refused is the first line that isn't so, or the whole file with line 0 where it has more than 33,554,432 bytes. The
 /// 1,000,001st change is refused as `Long` where its line is otherwise right. An empty file has no change.
 pub fn parse_keys(alloc: Global, bytes: &[u8]) -> Result<Vec<KeyChange>, ParseRefused>
-    ensures said { IsSaid key_files (λ changes. changes.items) bytes.now result }
-    ensures keys { Parses (λ changes. changes.items) result (keys_of bytes.now) }
+    ensures said { IsSaid line_error key_files (λ changes. changes.items) bytes.now result }
+    ensures keys { Parses line_error (λ changes. changes.items) result (keys_of bytes.now) }
     ensures sound { IfOk result (λ changes. AreChanges changes.items) }
 {
     read_keys(alloc, bytes)

@@ -1,11 +1,10 @@
 //! Why a job or a key file is refused.
 
 ghost use Rattle.std.specs.Prelude.{◌≡◌, Some};
-ghost use Rattle.gba_joblog.specs.Kinds.{kind_name, kind_of_text, refusal_text};
+ghost use Rattle.gba_joblog.specs.Kinds.{kind_name, kind_of_text};
 
-use gba_text::TextKind;
+use gba_text::{LineError, TextKind};
 use std::alloc::AllocError;
-use std::error::Error;
 use std::fmt;
 
 /// What is wrong with a line of a job or a key file. On one line the tests come in this order: `Long`; `Byte`; in a job
@@ -79,25 +78,9 @@ impl fmt::Display for JobKind {
     }
 }
 
-/// The first refused line of a job or a key file, and why it is refused.
-#[derive(Clone, Copy, Debug, PartialEq, Eq)]
-pub struct JobError {
-    /// The line's number, from 1; one past the last line where the file ends too early; 0 where the file is too long.
-    pub line: u64,
-    pub kind: JobKind,
-}
-
-impl fmt::Display for JobError {
-    ghost output = { λ e. Some (refusal_text e) };
-
-    fn fmt<W: fmt::Write>(&self, f: &mut fmt::Formatter<W>) -> fmt::Result {
-        let line = self.line;
-        let kind = self.kind;
-        write!(f, "line {line} {kind}")
-    }
-}
-
-impl Error for JobError {}
+/// The first refused line of a job or a key file, and why it is refused. The line is one past the last where the file
+/// ends too early, and 0 where it is too long.
+pub type JobError = LineError<JobKind>;
 
 /// Why a job or a key file can't be read: it isn't of its language, or memory is wanting.
 #[derive(Clone, Copy, Debug, PartialEq, Eq)]

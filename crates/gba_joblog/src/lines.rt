@@ -2,14 +2,11 @@
 
 ghost use Rattle.std.specs.Prelude.{◌≡◌, ◌<◌, IfOk, IsTrue, None};
 ghost use Rattle.gba_text.specs.Words.{fault_of, words};
-ghost use Rattle.gba_joblog.specs.Answers.{Agrees};
-ghost use Rattle.gba_joblog.specs.Files.{is_comment as is_comment_of, is_said as is_said_of};
+ghost use Rattle.gba_text.specs.Answers.{Agrees};
+ghost use Rattle.gba_joblog.specs.Lines.{is_comment as is_comment_of, is_said as is_said_of};
 
 use crate::kinds::{JobError, JobKind, ParseRefused};
-use gba_text::{Cursor, TextKind};
-
-/// The most bytes of a line.
-const LONGEST_LINE: usize = 400;
+use gba_text::{Cursor, LONGEST_LINE, TextKind};
 
 pub(crate) fn make_refusal(line: u64, kind: JobKind) -> ParseRefused
     ensures { result ≡ ParseRefused.Job (record { line = line; kind = kind }) }
@@ -27,7 +24,7 @@ fn is_comment(line: &[u8]) -> bool
 }
 
 /// Whether the line that the cursor gave last says anything, or else is skipped.
-#[tactic(auto, unfolding(crate::specs::Files::is_said, gba_text::specs::Reading::next_word, gba_text::specs::Words::fault_of))]
+#[tactic(auto, unfolding(crate::specs::Lines::is_said, gba_text::specs::Reading::next_word, gba_text::specs::Words::fault_of))]
 pub(crate) fn is_said(line: &[u8], cursor: &Cursor<'_>) -> Result<bool, JobKind>
     requires given { 0 < cursor.now.number }
     requires current { cursor.now.line ≡ line.now }

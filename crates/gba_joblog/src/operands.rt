@@ -1,15 +1,15 @@
 //! The words after a line's first one.
 
 ghost use Rattle.std.specs.Prelude.{◌≡◌, ◌<◌, true};
-ghost use Rattle.gba_text.specs.Numbers.{all_digits as all_digits_of, is_number as is_number_of};
+ghost use Rattle.gba_text.specs.Numbers.{is_number as is_number_of};
 ghost use Rattle.gba_text.specs.Words.{fault_of};
-ghost use Rattle.gba_joblog.specs.Answers.{Agrees, Takes};
+ghost use Rattle.gba_text.specs.Answers.{Agrees, Takes};
 ghost use Rattle.gba_joblog.specs.Operands.{digest_at as digest_at_of, digits_at as digits_at_of, end_at as end_at_of, has_words as has_words_of, keys_at as keys_at_of, name_at as name_at_of, number_at as number_at_of, out_kind_at as out_kind_at_of, player_at as player_at_of, version_at as version_at_of, word_at as word_at_of};
 
 use crate::kinds::JobKind;
 use crate::names::{is_name, name_text};
 use crate::outputs::OutKind;
-use gba_text::Cursor;
+use gba_text::{Cursor, are_digits};
 use hex::FromHex;
 
 /// The greatest number of a console.
@@ -121,17 +121,11 @@ pub(crate) fn out_kind_at(cursor: &mut Cursor<'_>) -> Result<OutKind, JobKind>
     OutKind::named(word).ok_or(JobKind::Word)
 }
 
-fn all_digits(word: &[u8]) -> bool
-    ensures { result ≡ all_digits_of word.now }
-{
-    word.iter().all(|byte| byte.is_ascii_digit())
-}
-
 /// Whether a word is spelled as a number: 1 to 20 decimal digits.
 fn is_number(word: &[u8]) -> bool
     ensures { result ≡ is_number_of word.now }
 {
-    1 <= word.len() && word.len() <= LONGEST_NUMBER && all_digits(word)
+    1 <= word.len() && word.len() <= LONGEST_NUMBER && are_digits(word)
 }
 
 /// The next word as the number of a console, which has to be this one.

@@ -2,7 +2,8 @@
 
 ghost use Rattle.std.specs.Prelude.{◌≡◌, ◌<◌, IfOk, None, option_map};
 ghost use Rattle.gba_text.specs.Words.{fault_of, words};
-ghost use Rattle.gba_joblog.specs.Answers.{Agrees, IsSaid, Parses, Reads};
+ghost use Rattle.gba_text.specs.Answers.{Agrees, IsSaid, Parses, Reads};
+ghost use Rattle.gba_joblog.specs.Answers.{line_error};
 ghost use Rattle.gba_joblog.specs.Language.{job_of, jobs, line_says as line_says_of, said_with, words_say as words_say_of};
 ghost use Rattle.gba_joblog.specs.Soundness.{IsJob};
 ghost use Rattle.gba_joblog.specs.Views.{draft_value, job_value, statement_value};
@@ -73,7 +74,7 @@ fn read_line(
     requires given { 0 < cursor.old.number }
     requires current { cursor.old.line ≡ line.now }
     requires fresh { cursor.old.words ≡ words line.now }
-    ensures says { Reads result cursor.old.number (draft_value draft.new)
+    ensures says { Reads line_error result cursor.old.number (draft_value draft.new)
         (said_with cursor.old.number (draft_value draft.old) line.now) }
     ensures number { cursor.new.number ≡ cursor.old.number }
     ensures lines { cursor.new.lines ≡ cursor.old.lines }
@@ -89,9 +90,9 @@ fn read_line(
 }
 
 /// The job that the bytes say.
-#[tactic(auto, unfolding(crate::specs::Language::job_of, crate::specs::Files::answer_of))]
+#[tactic(auto, unfolding(crate::specs::Language::job_of, gba_text::specs::Languages::answer_of))]
 fn read_job(alloc: Global, bytes: &[u8]) -> Result<Job, ParseRefused>
-    ensures job { Parses job_value result (job_of bytes.now) }
+    ensures job { Parses line_error job_value result (job_of bytes.now) }
 {
     if bytes.len() > LONGEST_JOB {
         return Err(make_refusal(0, JobKind::Long));
@@ -115,8 +116,8 @@ impl Job {
     /// more than 134,217,728 bytes. It takes memory for the consoles, the names and the key changes alone. A job that is
     /// read has one to four consoles, each with its BIOS image, and each name has 1 to 200 bytes.
     pub fn parse(alloc: Global, bytes: &[u8]) -> Result<Job, ParseRefused>
-        ensures said { IsSaid jobs job_value bytes.now result }
-        ensures job { Parses job_value result (job_of bytes.now) }
+        ensures said { IsSaid line_error jobs job_value bytes.now result }
+        ensures job { Parses line_error job_value result (job_of bytes.now) }
         ensures sound { IfOk result (λ job. IsJob (job_value job)) }
     {
         read_job(alloc, bytes)

@@ -2,7 +2,7 @@
 
 ghost use Rattle.std.specs.Prelude.{◌≡◌, ◌<◌};
 ghost use Rattle.gba_text.specs.Words.{fault_of};
-ghost use Rattle.gba_joblog.specs.Answers.{Agrees};
+ghost use Rattle.gba_text.specs.Answers.{Agrees};
 ghost use Rattle.gba_joblog.specs.Statements.{arguments as arguments_of, file_refusal as file_refusal_of, has_image as has_image_of, keyword_of as keyword_spelled, once as once_of, refusal_at as refusal_at_of};
 ghost use Rattle.gba_joblog.specs.Views.{draft_console_value, draft_value, statement_value};
 

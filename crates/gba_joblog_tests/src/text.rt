@@ -224,3 +224,36 @@ fn refusals_print_line_and_cause(rt: HostRuntime) -> Result<(), Fail> {
     }
     Ok(())
 }
+
+// A word, and whether its bytes are decimal digits and hexadecimal ones.
+#[test]
+fn digits_are_decimal_or_hexadecimal(rt: HostRuntime) {
+    static CASES: [(&[u8], bool, bool); 6] = [
+        (b"", true, true),
+        (b"0189", true, true),
+        (b"09af", false, true),
+        (b"AF", false, true),
+        (b"-1", false, false),
+        (b"0x1", false, false),
+    ];
+    for &(word, decimal, hexadecimal) in &CASES {
+        assert_eq!(rt; are_digits(word), decimal, "of {word:?}");
+        assert_eq!(rt; are_hex_digits(word), hexadecimal, "of {word:?}");
+    }
+    assert_eq!(rt; ascii_text(b"09af"), "09af");
+    assert_eq!(rt; LONGEST_LINE, 400);
+}
+
+#[test]
+fn spaces_and_tabs_are_blank(rt: HostRuntime) {
+    static CASES: [(u8, bool); 5] = [
+        (b' ', true),
+        (b'\t', true),
+        (b'\n', false),
+        (b'\r', false),
+        (b'_', false),
+    ];
+    for &(byte, want) in &CASES {
+        assert_eq!(rt; is_blank(byte), want, "of {byte}");
+    }
+}

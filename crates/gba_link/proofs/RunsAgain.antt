@@ -17,18 +17,18 @@ use Rattle.gba_inputs.specs.Filled.{filled, log_job}
 use Rattle.gba_inputs.specs.Inputs.{ConsoleInputs}
 use Rattle.gba_inputs.specs.InputsPlan.{inputs_plan}
 use Rattle.gba_inputs.specs.Law.{AreInputs, IsReplayed, asked_of}
+use Rattle.gba_joblog.specs.Kinds.{JobError}
+use Rattle.gba_text.proofs.Steps.{ok-is}
+use Rattle.gba_text.specs.Languages.{error_at}
 use Rattle.gba_joblog.proofs.LogLength.{log-short}
 use Rattle.gba_joblog.proofs.Sound.{sound}
-use Rattle.gba_joblog.proofs.Steps.{ok-is}
 use Rattle.gba_joblog.specs.Clash.{clash_of, log_file}
-use Rattle.gba_joblog.specs.Files.{error_at}
 use Rattle.gba_joblog.specs.Job.{WholeJob}
 use Rattle.gba_joblog.specs.Language.{job_of, longest_job}
 use Rattle.gba_joblog.specs.Log.{log_text}
 use Rattle.gba_joblog.specs.Soundness.{IsJob}
 use Rattle.gba_joblog.specs.declared.job.OutLine.{OutLine}
 use Rattle.gba_joblog.specs.declared.outputs.PerKind.{PerKind}
-use Rattle.gba_joblog.specs.declared.kinds.JobError.{JobError}
 use Rattle.gba_joblog.specs.declared.kinds.JobKind.TheVariants.{Long}
 use Rattle.gba_link.specs.AgainLaw.{HasLog, RunsAgain, SaysJob, bytes_of}
 use Rattle.gba_link.specs.RunPlan.{after_inputs, after_job, end_with, files_at, images_in, job_or_refusal, job_plan, job_refusal, result_of_run, run_plan, summary_lines, unless_clash, whole_run_plan, without_clash, written_at}

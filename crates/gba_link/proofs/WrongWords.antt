@@ -13,14 +13,14 @@ use Rattle.gba_command.proofs.Plans.{Names, refused-named, refuses-alone}
 use Rattle.gba_image.specs.declared.error.ImageError.{ImageError}
 use Rattle.gba_inputs.specs.Inputs.{ConsoleInputs, DigestedImage, digested}
 use Rattle.gba_inputs.specs.InputsPlan.{ImageForm, accepted, after_bios, after_cart, after_digest, after_keys, after_save, any_cart_plan, any_keys_plan, any_save_plan, bios_form, bios_plan, cart_form, cart_plan, compared_with, console_plan, found, image_plan, key_file_plan, keys_or_fault, keys_or_refusal, save_form, save_plan, unless_fault}
+use Rattle.gba_joblog.specs.Kinds.{JobError}
 use Rattle.gba_joblog.specs.Clash.{clash_of}
 use Rattle.gba_joblog.specs.Job.{ConsoleJob, NamedFile, WholeJob}
 use Rattle.gba_joblog.specs.KeyFile.{keys_of}
 use Rattle.gba_joblog.specs.declared.job.KeyChange.{KeyChange}
 use Rattle.gba_joblog.specs.Language.{job_of}
-use Rattle.gba_joblog.specs.declared.kinds.JobError.{JobError}
 use Rattle.gba_asm.specs.Assembly.{assembly_of}
-use Rattle.gba_asm_words.specs.declared.kinds.AsmError.{AsmError}
+use Rattle.gba_asm_words.specs.Kinds.{AsmError}
 use Rattle.gba_dis.specs.declared.units.Set.{Set}
 use Rattle.gba_dis.specs.declared.units.Set.TheVariants.{Arm, Thumb}
 use Rattle.gba_link.specs.CommandPlan.{command_plan, plan_of_command}

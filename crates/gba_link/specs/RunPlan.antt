@@ -10,11 +10,11 @@ use Rattle.gba_image.specs.declared.images.ConsoleImages.{ConsoleImages}
 use Rattle.gba_inputs.specs.Filled.{filled}
 use Rattle.gba_inputs.specs.Inputs.{ConsoleInputs}
 use Rattle.gba_inputs.specs.InputsPlan.{inputs_plan}
+use Rattle.gba_joblog.specs.Kinds.{JobError}
+use Rattle.gba_text.specs.Languages.{error_at}
 use Rattle.gba_joblog.specs.Clash.{clash_of}
-use Rattle.gba_joblog.specs.Files.{error_at}
 use Rattle.gba_joblog.specs.Job.{WholeJob}
 use Rattle.gba_joblog.specs.Language.{job_of, longest_job}
-use Rattle.gba_joblog.specs.declared.kinds.JobError.{JobError}
 use Rattle.gba_joblog.specs.declared.kinds.JobKind.TheVariants.{Long, Clash}
 use Rattle.gba_joblog.specs.declared.outputs.PerKind.{PerKind}
 use Rattle.gba_output.specs.StateFile.{summary_line}

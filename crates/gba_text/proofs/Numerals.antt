@@ -1,5 +1,5 @@
 -- Words of digits.
-use Rattle.std.proofs.Common.{◌≡◌, ◌≢◌, ℕ, ◌<◌, ◌≤◌, ◌^◌, Bool, true, false, ◌&&◌, List, [], ◌∷◌, length, get_or, Result, Some, None, lit<, refl, ap, arith, rules}
+use Rattle.std.proofs.Common.{◌≡◌, ◌≢◌, ℕ, ◌<◌, ◌≤◌, ◌^◌, Bool, true, false, cond, ◌&&◌, List, [], ◌∷◌, length, get_or, Result, Some, None, lit<, refl, ap, arith, rules}
 use Rattle.std.specs.Char.{digit_value, is_ascii_digit, is_ascii_hexdigit}
 use Rattle.std.specs.Result.{OkIff, result_ok}
 use Rattle.std.specs.Str.{IsAscii}
@@ -84,3 +84,16 @@ pub parsed_hex_digits : {E : Type 0} (word : List ℕ) (r : Result ℕ E) → Pa
 parsed_hex_digits word r h all some few =
     let plain = rw (without_leading_plus_none word (no_sign word all)) at h in
     ap result_ok (Ok-from_Ok_iff r _ _ plain ((some, AllDigits-from_hex word all), small-value word all few))
+
+-- the range of a number that a word spells
+pub number-range : (least most n : ℕ) (word : List ℕ) → number_of least most word ≡ Some n → (least ≤ n) × (n ≤ most)
+unfolding number_of
+number-range least most n word h = by_test (is_number word && is_within least most (digits_value 10 word)) refl h where
+  by_test : (t : Bool) → (is_number word && is_within least most (digits_value 10 word)) ≡ t
+      → cond t (Some (digits_value 10 word)) None ≡ Some n → (least ≤ n) × (n ≤ most)
+  by_test true e s =
+      let same : digits_value 10 word ≡ n = cc in
+      let low : least ≤ digits_value 10 word = grind (arith, nat_tests) in
+      let high : digits_value 10 word ≤ most = grind (arith, nat_tests) in
+      (omega arith, omega arith)
+  by_test false e s = absurd cc

@@ -1,7 +1,7 @@
 //! A cursor over the lines of a text, and over the words of the line that was given last.
 
 ghost use Rattle.std.specs.Prelude.{◌≡◌, ◌<◌, ◌≤◌, ◌^◌, IfOk, option_map};
-ghost use Rattle.gba_text.specs.Answers.{Gives};
+ghost use Rattle.gba_text.specs.Answers.{AgreesAt};
 ghost use Rattle.gba_text.specs.Lines.{lines};
 ghost use Rattle.gba_text.specs.Words.{words};
 ghost use Rattle.gba_text.specs.Reading.{before_first_line, first_of, after_answer, next_hex_number, next_line, next_number, next_word, rest_of};
@@ -92,7 +92,7 @@ impl<'a> Cursor<'a> {
     /// The next word, and what follows it in the line.
     #[tactic(auto, unfolding(crate::specs::Reading::next_word))]
     fn piece(&self) -> Result<(&'a [u8], &'a [u8]), TextError>
-        ensures answer { Gives (λ p. p.0.now) self.now.number result (next_word self.now) }
+        ensures answer { AgreesAt (λ p. p.0.now) self.now.number result (next_word self.now) }
         ensures rest { IfOk result (λ p. rest_of self.now.words ≡ words p.1.now) }
     {
         if let Some(kind) = self.fault {
@@ -107,7 +107,7 @@ impl<'a> Cursor<'a> {
     /// The next word of the line that was given last, which stays to be taken. Refused is what `word` refuses.
     pub fn peek(&self) -> Result<&'a [u8], TextError>
         requires { 0 < self.now.number }
-        ensures { Gives (λ w. w.now) self.now.number result (next_word self.now) }
+        ensures { AgreesAt (λ w. w.now) self.now.number result (next_word self.now) }
     {
         let (word, _) = self.piece()?;
         Ok(word)
@@ -117,7 +117,7 @@ impl<'a> Cursor<'a> {
     /// with a byte that isn't of words, and the end of the line. A refused call leaves the cursor as it was.
     pub fn word(&mut self) -> Result<&'a [u8], TextError>
         requires { 0 < self.old.number }
-        ensures answer { Gives (λ w. w.now) self.old.number result (next_word self.old) }
+        ensures answer { AgreesAt (λ w. w.now) self.old.number result (next_word self.old) }
         ensures state { self.new ≡ after_answer (next_word self.old) self.old }
     {
         let (word, left) = self.piece()?;
@@ -130,7 +130,7 @@ impl<'a> Cursor<'a> {
     #[tactic(auto, unfolding(crate::specs::Reading::next_number))]
     pub fn number(&mut self, least: u64, most: u64) -> Result<u64, TextError>
         requires { 0 < self.old.number }
-        ensures answer { Gives (λ n. n) self.old.number result (next_number least most self.old) }
+        ensures answer { AgreesAt (λ n. n) self.old.number result (next_number least most self.old) }
         ensures state { self.new ≡ after_answer (next_number least most self.old) self.old }
     {
         let (word, left) = self.piece()?;
@@ -150,7 +150,7 @@ impl<'a> Cursor<'a> {
         requires line { 0 < self.old.number }
         requires some { 1 ≤ digits }
         requires few { digits ≤ 16 }
-        ensures answer { Gives (λ n. n) self.old.number result (next_hex_number digits self.old) }
+        ensures answer { AgreesAt (λ n. n) self.old.number result (next_hex_number digits self.old) }
         ensures state { self.new ≡ after_answer (next_hex_number digits self.old) self.old }
     {
         let (word, left) = self.piece()?;

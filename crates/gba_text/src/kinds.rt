@@ -1,7 +1,7 @@
-//! Why a word or a number can't be read.
+//! Why a word or a number can't be read, and why a file is refused.
 
 ghost use Rattle.std.specs.Prelude.{Some};
-ghost use Rattle.gba_text.specs.Told.{error_text};
+ghost use Rattle.gba_text.specs.Told.{error_text, refusal_text};
 
 use std::error::Error;
 use std::fmt;
@@ -42,3 +42,23 @@ impl fmt::Display for TextError {
 }
 
 impl Error for TextError {}
+
+/// The first refused line of a file of a language, and why it is refused.
+#[derive(Clone, Copy, Debug, PartialEq, Eq)]
+pub struct LineError<K> {
+    /// The line's number, from 1; one past the last line where the file ends too early; 0 where the file is too long.
+    pub line: u64,
+    pub kind: K,
+}
+
+impl<K: fmt::Display> fmt::Display for LineError<K> {
+    ghost output = { refusal_text K.output };
+
+    fn fmt<W: fmt::Write>(&self, f: &mut fmt::Formatter<W>) -> fmt::Result {
+        let line = self.line;
+        let kind = &self.kind;
+        write!(f, "line {line} {kind}")
+    }
+}
+
+impl<K: fmt::Debug + fmt::Display + Drop> Error for LineError<K> {}

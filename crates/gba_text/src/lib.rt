@@ -12,6 +12,7 @@ mod numbers;
 mod pieces;
 
 pub use cursor::Cursor;
-pub use kinds::{TextError, TextKind};
+pub use kinds::{LineError, TextError, TextKind};
 pub use line::{Line, add_text, line_of};
-pub use numbers::number_in;
+pub use numbers::{are_digits, are_hex_digits, ascii_text, number_in};
+pub use pieces::{LONGEST_LINE, is_blank};

@@ -7,8 +7,8 @@ ghost use Rattle.gba_text.specs.Numbers.{all_digits, all_hex_digits, hex_number_
 /// The most digits of a number.
 const MOST_DIGITS: usize = 20;
 
-/// The bytes as text.
-fn ascii_text(bytes: &[u8]) -> &str
+/// Bytes below 128 as text.
+pub fn ascii_text(bytes: &[u8]) -> &str
     requires { IsAscii bytes.now }
     ensures { result.now ≡ bytes.now }
 {
@@ -18,13 +18,15 @@ fn ascii_text(bytes: &[u8]) -> &str
     }
 }
 
-fn are_digits(word: &[u8]) -> bool
+/// Whether each byte is a decimal digit.
+pub fn are_digits(word: &[u8]) -> bool
     ensures { result ≡ all_digits word.now }
 {
     word.iter().all(|byte| byte.is_ascii_digit())
 }
 
-fn are_hex_digits(word: &[u8]) -> bool
+/// Whether each byte is a hexadecimal digit, in either case.
+pub fn are_hex_digits(word: &[u8]) -> bool
     ensures { result ≡ all_hex_digits word.now }
 {
     word.iter().all(|byte| byte.is_ascii_hexdigit())

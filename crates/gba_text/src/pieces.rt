@@ -9,10 +9,10 @@ ghost use Rattle.gba_text.specs.Words.{fault_of, has_text_alone, is_blank as is_
 use crate::kinds::TextKind;
 
 /// The most bytes of a line that is read as words.
-const LONGEST_LINE: usize = 400;
+pub const LONGEST_LINE: usize = 400;
 
 /// Whether a byte parts words: a space or a tab.
-fn is_blank(byte: u8) -> bool
+pub fn is_blank(byte: u8) -> bool
     ensures { result ≡ is_blank_of byte }
 {
     byte == b' ' || byte == b'\t'

@@ -1,7 +1,8 @@
 -- The commands that read one file and write another.
 use Rattle.std.specs.Prelude.{ℕ, List, [], ◌∷◌, ◌++◌, length, codes, decimal, Result, Ok, Err}
-use Rattle.gba_asm.specs.Assembly.{assembly_of, error_at, longest_source}
-use Rattle.gba_asm_words.specs.declared.kinds.AsmError.{AsmError}
+use Rattle.gba_text.specs.Languages.{error_at}
+use Rattle.gba_asm.specs.Assembly.{assembly_of, longest_source}
+use Rattle.gba_asm_words.specs.Kinds.{AsmError}
 use Rattle.gba_asm_words.specs.declared.kinds.AsmKind.TheVariants.{Size}
 use Rattle.gba_command.specs.Cause.{Cause, Image, Source}
 use Rattle.gba_command.specs.Plan.{Plan, Done, bind, file, judgement}

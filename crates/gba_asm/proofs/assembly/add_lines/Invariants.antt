@@ -1,11 +1,9 @@
 use Rattle.std.proofs.Common.{length}
-use Rattle.gba_asm.specs.Answers.{labels_in}
 use Rattle.gba_asm.proofs.Passes.{AreGiven}
 use Rattle.gba_asm.proofs.assembly.add_lines.Given as goal
 
 abbrev pub invariant-loop-line : goal.invariant-loop-line
-invariant-loop-line l =
-    AreGiven l.source (labels_in l.labels.places) l.image.items l.cursor.number l.place l.cursor.lines
+invariant-loop-line l = AreGiven l.source l.image.items l.cursor.number l.place l.cursor.lines
 
 abbrev pub decreases-loop-line : goal.decreases-loop-line
 decreases-loop-line l = length l.cursor.lines

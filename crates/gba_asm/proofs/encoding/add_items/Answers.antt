@@ -1,6 +1,5 @@
 use Rattle.std.proofs.Common.{◌∙◌, sym, ap}
-use Rattle.gba_asm.specs.Answers.{labels_in}
-use Rattle.gba_asm.specs.Assembly.{onto}
+use Rattle.gba_asm.specs.Answers.{labels_in, onto}
 use Rattle.gba_asm.specs.Encoding.{items_bytes}
 use Rattle.gba_asm.proofs.CountedItems.{items_bytes-end, items_bytes-word, items_bytes-mark, adds_refused}
 use Rattle.gba_asm.proofs.encoding.add_items.Goals as goal

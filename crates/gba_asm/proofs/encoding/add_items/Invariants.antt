@@ -1,6 +1,5 @@
 use Rattle.std.proofs.Common.{◌≡◌, length}
-use Rattle.gba_asm.specs.Answers.{labels_in}
-use Rattle.gba_asm.specs.Assembly.{onto}
+use Rattle.gba_asm.specs.Answers.{labels_in, onto}
 use Rattle.gba_asm.specs.Encoding.{items_bytes}
 use Rattle.gba_asm.proofs.encoding.add_items.Given as goal
 

@@ -1,7 +1,8 @@
 use Rattle.std.proofs.Common.{◌∙◌}
 use Rattle.gba_asm.specs.Answers.{labels_in}
 use Rattle.gba_asm.specs.Statements.{line_says}
-use Rattle.gba_asm.proofs.Passes.{opens, found_first, found_more, found_all, place_after-is}
+use Rattle.gba_text.proofs.ReadLines.{opens}
+use Rattle.gba_asm.proofs.Passes.{found_first, found_more, found_all, place_after-is}
 use Rattle.gba_asm.proofs.labels.find_labels.Goals as goal
 
 pub loop-line-init : goal.loop-line-init

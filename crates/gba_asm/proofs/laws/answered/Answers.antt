@@ -1,4 +1,4 @@
-use Rattle.gba_asm.proofs.Relation.{says}
+use Rattle.gba_asm.proofs.Passes.{says}
 use Rattle.gba_asm.proofs.laws.answered.Goals as goal
 
 pub returns : goal.returns

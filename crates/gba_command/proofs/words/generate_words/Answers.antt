@@ -1,5 +1,5 @@
 use Rattle.std.proofs.Common.{◌≡◌, Some, sym, ap, ◌∙◌, arith, rules}
-use Rattle.gba_joblog.proofs.Steps.{number-range}
+use Rattle.gba_text.proofs.Numerals.{number-range}
 use Rattle.gba_text.specs.Numbers.{number_of}
 use Rattle.gba_command.proofs.words.generate_words.Goals as goal
 

@@ -1,6 +1,6 @@
 use Rattle.std.proofs.Common.{length}
+use Rattle.gba_text.proofs.ReadLines.{IsReading}
 use Rattle.gba_joblog.specs.KeyFile.{key_files}
-use Rattle.gba_joblog.proofs.Reading.{IsReading}
 use Rattle.gba_joblog.proofs.key_file.read_keys.Given as goal
 
 abbrev pub invariant-loop-line : goal.invariant-loop-line

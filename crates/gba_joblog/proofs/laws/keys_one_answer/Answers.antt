@@ -1,5 +1,5 @@
+use Rattle.gba_text.proofs.Languages.{one}
 use Rattle.gba_joblog.specs.KeyFile.{key_files, keys_of}
-use Rattle.gba_joblog.proofs.Relation.{one}
 use Rattle.gba_joblog.proofs.laws.keys_one_answer.Goals as goal
 
 pub returns : goal.returns

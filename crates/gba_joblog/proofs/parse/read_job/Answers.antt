@@ -1,5 +1,6 @@
 use Rattle.std.proofs.Common.{arith}
-use Rattle.gba_joblog.proofs.Reading.{reads_on, refuses, finishes, reads_few}
+use Rattle.gba_text.proofs.ReadLines.{reads_on, refuses, finishes, reads_few, lines-few}
+use Rattle.gba_joblog.specs.Answers.{line_error}
 use Rattle.gba_joblog.specs.Language.{jobs, job_of}
 use Rattle.gba_joblog.specs.Views.{draft_value, job_value}
 use Rattle.gba_joblog.proofs.parse.read_job.Goals as goal
@@ -16,7 +17,7 @@ pub returns-in-Err : goal.returns-in-Err
 unfolding job_of
 returns-in-Err c =
     record {
-      job = refuses jobs job_value c.args.bytes.now c.loop-line.cursor c.line.new.self (draft_value c.loop-line.draft)
+      job = refuses line_error jobs job_value c.args.bytes.now c.loop-line.cursor c.line.new.self (draft_value c.loop-line.draft)
           (draft_value c.read_line.new.draft) c.in-Some.line.now
           c.in-Err.refusal (omega arith) c.loop-line.invariant c.in-Some.ensures.line c.line.ensures.state
           c.in-Err.ensures.says;
@@ -25,7 +26,7 @@ returns-in-Err c =
 pub finish-requires : goal.finish-requires
 finish-requires c =
     let few = reads_few jobs c.args.bytes.now c.loop-line.cursor c.line.new.self (draft_value c.loop-line.draft)
-    (omega arith) c.loop-line.invariant c.in_default.ensures.line c.line.ensures.state in
+    (lines-few c.args.bytes.now) (omega arith) c.loop-line.invariant c.in_default.ensures.line c.line.ensures.state in
     omega (arith, few, c.line_number.ensures)
 
 pub returns-in-Ok-finish : goal.returns-in-Ok-finish

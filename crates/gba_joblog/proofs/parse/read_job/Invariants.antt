@@ -1,7 +1,7 @@
 use Rattle.std.proofs.Common.{length}
+use Rattle.gba_text.proofs.ReadLines.{IsReading}
 use Rattle.gba_joblog.specs.Language.{jobs}
 use Rattle.gba_joblog.specs.Views.{draft_value}
-use Rattle.gba_joblog.proofs.Reading.{IsReading}
 use Rattle.gba_joblog.proofs.parse.read_job.Given as goal
 
 abbrev pub invariant-loop-line : goal.invariant-loop-line

@@ -5,7 +5,7 @@ use Rattle.gba_command.specs.Plan.{bind, file}
 use Rattle.gba_command.specs.Reading.{Gives}
 use Rattle.gba_command.proofs.Plans.{goes-then, goes-stop, goes-judged}
 use Rattle.gba_link.specs.RunPlan.{job_or_refusal, after_job, job_refusal, run_plan}
-use Rattle.gba_joblog.specs.Files.{error_at}
+use Rattle.gba_text.specs.Languages.{error_at}
 use Rattle.gba_joblog.specs.Language.{longest_job}
 use Rattle.gba_joblog.specs.Views.{job_value}
 use Rattle.gba_joblog.specs.declared.kinds.JobKind.TheVariants.{Long}

@@ -1,5 +1,6 @@
 use Rattle.std.proofs.lemmas.Result.{err_from_is_err_and}
-use Rattle.gba_asm.specs.Assembly.{error_at, longest_source}
+use Rattle.gba_text.specs.Languages.{error_at}
+use Rattle.gba_asm.specs.Assembly.{longest_source}
 use Rattle.gba_asm_words.specs.declared.kinds.AsmKind.TheVariants.{Size}
 use Rattle.gba_command.specs.Cause.{Source}
 use Rattle.gba_command.specs.Plan.{file}
