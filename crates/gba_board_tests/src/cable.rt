@@ -85,16 +85,16 @@ fn advance<R: Abort>(rt: &R, board: &mut Board, cycles: u32) {
 }
 
 fn take<R: Abort>(rt: &R, board: &mut Board, due: Incoming) {
-    let count = board.ended.count();
-    assert!(rt; count <= 1_000_000 && 512 * (count + 1) <= board.core.serial().next_end());
+    let fits = board.next_end_fits();
+    assert!(rt; fits);
     assert!(rt; board.ended.until() <= 1_000_000 && due.arrival < board.ended.until());
     assert!(rt; due.signal.clock < due.arrival);
     board.take(&due);
 }
 
 fn end<R: Abort>(rt: &R, board: &mut Board) {
-    let count = board.ended.count();
-    assert!(rt; count <= 1_000_000 && 512 * (count + 1) <= board.core.serial().next_end());
+    let fits = board.next_end_fits();
+    assert!(rt; fits);
     assert!(rt; board.core.clock() < board.ended.until());
     board.end_due();
 }
