@@ -99,6 +99,14 @@ fn end<R: Abort>(rt: &R, board: &mut Board) {
     board.end_due();
 }
 
+/// Empties the lists.
+pub(crate) fn forget<R: Abort>(rt: &R, board: &mut Board) {
+    let in_step = board.is_in_step();
+    assert!(rt; in_step);
+    assert!(rt; board.core.clock() <= 1_000_000 && board.counts().words <= 1_000_000);
+    board.forget(1_000_000);
+}
+
 fn start(clock: u64, mode: LinkMode, start: Option<(u8, u32)>, reply: Option<u32>) -> Signal {
     Signal {
         clock,
@@ -457,5 +465,22 @@ fn words_are_taken_out(rt: HostRuntime) -> Result<(), Fail> {
     advance(&rt, &mut board, 2048);
     end(&rt, &mut board);
     counts(&rt, &board, 2, 0);
+    Ok(())
+}
+
+/// The list is emptied, and what ends later is kept in it. All are counted.
+#[test]
+fn words_are_forgotten(rt: HostRuntime) -> Result<(), Fail> {
+    let mut board = board_of(rt.alloc(), (0, 2, 512), true)?;
+    for one in &ALONE {
+        play(&rt, &mut board, *one);
+    }
+    counts(&rt, &board, 1, 1);
+    forget(&rt, &mut board);
+    counts(&rt, &board, 1, 0);
+    store(&rt, &mut board, 0x128, Half, 0x5081);
+    advance(&rt, &mut board, 2048);
+    end(&rt, &mut board);
+    counts(&rt, &board, 2, 1);
     Ok(())
 }

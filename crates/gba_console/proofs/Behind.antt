@@ -29,6 +29,13 @@ in-front : {X : Type 0} (test : Bool) (first old more : List X)
 in-front true first old more = append_assoc first old more
 in-front false first old more = refl
 
+two-in-front : (test : Bool) (first old one other : List ℕ)
+    → (if test then first ++ old ++ one ++ other else first ++ old)
+    ≡ first ++ (if test then old ++ one ++ other else old)
+two-in-front true first old one other =
+    ap (λ (bytes : List ℕ). bytes ++ other) (append_assoc first old one) ∙ append_assoc first (old ++ one) other
+two-in-front false first old one other = refl
+
 -- a cycle
 made-in-front : (c : Core) (first m : Made) → made_in_cycle c (made_behind first m) ≡ made_behind first (made_in_cycle c m)
 made-in-front c first m =
@@ -37,13 +44,14 @@ made-in-front c first m =
     let line = line_bytes c.devices.place.line c in
     let drawn = draws_line c.devices && (ends_frame c.devices.place && m.keeps_frames) in
     let sampled = makes_pair c.devices && m.keeps_samples in
-    let pair = sample_bytes (left_sample sound) ++ sample_bytes (right_sample sound) in
+    let left = sample_bytes (left_sample sound) in
+    let right = sample_bytes (right_sample sound) in
     ap (λ (frames : List ℕ). record made {
       frames = frames;
-      samples = if sampled then (first.samples ++ m.samples) ++ pair else first.samples ++ m.samples;
+      samples = if sampled then first.samples ++ m.samples ++ left ++ right else first.samples ++ m.samples;
     }) (in-front drawn first.frames m.frames (m.drawn ++ line))
     ∙ ap (λ (samples : List ℕ). record made { frames = first.frames ++ made.frames; samples = samples })
-    (in-front sampled first.samples m.samples pair)
+    (two-in-front sampled first.samples m.samples left right)
 
 cycle-in-front : (first b : Board) → board_cycle (board_behind first b) ≡ board_behind first (board_cycle b)
 unfolding board_cycle
