@@ -10,7 +10,7 @@ use Rattle.gba_command.specs.declared.outputs.OutputFile.{OutputFile}
 use Rattle.gba_command.specs.declared.outputs.Outputs.{Outputs}
 use Rattle.gba_command.specs.Cause.{Cause, Words, Job, Image, Digest, Source, Stop, Refused, Absent, StoreFails, LacksMemory}
 use Rattle.gba_command.specs.Words.{Command, RunJob, Assemble, ListArm, ListThumb, Generate, RunWords, FileWords, GenerateWords}
-use Rattle.gba_command.specs.Writing.{Output, Run, WriteEnd, Wrote, SinkFails, SinkLacks}
+use Rattle.gba_command.specs.Writing.{Output, Run, WriteEnd, Wrote, SinkFails, SinkLacks, at_once}
 use Rattle.gba_command.specs.declared.words.Command.{Command as CommandText}
 use Rattle.gba_command.specs.declared.words.Command.TheVariants as command
 use Rattle.gba_command.specs.declared.words.FileWords.{FileWords as FileText}
@@ -72,10 +72,7 @@ conclusion_value (Ok summary) = Ok summary.items
 conclusion_value (Err cause) = Err (cause_value cause)
 
 abbrev pub run_value : Outputs → Run
-run_value outputs = record {
-  outputs = map output_value outputs.files.items;
-  end = conclusion_value outputs.end;
-}
+run_value outputs = at_once (map output_value outputs.files.items) (conclusion_value outputs.end)
 
 abbrev pub write_stop_value : WriteStop → WriteEnd
 write_stop_value (writing.Fault name) = SinkFails name.items

@@ -12,11 +12,17 @@ pub record Output : Type 0 where
   pub name : List ℕ
   pub bytes : List ℕ
 
--- What a command writes that isn't refused before: its files, and then the summary on standard output; or, where a digest
--- that is stated of one of these files isn't its digest, the cause of the refusal, once all files are whole.
+-- What a command writes that isn't refused before: its files, whole, in the order in which they are made empty; the pieces
+-- that are added to them, in their order, each with its file's name; and then the summary on standard output; or, where a
+-- digest that is stated of one of these files isn't its digest, the cause of the refusal, once all files are whole.
 pub record Run : Type 0 where
   pub outputs : List Output
+  pub pieces : List Output
   pub end : Result (List ℕ) Cause
+
+-- a run that adds each file in one piece
+abbrev pub at_once : List Output → Result (List ℕ) Cause → Run
+at_once outputs end = record { outputs = outputs; pieces = outputs; end = end }
 
 abbrev pub creation : Output → Call
 creation output = Create output.name
@@ -27,17 +33,17 @@ addition output = Append output.name output.bytes
 abbrev pub line_call : List ℕ → Call
 line_call line = Append (codes "-") line
 
--- the calls of a run, in order: every file is made empty, then the bytes of each are added, then comes the summary, if the
--- run ends with one
-abbrev pub file_calls : List Output → List Call
-file_calls outputs = map creation outputs ++ map addition outputs
+-- the calls of a run, in order: every file is made empty, then the pieces are added, then comes the summary, if the run
+-- ends with one
+abbrev pub file_calls : Run → List Call
+file_calls run = map creation run.outputs ++ map addition run.pieces
 
 abbrev pub summary_calls : Result (List ℕ) Cause → List Call
 summary_calls (Ok summary) = line_call summary ∷ []
 summary_calls (Err cause) = []
 
 abbrev pub calls_of : Run → List Call
-calls_of run = file_calls run.outputs ++ summary_calls run.end
+calls_of run = file_calls run ++ summary_calls run.end
 
 -- what a contract sees of a sink: its files, and its counts of faults and of wants of memory
 pub record SinkState : Type 0 where

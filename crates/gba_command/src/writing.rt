@@ -1,9 +1,9 @@
 //! The calls of a sink.
 
-ghost use Rattle.std.specs.Prelude.{◌≡◌, ◌≤◌, length, map, codes};
+ghost use Rattle.std.specs.Prelude.{◌≡◌, ◌≤◌, ◌++◌, length, map, codes};
 ghost use Rattle.gba_command.specs.Answer.{Reported};
 ghost use Rattle.gba_command.specs.Views.{conclusion_value, output_value, run_value, write_end};
-ghost use Rattle.gba_command.specs.Writing.{Create, Append, Performs, PerformsAll, addition, calls_of, creation, file_calls, sink_state, summary_calls};
+ghost use Rattle.gba_command.specs.Writing.{Create, Append, Performs, PerformsAll, addition, calls_of, creation, sink_state, summary_calls};
 
 use crate::cause::Cause;
 use crate::outputs::{OutputFile, Outputs};
@@ -102,7 +102,8 @@ fn append_all<O: Sink>(out: &mut O, files: &[OutputFile]) -> Result<(), WriteSto
 
 /// Makes all files empty, and then adds their bytes.
 fn write_files<O: Sink>(out: &mut O, files: &[OutputFile]) -> Result<(), WriteStop>
-    ensures { PerformsAll O.Tells (file_calls (map output_value files.now))
+    ensures { PerformsAll O.Tells
+        (map creation (map output_value files.now) ++ map addition (map output_value files.now))
         (sink_state (O.files out.old) (O.faults out.old) (O.wants out.old))
         (sink_state (O.files out.new) (O.faults out.new) (O.wants out.new)) (write_end result) }
 {

@@ -169,6 +169,10 @@ module _ (job : WholeJob) (inputs : List ConsoleInputs) (is : IsJob job) (read :
       → (result_of_run out job inputs).outputs ≡ map (under out) (result_of_run [] job inputs).outputs
   run-outputs out = written-under out (length whole.consoles) whole made lines
 
+  run-pieces : (out : List ℕ)
+      → (result_of_run out job inputs).pieces ≡ map (under out) (result_of_run [] job inputs).pieces
+  run-pieces out = written-under out (length whole.consoles) whole made lines
+
   run-log : (out name log : List ℕ) (others : List Output)
       → (result_of_run out job inputs).outputs ≡ others ++ record { name = name; bytes = log } ∷ []
       → log ≡ log_of whole made
@@ -225,6 +229,14 @@ module _ (job : WholeJob) (inputs : List ConsoleInputs) (is : IsJob job) (read :
         ∙ written-outputs out count whole later made lines stated-by same-log
         ∙ written-under out count whole made lines
 
+    rerun-pieces : (out : List ℕ) → (result_of_run out replay.again inputs).pieces
+        ≡ map (under out) (result_of_run [] job inputs).pieces
+    rerun-pieces out =
+        let count = length whole.consoles in
+        ap (λ (run : Run). run.pieces) (rerun-is out)
+        ∙ written-outputs out count whole later made lines stated-by same-log
+        ∙ written-under out count whole made lines
+
     rerun-end : (out : List ℕ) → (result_of_run out replay.again inputs).end ≡ Ok (lines ++ log_line (log_of whole made))
     rerun-end out =
         ap (λ (run : Run). run.end) (rerun-is out)
@@ -261,6 +273,9 @@ run-again old new first again run comes has =
       files = plain;
       first_names = was;
       names = now;
+      pieces = (result_of_run [] job inputs).pieces;
+      first_pieces = ap (λ (r : Run). r.pieces) (sym d.is) ∙ run-pieces job inputs is read first.out;
+      again_pieces = rerun-pieces job inputs is read new replay again.out;
       summary = summary;
       end = rerun-end job inputs is read new replay again.out;
       same = subst (λ (r : Run). IfOk r.end (λ end. end ≡ summary)) d.is (run-end job inputs is read first.out);

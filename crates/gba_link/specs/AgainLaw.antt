@@ -37,7 +37,8 @@ abbrev pub bytes_of : Output → List ℕ
 bytes_of output = output.bytes
 
 -- The run again: it comes to as many files of the same bytes, in the same order, the log among them, and their names
--- begin with the new OUT where the first ones began with the first OUT. It ends with a summary: the digests that the log
+-- begin with the new OUT where the first ones began with the first OUT; so do those of the pieces, of the same bytes, that
+-- are added to them. It ends with a summary: the digests that the log
 -- states of the outputs are theirs. Where the first run ended with a summary too, and not with a digest that differs, it
 -- is the same.
 pub record RunsAgain (new : Files) (first again : RunWords) (run : Run) : Type 0 where
@@ -47,6 +48,9 @@ pub record RunsAgain (new : Files) (first again : RunWords) (run : Run) : Type 0
   pub files : List Output
   pub first_names : run.outputs ≡ map (under first.out) files
   pub names : rerun.outputs ≡ map (under again.out) files
+  pub pieces : List Output
+  pub first_pieces : run.pieces ≡ map (under first.out) pieces
+  pub again_pieces : rerun.pieces ≡ map (under again.out) pieces
   pub summary : List ℕ
   pub end : rerun.end ≡ Ok summary
   pub same : IfOk run.end (λ end. end ≡ summary)

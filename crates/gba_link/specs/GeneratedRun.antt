@@ -36,7 +36,7 @@ made_inputs number =
 
 -- a run that writes these files too, before its own
 abbrev pub after_files : List Output → Run → Run
-after_files files run = record run { outputs = files ++ run.outputs }
+after_files files run = record run { outputs = files ++ run.outputs; pieces = files ++ run.pieces }
 
 -- The files of the job, and then what the run of the job with these images writes.
 abbrev pub generated_run : GenerateWords → Run

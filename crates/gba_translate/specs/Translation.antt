@@ -7,7 +7,7 @@ use Rattle.gba_asm_words.specs.declared.kinds.AsmKind.TheVariants.{Size}
 use Rattle.gba_command.specs.Cause.{Cause, Image, Source}
 use Rattle.gba_command.specs.Plan.{Plan, Done, bind, file, judgement}
 use Rattle.gba_command.specs.Words.{FileWords}
-use Rattle.gba_command.specs.Writing.{Run}
+use Rattle.gba_command.specs.Writing.{Run, at_once}
 use Rattle.gba_dis.specs.declared.units.Set.{Set}
 use Rattle.gba_dis.specs.Listing.{listing}
 use Rattle.gba_image.specs.declared.error.ImageError.TheVariants.{TooLong}
@@ -18,10 +18,8 @@ count_line word count = word ++ (codes " " ++ (decimal count ++ codes "\n"))
 
 -- One file is written, and then the summary: a word, and the number of the file's bytes.
 abbrev pub one_file : List ℕ → List ℕ → List ℕ → Run
-one_file name word bytes = record {
-  outputs = record { name = name; bytes = bytes } ∷ [];
-  end = Ok (count_line word (length bytes));
-}
+one_file name word bytes =
+    at_once (record { name = name; bytes = bytes } ∷ []) (Ok (count_line word (length bytes)))
 
 -- the bytes of a source, or the refusal of its first line that isn't of the language
 abbrev pub unless_refused : List ℕ → Result (List ℕ) AsmError → Result (List ℕ) Cause

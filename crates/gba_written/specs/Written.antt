@@ -2,7 +2,7 @@ use Rattle.std.specs.Prelude.{ℕ, List, [], ◌∷◌, ◌++◌, codes, Option,
 use Rattle.hex.specs.Hex.{encode_lower}
 use Rattle.sha2.specs.Sha256.{sha256}
 use Rattle.gba_command.specs.Cause.{Cause}
-use Rattle.gba_command.specs.Writing.{Run}
+use Rattle.gba_command.specs.Writing.{Run, at_once}
 use Rattle.gba_inputs.specs.Filled.{with_outputs}
 use Rattle.gba_joblog.specs.Job.{WholeJob}
 use Rattle.gba_joblog.specs.Log.{log_text}
@@ -30,10 +30,9 @@ conclusion None summary = Ok summary
 conclusion (Some cause) summary = Err cause
 
 abbrev pub written_with : RunNames → WholeJob → List (PerKind (List ℕ)) → List ℕ → List ℕ → Run
-written_with names job files log lines = record {
-  outputs = outputs_of names.consoles job.consoles files ++ record { name = names.log; bytes = log } ∷ [];
-  end = conclusion (difference_of names.consoles job.consoles files) (lines ++ log_line log);
-}
+written_with names job files log lines =
+    at_once (outputs_of names.consoles job.consoles files ++ record { name = names.log; bytes = log } ∷ [])
+    (conclusion (difference_of names.consoles job.consoles files) (lines ++ log_line log))
 
 -- `lines` are the summary's lines of the consoles
 abbrev pub written : RunNames → WholeJob → List (PerKind (List ℕ)) → List ℕ → Run

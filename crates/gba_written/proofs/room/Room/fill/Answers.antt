@@ -4,7 +4,7 @@ use Rattle.std.specs.Vec.{with_items}
 use Rattle.std.proofs.lemmas.List.{length-map, map-append, places, with_items_is}
 use Rattle.gba_command.specs.Cause.{Cause}
 use Rattle.gba_command.specs.Views.{conclusion_value, output_value}
-use Rattle.gba_command.specs.Writing.{Output, Run}
+use Rattle.gba_command.specs.Writing.{Output, Run, at_once}
 use Rattle.gba_command.specs.declared.outputs.OutputFile.{OutputFile}
 use Rattle.gba_inputs.specs.Filled.{with_outputs}
 use Rattle.gba_joblog.specs.Job.{ConsoleJob, WholeJob}
@@ -24,7 +24,7 @@ abbrev with_consoles : WholeJob → List ConsoleJob → WholeJob
 with_consoles job consoles = record job { consoles = consoles }
 
 abbrev run_of : List Output → Result (List ℕ) Cause → Run
-run_of outputs end = record { outputs = outputs; end = end }
+run_of outputs end = at_once outputs end
 
 abbrev file_of : List ℕ → List ℕ → Output
 file_of name bytes = record { name = name; bytes = bytes }
