@@ -6,7 +6,8 @@ use Rattle.gba_command.specs.Law.{status_after}
 use Rattle.gba_command.specs.Answer.{Answers, Closes, Concludes, Completes, Finishes, Refuses}
 use Rattle.gba_command.specs.Cause.{Cause, Stop, Refused, Absent, StoreFails, LacksMemory, stop_report}
 use Rattle.gba_command.specs.Plan.{Plan, outcome}
-use Rattle.gba_command.specs.Reading.{Gives, GoesTo}
+use Rattle.gba_store.specs.Given.{Gives}
+use Rattle.gba_command.specs.Reading.{GoesTo}
 use Rattle.gba_command.specs.Writing.{Call, Run, SinkState, NoneFell, WriteEnd, Wrote, SinkFails, SinkLacks, calls_of, Performs, PerformsAll}
 use Rattle.gba_command.proofs.Ends.{Rose-earlier, Rose-later, said, absent-rose, fault-rose}
 
@@ -65,21 +66,23 @@ completed Tells status run old mid new (SinkFails name) h k unrisen =
 completed Tells status run old mid new SinkLacks h k unrisen = inl (inr (mid, h, k))
 
 module _ {Store : Type 0} (Tells : Type 0) (files : Store → Files) (Reads : List ℕ → ℕ → Option ReadError → Store → Store → Type 0)
-    (absences faults : Store → ℕ) (SinkTells : Type 0) (status : ℕ) where
+    (absences faults : Store → ℕ) (gives : List ℕ → ℕ → Result (List ℕ) ReadError → Store → Store → Type 0)
+    (says : (name : List ℕ) (most : ℕ) (answer : Result (List ℕ) ReadError) (old new : Store) → gives name most answer old new
+    → Gives Tells files Reads absences faults name most answer old new) (SinkTells : Type 0) (status : ℕ) where
   pub completes : (plan : Plan Run) (old new : Store) (end : Result Run Stop) (before after : SinkState) → Tells
       → (Rose (absences old) (absences new) → ⊥) → (Rose (faults old) (faults new) → ⊥) → (Rose before.faults after.faults → ⊥)
-      → GoesTo (Gives Tells files Reads absences faults) plan old new end → Answers SinkTells status end before after
+      → GoesTo gives plan old new end → Answers SinkTells status end before after
       → Completes SinkTells status (outcome (files old) plan) before after
   completes plan old new (Ok run) before after tells present whole unrisen goes h =
       subst (λ (o : Result Run Stop). Completes SinkTells status o before after)
-      (sym (said Tells files Reads absences faults plan old new (Ok run) tells goes tt))
+      (sym (said Tells files Reads absences faults gives says plan old new (Ok run) tells goes tt))
       (completed SinkTells status run before h.0 after h.1 h.2 h.3 unrisen)
   completes plan old new (Err (Refused cause)) before after tells present whole unrisen goes h =
       subst (λ (o : Result Run Stop). Completes SinkTells status o before after)
-      (sym (said Tells files Reads absences faults plan old new (Err (Refused cause)) tells goes tt)) (inl h)
+      (sym (said Tells files Reads absences faults gives says plan old new (Err (Refused cause)) tells goes tt)) (inl h)
   completes plan old new (Err (Absent name)) before after tells present whole unrisen goes h =
-      absurd (present (absent-rose Tells files Reads absences faults plan old new name goes))
+      absurd (present (absent-rose Tells files Reads absences faults gives says plan old new name goes))
   completes plan old new (Err (StoreFails name)) before after tells present whole unrisen goes h =
-      absurd (whole (fault-rose Tells files Reads absences faults plan old new name goes))
+      absurd (whole (fault-rose Tells files Reads absences faults gives says plan old new name goes))
   completes plan old new (Err LacksMemory) before after tells present whole unrisen goes h =
       lacking SinkTells status (outcome (files old) plan) before after h

@@ -7,7 +7,7 @@ use Rattle.gba_store.specs.Memory.{Memory, content_in}
 use Rattle.gba_store.specs.declared.outside.ReadError.{ReadError}
 use Rattle.gba_store.specs.declared.outside.ReadError.TheVariants as reading
 use Rattle.gba_command.specs.Cause.{Stop, LacksMemory}
-use Rattle.gba_command.specs.Law.{GivesInMemory}
+use Rattle.gba_store.specs.Chosen.{GivesInMemory}
 use Rattle.gba_command.specs.Plan.{Plan, Done, Refuse, Read}
 use Rattle.gba_command.specs.Reading.{GoesTo, stop_at}
 

@@ -1,5 +1,5 @@
 use Rattle.std.specs.Prelude.{◌≡◌, ◌⊎◌, ℕ, List, [], ◌++◌, codes, Result, Ok, Err}
-use Rattle.gba_command.specs.Cause.{Cause, Stop, Refused, Absent, StoreFails, LacksMemory, report_of, status_of, stop_status, stop_report}
+use Rattle.gba_command.specs.Cause.{Cause, Stop, Refused, LacksMemory, report_of, status_of, stop_status, stop_report}
 use Rattle.gba_command.specs.Writing.{Run, SinkState, WriteEnd, Wrote, SinkFails, SinkLacks, calls_of, line_call, Performs, PerformsAll}
 
 -- a line was reported: one append to standard output, whether or not it was done
@@ -53,11 +53,10 @@ module _ (Tells : Type 0) (status : ℕ) where
       × Refuses 10 (stop_report LacksMemory) mid new)
 
   -- What is left to answer where no count of faults or absences rose: what the words and the files come to, or memory
-  -- was wanting, before anything was written or in a call of the sink.
+  -- was wanting, before anything was written or in a call of the sink. Where they come to an absent file no other end is
+  -- left: memory was wanting before its read.
   abbrev pub Completes : Result Run Stop → SinkState → SinkState → Type 0
   Completes (Ok run) old new = Completed run old new ⊎ Refuses 10 (stop_report LacksMemory) old new
   Completes (Err (Refused cause)) old new =
       Answers (Err (Refused cause)) old new ⊎ Refuses 10 (stop_report LacksMemory) old new
-  Completes (Err (Absent name)) old new = Refuses 10 (stop_report LacksMemory) old new
-  Completes (Err (StoreFails name)) old new = Refuses 10 (stop_report LacksMemory) old new
-  Completes (Err LacksMemory) old new = Refuses 10 (stop_report LacksMemory) old new
+  Completes (Err stop) old new = Refuses 10 (stop_report LacksMemory) old new

@@ -1,13 +1,13 @@
 use Rattle.std.specs.Prelude.{◌≡◌, ◌≢◌, ◌⊎◌, ℕ, List, Option, Result, Ok, Err}
-use Rattle.gba_store.specs.Chosen.{IsRead}
+use Rattle.gba_store.specs.Chosen.{GivesInMemory}
 use Rattle.gba_store.specs.Counts.{CountsExactly}
 use Rattle.gba_store.specs.Files.{Files, Rose}
-use Rattle.gba_store.specs.Memory.{Memory, content_in}
+use Rattle.gba_store.specs.Memory.{Memory}
 use Rattle.gba_store.specs.declared.outside.ReadError.{ReadError}
 use Rattle.gba_command.specs.Answer.{Answers}
 use Rattle.gba_command.specs.Cause.{Cause, Stop, Refused, Absent, StoreFails, LacksMemory, status_of}
 use Rattle.gba_command.specs.Plan.{Plan, outcome}
-use Rattle.gba_command.specs.Reading.{Gives, GoesTo}
+use Rattle.gba_command.specs.Reading.{GoesTo}
 use Rattle.gba_command.specs.Writing.{Run, SinkState}
 
 -- an end that the files alone say
@@ -18,36 +18,27 @@ IsOfFiles (Err (Absent name)) = Unit {0}
 IsOfFiles (Err (StoreFails name)) = ⊥
 IsOfFiles (Err LacksMemory) = ⊥
 
-module _ {Store : Type 0} (Tells : Type 0) (files : Store → Files) (Reads : List ℕ → ℕ → Option ReadError → Store → Store → Type 0)
-    (absences faults : Store → ℕ) where
+-- `gives` is what one read does
+module _ {Store : Type 0} (gives : List ℕ → ℕ → Result (List ℕ) ReadError → Store → Store → Type 0) where
   -- Where the store tells its files, a plan that isn't stopped by the store or for memory ends in its outcome.
-  abbrev pub EndsInItsOutcome : Type 0
-  EndsInItsOutcome =
-      (plan : Plan Run) (old new : Store) (end : Result Run Stop) → Tells
-      → GoesTo (Gives Tells files Reads absences faults) plan old new end
+  abbrev pub EndsInItsOutcome : Type 0 → (Store → Files) → Type 0
+  EndsInItsOutcome Tells files =
+      (plan : Plan Run) (old new : Store) (end : Result Run Stop) → Tells → GoesTo gives plan old new end
       → IsOfFiles end → outcome (files old) plan ≡ end
 
   -- A count of the store rose where a file was absent, or a read failed.
-  abbrev pub CountsItsStops : Type 0
-  CountsItsStops =
+  abbrev pub CountsItsStops : (Store → ℕ) → (Store → ℕ) → Type 0
+  CountsItsStops absences faults =
       (plan : Plan Run) (old new : Store) (name : List ℕ) →
-      (GoesTo (Gives Tells files Reads absences faults) plan old new (Err (Absent name))
-      → Rose (absences old) (absences new))
-      × (GoesTo (Gives Tells files Reads absences faults) plan old new (Err (StoreFails name))
-      → Rose (faults old) (faults new))
+      (GoesTo gives plan old new (Err (Absent name)) → Rose (absences old) (absences new))
+      × (GoesTo gives plan old new (Err (StoreFails name)) → Rose (faults old) (faults new))
 
   -- Where a store counts exactly, no count rose if memory was wanting: an absence or a fault isn't hidden behind it.
-  abbrev pub HidesNothing : Type 0
-  HidesNothing =
+  abbrev pub HidesNothing : (List ℕ → ℕ → Option ReadError → Store → Store → Type 0) → (Store → ℕ) → (Store → ℕ) → Type 0
+  HidesNothing Reads absences faults =
       CountsExactly Reads absences faults → (plan : Plan Run) (old new : Store)
-      → GoesTo (Gives Tells files Reads absences faults) plan old new (Err LacksMemory)
+      → GoesTo gives plan old new (Err LacksMemory)
       → (absences new ≡ absences old) × (faults new ≡ faults old)
-
--- one read of a store in memory
-abbrev pub GivesInMemory : List ℕ → ℕ → Result (List ℕ) ReadError → Memory → Memory → Type 0
-GivesInMemory =
-    Gives (Unit {0}) (λ store. content_in store.files) (λ name _. IsRead name) (λ store. store.absences)
-    (λ store. store.faults)
 
 -- Over a store in memory a plan has one end, but for want of memory.
 abbrev pub EndsOnce : Type 0

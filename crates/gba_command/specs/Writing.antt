@@ -1,5 +1,6 @@
 use Rattle.std.specs.Prelude.{◌≡◌, ◌⊎◌, ℕ, ◌≤◌, List, [], ◌∷◌, ◌++◌, map, codes, Result, Ok, Err}
 use Rattle.gba_command.specs.Cause.{Cause}
+pub use Rattle.gba_store.specs.Files.{SinkState}
 use Rattle.gba_store.specs.Files.{Files, Rose, Created, Appended, CreateFailed, AppendFailed}
 
 -- a call of a sink: a file is made empty, or a piece is added at its end
@@ -44,15 +45,6 @@ summary_calls (Err cause) = []
 
 abbrev pub calls_of : Run → List Call
 calls_of run = file_calls run ++ summary_calls run.end
-
--- what a contract sees of a sink: its files, and its counts of faults and of wants of memory
-pub record SinkState : Type 0 where
-  pub files : Files
-  pub faults : ℕ
-  pub wants : ℕ
-
-abbrev pub sink_state : Files → ℕ → ℕ → SinkState
-sink_state files faults wants = record { files = files; faults = faults; wants = wants }
 
 -- how calls of a sink ended: all were done, the last failed at the named file, or memory was wanting in it
 pub data WriteEnd : Type 0 where

@@ -2,7 +2,6 @@
 
 ghost use Rattle.gba_command.specs.Answer.{Answers, Concludes, Finishes};
 ghost use Rattle.gba_command.specs.Views.{conclusion_value, end_of, run_value};
-ghost use Rattle.gba_command.specs.Writing.{sink_state};
 
 use crate::cause::Cause;
 use crate::outputs::Outputs;
@@ -14,8 +13,7 @@ use gba_text::Line;
 /// What a run that is written answers: 0, or the refusal with which it ends.
 fn conclude<O: Sink>(out: &mut O, end: &Result<Line, Cause>) -> u8
     ensures { Concludes O.Tells result (conclusion_value end.now)
-        (sink_state (O.files out.old) (O.faults out.old) (O.wants out.old))
-        (sink_state (O.files out.new) (O.faults out.new) (O.wants out.new)) }
+        (O.state out.old) (O.state out.new) }
 {
     match end {
         Ok(_) => 0,
@@ -29,8 +27,7 @@ fn conclude<O: Sink>(out: &mut O, end: &Result<Line, Cause>) -> u8
 /// Writes a run and answers the exit status.
 fn finish<O: Sink>(out: &mut O, run: &Outputs) -> u8
     ensures { Finishes O.Tells result (run_value run.now)
-        (sink_state (O.files out.old) (O.faults out.old) (O.wants out.old))
-        (sink_state (O.files out.new) (O.faults out.new) (O.wants out.new)) }
+        (O.state out.old) (O.state out.new) }
 {
     match write_run(out, run) {
         Ok(()) => conclude(out, &run.end),
@@ -45,8 +42,7 @@ fn finish<O: Sink>(out: &mut O, run: &Outputs) -> u8
 /// stays.
 pub fn answer<O: Sink>(out: &mut O, prepared: &Result<Outputs, Refusal>) -> u8
     ensures { Answers O.Tells result (end_of run_value prepared.now)
-        (sink_state (O.files out.old) (O.faults out.old) (O.wants out.old))
-        (sink_state (O.files out.new) (O.faults out.new) (O.wants out.new)) }
+        (O.state out.old) (O.state out.new) }
 {
     match prepared {
         Ok(run) => finish(out, run),

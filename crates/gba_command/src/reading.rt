@@ -2,7 +2,7 @@
 
 ghost use Rattle.std.specs.Prelude.{◌+◌, ◌^◌, ◌≤◌, ◌<◌, IfOk, length};
 ghost use Rattle.gba_command.specs.Plan.{file};
-ghost use Rattle.gba_command.specs.Reading.{Gives, GoesTo};
+ghost use Rattle.gba_command.specs.Reading.{GoesTo};
 ghost use Rattle.gba_command.specs.Views.{bytes_value, cause_value, end_of};
 
 use crate::cause::Cause;
@@ -22,7 +22,7 @@ pub fn read_file<S: Store>(
 ) -> Result<Vec<u8>, Refusal>
     requires named { length name.now ≤ 200 }
     requires bounded { most + 1 < 2 ^ 64 }
-    ensures goes { GoesTo (Gives S.Tells S.files S.Reads S.absences S.faults) (file name.now most (cause_value long))
+    ensures goes { GoesTo S.gives (file name.now most (cause_value long))
         store.old store.new (end_of bytes_value result) }
     ensures short { IfOk result (λ bytes. length bytes.items ≤ most) }
 {

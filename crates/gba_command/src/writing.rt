@@ -3,7 +3,7 @@
 ghost use Rattle.std.specs.Prelude.{◌≡◌, ◌≤◌, ◌++◌, length, map, codes};
 ghost use Rattle.gba_command.specs.Answer.{Reported};
 ghost use Rattle.gba_command.specs.Views.{conclusion_value, output_value, run_value, write_end};
-ghost use Rattle.gba_command.specs.Writing.{Create, Append, Performs, PerformsAll, addition, calls_of, creation, sink_state, summary_calls};
+ghost use Rattle.gba_command.specs.Writing.{Create, Append, Performs, PerformsAll, addition, calls_of, creation, summary_calls};
 
 use crate::cause::Cause;
 use crate::outputs::{OutputFile, Outputs};
@@ -51,8 +51,7 @@ impl WriteStop {
 fn create<O: Sink>(out: &mut O, name: &str) -> Result<(), WriteStop>
     requires { length name.now ≤ 200 }
     ensures { Performs O.Tells (Create name.now)
-        (sink_state (O.files out.old) (O.faults out.old) (O.wants out.old))
-        (sink_state (O.files out.new) (O.faults out.new) (O.wants out.new)) (write_end result) }
+        (O.state out.old) (O.state out.new) (write_end result) }
 {
     match out.create(name) {
         Ok(()) => Ok(()),
@@ -66,8 +65,7 @@ fn create<O: Sink>(out: &mut O, name: &str) -> Result<(), WriteStop>
 fn append<O: Sink>(out: &mut O, name: &str, piece: &[u8]) -> Result<(), WriteStop>
     requires { length name.now ≤ 200 }
     ensures { Performs O.Tells (Append name.now piece.now)
-        (sink_state (O.files out.old) (O.faults out.old) (O.wants out.old))
-        (sink_state (O.files out.new) (O.faults out.new) (O.wants out.new)) (write_end result) }
+        (O.state out.old) (O.state out.new) (write_end result) }
 {
     match out.append(name, piece) {
         Ok(()) => Ok(()),
@@ -79,8 +77,7 @@ fn append<O: Sink>(out: &mut O, name: &str, piece: &[u8]) -> Result<(), WriteSto
 /// Makes the files empty, one after another.
 fn create_all<O: Sink>(out: &mut O, files: &[OutputFile]) -> Result<(), WriteStop>
     ensures { PerformsAll O.Tells (map creation (map output_value files.now))
-        (sink_state (O.files out.old) (O.faults out.old) (O.wants out.old))
-        (sink_state (O.files out.new) (O.faults out.new) (O.wants out.new)) (write_end result) }
+        (O.state out.old) (O.state out.new) (write_end result) }
 {
     for file in files {
         create(out, file.name.as_str())?;
@@ -91,8 +88,7 @@ fn create_all<O: Sink>(out: &mut O, files: &[OutputFile]) -> Result<(), WriteSto
 /// Adds the bytes of the files, one after another.
 fn append_all<O: Sink>(out: &mut O, files: &[OutputFile]) -> Result<(), WriteStop>
     ensures { PerformsAll O.Tells (map addition (map output_value files.now))
-        (sink_state (O.files out.old) (O.faults out.old) (O.wants out.old))
-        (sink_state (O.files out.new) (O.faults out.new) (O.wants out.new)) (write_end result) }
+        (O.state out.old) (O.state out.new) (write_end result) }
 {
     for file in files {
         append(out, file.name.as_str(), file.bytes.as_slice())?;
@@ -104,8 +100,7 @@ fn append_all<O: Sink>(out: &mut O, files: &[OutputFile]) -> Result<(), WriteSto
 fn write_files<O: Sink>(out: &mut O, files: &[OutputFile]) -> Result<(), WriteStop>
     ensures { PerformsAll O.Tells
         (map creation (map output_value files.now) ++ map addition (map output_value files.now))
-        (sink_state (O.files out.old) (O.faults out.old) (O.wants out.old))
-        (sink_state (O.files out.new) (O.faults out.new) (O.wants out.new)) (write_end result) }
+        (O.state out.old) (O.state out.new) (write_end result) }
 {
     create_all(out, files)?;
     append_all(out, files)
@@ -114,8 +109,7 @@ fn write_files<O: Sink>(out: &mut O, files: &[OutputFile]) -> Result<(), WriteSt
 /// The summary goes to standard output, if there is one.
 fn write_summary<O: Sink>(out: &mut O, end: &Result<Line, Cause>) -> Result<(), WriteStop>
     ensures { PerformsAll O.Tells (summary_calls (conclusion_value end.now))
-        (sink_state (O.files out.old) (O.faults out.old) (O.wants out.old))
-        (sink_state (O.files out.new) (O.faults out.new) (O.wants out.new)) (write_end result) }
+        (O.state out.old) (O.state out.new) (write_end result) }
 {
     match end {
         Ok(summary) => append(out, "-", summary.as_slice()),
@@ -126,8 +120,7 @@ fn write_summary<O: Sink>(out: &mut O, end: &Result<Line, Cause>) -> Result<(), 
 /// Writes a run: its files, and the summary if it ends with one.
 pub(crate) fn write_run<O: Sink>(out: &mut O, run: &Outputs) -> Result<(), WriteStop>
     ensures { PerformsAll O.Tells (calls_of (run_value run.now))
-        (sink_state (O.files out.old) (O.faults out.old) (O.wants out.old))
-        (sink_state (O.files out.new) (O.faults out.new) (O.wants out.new)) (write_end result) }
+        (O.state out.old) (O.state out.new) (write_end result) }
 {
     write_files(out, run.files.as_slice())?;
     write_summary(out, &run.end)
@@ -136,8 +129,7 @@ pub(crate) fn write_run<O: Sink>(out: &mut O, run: &Outputs) -> Result<(), Write
 /// Reports a line on standard output. Where that is refused, nothing more is done.
 pub(crate) fn report<O: Sink>(out: &mut O, line: &Line)
     ensures { Reported O.Tells line.now.items
-        (sink_state (O.files out.old) (O.faults out.old) (O.wants out.old))
-        (sink_state (O.files out.new) (O.faults out.new) (O.wants out.new)) }
+        (O.state out.old) (O.state out.new) }
 {
     let _ = append(out, "-", line.as_slice());
 }

@@ -1,7 +1,7 @@
 //! Images: each is read, checked, and then compared with the digest that the job states.
 
 ghost use Rattle.std.specs.Prelude.{◌≡◌, ◌≤◌, IfSome, IsSome, length, option_map, string_bytes};
-ghost use Rattle.gba_command.specs.Reading.{Gives, GoesTo};
+ghost use Rattle.gba_command.specs.Reading.{GoesTo};
 ghost use Rattle.gba_command.specs.Views.{Agrees, end_of};
 ghost use Rattle.gba_joblog.specs.Soundness.{IsFile};
 ghost use Rattle.gba_joblog.specs.Views.{file_value};
@@ -98,7 +98,7 @@ pub(crate) fn read_bios<S: Store>(
     file: &FileLine,
 ) -> Result<Digested<Bios>, Refusal>
     requires { IsFile (file_value file.now) }
-    ensures { GoesTo (Gives S.Tells S.files S.Reads S.absences S.faults) (bios_plan (file_value file.now)) store.old
+    ensures { GoesTo S.gives (bios_plan (file_value file.now)) store.old
         store.new (end_of digested_value result) }
 {
     let name = name_of(file);
@@ -113,7 +113,7 @@ fn read_cartridge<S: Store>(
     file: &FileLine,
 ) -> Result<Digested<Cartridge>, Refusal>
     requires { IsFile (file_value file.now) }
-    ensures { GoesTo (Gives S.Tells S.files S.Reads S.absences S.faults) (cart_plan (file_value file.now)) store.old
+    ensures { GoesTo S.gives (cart_plan (file_value file.now)) store.old
         store.new (end_of digested_value result) }
 {
     let name = name_of(file);
@@ -128,7 +128,7 @@ fn read_save<S: Store>(
     file: &FileLine,
 ) -> Result<Digested<Save>, Refusal>
     requires { IsFile (file_value file.now) }
-    ensures { GoesTo (Gives S.Tells S.files S.Reads S.absences S.faults) (save_plan (file_value file.now)) store.old
+    ensures { GoesTo S.gives (save_plan (file_value file.now)) store.old
         store.new (end_of digested_value result) }
 {
     let name = name_of(file);
@@ -144,7 +144,7 @@ pub(crate) fn read_any_cartridge<S: Store>(
     file: &Option<FileLine>,
 ) -> Result<Option<Digested<Cartridge>>, Refusal>
     requires { IfSome (option_map file_value file.now) IsFile }
-    ensures { GoesTo (Gives S.Tells S.files S.Reads S.absences S.faults)
+    ensures { GoesTo S.gives
         (any_cart_plan (option_map file_value file.now)) store.old store.new (end_of (option_map digested_value) result) }
 {
     match file {
@@ -163,7 +163,7 @@ pub(crate) fn read_any_save<S: Store>(
     file: &Option<FileLine>,
 ) -> Result<Option<Digested<Save>>, Refusal>
     requires { IfSome (option_map file_value file.now) IsFile }
-    ensures { GoesTo (Gives S.Tells S.files S.Reads S.absences S.faults)
+    ensures { GoesTo S.gives
         (any_save_plan (option_map file_value file.now)) store.old store.new (end_of (option_map digested_value) result) }
 {
     match file {

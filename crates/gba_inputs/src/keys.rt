@@ -1,7 +1,7 @@
 //! The changes of a console's keys: those that its job says, or those of its key file.
 
 ghost use Rattle.std.specs.Prelude.{◌≡◌, IfOk, IfSome, option_map};
-ghost use Rattle.gba_command.specs.Reading.{Gives, GoesTo};
+ghost use Rattle.gba_command.specs.Reading.{GoesTo};
 ghost use Rattle.gba_command.specs.Views.{Agrees, end_of};
 ghost use Rattle.gba_joblog.specs.Soundness.{IsFile};
 ghost use Rattle.gba_joblog.specs.Views.{file_value};
@@ -38,7 +38,7 @@ fn read_key_file<S: Store>(
     file: &FileLine,
 ) -> Result<Vec<KeyChange>, Refusal>
     requires { IsFile (file_value file.now) }
-    ensures { GoesTo (Gives S.Tells S.files S.Reads S.absences S.faults) (key_file_plan (file_value file.now)) store.old
+    ensures { GoesTo S.gives (key_file_plan (file_value file.now)) store.old
         store.new (end_of changes_value result) }
 {
     let name = name_of(file);
@@ -70,7 +70,7 @@ pub(crate) fn read_any_keys<S: Store>(
     file: &Option<FileLine>,
 ) -> Result<Vec<KeyChange>, Refusal>
     requires { IfSome (option_map file_value file.now) IsFile }
-    ensures { GoesTo (Gives S.Tells S.files S.Reads S.absences S.faults)
+    ensures { GoesTo S.gives
         (any_keys_plan changes.now (option_map file_value file.now)) store.old store.new (end_of changes_value result) }
 {
     match file {

@@ -2,7 +2,7 @@
 
 ghost use Rattle.std.specs.Prelude.{◌≡◌, ◌++◌, ◌∷◌, [], IfErr, IfOk, OnOk, map, option_map};
 ghost use Rattle.std.specs.List.{All, AllZip};
-ghost use Rattle.gba_command.specs.Reading.{Gives, GoesTo};
+ghost use Rattle.gba_command.specs.Reading.{GoesTo};
 ghost use Rattle.gba_command.specs.Views.{end_of};
 ghost use Rattle.gba_joblog.specs.Soundness.{IsConsole};
 ghost use Rattle.gba_command.specs.declared.refusal.Refusal.TheVariants.{NoMemory};
@@ -68,7 +68,7 @@ fn read_console<S: Store>(
     console: &JobConsole,
 ) -> Result<Inputs, Refusal>
     requires { IsConsole (console_value console.now) }
-    ensures { GoesTo (Gives S.Tells S.files S.Reads S.absences S.faults) (console_plan (console_value console.now))
+    ensures { GoesTo S.gives (console_plan (console_value console.now))
         store.old store.new (end_of inputs_value result) }
 {
     let bios = read_bios(alloc, store, &console.bios)?;
@@ -95,7 +95,7 @@ fn read_all<S: Store>(
     consoles: &[JobConsole],
 ) -> Result<Vec<Inputs>, Refusal>
     requires { All IsConsole (map console_value consoles.now) }
-    ensures { GoesTo (Gives S.Tells S.files S.Reads S.absences S.faults) (inputs_plan (map console_value consoles.now))
+    ensures { GoesTo S.gives (inputs_plan (map console_value consoles.now))
         store.old store.new (end_of all_inputs_value result) }
 {
     let mut all = Vec::new(alloc);
@@ -115,7 +115,7 @@ pub fn read_inputs<S: Store>(
     consoles: &[JobConsole],
 ) -> Result<Vec<Inputs>, Refusal>
     requires { All IsConsole (map console_value consoles.now) }
-    ensures goes { GoesTo (Gives S.Tells S.files S.Reads S.absences S.faults)
+    ensures goes { GoesTo S.gives
         (inputs_plan (map console_value consoles.now)) store.old store.new (end_of all_inputs_value result) }
     ensures sound { IfOk result
         (λ inputs. AllZip AreInputs (map console_value consoles.now) (all_inputs_value inputs)) }

@@ -6,7 +6,7 @@ use Rattle.gba_store.specs.Files.{Files}
 use Rattle.gba_store.specs.declared.outside.ReadError.{ReadError}
 use Rattle.gba_command.specs.Cause.{Cause, Words, Digest, Stop, Refused, LacksMemory}
 use Rattle.gba_command.specs.Plan.{Plan, Done, Refuse, Read, bind, each, judgement}
-use Rattle.gba_command.specs.Reading.{Gives, GoesTo}
+use Rattle.gba_command.specs.Reading.{GoesTo}
 use Rattle.gba_command.specs.Words.{Command, FileWords, RunWords, RunJob, Assemble, ListArm, ListThumb, Generate}
 use Rattle.gba_command.specs.Writing.{Run}
 use Rattle.gba_command.proofs.Plans.{Names, refused-named, refuses-alone}
@@ -175,19 +175,17 @@ read-named (ListArm words) h = listing-named Arm words h
 read-named (ListThumb words) h = listing-named Thumb words h
 read-named (Generate words) h = h
 
-module _ {Store : Type 0} (Tells : Type 0) (files : Store → Files) (Reads : List ℕ → ℕ → Option ReadError → Store → Store → Type 0)
-    (absences faults : Store → ℕ) where
+module _ {Store : Type 0} (gives : List ℕ → ℕ → Result (List ℕ) ReadError → Store → Store → Type 0) where
   pub refused-words : (command : Option Command) (old new : Store) (end : Result Run Stop)
-      → GoesTo (Gives Tells files Reads absences faults) (command_plan command) old new end → (end ≡ Err (Refused Words)) → command ≡ None
+      → GoesTo gives (command_plan command) old new end → (end ≡ Err (Refused Words)) → command ≡ None
   refused-words None old new end goes is = refl
   refused-words (Some command) old new end goes is =
-      let gives = Gives Tells files Reads absences faults in
       let named = refused-named gives (command_plan (Some command)) old new Words
       (subst (λ (e : Result Run Stop). GoesTo gives (command_plan (Some command)) old new e) is goes) in
       absurd (read-named command named)
 
   pub wrong-words : (command : Option Command) (old new : Store) (end : Result Run Stop)
-      → GoesTo (Gives Tells files Reads absences faults) (command_plan command) old new end → command ≡ None
+      → GoesTo gives (command_plan command) old new end → command ≡ None
       → (new ≡ old) × ((end ≡ Err LacksMemory) ⊎ (end ≡ Err (Refused Words)))
-  wrong-words None old new end goes is = refuses-alone (Gives Tells files Reads absences faults) Words old new end goes
+  wrong-words None old new end goes is = refuses-alone gives Words old new end goes
   wrong-words (Some command) old new end goes is = absurd cc

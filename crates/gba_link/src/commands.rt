@@ -1,7 +1,7 @@
 //! From the words and the files to what is written.
 
 ghost use Rattle.std.specs.Prelude.{map, string_bytes};
-ghost use Rattle.gba_command.specs.Reading.{Gives, GoesTo};
+ghost use Rattle.gba_command.specs.Reading.{GoesTo};
 ghost use Rattle.gba_command.specs.Views.{command_value, end_of, run_value};
 ghost use Rattle.gba_command.specs.Words.{IsCommand};
 ghost use Rattle.gba_link.specs.CommandPlan.{plan_of, plan_of_command};
@@ -24,7 +24,7 @@ fn do_command<R: Threads + Sync, S: Store, G: Gate + Sync>(
     gate: &G,
 ) -> Result<Outputs, Refusal>
     requires { IsCommand (command_value command.now) }
-    ensures { GoesTo (Gives S.Tells S.files S.Reads S.absences S.faults) (plan_of_command (command_value command.now))
+    ensures { GoesTo S.gives (plan_of_command (command_value command.now))
         store.old store.new (end_of run_value result) }
 {
     match command {
@@ -44,7 +44,7 @@ pub(crate) fn do_words<R: Threads + Sync, S: Store, G: Gate + Sync>(
     words: &[String],
     gate: &G,
 ) -> Result<Outputs, Refusal>
-    ensures { GoesTo (Gives S.Tells S.files S.Reads S.absences S.faults) (plan_of (map string_bytes words.now))
+    ensures { GoesTo S.gives (plan_of (map string_bytes words.now))
         store.old store.new (end_of run_value result) }
 {
     match command_of(words) {

@@ -7,7 +7,7 @@ use gba_store::Store;
 
 /// Words are refused just where they say no command, and then nothing is read. Want of memory may come before it.
 pub fn refuses_wrong_words<S: Store>()
-    ensures { RefusesWrongWords S.Tells S.files S.Reads S.absences S.faults }
+    ensures { RefusesWrongWords S.gives }
 {}
 
 /// The log of a run is a job. Run with the same images it writes the same bytes, and the same log and summary, whatever

@@ -6,8 +6,8 @@ ghost use Rattle.gba_store.specs.Files.{Rose};
 ghost use Rattle.gba_command.specs.Answer.{Answers, Completes};
 ghost use Rattle.gba_command.specs.Cause.{Stop};
 ghost use Rattle.gba_command.specs.Plan.{outcome};
-ghost use Rattle.gba_command.specs.Reading.{Gives, GoesTo};
-ghost use Rattle.gba_command.specs.Writing.{Run, sink_state};
+ghost use Rattle.gba_command.specs.Reading.{GoesTo};
+ghost use Rattle.gba_command.specs.Writing.{Run};
 ghost use Rattle.gba_link.specs.CommandPlan.{plan_of};
 
 mod commands;
@@ -50,18 +50,14 @@ pub fn gba_link<R: Threads + Sync, S: Store, O: Sink, G: Gate + Sync>(
     gate: &G,
 ) -> u8
     ensures answer { (end : Result Run Stop)
-        × GoesTo (Gives S.Tells S.files S.Reads S.absences S.faults) (plan_of (map string_bytes words.now))
-        store.old store.new end
-        × Answers O.Tells result end
-        (sink_state (O.files out.old) (O.faults out.old) (O.wants out.old))
-        (sink_state (O.files out.new) (O.faults out.new) (O.wants out.new)) }
+        × GoesTo S.gives (plan_of (map string_bytes words.now))
+        store.old store.new end × Answers O.Tells result end (O.state out.old) (O.state out.new) }
     ensures complete { S.Tells
         → (Rose (S.absences store.old) (S.absences store.new) → ⊥)
         → (Rose (S.faults store.old) (S.faults store.new) → ⊥)
-        → (Rose (O.faults out.old) (O.faults out.new) → ⊥)
+        → (Rose (O.state out.old).faults (O.state out.new).faults → ⊥)
         → Completes O.Tells result (outcome (S.files store.old) (plan_of (map string_bytes words.now)))
-        (sink_state (O.files out.old) (O.faults out.old) (O.wants out.old))
-        (sink_state (O.files out.new) (O.faults out.new) (O.wants out.new)) }
+        (O.state out.old) (O.state out.new) }
 {
     answer(out, &do_words(rt, alloc, store, words, gate))
 }

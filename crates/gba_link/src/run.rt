@@ -2,7 +2,7 @@
 
 ghost use Rattle.std.specs.Prelude.{◌≡◌, ◌≤◌, IfOk, length, map};
 ghost use Rattle.std.specs.List.{AllZip};
-ghost use Rattle.gba_command.specs.Reading.{Gives, GoesTo};
+ghost use Rattle.gba_command.specs.Reading.{GoesTo};
 ghost use Rattle.gba_command.specs.Views.{Agrees, end_of, run_value, run_words_value};
 ghost use Rattle.gba_command.specs.Words.{AreRunWords};
 ghost use Rattle.gba_inputs.specs.Law.{AreInputs};
@@ -90,7 +90,7 @@ fn run_job<R: Threads + Sync, S: Store, G: Gate + Sync>(
 ) -> Result<Outputs, Refusal>
     requires out { length words.now.out.now ≤ 180 }
     requires sound { IsJob (job_value job) }
-    ensures { GoesTo (Gives S.Tells S.files S.Reads S.absences S.faults) (run_plan (run_words_value words.now) (job_value job))
+    ensures { GoesTo S.gives (run_plan (run_words_value words.now) (job_value job))
         store.old store.new (end_of run_value result) }
 {
     let inputs = read_inputs(alloc, store, job.consoles.as_slice())?;
@@ -109,7 +109,7 @@ pub(crate) fn run_command<R: Threads + Sync, S: Store, G: Gate + Sync>(
     gate: &G,
 ) -> Result<Outputs, Refusal>
     requires { AreRunWords (run_words_value words.now) }
-    ensures { GoesTo (Gives S.Tells S.files S.Reads S.absences S.faults) (whole_run_plan (run_words_value words.now))
+    ensures { GoesTo S.gives (whole_run_plan (run_words_value words.now))
         store.old store.new (end_of run_value result) }
 {
     let long = Cause::Job(

@@ -1,7 +1,8 @@
 use Rattle.std.specs.List.{list_any}
-use Rattle.std.specs.Prelude.{◌≡◌, ℕ, ◌==◌, Bool, List, Option, Some, None, length, take, ◌/◌, if◌then◌else◌}
+use Rattle.std.specs.Prelude.{◌≡◌, ℕ, ◌==◌, Bool, List, Option, Some, None, Result, length, take, ◌/◌, if◌then◌else◌}
 use Rattle.gba_store.specs.Counts.{absences_after, read_faults_after, write_faults_after, wants_after}
 use Rattle.gba_store.specs.Files.{Files, one_more}
+use Rattle.gba_store.specs.Given.{Gives}
 use Rattle.gba_store.specs.Memory.{Memory, content_in, files_of}
 use Rattle.gba_store.specs.declared.memory.MemorySink.{MemorySink}
 use Rattle.gba_store.specs.declared.outside.ReadError.{ReadError}
@@ -37,6 +38,12 @@ pub record IsRead (name : List ℕ) (refusal : Option ReadError) (old new : Memo
   pub reads : new.reads ≡ one_more old.reads
   pub faults : new.faults ≡ read_faults_after refusal old.faults
   pub absences : new.absences ≡ absences_after refusal old.absences
+
+-- one read of a store in memory
+abbrev pub GivesInMemory : List ℕ → ℕ → Result (List ℕ) ReadError → Memory → Memory → Type 0
+GivesInMemory =
+    Gives (Unit {0}) (λ store. content_in store.files) (λ name _. IsRead name) (λ store. store.absences)
+    (λ store. store.faults)
 
 -- the files in a sink in memory
 abbrev pub files_in : MemorySink → Files

@@ -42,3 +42,9 @@ pub record CreateFailed (name : List ℕ) (old new : Files) : Type 0 where
 pub record AppendFailed (name piece : List ℕ) (old new : Files) : Type 0 where
   pub file : (new name ≡ old name) ⊎ ((count : ℕ) × (new name ≡ Some (unwrap_or (old name) [] ++ take count piece)))
   pub others : OthersStay name old new
+
+-- what a contract sees of a sink: its files, and its counts of faults and of wants of memory
+pub record SinkState : Type 0 where
+  pub files : Files
+  pub faults : ℕ
+  pub wants : ℕ

@@ -2,7 +2,7 @@
 
 ghost use Rattle.std.specs.Prelude.{◌≡◌, ◌≤◌, Some, None, false, option_map, take, IfOk, OnOk, OnErr, IsOk, IsErr, IsErrOf, IsTrue, MatchResult};
 ghost use Rattle.std.specs.Result.{result_err};
-ghost use Rattle.gba_store.specs.Chosen.{Counts, IsNewSink, IsRead, append_is_chosen, create_is_chosen, files_in, half};
+ghost use Rattle.gba_store.specs.Chosen.{Counts, GivesInMemory, IsNewSink, IsRead, append_is_chosen, create_is_chosen, files_in, half};
 ghost use Rattle.gba_store.specs.Counts.{wants_after};
 ghost use Rattle.gba_store.specs.Files.{Written, Created, Appended, CreateFailed, AppendFailed, IsFront, Rose, one_more};
 ghost use Rattle.gba_store.specs.Memory.{content_in, files_of};
@@ -97,6 +97,12 @@ impl Store for MemoryStore {
     ghost absences = { λ store. store.absences };
 
     ghost Reads = { λ name _. IsRead name };
+
+    ghost gives = { GivesInMemory };
+
+    ghost gave = { λ name most answer old new given. given };
+
+    ghost says = { λ name most answer old new given. given };
 
     /// The chosen reads fail, and the others give what the files have, unless memory is wanting.
     fn read(&mut self, alloc: Global, name: &str, most: u64) -> Result<Vec<u8>, ReadError>
@@ -220,11 +226,7 @@ fn insert_file(
 impl Sink for MemorySink {
     ghost Tells = { Unit {0} };
 
-    ghost files = { λ sink. files_of sink.files };
-
-    ghost faults = { λ sink. sink.faults };
-
-    ghost wants = { λ sink. sink.wants };
+    ghost state = { λ sink. record { files = files_of sink.files; faults = sink.faults; wants = sink.wants } };
 
     /// The chosen creates fail and change no file, whether or not there is memory.
     fn create(&mut self, name: &str) -> Result<(), WriteError>

@@ -5,6 +5,7 @@
 
 ghost use Rattle.std.specs.Prelude.{◌≡◌, ◌≤◌, Some, None};
 ghost use Rattle.std.specs.Result.{result_err};
+ghost use Rattle.gba_store.specs.Given.{Gives};
 ghost use Rattle.gba_store.specs.Counts.{absences_after, read_faults_after, write_faults_after, wants_after};
 
 use crate::outside::{ReadError, Sink, Store, WriteError};
@@ -79,6 +80,14 @@ impl<R: Files<File = File> + Drop> Store for FileStore<R> {
     ghost Reads = { λ _ _ refusal old new.
         (new.absences ≡ absences_after refusal old.absences) × (new.faults ≡ read_faults_after refusal old.faults) };
 
+    ghost gives = { Gives ⊥ (λ _ _. None) (λ _ _ refusal old new.
+        (new.absences ≡ absences_after refusal old.absences) × (new.faults ≡ read_faults_after refusal old.faults))
+        (λ store. store.absences) (λ store. store.faults) };
+
+    ghost gave = { λ name most answer old new given. given };
+
+    ghost says = { λ name most answer old new given. given };
+
     /// A file that the system doesn't find is absent. Every other refusal but want of memory is a fault, and so is a file
     /// that a sink has made empty and still holds.
     fn read(&mut self, alloc: Global, name: &str, most: u64) -> Result<Vec<u8>, ReadError>
@@ -120,8 +129,8 @@ pub struct StdSink<R: Files<File = File> + Print + Drop> {
 impl<R: Files<File = File> + Print + Drop> StdSink<R> {
     /// A sink with no fault and no want yet, which keeps its locks in memory of this allocator.
     pub fn new(runtime: R, alloc: Global) -> StdSink<R>
-        ensures no_fault { ⟦<StdSink<R> as Sink>⟧.faults result ≡ 0 }
-        ensures no_want { ⟦<StdSink<R> as Sink>⟧.wants result ≡ 0 }
+        ensures no_fault { (⟦<StdSink<R> as Sink>⟧.state result).faults ≡ 0 }
+        ensures no_want { (⟦<StdSink<R> as Sink>⟧.state result).wants ≡ 0 }
     {
         StdSink {
             runtime,
@@ -188,11 +197,7 @@ fn print_bytes<R: Print>(runtime: &R, bytes: &[u8]) -> io::Result<()> {
 impl<R: Files<File = File> + Print + Drop> Sink for StdSink<R> {
     ghost Tells = { ⊥ };
 
-    ghost files = { λ _ _. None };
-
-    ghost faults = { λ sink. sink.faults };
-
-    ghost wants = { λ sink. sink.wants };
+    ghost state = { λ sink. record { files = λ _. None; faults = sink.faults; wants = sink.wants } };
 
     /// Standard output can't be made empty: `create` of `-` is a fault, and so is one of a file that is held, by this run
     /// or another.

@@ -1,7 +1,7 @@
 //! An image is read and listed.
 
 ghost use Rattle.std.specs.Prelude.{◌≡◌, ◌≤◌, IfOk, length};
-ghost use Rattle.gba_command.specs.Reading.{Gives, GoesTo};
+ghost use Rattle.gba_command.specs.Reading.{GoesTo};
 ghost use Rattle.gba_command.specs.Views.{Agrees, bytes_value, end_of, file_words_value, run_value};
 ghost use Rattle.gba_command.specs.Words.{AreFileWords};
 ghost use Rattle.gba_translate.specs.Translation.{image_plan, listed, listing_plan};
@@ -17,7 +17,7 @@ use std::alloc::Global;
 /// Reads an image of at most 33,554,432 bytes.
 fn read_image<S: Store>(alloc: Global, store: &mut S, name: &str) -> Result<Vec<u8>, Refusal>
     requires { length name.now ≤ 200 }
-    ensures goes { GoesTo (Gives S.Tells S.files S.Reads S.absences S.faults) (image_plan name.now) store.old store.new
+    ensures goes { GoesTo S.gives (image_plan name.now) store.old store.new
         (end_of bytes_value result) }
     ensures short { IfOk result (λ image. length image.items ≤ 33554432) }
 {
@@ -46,7 +46,7 @@ pub fn list_image<S: Store>(
     set: Set,
 ) -> Result<Outputs, Refusal>
     requires { AreFileWords (file_words_value words.now) }
-    ensures goes { GoesTo (Gives S.Tells S.files S.Reads S.absences S.faults)
+    ensures goes { GoesTo S.gives
         (listing_plan set (file_words_value words.now)) store.old store.new (end_of run_value result) }
 {
     let image = read_image(alloc, store, words.from)?;

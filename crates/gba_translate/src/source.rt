@@ -1,7 +1,7 @@
 //! A source is read and assembled.
 
 ghost use Rattle.std.specs.Prelude.{◌≡◌, ◌≤◌, length};
-ghost use Rattle.gba_command.specs.Reading.{Gives, GoesTo};
+ghost use Rattle.gba_command.specs.Reading.{GoesTo};
 ghost use Rattle.gba_command.specs.Views.{Agrees, bytes_value, end_of, file_words_value, run_value};
 ghost use Rattle.gba_command.specs.Words.{AreFileWords};
 ghost use Rattle.gba_translate.specs.Translation.{assembled, assembly_plan, source_plan};
@@ -30,7 +30,7 @@ fn judge_source(alloc: Global, name: &str, source: &[u8]) -> Result<Vec<u8>, Ref
 /// Reads a source and judges it.
 fn read_source<S: Store>(alloc: Global, store: &mut S, name: &str) -> Result<Vec<u8>, Refusal>
     requires { length name.now ≤ 200 }
-    ensures { GoesTo (Gives S.Tells S.files S.Reads S.absences S.faults) (source_plan name.now) store.old store.new
+    ensures { GoesTo S.gives (source_plan name.now) store.old store.new
         (end_of bytes_value result) }
 {
     let long = Cause::Source(
@@ -53,7 +53,7 @@ pub fn assemble_source<S: Store>(
     words: &FileWords<'_>,
 ) -> Result<Outputs, Refusal>
     requires { AreFileWords (file_words_value words.now) }
-    ensures goes { GoesTo (Gives S.Tells S.files S.Reads S.absences S.faults) (assembly_plan (file_words_value words.now))
+    ensures goes { GoesTo S.gives (assembly_plan (file_words_value words.now))
         store.old store.new (end_of run_value result) }
 {
     let image = read_source(alloc, store, words.from)?;

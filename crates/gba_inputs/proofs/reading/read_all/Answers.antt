@@ -1,6 +1,5 @@
 use Rattle.std.proofs.Common.{map, arith}
 use Rattle.std.proofs.lemmas.Result.{err_from_is_err_and}
-use Rattle.gba_command.specs.Reading.{Gives}
 use Rattle.gba_command.proofs.Each.{leads-begin, leads-lacks}
 use Rattle.gba_joblog.specs.Soundness.{IsConsole}
 use Rattle.gba_joblog.specs.Views.{console_value}
@@ -12,7 +11,7 @@ use Rattle.gba_inputs.proofs.reading.read_all.Goals as goal
 
 pub loop-console-init : goal.loop-console-init
 loop-console-init g c =
-    let gives = Gives g.S.Store.Tells g.S.Store.files g.S.Store.Reads g.S.Store.absences g.S.Store.faults in
+    let gives = g.S.Store.gives in
     rw c.new-all.ensures.items (leads-begin gives (inputs_plan (map console_value c.args.consoles.now)) c.args.store.now)
 
 pub read_console-requires : goal.read_console-requires
@@ -22,7 +21,7 @@ read_console-requires g c =
 
 pub returns-in_err-inputs : goal.returns-in_err-inputs
 returns-in_err-inputs g c =
-    let gives = Gives g.S.Store.Tells g.S.Store.files g.S.Store.Reads g.S.Store.absences g.S.Store.faults in
+    let gives = g.S.Store.gives in
     let p = err_from_is_err_and c.from_residual.result c.from_residual.ensures.1 in
     rw (p.1, p.2)
     (stops gives console_value inputs_value (inputs_plan (map console_value c.args.consoles.now)) c.loop-console.all.items
@@ -31,7 +30,7 @@ returns-in_err-inputs g c =
 
 pub returns-in_err-keep : goal.returns-in_err-keep
 returns-in_err-keep g c =
-    let gives = Gives g.S.Store.Tells g.S.Store.files g.S.Store.Reads g.S.Store.absences g.S.Store.faults in
+    let gives = g.S.Store.gives in
     let consoles = c.args.consoles.now in
     let index = c.loop-console.console-index in
     let on = goes_on gives console_value inputs_value (inputs_plan (map console_value consoles)) c.loop-console.all.items
@@ -43,7 +42,7 @@ returns-in_err-keep g c =
 
 pub loop-console-preserved : goal.loop-console-preserved
 loop-console-preserved g c =
-    let gives = Gives g.S.Store.Tells g.S.Store.files g.S.Store.Reads g.S.Store.absences g.S.Store.faults in
+    let gives = g.S.Store.gives in
     rw c.in_ok-keep.ensures.kept
     (goes_on gives console_value inputs_value (inputs_plan (map console_value c.args.consoles.now))
     c.loop-console.all.items c.args.consoles.now c.loop-console.console-index c.console-item.result c.in_ok-inputs.inputs
@@ -51,6 +50,6 @@ loop-console-preserved g c =
 
 pub returns : goal.returns
 returns g c =
-    let gives = Gives g.S.Store.Tells g.S.Store.files g.S.Store.Reads g.S.Store.absences g.S.Store.faults in
+    let gives = g.S.Store.gives in
     ends gives console_value inputs_value (inputs_plan (map console_value c.args.consoles.now)) c.loop-console.all.items
     c.args.consoles.now c.loop-console.console-index _ _ (omega arith) c.loop-console.invariant

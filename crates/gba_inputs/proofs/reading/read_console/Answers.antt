@@ -1,7 +1,6 @@
 use Rattle.std.proofs.Common.{refl}
 use Rattle.std.specs.Prelude.{option_map}
 use Rattle.std.proofs.lemmas.Result.{err_from_is_err_and}
-use Rattle.gba_command.specs.Reading.{Gives}
 use Rattle.gba_command.proofs.Each.{goes-done}
 use Rattle.gba_command.proofs.Plans.{goes-stop, goes-then}
 use Rattle.gba_joblog.specs.Views.{console_value}
@@ -11,7 +10,7 @@ use Rattle.gba_inputs.proofs.reading.read_console.Goals as goal
 
 pub returns-in_err-bios : goal.returns-in_err-bios
 returns-in_err-bios g c =
-    let gives = Gives g.S.Store.Tells g.S.Store.files g.S.Store.Reads g.S.Store.absences g.S.Store.faults in
+    let gives = g.S.Store.gives in
     let console = console_value c.args.console.now in
     let p = err_from_is_err_and c.from_residual.result c.from_residual.ensures.1 in
     rw (p.1, p.2)
@@ -19,7 +18,7 @@ returns-in_err-bios g c =
 
 pub returns-in_err-cart : goal.returns-in_err-cart
 returns-in_err-cart g c =
-    let gives = Gives g.S.Store.Tells g.S.Store.files g.S.Store.Reads g.S.Store.absences g.S.Store.faults in
+    let gives = g.S.Store.gives in
     let console = console_value c.args.console.now in
     let bios = digested_value c.in_ok-bios.bios in
     let p = err_from_is_err_and c.from_residual-in_err-cart.result c.from_residual-in_err-cart.ensures.1 in
@@ -29,7 +28,7 @@ returns-in_err-cart g c =
 
 pub returns-in_err-save : goal.returns-in_err-save
 returns-in_err-save g c =
-    let gives = Gives g.S.Store.Tells g.S.Store.files g.S.Store.Reads g.S.Store.absences g.S.Store.faults in
+    let gives = g.S.Store.gives in
     let console = console_value c.args.console.now in
     let bios = digested_value c.in_ok-bios.bios in
     let cart = option_map digested_value c.in_ok-cart.cart in
@@ -41,7 +40,7 @@ returns-in_err-save g c =
 
 pub returns-in_err-changes : goal.returns-in_err-changes
 returns-in_err-changes g c =
-    let gives = Gives g.S.Store.Tells g.S.Store.files g.S.Store.Reads g.S.Store.absences g.S.Store.faults in
+    let gives = g.S.Store.gives in
     let console = console_value c.args.console.now in
     let bios = digested_value c.in_ok-bios.bios in
     let cart = option_map digested_value c.in_ok-cart.cart in
@@ -55,7 +54,7 @@ returns-in_err-changes g c =
 
 pub returns : goal.returns
 returns g c =
-    let gives = Gives g.S.Store.Tells g.S.Store.files g.S.Store.Reads g.S.Store.absences g.S.Store.faults in
+    let gives = g.S.Store.gives in
     let console = console_value c.args.console.now in
     let bios = digested_value c.in_ok-bios.bios in
     let cart = option_map digested_value c.in_ok-cart.cart in

@@ -1,6 +1,6 @@
 use Rattle.std.proofs.Common.{Option, Err, subst}
 use Rattle.gba_command.specs.Cause.{Words, Refused}
-use Rattle.gba_command.specs.Reading.{Gives, GoesTo}
+use Rattle.gba_command.specs.Reading.{GoesTo}
 use Rattle.gba_command.specs.Words.{Command}
 use Rattle.gba_command.specs.Writing.{Run}
 use Rattle.gba_command.proofs.Plans.{goes-refused}
@@ -9,6 +9,6 @@ use Rattle.gba_link.proofs.commands.do_words.Goals as goal
 
 pub returns-in-None : goal.returns-in-None
 returns-in-None g c =
-    let gives = Gives g.S.Store.Tells g.S.Store.files g.S.Store.Reads g.S.Store.absences g.S.Store.faults in
+    let gives = g.S.Store.gives in
     let at = c.args.store.now in
     subst (λ (o : Option Command). GoesTo gives (command_plan o) at at (Err (Refused Words))) c.in-None.ensures.command (goes-refused Run gives Words at)

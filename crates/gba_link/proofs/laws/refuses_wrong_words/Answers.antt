@@ -4,6 +4,6 @@ use Rattle.gba_link.proofs.laws.refuses_wrong_words.Goals as goal
 
 pub returns : goal.returns
 returns g c = λ words old new end goes. (
-  refused-words g.S.Store.Tells g.S.Store.files g.S.Store.Reads g.S.Store.absences g.S.Store.faults (command_of words) old new end goes,
-  wrong-words g.S.Store.Tells g.S.Store.files g.S.Store.Reads g.S.Store.absences g.S.Store.faults (command_of words) old new end goes,
+  refused-words g.S.Store.gives (command_of words) old new end goes,
+  wrong-words g.S.Store.gives (command_of words) old new end goes,
 )

@@ -2,7 +2,6 @@ use Rattle.std.proofs.Common.{ℕ, List, Ok, Err, subst}
 use Rattle.gba_command.specs.Views.{Agrees}
 use Rattle.std.proofs.lemmas.Result.{err_from_is_err_and}
 use Rattle.gba_command.specs.Plan.{bind, file}
-use Rattle.gba_command.specs.Reading.{Gives}
 use Rattle.gba_command.proofs.Plans.{goes-then, goes-stop, goes-judged}
 use Rattle.gba_link.specs.RunPlan.{job_or_refusal, after_job, job_refusal, run_plan}
 use Rattle.gba_text.specs.Languages.{error_at}
@@ -15,7 +14,7 @@ use Rattle.gba_link.proofs.run.run_command.Goals as goal
 pub returns-in_err-bytes : goal.returns-in_err-bytes
 returns-in_err-bytes g c =
     let words = run_words_value c.args.words.now in
-    let gives = Gives g.S.Store.Tells g.S.Store.files g.S.Store.Reads g.S.Store.absences g.S.Store.faults in
+    let gives = g.S.Store.gives in
     let p = err_from_is_err_and c.from_residual.result c.from_residual.ensures.1 in
     rw (p.1, p.2)
     (goes-stop gives (file words.job longest_job (job_refusal words (error_at 0 Long))) (λ bytes. bind (after_job words bytes) (run_plan words)) _ _ _ (rw c.name_in_report.ensures at c.in_err-bytes.ensures.goes))
@@ -23,7 +22,7 @@ returns-in_err-bytes g c =
 pub returns-in_err-job : goal.returns-in_err-job
 returns-in_err-job g c =
     let words = run_words_value c.args.words.now in
-    let gives = Gives g.S.Store.Tells g.S.Store.files g.S.Store.Reads g.S.Store.absences g.S.Store.faults in
+    let gives = g.S.Store.gives in
     let bytes = c.in_ok-bytes.bytes.items in
     let p = err_from_is_err_and c.from_residual-in_err-job.result c.from_residual-in_err-job.ensures.1 in
     rw (p.1, p.2)
@@ -35,7 +34,7 @@ returns-in_err-job g c =
 pub returns : goal.returns
 returns g c =
     let words = run_words_value c.args.words.now in
-    let gives = Gives g.S.Store.Tells g.S.Store.files g.S.Store.Reads g.S.Store.absences g.S.Store.faults in
+    let gives = g.S.Store.gives in
     let bytes = c.in_ok-bytes.bytes.items in
     let job = job_value c.in_ok-job.job in
     goes-then gives (file words.job longest_job (job_refusal words (error_at 0 Long))) (λ text. bind (after_job words text) (run_plan words)) _ _ _ bytes _ (rw c.name_in_report.ensures at c.in_ok-bytes.ensures.goes)
