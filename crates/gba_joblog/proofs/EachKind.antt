@@ -17,6 +17,15 @@ at-per_kind of Save = refl
 pub same-kinds : {T : Type 0} (a b : PerKind T) → ((kind : OutKind) → at_kind a kind ≡ at_kind b kind) → a ≡ b
 same-kinds a b same = rw (same Frames, same Samples, same Words, same State, same Save) refl
 
+-- what holds of each one holds of that of each kind
+pub all-kinds : {T : Type 0} (P : T → Type 0) (each : PerKind T) → P each.frames → P each.samples → P each.words
+    → P each.state → P each.save → EachKind P each
+all-kinds P each frames samples words state save Frames = frames
+all-kinds P each frames samples words state save Samples = samples
+all-kinds P each frames samples words state save Words = words
+all-kinds P each frames samples words state save State = state
+all-kinds P each frames samples words state save Save = save
+
 -- what holds of that of each kind holds still where one is put in that it holds of
 pub put-holds : {T : Type 0} (P : T → Type 0) (put : OutKind) (one : T) (each : PerKind T) → P one → EachKind P each
     → EachKind P (with_kind put one each)

@@ -1,6 +1,6 @@
 //! The kinds of output of a console, and one of something for each of them.
 
-ghost use Rattle.std.specs.Prelude.{◌≡◌, IfOk, Ok};
+ghost use Rattle.std.specs.Prelude.{◌≡◌};
 ghost use Rattle.gba_joblog.specs.Outputs.{at_kind, kind_named, out_name, per_kind, with_kind};
 
 /// The kinds of output that a console may be asked for.
@@ -101,19 +101,5 @@ impl<T: Drop> PerKind<T> {
             OutKind::State => self.state = one,
             OutKind::Save => self.save = one,
         }
-    }
-
-    /// What `make` gives for each kind, in the order of the table, up to the first that it refuses.
-    pub fn make<E, F: Fn(OutKind) -> Result<T, E>>(make: F) -> Result<PerKind<T>, E>
-        requires { F.IsAlwaysCallable make }
-        ensures { IfOk result (λ made. (kind : OutKind) → F.post make kind (Ok (at_kind made kind))) }
-    {
-        Ok(PerKind {
-            frames: make(OutKind::Frames)?,
-            samples: make(OutKind::Samples)?,
-            words: make(OutKind::Words)?,
-            state: make(OutKind::State)?,
-            save: make(OutKind::Save)?,
-        })
     }
 }

@@ -1,6 +1,6 @@
-use Rattle.std.proofs.Common.{◌≡◌, ◌≤◌, ◌<◌, ℕ, ◌+◌, ◌∙◌, List, [], ◌∷◌, ◌++◌, length, drop, take, get_or, map, refl, sym, ap, subst, arith, append_assoc, add-one, drop-cons, take_all}
+use Rattle.std.proofs.Common.{◌≡◌, ◌≤◌, ◌<◌, ℕ, ◌+◌, ◌∙◌, Bool, List, Vec, [], ◌∷◌, ◌++◌, length, drop, take, get_or, map, refl, sym, ap, subst, arith, append_assoc, take_all}
 use Rattle.std.specs.List.{All}
-use Rattle.std.proofs.lemmas.List.{append-nil, length-map, map-append, nil_from_length}
+use Rattle.std.proofs.lemmas.List.{append-nil, length-map, map-append, nil_from_length, take_more}
 use Rattle.std.proofs.lemmas.List.Elements.{All-append}
 use Rattle.link_order.proofs.Lists.{all_cons, all_head, all_nil, all_tail}
 use Rattle.link_order.proofs.Starts.{sound_start}
@@ -140,6 +140,18 @@ rooms-map : (until : ℕ) (made : List JobConsole)
     → map (λ console. room_for until (console_value console)) made ≡ map (room_for until) (map console_value made)
 rooms-map until [] = refl
 rooms-map until (console ∷ made) = ap (λ rooms. room_for until (console_value console) ∷ rooms) (rooms-map until made)
+
+-- one more room
+pub rooms-more : (until i : ℕ) (made : List JobConsole) (x : JobConsole) (old new : List RoomFor) (room : RoomFor)
+    → i < length made → x ≡ get_or made i x → new ≡ old ++ room ∷ [] → room ≡ room_for until (console_value x)
+    → old ≡ map (λ console. room_for until (console_value console)) (take i made)
+    → new ≡ map (λ console. room_for until (console_value console)) (take (i + 1) made)
+rooms-more until i made x old new room within here kept is before =
+    let f = λ (console : JobConsole). room_for until (console_value console) in
+    let split : take (i + 1) made ≡ take i made ++ x ∷ [] =
+    take_more made i x within ∙ ap (λ y. take i made ++ y ∷ []) (sym here) in
+    kept ∙ ap (λ r. old ++ r ∷ []) is ∙ ap (λ rs. rs ++ f x ∷ []) before ∙ sym (map-append f (take i made) (x ∷ []))
+    ∙ ap (map f) (sym split)
 
 pub rooms-are : (until i : ℕ) (made : List JobConsole) (rooms : List RoomFor) → length made ≤ i
     → rooms ≡ map (λ console. room_for until (console_value console)) (take i made)

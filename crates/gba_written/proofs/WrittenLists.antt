@@ -10,16 +10,16 @@ use Rattle.gba_command.specs.Writing.{Output}
 use Rattle.gba_command.specs.declared.outputs.OutputFile.{OutputFile}
 use Rattle.gba_inputs.specs.Filled.{with_outputs}
 use Rattle.gba_joblog.specs.Job.{ConsoleJob}
-use Rattle.gba_joblog.specs.Outputs.{all_kinds, at_kind, per_kind}
+use Rattle.gba_joblog.specs.Outputs.{all_kinds, at_kind, per_kind, with_kind}
 use Rattle.gba_joblog.specs.Statements.{asks_for, output_of}
 use Rattle.gba_joblog.specs.declared.outputs.OutKind.{OutKind}
 use Rattle.gba_joblog.specs.declared.outputs.PerKind.{PerKind}
-use Rattle.gba_joblog.proofs.EachKind.{at-per_kind}
+use Rattle.gba_joblog.proofs.EachKind.{all_with, at-per_kind}
 use Rattle.gba_joblog.specs.Views.{console_value}
 use Rattle.gba_joblog.specs.declared.job.JobConsole.{JobConsole}
 use Rattle.gba_joblog.specs.declared.job.OutLine.{OutLine}
 use Rattle.gba_session.specs.Views.{files_value}
-use Rattle.gba_written.specs.Outputs.{all_outs, console_difference, console_outputs, difference_of, kind_output, kind_stated, or_later, outputs_of, outs_of, stated_out}
+use Rattle.gba_written.specs.Outputs.{all_outs, console_difference, console_outputs, difference_of, first_differs, kind_output, kind_stated, or_later, outputs_of, outs_of, stated_out}
 use Rattle.gba_written.specs.Views.{names_value}
 use Rattle.gba_written.specs.declared.names.Names.{Names}
 
@@ -217,3 +217,29 @@ module _ (outputs : List Output) (cause : Option Cause) (stated : List ConsoleJo
       let end : S consoles [] ≡ map console_value consoles =
       ap (λ xs. map console_value consoles ++ xs) (no-stated (map files_value made)) ∙ append-nil (map console_value consoles) in
       sym end ∙ ap (λ xs. S xs []) (sym all) ∙ ap (λ ys. S (take i consoles) ys) (sym none) ∙ h.consoles_are
+
+-- ---- the kinds of one console
+
+-- the line of one kind more is stated
+pub one-stated : (console : ConsoleJob) (files : PerKind (List ℕ)) (kind : OutKind) (kinds : List OutKind)
+    (outs new : PerKind (Option OutLine)) (out : Option OutLine) → out ≡ kind_stated console files kind
+    → new ≡ with_kind kind out outs
+    → all_with (kind ∷ kinds) (outs_of console files) outs ≡ all_with kinds (outs_of console files) new
+unfolding outs_of
+one-stated console files kind kinds outs new out is put =
+    ap (λ one. all_with kinds (per_kind (kind_stated console files)) (with_kind kind one outs))
+    (at-per_kind (kind_stated console files) kind ∙ sym is)
+    ∙ ap (all_with kinds (per_kind (kind_stated console files))) (sym put)
+
+or_later_assoc : (a b c : Option Cause) → or_later a (or_later b c) ≡ or_later (or_later a b) c
+or_later_assoc None b c = refl
+or_later_assoc (Some cause) b c = refl
+
+-- the digest of one kind more is compared
+pub one-compared : (differs : OutKind → Option Cause) (kind : OutKind) (kinds : List OutKind) (found told new : Option Cause)
+    → told ≡ differs kind → new ≡ or_later found told
+    → or_later found (first_differs differs (kind ∷ kinds)) ≡ or_later new (first_differs differs kinds)
+one-compared differs kind kinds found told new is later =
+    ap (λ one. or_later found (or_later one (first_differs differs kinds))) (sym is)
+    ∙ or_later_assoc found told (first_differs differs kinds)
+    ∙ ap (λ cause. or_later cause (first_differs differs kinds)) (sym later)

@@ -1,7 +1,7 @@
 //! The names of a console's outputs.
 
 ghost use Rattle.std.specs.Prelude.{◌≤◌, string_len};
-ghost use Rattle.gba_joblog.specs.Outputs.{at_kind};
+ghost use Rattle.gba_joblog.specs.Outputs.{EachKind};
 
 use gba_joblog::PerKind;
 
@@ -9,5 +9,5 @@ use gba_joblog::PerKind;
 #[derive(Drop)]
 pub(crate) struct Names {
     pub(crate) each: PerKind<String>,
-    ghost short: { (kind : _) → string_len (at_kind each kind) ≤ 200 },
+    ghost short: { EachKind (λ name. string_len name ≤ 200) each },
 }

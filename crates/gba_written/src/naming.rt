@@ -35,7 +35,18 @@ fn names_of_console(alloc: Global, out: &str, player: usize) -> Result<Names, Al
     requires { (length out.now ≤ 180) × (player < 4) }
     ensures { IfOk result (λ names. names_value names ≡ names_of out.now player) }
 {
-    let each = PerKind::make(|kind| name_of(alloc, out, player, kind))?;
+    let frames = name_of(alloc, out, player, OutKind::Frames)?;
+    let samples = name_of(alloc, out, player, OutKind::Samples)?;
+    let words = name_of(alloc, out, player, OutKind::Words)?;
+    let state = name_of(alloc, out, player, OutKind::State)?;
+    let save = name_of(alloc, out, player, OutKind::Save)?;
+    let each = PerKind {
+        frames,
+        samples,
+        words,
+        state,
+        save,
+    };
     Ok(Names { each })
 }
 

@@ -66,11 +66,7 @@ fn or_later(first: Option<Cause>, later: Option<Cause>) -> Option<Cause>
 
 /// States the digests of a console's outputs in its lines, and tells the first that isn't the stated one.
 #[tactic(auto, unfolding(crate::specs::Outputs::outs_of, crate::specs::Outputs::console_difference))]
-fn state_digests(
-    console: &mut JobConsole,
-    names: &Names,
-    files: &PerKind<Vec<u8>>,
-) -> Option<Cause>
+fn state_digests(console: &mut JobConsole, names: &Names, files: &PerKind<Vec<u8>>) -> Option<Cause>
     ensures console { console_value console.new
         ≡ record (console_value console.old) { outs = outs_of (console_value console.old) (files_value files.now) } }
     ensures cause { option_map cause_value result
@@ -79,7 +75,11 @@ fn state_digests(
     let asked = console.outs;
     let mut cause = None;
     for kind in KINDS {
-        let judged = judge(names.each.at(kind), *asked.at(kind), files.at(kind).as_slice());
+        let judged = judge(
+            names.each.at(kind),
+            *asked.at(kind),
+            files.at(kind).as_slice(),
+        );
         console.outs.put(kind, judged.out);
         cause = or_later(cause, judged.cause);
     }

@@ -1,5 +1,5 @@
-use Rattle.std.proofs.Common.{◌≡◌, ◌<◌, ◌++◌, ◌∙◌, List, [], length, map, drop, sym, ap, arith, append-nil}
-use Rattle.std.proofs.lemmas.List.{length-map, nil_from_length}
+use Rattle.std.proofs.Common.{◌≡◌, ◌<◌, ◌++◌, ◌∙◌, List, [], length, map, drop, get_or, sym, ap, arith, append-nil}
+use Rattle.std.proofs.lemmas.List.{get_or-map, length-map, nil_from_length}
 use Rattle.gba_console.specs.Machine.{without_limit}
 use Rattle.gba_image.specs.declared.images.ConsoleImages.{ConsoleImages}
 use Rattle.gba_joblog.specs.Soundness.{IsConsole}
@@ -9,10 +9,12 @@ use Rattle.gba_session.specs.Start.{consoles_from}
 use Rattle.gba_session.proofs.Consoles.{consoles-none, kept-consoles, kept-limits}
 use Rattle.gba_session.proofs.session.consoles_of.Goals as goal
 
-pub console_of-console-requires-clause-console : goal.console_of-console-requires-clause-console
-console_of-console-requires-clause-console c =
-    holds_at IsConsole console_value c.args.job.now.consoles.items c.loop-player.player c.index-consoles.result
-    c.requires.sound.each (omega arith) c.index-consoles.is
+pub console_of-requires-clause-console : goal.console_of-requires-clause-console
+console_of-requires-clause-console c =
+    let consoles = c.args.job.now.consoles.items in
+    let within : c.loop-player.player < length consoles = omega (arith, c.loop-player-test.true, c.len-player-end.ensures) in
+    holds_at IsConsole console_value consoles c.loop-player.player c.index.result.now c.requires.sound.each within
+    c.index.ensures
 
 pub loop-player-preserved : goal.loop-player-preserved
 loop-player-preserved c =
@@ -23,9 +25,14 @@ loop-player-preserved c =
     let held = c.loop-player.invariant in
     let within : player < length job.consoles =
     omega (arith, c.loop-player-test.true, c.len-player-end.ensures, length-map c.args.job.now.consoles.items console_value) in
+    let said = console_value c.index.result.now in
+    let items = c.args.job.now.consoles.items in
+    let few : player < length items = omega (arith, c.loop-player-test.true, c.len-player-end.ensures) in
+    let here : said ≡ get_or job.consoles player said =
+    sym (get_or-map console_value items player c.index.result.now said few ∙ ap console_value (sym c.index.ensures)) in
     let split = c.in-Some.ensures.items in (
-      kept-consoles job player old c.keep.new.all.items console c.in-Some.one c.loop-player.images.rest.items
-          c.next.new.self.rest.items _ within c.in_ok-keep.ensures split c.in_ok-console.ensures held.0,
+      kept-consoles job player said old c.keep.new.all.items console c.in-Some.one c.loop-player.images.rest.items
+          c.next.new.self.rest.items _ within here c.in_ok-keep.ensures split c.in_ok-console.ensures held.0,
       kept-limits c.args.job.now.cycles old c.keep.new.all.items console c.in_ok-keep.ensures
           (ap (λ m. m.board.made.until) c.in_ok-console.ensures) held.1,
       omega (arith, held.2, ap length split),

@@ -1,4 +1,4 @@
-use Rattle.std.proofs.Common.{◌≡◌, ◌×◌, drop}
+use Rattle.std.proofs.Common.{◌≡◌, drop}
 use Rattle.std.specs.Prelude.{option_map}
 use Rattle.gba_command.specs.Views.{cause_value}
 use Rattle.gba_joblog.specs.Views.{console_value}

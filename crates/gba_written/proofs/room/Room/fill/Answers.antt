@@ -12,7 +12,7 @@ use Rattle.gba_joblog.specs.Log.{log_text}
 use Rattle.gba_joblog.specs.Soundness.{IsJob}
 use Rattle.gba_joblog.specs.Views.{console_value, job_value}
 use Rattle.gba_session.specs.Views.{files_value}
-use Rattle.gba_written.specs.Names.{OutNames}
+use Rattle.gba_joblog.specs.declared.outputs.PerKind.{PerKind}
 use Rattle.gba_written.specs.Outputs.{all_outs, difference_of, outputs_of}
 use Rattle.gba_written.specs.Room.{RoomFor}
 use Rattle.gba_written.specs.Views.{names_value}
@@ -91,7 +91,7 @@ returns c =
     c.write_consoles-cause.ensures.files
     ∙ ap (λ (xs : List OutputFile). map output_value xs
     ++ outputs_of (map names_value c.self.inside.names.items) (map console_value c.as_mut_slice.result.now) made) c.self.invariant.0
-    ∙ ap (λ (xs : List OutNames). outputs_of xs (map console_value c.as_mut_slice.result.now) made) said
+    ∙ ap (λ (xs : List (PerKind (List ℕ))). outputs_of xs (map console_value c.as_mut_slice.result.now) made) said
     ∙ ap (λ cs. outputs_of names.consoles (map console_value cs) made) cut_is in
     let files : map output_value c.add_file.new.files.items
     ≡ outputs_of names.consoles job.consoles made ++ file_of names.log (log_of job made) ∷ [] =
@@ -102,7 +102,7 @@ returns c =
     (ap (λ (r : RoomFor). r.names.log) c.self.view_is)
     ∙ ap (λ (xs : List ℕ). outputs_of names.consoles job.consoles made ++ file_of names.log xs ∷ []) log in
     let cause = c.write_consoles-cause.ensures.cause
-    ∙ ap (λ (xs : List OutNames). difference_of xs (map console_value c.as_mut_slice.result.now) made) said
+    ∙ ap (λ (xs : List (PerKind (List ℕ))). difference_of xs (map console_value c.as_mut_slice.result.now) made) said
     ∙ ap (λ cs. difference_of names.consoles (map console_value cs) made) cut_is in
     let end = c.conclude.ensures
     ∙ ap (λ x. conclusion x c.add_log_line.new.summary.items) cause
