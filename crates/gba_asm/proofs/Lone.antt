@@ -22,7 +22,7 @@ use Rattle.gba_asm_thumb.specs.Statement as thumb
 use Rattle.gba_asm.specs.declared.directives.Width.{Width}
 use Rattle.gba_asm.specs.declared.directives.Width.TheVariants as width
 use Rattle.gba_asm.specs.declared.places.Place.{Place}
-use Rattle.gba_asm.specs.Assembly.{Given, assembly_of, line_bytes, lone_bytes, longest_source, sources}
+use Rattle.gba_asm.specs.Assembly.{Assembled, assembly_of, line_bytes, lone_bytes, longest_source, sources}
 use Rattle.gba_asm.specs.Directives.{are_items, width_size, count_words, directive_of}
 use Rattle.gba_asm.specs.Encoding.{item_bytes, items_bytes, statement_bytes, arm_word, thumb_code, thumb_bytes, encoded, aligned, in_range, address_in, address_of, below, or_operand}
 use Rattle.gba_asm.specs.Places.{Labels, labels_from, labels_of, no_labels, start, fits, place_after, past_statement, after_statement, state_after, is_repeated}
@@ -322,7 +322,7 @@ lone_labels thumb address number (line ∷ ls) bytes h =
     let lone = h.2 in
     rw (h.3, lone.next) (lone_labels thumb (address + length h.0) (number + 1) ls h.1 h.4)
 
-abbrev begun : Given
+abbrev begun : Assembled
 begun = record { bytes = []; place = start }
 
 -- a source of such lines in ARM code
