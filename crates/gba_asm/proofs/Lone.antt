@@ -22,14 +22,14 @@ use Rattle.gba_asm_thumb.specs.Statement as thumb
 use Rattle.gba_asm.specs.declared.directives.Width.{Width}
 use Rattle.gba_asm.specs.declared.directives.Width.TheVariants as width
 use Rattle.gba_asm.specs.declared.places.Place.{Place}
-use Rattle.gba_asm.specs.Assembly.{Given, assembly_of, line_bytes, lone_bytes, longest_source, sources}
-use Rattle.gba_asm.specs.Directives.{are_items, bytes_of, count_words, directive_of}
+use Rattle.gba_asm.specs.Assembly.{Assembled, assembly_of, line_bytes, lone_bytes, longest_source, sources}
+use Rattle.gba_asm.specs.Directives.{are_items, width_size, count_words, directive_of}
 use Rattle.gba_asm.specs.Encoding.{item_bytes, items_bytes, statement_bytes, arm_word, thumb_code, thumb_bytes, encoded, aligned, in_range, address_in, address_of, below, or_operand}
 use Rattle.gba_asm.specs.Places.{Labels, labels_from, labels_of, no_labels, start, fits, place_after, past_statement, after_statement, state_after, is_repeated}
 use Rattle.gba_asm.specs.Statements.{Statement, Nothing, Mode, Data, Space, Align, Arm, Thumb, line_says, label_of, size_of, padding, directive_form, statement_of}
 use Rattle.gba_asm.proofs.Passes.{given_line}
 
-item_size : (f : Labels) (w : Width) (word bytes : List ℕ) → item_bytes f w word ≡ Ok bytes → length bytes ≡ bytes_of w
+item_size : (f : Labels) (w : Width) (word bytes : List ℕ) → item_bytes f w word ≡ Ok bytes → length bytes ≡ width_size w
 unfolding item_bytes
 item_size f width.Word word bytes h =
     let g = bind-ok (or_operand (target_of word) >>= address_of f) _ bytes h in
@@ -45,7 +45,7 @@ item_size f width.Byte word bytes h =
     sym (ap length same)
 
 items_size : (f : Labels) (w : Width) (items : List Token) (bytes : List ℕ) → items_bytes f w items ≡ Ok bytes
-    → length bytes ≡ bytes_of w * count_words items
+    → length bytes ≡ width_size w * count_words items
 unfolding items_bytes count_words
 items_size f w [] bytes h =
     let same : [] ≡ bytes = cc in
@@ -115,7 +115,7 @@ bytes_size f address (Mode thumb) bytes h =
     sym (ap length same)
 bytes_size f address (Data w items) bytes h =
     let g = bind-ok (items_bytes f w items) _ bytes h in
-    let g' = bind-ok (aligned (bytes_of w) address) _ bytes g.2 in
+    let g' = bind-ok (aligned (width_size w) address) _ bytes g.2 in
     let same : g.0 ≡ bytes = cc (g'.2) in
     sym (ap length same) ∙ items_size f w items g.0 g.1
 bytes_size f address (Space count) bytes h =
@@ -322,7 +322,7 @@ lone_labels thumb address number (line ∷ ls) bytes h =
     let lone = h.2 in
     rw (h.3, lone.next) (lone_labels thumb (address + length h.0) (number + 1) ls h.1 h.4)
 
-abbrev begun : Given
+abbrev begun : Assembled
 begun = record { bytes = []; place = start }
 
 -- a source of such lines in ARM code

@@ -17,7 +17,7 @@ use Rattle.gba_asm_words.specs.Tokens.{Token, Word, Mark, tokens, code_of, fault
 use Rattle.gba_asm_words.proofs.FirstTokens.{tokens-few}
 use Rattle.gba_asm_words.specs.declared.kinds.AsmKind.{AsmKind}
 use Rattle.gba_asm.specs.Answers.{Adds, line_error, onto, refused_at}
-use Rattle.gba_asm.specs.Assembly.{Given, assembly_of, given_with, line_bytes, sources}
+use Rattle.gba_asm.specs.Assembly.{Assembled, assembly_of, assembled_with, line_bytes, sources}
 use Rattle.gba_asm.specs.declared.kinds.AsmRefused.{AsmRefused}
 use Rattle.gba_asm.specs.declared.kinds.LineRefused.{LineRefused}
 use Rattle.gba_asm.specs.declared.kinds.LineRefused.TheVariants as refused
@@ -125,24 +125,25 @@ onto-is (Err kind) image after h = absurd cc
 -- a line that gives these bytes, after those that were given before
 pub given_line : (labels : Labels) (n : ℕ) (before bytes : List ℕ) (p q : Place) (line : List ℕ)
     → line_bytes labels n p line ≡ Ok bytes → place_after p line ≡ q
-    → given_with labels n (record { bytes = before; place = p }) line ≡ Ok (record { bytes = before ++ bytes; place = q })
-unfolding given_with
+    → assembled_with labels n (record { bytes = before; place = p }) line ≡ Ok (record { bytes = before ++ bytes; place = q })
+unfolding assembled_with
 given_line labels n before bytes p q line h moved = rw (h, moved) refl
 
 -- the same of a line whose bytes were added
 pub line_given : (labels : Labels) (n : ℕ) (image after : List ℕ) (p q : Place) (line : List ℕ)
     → onto image (line_bytes labels n p line) ≡ Ok after → q ≡ place_after p line
-    → given_with labels n (record { bytes = image; place = p }) line ≡ Ok (record { bytes = after; place = q })
+    → assembled_with labels n (record { bytes = image; place = p }) line ≡ Ok (record { bytes = after; place = q })
 line_given labels n image after p q line added moved =
     let o = onto-is (line_bytes labels n p line) image after added in
     given_line labels n image o.0 p q line o.1 (sym moved)
     ∙ ap (λ (bytes : List ℕ). Ok (record { bytes = bytes; place = q })) o.2
 
 -- a line is refused as it is defined, or memory is wanting
-pub line_refused : (labels : Labels) (n : ℕ) (given : Given) (image after line : List ℕ) (r : LineRefused) (answer : AsmRefused)
+pub line_refused : (labels : Labels) (n : ℕ) (given : Assembled) (image after line : List ℕ) (r : LineRefused)
+    (answer : AsmRefused)
     → Adds {T = Place} (Err r) image after (line_bytes labels n given.place line) → answer ≡ refused_at n r
-    → Reads {X = Unit {0}} line_error (Err answer) n given (given_with labels n given line)
-unfolding given_with
+    → Reads {X = Unit {0}} line_error (Err answer) n given (assembled_with labels n given line)
+unfolding assembled_with
 line_refused labels n given image after line (refused.Kind kind) answer adds told = rw (told, adds) (refl, refl)
 line_refused labels n given image after line refused.NoMemory answer adds told = rw told tt
 

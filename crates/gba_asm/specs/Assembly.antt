@@ -25,32 +25,32 @@ line_bytes labels number p line = do
 unfoldable pub lone_bytes : Bool → ℕ → List ℕ → Result (List ℕ) AsmKind
 lone_bytes thumb address line = line_bytes no_labels 1 (record { address = address; thumb = thumb }) line
 
--- what the lines before have given: their bytes, and where the next line stands
-pub record Given : Type 0 where
+-- what is assembled of the lines before: their bytes, and where the next line stands
+pub record Assembled : Type 0 where
   pub bytes : List ℕ
   pub place : Place
 
-abbrev pub plus_bytes : Given → List ℕ → List ℕ → Given
-plus_bytes given line bytes = record { bytes = given.bytes ++ bytes; place = place_after given.place line }
+abbrev pub plus_bytes : Assembled → List ℕ → List ℕ → Assembled
+plus_bytes before line bytes = record { bytes = before.bytes ++ bytes; place = place_after before.place line }
 
--- what is given once the line of this number is read as well
-unfoldable pub given_with : Labels → ℕ → Given → List ℕ → Result Given AsmKind
-given_with labels number given line =
-    line_bytes labels number given.place line >>= (λ bytes. Ok (plus_bytes given line bytes))
+-- what is assembled once the line of this number is read as well
+unfoldable pub assembled_with : Labels → ℕ → Assembled → List ℕ → Result Assembled AsmKind
+assembled_with labels number before line =
+    line_bytes labels number before.place line >>= (λ bytes. Ok (plus_bytes before line bytes))
 
 -- the most bytes of a source
 abbrev pub longest_source : ℕ
 longest_source = 1073741824
 
 -- a source whose labels are these; it may end anywhere
-abbrev pub sources : Labels → Language Given (List ℕ) AsmKind
+abbrev pub sources : Labels → Language Assembled (List ℕ) AsmKind
 sources labels = record {
   lines_of = lines;
   longest = longest_source;
   too_long = kind.Size;
   nothing = record { bytes = []; place = start };
-  with_line = given_with labels;
-  at_end = λ _ given. Ok given.bytes;
+  with_line = assembled_with labels;
+  at_end = λ _ assembled. Ok assembled.bytes;
 }
 
 -- the bytes of a source, or its first refused line; a source that is too long is refused with line 0

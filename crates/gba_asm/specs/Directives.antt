@@ -22,10 +22,10 @@ directive_of word =
     else None
 
 -- the bytes of one item
-abbrev pub bytes_of : Width → ℕ
-bytes_of width.Word = 4
-bytes_of width.Half = 2
-bytes_of width.Byte = 1
+abbrev pub width_size : Width → ℕ
+width_size width.Word = 4
+width_size width.Half = 2
+width_size width.Byte = 1
 
 -- an item is a number, and in `.word` it may be a label
 abbrev pub is_item : Width → List ℕ → Bool

@@ -19,7 +19,7 @@ use Rattle.gba_asm_thumb.specs.Statement.{ThumbStatement}
 use Rattle.gba_asm.specs.declared.directives.Width.{Width}
 use Rattle.gba_asm.specs.declared.directives.Width.TheVariants as width
 use Rattle.gba_asm.specs.declared.labels.LabelPlace.{LabelPlace}
-use Rattle.gba_asm.specs.Directives.{bytes_of}
+use Rattle.gba_asm.specs.Directives.{width_size}
 use Rattle.gba_asm.specs.Places.{Labels}
 use Rattle.gba_asm.specs.Statements.{Statement, Nothing, Mode, Data, Space, Align, Arm, Thumb, padding}
 
@@ -97,7 +97,7 @@ items_bytes labels width (Word word ∷ tokens) =
 -- the bytes of data at this address
 abbrev pub data_bytes : Labels → ℕ → Width → List Token → Result (List ℕ) AsmKind
 data_bytes labels address width items =
-    items_bytes labels width items >>= (λ bytes. aligned (bytes_of width) address >>= (λ _. Ok bytes))
+    items_bytes labels width items >>= (λ bytes. aligned (width_size width) address >>= (λ _. Ok bytes))
 
 -- the bytes of a statement at this address
 unfoldable pub statement_bytes : Labels → ℕ → Statement → Result (List ℕ) AsmKind

@@ -16,7 +16,7 @@ use Rattle.gba_asm.specs.declared.directives.Directive.TheVariants as directive
 use Rattle.gba_asm.specs.declared.directives.Width.{Width}
 use Rattle.gba_asm.specs.declared.statements.Statement as written
 use Rattle.gba_asm.specs.declared.statements.Statement.TheVariants as statement
-use Rattle.gba_asm.specs.Directives.{directive_of, are_items, count_words, bytes_of}
+use Rattle.gba_asm.specs.Directives.{directive_of, are_items, count_words, width_size}
 
 -- what a line can say after its label; the items of data stand as their tokens
 pub data Statement : Type 0 where
@@ -99,7 +99,7 @@ padding address = (4 - address % 4) % 4
 unfoldable pub size_of : ℕ → Statement → ℕ
 size_of address Nothing = 0
 size_of address (Mode thumb) = 0
-size_of address (Data width items) = bytes_of width * count_words items
+size_of address (Data width items) = width_size width * count_words items
 size_of address (Space count) = count
 size_of address Align = padding address
 size_of address (Arm s) = 4

@@ -2,7 +2,7 @@
 
 ghost use Rattle.std.specs.Prelude.{◌≡◌, ◌≤◌, true, length};
 ghost use Rattle.gba_asm_words.specs.Tokens.{token_value};
-ghost use Rattle.gba_asm.specs.Directives.{are_items as are_items_of, bytes_of as bytes_in, count_words as count_words_of, directive_of, is_item as is_item_of, next_due as next_due_of};
+ghost use Rattle.gba_asm.specs.Directives.{are_items as are_items_of, width_size as width_size_of, count_words as count_words_of, directive_of, is_item as is_item_of, next_due as next_due_of};
 
 use gba_asm_words::{Token, Tokens, number_in, target_in};
 
@@ -50,8 +50,8 @@ pub(crate) fn directive_in(word: &[u8]) -> Option<Directive>
 }
 
 /// The bytes of one item.
-pub(crate) fn bytes_of(width: Width) -> u32
-    ensures value { result ≡ bytes_in width }
+pub(crate) fn width_size(width: Width) -> u32
+    ensures value { result ≡ width_size_of width }
     ensures some { 1 ≤ result }
     ensures few { result ≤ 4 }
 {

@@ -13,7 +13,7 @@ ghost use Rattle.gba_asm.specs.Answers.{Adds, labels_in};
 ghost use Rattle.gba_asm.specs.Encoding.{address_in as address_in_of, address_of as address_of_target, aligned as aligned_of, arm_word as arm_word_of, below as below_of, data_bytes, encoded, item_bytes, items_bytes, or_operand, statement_bytes, thumb_bytes, thumb_code};
 ghost use Rattle.gba_asm.specs.Statements.{statement_value};
 
-use crate::directives::{Width, bytes_of};
+use crate::directives::{Width, width_size};
 use crate::kinds::LineRefused;
 use crate::labels::Labels;
 use crate::statements::{Statement, padding};
@@ -230,7 +230,7 @@ fn add_data<'a>(
         (data_bytes (labels_in labels.now.places) address width (tokens items.now)) }
 {
     add_items(labels, width, items, image)?;
-    aligned(bytes_of(width), address)?;
+    aligned(width_size(width), address)?;
     Ok(())
 }
 

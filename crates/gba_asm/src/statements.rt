@@ -6,7 +6,7 @@ ghost use Rattle.gba_asm.specs.Answers.{SaysSized};
 ghost use Rattle.gba_asm.specs.Directives.{directive_of};
 ghost use Rattle.gba_asm.specs.Statements.{directed, directive_form, label_of, line_says, machine_form, padding as padding_of, split_label as split_label_of, statement_of};
 
-use crate::directives::{Directive, Width, are_items, bytes_of, count_words, directive_in};
+use crate::directives::{Directive, Width, are_items, count_words, directive_in, width_size};
 use gba_asm_arm::{ArmStatement, arm_statement};
 use gba_asm_thumb::{ThumbStatement, thumb_statement};
 use gba_asm_words::{AsmKind, Token, Tokens, code_of, fault_in, is_label};
@@ -85,7 +85,7 @@ fn data<'a>(width: Width, tokens: &mut Tokens<'a>) -> Result<SizedStatement<'a>,
     let count = count_words(&mut Tokens::new(items));
     Ok(sized(
         Statement::Data { width, items },
-        u64::from(bytes_of(width) * count),
+        u64::from(width_size(width) * count),
     ))
 }
 

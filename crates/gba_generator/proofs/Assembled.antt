@@ -8,7 +8,7 @@ use Rattle.gba_image.specs.declared.error.ImageError.{ImageError}
 use Rattle.gba_text.specs.Languages.{lines_say}
 use Rattle.gba_text.specs.Lines.{lines}
 use Rattle.gba_text.proofs.Languages.{answer_of-lines}
-use Rattle.gba_asm.specs.Assembly.{Given, assembly_of, longest_source, sources}
+use Rattle.gba_asm.specs.Assembly.{Assembled, assembly_of, longest_source, sources}
 use Rattle.gba_asm.specs.Places.{Labels, labels_of, no_labels, start}
 use Rattle.gba_asm_words.specs.Kinds.{AsmError}
 use Rattle.gba_generator.specs.Law.{IsCode}
@@ -50,7 +50,7 @@ short n ds is =
     ∙ ap (λ k. k + (14 + (length ds + 1))) front in
     omega (arith, long, is.few)
 
-abbrev begun : Given
+abbrev begun : Assembled
 begun = record { bytes = []; place = start }
 
 assembles : (n : ℕ) (ds : List ℕ) → n < 2 ^ 32 → IsNumeral n ds → assembly_of (text ds) ≡ Ok (bytes_in (all_rows n ds))
