@@ -101,7 +101,7 @@ done-in-front : (dues : List Incoming) (first m : Machine) → done_in dues (beh
 done-in-front dues first m =
     ap (λ (b : Board). acted m.registers (after_keys (clock_of m) m.keys b.core)) (heard-in-front dues first m)
 
-stepped-in-front : (dues : List Incoming) (first m : Machine) → stepped dues (behind first m) ≡ behind first (stepped dues m)
+pub stepped-in-front : (dues : List Incoming) (first m : Machine) → stepped dues (behind first m) ≡ behind first (stepped dues m)
 unfolding stepped
 stepped-in-front dues first m =
     let changed = behind first m in
@@ -111,7 +111,7 @@ stepped-in-front dues first m =
     ∙ ap (λ (b : Board). record (moved (heard dues m) m done) { board = b })
     (after-in-front done.cycles first.board (record (heard dues m) { core = done.bus }))
 
-told-in-front : (dues : List Incoming) (first m : Machine) → told dues (behind first m) ≡ told dues m
+pub told-in-front : (dues : List Incoming) (first m : Machine) → told dues (behind first m) ≡ told dues m
 unfolding told
 told-in-front dues first m =
     ap (λ (done : Done Core). outgoing (clock_of m) done.bus.serial) (done-in-front dues first m)

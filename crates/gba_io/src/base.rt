@@ -6,7 +6,9 @@
 pub struct Base {
     /// In cycles since reset.
     pub clock: u64,
+    /// The pairs of samples.
     pub pairs: u64,
+    /// The whole frames.
     pub frames: u64,
     /// The transfers that ended.
     pub words: u64,

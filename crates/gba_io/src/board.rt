@@ -57,6 +57,7 @@ impl Board {
         ensures value { result ≡ base_of self.now }
         ensures sound { IsBase result }
     {
+        // The counts at the last base bound those of now.
         let _ = self.made.base();
         let counts = self.counts();
         Base {
