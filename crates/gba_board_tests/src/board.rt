@@ -1,7 +1,7 @@
 //! The board by itself: registers, prices, timers, keys, the halt, DMA, direct sound and the picture's place, by
 //! moves and what they must show.
 
-use crate::cable::bios_of;
+use crate::cable::{bios_of, forget};
 use Move::{
     Advance, Begins, Calm, Clock, Halts, Kept, Keys, Left, Lines, Load, Master, Pair, Pending,
     Place, Price, Queue, Reference, Store, Timer, Unit, Wakes,
@@ -692,5 +692,25 @@ fn memories_have_their_names(rt: HostRuntime) -> Result<(), Fail> {
     );
     assert_eq!(rt; board.core.load(0, 0x0400_0400, Word, false), (0, 1));
     assert_eq!(rt; board.core.code(0x0400_0130, Half), 0x03FF);
+    Ok(())
+}
+
+/// After so many lines more, the frames and the pairs that are counted and those that are kept since the lists were emptied.
+#[test]
+fn lists_are_forgotten(rt: HostRuntime) -> Result<(), Fail> {
+    let mut board = board_of(rt.alloc())?;
+    for &(lines, frames, kept_frames, pairs, kept_pairs) in &[
+        (160, 1, 1, 385, 385),
+        (228, 2, 1, 933, 548),
+        (227, 2, 0, 1479, 546),
+        (1, 3, 1, 1482, 3),
+    ] {
+        advance_lines(&rt, &mut board, lines);
+        assert_eq!(rt; (board.counts().frames, board.counts().samples), (frames, pairs));
+        assert_eq!(rt; board.made.frames().len(), 76_800 * kept_frames);
+        assert_eq!(rt; board.made.samples().len(), 4 * kept_pairs);
+        forget(&rt, &mut board);
+        assert!(rt; board.made.frames().is_empty() && board.made.samples().is_empty());
+    }
     Ok(())
 }

@@ -85,18 +85,26 @@ fn advance<R: Abort>(rt: &R, board: &mut Board, cycles: u32) {
 }
 
 fn take<R: Abort>(rt: &R, board: &mut Board, due: Incoming) {
-    let count = board.ended.count();
-    assert!(rt; count <= 1_000_000 && 512 * (count + 1) <= board.core.serial().next_end());
+    let fits = board.next_end_fits();
+    assert!(rt; fits);
     assert!(rt; board.ended.until() <= 1_000_000 && due.arrival < board.ended.until());
     assert!(rt; due.signal.clock < due.arrival);
     board.take(&due);
 }
 
 fn end<R: Abort>(rt: &R, board: &mut Board) {
-    let count = board.ended.count();
-    assert!(rt; count <= 1_000_000 && 512 * (count + 1) <= board.core.serial().next_end());
+    let fits = board.next_end_fits();
+    assert!(rt; fits);
     assert!(rt; board.core.clock() < board.ended.until());
     board.end_due();
+}
+
+/// Empties the lists.
+pub(crate) fn forget<R: Abort>(rt: &R, board: &mut Board) {
+    let in_step = board.is_in_step();
+    assert!(rt; in_step);
+    assert!(rt; board.core.clock() <= 1_000_000 && board.counts().words <= 1_000_000);
+    board.forget(1_000_000);
 }
 
 fn start(clock: u64, mode: LinkMode, start: Option<(u8, u32)>, reply: Option<u32>) -> Signal {
@@ -457,5 +465,22 @@ fn words_are_taken_out(rt: HostRuntime) -> Result<(), Fail> {
     advance(&rt, &mut board, 2048);
     end(&rt, &mut board);
     counts(&rt, &board, 2, 0);
+    Ok(())
+}
+
+/// The list is emptied, and what ends later is kept in it. All are counted.
+#[test]
+fn words_are_forgotten(rt: HostRuntime) -> Result<(), Fail> {
+    let mut board = board_of(rt.alloc(), (0, 2, 512), true)?;
+    for one in &ALONE {
+        play(&rt, &mut board, *one);
+    }
+    counts(&rt, &board, 1, 1);
+    forget(&rt, &mut board);
+    counts(&rt, &board, 1, 0);
+    store(&rt, &mut board, 0x128, Half, 0x5081);
+    advance(&rt, &mut board, 2048);
+    end(&rt, &mut board);
+    counts(&rt, &board, 2, 1);
     Ok(())
 }

@@ -1,8 +1,9 @@
 -- What a step leaves is sound again.
 use Rattle.std.proofs.Common.{◌≡◌, ℕ, refl, ◌+◌, ◌-◌, ◌*◌, ◌/◌, ◌<◌, ◌≤◌, ◌^◌, ◌∙◌, length, sym, ap, subst, arith}
 use Rattle.gba_exec_transfers.specs.Done.{Done}
-use Rattle.gba_io.specs.Board.{BoardPasses, HasRoom, IsInStep, board_after}
-use Rattle.gba_io.specs.Cable.{EndsFit}
+use Rattle.gba_io.specs.Board.{BoardPasses, HasRoom, IsInStep, base_of, board_after, board_emptied, board_from}
+use Rattle.gba_io.specs.Base.{early_at}
+use Rattle.gba_io.specs.Cable.{AreApart, EndsFit}
 use Rattle.gba_io.specs.Core.{Core}
 use Rattle.gba_io.specs.Drawing.{cycles_early, cycles_in, lines_drawn}
 use Rattle.gba_io.specs.Ended.{Ended}
@@ -12,6 +13,8 @@ use Rattle.gba_ppu_reg.specs.declared.position.Position.{Position}
 use Rattle.gba_io.specs.declared.board.Board.{Board}
 use Rattle.gba_serial.specs.Apart.{next_end}
 use Rattle.gba_serial.specs.SerialUnit.{SerialUnit}
+use Rattle.gba_io.proofs.Drawing.{early-is}
+use Rattle.gba_io.proofs.Ending.{apart-kept, apart-later}
 use Rattle.gba_console.specs.Passing.{KeepsCourse, Passes}
 use Rattle.gba_console.specs.Waiting.{IsSound}
 
@@ -20,11 +23,13 @@ pub core-in-step : (b : Board) (core : Core) (ended : Ended) → core.devices.cl
     → core.devices.place ≡ b.core.devices.place → IsInStep b → IsInStep (record b { core = core; ended = ended })
 core-in-step b core ended clock place step =
     let is_position = λ (q : Position). IsPosition q in
-    let frames = λ (n : ℕ) (q : Position). n + cycles_early q ≡ 280896 * b.made.frame_count + cycles_in q in
+    let base = b.made.base in
+    let frames = λ (n : ℕ) (q : Position). n + cycles_early q + (280896 * base.frames + base.cycles)
+    ≡ 280896 * b.made.frame_count + cycles_in q + (base.clock + early_at base.cycles) in
     let drawn = λ (q : Position). length b.made.drawn ≡ 480 * lines_drawn q in
     record {
       place = subst is_position (sym place) step.place;
-      pairs = step.pairs ∙ ap (λ n. n / 512) (sym clock);
+      pairs = step.pairs ∙ ap (λ n. base.pairs + n / 512) (sym clock);
       frames =
           subst (λ (n : ℕ). frames n core.devices.place) (sym clock)
           (subst (frames b.core.devices.clock) (sym place) step.frames);
@@ -35,7 +40,8 @@ core-in-step b core ended clock place step =
 pub samples-sound : (was : ℕ) (b : Board) → IsSound was b → IsSound was (record b { made = without_samples b.made })
 samples-sound was b sound = record {
   step = record { place = sound.step.place; pairs = sound.step.pairs; frames = sound.step.frames; drawn = sound.step.drawn };
-  ends = record { past = sound.ends.past; next = sound.ends.next; seat = sound.ends.seat; few = sound.ends.few };
+  ends = record { apart = sound.ends.apart; seat = sound.ends.seat; few = sound.ends.few };
+  short = sound.short;
   clock = sound.clock;
   few = sound.few;
   same = sound.same;
@@ -44,11 +50,44 @@ samples-sound was b sound = record {
 pub frames-sound : (was : ℕ) (b : Board) → IsSound was b → IsSound was (record b { made = without_frames b.made })
 frames-sound was b sound = record {
   step = record { place = sound.step.place; pairs = sound.step.pairs; frames = sound.step.frames; drawn = sound.step.drawn };
-  ends = record { past = sound.ends.past; next = sound.ends.next; seat = sound.ends.seat; few = sound.ends.few };
+  ends = record { apart = sound.ends.apart; seat = sound.ends.seat; few = sound.ends.few };
+  short = sound.short;
   clock = sound.clock;
   few = sound.few;
   same = sound.same;
 }
+
+-- and so is a board whose lists were emptied
+pub forgotten-sound : (was until : ℕ) (b : Board) → IsSound was b → until ≤ 2 ^ 39 → b.made.until ≤ until
+    → IsSound was (board_from (base_of b) until (board_emptied b))
+forgotten-sound was until b sound most later = record {
+  step = record {
+    place = sound.step.place;
+    pairs = refl;
+    frames = omega (arith, early-is b.core.devices.place sound.step.place);
+    drawn = sound.step.drawn;
+  };
+  ends = record {
+    apart = record {
+      past = sound.ends.apart.past;
+      next = sound.ends.apart.next;
+      since = omega (arith, sound.short);
+      soon = λ some. absurd (omega (arith, some));
+      recent = sound.short;
+    };
+    seat = sound.ends.seat;
+    few = most;
+  };
+  short = sound.short;
+  clock = omega (arith, sound.clock, later);
+  few = most;
+  same = refl;
+}
+
+-- how many transfers ended by then
+pub count-few : (was : ℕ) (b : Board) → IsSound was b → was ≤ b.core.devices.clock → b.ended.count ≤ 2 ^ 41
+count-few was b sound after =
+    let past = sound.ends.apart.past in omega (arith, past, after, sound.clock, sound.few)
 
 -- there is room for a step that begins below the end
 pub has-room : (b : Board) (cycles clock : ℕ) → b.core.devices.clock ≡ clock → cycles ≤ 512 → IsInStep b
@@ -63,27 +102,29 @@ has-room b cycles clock same short step early few = record {
 pub acted-fit : (clock : ℕ) (b : Board) (core : Core) → EndsFit clock b → b.core.devices.clock ≡ clock
     → KeepsCourse b.core core → EndsFit clock (record b { core = core })
 acted-fit clock b core fits same keeps = record {
-  past = fits.past;
-  next = keeps.next (512 * (b.ended.count + 1)) fits.seat (omega (arith, fits.past, same)) fits.next;
+  apart =
+      apart-kept clock (next_end b.core.serial) (next_end core.serial) b.ended.count b.ended.base fits.apart
+      (λ bound soon before. keeps.next bound fits.seat (omega (arith, soon, same)) before);
   seat = keeps.seat fits.seat;
   few = fits.few;
 }
 
 -- what then holds again, where the step began at a clock
 pub sound-after : (clock cycles : ℕ) (b after : Board) → after ≡ board_after cycles b → BoardPasses cycles b
-    → HasRoom cycles b → EndsFit clock b → b.ended.until ≡ b.made.until → IsSound clock after
-sound-after clock cycles b after e passes room fits same =
+    → HasRoom cycles b → EndsFit clock b → b.ended.until ≡ b.made.until → b.core.devices.clock ≡ clock → cycles ≤ 512
+    → IsSound clock after
+sound-after clock cycles b after e passes room fits same begun short =
     subst (IsSound clock) (sym e) (record {
       step = passes.step room.step;
       ends = record {
-        past = let count = ap (λ (ended : Ended). ended.count) passes.ended in omega (arith, count, fits.past);
-        next =
-            (let count = ap (λ (ended : Ended). ended.count) passes.ended in
-            let next = ap next_end passes.serial in
-            omega (arith, count, next, fits.next));
+        apart =
+            subst (λ (ended : Ended). AreApart clock (next_end (board_after cycles b).core.serial) ended.count ended.base)
+            (sym passes.ended)
+            (subst (λ (u : SerialUnit). AreApart clock (next_end u) b.ended.count b.ended.base) (sym passes.serial) fits.apart);
         seat = let count = ap (λ (u : SerialUnit). u.count) passes.serial in omega (arith, count, fits.seat);
         few = let until = ap (λ (ended : Ended). ended.until) passes.ended in omega (arith, until, fits.few);
       };
+      short = omega (arith, passes.clock, begun, short);
       clock = omega (arith, passes.clock, passes.until, room.end);
       few = omega (arith, passes.until, room.few);
       same =
@@ -130,7 +171,7 @@ pub step-sound : (clock cycles : ℕ) (b after : Board) (core : Core) → IsRead
 step-sound clock cycles b after core ready same keeps short e passes =
     subst (λ n. IsSound n after) (sym (step-was clock cycles (record b { core = core }) after e passes same))
     (sound-after clock cycles (record b { core = core }) after e passes (ready-room clock cycles b core ready same keeps short)
-    (acted-fit clock b core ready.fits ready.same keeps) ready.until)
+    (acted-fit clock b core ready.fits ready.same keeps) ready.until same short)
 
 -- a sound board is ready for a plain step
 pub sound-ready : (was : ℕ) (b : Board) → IsSound was b → was ≤ b.core.devices.clock → b.core.devices.clock < b.made.until
@@ -138,8 +179,8 @@ pub sound-ready : (was : ℕ) (b : Board) → IsSound was b → was ≤ b.core.d
 sound-ready was b sound after early = record {
   same = refl;
   fits = record {
-    past = omega (arith, sound.ends.past, after);
-    next = sound.ends.next;
+    apart =
+        apart-later was b.core.devices.clock (next_end b.core.serial) b.ended.count b.ended.base sound.ends.apart after;
     seat = sound.ends.seat;
     few = sound.ends.few;
   };

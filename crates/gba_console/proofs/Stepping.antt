@@ -73,8 +73,7 @@ module _ (stay : EndsStayFit) (dues : List Incoming) (m : Machine) (sound : IsSo
     (due : All (IsDue m.was (clock_of m)) dues) where
   begun-fits : EndsFit m.was (board_begun m.board)
   begun-fits = record {
-    past = sound.ends.past;
-    next = sound.ends.next;
+    apart = sound.ends.apart;
     seat = sound.ends.seat;
     few = sound.ends.few;
   }

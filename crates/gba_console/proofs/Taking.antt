@@ -50,7 +50,13 @@ takes stay was clock bound (one ∷ dues) b ordered due after past fits early =
     (all-tail (IsDue was clock) one dues due)
     (all-map (Precedes one) (λ due. one.arrival ≤ due.arrival) dues (later one) (pairs-head Precedes one dues ordered))
     by_now (stay.taken one b there soon) early in
-    record { can = (record { fits = there; early = soon; in_flight = here.in_flight }, rest.can); fits = rest.fits }
+    record {
+      can = (
+        record { fits = there; room = stay.room one.arrival b there soon; early = soon; in_flight = here.in_flight },
+        rest.can,
+      );
+      fits = rest.fits;
+    }
 
 -- The same at a place of the list.
 abbrev pub no_signal : Incoming

@@ -1,9 +1,10 @@
--- No step depends on the limit.
+-- No step depends on the limit, nor on the base of the lists.
 use Rattle.std.proofs.Common.{◌≡◌, ℕ, zero, suc, List, [], ◌∷◌, Option, None, Some, refl, ◌∙◌, ap}
 use Rattle.gba_exec_transfers.specs.Done.{Done}
 use Rattle.gba_io.specs.Board.{board_after, board_cycle}
 use Rattle.gba_io.specs.Cable.{board_ended, board_taken, core_heard}
-use Rattle.gba_io.specs.Ended.{Ended, with_transfer}
+use Rattle.gba_io.specs.Base.{at_reset}
+use Rattle.gba_io.specs.Ended.{Ended, ended_from, with_transfer}
 use Rattle.gba_serial.specs.End.{ending}
 use Rattle.gba_serial.specs.declared.transfer.Transfer.{Transfer}
 use Rattle.gba_io.specs.Core.{Core}
@@ -24,7 +25,7 @@ after-unlimited zero b = refl
 after-unlimited (suc count) b = ap board_cycle (after-unlimited count b) ∙ cycle-unlimited (board_after count b)
 
 transfer-unlimited : (transfer : Option Transfer) (e : Ended)
-    → with_transfer transfer (record e { until = 0 }) ≡ record (with_transfer transfer e) { until = 0 }
+    → with_transfer transfer (ended_from at_reset 0 e) ≡ ended_from at_reset 0 (with_transfer transfer e)
 transfer-unlimited None e = refl
 transfer-unlimited (Some transfer) e = refl
 

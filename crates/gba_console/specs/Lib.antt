@@ -6,6 +6,7 @@ pub mod Machine
 pub mod NodeLaws
 pub mod Passing
 pub mod Run
+pub mod Segments
 pub mod Step
 pub mod StepLaws
 pub mod Waiting

@@ -1,6 +1,7 @@
 use Rattle.std.specs.Prelude.{ℕ, List, Option}
 use Rattle.gba_psr.specs.RegisterFile.{reset_file}
-use Rattle.gba_io.specs.Board.{board_at_start}
+use Rattle.gba_io.specs.Base.{at_reset}
+use Rattle.gba_io.specs.Board.{board_at_start, board_emptied, board_from}
 use Rattle.gba_io.specs.Ended.{without_words}
 use Rattle.gba_io.specs.Made.{without_frames, without_samples}
 use Rattle.gba_io.specs.declared.board.Board.{Board}
@@ -19,12 +20,13 @@ pub record Machine : Type 0 where
 abbrev pub clock_of : Machine → ℕ
 clock_of m = m.board.core.devices.clock
 
--- the clock from which on no step begins, and the console but for it: no step depends on it
+-- The clock from which on no step begins, and the console but for it and for where its lists begin: no step depends on
+-- either.
 abbrev pub limit_of : Machine → ℕ
 limit_of m = m.board.made.until
 
 abbrev pub board_without_limit : Board → Board
-board_without_limit b = record b { made = record b.made { until = 0 }; ended = record b.ended { until = 0 } }
+board_without_limit b = board_from at_reset 0 b
 
 abbrev pub without_limit : Machine → Machine
 without_limit m = record m { board = board_without_limit m.board }
@@ -50,3 +52,7 @@ samples_taken m = record m { board = record m.board { made = without_samples m.b
 -- its transfers are taken out
 abbrev pub words_taken : Machine → Machine
 words_taken m = record m { board = record m.board { ended = without_words m.board.ended } }
+
+-- its three lists are emptied, and what they had stays counted
+abbrev pub forgotten : Machine → Machine
+forgotten m = record m { board = board_emptied m.board }

@@ -1,6 +1,6 @@
 use Rattle.std.specs.Prelude.{ℕ, ◌≡◌, ◌+◌, ◌^◌, ◌<◌, ◌≤◌, true, List, [], ◌∷◌}
 use Rattle.gba_io.specs.Board.{IsInStep}
-use Rattle.gba_io.specs.Cable.{EndsFit, board_taken}
+use Rattle.gba_io.specs.Cable.{EndsFit, NextEndFits, board_taken}
 use Rattle.gba_io.specs.Core.{core_is_calm}
 use Rattle.gba_io.specs.declared.board.Board.{Board}
 use Rattle.gba_serial.specs.Apart.{next_end}
@@ -11,6 +11,7 @@ use Rattle.gba_console.specs.Machine.{Machine, clock_of}
 -- what the taking of one signal needs: it was sent before it arrives, and there is room for a transfer that ends before it
 pub record CanTake (due : Incoming) (b : Board) : Type 0 where
   pub fits : EndsFit due.arrival b
+  pub room : NextEndFits b
   pub early : due.arrival < b.ended.until
   pub in_flight : due.signal.clock < due.arrival
 
@@ -19,11 +20,12 @@ abbrev pub CanTakeAll : List Incoming → Board → Type 0
 CanTakeAll [] b = Unit {0}
 CanTakeAll (due ∷ dues) b = CanTake due b × CanTakeAll dues (board_taken due b)
 
--- What holds of the board of each console between its steps, the last of which began at a clock: what it made and its
--- transfers are those of its clocks, and there is room for more.
+-- What holds of the board of each console between its steps, the last of which began at a clock and took at most 512
+-- cycles: what it made and its transfers are those of its clocks, and there is room for more.
 pub record IsSound (was : ℕ) (b : Board) : Type 0 where
   pub step : IsInStep b
   pub ends : EndsFit was b
+  pub short : b.core.devices.clock ≤ was + 512
   pub clock : b.core.devices.clock ≤ b.made.until + 511
   pub few : b.made.until ≤ 2 ^ 39
   pub same : b.ended.until ≡ b.made.until

@@ -1,14 +1,17 @@
 //! Laws over the definitions. Each is the contract of a function that takes no value.
 
-ghost use Rattle.std.specs.Prelude.{List};
+ghost use Rattle.std.specs.Prelude.{◌≡◌, ℕ, List, Option};
 ghost use Rattle.link_node.specs.declared.signal.Incoming.{Incoming};
 ghost use Rattle.gba_agreement.specs.Agreement.{AgreesMulti, AgreesNormal};
 ghost use Rattle.gba_agreement.specs.UnitView.{HasUnit};
 ghost use Rattle.gba_console.specs.Alone.{RunsAlone, console_kind};
 ghost use Rattle.gba_console.specs.Linked.{RecordsEnds, StartsLinked, console_view};
-ghost use Rattle.gba_console.specs.Machine.{Machine};
+ghost use Rattle.gba_console.specs.Machine.{Machine, forgotten};
 ghost use Rattle.gba_console.specs.Passing.{ActsPass};
 ghost use Rattle.gba_console.specs.Run.{IsEnough, Reaches, StepPasses};
+ghost use Rattle.gba_console.specs.Segments.{ForgetsSoundly, LiveSegments, Segments, behind, behind_if};
+ghost use Rattle.link_mapped.specs.Mapped.{IsUnseen};
+ghost use Rattle.link_order.specs.Cut.{Cut};
 
 use crate::Console;
 use gba_agreement::{multi as units_agree_in_multi, normal as units_agree_in_normal};
@@ -16,6 +19,8 @@ use gba_arm_exec::laws::{cycles_of_a_word, words_keep};
 use gba_io::Core;
 use gba_io::laws::{board_passes, writes_keep_ends, writes_keep_time};
 use gba_thumb_exec::laws::{cycles_of_a_halfword, halfwords_keep};
+use link_laws::split;
+use link_mapped::{alike, maps, parts};
 
 /// What a step does before its devices move takes from 1 to 512 cycles, leaves the clock and the picture's
 /// place, and brings no near end.
@@ -95,4 +100,26 @@ pub fn normal()
 {
     has_unit();
     units_agree_in_normal::<Console>();
+}
+
+/// No step sees the lists that a console keeps. A cut with emptied lists is sound where the cut is, and has the same live
+/// signals; and what was emptied, put in front again, makes the console again.
+pub fn forgets()
+    ensures unseen { (firsts : ℕ → Option Machine) → IsUnseen console_kind (λ i. behind_if (firsts i)) (λ i m. m) }
+    ensures again { (m : Machine) → behind m (forgotten m) ≡ m }
+    ensures soundly { (cut : Cut Machine) → ForgetsSoundly cut }
+{
+    alike::<Console>();
+}
+
+/// A run in two segments, between which the lists are emptied, is the whole run: but for the lists, and each list of the
+/// whole run is that of the first segment followed by that of the second.
+pub fn segments()
+    ensures all { Segments }
+    ensures live { LiveSegments }
+{
+    split::<Console>();
+    maps::<Console>();
+    alike::<Console>();
+    parts::<Console>();
 }

@@ -102,7 +102,8 @@ impl Model for Console {
 impl Console {
     ghost use Rattle.std.specs.Prelude.{ℕ, ◌≡◌, ◌+◌, ◌*◌, ◌≤◌, ◌<◌, ◌^◌, IfOk, IsTrue, All, [], None, length, true, false};
     ghost use Rattle.gba_console.specs.Keys.{due_of};
-    ghost use Rattle.gba_console.specs.Machine.{clock_of, frames_taken, reset, samples_taken, words_taken};
+    ghost use Rattle.gba_console.specs.Machine.{clock_of, forgotten, frames_taken, limit_of, reset, samples_taken, without_limit};
+    ghost use Rattle.gba_console.specs.Machine.{words_taken};
     ghost use Rattle.gba_console.specs.Run.{GoesAlone, news, run_to};
     ghost use Rattle.gba_console.specs.Step.{next, stepped, told};
     ghost use Rattle.gba_console.specs.Waiting.{IsPlain};
@@ -113,7 +114,7 @@ impl Console {
     /// A console at reset, at clock 0, of a player below `count`, on a cable of 1 to 4 consoles whose signals take `delay`
     /// cycles, from 1 to 1,024, from its images and the changes of its keys, which are dropped on refusal. It takes the
     /// memory of its RAM, of the decoded instructions and of all that it keeps of what it makes in the steps which begin
-    /// below `room.until`, and no more later.
+    /// below `room.until`, or within 2^24 cycles of a call of `forget`, and no more later.
     pub fn new(
         alloc: Global,
         player: u32,
@@ -216,7 +217,7 @@ impl Console {
     /// kept.
     pub fn words(&self) -> &[Transfer]
         ensures words { result.now ≡ self.now.board.ended.words }
-        ensures few { 512 * length result.now ≤ self.now.board.made.until + 511 }
+        ensures few { 512 * length result.now + self.now.board.ended.base.clock ≤ self.now.board.made.until + 1535 }
     {
         self.board.words()
     }
@@ -236,6 +237,19 @@ impl Console {
         ensures words { result.words ≡ self.now.board.ended.count }
     {
         self.board.counts()
+    }
+
+    /// Empties the lists of whole frames, pairs of samples and ended transfers, all of which stay counted, and makes `until`
+    /// the end of its room: the clock below which the last step begins, no earlier than the former one, and at most 2^24
+    /// cycles on.
+    pub fn forget(&mut self, until: u64)
+        requires most { until ≤ 2 ^ 39 }
+        requires later { limit_of self.old ≤ until }
+        requires near { until ≤ clock_of self.old + 16777216 }
+        ensures plain { without_limit self.new ≡ forgotten (without_limit self.old) }
+        ensures limit { limit_of self.new ≡ until }
+    {
+        self.board.forget(until);
     }
 
     /// Makes a step, of 1 to 512 cycles, which begins below the end of the room. Nothing is due in it.

@@ -19,7 +19,7 @@ pub const ROOM: Room = Room {
 };
 
 /// A BIOS of an assembled source, with zeros behind it.
-fn bios_of(alloc: Global, source: &[u8]) -> Result<Bios, Fail> {
+pub fn bios_of(alloc: Global, source: &[u8]) -> Result<Bios, Fail> {
     let Ok(mut bios) = assemble(alloc, source) else {
         return Err("no source")?;
     };

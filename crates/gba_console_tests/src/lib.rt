@@ -8,4 +8,6 @@ mod console;
 #[cfg(test)]
 mod picture;
 #[cfg(test)]
+mod segments;
+#[cfg(test)]
 mod transfers;

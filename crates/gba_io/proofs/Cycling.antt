@@ -8,6 +8,7 @@ use Rattle.gba_ppu_reg.specs.Position.{IsPosition, cycle as place_cycle}
 use Rattle.gba_ppu_reg.specs.declared.position.Position.{Position}
 use Rattle.gba_sound.specs.Queues.{left_sample, right_sample}
 use Rattle.gba_io.specs.Board.{BoardPasses, HasRoom, IsInStep, QuietBoard, board_after, board_cycle, line_in_cycle, made_in_cycle}
+use Rattle.gba_io.specs.Base.{early_at}
 use Rattle.gba_io.specs.Core.{Core, core_after, core_cycled}
 use Rattle.gba_io.specs.Drawing.{cycles_early, cycles_in, ends_frame, line_bytes, lines_drawn}
 use Rattle.gba_io.specs.Made.{Made, with_line, with_pair}
@@ -34,9 +35,9 @@ board-sum (suc count) more b =
     ap board_cycle (board-sum count more b) ∙ ap (λ n. board_after n b) sum
 
 -- the pairs go with the clock
-pairs-in : (clock pairs : ℕ) → pairs ≡ clock / 512
-    → (if (clock + 1) % 512 == 0 then pairs + 1 else pairs) ≡ (clock + 1) / 512
-pairs-in clock pairs same = grind (arith, nat_tests)
+pairs-in : (clock pairs begun before : ℕ) → pairs + begun ≡ before + clock / 512
+    → (if (clock + 1) % 512 == 0 then pairs + 1 else pairs) + begun ≡ before + (clock + 1) / 512
+pairs-in clock pairs begun before same = grind (arith, nat_tests)
 
 -- a line that is drawn is one more, and the last one ends the frame
 drawn-in : (draws ends : Bool) (count next : ℕ) (drawn line : List ℕ) → length line ≡ 480 → length drawn ≡ 480 * count
@@ -56,15 +57,22 @@ module _ (keeps : (d : Devices) → CyclePasses d) where
       let p = d.place in
       let kept = keeps d in
       let place = λ (q : Position). IsPosition q in
-      let frames = λ (clock : ℕ) (q : Position). clock + cycles_early q
-      ≡ 280896 * (if draws_at (place_cycle p) && ends_frame p then b.made.frame_count + 1 else b.made.frame_count) + cycles_in q in
+      let base = b.made.base in
+      let before : ℕ = 280896 * base.frames + base.cycles in
+      let begun : ℕ = base.clock + early_at base.cycles in
+      let frames = λ (clock : ℕ) (q : Position). clock + cycles_early q + before
+      ≡ 280896 * (if draws_at (place_cycle p) && ends_frame p then b.made.frame_count + 1 else b.made.frame_count)
+      + cycles_in q + begun in
       let drawn = λ (q : Position). length (line_in_cycle b.core b.made).drawn ≡ 480 * lines_drawn q in
       record {
         place = subst place (sym kept.place) (place-sound p step.place);
-        pairs = pairs-in d.clock b.made.pairs step.pairs ∙ ap (λ n. n / 512) (sym kept.clock);
+        pairs =
+            pairs-in d.clock b.made.pairs (base.clock / 512) base.pairs step.pairs
+            ∙ ap (λ n. base.pairs + n / 512) (sym kept.clock);
         frames =
             subst (λ (clock : ℕ). frames clock (device_cycle d).place) (sym kept.clock)
-            (subst (frames (d.clock + 1)) (sym kept.place) (frames-go d.clock b.made.frame_count p step.place step.frames));
+            (subst (frames (d.clock + 1)) (sym kept.place)
+            (frames-go d.clock b.made.frame_count before begun p step.place step.frames));
         drawn = subst drawn (sym kept.place)
             (drawn-in (draws_at (place_cycle p)) (ends_frame p) (lines_drawn p) (lines_drawn (place_cycle p)) b.made.drawn
             (line_bytes p.line b.core) (line-length p.line b.core) step.drawn (lines-go p step.place));

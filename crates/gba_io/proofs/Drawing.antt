@@ -10,6 +10,7 @@ use Rattle.gba_ppu_mix.specs.Mixing.{IsPixelLine, mixed_pixel}
 use Rattle.gba_ppu_reg.specs.Position.{IsPosition, cycle as place_cycle}
 use Rattle.gba_ppu_reg.specs.Registers.{Picture}
 use Rattle.gba_ppu_reg.specs.declared.position.Position.{Position}
+use Rattle.gba_io.specs.Base.{early_at}
 use Rattle.gba_io.specs.Core.{Core}
 use Rattle.gba_io.specs.Drawing.{colour_bytes, colours_bytes, cycles_early, cycles_in, ends_frame, line_bytes, line_colours, lines_drawn}
 
@@ -57,11 +58,15 @@ line-length line b =
 pub place-sound : (p : Position) → IsPosition p → IsPosition (place_cycle p)
 place-sound p sound = record { line = grind (arith, nat_tests, sound.line); dot = grind (arith, nat_tests, sound.dot) }
 
-pub frames-go : (clock count : ℕ) (p : Position) → IsPosition p
-    → clock + cycles_early p ≡ 280896 * count + cycles_in p
-    → clock + 1 + cycles_early (place_cycle p)
-    ≡ 280896 * (if draws_at (place_cycle p) && ends_frame p then count + 1 else count) + cycles_in (place_cycle p)
-frames-go clock count p sound same = grind (arith, nat_tests, sound.line, sound.dot)
+pub frames-go : (clock count before begun : ℕ) (p : Position) → IsPosition p
+    → clock + cycles_early p + before ≡ 280896 * count + cycles_in p + begun
+    → clock + 1 + cycles_early (place_cycle p) + before
+    ≡ 280896 * (if draws_at (place_cycle p) && ends_frame p then count + 1 else count) + cycles_in (place_cycle p) + begun
+frames-go clock count before begun p sound same = grind (arith, nat_tests, sound.line, sound.dot)
+
+-- what is early of a frame goes by its cycles alone
+pub early-is : (p : Position) → IsPosition p → cycles_early p ≡ early_at (cycles_in p)
+early-is p sound = grind (arith, nat_tests, sound.line, sound.dot)
 
 pub lines-go : (p : Position) → IsPosition p
     → (if draws_at (place_cycle p) then (if ends_frame p then 0 else lines_drawn p + 1) else lines_drawn p)

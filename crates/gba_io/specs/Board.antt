@@ -2,10 +2,12 @@ use Rattle.std.specs.Prelude.{◌≡◌, ℕ, zero, suc, false, ◌+◌, ◌*◌
 use Rattle.gba_devices.specs.Cycles.{after_cycles, device_cycle, draws_line, makes_pair, makes_within}
 use Rattle.gba_ppu_reg.specs.Position.{IsPosition}
 use Rattle.gba_sound.specs.Queues.{left_sample, right_sample}
+use Rattle.gba_io.specs.Base.{early_at}
 use Rattle.gba_io.specs.Core.{Core, core_after, core_at_start, core_cycled}
 use Rattle.gba_io.specs.Drawing.{cycles_early, cycles_in, ends_frame, line_bytes, lines_drawn}
-use Rattle.gba_io.specs.Ended.{none_ended}
-use Rattle.gba_io.specs.Made.{Made, none_made, with_line, with_pair}
+use Rattle.gba_io.specs.Ended.{ended_emptied, ended_from, none_ended}
+use Rattle.gba_io.specs.Made.{Made, made_emptied, made_from, none_made, with_line, with_pair}
+use Rattle.gba_io.specs.declared.base.Base.{Base}
 use Rattle.gba_io.specs.declared.board.Board.{Board}
 use Rattle.gba_io.specs.declared.made.Room.{Room}
 
@@ -42,12 +44,14 @@ unfoldable pub board_after : ℕ → Board → Board
 board_after zero b = b
 board_after (suc count) b = board_cycle (board_after count b)
 
--- What a board has made is in step with its clock: the pairs, the whole frames, and the bytes of the lines that are drawn
--- of the present one.
+-- What a board has made since the base is in step with its clock: the pairs, the whole frames, and the bytes of the lines
+-- that are drawn of the present one.
 pub record IsInStep (b : Board) : Type 0 where
   pub place : IsPosition b.core.devices.place
-  pub pairs : b.made.pairs ≡ b.core.devices.clock / 512
-  pub frames : b.core.devices.clock + cycles_early b.core.devices.place ≡ 280896 * b.made.frame_count + cycles_in b.core.devices.place
+  pub pairs : b.made.pairs + b.made.base.clock / 512 ≡ b.made.base.pairs + b.core.devices.clock / 512
+  pub frames : b.core.devices.clock + cycles_early b.core.devices.place + (280896 * b.made.base.frames + b.made.base.cycles)
+      ≡ 280896 * b.made.frame_count + cycles_in b.core.devices.place
+      + (b.made.base.clock + early_at b.made.base.cycles)
   pub drawn : length b.made.drawn ≡ 480 * lines_drawn b.core.devices.place
 
 -- There is room for what so many cycles make: it is in step, and the cycles begin below the end of the room.
@@ -71,3 +75,21 @@ abbrev pub QuietBoard : Type 0
 QuietBoard =
     (cycles : ℕ) (b : Board) → makes_within cycles b.core.devices ≡ false
     → board_after cycles b ≡ record b { core = core_after cycles b.core }
+
+-- where the lists begin of what a board makes from here on
+abbrev pub base_of : Board → Base
+base_of b = record {
+  clock = b.core.devices.clock;
+  pairs = b.made.pairs;
+  frames = b.made.frame_count;
+  words = b.ended.count;
+  cycles = cycles_in b.core.devices.place;
+}
+
+-- the board with its three lists emptied: the whole frames, the pairs and the transfers. All stay counted
+abbrev pub board_emptied : Board → Board
+board_emptied b = record b { made = made_emptied b.made; ended = ended_emptied b.ended }
+
+-- the board whose lists begin at this base, with room up to this clock
+abbrev pub board_from : Base → ℕ → Board → Board
+board_from base until b = record b { made = made_from base until b.made; ended = ended_from base until b.ended }

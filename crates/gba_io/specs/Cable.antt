@@ -2,9 +2,11 @@ use Rattle.std.specs.Prelude.{ℕ, ◌≡◌, ◌+◌, ◌*◌, ◌<◌, ◌≤�
 use Rattle.gba_bus.specs.declared.width.Width.{Width}
 use Rattle.gba_devices.specs.State.{Devices}
 use Rattle.gba_irq.specs.Interrupts.{with_request}
+use Rattle.gba_io.specs.Base.{words_from}
 use Rattle.gba_io.specs.Bus.{core_written}
 use Rattle.gba_io.specs.Core.{Core}
 use Rattle.gba_io.specs.Ended.{with_transfer}
+use Rattle.gba_io.specs.declared.base.Base.{Base}
 use Rattle.gba_io.specs.declared.board.Board.{Board}
 use Rattle.gba_serial.specs.Apart.{next_end}
 use Rattle.gba_serial.specs.End.{ended, ending}
@@ -47,17 +49,31 @@ board_taken due b =
     let b = board_ended due.arrival b in
     record b { core = core_heard due b.core }
 
--- Ends are at least 512 cycles apart, so there is room for all that come before the end of the room: those that came took
--- 512 cycles each up to a clock, and the next one takes as many.
+-- Where the next transfer ends before the end of the room, there is room for it.
+abbrev pub NextEndFits : Board → Type 0
+NextEndFits b =
+    next_end b.core.serial < b.ended.until → b.ended.count < b.ended.base.words + words_from b.ended.base b.ended.until
+
+-- So many transfers ended up to a clock, and the next one ends at `end`. The ends are at least 512 cycles apart: those that
+-- came took 512 cycles each, but for 2^40 at the most, and the next one takes as many. The same holds of those since the
+-- base, where the first may come at once, and the second 512 cycles after a step that began up to 512 cycles before.
+pub record AreApart (clock end count : ℕ) (base : Base) : Type 0 where
+  pub past : 512 * count ≤ 2 ^ 49 + clock
+  pub next : 512 * (count + 1) ≤ 2 ^ 49 + end
+  pub since : 512 * count + base.clock ≤ 512 * base.words + clock + 1024
+  pub soon : base.words < count → 512 * (count + 1) + base.clock ≤ 512 * base.words + end + 1024
+  pub recent : base.clock ≤ clock + 512
+
+-- So there is room for all that come before the end of the room.
 pub record EndsFit (clock : ℕ) (b : Board) : Type 0 where
-  pub past : 512 * b.ended.count ≤ clock
-  pub next : 512 * (b.ended.count + 1) ≤ next_end b.core.serial
+  pub apart : AreApart clock (next_end b.core.serial) b.ended.count b.ended.base
   pub seat : 1 ≤ b.core.serial.count
   pub few : b.ended.until ≤ 2 ^ 39
 
 -- what signals, ends and writes keep of it
 pub record EndsStayFit : Type 0 where
   pub later : (clock later : ℕ) (b : Board) → EndsFit clock b → clock ≤ later → EndsFit later b
+  pub room : (clock : ℕ) (b : Board) → EndsFit clock b → clock < b.ended.until → NextEndFits b
   pub ended : (clock : ℕ) (b : Board) → EndsFit clock b → clock < b.ended.until → EndsFit clock (board_ended clock b)
   pub taken : (due : Incoming) (b : Board) → EndsFit due.arrival b → due.arrival < b.ended.until
       → EndsFit due.arrival (board_taken due b)

@@ -1,3 +1,4 @@
+pub mod Base
 pub mod Board
 pub mod Bus
 pub mod BusLaws

@@ -1,10 +1,12 @@
 use Rattle.std.specs.Prelude.{ℕ, ℤ, Bool, false, ◌+◌, ◌&&◌, List, [], ◌++◌, if◌then◌else◌}
 use Rattle.std.specs.Int.{w16, cast_unsigned, to_le_bytes}
+use Rattle.gba_io.specs.Base.{at_reset}
+use Rattle.gba_io.specs.declared.base.Base.{Base}
 use Rattle.gba_io.specs.declared.made.Room.{Room}
 
 -- What a console makes beside its state: whole frames of the picture, and pairs of samples. Their bytes are kept where they
 -- are asked for, and both are counted anyway. The lines that are drawn of the present frame are kept always. `until` is the
--- clock up to which there is room.
+-- clock up to which there is room, and `base` is where the bytes that are kept begin.
 pub record Made : Type 0 where
   pub keeps_frames : Bool
   pub keeps_samples : Bool
@@ -14,6 +16,7 @@ pub record Made : Type 0 where
   pub frame_count : ℕ
   pub samples : List ℕ
   pub pairs : ℕ
+  pub base : Base
 
 -- a sample as two bytes, the low one first, in two's complement
 abbrev pub sample_bytes : ℤ → List ℕ
@@ -53,6 +56,7 @@ none_made room = record {
   frame_count = 0;
   samples = [];
   pairs = 0;
+  base = at_reset;
 }
 
 -- the pairs are taken out, and none is kept from then on
@@ -62,3 +66,11 @@ without_samples m = record m { keeps_samples = false; samples = [] }
 -- the whole frames are taken out, and none is kept from then on
 abbrev pub without_frames : Made → Made
 without_frames m = record m { keeps_frames = false; frames = [] }
+
+-- none of it is kept any more, and all of it stays counted
+abbrev pub made_emptied : Made → Made
+made_emptied m = record m { frames = []; samples = [] }
+
+-- what is kept begins at this base, and there is room up to this clock
+abbrev pub made_from : Base → ℕ → Made → Made
+made_from base until m = record m { base = base; until = until }

@@ -1,7 +1,8 @@
 //! The board.
 
+use crate::in_step::cycles_in;
 use crate::laws::board_passes;
-use crate::{Core, Ended, Made, Room};
+use crate::{Base, Core, Ended, Made, Room};
 use gba_image::ConsoleImages;
 use gba_terms::NoMemory;
 use std::alloc::Global;
@@ -18,7 +19,9 @@ impl Board {
     ghost use Rattle.std.specs.Prelude.{◌≡◌, ℕ, ◌+◌, ◌*◌, ◌<◌, ◌≤◌, ◌^◌, true, false, IfOk};
     ghost use Rattle.gba_devices.specs.Cycles.{draws_line};
     ghost use Rattle.gba_devices.specs.State.{is_idle};
-    ghost use Rattle.gba_io.specs.Board.{HasRoom, board_after, board_at_start, board_cycle, line_in_cycle};
+    ghost use Rattle.gba_io.specs.Base.{IsBase};
+    ghost use Rattle.gba_io.specs.Board.{HasRoom, IsInStep, base_of, board_after, board_at_start, board_cycle, board_emptied};
+    ghost use Rattle.gba_io.specs.Board.{board_from, line_in_cycle};
     ghost use Rattle.gba_io.specs.Core.{core_cycled};
 
     /// A board at reset, at clock 0, of a player below `count`, on a cable of 1 to 4 consoles whose signals take `delay`
@@ -44,6 +47,40 @@ impl Board {
             made: Made::new(alloc, room)?,
             ended: Ended::new(alloc, room)?,
         })
+    }
+
+    /// Where lists begin that are emptied now.
+    fn base(&self) -> Base
+        requires step { IsInStep self.now }
+        requires clock { self.now.core.devices.clock ≤ 2 ^ 39 + 511 }
+        requires few { self.now.ended.count ≤ 2 ^ 41 }
+        ensures value { result ≡ base_of self.now }
+        ensures sound { IsBase result }
+    {
+        let _ = self.made.base();
+        let counts = self.counts();
+        Base {
+            clock: self.core.clock(),
+            pairs: counts.samples,
+            frames: counts.frames,
+            words: counts.words,
+            cycles: u64::from(cycles_in(&self.core.place())),
+        }
+    }
+
+    /// Empties the lists of what it has made and of the transfers that ended, all of which stay counted, and makes `until`
+    /// the end of their room, at most 2^24 cycles on. It takes no memory: the room for as much was taken at the start.
+    pub fn forget(&mut self, until: u64)
+        requires most { until ≤ 2 ^ 39 }
+        requires near { until ≤ self.old.core.devices.clock + 16777216 }
+        requires step { IsInStep self.old }
+        requires clock { self.old.core.devices.clock ≤ 2 ^ 39 + 511 }
+        requires few { self.old.ended.count ≤ 2 ^ 41 }
+        ensures { self.new ≡ board_from (base_of self.old) until (board_emptied self.old) }
+    {
+        let base = self.base();
+        self.made.forget(base, until);
+        self.ended.forget(base, until);
     }
 
     /// Draws the line in which HBlank is about to begin.

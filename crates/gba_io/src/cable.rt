@@ -1,8 +1,7 @@
 //! What the cable does to a board, and what the board tells it.
 
-ghost use Rattle.std.specs.Prelude.{◌≡◌, ◌+◌, ◌*◌, ◌<◌, ◌≤◌, ◌^◌, MatchOption, length};
+ghost use Rattle.std.specs.Prelude.{◌≡◌, ◌+◌, ◌<◌, ◌≤◌, ◌^◌, MatchOption, length};
 ghost use Rattle.gba_io.specs.Cable.{asks_interrupt, board_ended, board_taken, core_ended, core_heard};
-ghost use Rattle.gba_serial.specs.Apart.{next_end};
 ghost use Rattle.gba_serial.specs.End.{ending};
 ghost use Rattle.gba_serial.specs.Tell.{outgoing};
 
@@ -62,11 +61,14 @@ impl Core {
 }
 
 impl Board {
+    ghost use Rattle.gba_io.specs.Base.{words_from};
+    ghost use Rattle.gba_io.specs.Cable.{NextEndFits};
     ghost use Rattle.gba_io.specs.Ended.{with_transfer, without_words};
 
     /// Counts a transfer that ended, and keeps it where it is asked for.
     fn count(&mut self, transfer: Option<Transfer>)
-        requires { MatchOption transfer (Unit {0}) (λ _. 512 * (self.old.ended.count + 1) ≤ self.old.ended.until) }
+        requires { MatchOption transfer (Unit {0})
+            (λ _. self.old.ended.count < self.old.ended.base.words + words_from self.old.ended.base self.old.ended.until) }
         ensures { self.new ≡ record self.old { ended = with_transfer transfer self.old.ended } }
     {
         if let Some(transfer) = transfer {
@@ -79,7 +81,7 @@ impl Board {
         requires arrival { due.now.arrival < self.old.ended.until }
         requires until { self.old.ended.until ≤ 2 ^ 39 }
         requires in_flight { due.now.signal.clock < due.now.arrival }
-        requires room { 512 * (self.old.ended.count + 1) ≤ next_end self.old.core.serial }
+        requires room { NextEndFits self.old }
         ensures { self.new ≡ board_taken due.now self.old }
     {
         let transfer = self.core.take_signal(due);
@@ -89,7 +91,7 @@ impl Board {
     /// Ends the transfer whose end is at or below the clock.
     pub fn end_due(&mut self)
         requires clock { self.old.core.devices.clock < self.old.ended.until }
-        requires room { 512 * (self.old.ended.count + 1) ≤ next_end self.old.core.serial }
+        requires room { NextEndFits self.old }
         ensures { self.new ≡ board_ended self.old.core.devices.clock self.old }
     {
         let clock = self.core.clock();
@@ -108,7 +110,7 @@ impl Board {
     /// The transfers that ended, in the order of their ends. Empty where they aren't kept.
     pub fn words(&self) -> &[Transfer]
         ensures words { result.now ≡ self.now.ended.words }
-        ensures few { length result.now ≤ self.now.ended.count }
+        ensures few { length result.now + self.now.ended.base.words ≤ self.now.ended.count }
     {
         self.ended.words()
     }

@@ -2,7 +2,7 @@
 
 ghost use Rattle.std.specs.Prelude.{◌≡◌, ◌+◌, ◌≤◌, ◌++◌, ◌∷◌, [], vec_len, vec_capacity};
 
-use crate::Room;
+use crate::{Base, Room};
 use gba_serial::Transfer;
 use gba_terms::NoMemory;
 use std::alloc::Global;
@@ -16,10 +16,12 @@ pub struct Ended {
     until: u64,
     words: Vec<Transfer>,
     count: u64,
+    base: Base,
 }
 
 impl Model for Ended {
-    ghost use Rattle.std.specs.Prelude.{◌≡◌, ◌/◌, ◌≤◌, ◌^◌, true, vec_len, vec_capacity};
+    ghost use Rattle.std.specs.Prelude.{◌≡◌, ◌+◌, ◌≤◌, ◌^◌, true, vec_len, vec_capacity};
+    ghost use Rattle.gba_io.specs.Base.{IsBase, words_from};
     ghost use Rattle.gba_io.specs.Ended.{Ended};
 
     ghost Value = { Ended };
@@ -29,12 +31,17 @@ impl Model for Ended {
       until = e.until;
       words = e.words.items;
       count = e.count;
+      base = e.base;
     } };
 
     ghost invariant = { λ e.
-        (e.keeps_words ≡ true → e.until / 512 ≤ vec_capacity e.words)
-        × (vec_len e.words ≤ e.count) × (e.until ≤ 2 ^ 39) };
+        (e.keeps_words ≡ true → words_from e.base e.until ≤ vec_capacity e.words)
+        × (e.keeps_words ≡ true → 32770 ≤ vec_capacity e.words)
+        × (vec_len e.words + e.base.words ≤ e.count) × (e.until ≤ 2 ^ 39) × IsBase e.base };
 }
+
+/// The most transfers of a segment, which is 2^24 cycles long at most.
+const SEGMENT_WORDS: u64 = 32_770;
 
 /// Adds a transfer, for which there is room.
 fn push(words: &mut Vec<Transfer>, transfer: Transfer)
@@ -49,21 +56,27 @@ fn push(words: &mut Vec<Transfer>, transfer: Transfer)
 }
 
 impl Ended {
-    ghost use Rattle.std.specs.Prelude.{◌+◌, ◌*◌, ◌≤◌, ◌^◌, IfOk, Some, length};
-    ghost use Rattle.gba_io.specs.Ended.{none_ended, with_transfer, without_words};
+    ghost use Rattle.std.specs.Prelude.{◌+◌, ◌<◌, ◌≤◌, ◌^◌, IfOk, Some, length};
+    ghost use Rattle.gba_io.specs.Base.{IsBase, words_from};
+    ghost use Rattle.gba_io.specs.Ended.{ended_emptied, ended_from, none_ended, with_transfer, without_words};
 
-    /// None yet, with room for all that are kept in the steps which begin below `room.until`: they end at least 512
-    /// cycles apart.
+    /// None yet, with room for all that are kept in the steps which begin below `room.until`, and in a segment: they end
+    /// at least 512 cycles apart.
     pub(crate) fn new(alloc: Global, room: Room) -> Result<Ended, NoMemory>
         requires { room.until ≤ 2 ^ 39 }
         ensures { IfOk result (λ ended. ended ≡ none_ended room) }
     {
-        let most = if room.words { room.until / 512 } else { 0 };
+        let most = if room.words {
+            (room.until / 512 + 2).max(SEGMENT_WORDS)
+        } else {
+            0
+        };
         Ok(Ended {
             keeps_words: room.words,
             until: room.until,
             words: Vec::with_capacity(alloc, most as usize)?,
             count: 0,
+            base: Base::at_reset(),
         })
     }
 
@@ -74,10 +87,33 @@ impl Ended {
         self.until
     }
 
+    /// Where those that are kept begin.
+    pub fn base(&self) -> Base
+        ensures value { result ≡ self.now.base }
+        ensures sound { IsBase result }
+        ensures begun { result.words ≤ self.now.count }
+    {
+        self.base
+    }
+
+    /// Empties the list of them, which begins at this base from then on, where so many have ended. There is room for all
+    /// that end in the steps which begin below `until`, at most 2^24 cycles later.
+    pub(crate) fn forget(&mut self, base: Base, until: u64)
+        requires most { until ≤ 2 ^ 39 }
+        requires near { until ≤ base.clock + 16777216 }
+        requires sound { IsBase base }
+        requires words { base.words ≡ self.old.count }
+        ensures { self.new ≡ ended_from base until (ended_emptied self.old) }
+    {
+        self.words.clear();
+        self.until = until;
+        self.base = base;
+    }
+
     /// The transfers in the order of their ends. Empty where they aren't kept.
     pub fn words(&self) -> &[Transfer]
         ensures words { result.now ≡ self.now.words }
-        ensures few { length result.now ≤ self.now.count }
+        ensures few { length result.now + self.now.base.words ≤ self.now.count }
     {
         self.words.as_slice()
     }
@@ -100,7 +136,7 @@ impl Ended {
 
     /// Adds a transfer.
     pub(crate) fn add(&mut self, transfer: Transfer)
-        requires { 512 * (self.old.count + 1) ≤ self.old.until }
+        requires { self.old.count < self.old.base.words + words_from self.old.base self.old.until }
         ensures { self.new ≡ with_transfer (Some transfer) self.old }
     {
         self.count += 1;

@@ -2,6 +2,7 @@
 //! The board of a console: its memories, its devices and its serial unit, as the bus of its processor, what it makes, and
 //! what the cable does to it.
 
+mod base;
 mod board;
 mod bus;
 mod cable;
@@ -12,6 +13,7 @@ mod made;
 mod parts;
 mod serial;
 
+pub use base::Base;
 pub use board::Board;
 pub use ended::Ended;
 pub use made::{Counts, Made, Room};

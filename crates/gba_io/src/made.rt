@@ -4,6 +4,7 @@ ghost use Rattle.std.specs.Prelude.{◌≡◌, ◌+◌, ◌*◌, ◌/◌, ◌^�
 ghost use Rattle.gba_io.specs.Drawing.{colours_bytes};
 ghost use Rattle.gba_io.specs.Made.{sample_bytes};
 
+use crate::Base;
 use gba_terms::NoMemory;
 use std::alloc::Global;
 use std::marker::Model;
@@ -45,10 +46,12 @@ pub struct Made {
     frame_count: u64,
     samples: Vec<u8>,
     pairs: u64,
+    base: Base,
 }
 
 impl Model for Made {
-    ghost use Rattle.std.specs.Prelude.{◌≡◌, ◌+◌, ◌*◌, ◌/◌, ◌≤◌, ◌^◌, true, vec_len, vec_capacity};
+    ghost use Rattle.std.specs.Prelude.{◌≡◌, ◌+◌, ◌*◌, ◌≤◌, ◌^◌, true, vec_len, vec_capacity};
+    ghost use Rattle.gba_io.specs.Base.{IsBase, frames_from, pairs_from};
     ghost use Rattle.gba_io.specs.Made.{Made};
 
     ghost Value = { Made };
@@ -62,17 +65,26 @@ impl Model for Made {
       frame_count = m.frame_count;
       samples = m.samples.items;
       pairs = m.pairs;
+      base = m.base;
     } };
 
     ghost invariant = { λ m.
-        (m.keeps_samples ≡ true → 4 * ((m.until + 511) / 512) ≤ vec_capacity m.samples)
-        × (vec_len m.samples ≤ 4 * m.pairs) × (m.until ≤ 2 ^ 39)
-        × (m.keeps_frames ≡ true → 76800 * ((m.until + 84513) / 280896) ≤ vec_capacity m.frames)
-        × (vec_len m.frames ≤ 76800 * m.frame_count) × (76800 ≤ vec_capacity m.drawn) };
+        (m.keeps_samples ≡ true → 4 * pairs_from m.base m.until ≤ vec_capacity m.samples)
+        × (m.keeps_samples ≡ true → 131076 ≤ vec_capacity m.samples)
+        × (vec_len m.samples + 4 * m.base.pairs ≤ 4 * m.pairs)
+        × (m.keeps_frames ≡ true → 76800 * frames_from m.base m.until ≤ vec_capacity m.frames)
+        × (m.keeps_frames ≡ true → 4608000 ≤ vec_capacity m.frames)
+        × (vec_len m.frames + 76800 * m.base.frames ≤ 76800 * m.frame_count) × (76800 ≤ vec_capacity m.drawn)
+        × (m.until ≤ 2 ^ 39) × IsBase m.base };
 }
 
 /// The bytes of a frame: 160 lines of 240 colours.
 const FRAME: usize = 76_800;
+
+/// The most whole frames and pairs of samples of a segment, which is 2^24 cycles long at most.
+const SEGMENT_FRAMES: u64 = 60;
+
+const SEGMENT_PAIRS: u64 = 32_769;
 
 /// The frames that are whole at the end of a room: one at clock 196,894, and one each 280,896 cycles from there on.
 fn whole_frames(until: u64) -> u64
@@ -148,22 +160,24 @@ fn add_sample(samples: &mut Vec<u8>, sample: i16)
 }
 
 impl Made {
-    ghost use Rattle.std.specs.Prelude.{◌≡◌, ◌+◌, ◌/◌, ◌<◌, ◌≤◌, ◌^◌, length, true, IfOk};
+    ghost use Rattle.std.specs.Prelude.{◌≡◌, ◌+◌, ◌<◌, ◌≤◌, ◌^◌, length, true, IfOk};
+    ghost use Rattle.gba_io.specs.Base.{IsBase, frames_from, pairs_from};
     ghost use Rattle.gba_io.specs.Drawing.{colours_bytes};
-    ghost use Rattle.gba_io.specs.Made.{frame_ended, none_made, with_line, with_pair, without_frames, without_samples};
+    ghost use Rattle.gba_io.specs.Made.{frame_ended, made_emptied, made_from, none_made, with_line, with_pair};
+    ghost use Rattle.gba_io.specs.Made.{without_frames, without_samples};
 
-    /// Nothing yet, with room for all that is kept until `room.until` and one step more.
+    /// Nothing yet, with room for all that is kept until `room.until` and one step more, and for a segment.
     pub(crate) fn new(alloc: Global, room: Room) -> Result<Made, NoMemory>
         requires { room.until ≤ 2 ^ 39 }
         ensures { IfOk result (λ made. made ≡ none_made room) }
     {
         let pairs = if room.samples {
-            (room.until + 511) / 512
+            ((room.until + 511) / 512).max(SEGMENT_PAIRS)
         } else {
             0
         };
         let frames = if room.frames {
-            whole_frames(room.until)
+            whole_frames(room.until).max(SEGMENT_FRAMES)
         } else {
             0
         };
@@ -176,6 +190,7 @@ impl Made {
             frame_count: 0,
             samples: Vec::with_capacity(alloc, 4 * pairs as usize)?,
             pairs: 0,
+            base: Base::at_reset(),
         })
     }
 
@@ -184,6 +199,30 @@ impl Made {
         ensures { result ≡ self.now.until }
     {
         self.until
+    }
+
+    /// Where what is kept begins.
+    pub fn base(&self) -> Base
+        ensures value { result ≡ self.now.base }
+        ensures sound { IsBase result }
+    {
+        self.base
+    }
+
+    /// Empties what is kept, which begins at this base from then on, where the counts are these. There is room up to
+    /// `until`, at most 2^24 cycles later.
+    pub(crate) fn forget(&mut self, base: Base, until: u64)
+        requires most { until ≤ 2 ^ 39 }
+        requires near { until ≤ base.clock + 16777216 }
+        requires sound { IsBase base }
+        requires pairs { base.pairs ≡ self.old.pairs }
+        requires frames { base.frames ≡ self.old.frame_count }
+        ensures { self.new ≡ made_from base until (made_emptied self.old) }
+    {
+        self.frames.clear();
+        self.samples.clear();
+        self.until = until;
+        self.base = base;
     }
 
     /// The whole frames, each of 160 lines of 240 colours: 16 bits each, low byte first, of which the lowest five are red,
@@ -242,7 +281,7 @@ impl Made {
 
     /// Adds a pair of samples.
     pub(crate) fn add_pair(&mut self, left: i16, right: i16)
-        requires { self.old.pairs < (self.old.until + 511) / 512 }
+        requires { self.old.pairs < self.old.base.pairs + pairs_from self.old.base self.old.until }
         ensures { self.new ≡ with_pair true left right self.old }
     {
         self.pairs += 1;
@@ -255,7 +294,7 @@ impl Made {
     /// Ends the frame: its lines are all drawn.
     fn end_frame(&mut self)
         requires drawn { length self.old.drawn ≤ 76800 }
-        requires room { self.old.frame_count < (self.old.until + 84513) / 280896 }
+        requires room { self.old.frame_count < self.old.base.frames + frames_from self.old.base self.old.until }
         ensures { self.new ≡ frame_ended self.old }
     {
         self.frame_count += 1;
@@ -269,7 +308,7 @@ impl Made {
     pub(crate) fn add_line(&mut self, colours: &[u16], ends: bool)
         requires colours { length colours.now ≡ 240 }
         requires drawn { length self.old.drawn ≤ 76320 }
-        requires room { ends ≡ true → self.old.frame_count < (self.old.until + 84513) / 280896 }
+        requires room { ends ≡ true → self.old.frame_count < self.old.base.frames + frames_from self.old.base self.old.until }
         ensures { self.new ≡ with_line true ends (colours_bytes colours.now) self.old }
     {
         add_colours(&mut self.drawn, colours);

@@ -79,7 +79,7 @@ impl Model for Room {
 
     ghost invariant = { λ room.
         (room.words.items ≡ []) × (room.state.items ≡ []) × (room.save.items ≡ [])
-        × (room.asks.words ≡ true → 49 * ((room.until + 511) / 512) ≤ vec_capacity room.words)
+        × (room.asks.words ≡ true → 49 * ((room.until + 1535) / 512) ≤ vec_capacity room.words)
         × (room.asks.state ≡ true → 1041678 ≤ vec_capacity room.state)
         × (room.asks.save ≡ true → 32768 ≤ vec_capacity room.save) };
 }
@@ -153,7 +153,7 @@ impl Room {
         requires { until ≤ 2 ^ 39 }
         ensures { IfOk result (λ room. room ≡ record { asks = asks; until = until }) }
     {
-        let words = (until as usize + 511) / 512 * WORDS_ROOM;
+        let words = (until as usize + 1535) / 512 * WORDS_ROOM;
         Ok(Room {
             asks,
             until,

@@ -3,11 +3,11 @@ use Rattle.std.specs.Prelude.{List, drop}
 use Rattle.gba_io.specs.declared.board.Board.{Board}
 use Rattle.gba_console.specs.Keys.{due_of, keys_left}
 use Rattle.gba_console.specs.Machine.{Machine, clock_of}
-use Rattle.gba_console.specs.Step.{board_begun}
+use Rattle.gba_console.specs.Step.{all_taken, board_begun}
 use Rattle.gba_console.specs.Waiting.{CanTakeAll}
 use Rattle.gba_console.specs.declared.keys.KeyState.{KeyState}
 use Rattle.gba_io.specs.Core.{Core}
-use Rattle.gba_serial.specs.Apart.{next_end}
+use Rattle.gba_io.specs.Cable.{NextEndFits}
 use Rattle.gba_console.specs.StepLaws.{taken-clock}
 use Rattle.gba_console.proofs.Images.{acted-images, moved-images, still-stand, taken-memory}
 use Rattle.gba_console.proofs.Passing.{IsReady, ready-room, step-sound, step-was}
@@ -47,7 +47,8 @@ end_due-requires c =
     record {
       clock = subst (λ (b : Board). b.core.devices.clock < b.ended.until) (sym taken) (omega (arith, soon, clock));
       room =
-          subst (λ (b : Board). 512 * (b.ended.count + 1) ≤ next_end b.core.serial) (sym taken) can.fits.next;
+          subst (λ (b : Board). NextEndFits b) (sym taken)
+          (c.ends_stay_fit.ensures.room (clock_of m) (all_taken dues (board_begun m.board)) can.fits soon);
     }
 
 pub advance-requires-clause-room : goal.advance-requires-clause-room

@@ -1,0 +1,4 @@
+pub mod Matching
+pub mod InCommon
+pub mod Running
+pub mod Soundness
