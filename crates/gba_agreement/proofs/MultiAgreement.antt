@@ -20,7 +20,7 @@ use Rattle.link_order.specs.Due.{incoming}
 use Rattle.link_order.specs.Cut.{Cut, count, hop}
 use Rattle.link_order.proofs.Numbers.{same_or_apart}
 use Rattle.gba_agreement.specs.UnitView.{UnitView}
-use Rattle.gba_agreement.specs.Agreement.{IsReady, Meets, ReachesEnd, RecordsMulti, StartsTransfer, words_of}
+use Rattle.gba_agreement.specs.Agreement.{HasDirectWays, IsReady, Meets, ReachesEnd, RecordsMulti, StartsTransfer, words_of}
 use Rattle.gba_agreement.proofs.Course.{HasPlace, IsHeardBy, IsWiredTo, alike-silent, place-alike, true-not_false}
 use Rattle.gba_agreement.proofs.Ends.{IsSilent, until_end}
 use Rattle.gba_agreement.proofs.Starting.{data_word-small}
@@ -30,11 +30,6 @@ use Rattle.gba_agreement.proofs.Following.{Enters, Given}
 use Rattle.gba_agreement.proofs.Coming.{records-at}
 use Rattle.gba_agreement.proofs.Entering.{Answers, Opens, answers, course_of, end-seated, end_from, met-seat, opens}
 use Rattle.gba_agreement.proofs.Words.{Finds, NeverTakes, answer-in-step, answers-later, from-answer, from-starter, kept-at-end, kept-in-step, meets, own-never, past-never}
-
--- no way from player 0 is shorter over another console
-abbrev pub Triangle : {C : Type 0} → Cut C → Type 0
-Triangle cut =
-    (j k : ℕ) → j < count cut → k < count cut → 0 < j → 0 < k → j ≢ k → hop cut 0 k ≤ hop cut 0 j + hop cut j k
 
 zero-peer : (player count : ℕ) → 0 < player → player < count → (nat_lt 0 count && not (0 == player)) ≡ true
 zero-peer player count some below = grind (arith, nat_tests)
@@ -57,7 +52,7 @@ own-sends : (u : SerialUnit) (word : ℕ) → mode_of u ≡ Multi → field u.se
 own-sends u word mode sends = ap (λ m. data_word m u) mode ∙ sends
 
 module _ {C : Type 0} {kind : NodeKind C} {view : UnitView C} {cut : Cut C} {until : ℕ}
-    (given : Given kind view cut until) (triangle : Triangle cut) (n end : ℕ) (s : Signal) (start : Start) (word : ℕ → ℕ)
+    (given : Given kind view cut until) (direct : HasDirectWays cut) (n end : ℕ) (s : Signal) (start : Start) (word : ℕ → ℕ)
     (starts : StartsTransfer kind cut until 0 n s start) (multi : s.mode ≡ Multi) (first_is : word 0 ≡ start.word)
     (end_is : end ≡ multi_end (count cut) start.speed s.clock)
     (ready : (i m : ℕ) (x : C) (u : SerialUnit) → 0 < i → Meets kind view cut until 0 s i m x u → IsReady view (word i) x u)
@@ -163,7 +158,7 @@ module _ {C : Type 0} {kind : NodeKind C} {view : UnitView C} {cut : Cut C} {unt
     not-before : (j k : ℕ) (one : Party j) → 0 < j → j < count cut → 0 < k → k < count cut → j ≢ k
         → s.clock + hop cut 0 k ≤ comes-at j k one
     not-before j k one some below other there apart =
-        let way = triangle j k below there some other apart in
+        let way = direct j k below there some other apart in
         let begins = one.answer.begins_after in
         omega (arith, way, begins)
 

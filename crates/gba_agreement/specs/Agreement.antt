@@ -1,4 +1,4 @@
-use Rattle.std.specs.Prelude.{ℕ, ◌≡◌, ◌+◌, ◌<◌, ◌≤◌, true, false, nat_lt, List, [], ◌∷◌, ◌++◌, None, Some, if◌then◌else◌}
+use Rattle.std.specs.Prelude.{ℕ, ◌≡◌, ◌≢◌, ◌+◌, ◌<◌, ◌≤◌, true, false, nat_lt, List, [], ◌∷◌, ◌++◌, None, Some, if◌then◌else◌}
 use Rattle.gba_terms.specs.Bits.{field}
 use Rattle.gba_serial.specs.Timing.{is_normal, multi_end, normal_end}
 use Rattle.gba_serial.specs.SerialUnit.{SerialUnit, mode_of, own_word}
@@ -60,6 +60,11 @@ pub record Meets {C : Type 0} (kind : NodeKind C) (view : UnitView C) (cut : Cut
 
 -- Multi
 
+-- no way of a signal from player 0 is shorter over another console
+abbrev pub HasDirectWays : {C : Type 0} → Cut C → Type 0
+HasDirectWays cut =
+    (j k : ℕ) → j < count cut → k < count cut → 0 < j → 0 < k → j ≢ k → hop cut 0 k ≤ hop cut 0 j + hop cut j k
+
 -- a console that is on, in Multi and idle, and its send word
 pub record IsReady {C : Type 0} (view : UnitView C) (word : ℕ) (x : C) (u : SerialUnit) : Type 0 where
   pub on : view.is_on x ≡ true
@@ -85,13 +90,13 @@ pub record RecordsMulti {C : Type 0} (kind : NodeKind C) (view : UnitView C) (en
     pub words_are : transfer.words ≡ words
     pub right : transfer.error ≡ false
 
--- Player 0 starts a Multi transfer, and every other console that takes the start is ready at its turn. Then each console
--- that reaches the end records the same transfer: word j is player j's send word when it took the start, and player 0's
--- the word that it started with.
+-- Ways are direct, player 0 starts a Multi transfer, and every other console that takes the start is ready at its turn.
+-- Then each console that reaches the end records the same transfer: word j is player j's send word when it took the start,
+-- and player 0's the word that it started with.
 abbrev pub AgreesMulti : {C : Type 0} → NodeKind C → UnitView C → Type 0
 AgreesMulti {C} kind view =
     (cut : Cut C) (until k end : ℕ) (s : Signal) (start : Start) (word : ℕ → ℕ) → AreLinked kind view cut
-    → StartsTransfer kind cut until 0 k s start → s.mode ≡ Multi → word 0 ≡ start.word
+    → HasDirectWays cut → StartsTransfer kind cut until 0 k s start → s.mode ≡ Multi → word 0 ≡ start.word
     → end ≡ multi_end (count cut) start.speed s.clock
     → ((i m : ℕ) (x : C) (u : SerialUnit) → 0 < i → Meets kind view cut until 0 s i m x u → IsReady view (word i) x u)
     → (i m : ℕ) (x : C) (dues : List Incoming) → ReachesEnd kind cut until i m end x dues

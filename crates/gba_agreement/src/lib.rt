@@ -9,8 +9,8 @@ ghost use Rattle.gba_agreement.specs.Agreement.{UnitsAgreeInMulti, UnitsAgreeInN
 use link_moments::{signals, steps};
 use link_node::Node;
 
-/// Player 0 starts a Multi transfer, and every other console is in Multi and idle when it takes the start: all that reach
-/// the end record the same end, the same four words and no error.
+/// No way from player 0 is shorter over another console. Player 0 starts a Multi transfer, and every other console is in
+/// Multi and idle when it takes the start: all that reach the end record the same end, the same four words and no error.
 pub fn multi<N: Node>()
     ensures { UnitsAgreeInMulti (kind_of N.clock N.was N.next) }
 {

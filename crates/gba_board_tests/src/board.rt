@@ -75,7 +75,7 @@ fn board_of(alloc: Global) -> Result<Board, Fail> {
         cart: None,
         save: None,
     };
-    Ok(Board::new(alloc, 0, 1, 512, images, ROOM)?)
+    Ok(Board::new(alloc, 0, 1, 1024, images, ROOM)?)
 }
 
 fn advance<R: Abort>(rt: &R, board: &mut Board, cycles: u32) {

@@ -68,7 +68,7 @@ fn board_of(alloc: Global, seat: (u32, u32, u64), words: bool) -> Result<Board, 
         words,
     };
     if player < count && count <= 4 && 1 <= delay && delay <= 1024 {
-        Ok(Board::new(alloc, player, count, delay, images, room)?)
+        Ok(Board::new(alloc, player, count, 2 * delay, images, room)?)
     } else {
         Err("no seat")?
     }

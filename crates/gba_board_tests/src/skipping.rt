@@ -41,7 +41,7 @@ fn board(alloc: Global) -> Result<Board, Fail> {
         samples: true,
         words: false,
     };
-    Ok(Board::new(alloc, 0, 1, 1, images, room)?)
+    Ok(Board::new(alloc, 0, 1, 2, images, room)?)
 }
 
 fn run<R: Abort>(rt: &R, board: &mut Board) {

@@ -1,7 +1,7 @@
 -- No step looks at the lists that a console keeps, nor at where they begin.
 use Rattle.std.proofs.Common.{◌≡◌, ℕ, zero, suc, Bool, true, false, List, [], ◌∷◌, ◌++◌, Option, None, Some, refl, sym, ◌∙◌, ap, append_assoc, if◌then◌else◌}
 use Rattle.std.proofs.Common.{append-nil}
-use Rattle.std.specs.Prelude.{◌&&◌, slice_get}
+use Rattle.std.specs.Prelude.{◌&&◌}
 use Rattle.gba_devices.specs.Cycles.{device_cycle, draws_line, makes_pair}
 use Rattle.gba_exec_transfers.specs.Done.{Done}
 use Rattle.gba_io.specs.Board.{board_after, board_cycle, board_emptied, made_in_cycle}

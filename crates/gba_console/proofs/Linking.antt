@@ -1,5 +1,5 @@
 -- What a console records in a step, and consoles at reset on a cable.
-use Rattle.std.proofs.Common.{ℕ, ◌≡◌, List, [], ◌∷◌, ◌++◌, length, Option, None, Some, refl, ap, sym, ◌∙◌, arith, get_or}
+use Rattle.std.proofs.Common.{ℕ, ◌≡◌, List, [], ◌∷◌, ◌++◌, length, Option, None, Some, refl, ap, sym, ◌+◌, ◌∙◌, get_or}
 use Rattle.std.specs.Prelude.{All, option_to_list, slice_get}
 use Rattle.std.proofs.lemmas.Option.{slice_get-get_or}
 use Rattle.gba_agreement.specs.UnitView.{IsSeat}
@@ -13,8 +13,9 @@ use Rattle.gba_serial.specs.Take.{taken}
 use Rattle.gba_serial.specs.Steps.{ends, fed, fed_ends}
 use Rattle.gba_serial.specs.declared.transfer.Transfer.{Transfer}
 use Rattle.link_node.specs.declared.signal.Incoming.{Incoming}
+use Rattle.link_node.specs.declared.delays.Delays.{Delays}
+use Rattle.link_node.specs.Delays.{hop_of}
 use Rattle.link_order.specs.Cut.{IsFresh, opening}
-use Rattle.link_order.proofs.Hops.{hop_is}
 use Rattle.link_order.proofs.Starts.{in_time_start, sound_start}
 use Rattle.gba_console.specs.Alone.{console_kind}
 use Rattle.gba_console.specs.Linked.{IsAtReset, RecordsEnds, StartsLinked, all_ended, console_view}
@@ -56,33 +57,33 @@ records-ends cycles dues m =
     (cycles done.cycles (record (heard dues m) { core = done.bus })).ended ∙ heard-ended (clock_of m) dues (board_begun m.board)
 
 -- consoles at reset
-fresh : (player count delay : ℕ) (m : Machine) → IsAtReset player count delay m → IsFresh console_kind m
-fresh player count delay m at = record {
+fresh : (player count round : ℕ) (m : Machine) → IsAtReset player count round m → IsFresh console_kind m
+fresh player count round m at = record {
   clock_is = ap clock_of at.is;
   was_is = ap (λ (n : Machine). n.was) at.is;
 }
 
-all-fresh : (consoles : List Machine) (delay : ℕ)
-    → ((i : ℕ) (m : Machine) → slice_get consoles i ≡ Some m → IsAtReset i (length consoles) delay m)
+all-fresh : (consoles : List Machine) (round : ℕ)
+    → ((i : ℕ) (m : Machine) → slice_get consoles i ≡ Some m → IsAtReset i (length consoles) round m)
     → All (IsFresh console_kind) consoles
-all-fresh consoles delay at i d below =
-    fresh i (length consoles) delay (get_or consoles i d) (at i (get_or consoles i d) (slice_get-get_or consoles i d below))
+all-fresh consoles round at i d below =
+    fresh i (length consoles) round (get_or consoles i d) (at i (get_or consoles i d) (slice_get-get_or consoles i d below))
 
-seat-at : (consoles : List Machine) (delay i : ℕ) (m : Machine) → IsAtReset i (length consoles) delay m
-    → IsSeat (opening consoles delay) i (console_view.unit m)
-seat-at consoles delay i m at = record {
+seat-at : (consoles : List Machine) (delays : Delays) (i : ℕ) (m : Machine)
+    → IsAtReset i (length consoles) (hop_of delays 0 1 + hop_of delays 1 0) m
+    → IsSeat (opening consoles delays) i (console_view.unit m)
+seat-at consoles delays i m at = record {
   player = ap (λ (n : Machine). n.board.core.serial.player) at.is;
   count_is = ap (λ (n : Machine). n.board.core.serial.count) at.is;
-  round = ap (λ (n : Machine). n.board.core.serial.round) at.is
-      ∙ (let there = hop_is delay 0 1 in let back = hop_is delay 1 0 in omega (arith, there, back));
+  round = ap (λ (n : Machine). n.board.core.serial.round) at.is;
 }
 
 pub starts-linked : StartsLinked
-starts-linked consoles delay cable at =
-    let each = all-fresh consoles delay at in
+starts-linked consoles delays cable at =
+    let each = all-fresh consoles (hop_of delays 0 1 + hop_of delays 1 0) at in
     record {
       cable = cable;
-      sound = sound_start console_kind consoles delay each;
-      in_time = in_time_start console_kind consoles delay cable.some_delay each;
-      seated = λ i m stands. seat-at consoles delay i m (at i m stands);
+      sound = sound_start console_kind consoles delays each;
+      in_time = in_time_start console_kind consoles delays cable.some_delay each;
+      seated = λ i m stands. seat-at consoles delays i m (at i m stands);
     }

@@ -1,5 +1,5 @@
 -- A run in segments is the run.
-use Rattle.std.proofs.Common.{◌≡◌, ℕ, zero, suc, ◌<◌, ◌≤◌, List, [], ◌∷◌, Option, Some, map, refl, sym, ◌∙◌, ap}
+use Rattle.std.proofs.Common.{◌≡◌, ℕ, List, [], ◌∷◌, map, refl, sym, ◌∙◌, ap}
 use Rattle.std.specs.Prelude.{slice_get}
 use Rattle.link_mapped.specs.Law.{AreAlike, MapsRuns, RunsLiveInParts}
 use Rattle.link_mapped.specs.Mapped.{KeepsClocks, each_mapped, mapped}

@@ -1,4 +1,5 @@
 use Rattle.std.specs.Prelude.{◌≡◌, ℕ, List, [], ◌∷◌}
+use Rattle.link_node.specs.declared.delays.Delays.{Delays}
 use Rattle.link_order.specs.Cut.{Cut}
 use Rattle.link_order.specs.GlobalOrder.{run as global_run}
 use Rattle.link_order.specs.NodeKind.{NodeKind, kind_of}
@@ -11,11 +12,11 @@ use Rattle.gba_console.specs.Step.{node_next}
 abbrev pub console_kind : NodeKind Machine
 console_kind = kind_of clock_of (λ m. m.was) node_next
 
-abbrev pub alone : Machine → ℕ → List Sent → Cut Machine
-alone m delay sent = record { consoles = m ∷ []; delay = delay; sent = sent }
+abbrev pub alone : Machine → Delays → List Sent → Cut Machine
+alone m delays sent = record { consoles = m ∷ []; delays = delays; sent = sent }
 
 -- The global order's run of a console alone is the run of that console: nothing is ever due in it.
 abbrev pub RunsAlone : Type 0
 RunsAlone =
-    (until delay : ℕ) (sent : List Sent) (m : Machine)
-    → (global_run console_kind (alone m delay sent) until).consoles ≡ run_to until m ∷ []
+    (until : ℕ) (delays : Delays) (sent : List Sent) (m : Machine)
+    → (global_run console_kind (alone m delays sent) until).consoles ≡ run_to until m ∷ []

@@ -1,4 +1,4 @@
-use Rattle.std.specs.Prelude.{ℕ, ◌≡◌, true, List, [], ◌∷◌, length, Option, Some, slice_get}
+use Rattle.std.specs.Prelude.{ℕ, ◌≡◌, ◌+◌, true, List, [], ◌∷◌, length, Option, Some, slice_get}
 use Rattle.gba_agreement.specs.Agreement.{AreLinked}
 use Rattle.gba_agreement.specs.UnitView.{UnitView, ends_in}
 use Rattle.gba_io.specs.Ended.{Ended, with_transfer}
@@ -6,7 +6,9 @@ use Rattle.gba_io.specs.declared.made.Room.{Room}
 use Rattle.gba_serial.specs.Tell.{silent}
 use Rattle.gba_serial.specs.declared.transfer.Transfer.{Transfer}
 use Rattle.link_node.specs.declared.signal.Incoming.{Incoming}
-use Rattle.link_order.specs.Cut.{Delays, IsCable, opening}
+use Rattle.link_node.specs.declared.delays.Delays.{Delays}
+use Rattle.link_node.specs.Delays.{hop_of}
+use Rattle.link_order.specs.Cut.{IsCable, opening}
 use Rattle.gba_console.specs.Alone.{console_kind}
 use Rattle.gba_console.specs.Machine.{Machine, reset, without_limit}
 use Rattle.gba_console.specs.Step.{stepped}
@@ -28,18 +30,19 @@ RecordsEnds =
     (dues : List Incoming) (m : Machine)
     → (stepped dues m).board.ended ≡ all_ended (ends_in console_kind console_view m dues) m.board.ended
 
--- a console at reset in its place on a cable of this delay, whatever its limit
-pub record IsAtReset (player count delay : ℕ) (m : Machine) : Type 0 where
+-- a console at reset in its place on a cable with this way from player 0 to player 1 and back, whatever its limit
+pub record IsAtReset (player count round : ℕ) (m : Machine) : Type 0 where
   pub bios : List ℕ
   pub cart : Option (List ℕ)
   pub save : Option (List ℕ)
   pub keys : List KeyState
   pub room : Room
-  pub is : without_limit m ≡ without_limit (reset player count delay bios cart save keys room)
+  pub is : without_limit m ≡ without_limit (reset player count round bios cart save keys room)
 
 -- Consoles at reset, with nothing sent, are a cut from which the laws speak.
 abbrev pub StartsLinked : Type 0
 StartsLinked =
-    (consoles : List Machine) (delay : Delays) → IsCable (opening consoles delay)
-    → ((i : ℕ) (m : Machine) → slice_get consoles i ≡ Some m → IsAtReset i (length consoles) delay m)
-    → AreLinked console_kind console_view (opening consoles delay)
+    (consoles : List Machine) (delays : Delays) → IsCable (opening consoles delays)
+    → ((i : ℕ) (m : Machine) → slice_get consoles i ≡ Some m
+    → IsAtReset i (length consoles) (hop_of delays 0 1 + hop_of delays 1 0) m)
+    → AreLinked console_kind console_view (opening consoles delays)

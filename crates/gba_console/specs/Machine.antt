@@ -31,12 +31,12 @@ board_without_limit b = board_from at_reset 0 b
 abbrev pub without_limit : Machine → Machine
 without_limit m = record m { board = board_without_limit m.board }
 
--- a console at reset, from its player number, the number of consoles and the delay of the cable, a BIOS, a cartridge, a
+-- a console at reset, from its player number, the number of consoles, the way from player 0 to player 1 and back, a BIOS, a cartridge, a
 -- save, the changes of its keys and what is to be kept of what it makes
 abbrev pub reset : ℕ → ℕ → ℕ → List ℕ → Option (List ℕ) → Option (List ℕ) → List KeyState → Room → Machine
-reset player count delay bios cart save keys room = record {
+reset player count round bios cart save keys room = record {
   registers = reset_file;
-  board = board_at_start player count delay bios cart save room;
+  board = board_at_start player count round bios cart save room;
   keys = keys;
   was = 0;
 }

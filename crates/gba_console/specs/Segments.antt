@@ -1,4 +1,4 @@
-use Rattle.std.specs.Prelude.{ℕ, ◌≡◌, ◌<◌, ◌≤◌, ◌++◌, List, Option, None, Some, map, slice_get}
+use Rattle.std.specs.Prelude.{ℕ, ◌≡◌, ◌<◌, ◌≤◌, ◌++◌, Option, None, Some, slice_get}
 use Rattle.gba_io.specs.Ended.{Ended}
 use Rattle.gba_io.specs.Made.{Made}
 use Rattle.gba_io.specs.declared.board.Board.{Board}

@@ -85,8 +85,8 @@ pub fn starts_linked()
     ensures { StartsLinked }
 {}
 
-/// Player 0 starts a Multi transfer, and every other console is in Multi and idle when it takes the start: all that reach
-/// the end record the same end, the same four words and no error.
+/// No way from player 0 is shorter over another console. Player 0 starts a Multi transfer, and every other console is in
+/// Multi and idle when it takes the start: all that reach the end record the same end, the same four words and no error.
 pub fn multi()
     ensures { AgreesMulti console_kind console_view }
 {

@@ -111,7 +111,7 @@ impl Console {
     ghost use Rattle.gba_serial.specs.Apart.{next_end};
     ghost use Rattle.link_node.specs.Due.{InOrder, IsDue};
 
-    /// A console at reset, at clock 0, of a player below `count`, on a cable of 1 to 4 consoles whose signals take `delay`
+    /// A console at reset, at clock 0, of a player below `count`, on a cable of 1 to 4 consoles whose signals take `round`
     /// cycles, from 1 to 1,024, from its images and the changes of its keys, which are dropped on refusal. It takes the
     /// memory of its RAM, of the decoded instructions and of all that it keeps of what it makes in the steps which begin
     /// below `room.until`, or within 2^24 cycles of a call of `forget`, and no more later.
@@ -119,22 +119,22 @@ impl Console {
         alloc: Global,
         player: u32,
         count: u32,
-        delay: u64,
+        round: u64,
         images: ConsoleImages,
         keys: Vec<KeyState>,
         room: Room,
     ) -> Result<Console, NoMemory>
         requires player { player < count }
         requires count { count ≤ 4 }
-        requires least_delay { 1 ≤ delay }
-        requires most_delay { delay ≤ 1024 }
+        requires least_round { 2 ≤ round }
+        requires most_round { round ≤ 2048 }
         requires until { room.until ≤ 2 ^ 39 }
         ensures { IfOk result (λ console. console
-            ≡ reset player count delay images.bios images.cart images.save keys.items room) }
+            ≡ reset player count round images.bios images.cart images.save keys.items room) }
     {
         Ok(Console {
             registers: Registers::reset(),
-            board: Board::new(alloc, player, count, delay, images, room)?,
+            board: Board::new(alloc, player, count, round, images, room)?,
             due: due_after(keys.as_slice(), 0),
             keys,
             applied: 0,

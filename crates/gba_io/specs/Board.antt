@@ -13,11 +13,11 @@ use Rattle.gba_io.specs.declared.made.Room.{Room}
 
 -- A board: its core, which the processor sees as a bus, what it has made, and the transfers that ended.
 
--- a board at reset, from its player number, the number of consoles and the delay of the cable, a BIOS, a cartridge and a
+-- a board at reset, from its player number, the number of consoles, the way from player 0 to player 1 and back, a BIOS, a cartridge and a
 -- save
 abbrev pub board_at_start : ℕ → ℕ → ℕ → List ℕ → Option (List ℕ) → Option (List ℕ) → Room → Board
-board_at_start player count delay bios cart save room = record {
-  core = core_at_start player count delay bios cart save;
+board_at_start player count round bios cart save room = record {
+  core = core_at_start player count round bios cart save;
   made = none_made room;
   ended = none_ended room;
 }

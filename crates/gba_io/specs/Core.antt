@@ -1,4 +1,4 @@
-use Rattle.std.specs.Prelude.{ℕ, ◌*◌, Bool, not, ◌&&◌, List, [], Option, if◌then◌else◌}
+use Rattle.std.specs.Prelude.{ℕ, Bool, not, ◌&&◌, List, [], Option, if◌then◌else◌}
 use Rattle.gba_devices.specs.Registers.{half_stored, keyed}
 use Rattle.gba_devices.specs.State.{Devices, begun, devices_at_reset, is_calm, is_idle, woken}
 use Rattle.gba_devices.specs.Cycles.{after_cycles, device_cycle}
@@ -16,13 +16,13 @@ pub record Core : Type 0 where
   pub devices : Devices
   pub serial : SerialUnit
 
--- a core at reset, from its player number, the number of consoles and the delay of the cable, a BIOS, a cartridge and a
+-- a core at reset, from its player number, the number of consoles, the way from player 0 to player 1 and back, a BIOS, a cartridge and a
 -- save
 abbrev pub core_at_start : ℕ → ℕ → ℕ → List ℕ → Option (List ℕ) → Option (List ℕ) → Core
-core_at_start player count delay bios cart save = record {
+core_at_start player count round bios cart save = record {
   memory = at_start bios cart save;
   devices = devices_at_reset;
-  serial = serial_at_reset player count (2 * delay);
+  serial = serial_at_reset player count round;
 }
 
 -- What a step asks of it besides its accesses. At its start the prices become those of WAITCNT, and what the last step

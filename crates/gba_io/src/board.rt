@@ -24,26 +24,26 @@ impl Board {
     ghost use Rattle.gba_io.specs.Board.{board_from, line_in_cycle};
     ghost use Rattle.gba_io.specs.Core.{core_cycled};
 
-    /// A board at reset, at clock 0, of a player below `count`, on a cable of 1 to 4 consoles whose signals take `delay`
+    /// A board at reset, at clock 0, of a player below `count`, on a cable of 1 to 4 consoles whose signals take `round`
     /// cycles, from 1 to 1,024. Its images are dropped on refusal. The room for what it makes and for the transfers that
     /// end is taken now.
     pub fn new(
         alloc: Global,
         player: u32,
         count: u32,
-        delay: u64,
+        round: u64,
         images: ConsoleImages,
         room: Room,
     ) -> Result<Board, NoMemory>
         requires player { player < count }
         requires count { count ≤ 4 }
-        requires least_delay { 1 ≤ delay }
-        requires most_delay { delay ≤ 1024 }
+        requires least_round { 2 ≤ round }
+        requires most_round { round ≤ 2048 }
         requires until { room.until ≤ 2 ^ 39 }
-        ensures { IfOk result (λ board. board ≡ board_at_start player count delay images.bios images.cart images.save room) }
+        ensures { IfOk result (λ board. board ≡ board_at_start player count round images.bios images.cart images.save room) }
     {
         Ok(Board {
-            core: Core::new(alloc, player, count, delay, images)?,
+            core: Core::new(alloc, player, count, round, images)?,
             made: Made::new(alloc, room)?,
             ended: Ended::new(alloc, room)?,
         })

@@ -100,18 +100,18 @@ impl Core {
         alloc: Global,
         player: u32,
         count: u32,
-        delay: u64,
+        round: u64,
         images: ConsoleImages,
     ) -> Result<Core, NoMemory>
         requires player { player < count }
         requires count { count ≤ 4 }
-        requires least_delay { 1 ≤ delay }
-        requires most_delay { delay ≤ 1024 }
-        ensures { IfOk result (λ core. core ≡ core_at_start player count delay images.bios images.cart images.save) }
+        requires least_round { 2 ≤ round }
+        requires most_round { round ≤ 2048 }
+        ensures { IfOk result (λ core. core ≡ core_at_start player count round images.bios images.cart images.save) }
     {
         let waits = WaitControl { value: 0 };
         let devices = Devices::new();
-        let serial = Serial::new(player, count, delay);
+        let serial = Serial::new(player, count, round);
         Ok(Core {
             memory: Memory::new(alloc, images)?,
             calm: is_calm(&devices, &serial),

@@ -74,22 +74,22 @@ impl Model for Serial {
 }
 
 impl Serial {
-    ghost use Rattle.std.specs.Prelude.{◌≡◌, ◌*◌, ◌<◌, ◌≤◌, IsTrue};
+    ghost use Rattle.std.specs.Prelude.{◌≡◌, ◌<◌, ◌≤◌, IsTrue};
     ghost use Rattle.gba_serial.specs.SerialUnit.{data_word, is_peer, is_wired, mode_of, own_word, serial_at_reset, speed_of};
 
-    /// The unit at reset, of a player below `count`, on a cable of 1 to 4 consoles whose signals take `delay` cycles, from
-    /// 1 to 1,024. Its mode is Other, and so is every peer's until it tells another.
-    pub fn new(player: u32, count: u32, delay: u64) -> Serial
+    /// The unit at reset, of a player below `count`, on a cable of 1 to 4 consoles where a signal takes `round` cycles from
+    /// player 0 to player 1 and back, from 2 to 2,048. Its mode is Other, and so is every peer's until it tells another.
+    pub fn new(player: u32, count: u32, round: u64) -> Serial
         requires player { player < count }
         requires count { count ≤ 4 }
-        requires least_delay { 1 ≤ delay }
-        requires most_delay { delay ≤ 1024 }
-        ensures { result ≡ serial_at_reset player count (2 * delay) }
+        requires least_round { 2 ≤ round }
+        requires most_round { round ≤ 2048 }
+        ensures { result ≡ serial_at_reset player count round }
     {
         Serial {
             player,
             count,
-            round: 2 * delay,
+            round,
             control: 0,
             error: false,
             select: 0x8000,

@@ -595,13 +595,19 @@ static CASES: [Case; 11] = [
     },
 ];
 
-/// A unit at reset.
-fn unit<R: Abort>(rt: &R, player: u32, count: u32, delay: u64) -> Serial {
+/// A unit at reset, on a cable with this way there and back.
+fn unit_of<R: Abort>(rt: &R, player: u32, count: u32, round: u64) -> Serial {
     assert!(rt; player < count);
     assert!(rt; count <= 4);
-    assert!(rt; 1 <= delay);
+    assert!(rt; 2 <= round);
+    assert!(rt; round <= 2048);
+    Serial::new(player, count, round)
+}
+
+/// A unit at reset, on a cable with one delay.
+fn unit<R: Abort>(rt: &R, player: u32, count: u32, delay: u64) -> Serial {
     assert!(rt; delay <= 1024);
-    Serial::new(player, count, delay)
+    unit_of(rt, player, count, 2 * delay)
 }
 
 #[test]
@@ -740,6 +746,21 @@ fn transfers_last_by_mode_and_speed(rt: HostRuntime) -> Result<(), Fail> {
     for &(control, count, length) in &LENGTHS {
         let mut unit = open(&rt, count, control);
         unit.write(1000, SIOCNT, control | 0x0080);
+        assert_eq!(rt; Some(unit.end()), length.checked_add(1000));
+    }
+    Ok(())
+}
+
+/// How long a byte at 2 MHz takes with ways there and back of so many cycles: 1 and 1, 1 and 1,024, and 1,024 and 1,024.
+static ROUNDS: [(u64, u64); 3] = [(2, 516), (1025, 1539), (2048, 2562)];
+
+#[test]
+fn a_normal_transfer_lasts_by_the_way_there_and_back(rt: HostRuntime) -> Result<(), Fail> {
+    for &(round, length) in &ROUNDS {
+        let mut unit = unit_of(&rt, 0, 2, round);
+        unit.write(0, RCNT, 0);
+        unit.write(0, SIOCNT, 0x0003);
+        unit.write(1000, SIOCNT, 0x0083);
         assert_eq!(rt; Some(unit.end()), length.checked_add(1000));
     }
     Ok(())

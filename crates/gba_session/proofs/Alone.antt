@@ -3,6 +3,7 @@ use Rattle.std.proofs.Common.{◌≡◌, ◌≤◌, ◌+◌, ℕ, zero, suc, Boo
 use Rattle.std.specs.List.{All}
 use Rattle.std.specs.Prelude.{Option, Some, None, filter, nat_lt, slice_set}
 use Rattle.link_node.specs.declared.signal.Signal.{Signal}
+use Rattle.link_node.specs.declared.delays.Delays.{Delays}
 use Rattle.link_order.proofs.Lists.{all_head, all_map, all_nil, all_tail}
 use Rattle.link_order.proofs.Sound.{joined_all}
 use Rattle.link_order.specs.Cut.{IsCable, IsSound, IsSoundSignal, is_live, live}
@@ -37,10 +38,10 @@ own-joined : (o : Option Signal) (sent : List Sent) → All IsOwn sent → All I
 own-joined None sent own = own
 own-joined (Some s) sent own = joined_all IsOwn 0 (Some s) sent refl own
 
-record Ends (most until : ℕ) (m : Machine) (delay : ℕ) (sent : List Sent) : Type 0 where
+record Ends (most until : ℕ) (m : Machine) (delays : Delays) (sent : List Sent) : Type 0 where
   said : List Sent
   own : All IsOwn said
-  is : turns most until m delay sent ≡ alone (run most until m) delay said
+  is : turns most until m delays sent ≡ alone (run most until m) delays said
 
 run-more : (most until : ℕ) (m : Machine) → nat_lt (clock_of m) until ≡ true
     → run (suc most) until m ≡ run most until (next m)
@@ -51,63 +52,63 @@ run-over : (most until : ℕ) (m : Machine) → nat_lt (clock_of m) until ≡ fa
 unfolding run
 run-over most until m is = rw is refl
 
-turns-none : (until : ℕ) (m : Machine) (delay : ℕ) (sent : List Sent) → turns 0 until m delay sent ≡ alone m delay sent
+turns-none : (until : ℕ) (m : Machine) (delays : Delays) (sent : List Sent) → turns 0 until m delays sent ≡ alone m delays sent
 unfolding trace_of after_turns
-turns-none until m delay sent = refl
+turns-none until m delays sent = refl
 
 run-none : (until : ℕ) (m : Machine) → run 0 until m ≡ m
 unfolding run
 run-none until m = refl
 
-ends-by : (test : Bool) (most until : ℕ) (m : Machine) (delay : ℕ) (sent : List Sent) → nat_lt (clock_of m) until ≡ test
-    → All IsOwn sent → Ends most until (next m) delay (with_signal 0 (told [] m) sent)
-    → Ends (suc most) until m delay sent
-ends-by true most until m delay sent is own rest = record {
+ends-by : (test : Bool) (most until : ℕ) (m : Machine) (delays : Delays) (sent : List Sent) → nat_lt (clock_of m) until ≡ test
+    → All IsOwn sent → Ends most until (next m) delays (with_signal 0 (told [] m) sent)
+    → Ends (suc most) until m delays sent
+ends-by true most until m delays sent is own rest = record {
   said = rest.said;
   own = rest.own;
-  is = turns-go most until m delay sent is ∙ rest.is
-      ∙ ap (λ (x : Machine). alone x delay rest.said) (sym (run-more most until m is));
+  is = turns-go most until m delays sent is ∙ rest.is
+      ∙ ap (λ (x : Machine). alone x delays rest.said) (sym (run-more most until m is));
 }
-ends-by false most until m delay sent is own rest = record {
+ends-by false most until m delays sent is own rest = record {
   said = sent;
   own = own;
-  is = turns-end (suc most) until m delay sent is
-      ∙ ap (λ (x : Machine). alone x delay sent) (sym (run-over most until m is));
+  is = turns-end (suc most) until m delays sent is
+      ∙ ap (λ (x : Machine). alone x delays sent) (sym (run-over most until m is));
 }
 
-ends : (most until : ℕ) (m : Machine) (delay : ℕ) (sent : List Sent) → All IsOwn sent → Ends most until m delay sent
-ends zero until m delay sent own = record {
+ends : (most until : ℕ) (m : Machine) (delays : Delays) (sent : List Sent) → All IsOwn sent → Ends most until m delays sent
+ends zero until m delays sent own = record {
   said = sent;
   own = own;
-  is = turns-none until m delay sent ∙ ap (λ (x : Machine). alone x delay sent) (sym (run-none until m));
+  is = turns-none until m delays sent ∙ ap (λ (x : Machine). alone x delays sent) (sym (run-none until m));
 }
-ends (suc most) until m delay sent own =
-    ends-by (nat_lt (clock_of m) until) most until m delay sent refl own
-    (ends most until (next m) delay (with_signal 0 (told [] m) sent) (own-joined (told [] m) sent own))
+ends (suc most) until m delays sent own =
+    ends-by (nat_lt (clock_of m) until) most until m delays sent refl own
+    (ends most until (next m) delays (with_signal 0 (told [] m) sent) (own-joined (told [] m) sent own))
 
 -- no one else is there to take it
-dead : (m : Machine) (delay : ℕ) (sent : List Sent) (one : Sent) → IsOwn one
-    → is_live console_kind (alone m delay sent) one ≡ false
-dead m delay sent one own = rw own refl
+dead : (m : Machine) (delays : Delays) (sent : List Sent) (one : Sent) → IsOwn one
+    → is_live console_kind (alone m delays sent) one ≡ false
+dead m delays sent one own = rw own refl
 
-all-dead : (m : Machine) (delay : ℕ) (sent left : List Sent) → All IsOwn left
-    → filter (is_live console_kind (alone m delay sent)) left ≡ []
-all-dead m delay sent [] own = refl
-all-dead m delay sent (one ∷ left) own =
-    let here = dead m delay sent one (all_head IsOwn one left own) in
-    let rest = all-dead m delay sent left (all_tail IsOwn one left own) in
+all-dead : (m : Machine) (delays : Delays) (sent left : List Sent) → All IsOwn left
+    → filter (is_live console_kind (alone m delays sent)) left ≡ []
+all-dead m delays sent [] own = refl
+all-dead m delays sent (one ∷ left) own =
+    let here = dead m delays sent one (all_head IsOwn one left own) in
+    let rest = all-dead m delays sent left (all_tail IsOwn one left own) in
     rw here rest
 
-pub alone-runs : IsEnough → (until delay : ℕ) (sent : List Sent) (m : Machine) → All IsOwn sent
-    → run_until until (alone (without_limit m) delay sent) ≡ alone (without_limit (run_to until m)) delay []
-alone-runs enough until delay sent m own =
+pub alone-runs : IsEnough → (until : ℕ) (delays : Delays) (sent : List Sent) (m : Machine) → All IsOwn sent
+    → run_until until (alone (without_limit m) delays sent) ≡ alone (without_limit (run_to until m)) delays []
+alone-runs enough until delays sent m own =
     let plain = without_limit m in
-    let left = cycles_left console_kind (alone plain delay sent) until in
-    let e = ends left until plain delay sent own in
+    let left = cycles_left console_kind (alone plain delays sent) until in
+    let e = ends left until plain delays sent own in
     ap (live console_kind) e.is
-    ∙ ap (λ (xs : List Sent). alone (run left until plain) delay xs) (all-dead (run left until plain) delay e.said e.said e.own)
-    ∙ ap (λ (x : Machine). alone x delay []) (enough until left until plain (omega arith) (omega arith))
-    ∙ ap (λ (x : Machine). alone x delay []) (run-unlimited until until m)
+    ∙ ap (λ (xs : List Sent). alone (run left until plain) delays xs) (all-dead (run left until plain) delays e.said e.said e.own)
+    ∙ ap (λ (x : Machine). alone x delays []) (enough until left until plain (omega arith) (omega arith))
+    ∙ ap (λ (x : Machine). alone x delays []) (run-unlimited until until m)
 
 -- a console's last step took at most 512 cycles
 pub record IsClose (m : Machine) : Type 0 where
@@ -139,8 +140,8 @@ set-one (y ∷ []) x long = refl
 set-one (y ∷ z ∷ xs) x long = absurd (omega (arith, long))
 
 -- a console alone with nothing on its way is a sound cut of a cable
-pub alone-sound : (m : Machine) (delay : ℕ) → IsClose m → IsSound console_kind (alone m delay [])
-alone-sound m delay close = record {
+pub alone-sound : (m : Machine) (delays : Delays) → IsClose m → IsSound console_kind (alone m delays [])
+alone-sound m delays close = record {
   near = λ i j a b apart. absurd (apart (omega (arith, a, b)));
   begun = λ i a. let first : i ≡ 0 = omega (arith, a) in rw first close.begun;
   short = λ i a. let first : i ≡ 0 = omega (arith, a) in rw first close.short;
@@ -148,8 +149,8 @@ alone-sound m delay close = record {
   ordered = λ i j d less below. absurd (omega (arith, below));
 }
 
-pub alone-cable : (m : Machine) (delay : ℕ) → IsCable (alone m delay [])
-alone-cable m delay = record {
+pub alone-cable : (m : Machine) (delays : Delays) → IsCable (alone m delays [])
+alone-cable m delays = record {
   some_console = omega arith;
   at_most_four = omega arith;
   some_delay = λ i j a b apart. absurd (apart (omega (arith, a, b)));
@@ -157,9 +158,9 @@ alone-cable m delay = record {
 }
 
 -- what is on its way in a sound cut of one console is its own
-pub sound-own : (m : Machine) (delay : ℕ) (sent : List Sent) → IsSound console_kind (alone m delay sent) → All IsOwn sent
-sound-own m delay sent sound =
-    all_map (IsSoundSignal console_kind (alone m delay sent)) IsOwn sent (λ one h. omega (arith, h.from_player)) sound.signals
+pub sound-own : (m : Machine) (delays : Delays) (sent : List Sent) → IsSound console_kind (alone m delays sent) → All IsOwn sent
+sound-own m delays sent sound =
+    all_map (IsSoundSignal console_kind (alone m delays sent)) IsOwn sent (λ one h. omega (arith, h.from_player)) sound.signals
 
-pub sound-close : (m : Machine) (delay : ℕ) (sent : List Sent) → IsSound console_kind (alone m delay sent) → IsClose m
-sound-close m delay sent sound = record { begun = sound.begun 0 (omega arith); short = sound.short 0 (omega arith) }
+pub sound-close : (m : Machine) (delays : Delays) (sent : List Sent) → IsSound console_kind (alone m delays sent) → IsClose m
+sound-close m delays sent sound = record { begun = sound.begun 0 (omega arith); short = sound.short 0 (omega arith) }

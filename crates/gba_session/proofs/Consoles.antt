@@ -3,8 +3,11 @@ use Rattle.std.specs.List.{All}
 use Rattle.std.proofs.lemmas.List.{append-nil, length-map, map-append, nil_from_length, take_more}
 use Rattle.std.proofs.lemmas.List.Elements.{All-append}
 use Rattle.link_order.proofs.Lists.{all_cons, all_head, all_nil, all_tail}
+use Rattle.link_order.proofs.Hops.{cable_of_delays}
 use Rattle.link_order.proofs.Starts.{sound_start}
-use Rattle.link_order.specs.Cut.{IsCable, IsFresh, IsSound, hop_of, opening, plain_cut}
+use Rattle.link_node.specs.Delays.{AreDelays}
+use Rattle.link_node.proofs.DelayLaws.{all_are_delays}
+use Rattle.link_order.specs.Cut.{IsCable, IsFresh, IsSound, opening, plain_cut}
 use Rattle.gba_joblog.specs.Soundness.{IsJob}
 use Rattle.gba_console.specs.Alone.{console_kind}
 use Rattle.gba_console.specs.Machine.{Machine, limit_of, without_limit}
@@ -13,7 +16,7 @@ use Rattle.gba_joblog.specs.declared.outputs.PerKind.{PerKind}
 use Rattle.gba_joblog.proofs.OutputNames.{at_item}
 use Rattle.gba_joblog.specs.Job.{ConsoleJob, WholeJob}
 use Rattle.gba_session.specs.Files.{all_files, asks_of, files_of}
-use Rattle.gba_session.specs.Start.{console_at, consoles_from}
+use Rattle.gba_session.specs.Start.{console_at, consoles_from, delays_of}
 use Rattle.gba_joblog.specs.Views.{console_value}
 use Rattle.gba_joblog.specs.declared.job.JobConsole.{JobConsole}
 use Rattle.gba_session.specs.Session.{RoomFor, room_for}
@@ -106,23 +109,22 @@ module _ (job : WholeJob) (images : List ConsoleImages) (made : List Machine) (s
   made-length =
       sym (length-map made without_limit) ∙ ap length is ∙ consoles-length job 0 job.consoles images whole
 
-  pub start-sound : IsSound console_kind (plain_cut without_limit (opening made job.delay))
+  pub start-sound : IsSound console_kind (plain_cut without_limit (opening made (delays_of job)))
   start-sound =
-      let P : List Machine → Type 0 = λ xs. IsSound console_kind (opening xs job.delay) in
+      let P : List Machine → Type 0 = λ xs. IsSound console_kind (opening xs (delays_of job)) in
       subst P (sym is)
-      (sound_start console_kind (consoles_from job 0 job.consoles images) job.delay
+      (sound_start console_kind (consoles_from job 0 job.consoles images) (delays_of job)
       (all-fresh job 0 job.consoles images))
 
-  pub start-cable : IsCable (plain_cut without_limit (opening made job.delay))
-  unfolding hop_of
+  pub start-delays : AreDelays (delays_of job)
+  start-delays = all_are_delays job.delay (omega (arith, sound.some_delay)) sound.few_delay
+
+  pub start-cable : IsCable (plain_cut without_limit (opening made (delays_of job)))
   start-cable =
       let many = length-map made without_limit in
-      record {
-        some_console = omega (arith, many, made-length, sound.some_consoles);
-        at_most_four = omega (arith, many, made-length, sound.few_consoles);
-        some_delay = λ i j a b apart. omega (arith, sound.some_delay);
-        short_delay = λ i j a b apart. sound.few_delay;
-      }
+      cable_of_delays (plain_cut without_limit (opening made (delays_of job)))
+      (omega (arith, many, made-length, sound.some_consoles)) (omega (arith, many, made-length, sound.few_consoles))
+      start-delays
 
 -- the files so far and those that are left
 files-cons : (asks : PerKind Bool) (rest left : List (PerKind Bool)) (m : Machine) (machines others : List Machine) → left ≡ asks ∷ rest

@@ -6,7 +6,9 @@ ghost use Rattle.gba_joblog.specs.Soundness.{IsConsole, IsJob};
 ghost use Rattle.gba_joblog.specs.Views.{console_value, job_value};
 ghost use Rattle.gba_console.specs.Machine.{limit_of, without_limit};
 ghost use Rattle.gba_session.specs.Session.{room_for};
-ghost use Rattle.gba_session.specs.Start.{console_at, consoles_from, key_states, room_of as room_said, run_until};
+ghost use Rattle.gba_session.specs.Start.{console_at, consoles_from, delays_of as delays_said, key_states};
+ghost use Rattle.gba_session.specs.Start.{room_of as room_said, round_of as round_said, run_until};
+ghost use Rattle.link_node.specs.Delays.{AreDelays};
 ghost use Rattle.link_order.specs.Cut.{plain_cut};
 
 use crate::files::Room;
@@ -20,6 +22,7 @@ use gba_store::Gate;
 use gba_terms::NoMemory;
 use gba_text::Line;
 use link_core::Cut;
+use link_node::Delays;
 use link_run::run_to;
 use std::alloc::{AllocError, Global};
 use std::marker::Model;
@@ -50,6 +53,25 @@ fn room_of(job: &Job, console: &JobConsole) -> ConsoleRoom
     }
 }
 
+/// The delays of a job's cable: one for all.
+fn delays_of(job: &Job) -> Delays
+    ensures value { result ≡ delays_said (job_value job.now) }
+    ensures within { IsJob (job_value job.now) → AreDelays result }
+{
+    Delays::all(job.delay)
+}
+
+/// How long a signal takes from player 0 to player 1 and back.
+fn round_of(job: &Job) -> u64
+    requires { IsJob (job_value job.now) }
+    ensures value { result ≡ round_said (job_value job.now) }
+    ensures some { 2 ≤ result }
+    ensures short { result ≤ 2048 }
+{
+    let delays = delays_of(job);
+    delays.hop(0, 1) + delays.hop(1, 0)
+}
+
 /// The console of a player at reset.
 fn console_of(
     alloc: Global,
@@ -70,7 +92,7 @@ fn console_of(
         alloc,
         player as u32,
         job.consoles.len() as u32,
-        job.delay,
+        round_of(job),
         images,
         keys,
         room,
@@ -225,7 +247,7 @@ impl Session {
         let rooms = rooms_of(alloc, job)?;
         let files = Vec::with_capacity(alloc, rooms.len())?;
         let consoles = consoles_of(alloc, job, images)?;
-        let Ok(cut) = Cut::new(alloc, consoles, job.delay) else {
+        let Ok(cut) = Cut::new(alloc, consoles, delays_of(job)) else {
             return Err(NoMemory);
         };
         Ok(Session {

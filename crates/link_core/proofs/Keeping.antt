@@ -10,7 +10,8 @@ use Rattle.std.proofs.lemmas.List.{length-map}
 use Rattle.std.proofs.lemmas.List.Elements.{All-filter, filter_passes}
 use Rattle.link_node.specs.declared.signal.Incoming.{Incoming}
 use Rattle.link_node.specs.declared.signal.Signal.{Signal}
-use Rattle.link_order.specs.Cut.{hop_of, Cut, plain_cut, count, clock_at, was_at, hop, live, is_live, is_awaited}
+use Rattle.link_node.specs.Delays.{hop_of}
+use Rattle.link_order.specs.Cut.{Cut, plain_cut, count, clock_at, was_at, hop, live, is_live, is_awaited}
 use Rattle.link_order.specs.Cut.{IsSound}
 use Rattle.link_order.specs.Cut.{IsSoundSignal}
 use Rattle.link_order.specs.GlobalOrder.{least, least_below, step, due_at, with_signal, run}
@@ -40,7 +41,7 @@ kept_few kind plain cut sent_room due_room kept =
 
 pub flight_from_kept : {N C : Type 0} (kind : NodeKind C) (plain : N → C) (cut : Cut N) (sent_room due_room : ℕ)
     → IsKept kind plain cut sent_room due_room
-    → IsFlight (record { delay = cut.delay; sent = cut.sent }) sent_room due_room
+    → IsFlight (record { delays = cut.delays; sent = cut.sent }) sent_room due_room
 flight_from_kept kind plain cut sent_room due_room kept = record {
   delays = kept.delays;
   few = omega (arith, kept_few kind plain cut sent_room due_room kept);
@@ -61,7 +62,7 @@ length-place f s x (y ∷ ys) =
 -- one more signal
 pub flight_more : (flight : Flight) (one : Sent) (sent_room due_room more_room : ℕ) → IsFlight flight sent_room due_room
     → length flight.sent < 16384 → FitsWidths one.signal → sent_room ≤ more_room
-    → IsFlight (record { delay = flight.delay; sent = place_sent one flight.sent }) more_room due_room
+    → IsFlight (record { delays = flight.delays; sent = place_sent one flight.sent }) more_room due_room
 flight_more flight one sent_room due_room more_room packed room speed more = record {
   delays = packed.delays;
   few = omega (arith, length-place clock_of sender_of one flight.sent);
@@ -79,14 +80,14 @@ pub record Turned {N C : Type 0} (kind : NodeKind C) (plain : N → C) (cut : Cu
   pub node_is : (x : C) → slice_get (map plain cut.consoles) i ≡ Some x
       → map plain nodes ≡ slice_set (map plain cut.consoles) i (kind.next x due).0
   pub signal_is : (x : C) → slice_get (map plain cut.consoles) i ≡ Some x → signal ≡ (kind.next x due).1
-  pub sent_is : sent ≡ filter (is_awaited (hop_of cut.delay) (slice_index (map kind.was (map plain nodes)))
+  pub sent_is : sent ≡ filter (is_awaited (hop_of cut.delays) (slice_index (map kind.was (map plain nodes)))
       (length nodes)) (with_signal i signal cut.sent)
 
 pub turned_live : {N C : Type 0} (kind : NodeKind C) → IsLawful kind
     → (plain : N → C) (cut : Cut N) (i : ℕ) (due : List Incoming) (nodes : List N) (signal : Option Signal)
     (sent : List Sent)
     → 0 < count (plain_cut plain cut) → Turned kind plain cut i due nodes signal sent
-    → plain_cut plain (record { consoles = nodes; delay = cut.delay; sent = sent })
+    → plain_cut plain (record { consoles = nodes; delays = cut.delays; sent = sent })
     ≡ live kind (step kind (plain_cut plain cut))
 turned_live {C = C} kind law plain cut i due nodes signal sent some t =
     let p : Cut C = plain_cut plain cut in
@@ -104,19 +105,19 @@ turned_live {C = C} kind law plain cut i due nodes signal sent some t =
     = ap (λ (o : Option Signal). with_signal i o cut.sent) (t.signal_is x stands
     ∙ ap (λ (d : List Incoming). (kind.next x d).1) due_l)
     ∙ ap (λ (m : ℕ). with_signal m (kind.next x (due_at kind p l)).1 cut.sent) t.least_is in
-    let sent_now : sent ≡ filter (is_awaited (hop_of cut.delay) (slice_index (map kind.was (map plain nodes)))
+    let sent_now : sent ≡ filter (is_awaited (hop_of cut.delays) (slice_index (map kind.was (map plain nodes)))
     (length (map plain nodes))) (with_signal i signal cut.sent)
     = rw length-map t.sent_is in
     let make : List C → List Sent → Cut C = λ (cs : List C) (ss : List Sent).
     record {
       consoles = cs;
-      delay = cut.delay;
+      delays = cut.delays;
       sent =
-          filter (is_awaited (hop_of cut.delay) (slice_index (map kind.was cs)) (length cs)) ss;
+          filter (is_awaited (hop_of cut.delays) (slice_index (map kind.was cs)) (length cs)) ss;
     } in
-    let first : plain_cut plain (record { consoles = nodes; delay = cut.delay; sent = sent })
+    let first : plain_cut plain (record { consoles = nodes; delays = cut.delays; sent = sent })
     ≡ make (map plain nodes) (with_signal i signal cut.sent)
-    = ap (λ (ss : List Sent). let d : Cut C = record { consoles = map plain nodes; delay = cut.delay; sent = ss } in d)
+    = ap (λ (ss : List Sent). let d : Cut C = record { consoles = map plain nodes; delays = cut.delays; sent = ss } in d)
     sent_now in
     first
     ∙ ap (λ (cs : List C). make cs (with_signal i signal cut.sent)) consoles
@@ -130,7 +131,7 @@ pub turned_kept : {N C : Type 0} (kind : NodeKind C) → IsLawful kind
     (sent_room due_room more_sent more_due : ℕ) → IsKept kind plain cut sent_room due_room → sent_room ≤ more_sent
     → due_room ≤ more_due
     → Turned kind plain cut i due nodes signal sent
-    → IsKept kind plain (record { consoles = nodes; delay = cut.delay; sent = sent }) more_sent more_due
+    → IsKept kind plain (record { consoles = nodes; delays = cut.delays; sent = sent }) more_sent more_due
 turned_kept {C = C} kind law plain cut i due nodes signal sent sent_room due_room more_sent more_due kept rs rd t =
     let p : Cut C = plain_cut plain cut in
     let l : ℕ = least kind p in
@@ -178,15 +179,15 @@ pub due_known : {N C : Type 0} (kind : NodeKind C)
     → IsSound kind (plain_cut plain cut) → ss ≡ cut.sent → xs ≡ cut.consoles
     → was ≡ slice_index (map kind.was (map plain xs)) i
     → ys ≡ cut.consoles → clock ≡ slice_index (map kind.clock (map plain ys)) i
-    → ((n : ℕ) → All (λ (one : Sent). one.sender < n) ss → new ≡ due (hop_of cut.delay) (λ j. from j ss) i was clock n)
+    → ((n : ℕ) → All (λ (one : Sent). one.sender < n) ss → new ≡ due (hop_of cut.delays) (λ j. from j ss) i was clock n)
     → new ≡ due_at kind (plain_cut plain cut) i
 due_known {N = N} kind plain cut i was clock ss xs ys new sound same here was_is there clock_is gathered =
     let n : ℕ = count (plain_cut plain cut) in
     gathered n (senders_known kind (plain_cut plain cut) ss sound same)
-    ∙ ap (λ (t : List Sent). due (hop_of cut.delay) (λ j. from j t) i was clock n) same
-    ∙ ap (λ (w : ℕ). due (hop_of cut.delay) (λ j. from j cut.sent) i w clock n)
+    ∙ ap (λ (t : List Sent). due (hop_of cut.delays) (λ j. from j t) i was clock n) same
+    ∙ ap (λ (w : ℕ). due (hop_of cut.delays) (λ j. from j cut.sent) i w clock n)
     (was_is ∙ ap (λ (zs : List N). slice_index (map kind.was (map plain zs)) i) here)
-    ∙ ap (λ (k : ℕ). due (hop_of cut.delay) (λ j. from j cut.sent) i (was_at kind (plain_cut plain cut) i) k n)
+    ∙ ap (λ (k : ℕ). due (hop_of cut.delays) (λ j. from j cut.sent) i (was_at kind (plain_cut plain cut) i) k n)
     (clock_is ∙ ap (λ (zs : List N). slice_index (map kind.clock (map plain zs)) i) there)
 
 -- it stands in order, and each of it may be taken

@@ -1,22 +1,20 @@
-use Rattle.std.specs.Prelude.{ℕ, true, ◌≡◌, ◌<◌, ◌≤◌, List, length, All}
+use Rattle.std.specs.Prelude.{ℕ, true, ◌≡◌, ◌≤◌, List, length, All}
+use Rattle.link_node.specs.Delays.{AreDelays}
 use Rattle.link_node.specs.Due.{FitsWidths}
 use Rattle.link_order.specs.declared.sent.Sent.{Sent}
 use Rattle.link_order.specs.NodeKind.{NodeKind}
 use Rattle.link_order.specs.Order.{IsSorted}
-use Rattle.link_order.specs.Cut.{Delays, Cut, plain_cut, is_live, IsSound, IsCable}
+use Rattle.link_node.specs.declared.delays.Delays.{Delays}
+use Rattle.link_order.specs.Cut.{Cut, plain_cut, is_live, IsSound, IsCable}
 
--- the signals that are on their way, with the cable's delay
+-- the signals that are on their way, with the cable's delays
 pub record Flight : Type 0 where
-  pub delay : Delays
+  pub delays : Delays
   pub sent : List Sent
-
--- the delay that a cut keeps, also of one console alone
-abbrev pub IsDelay : Delays → Type 0
-IsDelay delay = (0 < delay) × (delay ≤ 1024)
 
 -- these nodes with the signals that are on their way
 abbrev pub cut_of : {N : Type 0} → List N → Flight → Cut N
-cut_of nodes flight = record { consoles = nodes; delay = flight.delay; sent = flight.sent }
+cut_of nodes flight = record { consoles = nodes; delays = flight.delays; sent = flight.sent }
 
 -- each signal can still be taken by some other console
 abbrev pub AllLive : {C : Type 0} → NodeKind C → Cut C → Type 0
@@ -30,7 +28,7 @@ AllFit sent = All (λ (one : Sent). FitsWidths one.signal) sent
 pub record IsKept {N C : Type 0} (kind : NodeKind C)
     (plain : N → C) (cut : Cut N) (sent_room due_room : ℕ) : Type 0 where
   pub cable : IsCable (plain_cut plain cut)
-  pub delays : IsDelay cut.delay
+  pub delays : AreDelays cut.delays
   pub sound : IsSound kind (plain_cut plain cut)
   pub awaited : AllLive kind (plain_cut plain cut)
   pub widths : AllFit cut.sent
@@ -39,7 +37,7 @@ pub record IsKept {N C : Type 0} (kind : NodeKind C)
 
 -- what holds of every list of signals that is kept beside its nodes
 pub record IsFlight (flight : Flight) (sent_room due_room : ℕ) : Type 0 where
-  pub delays : IsDelay flight.delay
+  pub delays : AreDelays flight.delays
   pub few : length flight.sent ≤ 16384
   pub sorted : IsSorted flight.sent
   pub widths : AllFit flight.sent

@@ -4,17 +4,18 @@ ghost use Rattle.std.specs.Prelude.{ℕ, ◌≡◌, ◌+◌, ◌<◌, ◌≤◌,
 ghost use Rattle.std.specs.Prelude.{slice_set, IfOk, IfErr, All, EachIndex};
 ghost use Rattle.std.specs.Vec.{vec_len, vec_capacity};
 ghost use Rattle.link_node.specs.Due.{IsDue, InOrder};
+ghost use Rattle.link_node.specs.Delays.{AreDelays};
 ghost use Rattle.link_order.specs.NodeKind.{kind_of};
 ghost use Rattle.link_order.specs.Order.{IsOrdered};
 ghost use Rattle.link_order.specs.Cut.{plain_cut, opening, live, count, clock_at, IsSound, IsCable};
 ghost use Rattle.link_order.specs.GlobalOrder.{least, with_signal, step, run, cycles_left};
-ghost use Rattle.link_core.specs.Kept.{IsDelay, Flight, cut_of, AllLive, AllFit};
+ghost use Rattle.link_core.specs.Kept.{Flight, cut_of, AllLive, AllFit};
 
 use crate::burst::{horizon_of, take_turns};
 use crate::nodes::{clock_of, least_of, turn_of};
 use crate::shell::Shell;
 use crate::signals::{drop_dead, gather, put_sent, was_of};
-use link_node::{Incoming, Node, Signal};
+use link_node::{Delays, Incoming, Node, Signal};
 use link_order::Sent;
 use std::alloc::Global;
 use std::marker::Model;
@@ -22,11 +23,11 @@ use std::marker::Model;
 /// How many signals there is room for. At most 10,236 are live.
 const ROOM: usize = 16384;
 
-/// One to four nodes, the cable's delay, and the signals that some other node can still take.
+/// One to four nodes, the cable's delays, and the signals that some other node can still take.
 #[derive(Drop)]
 pub struct Cut<N: Node> {
     pub(crate) nodes: Vec<N>,
-    pub(crate) delay: u64,
+    pub(crate) delays: Delays,
     pub(crate) sent: Vec<Sent>,
     pub(crate) due: Vec<Incoming>,
 }
@@ -39,10 +40,10 @@ impl<N: Node> Model for Cut<N> {
 
     ghost Value = { order.Cut N };
 
-    ghost view = { λ c. record { consoles = c.nodes.items; delay = c.delay; sent = c.sent.items } };
+    ghost view = { λ c. record { consoles = c.nodes.items; delays = c.delays; sent = c.sent.items } };
 
     ghost invariant = { λ c. IsKept (kind_of N.clock N.was N.next) N.plain
-        (record { consoles = c.nodes.items; delay = c.delay; sent = c.sent.items })
+        (record { consoles = c.nodes.items; delays = c.delays; sent = c.sent.items })
         (vec_capacity c.sent) (vec_capacity c.due) };
 }
 
@@ -71,11 +72,11 @@ fn join_signal(sent: &mut Vec<Sent>, player: u32, signal: Option<Signal>)
 
 impl<N: Node> Cut<N> {
     /// A cut with nothing sent. It takes all the memory that later calls need.
-    pub fn new(alloc: Global, nodes: Vec<N>, delay: u64) -> Result<Cut<N>, CutRefused<N>>
-        requires cable { IsCable (plain_cut N.plain (opening nodes.items delay)) }
-        requires delay { IsDelay delay }
-        requires sound { IsSound (kind_of N.clock N.was N.next) (plain_cut N.plain (opening nodes.items delay)) }
-        ensures made { IfOk result (λ cut. cut ≡ opening nodes.items delay) }
+    pub fn new(alloc: Global, nodes: Vec<N>, delays: Delays) -> Result<Cut<N>, CutRefused<N>>
+        requires cable { IsCable (plain_cut N.plain (opening nodes.items delays)) }
+        requires delays { AreDelays delays }
+        requires sound { IsSound (kind_of N.clock N.was N.next) (plain_cut N.plain (opening nodes.items delays)) }
+        ensures made { IfOk result (λ cut. cut ≡ opening nodes.items delays) }
         ensures refused { IfErr result (λ refused. refused.nodes ≡ nodes) }
     {
         let Ok(sent) = Vec::with_capacity(alloc, ROOM) else {
@@ -86,7 +87,7 @@ impl<N: Node> Cut<N> {
         };
         Ok(Cut {
             nodes,
-            delay,
+            delays,
             sent,
             due,
         })
@@ -107,7 +108,7 @@ impl<N: Node> Cut<N> {
     {
         let Cut {
             nodes,
-            delay: _,
+            delays: _,
             sent: _,
             due: _,
         } = self;
@@ -122,13 +123,12 @@ impl<N: Node> Cut<N> {
         least_of(&self.nodes) as u32
     }
 
-    /// The cable's delay in cycles, from 1 to 1,024.
-    pub fn delay(&self) -> u64
-        ensures value { result ≡ self.now.delay }
-        ensures some { 0 < result }
-        ensures short { result ≤ 1024 }
+    /// The cable's delays.
+    pub fn delays(&self) -> &Delays
+        ensures value { result.now ≡ self.now.delays }
+        ensures within { AreDelays result.now }
     {
-        self.delay
+        &self.delays
     }
 
     /// The signals that some other node can still take, by clock, then by sender.
@@ -145,7 +145,7 @@ impl<N: Node> Cut<N> {
     /// Takes the nodes out, by player number. The signals and the room for them stay in the shell.
     pub fn part(self) -> (Vec<N>, Shell)
         ensures nodes { result.0.items ≡ self.consoles }
-        ensures delay { result.1.delay ≡ self.delay }
+        ensures delays { result.1.delays ≡ self.delays }
         ensures sent { result.1.sent ≡ self.sent }
         ensures cable { IsCable (plain_cut N.plain (cut_of result.0.items result.1)) }
         ensures sound { IsSound (kind_of N.clock N.was N.next) (plain_cut N.plain (cut_of result.0.items result.1)) }
@@ -153,11 +153,11 @@ impl<N: Node> Cut<N> {
     {
         let Cut {
             nodes,
-            delay,
+            delays,
             sent,
             due,
         } = self;
-        (nodes, Shell { delay, sent, due })
+        (nodes, Shell { delays, sent, due })
     }
 }
 
@@ -176,10 +176,10 @@ impl<N: Node> Cut<N> {
         let player = i as u32;
         let was = was_of(&self.nodes, i);
         let clock = clock_of(&self.nodes, i);
-        gather(&self.sent, self.delay, player, was, clock, &mut self.due);
+        gather(&self.sent, &self.delays, player, was, clock, &mut self.due);
         let signal = turn_of(&mut self.nodes, i, &self.due);
         join_signal(&mut self.sent, player, signal);
-        drop_dead(&mut self.sent, &self.nodes, self.delay);
+        drop_dead(&mut self.sent, &self.nodes, &self.delays);
     }
 
     /// The least clock of all nodes.
@@ -208,17 +208,17 @@ impl<N: Node> Cut<N> {
         ensures limits { map N.bound self.new.consoles ≡ map N.bound self.old.consoles }
     {
         let i = least_of(&self.nodes);
-        let end = horizon_of(&self.nodes, i, self.delay, until);
+        let end = horizon_of(&self.nodes, i, &self.delays, until);
         let signal = take_turns(
             &mut self.nodes,
             i,
             end,
             &self.sent,
-            self.delay,
+            &self.delays,
             &mut self.due,
         );
         join_signal(&mut self.sent, i as u32, signal);
-        drop_dead(&mut self.sent, &self.nodes, self.delay);
+        drop_dead(&mut self.sent, &self.nodes, &self.delays);
     }
 
     /// Steps in the global order until every clock is at least `until`.

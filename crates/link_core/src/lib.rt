@@ -1,5 +1,5 @@
 #![tactic(auto)]
-//! A cut of a run: one to four nodes, the cable's delay and the signals that are on their way. It steps its nodes in
+//! A cut of a run: one to four nodes, the cable's delays and the signals that are on their way. It steps its nodes in
 //! the global order, which always steps the one that is furthest behind.
 //!
 //! The definitions are those of `link_order`, and the laws those of `link_laws`, which is here the module `laws`.

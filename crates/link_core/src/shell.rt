@@ -2,6 +2,7 @@
 
 ghost use Rattle.std.specs.Prelude.{◌≡◌, ◌<◌, ◌≤◌, ◌^◌, List, [], length, map};
 ghost use Rattle.link_node.specs.Due.{FitsWidths};
+ghost use Rattle.link_node.specs.Delays.{AreDelays};
 ghost use Rattle.link_order.specs.NodeKind.{kind_of};
 ghost use Rattle.link_order.specs.Order.{IsSorted, IsAdded};
 ghost use Rattle.link_order.specs.Cut.{plain_cut, IsSound, IsCable};
@@ -9,14 +10,14 @@ ghost use Rattle.link_core.specs.Kept.{Flight, cut_of, AllLive, AllFit};
 
 use crate::cut::Cut;
 use crate::signals::put_sent;
-use link_node::{Incoming, Node};
+use link_node::{Delays, Incoming, Node};
 use link_order::Sent;
 use std::marker::Model;
 
-/// The delay and the live signals of a cut without its nodes, with the room for 16,384 signals.
+/// The delays and the live signals of a cut without its nodes, with the room for 16,384 signals.
 #[derive(Drop)]
 pub struct Shell {
-    pub(crate) delay: u64,
+    pub(crate) delays: Delays,
     pub(crate) sent: Vec<Sent>,
     pub(crate) due: Vec<Incoming>,
 }
@@ -27,20 +28,19 @@ impl Model for Shell {
 
     ghost Value = { Flight };
 
-    ghost view = { λ s. record { delay = s.delay; sent = s.sent.items } };
+    ghost view = { λ s. record { delays = s.delays; sent = s.sent.items } };
 
-    ghost invariant = { λ s. IsFlight (record { delay = s.delay; sent = s.sent.items })
+    ghost invariant = { λ s. IsFlight (record { delays = s.delays; sent = s.sent.items })
         (vec_capacity s.sent) (vec_capacity s.due) };
 }
 
 impl Shell {
-    /// The cable's delay in cycles, from 1 to 1,024.
-    pub fn delay(&self) -> u64
-        ensures value { result ≡ self.now.delay }
-        ensures some { 0 < result }
-        ensures short { result ≤ 1024 }
+    /// The cable's delays.
+    pub fn delays(&self) -> &Delays
+        ensures value { result.now ≡ self.now.delays }
+        ensures within { AreDelays result.now }
     {
-        self.delay
+        &self.delays
     }
 
     /// The signals, by clock, then by sender.
@@ -55,7 +55,7 @@ impl Shell {
 
     /// Drops all signals.
     pub fn clear(&mut self)
-        ensures delay { self.new.delay ≡ self.old.delay }
+        ensures delays { self.new.delays ≡ self.old.delays }
         ensures sent { self.new.sent ≡ [] }
     {
         self.sent.clear();
@@ -65,7 +65,7 @@ impl Shell {
     pub fn add(&mut self, one: Sent)
         requires room { length self.old.sent < 16384 }
         requires widths { FitsWidths one.signal }
-        ensures delay { self.new.delay ≡ self.old.delay }
+        ensures delays { self.new.delays ≡ self.old.delays }
         ensures either { IsAdded one self.old.sent self.new.sent }
     {
         if !self.sent.contains(&one) {
@@ -80,10 +80,10 @@ impl Shell {
         requires live { AllLive (kind_of N.clock N.was N.next) (plain_cut N.plain (cut_of nodes.items self)) }
         ensures { result ≡ cut_of nodes.items self }
     {
-        let Shell { delay, sent, due } = self;
+        let Shell { delays, sent, due } = self;
         Cut {
             nodes,
-            delay,
+            delays,
             sent,
             due,
         }

@@ -6,10 +6,11 @@ ghost use Rattle.std.specs.List.{insert};
 ghost use Rattle.std.specs.Vec.{vec_len, vec_capacity};
 ghost use Rattle.link_order.specs.Order.{is_before, place, place_sent, clock_of, sender_of, from};
 ghost use Rattle.link_order.specs.Due.{is_due, incoming, arrival_of, player_of, place_due, due};
-ghost use Rattle.link_order.specs.Cut.{hop_of, is_awaited};
+ghost use Rattle.link_node.specs.Delays.{hop_of};
+ghost use Rattle.link_order.specs.Cut.{is_awaited};
 
-use link_node::{Incoming, Node};
-use link_order::{Sent, hop};
+use link_node::{Delays, Incoming, Node};
+use link_order::Sent;
 
 /// Whether a sent signal stands before another.
 fn is_sent_before(one: &Sent, other: &Sent) -> bool
@@ -97,12 +98,19 @@ fn taken(one: &Sent, delay: u64, was: u64, clock: u64) -> Option<Incoming>
 }
 
 /// Puts one sent signal into the list of what is due to a player, where it is.
-fn gather_one(one: &Sent, delay: u64, player: u32, was: u64, clock: u64, list: &mut Vec<Incoming>)
+fn gather_one(
+    one: &Sent,
+    delays: &Delays,
+    player: u32,
+    was: u64,
+    clock: u64,
+    list: &mut Vec<Incoming>,
+)
     requires { vec_len list.old < vec_capacity list.old }
-    ensures takes { let between = hop_of delay one.now.sender player in
+    ensures takes { let between = hop_of delays.now one.now.sender player in
         one.now.sender ≢ player → is_due was clock (one.now.signal.clock + between) ≡ true →
         list.new.items ≡ place_due (incoming between one.now.sender one.now.signal) list.old.items }
-    ensures leaves { let between = hop_of delay one.now.sender player in
+    ensures leaves { let between = hop_of delays.now one.now.sender player in
         (one.now.sender ≡ player) ⊎ (is_due was clock (one.now.signal.clock + between) ≡ false) →
         list.new.items ≡ list.old.items }
     ensures len { vec_len list.new ≤ vec_len list.old + 1 }
@@ -111,7 +119,7 @@ fn gather_one(one: &Sent, delay: u64, player: u32, was: u64, clock: u64, list: &
     if one.sender == player {
         return;
     }
-    let between = hop(delay, one.sender as usize, player as usize);
+    let between = delays.hop(one.sender as usize, player as usize);
     if let Some(incoming) = taken(one, between, was, clock) {
         put_due(list, incoming);
     }
@@ -120,7 +128,7 @@ fn gather_one(one: &Sent, delay: u64, player: u32, was: u64, clock: u64, list: &
 /// Makes the list of what is due to a player.
 pub(crate) fn gather(
     sent: &[Sent],
-    delay: u64,
+    delays: &Delays,
     player: u32,
     was: u64,
     clock: u64,
@@ -128,12 +136,12 @@ pub(crate) fn gather(
 )
     requires { length sent.now ≤ vec_capacity list.old }
     ensures due { (count : ℕ) → All (λ one. one.sender < count) sent.now →
-        list.new.items ≡ due (hop_of delay) (λ j. from j sent.now) player was clock count }
+        list.new.items ≡ due (hop_of delays.now) (λ j. from j sent.now) player was clock count }
     ensures room { vec_capacity list.old ≤ vec_capacity list.new }
 {
     list.clear();
     for one in sent {
-        gather_one(one, delay, player, was, clock, list);
+        gather_one(one, delays, player, was, clock, list);
     }
 }
 
@@ -146,14 +154,14 @@ pub(crate) fn was_of<N: Node>(nodes: &[N], i: usize) -> u64
 }
 
 /// Whether some node but its sender can still take a signal.
-fn is_awaited_by<N: Node>(nodes: &[N], delay: u64, one: &Sent) -> bool
-    ensures { result ≡ is_awaited (hop_of delay) (slice_index (map N.was (map N.plain nodes.now)))
+fn is_awaited_by<N: Node>(nodes: &[N], delays: &Delays, one: &Sent) -> bool
+    ensures { result ≡ is_awaited (hop_of delays.now) (slice_index (map N.was (map N.plain nodes.now)))
         (length nodes.now) one.now }
 {
     let mut awaited = false;
     for i in 0..nodes.len() {
         let was = was_of(nodes, i);
-        let between = hop(delay, one.sender as usize, i);
+        let between = delays.hop(one.sender as usize, i);
         let hears = was < one.signal.clock || was - one.signal.clock < between;
         awaited = (i as u64 != u64::from(one.sender) && hears) || awaited;
     }
@@ -161,11 +169,11 @@ fn is_awaited_by<N: Node>(nodes: &[N], delay: u64, one: &Sent) -> bool
 }
 
 /// Drops the signals that nobody can take any more.
-pub(crate) fn drop_dead<N: Node>(sent: &mut Vec<Sent>, nodes: &[N], delay: u64)
+pub(crate) fn drop_dead<N: Node>(sent: &mut Vec<Sent>, nodes: &[N], delays: &Delays)
     ensures items { sent.new.items ≡ filter
-        (is_awaited (hop_of delay) (slice_index (map N.was (map N.plain nodes.now))) (length nodes.now))
+        (is_awaited (hop_of delays.now) (slice_index (map N.was (map N.plain nodes.now))) (length nodes.now))
         sent.old.items }
     ensures room { vec_capacity sent.new ≡ vec_capacity sent.old }
 {
-    sent.retain(|one| is_awaited_by(nodes, delay, one));
+    sent.retain(|one| is_awaited_by(nodes, delays, one));
 }

@@ -1,13 +1,15 @@
 //! Lanes by one thread, in turn.
 
 ghost use Rattle.std.specs.Prelude.{ℕ, ◌≡◌, ◌+◌, ◌<◌, ◌≤◌, IfOk};
+ghost use Rattle.link_node.specs.Delays.{AreDelays};
 ghost use Rattle.link_lane_tests.specs.Going.{MayGo};
 
 use crate::{advance_one, lanes_of};
 use gba_store::{Gate, NoGate};
 use link_lane::{Lane, LaneParts, Pause};
+use link_node::Delays;
 use link_table::Shared;
-use link_trial::{Beat, begin};
+use link_trial::{Beat, begin, drawn};
 use std::alloc::Global;
 use std::cell::Cell;
 use std::process::Abort;
@@ -37,15 +39,15 @@ fn two_lanes(
     alloc: Global,
     first: Beat,
     second: Beat,
-    delay: u64,
+    delays: Delays,
 ) -> Result<(Shared<Beat>, Lane<Beat>, Lane<Beat>), Fail>
     requires fresh { (first.clock ≡ 0) × (first.was ≡ 0) × (second.clock ≡ 0) × (second.was ≡ 0) }
     requires limits { (first.limit ≡ 4096) × (second.limit ≡ 4096) }
-    requires delay { (0 < delay) × (delay ≤ 1024) }
+    requires delays { AreDelays delays }
     ensures { IfOk result (λ made. MayGo made.0 4096 made.1 × MayGo made.0 4096 made.2) }
 {
     let nodes = vec![in alloc; first, second]?;
-    let Ok(cut) = begin(alloc, nodes, delay) else {
+    let Ok(cut) = begin(alloc, nodes, delays) else {
         panic!(rt; "no memory");
     };
     let Some((shared, mut lanes)) = lanes_of(alloc, cut, 4096) else {
@@ -85,7 +87,7 @@ fn a_lane_steps_below_the_horizon_and_waits_at_it(rt: HostRuntime) -> Result<(),
         rt.alloc(),
         teller,
         beat(0, 0, NEVER),
-        16,
+        Delays::all(16),
     )?;
     in_turn(&shared, &mut first, &mut second, 1000, 1015, 20);
     assert_eq!(rt; (first.clock(), second.clock()), (1000, 1015));
@@ -98,6 +100,29 @@ fn a_lane_steps_below_the_horizon_and_waits_at_it(rt: HostRuntime) -> Result<(),
         seen: 1000,
     };
     assert_eq!(rt; (waits, second.clock()), (at_seen, 1016));
+    Ok(())
+}
+
+#[test]
+fn a_lane_goes_as_far_as_the_delay_from_its_peer(rt: HostRuntime) -> Result<(), Fail> {
+    // from 0 to 1 a signal takes a cycle, and 1,024 cycles back
+    let (shared, mut first, mut second) = two_lanes(
+        &rt,
+        rt.alloc(),
+        beat(0, 0, NEVER),
+        beat(0, 0, NEVER),
+        drawn(0x0010),
+    )?;
+    let near = advance_one(&shared, &NoGate, &mut second, 4096, 2000, 1);
+    assert_eq!(rt;
+        (near, second.clock()),
+        (Pause::Blocked { peer: 0, seen: 0 }, 1)
+    );
+    let far = advance_one(&shared, &NoGate, &mut first, 4096, 2000, 1);
+    assert_eq!(rt;
+        (far, first.clock()),
+        (Pause::Blocked { peer: 1, seen: 1 }, 1025)
+    );
     Ok(())
 }
 
@@ -124,7 +149,7 @@ fn the_gate_is_entered_before_each_step(rt: HostRuntime) -> Result<(), Fail> {
         rt.alloc(),
         beat(2, 2, NEVER),
         beat(2, 2, NEVER),
-        16,
+        Delays::all(16),
     )?;
     let gate = Keeping {
         entries: Cell::new(0),
@@ -154,7 +179,7 @@ fn a_signal_is_taken_at_its_arrival_and_not_before(rt: HostRuntime) -> Result<()
             rt.alloc(),
             beat(99, 99, 100),
             beat(first, 280, NEVER),
-            1024,
+            Delays::all(1024),
         )?;
         in_turn(&shared, &mut teller, &mut listener, 1500, 1500, 20);
         assert!(rt; teller.clock() >= 1500 && listener.clock() >= 1500);
@@ -175,7 +200,7 @@ fn what_was_fetched_and_not_taken_waits(rt: HostRuntime) -> Result<(), Fail> {
         rt.alloc(),
         beat(99, 99, 100),
         beat(280, 280, NEVER),
-        1024,
+        Delays::all(1024),
     )?;
     in_turn(&shared, &mut teller, &mut listener, 1100, 1100, 20);
     let LaneParts {

@@ -1,15 +1,16 @@
 //! Lanes on threads, compared with the global order.
 
 ghost use Rattle.std.specs.Prelude.{ℕ, ◌≡◌, ◌+◌, ◌<◌, ◌≤◌, All, IfOk, length};
+ghost use Rattle.link_node.specs.Delays.{AreDelays};
 ghost use Rattle.link_lane_tests.specs.Going.{MayGo};
 
 use crate::{advance_all, lanes_of};
 use gba_store::{Gate, NoGate};
 use link_core::{Cut, Sent};
 use link_lane::{Lane, LaneParts};
-use link_node::Incoming;
+use link_node::{Delays, Incoming};
 use link_table::Shared;
-use link_trial::{Mixer, begin, mixers};
+use link_trial::{Mixer, begin, drawn, mixers};
 use std::alloc::Global;
 use std::process::Abort;
 use std::sync::atomic::{AtomicU64, Ordering};
@@ -24,17 +25,17 @@ fn cut_of(
     rt: &impl Abort,
     alloc: Global,
     count: usize,
-    delay: u64,
+    delays: Delays,
     seed: u64,
 ) -> Result<Cut<Mixer>, Fail>
     requires count { (0 < count) × (count ≤ 4) }
-    requires delay { (0 < delay) × (delay ≤ 1024) }
+    requires delays { AreDelays delays }
     ensures sent { IfOk result (λ cut. length cut.sent ≡ 0) }
     ensures count { IfOk result (λ cut. length cut.consoles ≡ count) }
     ensures limits { IfOk result (λ cut. All (λ node. node.limit ≡ 1048576) cut.consoles) }
 {
     let nodes = mixers(alloc, count, seed, LIMIT)?;
-    let Ok(cut) = begin(alloc, nodes, delay) else {
+    let Ok(cut) = begin(alloc, nodes, delays) else {
         panic!(rt; "no memory");
     };
     Ok(cut)
@@ -67,10 +68,11 @@ fn nodes_of(
     alloc: Global,
     lanes: Vec<Lane<Mixer>>,
     sent: &[Sent],
-    delay: u64,
+    delays: &Delays,
 ) -> Result<Vec<Mixer>, Fail> {
     let mut nodes = Vec::new(alloc);
     for lane in lanes {
+        let player = lane.player() as usize;
         let LaneParts {
             node,
             seat: _,
@@ -83,7 +85,8 @@ fn nodes_of(
                 signal,
             } = one;
             assert!(rt; sent.contains(&Sent { sender, signal }));
-            assert_eq!(rt; signal.clock.checked_add(delay), Some(arrival));
+            let between = arrival.checked_sub(signal.clock);
+            assert_eq!(rt; between, Some(delays.hop(sender as usize, player)));
         }
         nodes.push(node)?;
     }
@@ -107,22 +110,22 @@ fn compare<R: Abort + Threads + Sync, G: Gate + Sync>(
     alloc: Global,
     gate: &G,
     count: usize,
-    delay: u64,
+    delays: Delays,
     seed: u64,
     until: u64,
     polls: u32,
 ) -> Result<u64, Fail>
     requires count { (0 < count) × (count ≤ 4) }
-    requires delay { (0 < delay) × (delay ≤ 1024) }
+    requires delays { AreDelays delays }
     requires until { until ≤ 1048576 }
     requires polls { 0 < polls }
 {
-    let cut = cut_of(rt, alloc, count, delay, seed)?;
+    let cut = cut_of(rt, alloc, count, delays, seed)?;
     let Some((shared, mut lanes)) = lanes_of(alloc, cut, until) else {
         panic!(rt; "no memory");
     };
     advance_to_end(rt, &shared, gate, lanes.as_mut_slice(), until, polls);
-    let mut serial = cut_of(rt, alloc, count, delay, seed)?;
+    let mut serial = cut_of(rt, alloc, count, delays, seed)?;
     let mut steps = 0u64;
     for _ in 0..1_000_000 {
         if !step_once(&mut serial, until) {
@@ -130,7 +133,7 @@ fn compare<R: Abort + Threads + Sync, G: Gate + Sync>(
         }
         steps = steps.saturating_add(1);
     }
-    let nodes = nodes_of(rt, alloc, lanes, serial.sent(), delay)?;
+    let nodes = nodes_of(rt, alloc, lanes, serial.sent(), &delays)?;
     assert_eq!(rt; nodes.as_slice(), serial.nodes());
     Ok(steps)
 }
@@ -145,7 +148,21 @@ fn lanes_on_threads_come_to_what_the_global_order_makes(rt: HostRuntime) -> Resu
             (512, 10, 1),
             (1024, 11, 4096),
         ] {
-            compare(&rt, rt.alloc(), &NoGate, count, delay, seed, 6_000, polls)?;
+            let delays = Delays::all(delay);
+            compare(&rt, rt.alloc(), &NoGate, count, delays, seed, 6_000, polls)?;
+        }
+        for (number, polls) in [(0x0012, 1), (0x4821, 4096), (0x5a3c, 64), (0xfed7, 1)] {
+            let delays = drawn(number);
+            compare(
+                &rt,
+                rt.alloc(),
+                &NoGate,
+                count,
+                delays,
+                number,
+                6_000,
+                polls,
+            )?;
         }
     }
     Ok(())
@@ -176,7 +193,7 @@ fn a_lane_that_is_held_changes_nothing(rt: HostRuntime) -> Result<(), Fail> {
             player,
             entries: AtomicU64::new(0),
         };
-        let steps = compare(&rt, rt.alloc(), &gate, 3, 100, 12, 6_000, 16)?;
+        let steps = compare(&rt, rt.alloc(), &gate, 3, drawn(0x0148), 12, 6_000, 16)?;
         assert_eq!(rt; gate.entries.load(Ordering::SeqCst), steps);
     }
     Ok(())

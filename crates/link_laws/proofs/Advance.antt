@@ -81,7 +81,7 @@ pub record Advanced {C : Type 0} (kind : NodeKind C) (cut : Cut C) (i : ℕ) : T
   pub clock_is : clock_at kind cut i ≡ kind.clock x
   pub was_is : was_at kind cut i ≡ kind.was x
   pub count_is : count (step_of kind cut i) ≡ count cut
-  pub delay_is : (step_of kind cut i).delay ≡ cut.delay
+  pub delays_are : (step_of kind cut i).delays ≡ cut.delays
   pub sound : IsSound kind (step_of kind cut i)
   pub own_console : slice_get (step_of kind cut i).consoles i ≡ Some (kind.next x (due_at kind cut i)).0
   pub other_console : (j : ℕ) → j ≢ i → slice_get (step_of kind cut i).consoles j ≡ slice_get cut.consoles j
@@ -125,7 +125,7 @@ advance {C = C} kind law cut i below ahead sound =
       clock_is = own;
       was_is = at.1.was_is;
       count_is = ap count is ∙ s.count_is;
-      delay_is = ap (λ (e : Cut C). e.delay) is;
+      delays_are = ap (λ (e : Cut C). e.delays) is;
       sound = subst (IsSound kind) (sym is) (sound_after_step kind law cut i x signals below at.1 ahead sound);
       own_console = ap (λ (e : Cut C). slice_get e.consoles i) is
           ∙ get_set_same cut.consoles i (kind.next x signals).0 below;

@@ -76,7 +76,7 @@ pub on_opened : {C : Type 0} (kind : NodeKind C) → IsLawful kind → (until : 
     → On kind cut ps cut (λ _. 0)
 on_opened kind law until cut ps leads sound = record {
   count_is = refl;
-  delay_is = refl;
+  delays_are = refl;
   sound = sound;
   within = λ i below. omega arith;
   same = λ i below. same_sym (moment kind cut ps i 0) cut i (moment_none kind law until ps cut i leads sound);
@@ -99,7 +99,7 @@ hears_happens {C = C} kind law cut until (Step i) w watch may hears =
     let next : HearsInTime kind (record { cut = step_of kind w.cut i; seen = w.seen; got = w.got })
     = λ a b la lb apart.
     let h : hop (step_of kind w.cut i) b a ≡ hop w.cut b a =
-    ap (λ (f : ℕ → ℕ → ℕ). f b a) (hop_same (step_of kind w.cut i) w.cut s.delay_is) in
+    ap (λ (f : ℕ → ℕ → ℕ). f b a) (hop_same (step_of kind w.cut i) w.cut s.delays_are) in
     elim (same_or_apart a i) [
       | inl e ↦
           let f = ap (was_at kind (step_of kind w.cut i)) e in
@@ -151,8 +151,8 @@ equality {C = C} kind law cut until actions cable sound may =
           record { within = exact.within i below; console = s.console; signals = s.signals };
       goes_on = record {
         count_is = exact.count_is;
-        delay_is = exact.delay_is;
-        cable = cable_same w.cut cut exact.count_is exact.delay_is cable;
+        delays_are = exact.delays_are;
+        cable = cable_same w.cut cut exact.count_is exact.delays_are cable;
         sound = exact.sound;
         in_time = λ time a b la lb apart.
             let hears = hears_played kind law cut until actions (first_watch kind cut) start

@@ -101,7 +101,7 @@ from_past n j (x ∷ xs) h past =
 
 -- two sound cuts with the same consoles and the same signals of each player
 pub same_cuts : {C : Type 0} (kind : NodeKind C) (d e : Cut C) → IsSound kind d → IsSound kind e → count d ≡ count e
-    → d.delay ≡ e.delay
+    → d.delays ≡ e.delays
     → ((i : ℕ) → i < count d → Same d e i) → d ≡ e
 same_cuts {C = C} kind d e sd se counts delays same =
     let senders : (f : Cut C) → IsSound kind f → All (λ (one : Sent). one.sender < count f) f.sent
@@ -115,7 +115,7 @@ same_cuts {C = C} kind d e sd se counts delays same =
       | inr past ↦ from_past (count d) j d.sent (senders d sd) past
           ∙ sym (from_past (count e) j e.sent (senders e se) (omega (arith, past, counts)))
     ]) in
-    λ t. record { consoles = consoles t; delay = delays t; sent = sents t }
+    λ t. record { consoles = consoles t; delays = delays t; sent = sents t }
 
 -- where all clocks have come to `until`, each console has made all its steps
 on_end : {C : Type 0} (kind : NodeKind C) → IsLawful kind
@@ -125,7 +125,7 @@ on_end : {C : Type 0} (kind : NodeKind C) → IsLawful kind
     → d ≡ after_turns kind cut ps
 on_end {C = C} kind law until cut ps d made leads sound on late =
     let e = history_ends kind law until ps cut leads sound in
-    same_cuts kind d (after_turns kind cut ps) on.sound e.sound (on.count_is ∙ sym e.count_is) (on.delay_is ∙ sym e.delay_is)
+    same_cuts kind d (after_turns kind cut ps) on.sound e.sound (on.count_is ∙ sym e.count_is) (on.delays_are ∙ sym e.delays_are)
     (λ i below.
     let less : i < count cut = subst (λ (n : ℕ). i < n) on.count_is below in
     let s = on.same i less in
@@ -166,7 +166,7 @@ goes_on_by kind law zero until cut ps d made leads sound some later on few =
     goes_over kind law until cut ps d made leads sound on (ends kind d until some_d (omega arith))
 goes_on_by {C = C} kind law (suc most) until cut ps d made leads sound some later on few =
     let some_d : 0 < count d = subst (λ (n : ℕ). 0 < n) (sym on.count_is) some in
-    let later_d : HasDelays d = delays_same d cut on.count_is on.delay_is later in
+    let later_d : HasDelays d = delays_same d cut on.count_is on.delays_are later in
     elim (cases_Bool (nat_lt (clock_at kind d (least kind d)) until)) [
       | inr e ↦ goes_over kind law until cut ps d made leads sound on e
       | inl e ↦

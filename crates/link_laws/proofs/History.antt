@@ -71,7 +71,7 @@ leads_by kind law (suc most) cut until some later few sound =
           let less : cycles_left kind (step_of kind cut (least kind cut)) until < cycles_left kind cut until = f.fewer in
           let some' : 0 < count (step_of kind cut (least kind cut)) = subst (λ (n : ℕ). 0 < n) (sym f.count_is) some in
           let later' : HasDelays (step_of kind cut (least kind cut)) =
-          delays_same (step_of kind cut (least kind cut)) cut f.count_is f.delay_is later in
+          delays_same (step_of kind cut (least kind cut)) cut f.count_is f.delays_are later in
           let ih = leads_by kind law most (step_of kind cut (least kind cut)) until some' later' (omega arith)
           (sound_step kind law cut some later sound) in
           subst (Leads kind until cut) (sym (trace_goes kind most cut until e)) (
@@ -304,7 +304,7 @@ goes {C = C} kind law until (p ∷ ps) cut i zero leads sound below =
           (hop (step_of kind cut p)) (hop cut)
           (sym (moment_other kind cut p ps i zero e)) (sym (moment_other kind cut p ps i (suc zero) e))
           (sym (after_one kind cut p ps)) a.count_is
-          (hop_same (step_of kind cut p) cut a.delay_is)
+          (hop_same (step_of kind cut p) cut a.delays_are)
           (goes kind law until ps (step_of kind cut p) i zero leads.3 a.sound (omega arith))
     ]
 goes {C = C} kind law until (p ∷ ps) cut i (suc k) leads sound below =
@@ -318,7 +318,7 @@ goes {C = C} kind law until (p ∷ ps) cut i (suc k) leads sound below =
           (hop (step_of kind cut p)) (hop cut)
           (sym (moment_own kind cut p ps i k e)) (sym (moment_own kind cut p ps i (suc k) e))
           (sym (after_one kind cut p ps)) a.count_is
-          (hop_same (step_of kind cut p) cut a.delay_is)
+          (hop_same (step_of kind cut p) cut a.delays_are)
           (goes kind law until ps (step_of kind cut p) i k leads.3 a.sound (omega arith))
       | inr e ↦
           let c = count_other i p ps e in
@@ -328,14 +328,14 @@ goes {C = C} kind law until (p ∷ ps) cut i (suc k) leads sound below =
           (hop (step_of kind cut p)) (hop cut)
           (sym (moment_other kind cut p ps i (suc k) e)) (sym (moment_other kind cut p ps i (suc (suc k)) e))
           (sym (after_one kind cut p ps)) a.count_is
-          (hop_same (step_of kind cut p) cut a.delay_is)
+          (hop_same (step_of kind cut p) cut a.delays_are)
           (goes kind law until ps (step_of kind cut p) i (suc k) leads.3 a.sound (omega arith))
     ]
 
 -- the end of the history
 pub record Ends {C : Type 0} (kind : NodeKind C) (until : ℕ) (cut e : Cut C) : Type 0 where
   pub count_is : count e ≡ count cut
-  pub delay_is : e.delay ≡ cut.delay
+  pub delays_are : e.delays ≡ cut.delays
   pub sound : IsSound kind e
   pub late : (i : ℕ) → i < count cut → until ≤ clock_at kind e i
 
@@ -345,7 +345,7 @@ pub history_ends : {C : Type 0} (kind : NodeKind C) → IsLawful kind → (until
 history_ends {C = C} kind law until [] cut leads sound =
     subst (Ends kind until cut) (sym (after_none kind cut)) (record {
       count_is = refl;
-      delay_is = refl;
+      delays_are = refl;
       sound = sound;
       late = leads;
     })
@@ -354,7 +354,7 @@ history_ends {C = C} kind law until (p ∷ ps) cut leads sound =
     let h = history_ends kind law until ps (step_of kind cut p) leads.3 a.sound in
     subst (Ends kind until cut) (sym (after_one kind cut p ps)) (record {
       count_is = h.count_is ∙ a.count_is;
-      delay_is = h.delay_is ∙ a.delay_is;
+      delays_are = h.delays_are ∙ a.delays_are;
       sound = h.sound;
       late = λ i below. h.late i (subst (λ (n : ℕ). i < n) (sym a.count_is) below);
     })
@@ -362,7 +362,7 @@ history_ends {C = C} kind law until (p ∷ ps) cut leads sound =
 -- a cut in which each console has made some of its steps of the history, with the signals of these steps
 pub record On {C : Type 0} (kind : NodeKind C) (cut : Cut C) (ps : List ℕ) (d : Cut C) (made : ℕ → ℕ) : Type 0 where
   pub count_is : count d ≡ count cut
-  pub delay_is : d.delay ≡ cut.delay
+  pub delays_are : d.delays ≡ cut.delays
   pub sound : IsSound kind d
   pub within : (i : ℕ) → i < count cut → made i ≤ count_of i ps
   pub same : (i : ℕ) → i < count cut → Same d (moment kind cut ps i (made i)) i
@@ -422,7 +422,7 @@ on_step {C = C} kind law until cut ps d made i leads sound on below early ahead 
     let told : due (hop cut) (λ j. from j e.sent) i (kind.was g.x) (kind.clock g.x) (count cut) ≡ due_at kind d i
     = ap (λ (y : C). due (hop cut) (λ j. from j e.sent) i (kind.was y) (kind.clock y) (count cut)) (sym x)
     ∙ ap (λ (b : ℕ → ℕ → ℕ). due b (λ j. from j e.sent) i (kind.was a.x) (kind.clock a.x) (count cut))
-    (hop_same cut d (sym on.delay_is))
+    (hop_same cut d (sym on.delays_are))
     ∙ ap (due (hop d) (λ j. from j e.sent) i (kind.was a.x) (kind.clock a.x)) (sym on.count_is)
     ∙ whole in
     let moved : (kind.next g.x (due (hop cut) (λ j. from j e.sent) i (kind.was g.x) (kind.clock g.x) (count cut)))
@@ -436,7 +436,7 @@ on_step {C = C} kind law until cut ps d made i leads sound on below early ahead 
     } in
     record {
       count_is = a.count_is ∙ on.count_is;
-      delay_is = a.delay_is ∙ on.delay_is;
+      delays_are = a.delays_are ∙ on.delays_are;
       sound = a.sound;
       within = λ j less. elim (same_or_apart j i) [
         | inl t ↦

@@ -89,7 +89,7 @@ few_unread {C = C} kind law cut until actions i j cable sound may li lj apart =
     let below : All (λ (s : Signal). s.clock < clock_at kind w.cut i + hop w.cut i j) l.rest
     = all_drop (λ (s : Signal). s.clock < clock_at kind w.cut i + hop w.cut i j) (w.got i j) l.rest
     (subst (All (λ (s : Signal). s.clock < clock_at kind w.cut i + hop w.cut i j)) l.all_is bound) in
-    let here = cable_same w.cut cut watch.count_is watch.delay_is cable in
+    let here = cable_same w.cut cut watch.count_is watch.delays_are cable in
     let some : 0 < hop w.cut i j = here.some_delay i j (up i li) (up j lj) apart in
     let short : hop w.cut i j ≤ 1024 = here.short_delay i j (up i li) (up j lj) apart in
     let short' : hop w.cut j i ≤ 1024 = here.short_delay j i (up j lj) (up i li) (λ t. apart (sym t)) in
@@ -234,7 +234,7 @@ furthest_behind {C = C} kind law cut until actions more i cable sound may last m
           let less : j < count cut = subst (λ (n : ℕ). j < n) after_turns.watch.count_is below in
           let seen = seen_stays kind law cut until i j clock more w less waits may_more aside
           (inl (looks j less apart)) in
-          let here = cable_same v.cut cut after_turns.watch.count_is after_turns.watch.delay_is cable in
+          let here = cable_same v.cut cut after_turns.watch.count_is after_turns.watch.delays_are cable in
           let own : i < count v.cut =
           subst (λ (n : ℕ). i < n) (watch.count_is ∙ sym after_turns.watch.count_is) last.player in
           let some : 0 < hop v.cut j i = here.some_delay j i below own apart in
@@ -254,6 +254,6 @@ clocks_near {C = C} kind law cut until actions i j cable sound may li lj =
     elim (same_or_apart i j) [
       | inl e ↦ let f = ap (clock_at kind w.cut) e in omega (arith, f)
       | inr apart ↦
-          let h : hop w.cut j i ≡ hop cut j i = ap (λ (f : ℕ → ℕ → ℕ). f j i) (hop_same w.cut cut watch.delay_is) in
+          let h : hop w.cut j i ≡ hop cut j i = ap (λ (f : ℕ → ℕ → ℕ). f j i) (hop_same w.cut cut watch.delays_are) in
           omega (arith, h, watch.sound.near i j (up i li) (up j lj) apart)
     ]

@@ -228,7 +228,7 @@ AllHear kind start all k =
 plan_may : {C : Type 0} (kind : NodeKind C) → IsLawful kind
     → (until : ℕ) (start : Cut C) (all qs : List ℕ) (p : ℕ) (ps : List ℕ) (k : ℕ → ℕ) (w : Watched C)
     → Leads kind until (after_turns kind start qs) (p ∷ ps) → IsSound kind (after_turns kind start qs)
-    → count (after_turns kind start qs) ≡ count start → (after_turns kind start qs).delay ≡ start.delay
+    → count (after_turns kind start qs) ≡ count start → (after_turns kind start qs).delays ≡ start.delays
     → Stands kind start all qs (p ∷ ps) k w
     → AllHear kind start all k
     → count_of p qs < k p → MayStepHere kind until (after_actions kind (looks p (count start)) w) p
@@ -249,7 +249,7 @@ plan_may {C = C} kind law until start all qs p ps k w leads sound counts delays 
           let seen : v.seen p j ≡ clock_at kind w.cut j = looks_seen kind p (count start) j w less_j in
           let h : hop v.cut j p ≡ hop start j p
           = ap (λ (e : Cut C). hop e j p) cut_is
-          ∙ ap (λ (f : ℕ → ℕ → ℕ). f j p) (hop_same w.cut start stands.watch.delay_is) in
+          ∙ ap (λ (f : ℕ → ℕ → ℕ). f j p) (hop_same w.cut start stands.watch.delays_are) in
           let g : hop c j p ≡ hop start j p = ap (λ (f : ℕ → ℕ → ℕ). f j p) (hop_same c start delays) in
           elim (cases_lt (k j) (count_of j qs)) [
             | inl over ↦
@@ -289,7 +289,7 @@ plan_goes : {C : Type 0} (kind : NodeKind C) → IsLawful kind
     → (until : ℕ) (start : Cut C) (all qs ps : List ℕ) (k : ℕ → ℕ) (w : Watched C)
     → Leads kind until start all → IsSound kind start
     → Leads kind until (after_turns kind start qs) ps → IsSound kind (after_turns kind start qs)
-    → count (after_turns kind start qs) ≡ count start → (after_turns kind start qs).delay ≡ start.delay
+    → count (after_turns kind start qs) ≡ count start → (after_turns kind start qs).delays ≡ start.delays
     → Stands kind start all qs ps k w
     → AllHear kind start all k
     → Planned kind until start all k (plan (count start) k qs ps) w
@@ -310,7 +310,7 @@ plan_goes {C = C} kind law until start all qs (p ∷ ps) k w whole begin leads s
     subst (λ (e : Cut C). Leads kind until e ps) (sym push) leads.3 in
     let sound' : IsSound kind (after_turns kind start rs) = subst (IsSound kind) (sym push) a.sound in
     let counts' : count (after_turns kind start rs) ≡ count start = ap count push ∙ a.count_is ∙ counts in
-    let delays' : (after_turns kind start rs).delay ≡ start.delay = ap (λ (e : Cut C). e.delay) push ∙ a.delay_is ∙ delays in
+    let delays' : (after_turns kind start rs).delays ≡ start.delays = ap (λ (e : Cut C). e.delays) push ∙ a.delays_are ∙ delays in
     let all' : all ≡ rs ++ ps = stands.all_is ∙ sym (append_assoc qs (p ∷ []) ps) in
     let below : p < count start = subst (λ (m : ℕ). p < m) counts leads.0 in
     let own = count_of-push_own p p qs refl in
@@ -402,7 +402,7 @@ reaches_counts {C = C} kind law cut until k cable sound wanted =
     } in
     let planned = plan_goes kind law until cut all [] all k (first_watch kind cut) leads sound
     (subst (λ (e : Cut C). Leads kind until e all) (sym none) leads) (subst (IsSound kind) (sym none) sound)
-    (ap count none) (ap (λ (e : Cut C). e.delay) none) stands wanted.heard in
+    (ap count none) (ap (λ (e : Cut C). e.delays) none) stands wanted.heard in
     record {
       actions = acts;
       allowed = planned.allowed;

@@ -41,7 +41,7 @@ looked a b y f =
 -- what each console has seen lies behind, and what it hasn't seen was sent at the seen clock or later
 pub record Watching {C : Type 0} (kind : NodeKind C) (cut : Cut C) (w : Watched C) : Type 0 where
   pub count_is : count w.cut ≡ count cut
-  pub delay_is : w.cut.delay ≡ cut.delay
+  pub delays_are : w.cut.delays ≡ cut.delays
   pub sound : IsSound kind w.cut
   pub behind : (i j : ℕ) → j < count w.cut → w.seen i j ≤ clock_at kind w.cut j
   pub known : (i j : ℕ) → j < count w.cut → Later (w.seen i j) (w.got i j) (from j w.cut.sent)
@@ -65,7 +65,7 @@ pub watching_opened : {C : Type 0} (kind : NodeKind C) (cut : Cut C) → IsSound
     → Watching kind cut (first_watch kind cut)
 watching_opened kind cut sound = record {
   count_is = refl;
-  delay_is = refl;
+  delays_are = refl;
   sound = sound;
   behind = λ i j below. omega arith;
   known = λ i j below. all_known (clock_at kind cut j) (from j cut.sent);
@@ -90,7 +90,7 @@ pub watching_look : {C : Type 0} (kind : NodeKind C) (cut : Cut C) (w : Watched 
     → Watching kind cut (happens kind (Look i j) w)
 watching_look kind cut w i j watch = record {
   count_is = watch.count_is;
-  delay_is = watch.delay_is;
+  delays_are = watch.delays_are;
   sound = watch.sound;
   behind = λ a b below. elim (changed_cases i j (clock_at kind w.cut j) w.seen a b) [
     | inl e ↦ let f = ap (clock_at kind w.cut) e.1 in omega (arith, e.2, f)
@@ -137,10 +137,10 @@ watching_step {C = C} kind law cut until w i watch may =
       | inr e ↦ omega (arith, a.other_clock k e)
     ] in
     let hops : (m n : ℕ) → hop (step_of kind w.cut i) m n ≡ hop w.cut m n
-    = λ m n. ap (λ (f : ℕ → ℕ → ℕ). f m n) (hop_same (step_of kind w.cut i) w.cut a.delay_is) in
+    = λ m n. ap (λ (f : ℕ → ℕ → ℕ). f m n) (hop_same (step_of kind w.cut i) w.cut a.delays_are) in
     record {
       count_is = a.count_is ∙ watch.count_is;
-      delay_is = a.delay_is ∙ watch.delay_is;
+      delays_are = a.delays_are ∙ watch.delays_are;
       sound = a.sound;
       behind = λ m j below. omega (arith, later j, watch.behind m j (down j below));
       known = λ m j below.

@@ -2,7 +2,8 @@ use Rattle.std.specs.Prelude.{ℕ, ◌≡◌, ◌≢◌, ◌+◌, ◌*◌, ◌<�
 use Rattle.link_node.specs.declared.signal.Signal.{Signal}
 use Rattle.link_order.specs.NodeKind.{NodeKind}
 use Rattle.link_order.specs.Order.{from}
-use Rattle.link_order.specs.Cut.{Delays, Cut, hop, count, clock_at, was_at, live, IsSound, IsInTime, IsCable, IsFresh}
+use Rattle.link_node.specs.declared.delays.Delays.{Delays}
+use Rattle.link_order.specs.Cut.{Cut, hop, count, clock_at, was_at, live, IsSound, IsInTime, IsCable, IsFresh}
 use Rattle.link_order.specs.Cut.{HasDelaysWithin, opening}
 use Rattle.link_order.specs.GlobalOrder.{trace, run}
 use Rattle.link_order.specs.Interleaving.{Watched, Action, Look, Step, happens, first_watch, IsInterleaving, MayStepHere}
@@ -19,7 +20,7 @@ pub record IsAfter {C : Type 0} (kind : NodeKind C) (cut : Cut C) (until : ℕ) 
 -- a cut from which the global order goes on as from an earlier one, with as many consoles and the same cable
 pub record GoesOn {C : Type 0} (kind : NodeKind C) (cut : Cut C) (until : ℕ) (d : Cut C) : Type 0 where
   pub count_is : count d ≡ count cut
-  pub delay_is : d.delay ≡ cut.delay
+  pub delays_are : d.delays ≡ cut.delays
   pub cable : IsCable d
   pub sound : IsSound kind d
   pub in_time : IsInTime kind cut → IsInTime kind d
@@ -175,5 +176,5 @@ ReachesCuts {C} kind =
 -- consoles that all stand at clock 0 with nothing sent are sound and in time
 abbrev pub StartsInTime : {C : Type 0} → NodeKind C → Type 0
 StartsInTime {C} kind =
-    (consoles : List C) (delay : Delays) → IsCable (opening consoles delay) → All (IsFresh kind) consoles
-    → IsStart kind (opening consoles delay)
+    (consoles : List C) (delays : Delays) → IsCable (opening consoles delays) → All (IsFresh kind) consoles
+    → IsStart kind (opening consoles delays)

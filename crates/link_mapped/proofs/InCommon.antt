@@ -5,7 +5,9 @@ use Rattle.link_order.specs.declared.sent.Sent.{Sent}
 use Rattle.link_order.specs.NodeKind.{NodeKind}
 use Rattle.link_order.specs.Order.{IsOrdered, from}
 use Rattle.link_order.specs.Due.{due}
-use Rattle.link_order.specs.Cut.{Cut, count, hop_of, is_awaited, is_live, live, IsInTime, IsSound, IsSoundSignal}
+use Rattle.link_node.specs.declared.delays.Delays.{Delays}
+use Rattle.link_node.specs.Delays.{hop_of}
+use Rattle.link_order.specs.Cut.{Cut, count, is_awaited, is_live, live, IsInTime, IsSound, IsSoundSignal}
 use Rattle.link_order.specs.GlobalOrder.{cycles_left, cycles_left_below, due_at, least, least_below}
 use Rattle.link_order.proofs.Lists.{all_map}
 use Rattle.link_mapped.specs.Law.{IsAlike}
@@ -14,29 +16,29 @@ use Rattle.link_mapped.proofs.Matching.{Matched, each-same, length-same, map-sam
 
 pub record Alike {C : Type 0} (f g : ℕ → C → C) (cut other : Cut C) : Type 0 where
   pub consoles : Matched f g cut.consoles other.consoles
-  pub delay : cut.delay ≡ other.delay
+  pub delays : cut.delays ≡ other.delays
   pub sent : cut.sent ≡ other.sent
 
 pub alike-of : {C : Type 0} (f g : ℕ → C → C) (cut other : Cut C) → mapped f cut ≡ mapped g other → Alike f g cut other
 alike-of {C = C} f g cut other e = record {
   consoles = matched f g cut.consoles other.consoles (ap (λ (c : Cut C). c.consoles) e);
-  delay = ap (λ (c : Cut C). c.delay) e;
+  delays = ap (λ (c : Cut C). c.delays) e;
   sent = ap (λ (c : Cut C). c.sent) e;
 }
 
-with_parts : {C : Type 0} → List C → ℕ → List Sent → Cut C
-with_parts consoles delay sent = record { consoles = consoles; delay = delay; sent = sent }
+with_parts : {C : Type 0} → List C → Delays → List Sent → Cut C
+with_parts consoles delays sent = record { consoles = consoles; delays = delays; sent = sent }
 
 pub mapped-same : {C : Type 0} (f g : ℕ → C → C) (cut other : Cut C) → Alike f g cut other → mapped f cut ≡ mapped g other
 unfolding with_parts
 mapped-same {C = C} f g cut other alike =
-    ap (λ (xs : List C). with_parts xs cut.delay cut.sent) (each-same f g cut.consoles other.consoles alike.consoles)
-    ∙ ap (λ (d : ℕ). with_parts (each_mapped g other.consoles) d cut.sent) alike.delay
-    ∙ ap (λ (s : List Sent). with_parts (each_mapped g other.consoles) other.delay s) alike.sent
+    ap (λ (xs : List C). with_parts xs cut.delays cut.sent) (each-same f g cut.consoles other.consoles alike.consoles)
+    ∙ ap (λ (d : Delays). with_parts (each_mapped g other.consoles) d cut.sent) alike.delays
+    ∙ ap (λ (s : List Sent). with_parts (each_mapped g other.consoles) other.delays s) alike.sent
 
 -- all that the order of a cut's steps looks at
 pub record Sight : Type 0 where
-  pub delay : ℕ
+  pub delays : Delays
   pub clocks : List ℕ
   pub wases : List ℕ
   pub many : ℕ
@@ -44,30 +46,30 @@ pub record Sight : Type 0 where
 
 abbrev pub sight : {C : Type 0} → NodeKind C → Cut C → Sight
 sight kind cut = record {
-  delay = cut.delay;
+  delays = cut.delays;
   clocks = map kind.clock cut.consoles;
   wases = map kind.was cut.consoles;
   many = count cut;
   sent = cut.sent;
 }
 
-sight_of : ℕ → List ℕ → List ℕ → ℕ → List Sent → Sight
-sight_of delay clocks wases many sent =
-    record { delay = delay; clocks = clocks; wases = wases; many = many; sent = sent }
+sight_of : Delays → List ℕ → List ℕ → ℕ → List Sent → Sight
+sight_of delays clocks wases many sent =
+    record { delays = delays; clocks = clocks; wases = wases; many = many; sent = sent }
 
 module _ {C : Type 0} (kind : NodeKind C) (f g : ℕ → C → C) (clocks : KeepsClocks kind f g) (cut other : Cut C)
     (alike : Alike f g cut other) where
   pub sight-same : sight kind cut ≡ sight kind other
   unfolding sight_of
   sight-same =
-      ap (λ (d : ℕ). sight_of d (map kind.clock cut.consoles) (map kind.was cut.consoles) (count cut) cut.sent) alike.delay
-      ∙ ap (λ (ns : List ℕ). sight_of other.delay ns (map kind.was cut.consoles) (count cut) cut.sent)
+      ap (λ (d : Delays). sight_of d (map kind.clock cut.consoles) (map kind.was cut.consoles) (count cut) cut.sent) alike.delays
+      ∙ ap (λ (ns : List ℕ). sight_of other.delays ns (map kind.was cut.consoles) (count cut) cut.sent)
       (map-same kind.clock f g cut.consoles other.consoles clocks.clock alike.consoles)
-      ∙ ap (λ (ns : List ℕ). sight_of other.delay (map kind.clock other.consoles) ns (count cut) cut.sent)
+      ∙ ap (λ (ns : List ℕ). sight_of other.delays (map kind.clock other.consoles) ns (count cut) cut.sent)
       (map-same kind.was f g cut.consoles other.consoles clocks.was alike.consoles)
-      ∙ ap (λ (n : ℕ). sight_of other.delay (map kind.clock other.consoles) (map kind.was other.consoles) n cut.sent)
+      ∙ ap (λ (n : ℕ). sight_of other.delays (map kind.clock other.consoles) (map kind.was other.consoles) n cut.sent)
       (length-same f g cut.consoles other.consoles alike.consoles)
-      ∙ ap (λ (s : List Sent). sight_of other.delay (map kind.clock other.consoles) (map kind.was other.consoles)
+      ∙ ap (λ (s : List Sent). sight_of other.delays (map kind.clock other.consoles) (map kind.was other.consoles)
       (count other) s) alike.sent
 
   pub least-same : least kind cut ≡ least kind other
@@ -78,19 +80,19 @@ module _ {C : Type 0} (kind : NodeKind C) (f g : ℕ → C → C) (clocks : Keep
 
   pub due-same : (i : ℕ) → due_at kind cut i ≡ due_at kind other i
   due-same i =
-      ap (λ (v : Sight). due (hop_of v.delay) (λ j. from j v.sent) i (slice_index v.wases i) (slice_index v.clocks i) v.many)
+      ap (λ (v : Sight). due (hop_of v.delays) (λ j. from j v.sent) i (slice_index v.wases i) (slice_index v.clocks i) v.many)
       sight-same
 
   pub awaited-same : (one : Sent) → is_live kind cut one ≡ is_live kind other one
   awaited-same one =
-      ap (λ (v : Sight). is_awaited (hop_of v.delay) (slice_index v.wases) v.many one) sight-same
+      ap (λ (v : Sight). is_awaited (hop_of v.delays) (slice_index v.wases) v.many one) sight-same
 
   pub live-alike : Alike f g (live kind cut) (live kind other)
   live-alike = record {
     consoles = alike.consoles;
-    delay = alike.delay;
+    delays = alike.delays;
     sent =
-        ap (λ (v : Sight). filter (λ one. is_awaited (hop_of v.delay) (slice_index v.wases) v.many one) v.sent) sight-same;
+        ap (λ (v : Sight). filter (λ one. is_awaited (hop_of v.delays) (slice_index v.wases) v.many one) v.sent) sight-same;
   }
 
   signal-same : (one : Sent) → IsSoundSignal kind cut one → IsSoundSignal kind other one
@@ -100,14 +102,14 @@ module _ {C : Type 0} (kind : NodeKind C) (f g : ℕ → C → C) (clocks : Keep
         subst (λ (v : Sight). one.signal.clock < slice_index v.clocks one.sender) sight-same s.sent_before;
     allowed =
         subst (λ (v : Sight). (i : ℕ) → i < v.many → i ≢ one.sender
-        → one.signal.clock < slice_index v.clocks i + hop_of v.delay i one.sender) sight-same s.allowed;
+        → one.signal.clock < slice_index v.clocks i + hop_of v.delays i one.sender) sight-same s.allowed;
   }
 
   sound-same : IsSound kind cut → IsSound kind other
   sound-same sound = record {
     near =
         subst (λ (v : Sight). (i j : ℕ) → i < v.many → j < v.many → i ≢ j
-        → slice_index v.clocks i < slice_index v.clocks j + hop_of v.delay j i + 512) sight-same sound.near;
+        → slice_index v.clocks i < slice_index v.clocks j + hop_of v.delays j i + 512) sight-same sound.near;
     begun =
         subst (λ (v : Sight). (i : ℕ) → i < v.many → slice_index v.wases i ≤ slice_index v.clocks i) sight-same sound.begun;
     short =
@@ -122,7 +124,7 @@ module _ {C : Type 0} (kind : NodeKind C) (f g : ℕ → C → C) (clocks : Keep
   in-time-same : IsInTime kind cut → IsInTime kind other
   in-time-same in_time =
       subst (λ (v : Sight). (i j : ℕ) → i < v.many → j < v.many → i ≢ j
-      → slice_index v.wases i < slice_index v.clocks j + hop_of v.delay j i) sight-same in_time
+      → slice_index v.wases i < slice_index v.clocks j + hop_of v.delays j i) sight-same in_time
 
   pub is-alike : IsAlike kind f g cut other
   is-alike = record {

@@ -27,7 +27,7 @@ module _ {C : Type 0} (kind : NodeKind C) (f g : ℕ → C → C) (unseen : IsUn
     consoles =
         set-matched f g cut.consoles other.consoles i (kind.next x signals).0 (kind.next y signals).0 alike.consoles
         (unseen.next i x y signals both);
-    delay = alike.delay;
+    delays = alike.delays;
     sent =
         ap (λ (o : Option Signal). with_signal i o cut.sent) (unseen.tells i x y signals both)
         ∙ ap (with_signal i (kind.next y signals).1) alike.sent;
@@ -83,7 +83,7 @@ module _ {C : Type 0} (kind : NodeKind C) (f g : ℕ → C → C) (unseen : IsUn
       ∙ mapped-same f g (live kind (run kind (live kind cut) until)) (live kind (run kind (live kind other) until))
       (live-alike kind f g unseen.clocks (run kind (live kind cut) until) (run kind (live kind other) until) ends)
       ∙ ap (mapped g) (run_live kind law other until (subst (λ (n : ℕ). 0 < n) many some)
-      (delays_same other cut (sym many) (sym alike.delay) later) sound_other)
+      (delays_same other cut (sym many) (sym alike.delays) later) sound_other)
 
 pub runs-alike : {C : Type 0} (kind : NodeKind C) → RunsAlike kind
 runs-alike kind f g cut other until unseen same =

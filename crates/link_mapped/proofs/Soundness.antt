@@ -29,7 +29,7 @@ run-kept-by {C = C} kind law (suc most) cut until few kept =
           let less : cycles_left kind (step kind cut) until < cycles_left kind cut until = f.fewer in
           let after : Kept kind (step kind cut) = record {
             some = subst (λ (n : ℕ). 0 < n) (sym f.count_is) kept.some;
-            later = delays_same (step kind cut) cut f.count_is f.delay_is kept.later;
+            later = delays_same (step kind cut) cut f.count_is f.delays_are kept.later;
             sound = sound_step kind law cut kept.some kept.later kept.sound;
           } in
           subst (λ (d : Cut C). Kept kind d) (sym (run_unrolls kind law cut until kept.some e))

@@ -13,7 +13,7 @@ each_mapped f (x ∷ xs) = f 0 x ∷ each_mapped (λ i. f (suc i)) xs
 
 -- a cut with each console changed so
 abbrev pub mapped : {C : Type 0} → (ℕ → C → C) → Cut C → Cut C
-mapped f cut = record { consoles = each_mapped f cut.consoles; delay = cut.delay; sent = cut.sent }
+mapped f cut = record { consoles = each_mapped f cut.consoles; delays = cut.delays; sent = cut.sent }
 
 -- Two consoles of a player are alike where f makes of the one what g makes of the other. Both leave the clocks be: alike
 -- consoles have the same.

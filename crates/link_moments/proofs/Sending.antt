@@ -127,7 +127,7 @@ module _ {C : Type 0} (kind : NodeKind C) (law : IsLawful kind) (cut : Cut C) (u
       (λ j below apart. later_sent kind law until (i ∷ there.rest) now j there.leads there.sound) there.leads.2)
       ∙ ap (λ (d : Cut C). due (hop now) (λ j. from j d.sent) i (kind.was y) (kind.clock y) (count now)) there.end_is
       ∙ ap (λ (h : ℕ → ℕ → ℕ). due h (λ j. from j end.sent) i (kind.was y) (kind.clock y) (count now))
-      (hop_same now cut there.delay_is)
+      (hop_same now cut there.delays_are)
       ∙ ap (due (hop cut) (λ j. from j end.sent) i (kind.was y) (kind.clock y)) there.count_is
 
   -- what a step tells is sent

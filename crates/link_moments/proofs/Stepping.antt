@@ -40,7 +40,7 @@ module _ {C : Type 0} (kind : NodeKind C) (law : IsLawful kind) (cut : Cut C) (u
     pub now : IsSound kind (moment-of i k)
     pub early : clock_at kind (moment-of i k) i < until
     pub count_is : count (moment-of i k) ≡ count cut
-    pub delay_is : (moment-of i k).delay ≡ cut.delay
+    pub delays_are : (moment-of i k).delays ≡ cut.delays
 
   pub made : (i k : ℕ) → i < count cut → k < count_of i steps-of → Made i k
   made i k below less =
@@ -56,7 +56,7 @@ module _ {C : Type 0} (kind : NodeKind C) (law : IsLawful kind) (cut : Cut C) (u
         now = there.sound;
         early = there.leads.1;
         count_is = there.count_is;
-        delay_is = there.delay_is;
+        delays_are = there.delays_are;
       }
 
   -- one number, one step
@@ -85,14 +85,14 @@ module _ {C : Type 0} (kind : NodeKind C) (law : IsLawful kind) (cut : Cut C) (u
       }
 
   -- what every step has
-  peers : (m : Cut C) (i : ℕ) → count m ≡ count cut → m.delay ≡ cut.delay → All (IsFromPeer cut i) (due_at kind m i)
-  peers m i count_is delay_is =
+  peers : (m : Cut C) (i : ℕ) → count m ≡ count cut → m.delays ≡ cut.delays → All (IsFromPeer cut i) (due_at kind m i)
+  peers m i count_is delays_are =
       let passes = is_due (was_at kind m i) (clock_at kind m i) in
       due_all (IsFromPeer cut i) (hop m) (λ j. from j m.sent) i passes (count m) (λ j below apart.
       arriving_all (IsFromPeer cut i) passes (hop m j i) j (from j m.sent) (λ k d less e. record {
         player = subst (λ n. j < n) count_is below;
         other = apart;
-        arrives = ap (λ (h : ℕ → ℕ → ℕ). (get_or (from j m.sent) k d).clock + h j i) (hop_same m cut delay_is);
+        arrives = ap (λ (h : ℕ → ℕ → ℕ). (get_or (from j m.sent) k d).clock + h j i) (hop_same m cut delays_are);
       }))
 
   pub sound-step : (i k : ℕ) (x : C) (dues : List Incoming) → MakesStep kind cut until i k x dues
@@ -107,7 +107,7 @@ module _ {C : Type 0} (kind : NodeKind C) (law : IsLawful kind) (cut : Cut C) (u
       let rises = one.now.begun i below in
       let short = one.now.short i below in
       let early = one.early in
-      let delays = delays_same m cut one.count_is one.delay_is cable.some_delay in
+      let delays = delays_same m cut one.count_is one.delays_are cable.some_delay in
       let few : count m ≤ 4 = subst (λ n. n ≤ 4) (sym one.count_is) cable.at_most_four in
       let are_due : All (IsDue (was_at kind m i) (clock_at kind m i)) (due_at kind m i) =
       due_is_due (hop m) (λ j. from j m.sent) i (was_at kind m i) (clock_at kind m i) (count m) few
@@ -122,7 +122,7 @@ module _ {C : Type 0} (kind : NodeKind C) (law : IsLawful kind) (cut : Cut C) (u
         due = subst (λ (z : List Incoming). All (IsDue (kind.was x) (kind.clock x)) z) step.takes
             (subst (λ c. All (IsDue (kind.was x) c) (due_at kind m i)) clock_is
             (subst (λ w. All (IsDue w (clock_at kind m i)) (due_at kind m i)) was_is are_due));
-        from_peers = subst (All (IsFromPeer cut i)) step.takes (peers m i one.count_is one.delay_is);
+        from_peers = subst (All (IsFromPeer cut i)) step.takes (peers m i one.count_is one.delays_are);
       }
 
   -- later steps begin later

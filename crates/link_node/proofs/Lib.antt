@@ -1,1 +1,2 @@
+pub mod DelayLaws
 pub mod PackingLemmas

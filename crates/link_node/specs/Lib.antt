@@ -1,3 +1,4 @@
 pub mod Alone
+pub mod Delays
 pub mod Due
 pub mod Packing

@@ -71,7 +71,7 @@ live_step {C = C} kind law cut i below sound =
     = λ one e. subst (λ (n : ℕ). is_awaited (hop cut) (was_at kind cut) n one ≡ true) s.count_is
     (awaited_before (hop cut) (was_at kind cut) (was_at kind d) (count d) rises one e) in
     ap (live kind) (ap (step_with kind (live kind cut) i) (due_live kind cut i below) ∙ l.cut_is)
-    ∙ ap (λ (t : List Sent). let e : Cut C = record { consoles = d.consoles; delay = d.delay; sent = t } in e)
+    ∙ ap (λ (t : List Sent). let e : Cut C = record { consoles = d.consoles; delays = d.delays; sent = t } in e)
     (filter_joined (is_live kind cut) (is_live kind d) sub i (kind.next x signals).1 cut.sent sound.ordered)
     ∙ ap (live kind) (sym s.cut_is)
 

@@ -23,12 +23,12 @@ filter_all p (x ∷ xs) h =
 pub live_whole : {C : Type 0} (kind : NodeKind C) (cut : Cut C)
     → All (λ (one : Sent). is_live kind cut one ≡ true) cut.sent → live kind cut ≡ cut
 live_whole {C = C} kind cut h =
-    ap (λ (t : List Sent). let d : Cut C = record { consoles = cut.consoles; delay = cut.delay; sent = t } in d)
+    ap (λ (t : List Sent). let d : Cut C = record { consoles = cut.consoles; delays = cut.delays; sent = t } in d)
     (filter_all (is_live kind cut) cut.sent h)
 
 live_twice : {C : Type 0} (kind : NodeKind C) (cut : Cut C) → live kind (live kind cut) ≡ live kind cut
 live_twice {C = C} kind cut =
-    ap (λ (t : List Sent). let d : Cut C = record { consoles = cut.consoles; delay = cut.delay; sent = t } in d)
+    ap (λ (t : List Sent). let d : Cut C = record { consoles = cut.consoles; delays = cut.delays; sent = t } in d)
     (filter_twice (is_live kind cut) (is_live kind cut) (λ one e. e) cut.sent)
 
 run_live_by : {C : Type 0} (kind : NodeKind C) → IsLawful kind → (most : ℕ) (cut : Cut C) (until : ℕ)
@@ -54,8 +54,8 @@ run_live_by {C = C} kind law (suc most) cut until few some later sound =
           let some_b : 0 < count b = subst (λ (n : ℕ). 0 < n) (sym fb.count_is) some in
           let same : live kind a ≡ live kind b =
           live_step kind law cut (least kind cut) (least_is_player (clock_at kind cut) (count cut) some) sound in
-          let later_a : HasDelays a = delays_same a cut fa.count_is fa.delay_is later in
-          let later_b : HasDelays b = delays_same b cut fb.count_is fb.delay_is later in
+          let later_a : HasDelays a = delays_same a cut fa.count_is fa.delays_are later in
+          let later_b : HasDelays b = delays_same b cut fb.count_is fb.delays_are later in
           let sound_a = sound_step kind law (live kind cut) some later (sound_live kind cut sound) in
           let sound_b = sound_step kind law cut some later sound in
           let ia = run_live_by kind law most a until (omega arith) some_a later_a sound_a in

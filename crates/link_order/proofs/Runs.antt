@@ -42,7 +42,7 @@ after_one kind cut i rest = refl
 -- a step of the least console: the count stays, and fewer cycles are left
 pub record Falls {C : Type 0} (kind : NodeKind C) (cut : Cut C) (until : ℕ) : Type 0 where
   pub count_is : count (step kind cut) ≡ count cut
-  pub delay_is : (step kind cut).delay ≡ cut.delay
+  pub delays_are : (step kind cut).delays ≡ cut.delays
   pub fewer : cycles_left kind (step kind cut) until < cycles_left kind cut until
 
 pub falls : {C : Type 0} (kind : NodeKind C) → IsLawful kind → (cut : Cut C) (until : ℕ) → 0 < count cut
@@ -60,7 +60,7 @@ falls kind law cut until some e =
     early later in
     record {
       count_is = ap count s.cut_is ∙ s.count_is;
-      delay_is = ap (λ (d : Cut _). d.delay) s.cut_is;
+      delays_are = ap (λ (d : Cut _). d.delays) s.cut_is;
       fewer = rw (s.cut_is, s.clocks, s.count_is) f;
     }
 

@@ -3,7 +3,8 @@ use Rattle.std.specs.Prelude.{List, [], ◌∷◌, length, map, All, slice_index
 use Rattle.std.proofs.Common.{ℕ, zero, suc, ◌≡◌, ◌<◌, arith, refl, sym, get_or}
 use Rattle.link_order.specs.NodeKind.{NodeKind}
 use Rattle.link_order.specs.Order.{sender_of, clock_of}
-use Rattle.link_order.specs.Cut.{Delays, Cut, IsSound, IsSoundSignal, IsFresh, IsInTime, HasDelays, opening}
+use Rattle.link_node.specs.declared.delays.Delays.{Delays}
+use Rattle.link_order.specs.Cut.{Cut, IsSound, IsSoundSignal, IsFresh, IsInTime, HasDelays, opening}
 use Rattle.link_order.proofs.Lists.{all_nil, all_cons, all_head, all_tail, pairs_nil}
 use Rattle.link_order.proofs.Places.{Comes}
 
@@ -14,10 +15,10 @@ fresh_clock kind [] h i = (refl, refl)
 fresh_clock kind (x ∷ xs) h zero = let f = h 0 x (omega arith) in (f.clock_is, f.was_is)
 fresh_clock kind (x ∷ xs) h (suc i) = fresh_clock kind xs (λ k d below. h (suc k) d (omega arith)) i
 
-pub sound_start : {C : Type 0} (kind : NodeKind C) (consoles : List C) (delay : Delays) → All (IsFresh kind) consoles
-    → IsSound kind (opening consoles delay)
-sound_start {C = C} kind consoles delay fresh =
-    let cut : Cut C = opening consoles delay in
+pub sound_start : {C : Type 0} (kind : NodeKind C) (consoles : List C) (delays : Delays) → All (IsFresh kind) consoles
+    → IsSound kind (opening consoles delays)
+sound_start {C = C} kind consoles delays fresh =
+    let cut : Cut C = opening consoles delays in
     let f = fresh_clock kind consoles fresh in
     record {
       near = λ i j a b apart. omega (arith, (f i).0, (f j).0);
@@ -27,9 +28,9 @@ sound_start {C = C} kind consoles delay fresh =
       ordered = pairs_nil (Comes clock_of sender_of);
     }
 
-pub in_time_start : {C : Type 0} (kind : NodeKind C) (consoles : List C) (delay : Delays)
-    → HasDelays (opening consoles delay) → All (IsFresh kind) consoles → IsInTime kind (opening consoles delay)
-in_time_start kind consoles delay later fresh i j a b apart =
+pub in_time_start : {C : Type 0} (kind : NodeKind C) (consoles : List C) (delays : Delays)
+    → HasDelays (opening consoles delays) → All (IsFresh kind) consoles → IsInTime kind (opening consoles delays)
+in_time_start kind consoles delays later fresh i j a b apart =
     let f = fresh_clock kind consoles fresh in
     omega (arith, (f i).1, (f j).0, later j i b a (λ t. apart (sym t)))
 

@@ -39,7 +39,7 @@ get_or-put xs i y k below =
 abbrev pub after_step : {C : Type 0} → NodeKind C → Cut C → ℕ → C → List Incoming → Cut C
 after_step kind cut i x signals = record {
   consoles = slice_set cut.consoles i (kind.next x signals).0;
-  delay = cut.delay;
+  delays = cut.delays;
   sent = with_signal i (kind.next x signals).1 cut.sent;
 }
 

@@ -1,29 +1,23 @@
 use Rattle.std.specs.Prelude.{ℕ, Bool, false, not, ◌≡◌, ◌≢◌, ◌+◌, ◌<◌, ◌≤◌, ◌&&◌, ◌||◌, ◌==◌, nat_lt, List, [], length}
 use Rattle.std.specs.Prelude.{map, filter, slice_index, All}
 use Rattle.std.proofs.Common.{zero, suc}
+use Rattle.link_node.specs.declared.delays.Delays.{Delays}
+use Rattle.link_node.specs.Delays.{hop_of}
 use Rattle.link_order.specs.declared.sent.Sent.{Sent}
 use Rattle.link_order.specs.NodeKind.{NodeKind}
 use Rattle.link_order.specs.Order.{IsOrdered}
 
 -- this project's profile: a cut of a run, and what makes it sound
 
--- what a cut keeps of its cable: today one number of cycles, for any two consoles
-abbrev pub Delays : Type 0
-Delays = ℕ
-
 -- the consoles by player, the cable's delays, and signals that were sent, by clock, then by sender
 pub record Cut (C : Type 0) : Type 0 where
   pub consoles : List C
-  pub delay : Delays
+  pub delays : Delays
   pub sent : List Sent
 
--- the delay from a sender to a receiver, in cycles, by what a cut keeps of its cable
-unfoldable pub hop_of : Delays → ℕ → ℕ → ℕ
-hop_of delay sender receiver = delay
-
--- the delay from one console to another. Nothing else looks at the cut's delay
+-- the delay from one console to another. Nothing else looks at the cut's delays
 abbrev pub hop : {C : Type 0} → Cut C → ℕ → ℕ → ℕ
-hop cut sender receiver = hop_of cut.delay sender receiver
+hop cut sender receiver = hop_of cut.delays sender receiver
 
 -- how many consoles there are, and the two clocks of one of them
 abbrev pub count : {C : Type 0} → Cut C → ℕ
@@ -46,7 +40,7 @@ is_live kind cut one = is_awaited (hop cut) (was_at kind cut) (count cut) one
 
 -- the cut with its live signals alone. Cuts with one such cut are the same
 abbrev pub live : {C : Type 0} → NodeKind C → Cut C → Cut C
-live kind cut = record { consoles = cut.consoles; delay = cut.delay; sent = filter (is_live kind cut) cut.sent }
+live kind cut = record { consoles = cut.consoles; delays = cut.delays; sent = filter (is_live kind cut) cut.sent }
 
 -- a sound signal: its sender has stepped since, and what any other console may still send arrives at the sender after
 -- that step began
@@ -55,7 +49,7 @@ pub record IsSoundSignal {C : Type 0} (kind : NodeKind C) (cut : Cut C) (one : S
   pub sent_before : one.signal.clock < clock_at kind cut one.sender
   pub allowed : (i : ℕ) → i < count cut → i ≢ one.sender → one.signal.clock < clock_at kind cut i + hop cut i one.sender
 
--- a sound cut: no console is further ahead of another than the delay and a step, each last step took at most 512
+-- a sound cut: no console is further ahead of another than the delay from there and a step, each last step took at most 512
 -- cycles, and the signals are sound and in order
 pub record IsSound {C : Type 0} (kind : NodeKind C) (cut : Cut C) : Type 0 where
   pub near : (i j : ℕ) → i < count cut → j < count cut → i ≢ j
@@ -87,7 +81,7 @@ IsInTime kind cut =
 
 -- the cut of the plain records of a cut's nodes
 abbrev pub plain_cut : {N C : Type 0} → (N → C) → Cut N → Cut C
-plain_cut plain cut = record { consoles = map plain cut.consoles; delay = cut.delay; sent = cut.sent }
+plain_cut plain cut = record { consoles = map plain cut.consoles; delays = cut.delays; sent = cut.sent }
 
 -- a console that hasn't stepped
 pub record IsFresh {C : Type 0} (kind : NodeKind C) (x : C) : Type 0 where
@@ -96,4 +90,4 @@ pub record IsFresh {C : Type 0} (kind : NodeKind C) (x : C) : Type 0 where
 
 -- consoles with no signal on its way
 abbrev pub opening : {N : Type 0} → List N → Delays → Cut N
-opening consoles delay = record { consoles = consoles; delay = delay; sent = [] }
+opening consoles delays = record { consoles = consoles; delays = delays; sent = [] }

@@ -34,7 +34,7 @@ abbrev pub step_from : {C : Type 0} → NodeKind C → Cut C → ℕ → List In
 step_from kind cut i signals None = cut
 step_from kind cut i signals (Some x) = record {
   consoles = slice_set cut.consoles i (kind.next x signals).0;
-  delay = cut.delay;
+  delays = cut.delays;
   sent = with_signal i (kind.next x signals).1 cut.sent;
 }
 

@@ -1,6 +1,6 @@
 -- A publish keeps the rule, and what it tells.
 use Rattle.std.specs.Prelude.{List, [], ◌∷◌, length, map, Option, None, Some, IfSome, IsSome, slice_get, slice_index, option_to_list}
-use Rattle.std.proofs.Common.{ℕ, zero, suc, ◌≡◌, ◌≢◌, ◌+◌, ◌<◌, ◌≤◌, ◌⊎◌, inl, inr, arith, refl, sym, ap, ◌∙◌, subst, set}
+use Rattle.std.proofs.Common.{ℕ, zero, suc, ◌≡◌, ◌+◌, ◌<◌, ◌≤◌, ◌⊎◌, inl, inr, arith, refl, sym, ap, ◌∙◌, subst, set}
 use Rattle.std.proofs.lemmas.Bool.{cases_lt}
 use Rattle.std.proofs.lemmas.List.{length-set, length-map}
 use Rattle.std.proofs.lemmas.Option.{slice_get_within}
@@ -16,8 +16,8 @@ use Rattle.link_rule.specs.declared.view.Peer.{Peer}
 use Rattle.link_rule.specs.declared.view.Progress.{Progress}
 use Rattle.link_rule.specs.declared.view.View.{View}
 use Rattle.link_rule.specs.Words.{clock_place, ring_place, clock_word, HasSignal}
-use Rattle.link_rule.specs.Rule.{peer_at, IsNextSignal, Shows, Knows, KnowsOf, Ruled, seat_of, holds}
-use Rattle.link_rule.specs.Steps.{unlooked, stepped_on, MayPublish, Publishes, PublishesBy, publishes}
+use Rattle.link_rule.specs.Rule.{peer_at, Shows, Knows, KnowsOf, Ruled, seat_of, holds}
+use Rattle.link_rule.specs.Steps.{unlooked, stepped_on, MayPublish, PublishesBy, publishes}
 use Rattle.link_rule.proofs.Places.{in_ring, stored, signal_left, same_left, shows_same}
 use Rattle.link_rule.proofs.Kept.{here, moved}
 use Rattle.link_rule.proofs.Allowed.{Stepped, allow, tell_seat}

@@ -5,7 +5,8 @@ use Rattle.std.proofs.lemmas.List.{length-map}
 use Rattle.atomic_table.specs.Seated.{TableId}
 use Rattle.link_order.specs.declared.sent.Sent.{Sent}
 use Rattle.link_order.specs.NodeKind.{NodeKind}
-use Rattle.link_order.specs.Cut.{Delays, Cut, plain_cut, IsSound, IsCable}
+use Rattle.link_node.specs.declared.delays.Delays.{Delays}
+use Rattle.link_order.specs.Cut.{Cut, plain_cut, IsSound, IsCable}
 use Rattle.link_laws.proofs.Advance.{number_found}
 use Rattle.link_core.specs.Kept.{Flight, AllFit, cut_of}
 use Rattle.link_table.specs.declared.key.Key.{Key}
@@ -19,18 +20,18 @@ use Rattle.link_run.proofs.Closings.{get_map, slice_below}
 
 -- the parts of a cut, put together, are the cut
 pub same_cut : {N : Type 0} (cut : Cut N) (nodes : List N) (flight : Flight) → nodes ≡ cut.consoles
-    → flight.delay ≡ cut.delay → flight.sent ≡ cut.sent → cut_of nodes flight ≡ cut
-same_cut {N = N} cut nodes flight nodes_are delay_is sent_is =
-    ap (λ (l : List N). let z : Cut N = record { consoles = l; delay = flight.delay; sent = flight.sent } in z) nodes_are
-    ∙ ap (λ (d : Delays). let z : Cut N = record { consoles = cut.consoles; delay = d; sent = flight.sent } in z) delay_is
-    ∙ ap (λ (l : List Sent). let z : Cut N = record { consoles = cut.consoles; delay = cut.delay; sent = l } in z) sent_is
+    → flight.delays ≡ cut.delays → flight.sent ≡ cut.sent → cut_of nodes flight ≡ cut
+same_cut {N = N} cut nodes flight nodes_are delays_are sent_is =
+    ap (λ (l : List N). let z : Cut N = record { consoles = l; delays = flight.delays; sent = flight.sent } in z) nodes_are
+    ∙ ap (λ (d : Delays). let z : Cut N = record { consoles = cut.consoles; delays = d; sent = flight.sent } in z) delays_are
+    ∙ ap (λ (l : List Sent). let z : Cut N = record { consoles = cut.consoles; delays = cut.delays; sent = l } in z) sent_is
 
 -- the nodes and seats of a new table make lanes
 pub can_open : {N C : Type 0} (kind : NodeKind C) (plain : N → C) (bound : N → ℕ) (cut : Cut N) (id : TableId)
-    (nodes : List N) (seats : List (SeatState (Key N))) (sent : List Sent) (delay : Delays)
+    (nodes : List N) (seats : List (SeatState (Key N))) (sent : List Sent) (delays : Delays)
     → table.Begins kind plain bound cut id seats → IsCable (plain_cut plain cut) → IsSound kind (plain_cut plain cut)
-    → nodes ≡ cut.consoles → sent ≡ cut.sent → delay ≡ cut.delay → CanOpenAll kind plain bound nodes seats sent delay
-can_open {N = N} {C = C} kind plain bound cut id nodes seats sent delay b cable sound nodes_are sent_is delay_is =
+    → nodes ≡ cut.consoles → sent ≡ cut.sent → delays ≡ cut.delays → CanOpenAll kind plain bound nodes seats sent delays
+can_open {N = N} {C = C} kind plain bound cut id nodes seats sent delays b cable sound nodes_are sent_is delays_are =
     let key : Key N = b.key in
     let cuts : key.cut.value ≡ cut = b.cut_is in
     let consoles : length cut.consoles ≡ length key.cut.value.consoles
@@ -61,7 +62,7 @@ can_open {N = N} {C = C} kind plain bound cut id nodes seats sent delay b cable 
             limit = omega (arith, low, own);
             small_limit = b.small_limit;
             sent_is = sent_is ∙ ap (λ (d : Cut N). d.sent) (sym cuts);
-            delay_is = delay_is ∙ ap (λ (d : Cut N). d.delay) (sym cuts);
+            delays_are = delays_are ∙ ap (λ (d : Cut N). d.delays) (sym cuts);
           };
     }
 

@@ -216,7 +216,7 @@ closes_same {N = N} {C = C} kind law plain key table lanes until h le begun e c 
     let d = closes_to kind law plain key table lanes until h le begun in
     let counts : count d.0 ≡ count e = d.1.goes_on.count_is ∙ sym c.goes_on.count_is in
     let same : d.0 ≡ e
-    = same_cuts kind d.0 e d.1.goes_on.sound c.goes_on.sound counts (d.1.goes_on.delay_is ∙ sym c.goes_on.delay_is)
+    = same_cuts kind d.0 e d.1.goes_on.sound c.goes_on.sound counts (d.1.goes_on.delays_are ∙ sym c.goes_on.delays_are)
     (λ i below.
     let a = lane_at kind plain key table lanes h.lanes_are i (omega (arith, below, d.1.goes_on.count_is)) in
     record {

@@ -6,7 +6,8 @@ use Rattle.atomic_table.specs.Seated.{TableId}
 use Rattle.link_node.specs.declared.signal.Incoming.{Incoming}
 use Rattle.link_order.specs.declared.sent.Sent.{Sent}
 use Rattle.link_order.specs.NodeKind.{NodeKind, IsLawful}
-use Rattle.link_order.specs.Cut.{Delays, Cut, live, plain_cut}
+use Rattle.link_node.specs.declared.delays.Delays.{Delays}
+use Rattle.link_order.specs.Cut.{Cut, live, plain_cut}
 use Rattle.link_core.specs.Kept.{Flight, cut_of}
 use Rattle.link_rule.specs.declared.view.Progress.{Progress}
 use Rattle.link_rule.specs.Steps.{Met}
@@ -122,35 +123,35 @@ gone {N = N} {C = C} kind plain key table lanes seats joined are seats_are follo
 
 -- the cut that they make, and how its signals are gathered
 pub record Makes {N C : Type 0} (kind : NodeKind C) (plain : N → C) (key : Key N) (lanes : List (LaneState N))
-    (joined : JoinedState (Key N)) (lists : List (List Incoming)) (nodes : List N) (delay : Delays) : Type 0
+    (joined : JoinedState (Key N)) (lists : List (List Incoming)) (nodes : List N) (delays : Delays) : Type 0
   where
     pub e : Cut C
     pub closed : Closed kind plain key key.limit lanes e
-    pub gathers : Gathering (WaitsIn lists) (PairsRest kind plain key joined nodes delay 16) (live kind e).sent
+    pub gathers : Gathering (WaitsIn lists) (PairsRest kind plain key joined nodes delays 16) (live kind e).sent
 
 pub makes : {N C : Type 0} (kind : NodeKind C) → IsLawful kind → (plain : N → C) (key : Key N) (table : TableId)
     (lanes : List (LaneState N)) (joined : JoinedState (Key N)) (lists : List (List Incoming)) (nodes : List N)
-    (delay : Delays) → Gone kind plain key table lanes joined → lists ≡ map waits_of lanes → nodes ≡ map node_of lanes
-    → delay ≡ key.cut.value.delay → Makes kind plain key lanes joined lists nodes delay
-makes {N = N} {C = C} kind law plain key table lanes joined lists nodes delay g lists_are nodes_are delay_is =
+    (delays : Delays) → Gone kind plain key table lanes joined → lists ≡ map waits_of lanes → nodes ≡ map node_of lanes
+    → delays ≡ key.cut.value.delays → Makes kind plain key lanes joined lists nodes delays
+makes {N = N} {C = C} kind law plain key table lanes joined lists nodes delays g lists_are nodes_are delays_are =
     let c = closes kind law plain key table lanes g.have_met in
     record {
       e = c.0;
       closed = c.1;
       gathers =
-          subst (λ (l : List (List Incoming)). Gathering (WaitsIn l) (PairsRest kind plain key joined nodes delay 16)
+          subst (λ (l : List (List Incoming)). Gathering (WaitsIn l) (PairsRest kind plain key joined nodes delays 16)
           (live kind c.0).sent) (sym lists_are)
-          (whole kind law plain key table lanes g.have_met c.0 c.1 joined g.joint nodes delay nodes_are delay_is);
+          (whole kind law plain key table lanes g.have_met c.0 c.1 joined g.joint nodes delays nodes_are delays_are);
     }
 
 -- the nodes with these signals are the live part of that cut
 pub put_together : {N C : Type 0} (kind : NodeKind C) (plain : N → C) (key : Key N) (lanes : List (LaneState N))
     (e : Cut C) (nodes : List N) (flight : Flight) → Closed kind plain key key.limit lanes e → nodes ≡ map node_of lanes
-    → flight.delay ≡ key.cut.value.delay → flight.sent ≡ (live kind e).sent
+    → flight.delays ≡ key.cut.value.delays → flight.sent ≡ (live kind e).sent
     → plain_cut plain (cut_of nodes flight) ≡ live kind e
-put_together {N = N} {C = C} kind plain key lanes e nodes flight closed nodes_are delay_is sent_is =
+put_together {N = N} {C = C} kind plain key lanes e nodes flight closed nodes_are delays_are sent_is =
     let consoles : map plain nodes ≡ e.consoles = ap (map plain) nodes_are ∙ sym closed.consoles in
-    let delay : flight.delay ≡ e.delay = delay_is ∙ sym closed.goes_on.delay_is in
-    ap (λ (l : List C). let z : Cut C = record { consoles = l; delay = flight.delay; sent = flight.sent } in z) consoles
-    ∙ ap (λ (d : Delays). let z : Cut C = record { consoles = e.consoles; delay = d; sent = flight.sent } in z) delay
-    ∙ ap (λ (l : List Sent). let z : Cut C = record { consoles = e.consoles; delay = e.delay; sent = l } in z) sent_is
+    let delays : flight.delays ≡ e.delays = delays_are ∙ sym closed.goes_on.delays_are in
+    ap (λ (l : List C). let z : Cut C = record { consoles = l; delays = flight.delays; sent = flight.sent } in z) consoles
+    ∙ ap (λ (d : Delays). let z : Cut C = record { consoles = e.consoles; delays = d; sent = flight.sent } in z) delays
+    ∙ ap (λ (l : List Sent). let z : Cut C = record { consoles = e.consoles; delays = e.delays; sent = l } in z) sent_is

@@ -9,7 +9,9 @@ use Rattle.link_order.specs.declared.sent.Sent.{Sent}
 use Rattle.link_order.specs.NodeKind.{NodeKind}
 use Rattle.link_order.specs.Order.{from}
 use Rattle.link_order.specs.Due.{incoming, place_due, waiting}
-use Rattle.link_order.specs.Cut.{Delays, Cut, hop, hop_of, count, clock_at, IsSound, IsSoundSignal}
+use Rattle.link_node.specs.declared.delays.Delays.{Delays}
+use Rattle.link_node.specs.Delays.{hop_of}
+use Rattle.link_order.specs.Cut.{Cut, hop, count, clock_at, IsSound, IsSoundSignal}
 use Rattle.link_order.proofs.Numbers.{same_or_apart}
 use Rattle.link_order.proofs.Lists.{all_map}
 use Rattle.link_order.proofs.DueSignals.{due_takes, due_leaves, due_own, due_other}
@@ -58,10 +60,10 @@ one_more_waits between xs ys one i was n old new more below is takes leaves =
 
 -- the signals of a table's cut bear small clocks, and players of the cut sent them
 pub sent_early : {N C : Type 0} (kind : NodeKind C) (plain : N → C) (bound : N → ℕ) (node : N) (seat : SeatState (Key N))
-    (sent : List Sent) (delay : Delays) → CanOpen kind plain bound node seat sent delay
+    (sent : List Sent) (delays : Delays) → CanOpen kind plain bound node seat sent delays
     → All (λ (one : Sent). one.signal.clock < 2 ^ 40) sent
 unfolding script_of
-sent_early {N = N} {C = C} kind plain bound node seat sent delay can =
+sent_early {N = N} {C = C} kind plain bound node seat sent delays can =
     let cut : Cut C = key_cut plain can.key in
     subst (λ (l : List Sent). All (λ (one : Sent). one.signal.clock < 2 ^ 40) l) (sym can.sent_is)
     (all_map (IsSoundSignal kind cut) (λ (one : Sent). one.signal.clock < 2 ^ 40) can.key.cut.value.sent
@@ -77,12 +79,12 @@ senders_are kind cut sound =
 
 -- a node and its seat make a lane with what the node can still take
 pub opens_with : {N C : Type 0} (kind : NodeKind C) (plain : N → C) (bound : N → ℕ) (node : N) (seat : SeatState (Key N))
-    (sent : List Sent) (delay : Delays) (player was : ℕ) (opening : List Incoming)
-    → CanOpen kind plain bound node seat sent delay → player ≡ seat.player → was ≡ kind.was (plain node)
+    (sent : List Sent) (delays : Delays) (player was : ℕ) (opening : List Incoming)
+    → CanOpen kind plain bound node seat sent delays → player ≡ seat.player → was ≡ kind.was (plain node)
     → ((n : ℕ) → All (λ (one : Sent). one.sender < n) sent
-    → opening ≡ waiting (hop_of delay) (λ j. from j sent) player was n)
+    → opening ≡ waiting (hop_of delays) (λ j. from j sent) player was n)
     → Opens kind plain bound node seat opening
-opens_with {N = N} {C = C} kind plain bound node seat sent delay player was opening can player_is was_is made =
+opens_with {N = N} {C = C} kind plain bound node seat sent delays player was opening can player_is was_is made =
     let cut : Cut C = key_cut plain can.key in
     let n : ℕ = count cut in
     let senders : All (λ (one : Sent). one.sender < n) sent
@@ -99,7 +101,7 @@ opens_with {N = N} {C = C} kind plain bound node seat sent delay player was open
       small_limit = can.small_limit;
       opening_is =
           made n senders
-          ∙ ap (λ (d : ℕ). waiting (hop_of d) (λ j. from j sent) player was n) can.delay_is
+          ∙ ap (λ (d : Delays). waiting (hop_of d) (λ j. from j sent) player was n) can.delays_are
           ∙ ap (λ (l : List Sent). waiting (hop cut) (λ j. from j l) player was n) can.sent_is
           ∙ ap (λ (i : ℕ). waiting (hop cut) (λ j. from j can.key.cut.value.sent) i was n) player_is
           ∙ ap (λ (w : ℕ). waiting (hop cut) (λ j. from j can.key.cut.value.sent) seat.player w n) was_is;

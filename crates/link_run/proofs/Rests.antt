@@ -11,7 +11,7 @@ use Rattle.link_node.specs.declared.signal.LinkMode.TheVariants.{Normal8}
 use Rattle.std.specs.Prelude.{None}
 use Rattle.link_order.specs.declared.sent.Sent.{Sent}
 use Rattle.link_order.specs.NodeKind.{NodeKind}
-use Rattle.link_order.specs.Cut.{Delays}
+use Rattle.link_node.specs.declared.delays.Delays.{Delays}
 use Rattle.link_laws.proofs.Advance.{number_found}
 use Rattle.link_script.specs.Script.{Script, told}
 use Rattle.link_script.proofs.Lines.{found}
@@ -180,10 +180,10 @@ rest_dead s j delay first last was signal one stands next is dead h =
 
 -- the rest of a pair that nobody has touched
 pub rest_moved : {N C : Type 0} (kind : NodeKind C) (plain : N → C) (key : Key N) (now first : JoinedState (Key N))
-    (i j : ℕ) (delay : Delays) (was : ℕ) (one : Sent) → now.made ≡ first.made
+    (i j : ℕ) (delays : Delays) (was : ℕ) (one : Sent) → now.made ≡ first.made
     → slice_index now.fetched (pair_place i j) ≡ slice_index first.fetched (pair_place i j)
-    → RestOf kind plain key now i j delay was one → RestOf kind plain key first i j delay was one
-rest_moved {N = N} kind plain key now first i j delay was one same own h =
+    → RestOf kind plain key now i j delays was one → RestOf kind plain key first i j delays was one
+rest_moved {N = N} kind plain key now first i j delays was one same own h =
     let sent : sent_at now.made j ≡ sent_at first.made j
     = ap (λ (m : List Progress). sent_at m j) same in
     record {
@@ -197,10 +197,10 @@ rest_moved {N = N} kind plain key now first i j delay was one same own h =
     }
 
 pub pair_moved : {N C : Type 0} (kind : NodeKind C) (plain : N → C) (key : Key N) (now first : JoinedState (Key N))
-    (nodes : List N) (delay : Delays) (pair : ℕ) (one : Sent) → now.made ≡ first.made
+    (nodes : List N) (delays : Delays) (pair : ℕ) (one : Sent) → now.made ≡ first.made
     → slice_index now.fetched pair ≡ slice_index first.fetched pair
-    → PairRest kind plain key now nodes delay pair one → PairRest kind plain key first nodes delay pair one
-pair_moved {N = N} kind plain key now first nodes delay pair one same own h = record {
+    → PairRest kind plain key now nodes delays pair one → PairRest kind plain key first nodes delays pair one
+pair_moved {N = N} kind plain key now first nodes delays pair one same own h = record {
   own = h.own;
   peer = h.peer;
   pair_is = h.pair_is;
@@ -208,37 +208,37 @@ pair_moved {N = N} kind plain key now first nodes delay pair one same own h = re
   peer_below = h.peer_below;
   apart = h.apart;
   rest =
-      rest_moved kind plain key now first h.own h.peer delay _ one same
+      rest_moved kind plain key now first h.own h.peer delays _ one same
       (subst (λ (k : ℕ). slice_index now.fetched k ≡ slice_index first.fetched k) h.pair_is own) h.rest;
 }
 
 pub pairs_one : {N C : Type 0} (kind : NodeKind C) (plain : N → C) (key : Key N) (joined : JoinedState (Key N))
-    (nodes : List N) (delay : Delays) (n : ℕ) (one : Sent) → PairsRest kind plain key joined nodes delay (n + 1) one
-    → PairsRest kind plain key joined nodes delay n one ⊎ PairRest kind plain key joined nodes delay n one
-pairs_one kind plain key joined nodes delay n one h =
+    (nodes : List N) (delays : Delays) (n : ℕ) (one : Sent) → PairsRest kind plain key joined nodes delays (n + 1) one
+    → PairsRest kind plain key joined nodes delays n one ⊎ PairRest kind plain key joined nodes delays n one
+pairs_one kind plain key joined nodes delays n one h =
     elim (cases_lt h.pair n) [
       | inl less ↦ inl (record { pair = h.pair; below = less; rest = h.rest })
       | inr past ↦
           let e : h.pair ≡ n = omega (arith, h.below) in
-          inr (subst (λ (k : ℕ). PairRest kind plain key joined nodes delay k one) e h.rest)
+          inr (subst (λ (k : ℕ). PairRest kind plain key joined nodes delays k one) e h.rest)
     ]
 
 -- the two players of a pair
 pub record PairIs {N C : Type 0} (kind : NodeKind C) (plain : N → C) (key : Key N) (joined : JoinedState (Key N))
-    (nodes : List N) (delay : Delays) (i j : ℕ) (one : Sent) : Type 0
+    (nodes : List N) (delays : Delays) (i j : ℕ) (one : Sent) : Type 0
   where
     pub own_below : i < length nodes
     pub peer_below : j < length nodes
     pub apart : j ≢ i
-    pub rest : RestOf kind plain key joined i j delay (slice_index (map kind.was (map plain nodes)) i) one
+    pub rest : RestOf kind plain key joined i j delays (slice_index (map kind.was (map plain nodes)) i) one
 
 pub pair_is : {N C : Type 0} (kind : NodeKind C) (plain : N → C) (key : Key N) (joined : JoinedState (Key N))
-    (nodes : List N) (delay : Delays) (pair : ℕ) (one : Sent) → length nodes ≤ 4
-    → PairRest kind plain key joined nodes delay pair one
-    → PairIs kind plain key joined nodes delay (pair / 4) (pair % 4) one
-pair_is kind plain key joined nodes delay pair one few h =
+    (nodes : List N) (delays : Delays) (pair : ℕ) (one : Sent) → length nodes ≤ 4
+    → PairRest kind plain key joined nodes delays pair one
+    → PairIs kind plain key joined nodes delays (pair / 4) (pair % 4) one
+pair_is kind plain key joined nodes delays pair one few h =
     let a : h.own ≡ pair / 4 = omega (arith, h.pair_is, h.own_below, h.peer_below) in
     let b : h.peer ≡ pair % 4 = omega (arith, h.pair_is, h.own_below, h.peer_below) in
-    subst (λ (j : ℕ). PairIs kind plain key joined nodes delay (pair / 4) j one) b
-    (subst (λ (i : ℕ). PairIs kind plain key joined nodes delay i h.peer one) a
+    subst (λ (j : ℕ). PairIs kind plain key joined nodes delays (pair / 4) j one) b
+    (subst (λ (i : ℕ). PairIs kind plain key joined nodes delays i h.peer one) a
     (record { own_below = h.own_below; peer_below = h.peer_below; apart = h.apart; rest = h.rest }))

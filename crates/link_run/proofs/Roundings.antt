@@ -285,7 +285,7 @@ still_round {N = N} kind plain bound cut first now until b gone =
     record {
       lanes_are =
           subst (λ (t : TableId). AreLanes kind plain b.key t now.lanes.items) (sym gone.shared_is) lanes;
-      delay_is = ap (λ (z : Spare N). z.shell.delay) spare ∙ r.delay_is;
+      delays_are = ap (λ (z : Spare N). z.shell.delays) spare ∙ r.delays_are;
       no_nodes = ap (λ (z : Spare N). z.nodes.items) spare ∙ r.no_nodes;
       no_seats = ap (λ (z : Spare N). z.seats.items) spare ∙ r.no_seats;
       no_waits = ap (λ (z : Spare N). z.waits.items) spare ∙ r.no_waits;

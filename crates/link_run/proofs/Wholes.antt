@@ -16,7 +16,9 @@ use Rattle.link_order.specs.declared.sent.Sent.{Sent}
 use Rattle.link_order.specs.NodeKind.{NodeKind, IsLawful}
 use Rattle.link_order.specs.Order.{from, IsOrdered}
 use Rattle.link_order.specs.Due.{incoming, waiting}
-use Rattle.link_order.specs.Cut.{Delays, Cut, hop, hop_of, count, was_at, live, is_live, IsSoundSignal}
+use Rattle.link_node.specs.declared.delays.Delays.{Delays}
+use Rattle.link_node.specs.Delays.{hop_of}
+use Rattle.link_order.specs.Cut.{Cut, hop, count, was_at, live, is_live, IsSoundSignal}
 use Rattle.link_order.proofs.Hops.{hop_same}
 use Rattle.link_order.proofs.Lists.{all_nil, all_map, pairs_nil}
 use Rattle.link_order.proofs.Awaited.{awaits, is_awaited_by}
@@ -105,7 +107,7 @@ module _ {N C : Type 0} (kind : NodeKind C) (law : IsLawful kind) (plain : N →
       ∙ get_map plain (map node_of lanes) i lane.node (get_map node_of lanes i lane stands))
 
   hop_is_so : hop e ≡ hop (key_cut plain key)
-  hop_is_so = hop_same e (key_cut plain key) c.goes_on.delay_is
+  hop_is_so = hop_same e (key_cut plain key) c.goes_on.delays_are
 
   -- a signal that some lane's node can still take is live
   live_by : (i : ℕ) (lane : LaneState N) → slice_get lanes i ≡ Some lane → (one : Sent) → Contains e.sent one
@@ -248,8 +250,8 @@ module _ {N C : Type 0} (kind : NodeKind C) (law : IsLawful kind) (plain : N →
             (signal_is s h.lanes_are.script j at.place one.signal below at.stands).fits
       ]
 
-  module _ (joined : JoinedState (Key N)) (joint : IsJoint lanes joined) (nodes : List N) (delay : Delays)
-      (nodes_are : nodes ≡ map node_of lanes) (delay_is : delay ≡ key.cut.value.delay) where
+  module _ (joined : JoinedState (Key N)) (joint : IsJoint lanes joined) (nodes : List N) (delays : Delays)
+      (nodes_are : nodes ≡ map node_of lanes) (delays_are : delays ≡ key.cut.value.delays) where
     sent_is : (j : ℕ) (lane : LaneState N) → slice_get lanes j ≡ Some lane
         → sent_at joined.made j ≡ sent (script_of kind plain key) j lane.seat.made.steps
     sent_is j lane stands =
@@ -274,7 +276,7 @@ module _ {N C : Type 0} (kind : NodeKind C) (law : IsLawful kind) (plain : N →
     node_count : length nodes ≡ count (key_cut plain key)
     node_count = ap length nodes_are ∙ length-map lanes node_of ∙ total_is
 
-    rests_inside : (one : Sent) → PairsRest kind plain key joined nodes delay 16 one → Contains (live kind e).sent one
+    rests_inside : (one : Sent) → PairsRest kind plain key joined nodes delays 16 one → Contains (live kind e).sent one
     rests_inside one p =
         let q = p.rest in
         let r = q.rest in
@@ -287,15 +289,15 @@ module _ {N C : Type 0} (kind : NodeKind C) (law : IsLawful kind) (plain : N →
         (first_at (told (script_of kind plain key) q.peer)
         (sent (script_of kind plain key) q.peer b.0.seat.made.steps) r.number r.signal r.stands
         (omega (arith, r.before, sent_is q.peer b.0 b.1)))) in
-        let hops : hop_of delay q.peer q.own ≡ hop (key_cut plain key) q.peer q.own
-        = ap (λ (d : Delays). hop_of d q.peer q.own) delay_is in
+        let hops : hop_of delays q.peer q.own ≡ hop (key_cut plain key) q.peer q.own
+        = ap (λ (d : Delays). hop_of d q.peer q.own) delays_are in
         subst (λ (z : Sent). Contains (live kind e).sent z) (sym r.is)
         (live_by q.own a.0 a.1 (record { sender = q.peer; signal = r.signal })
         (here_from e.sent q.peer r.signal there) (λ s. q.apart (sym s))
         (omega (arith, r.late, hops, was_of_node q.own a.0 a.1)))
 
     cover_all : (one : Sent) → Contains (live kind e).sent one
-        → WaitsIn (map waits_of lanes) one ⊎ PairsRest kind plain key joined nodes delay 16 one
+        → WaitsIn (map waits_of lanes) one ⊎ PairsRest kind plain key joined nodes delays 16 one
     cover_all one there =
         let passes = passes_here (is_live kind e) e.sent one there in
         let heard = awaits (hop e) (was_at kind e) (count e) one passes.1 in
@@ -317,7 +319,7 @@ module _ {N C : Type 0} (kind : NodeKind C) (law : IsLawful kind) (plain : N →
         = omega (arith, heard.hears, hops, was_is i a.0 a.1) in
         let four : j < 4 = omega (arith, peer_below, h.lanes_are.cable.at_most_four) in
         let as_waiting : Contains (known j) one.signal
-        → WaitsIn (map waits_of lanes) one ⊎ PairsRest kind plain key joined nodes delay 16 one
+        → WaitsIn (map waits_of lanes) one ⊎ PairsRest kind plain key joined nodes delays 16 one
         = λ k. inl (waits_by i a.0 a.1 one peer_below apart k late) in
         elim (Contains-append_cases old (take made told_all) one.signal
         (subst (λ (l : List Signal). Contains l one.signal) (c.signals j b.0 b.1) (from_here e.sent one passes.0))) [
@@ -344,7 +346,7 @@ module _ {N C : Type 0} (kind : NodeKind C) (law : IsLawful kind) (plain : N →
                       before = omega (arith, at.below, sent_is j b.0 b.1);
                       stands = at.stands;
                       late =
-                          omega (arith, late, ap (λ (d : Delays). hop_of d j i) delay_is, was_of_node i a.0 a.1);
+                          omega (arith, late, ap (λ (d : Delays). hop_of d j i) delays_are, was_of_node i a.0 a.1);
                       is = refl;
                     };
                   };
@@ -352,7 +354,7 @@ module _ {N C : Type 0} (kind : NodeKind C) (law : IsLawful kind) (plain : N →
               ]
         ]
 
-    pub whole : Gathering (WaitsIn (map waits_of lanes)) (PairsRest kind plain key joined nodes delay 16) (live kind e).sent
+    pub whole : Gathering (WaitsIn (map waits_of lanes)) (PairsRest kind plain key joined nodes delays 16) (live kind e).sent
     whole =
         let sound = sound_live kind e c.goes_on.sound in
         let cable = c.goes_on.cable in

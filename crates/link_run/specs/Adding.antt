@@ -6,7 +6,8 @@ use Rattle.link_node.specs.declared.signal.Signal.{Signal}
 use Rattle.link_order.specs.declared.sent.Sent.{Sent}
 use Rattle.link_order.specs.Order.{IsOrdered}
 use Rattle.link_order.specs.NodeKind.{NodeKind}
-use Rattle.link_order.specs.Cut.{Delays, hop_of}
+use Rattle.link_node.specs.declared.delays.Delays.{Delays}
+use Rattle.link_node.specs.Delays.{hop_of}
 use Rattle.link_script.specs.Script.{Script, told}
 use Rattle.link_rule.specs.declared.view.Progress.{Progress}
 use Rattle.link_table.specs.declared.key.Key.{Key}
@@ -82,7 +83,7 @@ RestOf kind plain key joined i j delay was one =
 
 -- the same of the pair of players with this number, where there are these two and they aren't one
 pub record PairRest {N C : Type 0} (kind : NodeKind C) (plain : N → C) (key : Key N) (joined : JoinedState (Key N))
-    (nodes : List N) (delay : Delays) (pair : ℕ) (one : Sent) : Type 0
+    (nodes : List N) (delays : Delays) (pair : ℕ) (one : Sent) : Type 0
   where
     pub own : ℕ
     pub peer : ℕ
@@ -90,12 +91,12 @@ pub record PairRest {N C : Type 0} (kind : NodeKind C) (plain : N → C) (key : 
     pub own_below : own < length nodes
     pub peer_below : peer < length nodes
     pub apart : peer ≢ own
-    pub rest : RestOf kind plain key joined own peer delay (slice_index (map kind.was (map plain nodes)) own) one
+    pub rest : RestOf kind plain key joined own peer delays (slice_index (map kind.was (map plain nodes)) own) one
 
 -- the same of all pairs below this number
 pub record PairsRest {N C : Type 0} (kind : NodeKind C) (plain : N → C) (key : Key N) (joined : JoinedState (Key N))
-    (nodes : List N) (delay : Delays) (some : ℕ) (one : Sent) : Type 0
+    (nodes : List N) (delays : Delays) (some : ℕ) (one : Sent) : Type 0
   where
     pub pair : ℕ
     pub below : pair < some
-    pub rest : PairRest kind plain key joined nodes delay pair one
+    pub rest : PairRest kind plain key joined nodes delays pair one

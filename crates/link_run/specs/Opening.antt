@@ -1,7 +1,8 @@
 use Rattle.std.specs.Prelude.{ℕ, ◌≡◌, ◌≤◌, ◌^◌, List, Some, length, slice_get}
 use Rattle.link_order.specs.declared.sent.Sent.{Sent}
 use Rattle.link_order.specs.NodeKind.{NodeKind}
-use Rattle.link_order.specs.Cut.{Delays, IsSound, IsCable}
+use Rattle.link_node.specs.declared.delays.Delays.{Delays}
+use Rattle.link_order.specs.Cut.{IsSound, IsCable}
 use Rattle.link_script.specs.Script.{IsSoundScript}
 use Rattle.link_table.specs.declared.key.Key.{Key}
 use Rattle.link_table.specs.Text.{script_of}
@@ -11,9 +12,9 @@ use Rattle.link_lane.specs.Following.{key_cut}
 
 -- this project's profile: nodes and seats from which lanes are made
 
--- a node with its seat as a new table gave it, and the signals and the delay of the table's cut
+-- a node with its seat as a new table gave it, and the signals and the delays of the table's cut
 pub record CanOpen {N C : Type 0} (kind : NodeKind C) (plain : N → C) (bound : N → ℕ) (node : N)
-    (seat : SeatState (Key N)) (sent : List Sent) (delay : Delays) : Type 0
+    (seat : SeatState (Key N)) (sent : List Sent) (delays : Delays) : Type 0
   where
     pub key : Key N
     pub seat_is : seat ≡ opening_seat kind plain key seat.table seat.player (length key.cut.value.consoles)
@@ -24,12 +25,12 @@ pub record CanOpen {N C : Type 0} (kind : NodeKind C) (plain : N → C) (bound :
     pub limit : key.limit ≤ bound node
     pub small_limit : key.limit ≤ 2 ^ 39
     pub sent_is : sent ≡ key.cut.value.sent
-    pub delay_is : delay ≡ key.cut.value.delay
+    pub delays_are : delays ≡ key.cut.value.delays
 
 -- so many seats as nodes, each the one of its node
 pub record CanOpenAll {N C : Type 0} (kind : NodeKind C) (plain : N → C) (bound : N → ℕ) (nodes : List N)
-    (seats : List (SeatState (Key N))) (sent : List Sent) (delay : Delays) : Type 0
+    (seats : List (SeatState (Key N))) (sent : List Sent) (delays : Delays) : Type 0
   where
     pub same : length seats ≡ length nodes
     pub each : (i : ℕ) (node : N) (seat : SeatState (Key N)) → slice_get nodes i ≡ Some node
-        → slice_get seats i ≡ Some seat → CanOpen kind plain bound node seat sent delay
+        → slice_get seats i ≡ Some seat → CanOpen kind plain bound node seat sent delays

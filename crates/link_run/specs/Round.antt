@@ -13,7 +13,7 @@ use Rattle.link_run.specs.Going.{AllWent}
 -- a lane for each console of the key's cut, at the round's own table, and the memory to make a cut of them
 pub record IsRound {N C : Type 0} (kind : NodeKind C) (plain : N → C) (key : Key N) (round : Round N) : Type 0 where
   pub lanes_are : AreLanes kind plain key round.shared round.lanes.items
-  pub delay_is : round.spare.shell.delay ≡ key.cut.value.delay
+  pub delays_are : round.spare.shell.delays ≡ key.cut.value.delays
   pub no_nodes : round.spare.nodes.items ≡ []
   pub no_seats : round.spare.seats.items ≡ []
   pub no_waits : round.spare.waits.items ≡ []

@@ -11,13 +11,12 @@ ghost use Rattle.link_run.specs.Adding.{Adds, MayAdd, IsWaiting, WaitsIn, RestOf
 
 use link_core::{Sent, Shell};
 use link_node::{Incoming, Node};
-use link_order::hop;
 use link_table::{Joined, Shared};
 
 /// Adds the signals that wait for one lane.
 fn add_waiting(shell: &mut Shell, waits: &[Incoming])
     requires { MayAdd (IsWaiting waits.now) shell.old.sent }
-    ensures delay { shell.new.delay ≡ shell.old.delay }
+    ensures delays { shell.new.delays ≡ shell.old.delays }
     ensures adds { Adds (IsWaiting waits.now) shell.old.sent shell.new.sent }
 {
     for one in waits {
@@ -31,7 +30,7 @@ fn add_waiting(shell: &mut Shell, waits: &[Incoming])
 /// Adds the signals that wait for all lanes.
 pub(crate) fn add_all_waiting(shell: &mut Shell, waits: &[Vec<Incoming>])
     requires { MayAdd (WaitsIn (map (λ list. list.items) waits.now)) shell.old.sent }
-    ensures delay { shell.new.delay ≡ shell.old.delay }
+    ensures delays { shell.new.delays ≡ shell.old.delays }
     ensures adds { Adds (WaitsIn (map (λ list. list.items) waits.now)) shell.old.sent shell.new.sent }
 {
     for list in waits {
@@ -43,7 +42,7 @@ pub(crate) fn add_all_waiting(shell: &mut Shell, waits: &[Vec<Incoming>])
 fn add_late(shell: &mut Shell, one: Sent, between: u64, was: u64)
     requires room { was < one.signal.clock + between → length shell.old.sent < 16384 }
     requires widths { was < one.signal.clock + between → FitsWidths one.signal }
-    ensures delay { shell.new.delay ≡ shell.old.delay }
+    ensures delays { shell.new.delays ≡ shell.old.delays }
     ensures late { was < one.signal.clock + between → IsAdded one shell.old.sent shell.new.sent }
     ensures dead { one.signal.clock + between ≤ was → shell.new.sent ≡ shell.old.sent }
 {
@@ -68,18 +67,18 @@ fn add_rest<N: Node>(
     requires other { peer ≢ player }
     requires pair { pair_place player peer < 16 }
     requires may { (key : Key N) × (joined.old.key ≡ key ∷ [])
-        × MayAdd (RestOf (kind_of N.clock N.was N.next) N.plain key joined.old player peer shell.old.delay was)
+        × MayAdd (RestOf (kind_of N.clock N.was N.next) N.plain key joined.old player peer shell.old.delays was)
         shell.old.sent }
     ensures same { joined.new ≡ with_fetched joined.old joined.new.fetched }
     ensures wide { length joined.new.fetched ≡ 16 }
     ensures others { (pair : ℕ) → pair ≢ pair_place player peer →
         slice_index joined.new.fetched pair ≡ slice_index joined.old.fetched pair }
-    ensures delay { shell.new.delay ≡ shell.old.delay }
+    ensures delays { shell.new.delays ≡ shell.old.delays }
     ensures adds { (key : Key N) → joined.old.key ≡ key ∷ [] →
-        Adds (RestOf (kind_of N.clock N.was N.next) N.plain key joined.old player peer shell.old.delay was)
+        Adds (RestOf (kind_of N.clock N.was N.next) N.plain key joined.old player peer shell.old.delays was)
         shell.old.sent shell.new.sent }
 {
-    let between = hop(shell.delay(), peer as usize, player as usize);
+    let between = shell.delays().hop(peer as usize, player as usize);
     while let Some(signal) = shared.rest(joined, player, peer) {
         add_late(
             shell,
@@ -107,15 +106,15 @@ fn add_pair<N: Node>(
     requires few { length nodes.now ≤ 4 }
     requires pair { pair < 16 }
     requires may { (key : Key N) × (joined.old.key ≡ key ∷ [])
-        × MayAdd (PairRest (kind_of N.clock N.was N.next) N.plain key joined.old nodes.now shell.old.delay pair)
+        × MayAdd (PairRest (kind_of N.clock N.was N.next) N.plain key joined.old nodes.now shell.old.delays pair)
         shell.old.sent }
     ensures same { joined.new ≡ with_fetched joined.old joined.new.fetched }
     ensures wide { length joined.new.fetched ≡ 16 }
     ensures others { (other : ℕ) → other ≢ pair →
         slice_index joined.new.fetched other ≡ slice_index joined.old.fetched other }
-    ensures delay { shell.new.delay ≡ shell.old.delay }
+    ensures delays { shell.new.delays ≡ shell.old.delays }
     ensures adds { (key : Key N) → joined.old.key ≡ key ∷ [] →
-        Adds (PairRest (kind_of N.clock N.was N.next) N.plain key joined.old nodes.now shell.old.delay pair)
+        Adds (PairRest (kind_of N.clock N.was N.next) N.plain key joined.old nodes.now shell.old.delays pair)
         shell.old.sent shell.new.sent }
 {
     let player = pair / 4;
@@ -145,11 +144,11 @@ pub(crate) fn add_rests<N: Node>(
     requires count { length joined.old.made ≡ length nodes.now }
     requires few { length nodes.now ≤ 4 }
     requires may { (key : Key N) × (joined.old.key ≡ key ∷ [])
-        × MayAdd (PairsRest (kind_of N.clock N.was N.next) N.plain key joined.old nodes.now shell.old.delay 16)
+        × MayAdd (PairsRest (kind_of N.clock N.was N.next) N.plain key joined.old nodes.now shell.old.delays 16)
         shell.old.sent }
-    ensures delay { shell.new.delay ≡ shell.old.delay }
+    ensures delays { shell.new.delays ≡ shell.old.delays }
     ensures adds { (key : Key N) → joined.old.key ≡ key ∷ [] →
-        Adds (PairsRest (kind_of N.clock N.was N.next) N.plain key joined.old nodes.now shell.old.delay 16)
+        Adds (PairsRest (kind_of N.clock N.was N.next) N.plain key joined.old nodes.now shell.old.delays 16)
         shell.old.sent shell.new.sent }
 {
     for pair in 0..16 {

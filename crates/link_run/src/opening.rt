@@ -4,7 +4,7 @@ ghost use Rattle.std.specs.Prelude.{ℕ, ◌≡◌, ◌≢◌, ◌⊎◌, ◌+�
 ghost use Rattle.std.specs.Vec.{vec_len, vec_capacity};
 ghost use Rattle.link_order.specs.NodeKind.{kind_of};
 ghost use Rattle.link_order.specs.Order.{from};
-ghost use Rattle.link_order.specs.Cut.{hop_of};
+ghost use Rattle.link_node.specs.Delays.{hop_of, AreDelays};
 ghost use Rattle.link_order.specs.Due.{incoming, place_due, waiting};
 ghost use Rattle.link_run.specs.Rounds.{node_of, seat_of_lane};
 ghost use Rattle.link_run.specs.Opening.{CanOpen, CanOpenAll};
@@ -12,20 +12,19 @@ ghost use Rattle.link_run.specs.Opening.{CanOpen, CanOpenAll};
 use link_core::{Sent, keep};
 use link_inbox::Inbox;
 use link_lane::{Lane, LaneParts, LaneRefused};
-use link_node::{Incoming, Node};
-use link_order::hop;
+use link_node::{Delays, Incoming, Node};
 use link_table::Seat;
 use std::alloc::{AllocError, Global};
 
 /// Puts a sent signal among those that wait for a player, where it can still take it.
-fn put_one(inbox: &mut Inbox, one: &Sent, delay: u64, player: u32, was: u64)
+fn put_one(inbox: &mut Inbox, one: &Sent, delays: &Delays, player: u32, was: u64)
     requires room { length inbox.old.waits < 16384 }
     requires early { one.now.signal.clock < 2 ^ 40 }
-    requires short { delay ≤ 1024 }
-    ensures takes { let between = hop_of delay one.now.sender player in
+    requires within { AreDelays delays.now }
+    ensures takes { let between = hop_of delays.now one.now.sender player in
         one.now.sender ≢ player → was < one.now.signal.clock + between →
         inbox.new.waits ≡ place_due (incoming between one.now.sender one.now.signal) inbox.old.waits }
-    ensures leaves { let between = hop_of delay one.now.sender player in
+    ensures leaves { let between = hop_of delays.now one.now.sender player in
         (one.now.sender ≡ player) ⊎ (one.now.signal.clock + between ≤ was) →
         inbox.new.waits ≡ inbox.old.waits }
     ensures len { length inbox.new.waits ≤ length inbox.old.waits + 1 }
@@ -33,7 +32,7 @@ fn put_one(inbox: &mut Inbox, one: &Sent, delay: u64, player: u32, was: u64)
     if one.sender == player {
         return;
     }
-    let arrival = one.signal.clock + hop(delay, one.sender as usize, player as usize);
+    let arrival = one.signal.clock + delays.hop(one.sender as usize, player as usize);
     if arrival > was {
         inbox.put(Incoming {
             sender: one.sender,
@@ -47,19 +46,19 @@ fn put_one(inbox: &mut Inbox, one: &Sent, delay: u64, player: u32, was: u64)
 fn opening_of(
     alloc: Global,
     sent: &[Sent],
-    delay: u64,
+    delays: &Delays,
     player: u32,
     was: u64,
 ) -> Result<Vec<Incoming>, AllocError>
     requires few { length sent.now ≤ 16384 }
     requires early { All (λ one. one.signal.clock < 2 ^ 40) sent.now }
-    requires short { delay ≤ 1024 }
+    requires within { AreDelays delays.now }
     ensures { IfOk result (λ waits. (count : ℕ) → All (λ one. one.sender < count) sent.now →
-        waits.items ≡ waiting (hop_of delay) (λ j. from j sent.now) player was count) }
+        waits.items ≡ waiting (hop_of delays.now) (λ j. from j sent.now) player was count) }
 {
     let mut inbox = Inbox::new(alloc, &[])?;
     for one in sent {
-        put_one(&mut inbox, one, delay, player, was);
+        put_one(&mut inbox, one, delays, player, was);
     }
     Ok(inbox.into_waiting())
 }
@@ -70,15 +69,15 @@ fn open_lane<N: Node>(
     node: N,
     seat: Seat<N>,
     sent: &[Sent],
-    delay: u64,
+    delays: &Delays,
 ) -> Result<Lane<N>, N>
     requires few { length sent.now ≤ 16384 }
-    requires short { delay ≤ 1024 }
-    requires can { CanOpen (kind_of N.clock N.was N.next) N.plain N.bound node seat sent.now delay }
+    requires within { AreDelays delays.now }
+    requires can { CanOpen (kind_of N.clock N.was N.next) N.plain N.bound node seat sent.now delays.now }
     ensures made { IfOk result (λ lane. (lane.node ≡ node) × (lane.seat ≡ seat)) }
     ensures refused { IfErr result (λ back. back ≡ node) }
 {
-    let Ok(opening) = opening_of(alloc, sent, delay, seat.player(), node.was()) else {
+    let Ok(opening) = opening_of(alloc, sent, delays, seat.player(), node.was()) else {
         return Err(node);
     };
     match Lane::new(alloc, node, seat, &opening) {
@@ -134,12 +133,12 @@ pub(crate) fn open_lanes<N: Node>(
     nodes: Vec<N>,
     seats: Vec<Seat<N>>,
     sent: &[Sent],
-    delay: u64,
+    delays: &Delays,
 ) -> Result<Opened<N>, Vec<N>>
     requires count { vec_len nodes ≤ 4 }
     requires few { length sent.now ≤ 16384 }
-    requires short { delay ≤ 1024 }
-    requires can { CanOpenAll (kind_of N.clock N.was N.next) N.plain N.bound nodes.items seats.items sent.now delay }
+    requires within { AreDelays delays.now }
+    requires can { CanOpenAll (kind_of N.clock N.was N.next) N.plain N.bound nodes.items seats.items sent.now delays.now }
     ensures nodes { IfOk result (λ opened. map node_of opened.lanes.items ≡ nodes.items) }
     ensures seats { IfOk result (λ opened. map seat_of_lane opened.lanes.items ≡ seats.items) }
     ensures empty_nodes { IfOk result (λ opened. opened.nodes.items ≡ []) }
@@ -157,7 +156,7 @@ pub(crate) fn open_lanes<N: Node>(
         let Some(seat) = seats.pop() else {
             unreachable!()
         };
-        match open_lane(alloc, node, seat, sent, delay) {
+        match open_lane(alloc, node, seat, sent, delays) {
             Ok(lane) => put_first(&mut lanes, lane),
             Err(node) => {
                 keep(&mut nodes, node);

@@ -82,7 +82,7 @@ impl<N: Node> Round<N> {
             return Err(RoundRefused { cut });
         };
         let (nodes, shell) = cut.part();
-        match open_lanes(alloc, nodes, seats, shell.sent(), shell.delay()) {
+        match open_lanes(alloc, nodes, seats, shell.sent(), shell.delays()) {
             Ok(
                 Opened {
                     lanes,

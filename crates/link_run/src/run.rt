@@ -11,12 +11,15 @@ use crate::advance::{Work, advance_all};
 use crate::round::{Round, RoundRefused};
 use gba_store::Gate;
 use link_core::Cut;
-use link_node::Node;
+use link_node::{Delays, Node};
 use std::alloc::Global;
 use std::thread::{Threads, available_parallelism};
 
-/// The shortest delay, in cycles, at which lanes are tried.
-const SHORTEST: u64 = 256;
+/// The shortest way of a signal from one console to another and back, in cycles, at which lanes are tried.
+const SHORTEST: u64 = 512;
+
+/// The clock at which the lanes of a round meet is at most so far from the least one.
+const NEAREST: u64 = 256;
 
 /// How many looks in vain a lane has when a round begins.
 const LOOKS: u64 = 1 << 14;
@@ -35,6 +38,33 @@ const FIRST_STRETCH: u64 = 1 << 20;
 
 /// How many times as long each stretch is after a round that hasn't as the one before it.
 const GROWTH: u64 = 8;
+
+/// The shortest delay between two of so many players, in cycles.
+fn shortest_delay(delays: &Delays, players: usize) -> u64 {
+    let mut shortest = u64::MAX;
+    for pair in 0..16 {
+        let (sender, receiver) = (pair / 4, pair % 4);
+        if sender < players && receiver < players && sender != receiver {
+            shortest = shortest.min(delays.hop(sender, receiver));
+        }
+    }
+    shortest
+}
+
+/// The shortest way of a signal from one of so many players to another one and back, in cycles.
+fn shortest_way(delays: &Delays, players: usize) -> u64 {
+    let mut shortest = u64::MAX;
+    for pair in 0..16 {
+        let (sender, receiver) = (pair / 4, pair % 4);
+        if sender < players && receiver < players && sender != receiver {
+            let way = delays
+                .hop(sender, receiver)
+                .saturating_add(delays.hop(receiver, sender));
+            shortest = shortest.min(way);
+        }
+    }
+    shortest
+}
 
 /// The looks of each of so many lanes at the start of a round.
 fn looks_of<R: Threads>(rt: &R, lanes: usize) -> u64 {
@@ -128,8 +158,8 @@ fn go_serial<N: Node>(cut: &mut Cut<N>, cycles: u64, until: u64)
     cut.run_serial(end);
 }
 
-/// Lets the lanes of a new round advance from the clock `first`, finishes it, and goes on in the global order for a
-/// stretch that depends on how far they came.
+/// Lets the lanes of a new round advance from the clock `first`, from where each one comes `nearest` cycles on by itself,
+/// finishes it, and goes on in the global order for a stretch that depends on how far they came.
 fn go_on<R: Threads + Sync, N: Node + Send + Sync, G: Gate + Sync>(
     rt: &R,
     round: Round<N>,
@@ -137,6 +167,7 @@ fn go_on<R: Threads + Sync, N: Node + Send + Sync, G: Gate + Sync>(
     until: u64,
     looks: u64,
     first: u64,
+    nearest: u64,
     stretch: &mut u64,
 ) -> Cut<N>
     requires { (cut : Cut N) × (Begins (kind_of N.clock N.was N.next) N.plain N.bound cut round)
@@ -145,7 +176,7 @@ fn go_on<R: Threads + Sync, N: Node + Send + Sync, G: Gate + Sync>(
         All (λ node. until ≤ N.bound node) cut.consoles →
         ComesNearer (kind_of N.clock N.was N.next) N.plain N.bound until cut result }
 {
-    let meeting = first.saturating_add(SHORTEST).min(until);
+    let meeting = first.saturating_add(nearest).min(until);
     let mut cut = go_round(rt, round, gate, until, meeting, looks);
     *stretch = next_stretch(*stretch, cut.least_clock().saturating_sub(first));
     go_serial(&mut cut, *stretch, until);
@@ -154,9 +185,9 @@ fn go_on<R: Threads + Sync, N: Node + Send + Sync, G: Gate + Sync>(
 
 /// Runs a cut until every clock is at least `until`: by rounds of lanes on threads, and after each round by a stretch of
 /// the global order, which is the longer the less the round was worth. It comes to the cut that the global order makes,
-/// however the threads are scheduled. A node alone has nobody to run beside and goes straight through; so do nodes with a
-/// delay below 256 cycles, and the rest of a run for which no memory is left. Only a lane's steps enter the gate: what the
-/// global order steps doesn't, between the rounds neither.
+/// however the threads are scheduled. A node alone has nobody to run beside and goes straight through; so do nodes of
+/// which two have a way there and back below 512 cycles, and the rest of a run for which no memory is left. Only a lane's
+/// steps enter the gate: what the global order steps doesn't, between the rounds neither.
 pub fn run_to<R: Threads + Sync, N: Node + Send + Sync, G: Gate + Sync>(
     rt: &R,
     alloc: Global,
@@ -172,16 +203,18 @@ pub fn run_to<R: Threads + Sync, N: Node + Send + Sync, G: Gate + Sync>(
     ensures limits { map N.bound result.consoles ≡ map N.bound cut.consoles }
 {
     let mut cut = cut;
-    if cut.nodes().len() == 1 || cut.delay() < SHORTEST {
+    let players = cut.nodes().len();
+    if players == 1 || shortest_way(cut.delays(), players) < SHORTEST {
         cut.run_serial(until);
         return cut;
     }
-    let looks = looks_of(rt, cut.nodes().len());
+    let looks = looks_of(rt, players);
+    let nearest = shortest_delay(cut.delays(), players).min(NEAREST);
     let mut stretch = FIRST_STRETCH / GROWTH;
     while cut.least_clock() < until {
         let first = cut.least_clock();
         match Round::begin(alloc, cut) {
-            Ok(round) => cut = go_on(rt, round, gate, until, looks, first, &mut stretch),
+            Ok(round) => cut = go_on(rt, round, gate, until, looks, first, nearest, &mut stretch),
             Err(refused) => {
                 let RoundRefused { cut: mut rest } = refused;
                 rest.run_serial(until);

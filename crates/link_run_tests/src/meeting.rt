@@ -4,6 +4,7 @@ ghost use Rattle.std.specs.Prelude.{◌≡◌, IfOk};
 
 use crate::{Meeter, Meeting};
 use gba_store::NoGate;
+use link_node::Delays;
 use link_run::run_to;
 use link_trial::begin;
 use std::alloc::{AllocError, Global};
@@ -29,7 +30,7 @@ fn meeter(meeting: &Arc<Meeting, Global>, player: bool) -> Result<Meeter, AllocE
 fn two_turns_meet(rt: HostRuntime) -> Result<(), Fail> {
     let meeting = Arc::new(rt.alloc(), Meeting::new())?;
     let nodes = vec![in rt.alloc(); meeter(&meeting, false)?, meeter(&meeting, true)?]?;
-    let Ok(cut) = begin(rt.alloc(), nodes, 1024) else {
+    let Ok(cut) = begin(rt.alloc(), nodes, Delays::all(1024)) else {
         panic!(rt; "no memory");
     };
     let cut = run_to(&rt, rt.alloc(), cut, &NoGate, 1000);

@@ -1,11 +1,13 @@
 //! A thousand schedules with one result.
 
 ghost use Rattle.std.specs.Prelude.{ℕ, ◌≡◌, ◌<◌, ◌≤◌, All, IfOk};
+ghost use Rattle.link_node.specs.Delays.{AreDelays};
 
 use gba_store::Gate;
 use link_core::Cut;
+use link_node::Delays;
 use link_run::run_to;
-use link_trial::{Mixer, begin, mixers};
+use link_trial::{Mixer, begin, drawn, mixers};
 use std::alloc::Global;
 use std::process::Abort;
 use std::sync::atomic::{AtomicU64, Ordering};
@@ -50,15 +52,15 @@ fn cut_of(
     rt: &impl Abort,
     alloc: Global,
     count: usize,
-    delay: u64,
+    delays: Delays,
     seed: u64,
 ) -> Result<Cut<Mixer>, Fail>
     requires count { (0 < count) × (count ≤ 4) }
-    requires delay { (0 < delay) × (delay ≤ 1024) }
+    requires delays { AreDelays delays }
     ensures limits { IfOk result (λ cut. All (λ node. node.limit ≡ 1048576) cut.consoles) }
 {
     let nodes = mixers(alloc, count, seed, LIMIT)?;
-    let Ok(cut) = begin(alloc, nodes, delay) else {
+    let Ok(cut) = begin(alloc, nodes, delays) else {
         panic!(rt; "no memory");
     };
     Ok(cut)
@@ -70,14 +72,14 @@ fn compare<R: Abort + Threads + Sync>(
     rt: &R,
     alloc: Global,
     count: usize,
-    delay: u64,
+    delays: Delays,
     seed: u64,
     schedule: u64,
     first: u64,
     until: u64,
 ) -> Result<u64, Fail>
     requires count { (0 < count) × (count ≤ 4) }
-    requires delay { (0 < delay) × (delay ≤ 1024) }
+    requires delays { AreDelays delays }
     requires first { first ≤ 1048576 }
     requires until { until ≤ 1048576 }
 {
@@ -85,8 +87,8 @@ fn compare<R: Abort + Threads + Sync>(
         number: AtomicU64::new(schedule),
         entries: AtomicU64::new(0),
     };
-    let mut serial = cut_of(rt, alloc, count, delay, seed)?;
-    let cut = cut_of(rt, alloc, count, delay, seed)?;
+    let mut serial = cut_of(rt, alloc, count, delays, seed)?;
+    let cut = cut_of(rt, alloc, count, delays, seed)?;
     serial.run_serial(first);
     let cut = run_to(rt, alloc, cut, &gate, first);
     assert_eq!(rt; cut.nodes(), serial.nodes());
@@ -98,38 +100,77 @@ fn compare<R: Abort + Threads + Sync>(
     Ok(gate.entries.load(Ordering::SeqCst))
 }
 
+/// So many schedules. They answer how often the gate was entered.
+fn compare_all<R: Abort + Threads + Sync>(
+    rt: &R,
+    alloc: Global,
+    count: usize,
+    delays: Delays,
+    seed: u64,
+    schedules: u64,
+) -> Result<u64, Fail>
+    requires delays { AreDelays delays }
+{
+    assert!(rt; 0 < count && count <= 4);
+    let mut entries = 0u64;
+    for schedule in 0..schedules {
+        let number = next_random(schedule);
+        let entered = compare(rt, alloc, count, delays, seed, number, 700, 1_500)?;
+        entries = entries.saturating_add(entered);
+    }
+    Ok(entries)
+}
+
+/// Consoles with one delay for all.
+static EVEN: [(usize, u64); 10] = [
+    (1, 40),
+    (2, 1),
+    (2, 512),
+    (2, 1024),
+    (3, 1),
+    (3, 300),
+    (3, 1024),
+    (4, 1),
+    (4, 512),
+    (4, 1024),
+];
+
 #[test]
 fn a_thousand_schedules_come_to_one_cut(rt: HostRuntime) -> Result<(), Fail> {
     let mut entries = 0u64;
-    for (count, delay, seed) in [
-        (1, 40, 1),
-        (2, 1, 2),
-        (2, 512, 3),
-        (2, 1024, 4),
-        (3, 1, 5),
-        (3, 300, 6),
-        (3, 1024, 7),
-        (4, 1, 8),
-        (4, 512, 9),
-        (4, 1024, 10),
-    ] {
-        assert!(rt; 0 < count && count <= 4 && 0 < delay && delay <= 1024);
-        for schedule in 0..100 {
-            entries = entries.saturating_add(compare(
-                &rt,
-                rt.alloc(),
-                count,
-                delay,
-                seed,
-                next_random(schedule),
-                700,
-                1_500,
-            )?);
-        }
+    for &(count, delay) in &EVEN {
+        assert!(rt; 0 < delay && delay <= 1024);
+        let entered = compare_all(&rt, rt.alloc(), count, Delays::all(delay), delay, 100)?;
+        entries = entries.saturating_add(entered);
     }
     // the first step of each of the eighteen lanes whose delay is no shorter than that at which lanes are tried
     assert!(rt;
         entries >= 1_800,
+        "the gate is entered before the steps of lanes"
+    );
+    Ok(())
+}
+
+/// Consoles whose delays are drawn. The first three of them have a long way back where the way there is short: to the
+/// greater player, to the less one, and once round.
+static DRAWN: [(usize, u64); 5] = [
+    (2, 0x0010),
+    (4, 0x08ce),
+    (3, 0x0214),
+    (3, 0x0148),
+    (4, 0x5a3c),
+];
+
+#[test]
+fn schedules_of_drawn_delays_come_to_one_cut(rt: HostRuntime) -> Result<(), Fail> {
+    let mut entries = 0u64;
+    for &(count, number) in &DRAWN {
+        let entered = compare_all(&rt, rt.alloc(), count, drawn(number), number, 40)?;
+        entries = entries.saturating_add(entered);
+    }
+    // the first step of each of the nine lanes of the first three
+    assert!(rt;
+        entries >= 360,
         "the gate is entered before the steps of lanes"
     );
     Ok(())

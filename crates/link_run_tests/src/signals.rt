@@ -4,9 +4,9 @@ ghost use Rattle.std.specs.Prelude.{ℕ, ◌≡◌, ◌<◌, ◌≤◌};
 
 use gba_store::NoGate;
 use link_core::Cut;
-use link_node::Node;
+use link_node::{Delays, Node};
 use link_run::{Round, RoundRefused, run_to};
-use link_trial::{Beat, begin};
+use link_trial::{Beat, begin, drawn};
 use std::alloc::Global;
 use std::test::Fail;
 
@@ -31,7 +31,7 @@ const NEVER: u64 = 1 << 40;
 #[test]
 fn a_signal_that_nobody_took_stays_on_its_way(rt: HostRuntime) -> Result<(), Fail> {
     let nodes = vec![in rt.alloc(); beat(9, 590), beat(6, NEVER)]?;
-    let Ok(cut) = begin(rt.alloc(), nodes, 1024) else {
+    let Ok(cut) = begin(rt.alloc(), nodes, Delays::all(1024)) else {
         panic!(rt; "no memory");
     };
     let cut = run_to(&rt, rt.alloc(), cut, &NoGate, 600);
@@ -60,7 +60,7 @@ fn pass_by<N: Node>(alloc: Global, cut: Cut<N>) -> Cut<N> {
 #[test]
 fn a_round_that_does_nothing_changes_nothing(rt: HostRuntime) -> Result<(), Fail> {
     let nodes = vec![in rt.alloc(); beat(9, 590), beat(6, 588), beat(49, NEVER)]?;
-    let Ok(mut cut) = begin(rt.alloc(), nodes, 1024) else {
+    let Ok(mut cut) = begin(rt.alloc(), nodes, drawn(0x0fff)) else {
         panic!(rt; "no memory");
     };
     cut.run_serial(600);
@@ -70,6 +70,6 @@ fn a_round_that_does_nothing_changes_nothing(rt: HostRuntime) -> Result<(), Fail
     let cut = pass_by(rt.alloc(), cut);
     assert_eq!(rt; cut.nodes(), nodes.as_slice());
     assert_eq!(rt; cut.sent(), sent.as_slice());
-    assert_eq!(rt; cut.delay(), 1024);
+    assert_eq!(rt; *cut.delays(), drawn(0x0fff));
     Ok(())
 }

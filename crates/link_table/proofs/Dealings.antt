@@ -3,6 +3,7 @@ use Rattle.std.specs.Prelude.{List, [], ◌∷◌, ◌++◌, length, Some, slice
 use Rattle.std.proofs.Common.{ℕ, zero, suc, ◌≡◌, ◌+◌, ◌-◌, ◌<◌, ◌≤◌, ◌⊎◌, inl, inr, arith, refl, sym, ap, ◌∙◌, subst}
 use Rattle.std.proofs.lemmas.List.{length_push}
 use Rattle.atomic_table.specs.Seated.{TableId}
+use Rattle.link_node.specs.declared.delays.Delays.{Delays}
 use Rattle.link_order.specs.NodeKind.{NodeKind}
 use Rattle.link_rule.specs.Rule.{seat_of, opening_progress, first_of, others_of}
 use Rattle.link_table.specs.declared.key.Key.{Key}
@@ -13,10 +14,10 @@ use Rattle.link_table.proofs.Seats.{Mine, Place}
 
 -- what the loop keeps
 pub record IsDealing {N C : Type 0} (kind : NodeKind C) (plain : N → C) (whole place : Place N)
-    (players delay player : ℕ) (seats : List (SeatState (Key N))) : Type 0
+    (players : ℕ) (delays : Delays) (player : ℕ) (seats : List (SeatState (Key N))) : Type 0
   where
     pub key : Key N
-    pub common : IsCommon kind plain key players delay
+    pub common : IsCommon kind plain key players delays
     pub whole_is : IsUndealt kind plain key whole.me 0 players
     pub table_is : place.table_id ≡ whole.table_id
     pub undealt : IsUndealt kind plain key place.me (player - 1) (players - (player - 1))
@@ -74,11 +75,11 @@ dealt_more {N = N} kind plain key table players count seats seat h is = record {
 }
 
 -- the last seat, by what the loop kept
-pub last_seat : {N C : Type 0} (kind : NodeKind C) (plain : N → C) (whole place : Place N) (players delay player : ℕ)
-    (seats : List (SeatState (Key N))) (d : IsDealing kind plain whole place players delay player seats)
+pub last_seat : {N C : Type 0} (kind : NodeKind C) (plain : N → C) (whole place : Place N) (players : ℕ) (delays : Delays) (player : ℕ)
+    (seats : List (SeatState (Key N))) (d : IsDealing kind plain whole place players delays player seats)
     → players ≤ player
     → place.me ≡ (seat_of d.key (players - 1) (opening_progress (script_of kind plain d.key)), [])
-last_seat {N = N} kind plain whole place players delay player seats d past =
+last_seat {N = N} kind plain whole place players delays player seats d past =
     let some = d.some in
     let most = d.most in
     subst (λ (n : ℕ). place.me ≡ (seat_of d.key n (opening_progress (script_of kind plain d.key)), []))
@@ -101,12 +102,12 @@ taken_is kind plain key table other i players seat is same =
 
 -- the loop goes on
 pub dealing_on : {N C : Type 0} (kind : NodeKind C) (plain : N → C) (whole place split others : Place N)
-    (players delay player : ℕ) (seats : List (SeatState (Key N))) (seat : SeatState (Key N))
-    (d : IsDealing kind plain whole place players delay player seats) → player < players
+    (players : ℕ) (delays : Delays) (player : ℕ) (seats : List (SeatState (Key N))) (seat : SeatState (Key N))
+    (d : IsDealing kind plain whole place players delays player seats) → player < players
     → others.table_id ≡ place.table_id → others.me ≡ (others_of place.me.0, [])
     → seat ≡ opening_seat kind plain d.key whole.table_id (player - 1) players
-    → IsDealing kind plain whole others players delay (player + 1) (seats ++ seat ∷ [])
-dealing_on {N = N} kind plain whole place split others players delay player seats seat d less tables views seat_is =
+    → IsDealing kind plain whole others players delays (player + 1) (seats ++ seat ∷ [])
+dealing_on {N = N} kind plain whole place split others players delays player seats seat d less tables views seat_is =
     let some = d.some in
     let first : ℕ = player - 1 in
     let left : ℕ = players - player in

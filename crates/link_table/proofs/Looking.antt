@@ -86,9 +86,8 @@ looked_seat {N = N} kind plain peer clock count s place h other l =
       below = h.below;
       players_is = h.players_is;
       sound = h.sound;
-      delay_is = h.delay_is;
-      some_delay = h.some_delay;
-      short_delay = h.short_delay;
+      delays_are = h.delays_are;
+      within = h.within;
       placed = record {
         within = h.placed.within;
         counted = h.placed.counted;

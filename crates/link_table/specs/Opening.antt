@@ -1,6 +1,8 @@
 use Rattle.std.specs.Prelude.{ℕ, ◌≡◌, ◌<◌, ◌≤◌, ◌^◌, List, [], ◌∷◌, Some, length, map, slice_get, slice_index}
 use Rattle.atomic_table.specs.Seated.{TableId}
 use Rattle.atomic_table.specs.Table.{Me}
+use Rattle.link_node.specs.declared.delays.Delays.{Delays}
+use Rattle.link_node.specs.Delays.{AreDelays}
 use Rattle.link_order.specs.NodeKind.{NodeKind}
 use Rattle.link_order.specs.Cut.{Cut}
 use Rattle.link_script.specs.Script.{IsSoundScript}
@@ -45,12 +47,12 @@ pub record AreDealt {N C : Type 0} (kind : NodeKind C) (plain : N → C) (key : 
         → seat ≡ opening_seat kind plain key table i players
 
 -- what the seats of a table have in common
-pub record IsCommon {N C : Type 0} (kind : NodeKind C) (plain : N → C) (key : Key N) (players delay : ℕ) : Type 0 where
-  pub players_is : players ≡ (script_of kind plain key).players
-  pub sound : IsSoundScript (script_of kind plain key)
-  pub delay_is : delay ≡ key.cut.value.delay
-  pub some_delay : 0 < delay
-  pub short_delay : delay ≤ 1024
+pub record IsCommon {N C : Type 0} (kind : NodeKind C) (plain : N → C) (key : Key N) (players : ℕ) (delays : Delays) : Type 0
+  where
+    pub players_is : players ≡ (script_of kind plain key).players
+    pub sound : IsSoundScript (script_of kind plain key)
+    pub delays_are : delays ≡ key.cut.value.delays
+    pub within : AreDelays delays
 
 -- a place at the table that plays player `first` and all after it, none of whom has stepped
 pub record IsUndealt {N C : Type 0} (kind : NodeKind C) (plain : N → C) (key : Key N) (me : Me (Unit {0}) (View (Key N)))

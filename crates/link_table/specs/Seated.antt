@@ -1,5 +1,6 @@
-use Rattle.std.specs.Prelude.{ℕ, ◌≡◌, ◌<◌, ◌≤◌, List, [], ◌∷◌, length, slice_index, if◌then◌else◌}
+use Rattle.std.specs.Prelude.{ℕ, ◌≡◌, ◌<◌, List, [], ◌∷◌, length, slice_index, if◌then◌else◌}
 use Rattle.atomic_table.specs.Seated.{TableId}
+use Rattle.link_node.specs.Delays.{AreDelays}
 use Rattle.link_order.specs.NodeKind.{NodeKind}
 use Rattle.link_script.specs.Script.{IsSoundScript}
 use Rattle.link_rule.specs.declared.view.Progress.{Progress}
@@ -53,9 +54,8 @@ pub record IsSeat {N C : Type 0} (kind : NodeKind C) (plain : N → C) (s : Insi
   pub below : s.player < s.players
   pub players_is : s.players ≡ (script_of kind plain key).players
   pub sound : IsSoundScript (script_of kind plain key)
-  pub delay_is : s.delay ≡ key.cut.value.delay
-  pub some_delay : 0 < s.delay
-  pub short_delay : s.delay ≤ 1024
+  pub delays_are : s.delays ≡ key.cut.value.delays
+  pub within : AreDelays s.delays
   pub placed : IsPlaced (script_of kind plain key) s.player made
   pub sent_is : s.sent ≡ made.sent
   pub written_is : made.written ≡ (if s.written then 2 else 0)

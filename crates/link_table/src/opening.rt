@@ -14,7 +14,7 @@ use crate::shared::Shared;
 use atomic_table::Table;
 use gba_terms::NoMemory;
 use link_core::Cut;
-use link_node::Node;
+use link_node::{Delays, Node};
 use std::alloc::{AllocError, Global};
 use std::mem;
 use std::snapshot::Snapshot;
@@ -58,9 +58,9 @@ fn least_limit<N: Node>(nodes: &[N]) -> u64
 }
 
 /// One player's seat before its first step.
-fn take_seat<N: Node>(place: Place<N>, player: u32, players: u32, delay: u64) -> Seat<N>
+fn take_seat<N: Node>(place: Place<N>, player: u32, players: u32, delays: &Delays) -> Seat<N>
     requires below { player < players }
-    requires common { (key : Key N) × IsCommon (kind_of N.clock N.was N.next) N.plain key players delay
+    requires common { (key : Key N) × IsCommon (kind_of N.clock N.was N.next) N.plain key players delays.now
         × (place.me ≡ (seat_of key player (opening_progress (script_of (kind_of N.clock N.was N.next) N.plain key)), [])) }
     ensures { (key : Key N) →
         place.me ≡ (seat_of key player (opening_progress (script_of (kind_of N.clock N.was N.next) N.plain key)), []) →
@@ -70,7 +70,7 @@ fn take_seat<N: Node>(place: Place<N>, player: u32, players: u32, delay: u64) ->
         place,
         player,
         players,
-        delay,
+        delays: *delays,
         sent: 0,
         written: false,
         taken: [0; 4],
@@ -83,11 +83,11 @@ fn deal<N: Node>(
     alloc: Global,
     place: Place<N>,
     players: u32,
-    delay: u64,
+    delays: &Delays,
 ) -> Result<Vec<Seat<N>>, AllocError>
     requires table { place.table_id ≡ shared.now }
     requires some { 0 < players }
-    requires common { (key : Key N) × IsCommon (kind_of N.clock N.was N.next) N.plain key players delay
+    requires common { (key : Key N) × IsCommon (kind_of N.clock N.was N.next) N.plain key players delays.now
         × IsUndealt (kind_of N.clock N.was N.next) N.plain key place.me 0 players }
     ensures { (key : Key N) → IsUndealt (kind_of N.clock N.was N.next) N.plain key place.me 0 players →
         IfOk result (λ seats. AreDealt (kind_of N.clock N.was N.next) N.plain key place.table_id players players seats.items) }
@@ -97,9 +97,9 @@ fn deal<N: Node>(
     for player in 1..players {
         let others = shared.table.shared.split_seat::<OnePlayer>(&mut place);
         let first = mem::replace(&mut place, others);
-        seats.push(take_seat(first, player - 1, players, delay))?;
+        seats.push(take_seat(first, player - 1, players, delays))?;
     }
-    seats.push(take_seat(place, players - 1, players, delay))?;
+    seats.push(take_seat(place, players - 1, players, delays))?;
     Ok(seats)
 }
 
@@ -117,7 +117,7 @@ impl<N: Node> Shared<N> {
         };
         let (table, place) = Table::of_words(alloc, &words, &key)?;
         let shared = Shared { table };
-        let seats = deal(&shared, alloc, place, nodes.len() as u32, cut.delay())?;
+        let seats = deal(&shared, alloc, place, nodes.len() as u32, cut.delays())?;
         Ok((shared, seats))
     }
 }

@@ -8,8 +8,7 @@ ghost use Rattle.link_table.specs.Uniting.{IsPlaceOf};
 ghost use Rattle.link_table.specs.declared.key.Key.{Key};
 
 use crate::key::Key;
-use link_node::Node;
-use link_order::hop;
+use link_node::{Delays, Node};
 use link_rule::View;
 use std::marker::Model;
 
@@ -30,7 +29,7 @@ pub struct Seat<N: Node> {
     pub(crate) place: Place<N>,
     pub(crate) player: u32,
     pub(crate) players: u32,
-    pub(crate) delay: u64,
+    pub(crate) delays: Delays,
     pub(crate) sent: u64,
     pub(crate) written: bool,
     pub(crate) taken: [u64; 4],
@@ -74,7 +73,7 @@ impl<N: Node> Seat<N> {
         ensures some { 0 < result }
         ensures short { result ≤ 1024 }
     {
-        hop(self.delay, peer as usize, self.player as usize)
+        self.delays.hop(peer as usize, self.player as usize)
     }
 
     /// How many signals of a player were fetched.
@@ -93,7 +92,7 @@ impl<N: Node> Seat<N> {
             place,
             player: _,
             players: _,
-            delay: _,
+            delays: _,
             sent: _,
             written: _,
             taken: _,

@@ -3,6 +3,7 @@ use Rattle.std.specs.Prelude.{List, [], ◌∷◌, length, map, Some, slice_get,
 use Rattle.std.proofs.Common.{ℕ, zero, suc, get_or, ◌≡◌, ◌<◌, ◌≤◌, arith, refl, sym, ap, ◌∙◌, subst}
 use Rattle.std.proofs.lemmas.Option.{slice_get-map}
 use Rattle.atomic_table.specs.Seated.{TableId}
+use Rattle.link_node.specs.declared.delays.Delays.{Delays}
 use Rattle.link_order.specs.Cut.{Cut, plain_cut, opening, IsCable, IsSound}
 use Rattle.link_order.specs.GlobalOrder.{trace}
 use Rattle.link_laws.proofs.History.{trace_leads, moment_none}
@@ -67,22 +68,22 @@ pub record ArePair (first second : Ticker) (table : TableId) (own other : SeatSt
   pub own_player : own.player ≡ 0
   pub other_player : other.player ≡ 1
 
-pub are_pair : (cut : Cut Ticker) (first second : Ticker) (nodes : List Ticker) (delay : ℕ) (table : TableId)
-    (seats : List (SeatState (Key Ticker))) (own other : SeatState (Key Ticker)) → cut ≡ opening nodes delay
+pub are_pair : (cut : Cut Ticker) (first second : Ticker) (nodes : List Ticker) (delays : Delays) (table : TableId)
+    (seats : List (SeatState (Key Ticker))) (own other : SeatState (Key Ticker)) → cut ≡ opening nodes delays
     → nodes ≡ first ∷ second ∷ [] → IsCable (plain_cut ticked_plain cut) → IsSound ticked_kind (plain_cut ticked_plain cut)
     → Begins ticked_kind ticked_plain (λ (t : Ticker). t.limit) cut table seats → first.limit ≡ second.limit
     → own ≡ get_or seats 0 own → other ≡ get_or (remove seats 0) 0 other → ArePair first second table own other
-are_pair cut first second nodes delay table [] own other cut_is nodes_are cable sound b same own_is other_is =
+are_pair cut first second nodes delays table [] own other cut_is nodes_are cable sound b same own_is other_is =
     let consoles : cut.consoles ≡ first ∷ second ∷ [] = ap (λ (d : Cut Ticker). d.consoles) cut_is ∙ nodes_are in
     let count : 0 ≡ length cut.consoles = b.dealt.count_is in
     let two : length cut.consoles ≡ 2 = ap length consoles in
     absurd (omega arith)
-are_pair cut first second nodes delay table (x ∷ []) own other cut_is nodes_are cable sound b same own_is other_is =
+are_pair cut first second nodes delays table (x ∷ []) own other cut_is nodes_are cable sound b same own_is other_is =
     let consoles : cut.consoles ≡ first ∷ second ∷ [] = ap (λ (d : Cut Ticker). d.consoles) cut_is ∙ nodes_are in
     let count : 1 ≡ length cut.consoles = b.dealt.count_is in
     let two : length cut.consoles ≡ 2 = ap length consoles in
     absurd (omega arith)
-are_pair cut first second nodes delay table (x ∷ y ∷ rest) own other cut_is nodes_are cable sound b same own_is other_is =
+are_pair cut first second nodes delays table (x ∷ y ∷ rest) own other cut_is nodes_are cable sound b same own_is other_is =
     let key : Key Ticker = b.key in
     let consoles : cut.consoles ≡ first ∷ second ∷ [] = ap (λ (d : Cut Ticker). d.consoles) cut_is ∙ nodes_are in
     let theirs : key.cut.value.consoles ≡ first ∷ second ∷ [] = ap (λ (d : Cut Ticker). d.consoles) b.cut_is ∙ consoles in

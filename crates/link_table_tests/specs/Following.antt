@@ -18,7 +18,7 @@ abbrev pub ticked_kind : NodeKind Ticked
 ticked_kind = record { clock = λ r. r.clock; was = λ r. r.was; next = ticked_next }
 
 abbrev pub ticked_plain : Ticker → Ticked
-ticked_plain t = record { pace = t.pace; gap = t.gap; clock = t.clock; was = t.was }
+ticked_plain t = record { first = t.first; pace = t.pace; gap = t.gap; clock = t.clock; was = t.was }
 
 abbrev pub text_cut : Key Ticker → Cut Ticked
 text_cut key = plain_cut ticked_plain key.cut.value

@@ -6,9 +6,10 @@ use Rattle.link_node.specs.declared.signal.LinkMode.TheVariants.{Multi}
 use Rattle.link_node.specs.declared.signal.Signal.{Signal}
 use Rattle.link_node.specs.Due.{FitsWidths}
 
--- a node for tests that steps by itself
+-- a node for tests that steps by itself: a first step, then steps of one length
 
 pub record Ticked : Type 0 where
+  pub first : ℕ
   pub pace : ℕ
   pub gap : ℕ
   pub clock : ℕ
@@ -28,7 +29,13 @@ ticked_told r =
 -- whatever is due, the next step is the same
 abbrev pub ticked_next : Ticked → List Incoming → Ticked × Option Signal
 ticked_next r due = (
-  record { pace = r.pace; gap = r.gap; clock = r.clock + (1 + r.pace % 512); was = r.clock },
+  record {
+    first = r.first;
+    pace = r.pace;
+    gap = r.gap;
+    clock = r.clock + (1 + (if r.clock == 0 then r.first else r.pace) % 512);
+    was = r.clock;
+  },
   ticked_told r,
 )
 

@@ -2,9 +2,11 @@
 
 ghost use Rattle.std.specs.Prelude.{ℕ, ◌≡◌, ◌+◌, ◌<◌, ◌≤◌, IfOk, length};
 ghost use Rattle.std.specs.Vec.{vec_len};
+ghost use Rattle.link_node.specs.Delays.{AreDelays};
 
 use crate::console::Console;
 use crate::ticker::Ticker;
+use link_node::Delays;
 use link_table::Shared;
 use link_trial::begin;
 use std::alloc::Global;
@@ -17,18 +19,18 @@ pub fn two_consoles(
     alloc: Global,
     first: Ticker,
     second: Ticker,
-    delay: u64,
+    delays: Delays,
 ) -> Result<(Shared<Ticker>, Console, Console), Fail>
     requires fresh { (first.clock ≡ 0) × (first.was ≡ 0) × (second.clock ≡ 0) × (second.was ≡ 0) }
     requires limits { first.limit ≡ second.limit }
-    requires delay { (0 < delay) × (delay ≤ 1024) }
+    requires delays { AreDelays delays }
     ensures { IfOk result (λ made. (made.1.table ≡ made.0) × (made.2.table ≡ made.0)
         × (made.1.player ≡ 0) × (made.2.player ≡ 1)) }
 {
     let mut nodes = Vec::new(alloc);
     nodes.push(first)?;
     nodes.push(second)?;
-    let Ok(cut) = begin(alloc, nodes, delay) else {
+    let Ok(cut) = begin(alloc, nodes, delays) else {
         panic!(rt; "no memory");
     };
     let count = cut.nodes().len();

@@ -2,13 +2,14 @@
 
 ghost use Rattle.std.specs.Prelude.{ℕ, ◌≡◌, ◌+◌, ◌<◌, ◌≤◌, ◌^◌, IfOk, length, All};
 ghost use Rattle.std.specs.Vec.{vec_len};
+ghost use Rattle.link_node.specs.Delays.{AreDelays};
 
 use crate::console::Console;
 use crate::pair::two_consoles;
 use crate::ticker::Ticker;
-use link_node::{LinkMode, Signal, Start};
+use link_node::{Delays, LinkMode, Signal, Start};
 use link_table::{Joined, Look, Shared};
-use link_trial::begin;
+use link_trial::{begin, drawn};
 use std::alloc::Global;
 use std::process::Abort;
 use std::test::Fail;
@@ -19,6 +20,7 @@ fn ticker(pace: u64, gap: u64, limit: u64) -> Ticker
     ensures { (result.clock ≡ 0) × (result.was ≡ 0) × (result.limit ≡ limit) }
 {
     Ticker {
+        first: pace,
         pace,
         gap,
         clock: 0,
@@ -84,7 +86,13 @@ fn catch_up(
 fn a_peer_that_has_not_stepped_stands_at_its_opening_clock(rt: HostRuntime) -> Result<(), Fail> {
     let first = ticker(2, 8, 1_000);
     let second = ticker(2, 8, 1_000);
-    let (shared, mut own, mut other) = two_consoles(&rt, rt.alloc(), first, second, 16)?;
+    let (shared, mut own, mut other) = two_consoles(
+        &rt,
+        rt.alloc(),
+        first,
+        second,
+        Delays::all(16),
+    )?;
     let seen = own.look(&shared);
     let back = other.look(&shared);
     assert_eq!(rt; seen, Look { clock: 0, count: 0 });
@@ -96,7 +104,13 @@ fn a_peer_that_has_not_stepped_stands_at_its_opening_clock(rt: HostRuntime) -> R
 fn a_look_tells_steps_and_a_fetch_the_signal(rt: HostRuntime) -> Result<(), Fail> {
     let first = ticker(2, 8, 1_000);
     let second = ticker(2, 8, 1_000);
-    let (shared, mut own, mut other) = two_consoles(&rt, rt.alloc(), first, second, 16)?;
+    let (shared, mut own, mut other) = two_consoles(
+        &rt,
+        rt.alloc(),
+        first,
+        second,
+        Delays::all(16),
+    )?;
     let before = own.look(&shared);
     steps(&rt, &shared, &mut other, 3);
     let after = own.look(&shared);
@@ -113,7 +127,7 @@ fn a_look_tells_steps_and_a_fetch_the_signal(rt: HostRuntime) -> Result<(), Fail
 fn a_clock_is_seen_without_a_seat(rt: HostRuntime) -> Result<(), Fail> {
     let first = ticker(2, 8, 1_000);
     let second = ticker(2, 8, 1_000);
-    let (shared, own, mut other) = two_consoles(&rt, rt.alloc(), first, second, 16)?;
+    let (shared, own, mut other) = two_consoles(&rt, rt.alloc(), first, second, Delays::all(16))?;
     steps(&rt, &shared, &mut other, 3);
     assert_eq!(rt; shared.clock_of(0), Some(own.clock()));
     assert_eq!(rt; shared.clock_of(1), Some(9));
@@ -145,16 +159,57 @@ fn play(
     fetched
 }
 
+/// Two consoles at 20,000 signals of the first one, which come one in each cycle.
+fn fill_rings(rt: &impl Abort, alloc: Global, delays: Delays) -> Result<(), Fail>
+    requires { AreDelays delays }
+{
+    let first = ticker(0, 0, 20_000);
+    let second = ticker(2, 0, 20_000);
+    let (shared, mut own, mut other) = two_consoles(rt, alloc, first, second, delays)?;
+    let fetched = play(rt, &shared, &mut own, &mut other, 20_000, 3);
+    assert_eq!(rt; fetched, 20_000);
+    assert!(rt; own.clock() == 20_000 && other.clock() >= 20_000);
+    Ok(())
+}
+
 #[test]
 fn rings_are_used_again_after_4096_signals(rt: HostRuntime) -> Result<(), Fail> {
     for delay in [1, 16, 512, 1024] {
-        let first = ticker(0, 0, 20_000);
-        let second = ticker(2, 0, 20_000);
-        let (shared, mut own, mut other) = two_consoles(&rt, rt.alloc(), first, second, delay)?;
-        let fetched = play(&rt, &shared, &mut own, &mut other, 20_000, 3);
-        assert_eq!(rt; fetched, 20_000);
-        assert!(rt; own.clock() == 20_000 && other.clock() >= 20_000);
+        fill_rings(&rt, rt.alloc(), Delays::all(delay))?;
     }
+    // the second console hears the first one soon and is heard late, and the other way round
+    for number in [0x0010, 0x0002] {
+        fill_rings(&rt, rt.alloc(), drawn(number))?;
+    }
+    Ok(())
+}
+
+#[test]
+fn no_more_than_2559_signals_are_unread(rt: HostRuntime) -> Result<(), Fail> {
+    // the second node's steps begin at 0, 511 and 1,023, as far as it may go by the first one's clock 0. It stands at
+    // 1,535, so the first one, which sends in each cycle, goes to 2,559
+    let first = ticker(0, 0, 20_000);
+    let second = Ticker {
+        first: 510,
+        pace: 511,
+        gap: 20_000,
+        clock: 0,
+        was: 0,
+        limit: 20_000,
+    };
+    let (shared, mut own, mut other) = two_consoles(
+        &rt,
+        rt.alloc(),
+        first,
+        second,
+        Delays::all(1024),
+    )?;
+    advance(&shared, &mut other, 10);
+    assert_eq!(rt; other.clock(), 1535);
+    assert_eq!(rt; catch_up(&rt, &shared, &mut own, 0, 1), 1);
+    advance(&shared, &mut own, 10_000);
+    assert_eq!(rt; own.clock(), 2559);
+    assert_eq!(rt; catch_up(&rt, &shared, &mut other, 0, 1), 2559);
     Ok(())
 }
 
@@ -162,7 +217,13 @@ fn rings_are_used_again_after_4096_signals(rt: HostRuntime) -> Result<(), Fail> 
 fn counts_go_on_past_24_bits(rt: HostRuntime) -> Result<(), Fail> {
     let first = ticker(0, 0, (1 << 24) + 9_000);
     let second = ticker(511, 511, (1 << 24) + 9_000);
-    let (shared, mut own, mut other) = two_consoles(&rt, rt.alloc(), first, second, 1024)?;
+    let (shared, mut own, mut other) = two_consoles(
+        &rt,
+        rt.alloc(),
+        first,
+        second,
+        Delays::all(1024),
+    )?;
     let fetched = play(&rt, &shared, &mut own, &mut other, 40_000, 512);
     assert_eq!(rt; fetched, (1 << 24) + 9_000);
     Ok(())
@@ -212,7 +273,13 @@ fn rest_of(
 fn what_was_not_fetched_is_left_in_order(rt: HostRuntime) -> Result<(), Fail> {
     let first = ticker(0, 0, 1_000);
     let second = ticker(2, 0, 1_000);
-    let (shared, mut own, mut other) = two_consoles(&rt, rt.alloc(), first, second, 16)?;
+    let (shared, mut own, mut other) = two_consoles(
+        &rt,
+        rt.alloc(),
+        first,
+        second,
+        Delays::all(16),
+    )?;
     steps(&rt, &shared, &mut own, 5);
     let look = other.look(&shared);
     let none = other.fetch(&shared);
@@ -231,7 +298,7 @@ fn what_was_not_fetched_is_left_in_order(rt: HostRuntime) -> Result<(), Fail> {
 fn one_console_alone_meets_itself(rt: HostRuntime) -> Result<(), Fail> {
     let mut nodes = Vec::new(rt.alloc());
     nodes.push(ticker(2, 8, 1_000))?;
-    let Ok(cut) = begin(rt.alloc(), nodes, 16) else {
+    let Ok(cut) = begin(rt.alloc(), nodes, Delays::all(16)) else {
         panic!(rt; "no memory");
     };
     let Ok((shared, seats)) = Shared::begin(rt.alloc(), &cut) else {

@@ -4,10 +4,11 @@ ghost use Rattle.std.specs.Prelude.{ℕ, ◌≡◌, ◌+◌, ◌%◌, ◌<◌, �
 
 use link_node::{Incoming, LinkMode, Node, Signal, Start};
 
-/// Steps of `pace` cycles and one more. A step tells where its clock is a multiple of `gap` and one more; its signal
+/// A first step of `first` cycles and one more, then steps of `pace` cycles and one more. A step tells where its clock is a multiple of `gap` and one more; its signal
 /// bears the clock as a word.
 #[derive(Clone, Copy, Debug, PartialEq, Eq)]
 pub struct Ticker {
+    pub first: u64,
     pub pace: u64,
     pub gap: u64,
     pub clock: u64,
@@ -25,7 +26,13 @@ impl Node for Ticker {
 
     ghost Record = { Ticked };
 
-    ghost plain = { λ t. record { pace = t.pace; gap = t.gap; clock = t.clock; was = t.was } };
+    ghost plain = { λ t. record {
+      first = t.first;
+      pace = t.pace;
+      gap = t.gap;
+      clock = t.clock;
+      was = t.was;
+    } };
 
     ghost bound = { λ t. t.limit };
 
@@ -49,8 +56,9 @@ impl Node for Ticker {
 
     fn turn(&mut self, _due: &[Incoming]) -> Option<Signal> {
         let clock = self.clock;
+        let cycles = if clock == 0 { self.first } else { self.pace };
         self.was = clock;
-        self.clock = clock + (1 + self.pace % 512);
+        self.clock = clock + (1 + cycles % 512);
         if clock % (1 + self.gap) != 0 {
             return None;
         }

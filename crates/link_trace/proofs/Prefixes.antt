@@ -100,7 +100,7 @@ prefixes {C = C} kind law cut first until le cable sound =
     let all : trace kind cut until ≡ qs ++ ps = trace_parts kind law _ cut first until cable.some_console le in
     let ends = history_ends kind law first qs cut
     (trace_leads kind law cut first cable.some_console cable.some_delay sound) sound in
-    let there = cable_same e cut ends.count_is ends.delay_is cable in
+    let there = cable_same e cut ends.count_is ends.delays_are cable in
     let leads = trace_leads kind law e until there.some_console there.some_delay ends.sound in
     let same : (i k : ℕ) → k ≤ count_of i qs
     → Same (moment kind cut (trace kind cut until) i k) (moment kind cut qs i k) i

@@ -57,7 +57,7 @@ pub record StandsAt {C : Type 0} (kind : NodeKind C) (until i : ℕ) (start now 
     pub leads : Leads kind until now (i ∷ rest)
     pub sound : IsSound kind now
     pub count_is : count now ≡ count start
-    pub delay_is : now.delay ≡ start.delay
+    pub delays_are : now.delays ≡ start.delays
     pub next_is : next ≡ moment kind (step_of kind now i) rest i zero
     pub end_is : after_turns kind now (i ∷ rest) ≡ end
     pub move_is : move ≡ Some (move_of kind now i)
@@ -72,14 +72,14 @@ stands_move {C = C} kind until i start now now' next next' end end' move move' e
     (subst (λ (z : Option Move). StandsAt kind until i start now next end z) em h)))
 
 stands_from : {C : Type 0} (kind : NodeKind C) (until i : ℕ) (start other now next end : Cut C) (move : Option Move)
-    → count start ≡ count other → start.delay ≡ other.delay
+    → count start ≡ count other → start.delays ≡ other.delays
     → StandsAt kind until i start now next end move → StandsAt kind until i other now next end move
 stands_from kind until i start other now next end move counts delays h = record {
   rest = h.rest;
   leads = h.leads;
   sound = h.sound;
   count_is = h.count_is ∙ counts;
-  delay_is = h.delay_is ∙ delays;
+  delays_are = h.delays_are ∙ delays;
   next_is = h.next_is;
   end_is = h.end_is;
   move_is = h.move_is;
@@ -104,7 +104,7 @@ stands {C = C} kind law until (p ∷ ps) cut i zero leads sound below =
             leads = subst (λ (q : ℕ). Leads kind until cut (q ∷ ps)) e leads;
             sound = sound;
             count_is = refl;
-            delay_is = refl;
+            delays_are = refl;
             next_is = ap (λ (q : ℕ). moment kind (step_of kind cut q) ps i zero) e;
             end_is = ap (λ (q : ℕ). after_turns kind cut (q ∷ ps)) (sym e);
             move_is = refl;
@@ -119,7 +119,7 @@ stands {C = C} kind law until (p ∷ ps) cut i zero leads sound below =
           (sym (moment_other kind cut p ps i zero e)) (sym (moment_other kind cut p ps i (suc zero) e))
           (sym (after_one kind cut p ps))
           (ap (λ (l : List Move). slice_get l zero) (sym (moves_other kind cut p ps i e)))
-          (stands_from kind until i (step_of kind cut p) cut _ _ _ _ a.count_is a.delay_is
+          (stands_from kind until i (step_of kind cut p) cut _ _ _ _ a.count_is a.delays_are
           (stands kind law until ps (step_of kind cut p) i zero leads.3 a.sound (omega arith)))
     ]
 stands {C = C} kind law until (p ∷ ps) cut i (suc k) leads sound below =
@@ -134,7 +134,7 @@ stands {C = C} kind law until (p ∷ ps) cut i (suc k) leads sound below =
           (sym (moment_own kind cut p ps i k e)) (sym (moment_own kind cut p ps i (suc k) e))
           (sym (after_one kind cut p ps))
           (ap (λ (l : List Move). slice_get l (suc k)) (sym (moves_own kind cut p ps i e)))
-          (stands_from kind until i (step_of kind cut p) cut _ _ _ _ a.count_is a.delay_is
+          (stands_from kind until i (step_of kind cut p) cut _ _ _ _ a.count_is a.delays_are
           (stands kind law until ps (step_of kind cut p) i k leads.3 a.sound (omega arith)))
       | inr e ↦
           let c = count_other i p ps e in
@@ -147,7 +147,7 @@ stands {C = C} kind law until (p ∷ ps) cut i (suc k) leads sound below =
           (sym (moment_other kind cut p ps i (suc k) e)) (sym (moment_other kind cut p ps i (suc (suc k)) e))
           (sym (after_one kind cut p ps))
           (ap (λ (l : List Move). slice_get l (suc k)) (sym (moves_other kind cut p ps i e)))
-          (stands_from kind until i (step_of kind cut p) cut _ _ _ _ a.count_is a.delay_is
+          (stands_from kind until i (step_of kind cut p) cut _ _ _ _ a.count_is a.delays_are
           (stands kind law until ps (step_of kind cut p) i (suc k) leads.3 a.sound (omega arith)))
     ]
 
@@ -308,7 +308,7 @@ turns {C = C} kind law cut until i k x known base cable sound knows =
     = sym (due_of_history kind m (after_turns kind m (i ∷ at.rest)) i x clock_is was_is
     (λ j below apart. later_sent kind law until (i ∷ at.rest) m j at.leads at.sound) at.leads.2)
     ∙ ap (λ (d : Cut C). due (hop m) (λ j. from j d.sent) i (kind.was x) (kind.clock x) (count m)) at.end_is
-    ∙ ap (λ (h : ℕ → ℕ → ℕ). due h all i (kind.was x) (kind.clock x) (count m)) (hop_same m cut at.delay_is)
+    ∙ ap (λ (h : ℕ → ℕ → ℕ). due h all i (kind.was x) (kind.clock x) (count m)) (hop_same m cut at.delays_are)
     ∙ ap (due (hop cut) all i (kind.was x) (kind.clock x)) at.count_is in
     record {
       goes = less;

@@ -1,15 +1,16 @@
 //! Random interleavings of looks and steps, from cuts with clocks apart and signals on their way, each console compared
 //! with the one that `Cut` has in the global order after as many of its steps.
 
-ghost use Rattle.std.specs.Prelude.{ℕ, ◌≡◌, ◌<◌, ◌≤◌, ◌^◌, map, All, IfOk};
+ghost use Rattle.std.specs.Prelude.{ℕ, ◌≡◌, ◌<◌, ◌≤◌, ◌^◌, length, map, All, IfOk};
 ghost use Rattle.std.specs.Vec.{vec_len};
+ghost use Rattle.link_node.specs.Delays.{AreDelays};
 ghost use Rattle.link_node.specs.Due.{IsDue, InOrder};
 
 use crate::plain::LIMIT;
 use crate::tests::{is_live, step_once};
-use crate::{Mixer, begin, may_take, mixers};
+use crate::{Mixer, begin, drawn, may_take, mixers};
 use link_core::{Cut, Seen, Sent, Shell, may_step};
-use link_node::{Incoming, Node, Signal};
+use link_node::{Delays, Incoming, Node, Signal};
 use std::alloc::Global;
 use std::process::Abort;
 use std::test::Fail;
@@ -63,16 +64,17 @@ fn due_of(
     alloc: Global,
     all: &[Console],
     i: usize,
-    delay: u64,
+    delays: &Delays,
 ) -> Result<Vec<Incoming>, Fail> {
     let mut due = Vec::new(alloc);
-    assert!(rt; i < all.len() && all.len() <= 4 && delay <= 1024);
+    assert!(rt; i < all.len() && all.len() <= 4);
     let me = &all[i];
     for j in 0..all.len() {
-        assert!(rt; j < me.got.len());
+        let between = delays.rows[j][i];
+        assert!(rt; j < me.got.len() && between <= 1024);
         for signal in all[j].sent.iter().take(me.got[j]) {
             assert!(rt; signal.clock < 1 << 40);
-            let arrival = signal.clock + delay;
+            let arrival = signal.clock + between;
             if j != i && me.node.was < arrival && arrival <= me.node.clock {
                 due.push(Incoming {
                     sender: j as u32,
@@ -86,18 +88,30 @@ fn due_of(
     Ok(due)
 }
 
-/// The clocks that console i has seen of its peers.
-fn peers(rt: &impl Abort, alloc: Global, seen: &[Seen], i: usize) -> Result<Vec<Seen>, Fail>
-    ensures { IfOk result (λ others. All (λ peer. peer.clock < 2 ^ 40) others.items) }
+/// The clocks that console i has seen of its peers, and the delays from them.
+fn peers(
+    rt: &impl Abort,
+    alloc: Global,
+    seen: &[Seen],
+    delays: &Delays,
+    i: usize,
+) -> Result<(Vec<Seen>, Vec<u64>), Fail>
+    ensures clocks { IfOk result (λ others. All (λ peer. peer.clock < 2 ^ 40) others.0.items) }
+    ensures short { IfOk result (λ others. All (λ delay. delay ≤ 1024) others.1.items) }
+    ensures many { IfOk result (λ others. length others.1.items ≡ length others.0.items) }
 {
     let mut others = Vec::new(alloc);
+    let mut hops = Vec::new(alloc);
     for (j, one) in seen.iter().enumerate() {
-        assert!(rt; one.clock < 1 << 40);
+        assert!(rt; j < 4 && i < 4);
+        let between = delays.rows[j][i];
+        assert!(rt; one.clock < 1 << 40 && between <= 1024);
         if j != i {
             others.push(*one)?;
+            hops.push(between)?;
         }
     }
-    Ok(others)
+    Ok((others, hops))
 }
 
 /// Console i looks at console j.
@@ -124,15 +138,15 @@ fn step(
     alloc: Global,
     all: &mut [Console],
     i: usize,
-    delay: u64,
+    delays: &Delays,
     until: u64,
 ) -> Result<bool, Fail> {
-    assert!(rt; i < all.len() && delay <= 1024);
-    let others = peers(rt, alloc, &all[i].seen, i)?;
-    if !may_step(all[i].node.clock, until, &others, delay) {
+    assert!(rt; i < all.len());
+    let (others, hops) = peers(rt, alloc, &all[i].seen, delays, i)?;
+    if !may_step(all[i].node.clock, until, &others, &hops) {
         return Ok(false);
     }
-    let due = due_of(rt, alloc, all, i, delay)?;
+    let due = due_of(rt, alloc, all, i, delays)?;
     let me = &mut all[i];
     if let Some(signal) = turn(rt, &mut me.node, &due) {
         me.sent.push(signal)?;
@@ -155,7 +169,7 @@ fn next_random(number: u64) -> u64 {
 struct Play {
     nodes: Vec<Mixer>,
     sent: Vec<Sent>,
-    delay: u64,
+    delays: Delays,
     until: u64,
     steps: Vec<(usize, Mixer)>,
     last: Vec<Mixer>,
@@ -168,14 +182,17 @@ fn make_play(
     rt: &impl Abort,
     alloc: Global,
     count: usize,
-    delay: u64,
+    delays: Delays,
+    seed: u64,
     first: u64,
     until: u64,
-) -> Result<Play, Fail> {
-    assert!(rt; 0 < count && count <= 4 && 0 < delay && delay <= 1024);
+) -> Result<Play, Fail>
+    requires { AreDelays delays }
+{
+    assert!(rt; 0 < count && count <= 4);
     assert!(rt; first <= LIMIT && until <= LIMIT);
-    let nodes = mixers(alloc, count, delay, LIMIT)?;
-    let Ok(mut cut) = begin(alloc, nodes, delay) else {
+    let nodes = mixers(alloc, count, seed, LIMIT)?;
+    let Ok(mut cut) = begin(alloc, nodes, delays) else {
         panic!(rt; "no memory");
     };
     cut.run_serial(first);
@@ -194,7 +211,7 @@ fn make_play(
     Ok(Play {
         nodes,
         sent,
-        delay,
+        delays,
         until,
         steps,
         last,
@@ -223,7 +240,7 @@ fn play_some(
         let j = ((number >> 40) % count) as usize;
         if (number >> 50) % 2 == 0 {
             look(rt, all, i, j);
-        } else if step(rt, alloc, all, i, play.delay, play.until)? {
+        } else if step(rt, alloc, all, i, &play.delays, play.until)? {
             assert!(rt; i < all.len() && all[i].steps > 0);
             let wanted = play
                 .steps
@@ -237,42 +254,86 @@ fn play_some(
     Ok(made)
 }
 
+/// What the plays of one cable have come to: steps, plays that begin with clocks apart, and signals that are on their way
+/// when a play begins.
+#[derive(Drop)]
+struct Tally {
+    made: u64,
+    apart: u64,
+    flying: u64,
+}
+
+/// Plays of so many mixers on one cable, from two beginnings.
+fn play_all(
+    rt: &impl Abort,
+    alloc: Global,
+    count: usize,
+    delays: Delays,
+    seed: u64,
+    tally: &mut Tally,
+) -> Result<(), Fail>
+    requires { AreDelays delays }
+{
+    for first in [0, 777] {
+        let play = make_play(rt, alloc, count, delays, seed, first, 3_000)?;
+        for seed in 0..60 {
+            let mut all = consoles(alloc, &play.nodes, &play.sent)?;
+            let made = play_some(rt, alloc, &play, &mut all, seed, 400)?;
+            tally.made = tally.made.saturating_add(made);
+        }
+        let clock = play.nodes.first().map_or(0, |node| node.clock);
+        if play.nodes.iter().any(|node| node.clock != clock) {
+            tally.apart = tally.apart.saturating_add(1);
+        }
+        tally.flying = tally.flying.saturating_add(play.sent.len() as u64);
+    }
+    Ok(())
+}
+
 #[test]
 fn random_interleavings_are_the_global_order(rt: HostRuntime) -> Result<(), Fail> {
-    let mut made = 0u64;
-    let mut apart = 0u64;
-    let mut flying = 0u64;
+    let mut tally = Tally {
+        made: 0,
+        apart: 0,
+        flying: 0,
+    };
     for count in 1..5 {
         for delay in [1, 16, 512, 1024] {
-            for first in [0, 777] {
-                let play = make_play(&rt, rt.alloc(), count, delay, first, 3_000)?;
-                for seed in 0..75 {
-                    let mut all = consoles(rt.alloc(), &play.nodes, &play.sent)?;
-                    made = made.saturating_add(play_some(
-                        &rt,
-                        rt.alloc(),
-                        &play,
-                        &mut all,
-                        seed,
-                        400,
-                    )?);
-                }
-                let clock = play.nodes.first().map_or(0, |node| node.clock);
-                if play.nodes.iter().any(|node| node.clock != clock) {
-                    apart = apart.saturating_add(1);
-                }
-                flying = flying.saturating_add(play.sent.len() as u64);
-            }
+            play_all(
+                &rt,
+                rt.alloc(),
+                count,
+                Delays::all(delay),
+                delay,
+                &mut tally,
+            )?;
+        }
+        let mut number = count as u64;
+        for _ in 0..5 {
+            number = next_random(number);
+            play_all(
+                &rt,
+                rt.alloc(),
+                count,
+                drawn(number >> 40),
+                number,
+                &mut tally,
+            )?;
         }
     }
-    assert!(rt; made > 20_000);
-    assert!(rt; apart > 8, "many begin with clocks apart");
-    assert!(rt; flying > 20, "many begin with signals on their way");
+    assert!(rt; tally.made > 40_000);
+    assert!(rt; tally.apart > 16, "many begin with clocks apart");
+    assert!(rt; tally.flying > 40, "many begin with signals on their way");
     Ok(())
 }
 
 /// The signals that some console can still take, player by player.
-fn live_of(rt: &impl Abort, alloc: Global, all: &[Console], delay: u64) -> Result<Vec<Sent>, Fail> {
+fn live_of(
+    rt: &impl Abort,
+    alloc: Global,
+    all: &[Console],
+    delays: &Delays,
+) -> Result<Vec<Sent>, Fail> {
     let mut nodes = Vec::new(alloc);
     for console in all {
         nodes.push(console.node)?;
@@ -285,7 +346,7 @@ fn live_of(rt: &impl Abort, alloc: Global, all: &[Console], delay: u64) -> Resul
                 sender: player as u32,
                 signal: *signal,
             };
-            if is_live(rt, &nodes, &one, delay) {
+            if is_live(rt, &nodes, &one, delays) {
                 live.push(one)?;
             }
         }
@@ -302,22 +363,45 @@ fn refill(rt: &impl Abort, shell: &mut Shell, signals: &[Sent]) {
     }
 }
 
+/// A play of many actions comes to the end, and its consoles and signals are the cut that the global order makes. It
+/// answers how many signals are on their way there.
+fn play_to_the_end(
+    rt: &impl Abort,
+    alloc: Global,
+    count: usize,
+    delays: Delays,
+    seed: u64,
+) -> Result<u64, Fail>
+    requires { AreDelays delays }
+{
+    let mut play = make_play(rt, alloc, count, delays, seed, 777, 3_000)?;
+    let mut all = consoles(alloc, &play.nodes, &play.sent)?;
+    let made = play_some(rt, alloc, &play, &mut all, 5, 6_000)?;
+    assert_eq!(rt; made, play.steps.len() as u64);
+    for (console, node) in all.iter().zip(play.last.iter()) {
+        assert_eq!(rt; console.node, *node);
+    }
+    let live = live_of(rt, alloc, &all, &delays)?;
+    refill(rt, &mut play.shell, &live);
+    assert_eq!(rt; play.shell.sent(), play.left.as_slice());
+    Ok(play.left.len() as u64)
+}
+
 #[test]
 fn consoles_at_the_end_are_put_together_again(rt: HostRuntime) -> Result<(), Fail> {
     let mut left = 0u64;
     for (count, delay) in [(1, 40), (2, 512), (3, 1024), (4, 1000)] {
-        let mut play = make_play(&rt, rt.alloc(), count, delay, 777, 3_000)?;
-        let mut all = consoles(rt.alloc(), &play.nodes, &play.sent)?;
-        let made = play_some(&rt, rt.alloc(), &play, &mut all, 5, 4_000)?;
-        assert_eq!(rt; made, play.steps.len() as u64);
-        for (console, node) in all.iter().zip(play.last.iter()) {
-            assert_eq!(rt; console.node, *node);
-        }
-        let live = live_of(&rt, rt.alloc(), &all, delay)?;
-        refill(&rt, &mut play.shell, &live);
-        assert_eq!(rt; play.shell.sent(), play.left.as_slice());
-        left = left.saturating_add(play.left.len() as u64);
+        left = left.saturating_add(play_to_the_end(
+            &rt,
+            rt.alloc(),
+            count,
+            Delays::all(delay),
+            delay,
+        )?);
     }
-    assert!(rt; left > 4, "some signals are on their way at the end");
+    for (count, number) in [(2, 0x0012), (2, 0x0002), (3, 0x0148), (4, 0x5a3c)] {
+        left = left.saturating_add(play_to_the_end(&rt, rt.alloc(), count, drawn(number), number)?);
+    }
+    assert!(rt; left > 8, "some signals are on their way at the end");
     Ok(())
 }

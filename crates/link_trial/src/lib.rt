@@ -9,7 +9,7 @@ mod start;
 pub use beat::Beat;
 pub use checks::may_take;
 pub use mixer::{Mixer, cycles, mix_of, signal_of};
-pub use start::{begin, mixers};
+pub use start::{begin, drawn, mixers};
 
 #[cfg(test)]
 mod interleavings;

@@ -2,7 +2,7 @@
 
 use crate::{Mixer, cycles, mix_of, signal_of};
 use link_core::Sent;
-use link_node::Incoming;
+use link_node::{Delays, Incoming};
 use std::alloc::Global;
 use std::process::Abort;
 use std::test::Fail;
@@ -17,12 +17,14 @@ fn plain_due(
     sent: &[Sent],
     player: u32,
     node: &Mixer,
-    delay: u64,
+    delays: &Delays,
 ) -> Result<Vec<Incoming>, Fail> {
     let mut due = Vec::new(alloc);
     for one in sent {
-        assert!(rt; one.signal.clock < 1 << 40 && delay <= 1024);
-        let arrival = one.signal.clock + delay;
+        assert!(rt; one.sender < 4 && player < 4);
+        let between = delays.rows[one.sender as usize][player as usize];
+        assert!(rt; one.signal.clock < 1 << 40 && between <= 1024);
+        let arrival = one.signal.clock + between;
         if one.sender != player && node.was < arrival && arrival <= node.clock {
             due.push(Incoming {
                 sender: one.sender,
@@ -60,7 +62,7 @@ pub fn plain_run(
     rt: &impl Abort,
     alloc: Global,
     nodes: &mut Vec<Mixer>,
-    delay: u64,
+    delays: &Delays,
     until: u64,
 ) -> Result<Plain, Fail> {
     let mut sent = Vec::new(alloc);
@@ -77,7 +79,7 @@ pub fn plain_run(
         if clock >= until {
             return Ok(Plain { sent, steps });
         }
-        let due = plain_due(rt, alloc, &sent, least as u32, &nodes[least], delay)?;
+        let due = plain_due(rt, alloc, &sent, least as u32, &nodes[least], delays)?;
         let state = mix_of(state, &due);
         if let Some(signal) = signal_of(state, clock) {
             sent.push(Sent {

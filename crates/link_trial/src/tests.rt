@@ -2,19 +2,28 @@
 
 ghost use Rattle.std.specs.Prelude.{◌≡◌, ◌<◌, ◌≤◌, ◌^◌, All, IfOk};
 ghost use Rattle.std.specs.Vec.{vec_len};
+ghost use Rattle.link_node.specs.Delays.{AreDelays};
 
 use crate::plain::{LIMIT, plain_run};
-use crate::{Beat, Mixer, begin, mixers};
+use crate::{Beat, Mixer, begin, drawn, mixers};
 use link_core::{Cut, Seen, Sent, laws, may_step};
+use link_node::Delays;
 use std::alloc::Global;
 use std::process::Abort;
 use std::test::Fail;
 
+/// The clock at which a signal arrives at a player.
+pub fn arrival(rt: &impl Abort, one: &Sent, player: usize, delays: &Delays) -> u64 {
+    assert!(rt; one.sender < 4 && player < 4);
+    let between = delays.rows[one.sender as usize][player];
+    assert!(rt; one.signal.clock < 1 << 40 && between <= 1024);
+    one.signal.clock + between
+}
+
 /// Whether some node but its sender can still take a signal.
-pub fn is_live(rt: &impl Abort, nodes: &[Mixer], one: &Sent, delay: u64) -> bool {
-    assert!(rt; one.signal.clock < 1 << 40 && delay <= 1024);
+pub fn is_live(rt: &impl Abort, nodes: &[Mixer], one: &Sent, delays: &Delays) -> bool {
     nodes.iter().enumerate().any(|(i, node)| i as u64 != u64::from(one.sender)
-        && node.was < one.signal.clock + delay)
+        && node.was < arrival(rt, one, i, delays))
 }
 
 /// A run in two parts.
@@ -26,29 +35,49 @@ fn run_parts(cut: &mut Cut<Mixer>, first: u64, until: u64)
     cut.run_serial(until);
 }
 
+/// A run of so many mixers, in two parts, beside that of the plain program. It answers how many signals are on their way
+/// at its end.
+fn compare(
+    rt: &impl Abort,
+    alloc: Global,
+    count: usize,
+    delays: Delays,
+    seed: u64,
+) -> Result<u64, Fail>
+    requires count { (0 < count) × (count ≤ 4) }
+    requires delays { AreDelays delays }
+{
+    let mut plain = mixers(alloc, count, seed, LIMIT)?;
+    let all = plain_run(rt, alloc, &mut plain, &delays, 20_000)?;
+    let nodes = mixers(alloc, count, seed, LIMIT)?;
+    let Ok(mut cut) = begin(alloc, nodes, delays) else {
+        panic!(rt; "no memory");
+    };
+    run_parts(&mut cut, 9_000, 20_000);
+    assert_eq!(rt; cut.nodes(), plain.as_slice());
+    assert_eq!(rt; *cut.delays(), delays);
+    let mut live = Vec::new(alloc);
+    for one in &all.sent {
+        if is_live(rt, &plain, one, &delays) {
+            live.push(*one)?;
+        }
+    }
+    assert_eq!(rt; cut.sent(), live.as_slice());
+    let _ = cut.into_nodes();
+    Ok(live.len() as u64)
+}
+
 #[test]
 fn runs_are_those_of_the_plain_program(rt: HostRuntime) -> Result<(), Fail> {
     let mut told_at_all = 0u64;
     for count in 1..5 {
         for (delay, seed) in [(1, 7), (16, 8), (512, 9), (1024, 10)] {
-            let mut plain = mixers(rt.alloc(), count, seed, LIMIT)?;
-            let all = plain_run(&rt, rt.alloc(), &mut plain, delay, 20_000)?;
-            let nodes = mixers(rt.alloc(), count, seed, LIMIT)?;
-            let Ok(mut cut) = begin(rt.alloc(), nodes, delay) else {
-                panic!(&rt; "no memory");
-            };
-            run_parts(&mut cut, 9_000, 20_000);
-            assert_eq!(rt; cut.nodes(), plain.as_slice());
-            assert_eq!(rt; cut.delay(), delay);
-            let mut live = Vec::new(rt.alloc());
-            for one in &all.sent {
-                if is_live(&rt, &plain, one, delay) {
-                    live.push(*one)?;
-                }
-            }
-            assert_eq!(rt; cut.sent(), live.as_slice());
-            told_at_all = told_at_all.saturating_add(live.len() as u64);
-            let _ = cut.into_nodes();
+            let live = compare(&rt, rt.alloc(), count, Delays::all(delay), seed)?;
+            told_at_all = told_at_all.saturating_add(live);
+        }
+        for number in [0x0012, 0x4821, 0x5a3c, 0xfed7] {
+            let live = compare(&rt, rt.alloc(), count, drawn(number), number)?;
+            told_at_all = told_at_all.saturating_add(live);
         }
     }
     assert!(rt;
@@ -56,6 +85,17 @@ fn runs_are_those_of_the_plain_program(rt: HostRuntime) -> Result<(), Fail> {
         "some signals are on their way at the end"
     );
     Ok(())
+}
+
+#[test]
+fn drawn_delays_are_those_of_their_bits(rt: HostRuntime) {
+    // 0 to 1 is bit 1, 1 to 0 is bit 4, 2 to 3 is bit 11
+    let delays = drawn(0x0812);
+    assert_eq!(rt; (delays.hop(0, 1), delays.hop(1, 0)), (1024, 1024));
+    assert_eq!(rt; (delays.hop(2, 3), delays.hop(3, 2)), (1024, 1));
+    assert_eq!(rt; (delays.hop(4, 0), delays.hop(0, 4)), (0, 0));
+    assert_eq!(rt; delays.with(3, 2, 7).rows[3], [1, 1, 7, 1]);
+    assert_eq!(rt; delays.with(4, 2, 7), delays);
 }
 
 /// A node that tells once, and one that listens.
@@ -89,7 +129,7 @@ fn a_signal_is_taken_at_its_arrival_and_not_before(rt: HostRuntime) -> Result<()
     // sent at 100, so it arrives at 1,124: steps at 0, 281, 562, 843, 1,124, and at 0, 280, 561, 842, 1,123, 1,404
     for (first, heard) in [(280, 1124), (279, 1404)] {
         let nodes = beats(rt.alloc(), first)?;
-        let Ok(mut cut) = begin(rt.alloc(), nodes, 1024) else {
+        let Ok(mut cut) = begin(rt.alloc(), nodes, Delays::all(1024)) else {
             panic!(&rt; "no memory");
         };
         cut.run_serial(1500);
@@ -104,12 +144,52 @@ fn a_signal_is_taken_at_its_arrival_and_not_before(rt: HostRuntime) -> Result<()
 #[test]
 fn a_step_is_allowed_below_each_seen_clock_and_the_delay(rt: HostRuntime) {
     // two consoles that have seen clock 0, and what they may do at delay 1 until 10
-    assert!(rt; may_step(0, 10, &[Seen { clock: 0 }], 1));
-    assert!(rt; !may_step(1, 10, &[Seen { clock: 0 }], 1));
-    assert!(rt; may_step(1, 10, &[Seen { clock: 1 }], 1));
-    assert!(rt; !may_step(10, 10, &[Seen { clock: 1000 }, Seen { clock: 1000 }], 1));
-    assert!(rt; !may_step(5, 10, &[Seen { clock: 9 }, Seen { clock: 4 }], 1));
-    assert!(rt; may_step(9, 10, &[], 1));
+    assert!(rt; may_step(0, 10, &[Seen { clock: 0 }], &[1]));
+    assert!(rt; !may_step(1, 10, &[Seen { clock: 0 }], &[1]));
+    assert!(rt; may_step(1, 10, &[Seen { clock: 1 }], &[1]));
+    assert!(rt;
+        !may_step(
+            10,
+            10,
+            &[Seen { clock: 1000 }, Seen { clock: 1000 }],
+            &[1, 1]
+        )
+    );
+    assert!(rt; !may_step(5, 10, &[Seen { clock: 9 }, Seen { clock: 4 }], &[1, 1]));
+    assert!(rt; may_step(9, 10, &[], &[]));
+    // each clock goes with the delay in its own place
+    assert!(rt;
+        may_step(
+            1023,
+            4000,
+            &[Seen { clock: 0 }, Seen { clock: 1023 }],
+            &[1024, 1]
+        )
+    );
+    assert!(rt;
+        !may_step(
+            1023,
+            4000,
+            &[Seen { clock: 0 }, Seen { clock: 1023 }],
+            &[1, 1024]
+        )
+    );
+    assert!(rt;
+        !may_step(
+            1024,
+            4000,
+            &[Seen { clock: 0 }, Seen { clock: 1024 }],
+            &[1024, 1]
+        )
+    );
+    assert!(rt;
+        !may_step(
+            1024,
+            4000,
+            &[Seen { clock: 1 }, Seen { clock: 1023 }],
+            &[1024, 1]
+        )
+    );
 }
 
 /// A cut that is taken apart and put together again is as it was.
@@ -139,7 +219,7 @@ fn the_laws_hold_of_a_mixer() {
 #[test]
 fn a_cut_is_parted_and_joined(rt: HostRuntime) -> Result<(), Fail> {
     let nodes = mixers(rt.alloc(), 3, 11, LIMIT)?;
-    let Ok(mut cut) = begin(rt.alloc(), nodes, 512) else {
+    let Ok(mut cut) = begin(rt.alloc(), nodes, drawn(0x1234)) else {
         panic!(&rt; "no memory");
     };
     cut.run_serial(5_000);
@@ -156,7 +236,7 @@ fn a_cut_is_parted_and_joined(rt: HostRuntime) -> Result<(), Fail> {
     assert_eq!(rt; cut.nodes().len(), 3);
     let (nodes, mut shell) = cut.part();
     assert_eq!(rt; nodes.len(), 3);
-    assert_eq!(rt; shell.delay(), 512);
+    assert_eq!(rt; *shell.delays(), drawn(0x1234));
     assert_eq!(rt; shell.sent(), sent.as_slice());
     shell.clear();
     assert_eq!(rt; shell.sent().len(), 0);
@@ -185,10 +265,10 @@ pub fn step_once(rt: &impl Abort, cut: &mut Cut<Mixer>) -> (usize, Mixer) {
 #[test]
 fn steps_are_those_of_the_plain_program(rt: HostRuntime) -> Result<(), Fail> {
     let mut plain = mixers(rt.alloc(), 3, 5, LIMIT)?;
-    let all = plain_run(&rt, rt.alloc(), &mut plain, 100, 5_000)?;
+    let all = plain_run(&rt, rt.alloc(), &mut plain, &drawn(0x1a35), 5_000)?;
     assert!(rt; all.steps.len() > 60);
     let nodes = mixers(rt.alloc(), 3, 5, LIMIT)?;
-    let Ok(mut cut) = begin(rt.alloc(), nodes, 100) else {
+    let Ok(mut cut) = begin(rt.alloc(), nodes, drawn(0x1a35)) else {
         panic!(&rt; "no memory");
     };
     for wanted in &all.steps {

@@ -1,8 +1,7 @@
-use Rattle.std.proofs.Common.{◌-◌, ◌≤◌, ap, subst, sym, arith}
+use Rattle.std.proofs.Common.{◌-◌, ◌≤◌, subst, sym, arith}
 use Rattle.std.specs.Prelude.{All}
 use Rattle.gba_io.specs.declared.board.Board.{Board}
 use Rattle.gba_console.specs.Fixed.{Stands}
-use Rattle.gba_console.specs.Machine.{Machine, without_limit}
 use Rattle.gba_console.specs.Waiting.{IsSound}
 use Rattle.gba_console.proofs.Passing.{count-few, forgotten-sound}
 use Rattle.gba_console.proofs.Console.forget.Goals as goal

@@ -1,6 +1,6 @@
 use Rattle.std.proofs.Common.{ℕ, ◌≡◌, arith, ap, inl, inr}
 use Rattle.std.specs.Prelude.{map, slice_index}
-use Rattle.link_order.specs.Cut.{hop_of}
+use Rattle.link_node.specs.Delays.{hop_of}
 use Rattle.link_order.proofs.Numbers.{same_or_apart}
 use Rattle.link_core.proofs.burst.horizon_of.Goals as goal
 use Rattle.link_core.proofs.burst.horizon_of.Goals.{then-j-i, else-j-i}
@@ -18,8 +18,8 @@ loop-j-preserved g c =
                 elim (same_or_apart j c.loop-j.j) [
                   | inl same ↦
                       let e : clock j ≡ clock c.loop-j.j = ap clock same in
-                      let f : hop_of c.args.delay j c.args.i ≡ hop_of c.args.delay c.loop-j.j c.args.i
-                      = ap (λ k. hop_of c.args.delay k c.args.i) same in
+                      let f : hop_of c.args.delays.now j c.args.i ≡ hop_of c.args.delays.now c.loop-j.j c.args.i
+                      = ap (λ k. hop_of c.args.delays.now k c.args.i) same in
                       omega (arith, own, e, f)
                   | inr other ↦ omega (arith, c.loop-j.invariant.ahead j (omega arith) apart)
                 ];

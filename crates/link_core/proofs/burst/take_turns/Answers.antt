@@ -21,7 +21,7 @@ returns-then-clock-quiet-clause-goes g c =
     } in
     let now : Cut g.row.N.Denot = record {
       consoles = c.args.nodes.now.items;
-      delay = c.args.delay;
+      delays = c.args.delays.now;
       sent = c.args.sent.now;
     } in
     let p : Cut g.N.Node.Record = plain_cut g.N.Node.plain now in
@@ -55,7 +55,7 @@ returns-then-clock-quiet-clause-rises g c =
     } in
     let now : Cut g.row.N.Denot = record {
       consoles = c.args.nodes.now.items;
-      delay = c.args.delay;
+      delays = c.args.delays.now;
       sent = c.args.sent.now;
     } in
     let p : Cut g.N.Node.Record = plain_cut g.N.Node.plain now in
@@ -82,7 +82,7 @@ gather-requires g c =
     let kind : NodeKind g.N.Node.Record = kind_of g.N.Node.clock g.N.Node.was g.N.Node.next in
     let now : Cut g.row.N.Denot = record {
       consoles = c.args.nodes.now.items;
-      delay = c.args.delay;
+      delays = c.args.delays.now;
       sent = c.args.sent.now;
     } in
     let few = kept_few kind g.N.Node.plain now c.requires.kept.0 (vec_capacity c.args.due.now) c.requires.kept.1 in
@@ -93,7 +93,7 @@ turn_of-requires-clause-ordered g c =
     let kind : NodeKind g.N.Node.Record = kind_of g.N.Node.clock g.N.Node.was g.N.Node.next in
     let now : Cut g.row.N.Denot = record {
       consoles = c.args.nodes.now.items;
-      delay = c.args.delay;
+      delays = c.args.delays.now;
       sent = c.args.sent.now;
     } in
     let p : Cut g.N.Node.Record = plain_cut g.N.Node.plain now in
@@ -111,7 +111,7 @@ turn_of-requires-clause-taken g c =
     let kind : NodeKind g.N.Node.Record = kind_of g.N.Node.clock g.N.Node.was g.N.Node.next in
     let now : Cut g.row.N.Denot = record {
       consoles = c.args.nodes.now.items;
-      delay = c.args.delay;
+      delays = c.args.delays.now;
       sent = c.args.sent.now;
     } in
     let p : Cut g.N.Node.Record = plain_cut g.N.Node.plain now in
@@ -136,7 +136,7 @@ returns-clause-goes g c =
     } in
     let now : Cut g.row.N.Denot = record {
       consoles = c.args.nodes.now.items;
-      delay = c.args.delay;
+      delays = c.args.delays.now;
       sent = c.args.sent.now;
     } in
     let p : Cut g.N.Node.Record = plain_cut g.N.Node.plain now in
@@ -165,7 +165,7 @@ returns-clause-rises g c =
     } in
     let now : Cut g.row.N.Denot = record {
       consoles = c.args.nodes.now.items;
-      delay = c.args.delay;
+      delays = c.args.delays.now;
       sent = c.args.sent.now;
     } in
     let p : Cut g.N.Node.Record = plain_cut g.N.Node.plain now in

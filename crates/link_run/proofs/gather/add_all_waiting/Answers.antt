@@ -30,7 +30,7 @@ loop-list-preserved c =
     let here : (one : Sent) → IsWaiting c.as_slice.result.now one → WaitsIn all one
     = λ one h. record { place = n; waits = c.as_slice.result.now; stands = stands; waiting = h } in
     record {
-      delay = c.add_waiting.ensures.delay ∙ c.loop-list.invariant.delay;
+      delays = c.add_waiting.ensures.delays ∙ c.loop-list.invariant.delays;
       adding =
           adding_more (WaitsIn all) (WaitsInFirst all n) (WaitsInFirst all (n + 1)) (IsWaiting c.as_slice.result.now)
           c.args.shell.now.sent c.loop-list.shell.sent c.add_waiting.new.shell.sent c.loop-list.invariant.adding

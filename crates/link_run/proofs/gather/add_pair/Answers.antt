@@ -19,9 +19,9 @@ add_rest-requires-clause-may g c =
     ∙ sym (read-node g.N.Node.plain kind.was c.args.nodes.now own c.index-nodes-player.result
     (omega (arith, c.if-player-nodes.false))) in
     let Rest : Key g.row.N.Denot → Sent → Type 0 = λ (key : Key g.row.N.Denot) (one : Sent).
-    RestOf kind g.N.Node.plain key c.args.joined.now own peer c.args.shell.now.delay c.was-was.result one in
+    RestOf kind g.N.Node.plain key c.args.joined.now own peer c.args.shell.now.delays c.was-was.result one in
     let Pair : Key g.row.N.Denot → Sent → Type 0 = λ (key : Key g.row.N.Denot) (one : Sent).
-    PairRest kind g.N.Node.plain key c.args.joined.now c.args.nodes.now c.args.shell.now.delay c.args.pair one in
+    PairRest kind g.N.Node.plain key c.args.joined.now c.args.nodes.now c.args.shell.now.delays c.args.pair one in
     let to_pair : (key : Key g.row.N.Denot) (one : Sent) → Rest key one → Pair key one
     = λ key one h. record {
       own = own;
@@ -30,7 +30,7 @@ add_rest-requires-clause-may g c =
       own_below = omega (arith, c.if-player-nodes.false);
       peer_below = omega (arith, c.if-peer-nodes.false);
       apart = c.if-peer-player.false;
-      rest = subst (λ (was : ℕ). RestOf kind g.N.Node.plain key c.args.joined.now own peer c.args.shell.now.delay was one)
+      rest = subst (λ (was : ℕ). RestOf kind g.N.Node.plain key c.args.joined.now own peer c.args.shell.now.delays was one)
           was_is h;
     } in
     let key : Key g.row.N.Denot = c.requires.may.0 in
@@ -46,9 +46,9 @@ returns-clause-adds g c key keys =
     ∙ sym (read-node g.N.Node.plain kind.was c.args.nodes.now own c.index-nodes-player.result
     (omega (arith, c.if-player-nodes.false))) in
     let Rest : Key g.row.N.Denot → Sent → Type 0 = λ (key : Key g.row.N.Denot) (one : Sent).
-    RestOf kind g.N.Node.plain key c.args.joined.now own peer c.args.shell.now.delay c.was-was.result one in
+    RestOf kind g.N.Node.plain key c.args.joined.now own peer c.args.shell.now.delays c.was-was.result one in
     let Pair : Key g.row.N.Denot → Sent → Type 0 = λ (key : Key g.row.N.Denot) (one : Sent).
-    PairRest kind g.N.Node.plain key c.args.joined.now c.args.nodes.now c.args.shell.now.delay c.args.pair one in
+    PairRest kind g.N.Node.plain key c.args.joined.now c.args.nodes.now c.args.shell.now.delays c.args.pair one in
     let to_pair : (key : Key g.row.N.Denot) (one : Sent) → Rest key one → Pair key one
     = λ key one h. record {
       own = own;
@@ -57,12 +57,12 @@ returns-clause-adds g c key keys =
       own_below = omega (arith, c.if-player-nodes.false);
       peer_below = omega (arith, c.if-peer-nodes.false);
       apart = c.if-peer-player.false;
-      rest = subst (λ (was : ℕ). RestOf kind g.N.Node.plain key c.args.joined.now own peer c.args.shell.now.delay was one)
+      rest = subst (λ (was : ℕ). RestOf kind g.N.Node.plain key c.args.joined.now own peer c.args.shell.now.delays was one)
           was_is h;
     } in
     adds_as (Rest key) (Pair key) c.args.shell.now.sent c.add_rest.new.shell.sent (c.add_rest.ensures.adds key keys)
     (to_pair key)
-    (λ one h. let p = pair_is kind g.N.Node.plain key c.args.joined.now c.args.nodes.now c.args.shell.now.delay c.args.pair
+    (λ one h. let p = pair_is kind g.N.Node.plain key c.args.joined.now c.args.nodes.now c.args.shell.now.delays c.args.pair
     one c.requires.few h in
-    subst (λ (was : ℕ). RestOf kind g.N.Node.plain key c.args.joined.now own peer c.args.shell.now.delay was one)
+    subst (λ (was : ℕ). RestOf kind g.N.Node.plain key c.args.joined.now own peer c.args.shell.now.delays was one)
     (sym was_is) p.rest)

@@ -1,9 +1,10 @@
 use Rattle.std.proofs.Common.{ℕ, ◌≡◌, ◌+◌, ◌<◌, inl, inr, arith, refl, sym, ap, ◌∙◌, subst}
 use Rattle.std.specs.Prelude.{List, [], ◌∷◌, length, slice_index}
 use Rattle.std.proofs.lemmas.Bool.{cases_lt}
+use Rattle.link_node.specs.declared.delays.Delays.{Delays}
 use Rattle.link_order.specs.declared.sent.Sent.{Sent}
 use Rattle.link_order.specs.NodeKind.{NodeKind, kind_of}
-use Rattle.link_order.specs.Cut.{hop_of}
+use Rattle.link_node.specs.Delays.{hop_of}
 use Rattle.link_script.specs.Script.{Script}
 use Rattle.link_table.specs.declared.key.Key.{Key}
 use Rattle.link_table.specs.Text.{script_of}
@@ -34,10 +35,10 @@ add_late-requires-clause-widths g c late =
     let step : RestStep s first old c.rest.new.joined c.args.player c.args.peer c.in-Some.signal
     = rest_step s first old c.rest.new.joined c.args.player c.args.peer c.in-Some.signal c.loop-signal.invariant.same
     c.loop-signal.invariant.wide c.requires.peer c.requires.pair (c.in-Some.ensures.rest key own) in
-    let between : c.hop-between.result ≡ hop_of c.args.shell.now.delay c.args.peer c.args.player
-    = c.hop-between.ensures ∙ ap (λ (d : ℕ). hop_of d c.args.peer c.args.player) c.delay.ensures.value in
+    let between : c.hop-between.result ≡ hop_of c.args.shell.now.delays c.args.peer c.args.player
+    = c.hop-between.ensures ∙ ap (λ (d : Delays). hop_of d c.args.peer c.args.player) c.delays.ensures.value in
     let is : c.args.was < c.in-Some.signal.clock + c.hop-between.result
-    → RestOf kind g.N.Node.plain key first c.args.player c.args.peer c.args.shell.now.delay c.args.was
+    → RestOf kind g.N.Node.plain key first c.args.player c.args.peer c.args.shell.now.delays c.args.was
     (record { sender = c.args.peer; signal = c.in-Some.signal })
     = λ late. record {
       number = slice_index old.fetched place;
@@ -78,10 +79,10 @@ loop-signal-preserved g c =
     let step : RestStep s first old c.rest.new.joined c.args.player c.args.peer c.in-Some.signal
     = rest_step s first old c.rest.new.joined c.args.player c.args.peer c.in-Some.signal c.loop-signal.invariant.same
     c.loop-signal.invariant.wide c.requires.peer c.requires.pair (c.in-Some.ensures.rest key own) in
-    let between : c.hop-between.result ≡ hop_of c.args.shell.now.delay c.args.peer c.args.player
-    = c.hop-between.ensures ∙ ap (λ (d : ℕ). hop_of d c.args.peer c.args.player) c.delay.ensures.value in
+    let between : c.hop-between.result ≡ hop_of c.args.shell.now.delays c.args.peer c.args.player
+    = c.hop-between.ensures ∙ ap (λ (d : Delays). hop_of d c.args.peer c.args.player) c.delays.ensures.value in
     let is : c.args.was < c.in-Some.signal.clock + c.hop-between.result
-    → RestOf kind g.N.Node.plain key first c.args.player c.args.peer c.args.shell.now.delay c.args.was
+    → RestOf kind g.N.Node.plain key first c.args.player c.args.peer c.args.shell.now.delays c.args.was
     (record { sender = c.args.peer; signal = c.in-Some.signal })
     = λ late. record {
       number = slice_index old.fetched place;
@@ -97,36 +98,36 @@ loop-signal-preserved g c =
       same = step.same;
       wide = step.wide;
       others = λ pair apart. step.others pair apart ∙ c.loop-signal.invariant.others pair apart;
-      delay = c.add_late.ensures.delay ∙ c.loop-signal.invariant.delay;
+      delays = c.add_late.ensures.delays ∙ c.loop-signal.invariant.delays;
       more = omega (arith, step.own, c.loop-signal.invariant.more);
       adding = λ other keys.
           let both : key ∷ [] ≡ other ∷ [] = sym c.requires.may.1 ∙ keys in
           let same : key ≡ other = cc in
           let Next : Key g.row.N.Denot → Type 0 = λ (k : Key g.row.N.Denot).
-          Adding (RestOf kind g.N.Node.plain k first c.args.player c.args.peer c.args.shell.now.delay c.args.was)
+          Adding (RestOf kind g.N.Node.plain k first c.args.player c.args.peer c.args.shell.now.delays c.args.was)
           (IsRest (script_of kind g.N.Node.plain k) c.args.peer
-          (hop_of c.args.shell.now.delay c.args.peer c.args.player) (slice_index first.fetched place)
+          (hop_of c.args.shell.now.delays c.args.peer c.args.player) (slice_index first.fetched place)
           (slice_index c.rest.new.joined.fetched place) c.args.was) c.args.shell.now.sent c.add_late.new.shell.sent in
           let before = c.loop-signal.invariant.adding key c.requires.may.1 in
           let here : Next key = elim (cases_lt c.args.was (c.in-Some.signal.clock + c.hop-between.result)) [
             | inl late ↦
-                adding_one (RestOf kind g.N.Node.plain key first c.args.player c.args.peer c.args.shell.now.delay c.args.was) (IsRest s c.args.peer (hop_of c.args.shell.now.delay c.args.peer c.args.player) (slice_index first.fetched place)
+                adding_one (RestOf kind g.N.Node.plain key first c.args.player c.args.peer c.args.shell.now.delays c.args.was) (IsRest s c.args.peer (hop_of c.args.shell.now.delays c.args.peer c.args.player) (slice_index first.fetched place)
                 (slice_index old.fetched place) c.args.was)
-                (IsRest s c.args.peer (hop_of c.args.shell.now.delay c.args.peer c.args.player)
+                (IsRest s c.args.peer (hop_of c.args.shell.now.delays c.args.peer c.args.player)
                 (slice_index first.fetched place) (slice_index c.rest.new.joined.fetched place) c.args.was)
                 c.args.shell.now.sent c.loop-signal.shell.sent c.add_late.new.shell.sent one c.requires.may.2 before
                 (c.add_late.ensures.late late) (is late)
-                (λ z h. rest_one s c.args.peer (hop_of c.args.shell.now.delay c.args.peer c.args.player)
+                (λ z h. rest_one s c.args.peer (hop_of c.args.shell.now.delays c.args.peer c.args.player)
                 (slice_index first.fetched place) (slice_index old.fetched place) c.args.was c.in-Some.signal z step.stands
                 (slice_index c.rest.new.joined.fetched place) step.own h)
             | inr dead ↦
-                adding_same (RestOf kind g.N.Node.plain key first c.args.player c.args.peer c.args.shell.now.delay c.args.was) (IsRest s c.args.peer (hop_of c.args.shell.now.delay c.args.peer c.args.player) (slice_index first.fetched place)
+                adding_same (RestOf kind g.N.Node.plain key first c.args.player c.args.peer c.args.shell.now.delays c.args.was) (IsRest s c.args.peer (hop_of c.args.shell.now.delays c.args.peer c.args.player) (slice_index first.fetched place)
                 (slice_index old.fetched place) c.args.was)
-                (IsRest s c.args.peer (hop_of c.args.shell.now.delay c.args.peer c.args.player)
+                (IsRest s c.args.peer (hop_of c.args.shell.now.delays c.args.peer c.args.player)
                 (slice_index first.fetched place) (slice_index c.rest.new.joined.fetched place) c.args.was)
                 c.args.shell.now.sent c.loop-signal.shell.sent c.add_late.new.shell.sent before
                 (c.add_late.ensures.dead dead)
-                (λ z h. rest_dead s c.args.peer (hop_of c.args.shell.now.delay c.args.peer c.args.player)
+                (λ z h. rest_dead s c.args.peer (hop_of c.args.shell.now.delays c.args.peer c.args.player)
                 (slice_index first.fetched place) (slice_index old.fetched place) c.args.was c.in-Some.signal z step.stands
                 (slice_index c.rest.new.joined.fetched place) step.own (omega (arith, dead, between)) h)
           ] in
@@ -167,12 +168,12 @@ returns-clause-adds g c key' keys =
     = ap (λ (z : JoinedState (Key g.row.N.Denot)). z.key) c.loop-signal.invariant.same ∙ c.requires.may.1 in
     let done = rest_done (script_of kind g.N.Node.plain key) first old c.rest.new.joined c.args.player c.args.peer
     c.loop-signal.invariant.same c.requires.peer (c.in_default.ensures.rest key own) in
-    adding_same (RestOf kind g.N.Node.plain key' first c.args.player c.args.peer c.args.shell.now.delay c.args.was)
+    adding_same (RestOf kind g.N.Node.plain key' first c.args.player c.args.peer c.args.shell.now.delays c.args.was)
     (IsRest (script_of kind g.N.Node.plain key') c.args.peer
-    (hop_of c.args.shell.now.delay c.args.peer c.args.player)
+    (hop_of c.args.shell.now.delays c.args.peer c.args.player)
     (slice_index first.fetched (pair_place c.args.player c.args.peer))
     (slice_index old.fetched (pair_place c.args.player c.args.peer)) c.args.was)
-    (RestOf kind g.N.Node.plain key' first c.args.player c.args.peer c.args.shell.now.delay c.args.was)
+    (RestOf kind g.N.Node.plain key' first c.args.player c.args.peer c.args.shell.now.delays c.args.was)
     c.args.shell.now.sent c.loop-signal.shell.sent c.loop-signal.shell.sent (c.loop-signal.invariant.adding key' keys)
     refl
     (λ one h. record {

@@ -1,7 +1,7 @@
 use Rattle.std.proofs.Common.{ℕ, ◌≡◌, ◌≢◌, ◌-◌, ◌≤◌}
 use Rattle.std.specs.Prelude.{[], ◌∷◌, length, slice_index}
 use Rattle.link_order.specs.NodeKind.{kind_of}
-use Rattle.link_order.specs.Cut.{hop_of}
+use Rattle.link_node.specs.Delays.{hop_of}
 use Rattle.link_table.specs.declared.key.Key.{Key}
 use Rattle.link_table.specs.Text.{script_of}
 use Rattle.link_table.specs.Uniting.{pair_place}
@@ -15,14 +15,14 @@ invariant-loop-signal g l = record {
   wide : length l.joined.fetched ≡ 16;
   others : (pair : ℕ) → pair ≢ pair_place l.player l.peer
       → slice_index l.joined.fetched pair ≡ slice_index l.fn.joined.fetched pair;
-  delay : l.shell.delay ≡ l.fn.shell.delay;
+  delays : l.shell.delays ≡ l.fn.shell.delays;
   more : slice_index l.fn.joined.fetched (pair_place l.player l.peer)
       ≤ slice_index l.joined.fetched (pair_place l.player l.peer);
   adding : (key : Key g.row.N.Denot) → l.fn.joined.key ≡ key ∷ []
       → Adding (RestOf (kind_of g.N.Node.clock g.N.Node.was g.N.Node.next) g.N.Node.plain key l.fn.joined l.player l.peer
-      l.fn.shell.delay l.was)
+      l.fn.shell.delays l.was)
       (IsRest (script_of (kind_of g.N.Node.clock g.N.Node.was g.N.Node.next) g.N.Node.plain key) l.peer
-      (hop_of l.fn.shell.delay l.peer l.player) (slice_index l.fn.joined.fetched (pair_place l.player l.peer))
+      (hop_of l.fn.shell.delays l.peer l.player) (slice_index l.fn.joined.fetched (pair_place l.player l.peer))
       (slice_index l.joined.fetched (pair_place l.player l.peer)) l.was)
       l.fn.shell.sent l.shell.sent;
 }

@@ -1,5 +1,6 @@
 use Rattle.std.proofs.Common.{ℕ, ◌≡◌, ◌+◌, inl, inr, arith, sym, ap, ◌∙◌, subst}
 use Rattle.std.specs.Prelude.{[], ◌∷◌, slice_index}
+use Rattle.link_node.specs.declared.delays.Delays.{Delays}
 use Rattle.link_order.specs.declared.sent.Sent.{Sent}
 use Rattle.link_order.specs.NodeKind.{NodeKind, kind_of}
 use Rattle.link_table.specs.declared.key.Key.{Key}
@@ -20,15 +21,15 @@ add_pair-requires-clause-may g c =
     let same : slice_index now.fetched n ≡ slice_index first.fetched n
     = c.loop-pair.invariant.later n (omega arith) in
     let Pair : Key g.row.N.Denot → Sent → Type 0 = λ (key : Key g.row.N.Denot) (one : Sent).
-    PairRest kind g.N.Node.plain key now c.args.nodes.now c.loop-pair.shell.delay n one in
+    PairRest kind g.N.Node.plain key now c.args.nodes.now c.loop-pair.shell.delays n one in
     let Pairs : Key g.row.N.Denot → ℕ → Sent → Type 0 = λ (key : Key g.row.N.Denot) (some : ℕ) (one : Sent).
-    PairsRest kind g.N.Node.plain key first c.args.nodes.now c.args.shell.now.delay some one in
+    PairsRest kind g.N.Node.plain key first c.args.nodes.now c.args.shell.now.delays some one in
     let to_pairs : (key : Key g.row.N.Denot) (one : Sent) → Pair key one → Pairs key 16 one
     = λ key one h. record {
       pair = n;
       below = c.loop-pair-test.true;
-      rest = pair_moved kind g.N.Node.plain key now first c.args.nodes.now c.args.shell.now.delay n one made same
-          (subst (λ (d : ℕ). PairRest kind g.N.Node.plain key now c.args.nodes.now d n one) c.loop-pair.invariant.delay h);
+      rest = pair_moved kind g.N.Node.plain key now first c.args.nodes.now c.args.shell.now.delays n one made same
+          (subst (λ (d : Delays). PairRest kind g.N.Node.plain key now c.args.nodes.now d n one) c.loop-pair.invariant.delays h);
     } in
     let key : Key g.row.N.Denot = c.requires.may.0 in
     let keys : now.key ≡ key ∷ []
@@ -50,15 +51,15 @@ loop-pair-preserved g c =
     let same : slice_index now.fetched n ≡ slice_index first.fetched n
     = c.loop-pair.invariant.later n (omega arith) in
     let Pair : Key g.row.N.Denot → Sent → Type 0 = λ (key : Key g.row.N.Denot) (one : Sent).
-    PairRest kind g.N.Node.plain key now c.args.nodes.now c.loop-pair.shell.delay n one in
+    PairRest kind g.N.Node.plain key now c.args.nodes.now c.loop-pair.shell.delays n one in
     let Pairs : Key g.row.N.Denot → ℕ → Sent → Type 0 = λ (key : Key g.row.N.Denot) (some : ℕ) (one : Sent).
-    PairsRest kind g.N.Node.plain key first c.args.nodes.now c.args.shell.now.delay some one in
+    PairsRest kind g.N.Node.plain key first c.args.nodes.now c.args.shell.now.delays some one in
     let to_pairs : (key : Key g.row.N.Denot) (one : Sent) → Pair key one → Pairs key 16 one
     = λ key one h. record {
       pair = n;
       below = c.loop-pair-test.true;
-      rest = pair_moved kind g.N.Node.plain key now first c.args.nodes.now c.args.shell.now.delay n one made same
-          (subst (λ (d : ℕ). PairRest kind g.N.Node.plain key now c.args.nodes.now d n one) c.loop-pair.invariant.delay h);
+      rest = pair_moved kind g.N.Node.plain key now first c.args.nodes.now c.args.shell.now.delays n one made same
+          (subst (λ (d : Delays). PairRest kind g.N.Node.plain key now c.args.nodes.now d n one) c.loop-pair.invariant.delays h);
     } in
     record {
       same = c.add_pair.ensures.same
@@ -67,19 +68,19 @@ loop-pair-preserved g c =
       wide = c.add_pair.ensures.wide;
       later = λ other past. c.add_pair.ensures.others other (λ e. absurd (omega arith))
           ∙ c.loop-pair.invariant.later other (omega arith);
-      delay = c.add_pair.ensures.delay ∙ c.loop-pair.invariant.delay;
+      delays = c.add_pair.ensures.delays ∙ c.loop-pair.invariant.delays;
       adding = λ key keys.
           let own : now.key ≡ key ∷ []
           = ap (λ (z : JoinedState (Key g.row.N.Denot)). z.key) c.loop-pair.invariant.same ∙ keys in
           adding_more (Pairs key 16) (Pairs key n) (Pairs key (n + 1)) (Pair key) c.args.shell.now.sent
           c.loop-pair.shell.sent c.add_pair.new.shell.sent (c.loop-pair.invariant.adding key keys)
           (c.add_pair.ensures.adds key own) (to_pairs key)
-          (λ one h. elim (pairs_one kind g.N.Node.plain key first c.args.nodes.now c.args.shell.now.delay n one h) [
+          (λ one h. elim (pairs_one kind g.N.Node.plain key first c.args.nodes.now c.args.shell.now.delays n one h) [
             | inl before ↦ inl before
             | inr here ↦ inr (
-                subst (λ (d : ℕ). PairRest kind g.N.Node.plain key now c.args.nodes.now d n one)
-                (sym c.loop-pair.invariant.delay)
-                (pair_moved kind g.N.Node.plain key first now c.args.nodes.now c.args.shell.now.delay n one (sym made)
+                subst (λ (d : Delays). PairRest kind g.N.Node.plain key now c.args.nodes.now d n one)
+                (sym c.loop-pair.invariant.delays)
+                (pair_moved kind g.N.Node.plain key first now c.args.nodes.now c.args.shell.now.delays n one (sym made)
                 (sym same) here))
           ]);
     }

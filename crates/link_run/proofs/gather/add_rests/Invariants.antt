@@ -11,11 +11,11 @@ invariant-loop-pair g l = record {
   same : l.joined ≡ with_fetched l.fn.joined l.joined.fetched;
   wide : length l.joined.fetched ≡ 16;
   later : (other : ℕ) → l.pair ≤ other → slice_index l.joined.fetched other ≡ slice_index l.fn.joined.fetched other;
-  delay : l.shell.delay ≡ l.fn.shell.delay;
+  delays : l.shell.delays ≡ l.fn.shell.delays;
   adding : (key : Key g.row.N.Denot) → l.fn.joined.key ≡ key ∷ []
       → Adding (PairsRest (kind_of g.N.Node.clock g.N.Node.was g.N.Node.next) g.N.Node.plain key l.fn.joined l.nodes
-      l.fn.shell.delay 16)
+      l.fn.shell.delays 16)
       (PairsRest (kind_of g.N.Node.clock g.N.Node.was g.N.Node.next) g.N.Node.plain key l.fn.joined l.nodes
-      l.fn.shell.delay l.pair)
+      l.fn.shell.delays l.pair)
       l.fn.shell.sent l.shell.sent;
 }

@@ -20,7 +20,7 @@ add-requires-clause-widths c =
 
 pub loop-one-preserved : goal.loop-one-preserved
 loop-one-preserved c = record {
-  delay = c.add.ensures.delay ∙ c.loop-one.invariant.delay;
+  delays = c.add.ensures.delays ∙ c.loop-one.invariant.delays;
   adding =
       adding_one (IsWaiting c.args.waits.now) (WaitsBefore c.args.waits.now c.loop-one.one-index)
       (WaitsBefore c.args.waits.now (c.loop-one.one-index + 1)) c.args.shell.now.sent c.loop-one.shell.sent

@@ -5,6 +5,6 @@ use Rattle.link_run.proofs.gather.add_waiting.Given as goal
 
 abbrev pub invariant-loop-one : goal.invariant-loop-one
 invariant-loop-one l = record {
-  delay : l.shell.delay ≡ l.fn.shell.delay;
+  delays : l.shell.delays ≡ l.fn.shell.delays;
   adding : Adding (IsWaiting l.waits) (WaitsBefore l.waits l.one-index) l.fn.shell.sent l.shell.sent;
 }

@@ -35,7 +35,7 @@ take_seat-requires-clause-common g c =
 pub loop-player-preserved : goal.loop-player-preserved
 loop-player-preserved g c =
     let kind : NodeKind g.N.Node.Record = kind_of g.N.Node.clock g.N.Node.was g.N.Node.next in
-    let d : IsDealing kind g.N.Node.plain c.args.place c.loop-player.place c.args.players c.args.delay
+    let d : IsDealing kind g.N.Node.plain c.args.place c.loop-player.place c.args.players c.args.delays.now
     c.loop-player.player c.loop-player.seats.items = c.loop-player.invariant in
     let less = c.loop-player-test.true in
     let me_is : c.replace-first.result.me
@@ -50,23 +50,23 @@ loop-player-preserved g c =
     let seat_is = taken_is kind g.N.Node.plain d.key _ _ (c.loop-player.player - 1) c.args.players c.take_seat.result
     (c.take_seat.ensures d.key me_is) table_is in
     let next = dealing_on kind g.N.Node.plain c.args.place c.loop-player.place c.split_seat-others.new.seat
-    c.split_seat-others.result c.args.players c.args.delay c.loop-player.player c.loop-player.seats.items
+    c.split_seat-others.result c.args.players c.args.delays.now c.loop-player.player c.loop-player.seats.items
     c.take_seat.result d less c.split_seat-others.ensures.3 c.split_seat-others.ensures.4 seat_is in
     subst (λ (l : List (SeatState (Key g.row.N.Denot))). IsDealing kind g.N.Node.plain c.args.place c.replace-first.new.dest
-    c.args.players c.args.delay (c.loop-player.player + 1) l) (sym c.in_ok-push.ensures.items)
-    (subst (λ (p : Place g.row.N.Denot). IsDealing kind g.N.Node.plain c.args.place p c.args.players c.args.delay
+    c.args.players c.args.delays.now (c.loop-player.player + 1) l) (sym c.in_ok-push.ensures.items)
+    (subst (λ (p : Place g.row.N.Denot). IsDealing kind g.N.Node.plain c.args.place p c.args.players c.args.delays.now
     (c.loop-player.player + 1) (c.loop-player.seats.items ++ c.take_seat.result ∷ [])) (sym c.replace-first.ensures.after)
     next)
 
 pub returns : goal.returns
 returns g c key whole =
     let kind : NodeKind g.N.Node.Record = kind_of g.N.Node.clock g.N.Node.was g.N.Node.next in
-    let d : IsDealing kind g.N.Node.plain c.args.place c.loop-player.place c.args.players c.args.delay
+    let d : IsDealing kind g.N.Node.plain c.args.place c.loop-player.place c.args.players c.args.delays.now
     c.loop-player.player c.loop-player.seats.items = c.loop-player.invariant in
     let past = c.loop-player-test.false in
     let some = d.some in
     let most = d.most in
-    let me_is = last_seat kind g.N.Node.plain c.args.place c.loop-player.place c.args.players c.args.delay
+    let me_is = last_seat kind g.N.Node.plain c.args.place c.loop-player.place c.args.players c.args.delays.now
     c.loop-player.player c.loop-player.seats.items d (omega arith) in
     let seat_is = taken_is kind g.N.Node.plain d.key _ _ (c.args.players - 1) c.args.players c.take_seat-2.result
     (c.take_seat-2.ensures d.key me_is) d.table_is in

@@ -16,7 +16,7 @@ new-requires g c =
     let other : c.remove-other.result ≡ get_or (remove c.in-Ok-begin.seats.items 0) 0 c.remove-other.result
     = c.remove-other.ensures.value
     ∙ ap (λ (l : List (SeatState (Key Ticker))). get_or l 0 c.remove-other.result) c.remove-own.ensures.items in
-    (are_pair c.in-Ok.cut c.args.first c.args.second c.push-2.new.self.items c.args.delay c.in-Ok-begin.shared
+    (are_pair c.in-Ok.cut c.args.first c.args.second c.push-2.new.self.items c.args.delays c.in-Ok-begin.shared
     c.in-Ok-begin.seats.items c.remove-own.result c.remove-other.result c.in-Ok.ensures nodes c.nodes-count.ensures.cable
     c.nodes-count.ensures.sound c.in-Ok-begin.ensures c.requires.limits c.remove-own.ensures.value other).own_fresh
 
@@ -29,7 +29,7 @@ new-requires-2 g c =
     let other : c.remove-other.result ≡ get_or (remove c.in-Ok-begin.seats.items 0) 0 c.remove-other.result
     = c.remove-other.ensures.value
     ∙ ap (λ (l : List (SeatState (Key Ticker))). get_or l 0 c.remove-other.result) c.remove-own.ensures.items in
-    (are_pair c.in-Ok.cut c.args.first c.args.second c.push-2.new.self.items c.args.delay c.in-Ok-begin.shared
+    (are_pair c.in-Ok.cut c.args.first c.args.second c.push-2.new.self.items c.args.delays c.in-Ok-begin.shared
     c.in-Ok-begin.seats.items c.remove-own.result c.remove-other.result c.in-Ok.ensures nodes c.nodes-count.ensures.cable
     c.nodes-count.ensures.sound c.in-Ok-begin.ensures c.requires.limits c.remove-own.ensures.value other).other_fresh
 
@@ -43,7 +43,7 @@ returns g c =
     = c.remove-other.ensures.value
     ∙ ap (λ (l : List (SeatState (Key Ticker))). get_or l 0 c.remove-other.result) c.remove-own.ensures.items in
     let p : ArePair c.args.first c.args.second c.in-Ok-begin.shared c.remove-own.result c.remove-other.result
-    = are_pair c.in-Ok.cut c.args.first c.args.second c.push-2.new.self.items c.args.delay c.in-Ok-begin.shared
+    = are_pair c.in-Ok.cut c.args.first c.args.second c.push-2.new.self.items c.args.delays c.in-Ok-begin.shared
     c.in-Ok-begin.seats.items c.remove-own.result c.remove-other.result c.in-Ok.ensures nodes c.nodes-count.ensures.cable
     c.nodes-count.ensures.sound c.in-Ok-begin.ensures c.requires.limits c.remove-own.ensures.value other in (
       c.new.ensures.table ∙ p.own_table,

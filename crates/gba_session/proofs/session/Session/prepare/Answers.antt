@@ -1,23 +1,29 @@
 use Rattle.std.proofs.Common.{◌≡◌, Bool, List, ◌∙◌, length, map, sym, ap, subst, arith}
 use Rattle.std.specs.List.{All}
+use Rattle.gba_console.specs.Alone.{console_kind}
 use Rattle.gba_console.specs.Machine.{Machine, limit_of, without_limit}
 use Rattle.gba_joblog.specs.Views.{job_value}
 use Rattle.gba_joblog.specs.declared.outputs.PerKind.{PerKind}
 use Rattle.gba_session.proofs.Consoles.{asks-are, made-length, rooms-many, start-cable, start-sound, untils-are}
 use Rattle.gba_session.specs.Session.{Consoles}
-use Rattle.gba_session.specs.Start.{start_of}
-use Rattle.link_order.specs.Cut.{Cut, opening, plain_cut}
+use Rattle.gba_session.specs.Start.{delays_of, start_of}
+use Rattle.link_node.specs.declared.delays.Delays.{Delays}
+use Rattle.link_order.specs.Cut.{Cut, IsCable, IsSound, opening, plain_cut}
 use Rattle.gba_session.proofs.session.Session.prepare.Goals as goal
 
 pub new-requires-clause-cable : goal.new-requires-clause-cable
 new-requires-clause-cable c =
-    start-cable (job_value c.args.job.now) c.args.images.items c.in_ok-consoles.consoles.items c.requires.sound
-    c.requires.images c.in_ok-consoles.ensures.consoles
+    subst (λ (d : Delays). IsCable (plain_cut without_limit (opening c.in_ok-consoles.consoles.items d)))
+    (sym c.delays_of.ensures.value)
+    (start-cable (job_value c.args.job.now) c.args.images.items c.in_ok-consoles.consoles.items c.requires.sound
+    c.requires.images c.in_ok-consoles.ensures.consoles)
 
 pub new-requires-clause-sound : goal.new-requires-clause-sound
 new-requires-clause-sound c =
-    start-sound (job_value c.args.job.now) c.args.images.items c.in_ok-consoles.consoles.items c.requires.sound
-    c.requires.images c.in_ok-consoles.ensures.consoles
+    subst (λ (d : Delays). IsSound console_kind (plain_cut without_limit (opening c.in_ok-consoles.consoles.items d)))
+    (sym c.delays_of.ensures.value)
+    (start-sound (job_value c.args.job.now) c.args.images.items c.in_ok-consoles.consoles.items c.requires.sound
+    c.requires.images c.in_ok-consoles.ensures.consoles)
 
 pub invariant_of-result : goal.invariant_of-result
 invariant_of-result c =
@@ -40,7 +46,8 @@ returns c =
     let job = job_value c.args.job.now in
     let cut : plain_cut without_limit c.in-Ok.cut ≡ _ =
     ap (plain_cut without_limit) c.in-Ok.ensures.made
-    ∙ ap (λ (ms : List Machine). opening ms job.delay) c.in_ok-consoles.ensures.consoles in
+    ∙ ap (λ (d : Delays). plain_cut without_limit (opening c.in_ok-consoles.consoles.items d)) c.delays_of.ensures.value
+    ∙ ap (λ (ms : List Machine). opening ms (delays_of job)) c.in_ok-consoles.ensures.consoles in
     let asks = asks-are job.cycles job.consoles c.in_ok-rooms.rooms.items c.in_ok-rooms.ensures in
     let by_cut : Cut Machine → Consoles = λ (x : Cut Machine). record {
       cut = x;

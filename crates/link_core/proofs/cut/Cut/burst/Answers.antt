@@ -26,7 +26,7 @@ take_turns-signal-requires-clause-early g c =
     let kind : NodeKind g.N.Node.Record = kind_of g.N.Node.clock g.N.Node.was g.N.Node.next in
     let now : Cut g.row.N.Denot = record {
       consoles = c.self.inside.nodes.items;
-      delay = c.self.inside.delay;
+      delays = c.self.inside.delays;
       sent = c.self.inside.sent.items;
     } in
     let p : Cut g.N.Node.Record = plain_cut g.N.Node.plain now in
@@ -57,7 +57,7 @@ invariant_of-self g c =
     } in
     let now : Cut g.row.N.Denot = record {
       consoles = c.self.inside.nodes.items;
-      delay = c.self.inside.delay;
+      delays = c.self.inside.delays;
       sent = c.self.inside.sent.items;
     } in
     let p : Cut g.N.Node.Record = plain_cut g.N.Node.plain now in
@@ -71,17 +71,17 @@ invariant_of-self g c =
     ) in
     let d : Cut g.N.Node.Record = record {
       consoles = map g.N.Node.plain c.take_turns-signal.new.nodes.items;
-      delay = c.self.inside.delay;
+      delays = c.self.inside.delays;
       sent = with_signal i c.take_turns-signal.result c.self.inside.sent.items;
     } in
     let with_sent : List Sent → Cut g.N.Node.Record = λ (ss : List Sent). record {
       consoles = map g.N.Node.plain c.self.inside.nodes.items;
-      delay = c.self.inside.delay;
+      delays = c.self.inside.delays;
       sent = ss;
     } in
     let with_told : List Sent → Cut g.N.Node.Record = λ (ss : List Sent). record {
       consoles = map g.N.Node.plain c.take_turns-signal.new.nodes.items;
-      delay = c.self.inside.delay;
+      delays = c.self.inside.delays;
       sent = with_signal i c.take_turns-signal.result ss;
     } in
     let goes : GoesAlone kind i c.horizon_of-end.result p d
@@ -94,11 +94,11 @@ invariant_of-self g c =
     c.horizon_of-end.ensures.ahead) goes in
     let made : Cut g.row.N.Denot = record {
       consoles = c.take_turns-signal.new.nodes.items;
-      delay = c.self.inside.delay;
+      delays = c.self.inside.delays;
       sent = c.drop_dead.new.sent.items;
     } in
     let whole : plain_cut g.N.Node.plain made ≡ live kind d
-    = kept_live kind g.N.Node.plain c.take_turns-signal.new.nodes.items c.deref-4.result.now c.self.inside.delay
+    = kept_live kind g.N.Node.plain c.take_turns-signal.new.nodes.items c.deref-4.result.now c.self.inside.delays
     c.drop_dead.new.sent.items c.join_signal.new.sent.items
     (with_signal i c.take_turns-signal.result c.self.inside.sent.items)
     c.deref-4.ensures.value c.join_signal.ensures.items c.drop_dead.ensures.items in
@@ -118,7 +118,7 @@ returns-clause-same_end g c =
     } in
     let now : Cut g.row.N.Denot = record {
       consoles = c.self.inside.nodes.items;
-      delay = c.self.inside.delay;
+      delays = c.self.inside.delays;
       sent = c.self.inside.sent.items;
     } in
     let p : Cut g.N.Node.Record = plain_cut g.N.Node.plain now in
@@ -132,17 +132,17 @@ returns-clause-same_end g c =
     ) in
     let d : Cut g.N.Node.Record = record {
       consoles = map g.N.Node.plain c.take_turns-signal.new.nodes.items;
-      delay = c.self.inside.delay;
+      delays = c.self.inside.delays;
       sent = with_signal i c.take_turns-signal.result c.self.inside.sent.items;
     } in
     let with_sent : List Sent → Cut g.N.Node.Record = λ (ss : List Sent). record {
       consoles = map g.N.Node.plain c.self.inside.nodes.items;
-      delay = c.self.inside.delay;
+      delays = c.self.inside.delays;
       sent = ss;
     } in
     let with_told : List Sent → Cut g.N.Node.Record = λ (ss : List Sent). record {
       consoles = map g.N.Node.plain c.take_turns-signal.new.nodes.items;
-      delay = c.self.inside.delay;
+      delays = c.self.inside.delays;
       sent = with_signal i c.take_turns-signal.result ss;
     } in
     let goes : GoesAlone kind i c.horizon_of-end.result p d
@@ -155,11 +155,11 @@ returns-clause-same_end g c =
     c.horizon_of-end.ensures.ahead) goes in
     let made : Cut g.row.N.Denot = record {
       consoles = c.take_turns-signal.new.nodes.items;
-      delay = c.self.inside.delay;
+      delays = c.self.inside.delays;
       sent = c.drop_dead.new.sent.items;
     } in
     let whole : plain_cut g.N.Node.plain made ≡ live kind d
-    = kept_live kind g.N.Node.plain c.take_turns-signal.new.nodes.items c.deref-4.result.now c.self.inside.delay
+    = kept_live kind g.N.Node.plain c.take_turns-signal.new.nodes.items c.deref-4.result.now c.self.inside.delays
     c.drop_dead.new.sent.items c.join_signal.new.sent.items
     (with_signal i c.take_turns-signal.result c.self.inside.sent.items)
     c.deref-4.ensures.value c.join_signal.ensures.items c.drop_dead.ensures.items in
@@ -178,7 +178,7 @@ returns-clause-fewer g c =
     } in
     let now : Cut g.row.N.Denot = record {
       consoles = c.self.inside.nodes.items;
-      delay = c.self.inside.delay;
+      delays = c.self.inside.delays;
       sent = c.self.inside.sent.items;
     } in
     let p : Cut g.N.Node.Record = plain_cut g.N.Node.plain now in
@@ -192,17 +192,17 @@ returns-clause-fewer g c =
     ) in
     let d : Cut g.N.Node.Record = record {
       consoles = map g.N.Node.plain c.take_turns-signal.new.nodes.items;
-      delay = c.self.inside.delay;
+      delays = c.self.inside.delays;
       sent = with_signal i c.take_turns-signal.result c.self.inside.sent.items;
     } in
     let with_sent : List Sent → Cut g.N.Node.Record = λ (ss : List Sent). record {
       consoles = map g.N.Node.plain c.self.inside.nodes.items;
-      delay = c.self.inside.delay;
+      delays = c.self.inside.delays;
       sent = ss;
     } in
     let with_told : List Sent → Cut g.N.Node.Record = λ (ss : List Sent). record {
       consoles = map g.N.Node.plain c.take_turns-signal.new.nodes.items;
-      delay = c.self.inside.delay;
+      delays = c.self.inside.delays;
       sent = with_signal i c.take_turns-signal.result ss;
     } in
     let goes : GoesAlone kind i c.horizon_of-end.result p d
@@ -215,11 +215,11 @@ returns-clause-fewer g c =
     c.horizon_of-end.ensures.ahead) goes in
     let made : Cut g.row.N.Denot = record {
       consoles = c.take_turns-signal.new.nodes.items;
-      delay = c.self.inside.delay;
+      delays = c.self.inside.delays;
       sent = c.drop_dead.new.sent.items;
     } in
     let whole : plain_cut g.N.Node.plain made ≡ live kind d
-    = kept_live kind g.N.Node.plain c.take_turns-signal.new.nodes.items c.deref-4.result.now c.self.inside.delay
+    = kept_live kind g.N.Node.plain c.take_turns-signal.new.nodes.items c.deref-4.result.now c.self.inside.delays
     c.drop_dead.new.sent.items c.join_signal.new.sent.items
     (with_signal i c.take_turns-signal.result c.self.inside.sent.items)
     c.deref-4.ensures.value c.join_signal.ensures.items c.drop_dead.ensures.items in

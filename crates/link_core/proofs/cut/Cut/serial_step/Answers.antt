@@ -1,7 +1,8 @@
 use Rattle.std.proofs.Common.{ℕ, ◌≡◌, ◌<◌, arith, sym, ap, ◌∙◌, subst}
 use Rattle.std.specs.Prelude.{map, slice_index, length, List, filter}
 use Rattle.link_order.specs.NodeKind.{NodeKind, IsLawful, kind_of}
-use Rattle.link_order.specs.Cut.{hop_of, Cut, plain_cut, live, is_awaited}
+use Rattle.link_node.specs.Delays.{hop_of}
+use Rattle.link_order.specs.Cut.{Cut, plain_cut, live, is_awaited}
 use Rattle.link_order.specs.GlobalOrder.{least, due_at, step}
 use Rattle.link_core.proofs.Keeping.{kept_few, least_known, due_known, due_may_go, Turned, turned_live, turned_kept}
 use Rattle.link_core.proofs.cut.Cut.serial_step.Goals as goal
@@ -16,7 +17,7 @@ pub turn_of-signal-requires-clause-below : goal.turn_of-signal-requires-clause-b
 turn_of-signal-requires-clause-below g c =
     let now : Cut g.row.N.Denot = record {
       consoles = c.self.inside.nodes.items;
-      delay = c.self.inside.delay;
+      delays = c.self.inside.delays;
       sent =
           c.self.inside.sent.items;
     } in
@@ -34,7 +35,7 @@ pub turn_of-signal-requires-clause-ordered : goal.turn_of-signal-requires-clause
 turn_of-signal-requires-clause-ordered g c =
     let now : Cut g.row.N.Denot = record {
       consoles = c.self.inside.nodes.items;
-      delay = c.self.inside.delay;
+      delays = c.self.inside.delays;
       sent =
           c.self.inside.sent.items;
     } in
@@ -54,7 +55,7 @@ pub turn_of-signal-requires-clause-taken : goal.turn_of-signal-requires-clause-t
 turn_of-signal-requires-clause-taken g c =
     let now : Cut g.row.N.Denot = record {
       consoles = c.self.inside.nodes.items;
-      delay = c.self.inside.delay;
+      delays = c.self.inside.delays;
       sent =
           c.self.inside.sent.items;
     } in
@@ -79,7 +80,7 @@ pub invariant_of-self : goal.invariant_of-self
 invariant_of-self g c =
     let now : Cut g.row.N.Denot = record {
       consoles = c.self.inside.nodes.items;
-      delay = c.self.inside.delay;
+      delays = c.self.inside.delays;
       sent =
           c.self.inside.sent.items;
     } in
@@ -109,10 +110,10 @@ invariant_of-self g c =
       signal_is = c.turn_of-signal.ensures.signal;
       sent_is = c.drop_dead.ensures.items
           ∙ ap (λ (xs : List g.row.N.Denot). filter
-          (is_awaited (hop_of c.self.inside.delay) (slice_index (map g.N.Node.was (map g.N.Node.plain xs)))
+          (is_awaited (hop_of c.self.inside.delays) (slice_index (map g.N.Node.was (map g.N.Node.plain xs)))
           (length xs)) c.join_signal.new.sent.items)
           c.deref-6.ensures.value
-          ∙ ap (filter (is_awaited (hop_of c.self.inside.delay)
+          ∙ ap (filter (is_awaited (hop_of c.self.inside.delays)
           (slice_index (map g.N.Node.was (map g.N.Node.plain c.turn_of-signal.new.nodes.items)))
           (length c.turn_of-signal.new.nodes.items)))
           c.join_signal.ensures.items;
@@ -125,7 +126,7 @@ pub returns-clause-step : goal.returns-clause-step
 returns-clause-step g c =
     let now : Cut g.row.N.Denot = record {
       consoles = c.self.inside.nodes.items;
-      delay = c.self.inside.delay;
+      delays = c.self.inside.delays;
       sent =
           c.self.inside.sent.items;
     } in
@@ -155,10 +156,10 @@ returns-clause-step g c =
       signal_is = c.turn_of-signal.ensures.signal;
       sent_is = c.drop_dead.ensures.items
           ∙ ap (λ (xs : List g.row.N.Denot). filter
-          (is_awaited (hop_of c.self.inside.delay) (slice_index (map g.N.Node.was (map g.N.Node.plain xs)))
+          (is_awaited (hop_of c.self.inside.delays) (slice_index (map g.N.Node.was (map g.N.Node.plain xs)))
           (length xs)) c.join_signal.new.sent.items)
           c.deref-6.ensures.value
-          ∙ ap (filter (is_awaited (hop_of c.self.inside.delay)
+          ∙ ap (filter (is_awaited (hop_of c.self.inside.delays)
           (slice_index (map g.N.Node.was (map g.N.Node.plain c.turn_of-signal.new.nodes.items)))
           (length c.turn_of-signal.new.nodes.items)))
           c.join_signal.ensures.items;

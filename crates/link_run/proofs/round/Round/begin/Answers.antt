@@ -14,19 +14,19 @@ open_lanes-requires-clause-can g c =
     let kind : NodeKind g.N.Node.Record = kind_of g.N.Node.clock g.N.Node.was g.N.Node.next in
     let p = c.part-nodes.ensures in
     let same : cut_of c.part-nodes.result.0.items c.part-nodes.result.1 ≡ c.args.cut
-    = same_cut c.args.cut c.part-nodes.result.0.items c.part-nodes.result.1 p.nodes p.delay p.sent in
+    = same_cut c.args.cut c.part-nodes.result.0.items c.part-nodes.result.1 p.nodes p.delays p.sent in
     can_open kind g.N.Node.plain g.N.Node.bound c.args.cut c.in-Ok-begin.shared c.part-nodes.result.0.items
-    c.in-Ok-begin.seats.items c.sent.result.now c.delay.result c.in-Ok-begin.ensures
+    c.in-Ok-begin.seats.items c.sent.result.now c.delays.result.now c.in-Ok-begin.ensures
     (subst (λ (d : Cut g.row.N.Denot). IsCable (plain_cut g.N.Node.plain d)) same p.cable)
     (subst (λ (d : Cut g.row.N.Denot). IsSound kind (plain_cut g.N.Node.plain d)) same p.sound)
-    p.nodes (c.sent.ensures.value ∙ p.sent) (c.delay.ensures.value ∙ p.delay)
+    p.nodes (c.sent.ensures.value ∙ p.sent) (c.delays.ensures.value ∙ p.delays)
 
 pub returns-in-Ok-open_lanes-clause-made : goal.returns-in-Ok-open_lanes-clause-made
 returns-in-Ok-open_lanes-clause-made g c =
     let kind : NodeKind g.N.Node.Record = kind_of g.N.Node.clock g.N.Node.was g.N.Node.next in
     let p = c.part-nodes.ensures in
     let same : cut_of c.part-nodes.result.0.items c.part-nodes.result.1 ≡ c.args.cut
-    = same_cut c.args.cut c.part-nodes.result.0.items c.part-nodes.result.1 p.nodes p.delay p.sent in
+    = same_cut c.args.cut c.part-nodes.result.0.items c.part-nodes.result.1 p.nodes p.delays p.sent in
     let o = c.in-Ok-open_lanes.ensures in
     let nodes_are : map node_of c.in-Ok-open_lanes.field-0.lanes.items ≡ c.args.cut.consoles = o.nodes ∙ p.nodes in
     let lanes = are_lanes kind g.N.Node.plain g.N.Node.bound c.args.cut c.in-Ok-begin.shared c.in-Ok-begin.seats.items
@@ -44,7 +44,7 @@ returns-in-Ok-open_lanes-clause-made g c =
           c.in-Ok-open_lanes.field-0.lanes.items c.in-Ok-begin.ensures nodes_are o.seats;
       round_is = record {
         lanes_are = lanes;
-        delay_is = p.delay ∙ ap (λ (d : Cut g.row.N.Denot). d.delay) (sym c.in-Ok-begin.ensures.cut_is);
+        delays_are = p.delays ∙ ap (λ (d : Cut g.row.N.Denot). d.delays) (sym c.in-Ok-begin.ensures.cut_is);
         no_nodes = o.empty_nodes;
         no_seats = o.empty_seats;
         no_waits = c.in-Ok.ensures.items;

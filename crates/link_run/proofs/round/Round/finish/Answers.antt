@@ -54,12 +54,12 @@ add_all_waiting-requires g c =
     let lists_are : lists ≡ map waits_of lanes
     = ap (map (λ list. list.items)) c.deref.ensures.value ∙ c.part_all.ensures.waits
     ∙ ap (λ (l : _). map (λ list. list.items) l ++ map waits_of lanes) round.no_waits in
-    let m : Makes kind g.N.Node.plain key lanes c.meet-joined.result lists c.part_all.new.nodes.items key.cut.value.delay
+    let m : Makes kind g.N.Node.plain key lanes c.meet-joined.result lists c.part_all.new.nodes.items key.cut.value.delays
     = makes kind law g.N.Node.plain key c.args.self.shared lanes c.meet-joined.result lists c.part_all.new.nodes.items
-    key.cut.value.delay went lists_are nodes_are refl in
+    key.cut.value.delays went lists_are nodes_are refl in
     subst (MayAdd (WaitsIn lists)) (sym c.clear.ensures.sent)
     (may_first (WaitsIn lists)
-    (PairsRest kind g.N.Node.plain key c.meet-joined.result c.part_all.new.nodes.items key.cut.value.delay 16)
+    (PairsRest kind g.N.Node.plain key c.meet-joined.result c.part_all.new.nodes.items key.cut.value.delays 16)
     (live kind m.e).sent m.gathers)
 
 pub add_rests-requires-clause-may : goal.add_rests-requires-clause-may
@@ -87,15 +87,15 @@ add_rests-requires-clause-may g c =
     let lists_are : lists ≡ map waits_of lanes
     = ap (map (λ list. list.items)) c.deref.ensures.value ∙ c.part_all.ensures.waits
     ∙ ap (λ (l : _). map (λ list. list.items) l ++ map waits_of lanes) round.no_waits in
-    let delay_is : c.add_all_waiting.new.shell.delay ≡ key.cut.value.delay
-    = c.add_all_waiting.ensures.delay ∙ c.clear.ensures.delay ∙ round.delay_is in
+    let delays_are : c.add_all_waiting.new.shell.delays ≡ key.cut.value.delays
+    = c.add_all_waiting.ensures.delays ∙ c.clear.ensures.delays ∙ round.delays_are in
     let m : Makes kind g.N.Node.plain key lanes c.meet-joined.result lists c.deref-2.result.now
-    c.add_all_waiting.new.shell.delay
+    c.add_all_waiting.new.shell.delays
     = makes kind law g.N.Node.plain key c.args.self.shared lanes c.meet-joined.result lists c.deref-2.result.now
-    c.add_all_waiting.new.shell.delay went lists_are (c.deref-2.ensures.value ∙ nodes_are) delay_is in
+    c.add_all_waiting.new.shell.delays went lists_are (c.deref-2.ensures.value ∙ nodes_are) delays_are in
     let P : Sent → Type 0 = WaitsIn lists in
     let Q : Sent → Type 0 = PairsRest kind g.N.Node.plain key c.meet-joined.result c.deref-2.result.now
-    c.add_all_waiting.new.shell.delay 16 in
+    c.add_all_waiting.new.shell.delays 16 in
     let first : Adds P [] c.add_all_waiting.new.shell.sent
     = subst (λ (l : List Sent). Adds P l c.add_all_waiting.new.shell.sent) c.clear.ensures.sent
     c.add_all_waiting.ensures.adds in
@@ -126,15 +126,15 @@ join-requires-clause-cable g c =
     let lists_are : lists ≡ map waits_of lanes
     = ap (map (λ list. list.items)) c.deref.ensures.value ∙ c.part_all.ensures.waits
     ∙ ap (λ (l : _). map (λ list. list.items) l ++ map waits_of lanes) round.no_waits in
-    let delay_is : c.add_all_waiting.new.shell.delay ≡ key.cut.value.delay
-    = c.add_all_waiting.ensures.delay ∙ c.clear.ensures.delay ∙ round.delay_is in
+    let delays_are : c.add_all_waiting.new.shell.delays ≡ key.cut.value.delays
+    = c.add_all_waiting.ensures.delays ∙ c.clear.ensures.delays ∙ round.delays_are in
     let m : Makes kind g.N.Node.plain key lanes c.meet-joined.result lists c.deref-2.result.now
-    c.add_all_waiting.new.shell.delay
+    c.add_all_waiting.new.shell.delays
     = makes kind law g.N.Node.plain key c.args.self.shared lanes c.meet-joined.result lists c.deref-2.result.now
-    c.add_all_waiting.new.shell.delay went lists_are (c.deref-2.ensures.value ∙ nodes_are) delay_is in
+    c.add_all_waiting.new.shell.delays went lists_are (c.deref-2.ensures.value ∙ nodes_are) delays_are in
     let P : Sent → Type 0 = WaitsIn lists in
     let Q : Sent → Type 0 = PairsRest kind g.N.Node.plain key c.meet-joined.result c.deref-2.result.now
-    c.add_all_waiting.new.shell.delay 16 in
+    c.add_all_waiting.new.shell.delays 16 in
     let first : Adds P [] c.add_all_waiting.new.shell.sent
     = subst (λ (l : List Sent). Adds P l c.add_all_waiting.new.shell.sent) c.clear.ensures.sent
     c.add_all_waiting.ensures.adds in
@@ -143,7 +143,7 @@ join-requires-clause-cable g c =
     (c.add_rests.ensures.adds key went.keys) in
     let whole : plain_cut g.N.Node.plain (cut_of c.part_all.new.nodes.items c.add_rests.new.shell) ≡ live kind m.e
     = put_together kind g.N.Node.plain key lanes m.e c.part_all.new.nodes.items c.add_rests.new.shell m.closed nodes_are
-    (c.add_rests.ensures.delay ∙ delay_is) all in
+    (c.add_rests.ensures.delays ∙ delays_are) all in
     subst (λ (d : Cut g.N.Node.Record). IsCable d) (sym whole)
     (cable_same (live kind m.e) m.e refl refl m.closed.goes_on.cable)
 
@@ -172,15 +172,15 @@ join-requires-clause-sound g c =
     let lists_are : lists ≡ map waits_of lanes
     = ap (map (λ list. list.items)) c.deref.ensures.value ∙ c.part_all.ensures.waits
     ∙ ap (λ (l : _). map (λ list. list.items) l ++ map waits_of lanes) round.no_waits in
-    let delay_is : c.add_all_waiting.new.shell.delay ≡ key.cut.value.delay
-    = c.add_all_waiting.ensures.delay ∙ c.clear.ensures.delay ∙ round.delay_is in
+    let delays_are : c.add_all_waiting.new.shell.delays ≡ key.cut.value.delays
+    = c.add_all_waiting.ensures.delays ∙ c.clear.ensures.delays ∙ round.delays_are in
     let m : Makes kind g.N.Node.plain key lanes c.meet-joined.result lists c.deref-2.result.now
-    c.add_all_waiting.new.shell.delay
+    c.add_all_waiting.new.shell.delays
     = makes kind law g.N.Node.plain key c.args.self.shared lanes c.meet-joined.result lists c.deref-2.result.now
-    c.add_all_waiting.new.shell.delay went lists_are (c.deref-2.ensures.value ∙ nodes_are) delay_is in
+    c.add_all_waiting.new.shell.delays went lists_are (c.deref-2.ensures.value ∙ nodes_are) delays_are in
     let P : Sent → Type 0 = WaitsIn lists in
     let Q : Sent → Type 0 = PairsRest kind g.N.Node.plain key c.meet-joined.result c.deref-2.result.now
-    c.add_all_waiting.new.shell.delay 16 in
+    c.add_all_waiting.new.shell.delays 16 in
     let first : Adds P [] c.add_all_waiting.new.shell.sent
     = subst (λ (l : List Sent). Adds P l c.add_all_waiting.new.shell.sent) c.clear.ensures.sent
     c.add_all_waiting.ensures.adds in
@@ -189,7 +189,7 @@ join-requires-clause-sound g c =
     (c.add_rests.ensures.adds key went.keys) in
     let whole : plain_cut g.N.Node.plain (cut_of c.part_all.new.nodes.items c.add_rests.new.shell) ≡ live kind m.e
     = put_together kind g.N.Node.plain key lanes m.e c.part_all.new.nodes.items c.add_rests.new.shell m.closed nodes_are
-    (c.add_rests.ensures.delay ∙ delay_is) all in
+    (c.add_rests.ensures.delays ∙ delays_are) all in
     subst (IsSound kind) (sym whole) (sound_live kind m.e m.closed.goes_on.sound)
 
 pub join-requires-clause-live : goal.join-requires-clause-live
@@ -217,15 +217,15 @@ join-requires-clause-live g c =
     let lists_are : lists ≡ map waits_of lanes
     = ap (map (λ list. list.items)) c.deref.ensures.value ∙ c.part_all.ensures.waits
     ∙ ap (λ (l : _). map (λ list. list.items) l ++ map waits_of lanes) round.no_waits in
-    let delay_is : c.add_all_waiting.new.shell.delay ≡ key.cut.value.delay
-    = c.add_all_waiting.ensures.delay ∙ c.clear.ensures.delay ∙ round.delay_is in
+    let delays_are : c.add_all_waiting.new.shell.delays ≡ key.cut.value.delays
+    = c.add_all_waiting.ensures.delays ∙ c.clear.ensures.delays ∙ round.delays_are in
     let m : Makes kind g.N.Node.plain key lanes c.meet-joined.result lists c.deref-2.result.now
-    c.add_all_waiting.new.shell.delay
+    c.add_all_waiting.new.shell.delays
     = makes kind law g.N.Node.plain key c.args.self.shared lanes c.meet-joined.result lists c.deref-2.result.now
-    c.add_all_waiting.new.shell.delay went lists_are (c.deref-2.ensures.value ∙ nodes_are) delay_is in
+    c.add_all_waiting.new.shell.delays went lists_are (c.deref-2.ensures.value ∙ nodes_are) delays_are in
     let P : Sent → Type 0 = WaitsIn lists in
     let Q : Sent → Type 0 = PairsRest kind g.N.Node.plain key c.meet-joined.result c.deref-2.result.now
-    c.add_all_waiting.new.shell.delay 16 in
+    c.add_all_waiting.new.shell.delays 16 in
     let first : Adds P [] c.add_all_waiting.new.shell.sent
     = subst (λ (l : List Sent). Adds P l c.add_all_waiting.new.shell.sent) c.clear.ensures.sent
     c.add_all_waiting.ensures.adds in
@@ -234,7 +234,7 @@ join-requires-clause-live g c =
     (c.add_rests.ensures.adds key went.keys) in
     let whole : plain_cut g.N.Node.plain (cut_of c.part_all.new.nodes.items c.add_rests.new.shell) ≡ live kind m.e
     = put_together kind g.N.Node.plain key lanes m.e c.part_all.new.nodes.items c.add_rests.new.shell m.closed nodes_are
-    (c.add_rests.ensures.delay ∙ delay_is) all in
+    (c.add_rests.ensures.delays ∙ delays_are) all in
     subst (AllLive kind) (sym whole) (filter_passes (is_live kind m.e) m.e.sent)
 
 pub returns : goal.returns
@@ -260,15 +260,15 @@ returns g c key round until within begun =
     let lists_are : lists ≡ map waits_of lanes
     = ap (map (λ list. list.items)) c.deref.ensures.value ∙ c.part_all.ensures.waits
     ∙ ap (λ (l : _). map (λ list. list.items) l ++ map waits_of lanes) round.no_waits in
-    let delay_is : c.add_all_waiting.new.shell.delay ≡ key.cut.value.delay
-    = c.add_all_waiting.ensures.delay ∙ c.clear.ensures.delay ∙ round.delay_is in
+    let delays_are : c.add_all_waiting.new.shell.delays ≡ key.cut.value.delays
+    = c.add_all_waiting.ensures.delays ∙ c.clear.ensures.delays ∙ round.delays_are in
     let m : Makes kind g.N.Node.plain key lanes c.meet-joined.result lists c.deref-2.result.now
-    c.add_all_waiting.new.shell.delay
+    c.add_all_waiting.new.shell.delays
     = makes kind law g.N.Node.plain key c.args.self.shared lanes c.meet-joined.result lists c.deref-2.result.now
-    c.add_all_waiting.new.shell.delay went lists_are (c.deref-2.ensures.value ∙ nodes_are) delay_is in
+    c.add_all_waiting.new.shell.delays went lists_are (c.deref-2.ensures.value ∙ nodes_are) delays_are in
     let P : Sent → Type 0 = WaitsIn lists in
     let Q : Sent → Type 0 = PairsRest kind g.N.Node.plain key c.meet-joined.result c.deref-2.result.now
-    c.add_all_waiting.new.shell.delay 16 in
+    c.add_all_waiting.new.shell.delays 16 in
     let first : Adds P [] c.add_all_waiting.new.shell.sent
     = subst (λ (l : List Sent). Adds P l c.add_all_waiting.new.shell.sent) c.clear.ensures.sent
     c.add_all_waiting.ensures.adds in
@@ -277,7 +277,7 @@ returns g c key round until within begun =
     (c.add_rests.ensures.adds key went.keys) in
     let whole : plain_cut g.N.Node.plain (cut_of c.part_all.new.nodes.items c.add_rests.new.shell) ≡ live kind m.e
     = put_together kind g.N.Node.plain key lanes m.e c.part_all.new.nodes.items c.add_rests.new.shell m.closed nodes_are
-    (c.add_rests.ensures.delay ∙ delay_is) all in
+    (c.add_rests.ensures.delays ∙ delays_are) all in
     record {
       whole = m.e;
       live_is = ap (plain_cut g.N.Node.plain) c.join.ensures ∙ whole;

@@ -53,9 +53,8 @@ deal-requires-clause-common g c =
       record {
         players_is = ap length nodes_are ∙ players_text kind g.N.Node.plain key;
         sound = sound_text kind law g.N.Node.plain key c.in_ok-words.words.items h;
-        delay_is = c.delay.ensures.value ∙ ap (λ (d : Cut g.row.N.Denot). d.delay) (sym c.of.ensures);
-        some_delay = c.delay.ensures.some;
-        short_delay = c.delay.ensures.short;
+        delays_are = c.delays.ensures.value ∙ ap (λ (d : Cut g.row.N.Denot). d.delays) (sym c.of.ensures);
+        within = c.delays.ensures.within;
       },
       undealt_whole kind g.N.Node.plain key c.in_ok-table.place.me (length c.nodes-nodes.result.now)
           (ap length nodes_are ∙ players_text kind g.N.Node.plain key) (c.in_ok-table.ensures {u = tt}).4,
