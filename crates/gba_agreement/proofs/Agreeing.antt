@@ -2,7 +2,7 @@
 use Rattle.std.proofs.Common.{ℕ}
 use Rattle.link_order.specs.NodeKind.{IsLawful, NodeKind}
 use Rattle.link_order.specs.Cut.{Cut}
-use Rattle.link_moments.specs.Law.{CarriesSignals, MakesSteps}
+use Rattle.link_steps.specs.Law.{CarriesSignals, MakesSteps}
 use Rattle.gba_agreement.specs.UnitView.{HasUnit, UnitView}
 use Rattle.gba_agreement.specs.Agreement.{AreLinked, UnitsAgreeInMulti, UnitsAgreeInNormal}
 use Rattle.gba_agreement.proofs.Following.{Given}

@@ -10,7 +10,7 @@ use Rattle.link_node.specs.declared.signal.Incoming.{Incoming}
 use Rattle.link_node.specs.declared.signal.Signal.{Signal}
 use Rattle.link_order.specs.NodeKind.{NodeKind}
 use Rattle.link_order.specs.Cut.{Cut, clock_at, hop}
-use Rattle.link_moments.specs.Law.{IsFromPeer, IsTold, MakesStep, WasSent}
+use Rattle.link_steps.specs.Law.{IsFromPeer, IsTold, MakesStep, WasSent}
 use Rattle.gba_agreement.specs.UnitView.{UnitView, ends_in}
 use Rattle.gba_agreement.specs.Agreement.{ReachesEnd}
 use Rattle.gba_agreement.proofs.Course.{Course, HasPlace, IsOn, IsWiredTo, place-alike}

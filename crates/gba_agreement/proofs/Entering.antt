@@ -17,7 +17,7 @@ use Rattle.link_node.specs.declared.signal.Start.{Start}
 use Rattle.link_order.specs.NodeKind.{NodeKind}
 use Rattle.link_order.specs.Due.{incoming}
 use Rattle.link_order.specs.Cut.{Cut, count, hop}
-use Rattle.link_moments.specs.Law.{MakesStep}
+use Rattle.link_steps.specs.Law.{MakesStep}
 use Rattle.gba_agreement.specs.UnitView.{IsSeat, UnitView}
 use Rattle.gba_agreement.specs.Agreement.{Meets, StartsTransfer}
 use Rattle.gba_agreement.proofs.Course.{Course, HasPlace, IsAlike, IsOn, alike-silent, on-alike}

@@ -15,7 +15,7 @@ use Rattle.link_node.specs.declared.signal.Signal.{Signal}
 use Rattle.link_order.specs.NodeKind.{IsLawful, NodeKind}
 use Rattle.link_order.specs.Cut.{Cut}
 use Rattle.link_order.proofs.Numbers.{same_or_apart}
-use Rattle.link_moments.specs.Law.{ComesOfStep, HasSteps, MakesStep, PassesSignals}
+use Rattle.link_steps.specs.Law.{ComesOfStep, HasSteps, MakesStep, PassesSignals}
 use Rattle.gba_agreement.specs.Agreement.{AreLinked}
 use Rattle.gba_agreement.specs.UnitView.{HasUnit, UnitView}
 use Rattle.gba_agreement.proofs.Course.{Course, HasPlace, IsAlike, IsOn, IsWiredTo, alike-all_written, alike-silent, alike-then, is_on-running, on-alike, taken-on}

@@ -4,7 +4,7 @@ use Rattle.std.proofs.Common.{◌≡◌, List, [], ◌∷◌, ◌++◌, sym, ap,
 use Rattle.link_node.specs.Due.{InOrder, Precedes}
 use Rattle.link_node.specs.declared.signal.Incoming.{Incoming}
 use Rattle.link_order.proofs.Lists.{all_cons, all_head, all_nil, all_tail, pairs_head, pairs_tail}
-use Rattle.link_moments.specs.Law.{StandsIn}
+use Rattle.link_steps.specs.Law.{StandsIn}
 
 pub all-here : {X : Type 0} (P : X → Type 0) (xs : List X) (y : X) (ys : List X) → All P (xs ++ y ∷ ys) → P y
 all-here P [] y ys all = all_head P y ys all

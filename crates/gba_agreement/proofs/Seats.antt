@@ -10,7 +10,7 @@ use Rattle.gba_serial.proofs.Seats.{stays}
 use Rattle.link_node.specs.declared.signal.Incoming.{Incoming}
 use Rattle.link_order.specs.NodeKind.{NodeKind}
 use Rattle.link_order.specs.Cut.{Cut}
-use Rattle.link_moments.specs.Law.{HasSteps, MakesStep}
+use Rattle.link_steps.specs.Law.{HasSteps, MakesStep}
 use Rattle.gba_agreement.specs.UnitView.{HasUnit, IsSeat, IsSeated, UnitView}
 
 module _ {C : Type 0} (cut : Cut C) (i : ℕ) where

@@ -17,7 +17,7 @@ use Rattle.link_order.specs.NodeKind.{NodeKind}
 use Rattle.link_order.proofs.Numbers.{same_or_apart}
 use Rattle.link_order.specs.Due.{incoming}
 use Rattle.link_order.specs.Cut.{Cut, count, hop}
-use Rattle.link_moments.specs.Law.{IsFromPeer, MakesStep, StandsIn}
+use Rattle.link_steps.specs.Law.{IsFromPeer, MakesStep, StandsIn}
 use Rattle.gba_agreement.specs.UnitView.{UnitView}
 use Rattle.gba_agreement.specs.Agreement.{Meets, ReachesEnd}
 use Rattle.gba_agreement.proofs.Course.{Course, HasPlace, IsHeardBy, IsWiredTo, place-alike, taken-fills}

@@ -14,7 +14,7 @@ use Rattle.link_node.specs.declared.signal.Start.{Start}
 use Rattle.link_order.specs.NodeKind.{NodeKind}
 use Rattle.link_order.specs.Due.{incoming}
 use Rattle.link_order.specs.Cut.{Cut, count, hop, IsSound, IsInTime, IsCable}
-use Rattle.link_moments.specs.Law.{MakesStep}
+use Rattle.link_steps.specs.Law.{MakesStep}
 use Rattle.gba_agreement.specs.UnitView.{HasUnit, IsSeated, UnitView, ends_in}
 
 -- this project's profile: linked consoles agree on a transfer. The laws hold of every record, also of one that no console

@@ -6,7 +6,7 @@
 ghost use Rattle.link_order.specs.NodeKind.{kind_of};
 ghost use Rattle.gba_agreement.specs.Agreement.{UnitsAgreeInMulti, UnitsAgreeInNormal};
 
-use link_moments::{signals, steps};
+use link_steps::{signals, steps};
 use link_node::Node;
 
 /// No way from player 0 is shorter over another console. Player 0 starts a Multi transfer, and every other console is in

@@ -4,17 +4,14 @@ use Rattle.std.specs.Str.{bytes_eq}
 use Rattle.gba_text.specs.Lines.{lines}
 use Rattle.gba_asm_words.specs.declared.kinds.AsmKind.{AsmKind}
 use Rattle.gba_asm_words.specs.Names.{first_some}
+use Rattle.gba_image.specs.Checks.{longest_cartridge}
 use Rattle.gba_asm.specs.declared.labels.LabelPlace.{LabelPlace}
 use Rattle.gba_asm.specs.declared.places.Place.{Place}
 use Rattle.gba_asm.specs.Statements.{Statement, Nothing, Mode, Data, Space, Align, Arm, Thumb, line_says, label_of, size_of}
 
--- the most bytes of an image
-abbrev pub largest_image : ℕ
-largest_image = 33554432
-
 -- whether so many bytes at this address are in an image
 abbrev pub fits : ℕ → ℕ → Bool
-fits address size = nat_le (address + size) largest_image
+fits address size = nat_le (address + size) longest_cartridge
 
 -- a source begins at address 0 in ARM state
 abbrev pub start : Place

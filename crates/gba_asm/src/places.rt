@@ -8,9 +8,7 @@ ghost use Rattle.gba_asm_words.specs.declared.kinds.AsmKind.{AsmKind as Kind};
 
 use crate::statements::{SizedStatement, Statement};
 use gba_asm_words::AsmKind;
-
-/// The most bytes of an image.
-const LARGEST_IMAGE: u64 = 33_554_432;
+use gba_image::LONGEST_CARTRIDGE;
 
 /// Where a line stands: its address, and whether Thumb code stands there.
 #[derive(Clone, Copy)]
@@ -24,7 +22,7 @@ pub(crate) fn fits(address: u32, size: u64) -> bool
     requires { size < 2 ^ 32 }
     ensures { result ≡ fits_in address size }
 {
-    u64::from(address) + size <= LARGEST_IMAGE
+    u64::from(address) + size <= LONGEST_CARTRIDGE as u64
 }
 
 fn state_after(state: bool, statement: Statement<'_>) -> bool

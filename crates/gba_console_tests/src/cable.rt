@@ -5,7 +5,7 @@ use gba_console::Console;
 use gba_image::{Bios, ConsoleImages};
 use gba_io::Room;
 use link_node::{Incoming, Node, Signal};
-use link_trial::may_take;
+use link_trials::may_take;
 use std::alloc::Global;
 use std::process::Abort;
 use std::test::Fail;

@@ -9,5 +9,5 @@ mod thumb;
 mod units;
 
 pub use gba_terms::NoMemory;
-pub use listing::{LONGEST_IMAGE, disassemble};
+pub use listing::disassemble;
 pub use units::Set;

@@ -15,9 +15,6 @@ use gba_asm::{AsmRefused, assemble_line};
 use gba_terms::NoMemory;
 use std::alloc::{AllocError, Global};
 
-/// The most bytes of an image.
-pub const LONGEST_IMAGE: usize = 33_554_432;
-
 /// The statement of a unit at this address, nothing where it has none.
 fn add_statement(line: &mut Vec<u8>, at: u32, unit: Unit) -> Result<(), AllocError>
     ensures { OnOk result (line.new.items ≡ line.old.items ++ text_of (statement at unit)) }

@@ -1,12 +1,13 @@
 //! What the disassembler lists, compared with what is wanted.
 
 use gba_asm::assemble;
-use gba_dis::{LONGEST_IMAGE, Set, disassemble};
+use gba_dis::{Set, disassemble};
+use gba_image::LONGEST_CARTRIDGE;
 use std::alloc::{AllocError, Global};
 
 /// Whether bytes have this listing.
 pub fn lists(alloc: Global, set: Set, bytes: &[u8], want: &[u8]) -> bool {
-    if bytes.len() > LONGEST_IMAGE {
+    if bytes.len() > LONGEST_CARTRIDGE {
         return false;
     }
     match disassemble(alloc, bytes, set) {
@@ -32,7 +33,7 @@ pub fn lists_half(alloc: Global, half: u16, line: &[u8]) -> Result<bool, AllocEr
 
 /// Whether the assembler turns the listing of bytes into the same bytes.
 pub fn comes_back(alloc: Global, set: Set, bytes: &[u8]) -> bool {
-    if bytes.len() > LONGEST_IMAGE {
+    if bytes.len() > LONGEST_CARTRIDGE {
         return false;
     }
     let Ok(text) = disassemble(alloc, bytes, set) else {

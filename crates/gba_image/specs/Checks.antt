@@ -12,12 +12,16 @@ bios_fault bytes = if length bytes == 16384 then None else Some BiosLength
 abbrev pub header_check : List ℕ → ℕ
 header_check bytes = (256 - (sum (slice_range bytes 0xa0 0xbd) + 0x19) % 256) % 256
 
+-- the most bytes of a cartridge: 32 MiB (GBATEK, GBA Memory Map)
+abbrev pub longest_cartridge : ℕ
+longest_cartridge = 33554432
+
 -- A cartridge has a whole header and at most 32 MiB; the byte B2h is 96h, and the byte BDh is the header check. The
 -- logo isn't compared (GBATEK, GBA Cartridge Header; the logo and the lengths this project's profile).
 unfoldable pub cartridge_fault : List ℕ → Option ImageError
 cartridge_fault bytes =
     if nat_lt (length bytes) 192 then Some TooShort
-    else if nat_lt 33554432 (length bytes) then Some TooLong
+    else if nat_lt longest_cartridge (length bytes) then Some TooLong
     else if slice_index bytes 0xb2 == 0x96
     then (if slice_index bytes 0xbd == header_check bytes then None else Some HeaderCheck)
     else Some FixedByte

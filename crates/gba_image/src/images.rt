@@ -13,7 +13,7 @@ const BIOS_LENGTH: usize = 16_384;
 const HEADER_LENGTH: usize = 192;
 
 /// The longest cartridge in bytes (GBATEK, GBA Memory Map).
-const LONGEST_CARTRIDGE: usize = 33_554_432;
+pub const LONGEST_CARTRIDGE: usize = 33_554_432;
 
 /// The length of a save in bytes: that of the SRAM (GBATEK, GBA Cart Backup SRAM).
 const SAVE_LENGTH: usize = 32_768;

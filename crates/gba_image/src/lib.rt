@@ -6,4 +6,4 @@ mod error;
 mod images;
 
 pub use error::ImageError;
-pub use images::{Bios, Cartridge, ConsoleImages, Save};
+pub use images::{Bios, Cartridge, ConsoleImages, LONGEST_CARTRIDGE, Save};

@@ -4,7 +4,7 @@ use Rattle.std.specs.Str.{bytes_eq}
 use Rattle.sha2.specs.Sha256.{sha256}
 use Rattle.gba_command.specs.Cause.{Cause, Job, Image, Digest}
 use Rattle.gba_command.specs.Plan.{Plan, Done, bind, each, file, judgement}
-use Rattle.gba_image.specs.Checks.{bios_fault, cartridge_fault, save_fault}
+use Rattle.gba_image.specs.Checks.{bios_fault, cartridge_fault, longest_cartridge, save_fault}
 use Rattle.gba_image.specs.declared.error.ImageError.{ImageError}
 use Rattle.gba_image.specs.declared.error.ImageError.TheVariants.{BiosLength, TooLong, SaveLength}
 use Rattle.gba_joblog.specs.Kinds.{JobError}
@@ -38,7 +38,7 @@ abbrev pub bios_form : ImageForm
 bios_form = record { most = 16384; long = BiosLength; fault = bios_fault }
 
 abbrev pub cart_form : ImageForm
-cart_form = record { most = 33554432; long = TooLong; fault = cartridge_fault }
+cart_form = record { most = longest_cartridge; long = TooLong; fault = cartridge_fault }
 
 abbrev pub save_form : ImageForm
 save_form = record { most = 32768; long = SaveLength; fault = save_fault }

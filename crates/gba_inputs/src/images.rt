@@ -10,15 +10,13 @@ ghost use Rattle.gba_inputs.specs.Views.{digested_value};
 
 use crate::inputs::Digested;
 use gba_command::{Cause, Refusal, name_in_report, read_file};
-use gba_image::{Bios, Cartridge, ImageError, Save};
+use gba_image::{Bios, Cartridge, ImageError, LONGEST_CARTRIDGE, Save};
 use gba_joblog::{FileLine, digest_of};
 use gba_store::Store;
 use std::alloc::Global;
 
 /// The most bytes of each image.
 const MOST_OF_BIOS: u64 = 16_384;
-
-const MOST_OF_CARTRIDGE: u64 = 33_554_432;
 
 const MOST_OF_SAVE: u64 = 32_768;
 
@@ -118,7 +116,7 @@ fn read_cartridge<S: Store>(
 {
     let name = name_of(file);
     let long = Cause::Image(name_in_report(name), ImageError::TooLong);
-    let bytes = read_file(alloc, store, name, MOST_OF_CARTRIDGE, long)?;
+    let bytes = read_file(alloc, store, name, LONGEST_CARTRIDGE as u64, long)?;
     judge_cartridge(file, bytes)
 }
 

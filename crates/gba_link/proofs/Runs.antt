@@ -10,8 +10,8 @@ use Rattle.gba_link.specs.RunPlan.{images_in}
 use Rattle.gba_output.specs.StateFile.{summary_line}
 use Rattle.gba_session.specs.Files.{all_files}
 use Rattle.gba_session.specs.Session.{Consoles, finished, prepared}
-use Rattle.gba_written.specs.Names.{run_names}
-use Rattle.gba_written.specs.Written.{written}
+use Rattle.gba_run_files.specs.Names.{run_names}
+use Rattle.gba_run_files.specs.Written.{written}
 
 -- what a session writes of a job
 abbrev pub written_of : List ℕ → WholeJob → Consoles → Run

@@ -35,12 +35,12 @@ use Rattle.gba_link.specs.RunPlan.{after_inputs, after_job, end_with, files_at, 
 use Rattle.gba_session.proofs.SameRun.{RunsAlike, asks-alike, end-alike, end-many}
 use Rattle.gba_session.specs.Files.{all_files, asks_of}
 use Rattle.gba_store.specs.Files.{Files}
-use Rattle.gba_written.proofs.LogRoom.{all-stated, logged-sound}
-use Rattle.gba_written.proofs.RunAgain.{AreStatedBy, asked-filled, filled-alike, outs-again, written-end, written-outputs, written-under}
-use Rattle.gba_written.specs.Law.{under}
-use Rattle.gba_written.specs.Names.{run_names}
-use Rattle.gba_written.specs.Outputs.{all_outs, difference_of, outputs_of}
-use Rattle.gba_written.specs.Written.{conclusion, log_line, log_of, logged, written}
+use Rattle.gba_run_files.proofs.LogRoom.{all-stated, logged-sound}
+use Rattle.gba_run_files.proofs.RunAgain.{AreStatedBy, asked-filled, filled-alike, outs-again, written-end, written-outputs, written-under}
+use Rattle.gba_run_files.specs.Law.{under}
+use Rattle.gba_run_files.specs.Names.{run_names}
+use Rattle.gba_run_files.specs.Outputs.{all_outs, difference_of, outputs_of}
+use Rattle.gba_run_files.specs.Written.{conclusion, log_line, log_of, logged, written}
 use Rattle.link_order.specs.Cut.{Cut}
 
 -- ---- what a words read

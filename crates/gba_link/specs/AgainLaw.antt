@@ -10,7 +10,7 @@ use Rattle.gba_joblog.specs.Job.{WholeJob}
 use Rattle.gba_joblog.specs.Language.{job_of}
 use Rattle.gba_link.specs.RunPlan.{whole_run_plan}
 use Rattle.gba_store.specs.Files.{Files}
-use Rattle.gba_written.specs.Law.{under}
+use Rattle.gba_run_files.specs.Law.{under}
 
 -- the file of this name says the job
 pub record SaysJob (files : Files) (name : List ℕ) (job : WholeJob) : Type 0 where

@@ -20,8 +20,8 @@ use Rattle.gba_joblog.specs.declared.outputs.PerKind.{PerKind}
 use Rattle.gba_output.specs.StateFile.{summary_line}
 use Rattle.gba_session.specs.Files.{all_files, asks_of}
 use Rattle.gba_session.specs.Start.{end_of}
-use Rattle.gba_written.specs.Names.{run_names}
-use Rattle.gba_written.specs.Written.{written}
+use Rattle.gba_run_files.specs.Names.{run_names}
+use Rattle.gba_run_files.specs.Written.{written}
 use Rattle.link_order.specs.Cut.{Cut}
 
 -- JOB is refused at a line

@@ -15,10 +15,10 @@ use gba_command::{Cause, Outputs, Refusal, RunWords, name_in_report, read_file};
 use gba_image::ConsoleImages;
 use gba_inputs::{Inputs, fill_job, read_inputs};
 use gba_joblog::{Job, JobError, JobKind, LONGEST_JOB, ParseRefused};
+use gba_run_files::RunRoom;
 use gba_session::Session;
 use gba_store::{Gate, Store};
 use gba_terms::NoMemory;
-use gba_written::Room;
 use std::alloc::{AllocError, Global};
 use std::thread::Threads;
 
@@ -71,7 +71,7 @@ pub(crate) fn run_inputs<R: Threads + Sync, G: Gate + Sync>(
     ensures { IfOk result (λ outputs. run_value outputs ≡ result_of_run out.now (job_value job) (map inputs_value inputs.items)) }
 {
     fill_job(alloc, &mut job, inputs.as_mut_slice());
-    let room = Room::new(alloc, out, &job)?;
+    let room = RunRoom::new(alloc, out, &job)?;
     let images = images_from(alloc, inputs)?;
     let session = Session::prepare(alloc, &job, images)?.run(rt, alloc, gate);
     let summary = session.summary();

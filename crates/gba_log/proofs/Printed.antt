@@ -8,7 +8,7 @@ use Rattle.gba_joblog.specs.Log.{change_text, changes_text, console_text, consol
 use Rattle.gba_joblog.specs.declared.outputs.OutKind.{OutKind}
 use Rattle.gba_joblog.specs.declared.outputs.OutKind.TheVariants.{Frames}
 use Rattle.gba_joblog.proofs.OutputNames.{at_item}
-use Rattle.gba_log.specs.Room.{Buffer, Grew, HasRoom}
+use Rattle.gba_log.specs.Buffers.{Buffer, Grew, HasRoom}
 
 -- of a whole text this rest isn't added yet
 pub record Printed (old new : Buffer) (whole rest : List ℕ) : Type 0 where

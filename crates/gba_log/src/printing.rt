@@ -5,7 +5,7 @@ ghost use Rattle.std.specs.List.{All};
 ghost use Rattle.gba_joblog.specs.Soundness.{IsChange, IsConsole, IsJob};
 ghost use Rattle.gba_joblog.specs.Views.{console_value, file_value, job_value};
 ghost use Rattle.gba_joblog.specs.Log.{after_words, any_file_text, change_text, changes_text, console_text, consoles_text, digest_words, file_text, files_text, keys_word, line_of, log_text, out_text, outs_text};
-ghost use Rattle.gba_log.specs.Room.{Grew, HasRoom};
+ghost use Rattle.gba_log.specs.Buffers.{Grew, HasRoom};
 
 use gba_joblog::{FileLine, Job, JobConsole, KINDS, KeyChange, OutKind, digits_of};
 use itoa::Buffer;

@@ -1,4 +1,4 @@
 pub mod CableLines
 pub mod StateFile
 pub mod Truths
-pub mod Words
+pub mod TransferWords

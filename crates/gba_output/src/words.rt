@@ -1,7 +1,7 @@
 //! The words of transfers.
 
 ghost use Rattle.std.specs.Prelude.{◌≡◌, ◌+◌, ◌*◌, ◌≤◌, ◌++◌, [], codes, length, vec_len, vec_capacity};
-ghost use Rattle.gba_output.specs.Words.{half_text, multi_words, words_in, words_line, words_text};
+ghost use Rattle.gba_output.specs.TransferWords.{half_text, multi_words, words_in, words_line, words_text};
 
 use crate::state::{add, truth};
 use gba_serial::Transfer;

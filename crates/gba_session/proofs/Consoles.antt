@@ -19,7 +19,7 @@ use Rattle.gba_session.specs.Files.{all_files, asks_of, files_of}
 use Rattle.gba_session.specs.Start.{console_at, consoles_from, delays_of}
 use Rattle.gba_joblog.specs.Views.{console_value}
 use Rattle.gba_joblog.specs.declared.job.JobConsole.{JobConsole}
-use Rattle.gba_session.specs.Session.{RoomFor, room_for}
+use Rattle.gba_session.specs.Session.{RoomForFiles, room_for}
 use Rattle.gba_session.specs.Views.{files_value}
 
 -- The consoles of a job, one after another.
@@ -144,7 +144,7 @@ rooms-map until [] = refl
 rooms-map until (console ∷ made) = ap (λ rooms. room_for until (console_value console) ∷ rooms) (rooms-map until made)
 
 -- one more room
-pub rooms-more : (until i : ℕ) (made : List JobConsole) (x : JobConsole) (old new : List RoomFor) (room : RoomFor)
+pub rooms-more : (until i : ℕ) (made : List JobConsole) (x : JobConsole) (old new : List RoomForFiles) (room : RoomForFiles)
     → i < length made → x ≡ get_or made i x → new ≡ old ++ room ∷ [] → room ≡ room_for until (console_value x)
     → old ≡ map (λ console. room_for until (console_value console)) (take i made)
     → new ≡ map (λ console. room_for until (console_value console)) (take (i + 1) made)
@@ -155,47 +155,47 @@ rooms-more until i made x old new room within here kept is before =
     kept ∙ ap (λ r. old ++ r ∷ []) is ∙ ap (λ rs. rs ++ f x ∷ []) before ∙ sym (map-append f (take i made) (x ∷ []))
     ∙ ap (map f) (sym split)
 
-pub rooms-are : (until i : ℕ) (made : List JobConsole) (rooms : List RoomFor) → length made ≤ i
+pub rooms-are : (until i : ℕ) (made : List JobConsole) (rooms : List RoomForFiles) → length made ≤ i
     → rooms ≡ map (λ console. room_for until (console_value console)) (take i made)
     → rooms ≡ map (room_for until) (map console_value made)
 rooms-are until i made rooms over is =
     is ∙ ap (map (λ console. room_for until (console_value console))) (take_all i made over) ∙ rooms-map until made
 
 asks-map : (until : ℕ) (consoles : List ConsoleJob)
-    → map (λ (room : RoomFor). room.asks) (map (room_for until) consoles) ≡ map asks_of consoles
+    → map (λ (room : RoomForFiles). room.asks) (map (room_for until) consoles) ≡ map asks_of consoles
 asks-map until [] = refl
 asks-map until (console ∷ consoles) = ap (λ asks. asks_of console ∷ asks) (asks-map until consoles)
 
-pub asks-are : (until : ℕ) (consoles : List ConsoleJob) (rooms : List RoomFor) → rooms ≡ map (room_for until) consoles
-    → map (λ (room : RoomFor). room.asks) rooms ≡ map asks_of consoles
-asks-are until consoles rooms is = ap (map (λ (room : RoomFor). room.asks)) is ∙ asks-map until consoles
+pub asks-are : (until : ℕ) (consoles : List ConsoleJob) (rooms : List RoomForFiles) → rooms ≡ map (room_for until) consoles
+    → map (λ (room : RoomForFiles). room.asks) rooms ≡ map asks_of consoles
+asks-are until consoles rooms is = ap (map (λ (room : RoomForFiles). room.asks)) is ∙ asks-map until consoles
 
 untils-map : (until : ℕ) (consoles : List ConsoleJob)
-    → All (λ (room : RoomFor). room.until ≡ until) (map (room_for until) consoles)
-untils-map until [] = all_nil (λ (room : RoomFor). room.until ≡ until)
+    → All (λ (room : RoomForFiles). room.until ≡ until) (map (room_for until) consoles)
+untils-map until [] = all_nil (λ (room : RoomForFiles). room.until ≡ until)
 untils-map until (console ∷ consoles) =
-    all_cons (λ (room : RoomFor). room.until ≡ until) (room_for until console) (map (room_for until) consoles) refl
+    all_cons (λ (room : RoomForFiles). room.until ≡ until) (room_for until console) (map (room_for until) consoles) refl
     (untils-map until consoles)
 
-pub untils-are : (until : ℕ) (consoles : List ConsoleJob) (rooms : List RoomFor) → rooms ≡ map (room_for until) consoles
-    → All (λ (room : RoomFor). room.until ≡ until) rooms
+pub untils-are : (until : ℕ) (consoles : List ConsoleJob) (rooms : List RoomForFiles) → rooms ≡ map (room_for until) consoles
+    → All (λ (room : RoomForFiles). room.until ≡ until) rooms
 untils-are until consoles rooms is =
-    let P : List RoomFor → Type 0 = λ xs. All (λ (room : RoomFor). room.until ≡ until) xs in
+    let P : List RoomForFiles → Type 0 = λ xs. All (λ (room : RoomForFiles). room.until ≡ until) xs in
     subst P (sym is) (untils-map until consoles)
 
-pub rooms-many : (until : ℕ) (consoles : List ConsoleJob) (rooms : List RoomFor) → rooms ≡ map (room_for until) consoles
+pub rooms-many : (until : ℕ) (consoles : List ConsoleJob) (rooms : List RoomForFiles) → rooms ≡ map (room_for until) consoles
     → length rooms ≡ length consoles
 rooms-many until consoles rooms is = ap length is ∙ length-map consoles (room_for until)
 
 -- one more file
-pub files-more : {Z : Type 0} (files new : List (PerKind (Vec ℕ Z))) (one : PerKind (Vec ℕ Z)) (room : RoomFor)
-    (left rest : List RoomFor) (m : Machine) (others machines : List Machine) (all : List (PerKind (List ℕ)))
+pub files-more : {Z : Type 0} (files new : List (PerKind (Vec ℕ Z))) (one : PerKind (Vec ℕ Z)) (room : RoomForFiles)
+    (left rest : List RoomForFiles) (m : Machine) (others machines : List Machine) (all : List (PerKind (List ℕ)))
     → new ≡ files ++ (one ∷ []) → left ≡ room ∷ rest → others ≡ m ∷ machines
     → files_value one ≡ files_of room.asks m
-    → map files_value files ++ all_files (map (λ (r : RoomFor). r.asks) left) (map without_limit others) ≡ all
-    → map files_value new ++ all_files (map (λ (r : RoomFor). r.asks) rest) (map without_limit machines) ≡ all
+    → map files_value files ++ all_files (map (λ (r : RoomForFiles). r.asks) left) (map without_limit others) ≡ all
+    → map files_value new ++ all_files (map (λ (r : RoomForFiles). r.asks) rest) (map without_limit machines) ≡ all
 files-more files new one room left rest m others machines all grew split parted filled before =
-    let asks = λ (r : RoomFor). r.asks in
+    let asks = λ (r : RoomForFiles). r.asks in
     let tail = all_files (map asks rest) (map without_limit machines) in
     let made = map files_value files in
     ap (λ xs. map files_value xs ++ tail) grew
@@ -207,11 +207,11 @@ files-more files new one room left rest m others machines all grew split parted 
     (map without_limit others) (ap (map asks) split) (ap (map without_limit) parted)))
     ∙ before
 
-pub files-whole : (files : List (PerKind (List ℕ))) (left : List RoomFor) (others : List Machine) (all : List (PerKind (List ℕ)))
-    → length others ≡ 0 → files ++ all_files (map (λ (r : RoomFor). r.asks) left) (map without_limit others) ≡ all
+pub files-whole : (files : List (PerKind (List ℕ))) (left : List RoomForFiles) (others : List Machine) (all : List (PerKind (List ℕ)))
+    → length others ≡ 0 → files ++ all_files (map (λ (r : RoomForFiles). r.asks) left) (map without_limit others) ≡ all
     → files ≡ all
 files-whole files left others all over before =
-    let asks = λ (r : RoomFor). r.asks in
+    let asks = λ (r : RoomForFiles). r.asks in
     let none = ap (λ xs. all_files (map asks left) (map without_limit xs)) (nil_from_length others over)
     ∙ files-none (map asks left) in
     sym (ap (λ fs. files ++ fs) none ∙ append-nil files) ∙ before
@@ -229,16 +229,16 @@ limits-rest until others machines m is all =
     let P : List Machine → Type 0 = λ ms. All (λ limit. limit ≡ until) (map limit_of ms) in
     all_tail (λ limit. limit ≡ until) (limit_of m) (map limit_of machines) (subst P is all)
 
-pub room-first : (until : ℕ) (left rest : List RoomFor) (room : RoomFor) → left ≡ room ∷ rest
-    → All (λ (r : RoomFor). r.until ≡ until) left → room.until ≡ until
+pub room-first : (until : ℕ) (left rest : List RoomForFiles) (room : RoomForFiles) → left ≡ room ∷ rest
+    → All (λ (r : RoomForFiles). r.until ≡ until) left → room.until ≡ until
 room-first until left rest room is all =
-    let Q : RoomFor → Type 0 = λ r. r.until ≡ until in
+    let Q : RoomForFiles → Type 0 = λ r. r.until ≡ until in
     all_head Q room rest (subst (All Q) is all)
 
-pub rooms-rest : (until : ℕ) (left rest : List RoomFor) (room : RoomFor) → left ≡ room ∷ rest
-    → All (λ (r : RoomFor). r.until ≡ until) left → All (λ (r : RoomFor). r.until ≡ until) rest
+pub rooms-rest : (until : ℕ) (left rest : List RoomForFiles) (room : RoomForFiles) → left ≡ room ∷ rest
+    → All (λ (r : RoomForFiles). r.until ≡ until) left → All (λ (r : RoomForFiles). r.until ≡ until) rest
 rooms-rest until left rest room is all =
-    let Q : RoomFor → Type 0 = λ r. r.until ≡ until in
+    let Q : RoomForFiles → Type 0 = λ r. r.until ≡ until in
     all_tail Q room rest (subst (All Q) is all)
 
 -- there are as many files as consoles

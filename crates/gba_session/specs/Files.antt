@@ -7,7 +7,7 @@ use Rattle.gba_joblog.specs.declared.outputs.OutKind.{OutKind}
 use Rattle.gba_joblog.specs.declared.outputs.OutKind.TheVariants.{Frames, Samples, Words, State, Save}
 use Rattle.gba_joblog.specs.declared.outputs.PerKind.{PerKind}
 use Rattle.gba_output.specs.StateFile.{samples_file, save_file, state_file}
-use Rattle.gba_output.specs.Words.{words_text}
+use Rattle.gba_output.specs.TransferWords.{words_text}
 
 -- the bytes of a console's output of a kind
 abbrev pub output_bytes : OutKind → Machine → List ℕ

@@ -23,9 +23,9 @@ abbrev pub finished : Consoles → Consoles
 finished s = record s { cut = run_until s.until s.cut }
 
 -- the room for what is written of a console: what is asked for, and the clock up to which it runs
-pub record RoomFor : Type 0 where
+pub record RoomForFiles : Type 0 where
   pub asks : PerKind Bool
   pub until : ℕ
 
-abbrev pub room_for : ℕ → ConsoleJob → RoomFor
+abbrev pub room_for : ℕ → ConsoleJob → RoomForFiles
 room_for until console = record { asks = asks_of console; until = until }

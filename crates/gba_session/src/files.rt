@@ -2,7 +2,7 @@
 
 ghost use Rattle.std.specs.Prelude.{◌≡◌, ◌+◌, ◌*◌, ◌/◌, ◌≤◌, [], IfOk, if◌then◌else◌, length, true, vec_capacity};
 ghost use Rattle.gba_output.specs.StateFile.{samples_file, save_file, state_file};
-ghost use Rattle.gba_output.specs.Words.{words_text};
+ghost use Rattle.gba_output.specs.TransferWords.{words_text};
 
 use gba_console::Console;
 use gba_joblog::PerKind;
@@ -26,7 +26,7 @@ fn room_if(alloc: Global, asked: bool, bytes: usize) -> Result<Vec<u8>, AllocErr
 /// The room for what is written of a console in a run up to the clock `until`. Contracts see what is asked for, and that
 /// clock.
 #[derive(Drop)]
-pub(crate) struct Room {
+pub(crate) struct FilesRoom {
     asks: PerKind<bool>,
     until: u64,
     words: Vec<u8>,
@@ -34,11 +34,11 @@ pub(crate) struct Room {
     save: Vec<u8>,
 }
 
-impl Model for Room {
+impl Model for FilesRoom {
     ghost use Rattle.std.specs.Prelude.{◌≡◌, ◌+◌, ◌*◌, ◌/◌, ◌≤◌, [], true, vec_capacity};
-    ghost use Rattle.gba_session.specs.Session.{RoomFor};
+    ghost use Rattle.gba_session.specs.Session.{RoomForFiles};
 
-    ghost Value = { RoomFor };
+    ghost Value = { RoomForFiles };
 
     ghost view = { λ room. record { asks = room.asks; until = room.until } };
 
@@ -108,18 +108,22 @@ fn samples_if(alloc: Global, asked: bool, console: &mut Console) -> Vec<u8>
     }
 }
 
-impl Room {
+impl FilesRoom {
     ghost use Rattle.std.specs.Prelude.{◌≡◌, ◌^◌, ◌≤◌, IfOk};
     ghost use Rattle.gba_console.specs.Machine.{limit_of};
     ghost use Rattle.gba_session.specs.Files.{files_of};
     ghost use Rattle.gba_session.specs.Views.{files_value};
 
-    pub(crate) fn new(alloc: Global, asks: PerKind<bool>, until: u64) -> Result<Room, AllocError>
+    pub(crate) fn new(
+        alloc: Global,
+        asks: PerKind<bool>,
+        until: u64,
+    ) -> Result<FilesRoom, AllocError>
         requires { until ≤ 2 ^ 39 }
         ensures { IfOk result (λ room. room ≡ record { asks = asks; until = until }) }
     {
         let words = (until as usize + 1535) / 512 * WORDS_ROOM;
-        Ok(Room {
+        Ok(FilesRoom {
             asks,
             until,
             words: room_if(alloc, asks.words, words)?,

@@ -11,11 +11,11 @@ ghost use Rattle.gba_session.specs.Start.{room_of as room_said, round_of as roun
 ghost use Rattle.link_node.specs.Delays.{AreDelays};
 ghost use Rattle.link_order.specs.Cut.{plain_cut};
 
-use crate::files::Room;
+use crate::files::FilesRoom;
 use gba_console::laws::{enough, steps_pass};
 use gba_console::{Console, KeyState};
 use gba_image::ConsoleImages;
-use gba_io::Room as ConsoleRoom;
+use gba_io::Room;
 use gba_joblog::{Job, JobConsole, KeyChange, OutKind, PerKind};
 use gba_output::add_summary;
 use gba_store::Gate;
@@ -42,10 +42,10 @@ fn states_of(alloc: Global, changes: &[KeyChange]) -> Result<Vec<KeyState>, Allo
 }
 
 /// What is to be kept of what a console makes.
-fn room_of(job: &Job, console: &JobConsole) -> ConsoleRoom
+fn room_of(job: &Job, console: &JobConsole) -> Room
     ensures { result ≡ room_said (job_value job.now) (console_value console.now) }
 {
-    ConsoleRoom {
+    Room {
         until: job.cycles,
         frames: console.asks_for(OutKind::Frames),
         samples: console.asks_for(OutKind::Samples),
@@ -146,13 +146,13 @@ fn consoles_of(
 }
 
 /// The room for what is written of each console.
-fn rooms_of(alloc: Global, job: &Job) -> Result<Vec<Room>, AllocError>
+fn rooms_of(alloc: Global, job: &Job) -> Result<Vec<FilesRoom>, AllocError>
     requires { job.now.cycles ≤ 2 ^ 39 }
     ensures { IfOk result (λ rooms. rooms.items ≡ map (room_for job.now.cycles) (job_value job.now).consoles) }
 {
     let mut rooms = Vec::new(alloc);
     for console in job.consoles.as_slice() {
-        let room = Room::new(alloc, console.asks(), job.cycles)?;
+        let room = FilesRoom::new(alloc, console.asks(), job.cycles)?;
         keep(&mut rooms, room)?;
     }
     Ok(rooms)
@@ -197,7 +197,7 @@ fn run_cut<R: Threads + Sync, G: Gate + Sync>(
 pub struct Session {
     cut: Cut<Console>,
     until: u64,
-    rooms: Vec<Room>,
+    rooms: Vec<FilesRoom>,
     files: Vec<PerKind<Vec<u8>>>,
 }
 
@@ -205,7 +205,7 @@ impl Model for Session {
     ghost use Rattle.std.specs.Prelude.{◌≡◌, ◌≤◌, [], length, map, vec_len, vec_capacity};
     ghost use Rattle.std.specs.List.{All};
     ghost use Rattle.gba_console.specs.Machine.{limit_of, without_limit};
-    ghost use Rattle.gba_session.specs.Session.{Consoles, RoomFor};
+    ghost use Rattle.gba_session.specs.Session.{Consoles, RoomForFiles};
     ghost use Rattle.link_order.specs.Cut.{plain_cut};
 
     ghost Value = { Consoles };
@@ -213,12 +213,12 @@ impl Model for Session {
     ghost view = { λ s. record {
       cut = plain_cut without_limit s.cut;
       until = s.until;
-      asks = map (λ (room : RoomFor). room.asks) s.rooms.items;
+      asks = map (λ (room : RoomForFiles). room.asks) s.rooms.items;
     } };
 
     ghost invariant = { λ s.
         All (λ limit. limit ≡ s.until) (map limit_of s.cut.consoles)
-        × All (λ (room : RoomFor). room.until ≡ s.until) s.rooms.items
+        × All (λ (room : RoomForFiles). room.until ≡ s.until) s.rooms.items
         × (vec_len s.rooms ≡ length s.cut.consoles) × (s.files.items ≡ []) × (vec_len s.rooms ≤ vec_capacity s.files) };
 }
 

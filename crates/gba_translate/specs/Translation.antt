@@ -10,6 +10,7 @@ use Rattle.gba_command.specs.Words.{FileWords}
 use Rattle.gba_command.specs.Writing.{Run, at_once}
 use Rattle.gba_dis.specs.declared.units.Set.{Set}
 use Rattle.gba_dis.specs.Listing.{listing}
+use Rattle.gba_image.specs.Checks.{longest_cartridge}
 use Rattle.gba_image.specs.declared.error.ImageError.TheVariants.{TooLong}
 
 -- a line of a word and a number of bytes, as `asm 8`
@@ -43,12 +44,8 @@ after_assembly words image = Done (one_file words.to (codes "asm") image)
 abbrev pub assembly_plan : FileWords → Plan Run
 assembly_plan words = bind (source_plan words.from) (after_assembly words)
 
--- the most bytes of an image that is listed
-abbrev pub longest_image : ℕ
-longest_image = 33554432
-
 abbrev pub image_plan : List ℕ → Plan (List ℕ)
-image_plan name = file name longest_image (Image name TooLong)
+image_plan name = file name longest_cartridge (Image name TooLong)
 
 abbrev pub listed : List ℕ → Set → List ℕ → Run
 listed name set image = one_file name (codes "dis") (listing set image)

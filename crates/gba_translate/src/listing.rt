@@ -8,8 +8,8 @@ ghost use Rattle.gba_translate.specs.Translation.{image_plan, listed, listing_pl
 
 use crate::files::write_one;
 use gba_command::{Cause, FileWords, Outputs, Refusal, name_in_report, read_file};
-use gba_dis::{LONGEST_IMAGE, Set, disassemble};
-use gba_image::ImageError;
+use gba_dis::{Set, disassemble};
+use gba_image::{ImageError, LONGEST_CARTRIDGE};
 use gba_store::Store;
 use gba_terms::NoMemory;
 use std::alloc::Global;
@@ -22,7 +22,7 @@ fn read_image<S: Store>(alloc: Global, store: &mut S, name: &str) -> Result<Vec<
     ensures short { IfOk result (λ image. length image.items ≤ 33554432) }
 {
     let long = Cause::Image(name_in_report(name), ImageError::TooLong);
-    read_file(alloc, store, name, LONGEST_IMAGE as u64, long)
+    read_file(alloc, store, name, LONGEST_CARTRIDGE as u64, long)
 }
 
 /// Lists an image, and makes what is written.

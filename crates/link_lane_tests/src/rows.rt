@@ -9,7 +9,7 @@ use gba_store::{Gate, NoGate};
 use link_lane::{Lane, LaneParts, Pause};
 use link_node::Delays;
 use link_table::Shared;
-use link_trial::{Beat, begin, drawn};
+use link_trials::{Beat, begin, drawn};
 use std::alloc::Global;
 use std::cell::Cell;
 use std::process::Abort;

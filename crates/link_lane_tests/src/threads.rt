@@ -10,7 +10,7 @@ use link_core::{Cut, Sent};
 use link_lane::{Lane, LaneParts};
 use link_node::{Delays, Incoming};
 use link_table::Shared;
-use link_trial::{Mixer, begin, drawn, mixers};
+use link_trials::{Mixer, begin, drawn, mixers};
 use std::alloc::Global;
 use std::process::Abort;
 use std::sync::atomic::{AtomicU64, Ordering};

@@ -6,7 +6,7 @@ use crate::{Meeter, Meeting};
 use gba_store::NoGate;
 use link_node::Delays;
 use link_run::run_to;
-use link_trial::begin;
+use link_trials::begin;
 use std::alloc::{AllocError, Global};
 use std::sync::Arc;
 use std::sync::atomic::Ordering;

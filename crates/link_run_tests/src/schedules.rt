@@ -7,7 +7,7 @@ use gba_store::Gate;
 use link_core::Cut;
 use link_node::Delays;
 use link_run::run_to;
-use link_trial::{Mixer, begin, drawn, mixers};
+use link_trials::{Mixer, begin, drawn, mixers};
 use std::alloc::Global;
 use std::process::Abort;
 use std::sync::atomic::{AtomicU64, Ordering};

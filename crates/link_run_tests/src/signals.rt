@@ -6,7 +6,7 @@ use gba_store::NoGate;
 use link_core::Cut;
 use link_node::{Delays, Node};
 use link_run::{Round, RoundRefused, run_to};
-use link_trial::{Beat, begin, drawn};
+use link_trials::{Beat, begin, drawn};
 use std::alloc::Global;
 use std::test::Fail;
 

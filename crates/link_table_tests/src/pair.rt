@@ -8,7 +8,7 @@ use crate::console::Console;
 use crate::ticker::Ticker;
 use link_node::Delays;
 use link_table::Shared;
-use link_trial::begin;
+use link_trials::begin;
 use std::alloc::Global;
 use std::process::Abort;
 use std::test::Fail;

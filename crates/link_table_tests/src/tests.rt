@@ -9,7 +9,7 @@ use crate::pair::two_consoles;
 use crate::ticker::Ticker;
 use link_node::{Delays, LinkMode, Signal, Start};
 use link_table::{Joined, Look, Shared};
-use link_trial::{begin, drawn};
+use link_trials::{begin, drawn};
 use std::alloc::Global;
 use std::process::Abort;
 use std::test::Fail;

@@ -12,9 +12,9 @@ use Rattle.gba_joblog.specs.declared.outputs.PerKind.{PerKind}
 use Rattle.gba_session.specs.Files.{all_files, asks_of}
 use Rattle.gba_session.specs.Session.{Consoles, finished}
 use Rattle.gba_session.specs.Views.{files_value}
-use Rattle.gba_written.specs.Names.{RunNames, run_names}
-use Rattle.gba_written.specs.Written.{written}
-use Rattle.gba_written.proofs.FileNames.{names-long}
+use Rattle.gba_run_files.specs.Names.{RunNames, run_names}
+use Rattle.gba_run_files.specs.Written.{written}
+use Rattle.gba_run_files.proofs.FileNames.{names-long}
 use Rattle.gba_link.proofs.Runs.{images-are, run_of, written_of}
 use Rattle.gba_link.proofs.run.run_inputs.Goals as goal
 

@@ -1,5 +1,5 @@
 use Rattle.std.proofs.Common.{◌≡◌, ◌*◌, ◌≤◌, take, vec_len, vec_capacity}
-use Rattle.gba_output.specs.Words.{words_text}
+use Rattle.gba_output.specs.TransferWords.{words_text}
 use Rattle.gba_output.proofs.words.write_words.Given as goal
 
 -- the lines so far are written

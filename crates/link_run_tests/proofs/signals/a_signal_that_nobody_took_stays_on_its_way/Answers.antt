@@ -1,7 +1,7 @@
 use Rattle.std.proofs.Common.{rules, ◌≤◌}
 use Rattle.std.specs.Prelude.{All}
 use Rattle.link_core.proofs.Keeping.{limits_stay}
-use Rattle.link_trial.specs.declared.beat.Beat.{Beat}
+use Rattle.link_trials.specs.declared.beat.Beat.{Beat}
 use Rattle.link_run_tests.proofs.signals.a_signal_that_nobody_took_stays_on_its_way.Goals as goal
 
 pub run_to-cut-requires-2-after_bounds : goal.run_to-cut-requires-2-after_bounds

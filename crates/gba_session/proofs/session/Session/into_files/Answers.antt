@@ -1,7 +1,7 @@
 use Rattle.std.proofs.Common.{◌≡◌, map, length, vec_len, ap, arith, rules}
 use Rattle.std.proofs.lemmas.List.{length-map}
 use Rattle.gba_console.specs.Machine.{without_limit}
-use Rattle.gba_session.specs.Session.{Consoles, RoomFor}
+use Rattle.gba_session.specs.Session.{Consoles, RoomForFiles}
 use Rattle.gba_session.specs.Views.{files_value}
 use Rattle.gba_session.proofs.Consoles.{files-long, files-more, files-whole, limit-first, limits-rest, room-first, rooms-rest}
 use Rattle.gba_session.proofs.session.Session.into_files.Goals as goal
@@ -42,7 +42,7 @@ returns c =
     let rooms = c.self.inside.rooms.items in
     let consoles = c.self.inside.cut.consoles in
     let many : vec_len c.self.inside.rooms ≡ length rooms = search rules in
-    let asks : length (map (λ (room : RoomFor). room.asks) rooms) ≡ length c.args.self.asks =
+    let asks : length (map (λ (room : RoomForFiles). room.asks) rooms) ≡ length c.args.self.asks =
     ap (λ (s : Consoles). length s.asks) c.self.view_is in
     let machines : length (map without_limit consoles) ≡ length c.args.self.cut.consoles =
     ap (λ (s : Consoles). length s.cut.consoles) c.self.view_is in
@@ -53,7 +53,7 @@ returns c =
       asks,
       machines,
       c.self.invariant.2,
-      length-map rooms (λ (room : RoomFor). room.asks),
+      length-map rooms (λ (room : RoomForFiles). room.asks),
       length-map consoles without_limit,
     ) in
     record {

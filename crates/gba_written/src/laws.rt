@@ -1,8 +1,0 @@
-//! Laws over the definitions. Each is the contract of a function that takes no value.
-
-ghost use Rattle.gba_written.specs.Law.{LogsHaveRoom};
-
-/// How much longer a log is once the digests of its outputs are stated.
-pub fn logs_have_room()
-    ensures { LogsHaveRoom }
-{}
