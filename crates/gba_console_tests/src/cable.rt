@@ -38,7 +38,15 @@ pub fn console_of(alloc: Global, seat: (u32, u32, u64), source: &[u8]) -> Result
         save: None,
     };
     if player < count && count <= 4 && 1 <= delay && delay <= 1024 {
-        Ok(Console::new(alloc, player, count, delay, images, Vec::new(alloc), ROOM)?)
+        Ok(Console::new(
+            alloc,
+            player,
+            count,
+            2 * delay,
+            images,
+            Vec::new(alloc),
+            ROOM,
+        )?)
     } else {
         Err("no seat")?
     }

@@ -61,7 +61,7 @@ fn console_of(alloc: Global, source: &[u8], until: u64) -> Result<Console, Fail>
     if until > 1 << 25 {
         return Err("a late end")?;
     }
-    Ok(Console::new(alloc, 0, 1, 512, images, Vec::new(alloc), room)?)
+    Ok(Console::new(alloc, 0, 1, 1024, images, Vec::new(alloc), room)?)
 }
 
 /// What a console kept, one segment behind the other.
