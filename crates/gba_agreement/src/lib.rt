@@ -6,8 +6,8 @@
 ghost use Rattle.link_order.specs.NodeKind.{kind_of};
 ghost use Rattle.gba_agreement.specs.Agreement.{UnitsAgreeInMulti, UnitsAgreeInNormal};
 
-use link_steps::{signals, steps};
 use link_node::Node;
+use link_steps::{signals, steps};
 
 /// No way from player 0 is shorter over another console. Player 0 starts a Multi transfer, and every other console is in
 /// Multi and idle when it takes the start: all that reach the end record the same end, the same four words and no error.

@@ -706,7 +706,10 @@ fn lists_are_forgotten(rt: HostRuntime) -> Result<(), Fail> {
         (1, 3, 1, 1482, 3),
     ] {
         advance_lines(&rt, &mut board, lines);
-        assert_eq!(rt; (board.counts().frames, board.counts().samples), (frames, pairs));
+        assert_eq!(rt;
+            (board.counts().frames, board.counts().samples),
+            (frames, pairs)
+        );
         assert_eq!(rt; board.made.frames().len(), 76_800 * kept_frames);
         assert_eq!(rt; board.made.samples().len(), 4 * kept_pairs);
         forget(&rt, &mut board);
