@@ -14,7 +14,7 @@ use Rattle.gba_joblog.specs.Lines.{is_comment}
 use Rattle.gba_joblog.specs.Job.{ConsoleJob}
 use Rattle.gba_joblog.specs.Language.{jobs, line_says, said_with, words_say, words_say_if, plus_statement_if}
 use Rattle.gba_joblog.specs.Log.{digest_words, line_of}
-use Rattle.gba_joblog.specs.Operands.{Words}
+use Rattle.gba_joblog.specs.Operands.{LineWords}
 use Rattle.gba_joblog.specs.Statements.{Statement, plus_statement}
 use Rattle.gba_joblog.specs.declared.draft.Place.TheVariants.{Head, Inside}
 use Rattle.gba_joblog.proofs.Spelling.{IsLine, IsWord, are_more, are_none, is_said-line, line_of-spaced, lines-first, spaced, text-line, words-line}
@@ -33,7 +33,7 @@ reads-then n m k d e f p q a b = record {
   goes = λ rest g h. rw append_assoc (a.goes (q ++ rest) g (b.goes rest g h));
 }
 
-line-says : (n : ℕ) (d : Draft) (front : List ℕ) (ws : Words) (s : Statement) → IsLine front ws
+line-says : (n : ℕ) (d : Draft) (front : List ℕ) (ws : LineWords) (s : Statement) → IsLine front ws
     → words_say d (front ∷ ws) ≡ Ok (Some s) → said_with n d (front ++ spaced ws) ≡ Ok (plus_statement n s d)
 unfolding said_with line_says
 line-says n d front ws s is says =
@@ -44,7 +44,7 @@ line-says n d front ws s is says =
     ∙ ap (λ ws. words_say d ws >>= (λ statement. Ok (plus_statement_if n d statement))) all
     ∙ ap (λ a. a >>= (λ statement. Ok (plus_statement_if n d statement))) says
 
-first-line : (front : List ℕ) (ws : Words) (rest : List ℕ) → IsLine front ws
+first-line : (front : List ℕ) (ws : LineWords) (rest : List ℕ) → IsLine front ws
     → lines (line_of front ws ++ rest) ≡ (front ++ spaced ws) ∷ lines rest
 first-line front ws rest is =
     ap (λ line. lines (line ++ rest)) (line_of-spaced front ws)
@@ -52,7 +52,7 @@ first-line front ws rest is =
     ∙ lines-first (front ++ spaced ws) rest (text-line front ws is.keyword is.words)
 
 -- one line
-pub line-reads : (n : ℕ) (d : Draft) (front : List ℕ) (ws : Words) (s : Statement) → IsLine front ws
+pub line-reads : (n : ℕ) (d : Draft) (front : List ℕ) (ws : LineWords) (s : Statement) → IsLine front ws
     → words_say d (front ∷ ws) ≡ Ok (Some s) → Reads n d (line_of front ws) (n + 1) (plus_statement (n + 1) s d)
 line-reads n d front ws s is says = record {
   goes = λ rest f h.

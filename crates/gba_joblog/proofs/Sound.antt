@@ -19,7 +19,7 @@ use Rattle.gba_joblog.specs.Lines.{is_said}
 use Rattle.gba_joblog.specs.Job.{ConsoleJob, NamedFile, WholeJob}
 use Rattle.gba_joblog.specs.Language.{jobs, line_says, said_with, words_say, words_say_if, keyword_says, statement_of, unless_ended, plus_statement_if, job_at_end, job_at_place, job_with, job_of, usual_delay}
 use Rattle.gba_joblog.specs.Names.{is_name}
-use Rattle.gba_joblog.specs.Operands.{Words, word_at, number_at, name_in, name_of, name_at, digest_at, player_at, version_at, out_kind_at, end_at}
+use Rattle.gba_joblog.specs.Operands.{LineWords, word_at, number_at, name_in, name_of, name_at, digest_at, player_at, version_at, out_kind_at, end_at}
 use Rattle.gba_joblog.specs.Outputs.{EachKind, at_kind}
 use Rattle.gba_joblog.specs.Soundness.{AreConsoleLines, IsFile, IsOutput, IsPartOfConsole, IsConsole, IsJob}
 use Rattle.gba_joblog.specs.Statements.{Statement, and_whole, Version, Cycles, Delay, Console, File, Key, Out, End, keyword_of, refusal_at, file_refusal, without_changes, without_file, once, arguments, plus_statement, at_start, in_console, has_image, next_player, whole_consoles, named_file, asked_output, with_file}
@@ -109,7 +109,7 @@ name-is word name h = by_test (is_name word) refl h where
   by_test true e s = let same : word ≡ name = cc in rw (← same) e
   by_test false e s = absurd cc
 
-name_at-is : (ws : Words) (t : Taken Words (List ℕ)) → name_at ws ≡ Ok t → is_name t.value ≡ true
+name_at-is : (ws : LineWords) (t : Taken LineWords (List ℕ)) → name_at ws ≡ Ok t → is_name t.value ≡ true
 unfolding name_at
 name_at-is ws t h =
     let b = bind-ok (word_at ws) name_in t h in
@@ -189,7 +189,7 @@ ends_with Inside consoles last here count image =
 ends_with Ended consoles last here count image = absurd cc
 
 -- each keyword with its operands keeps what is said sound
-keeps : (n : ℕ) (d : Draft) (k : Keyword) (ws : Words) (s : Statement) → IsDraft d → refusal_at d k ≡ None
+keeps : (n : ℕ) (d : Draft) (k : Keyword) (ws : LineWords) (s : Statement) → IsDraft d → refusal_at d k ≡ None
     → arguments d k ws ≡ Ok s → IsDraft (plus_statement n s d)
 unfolding refusal_at arguments plus_statement
 keeps n d keyword.Version ws s h place e =
@@ -318,11 +318,11 @@ not-ended Ended said s h = absurd cc
 -- a keyword that may stand there, with operands that are right
 record IsStatement (d : Draft) (s : Statement) : Type 0 where
   keyword : Keyword
-  words : Words
+  words : LineWords
   place : refusal_at d keyword ≡ None
   right : arguments d keyword words ≡ Ok s
 
-by_place : (d : Draft) (k : Keyword) (ws : Words) (s : Statement) (o : Option JobKind) → refusal_at d k ≡ o
+by_place : (d : Draft) (k : Keyword) (ws : LineWords) (s : Statement) (o : Option JobKind) → refusal_at d k ≡ o
     → statement_of d k ws o ≡ Ok (Some s) → IsStatement d s
 by_place d k ws s None place h =
     let b = bind-ok (arguments d k ws) (λ statement. Ok (Some statement)) (Some s) h in
@@ -330,19 +330,19 @@ by_place d k ws s None place h =
     record { keyword = k; words = ws; place = place; right = b.1 ∙ ap (λ s. Ok s) same }
 by_place d k ws s (Some kind) place h = absurd cc
 
-by_keyword : (d : Draft) (ws : Words) (s : Statement) (o : Option Keyword) → keyword_says d ws o ≡ Ok (Some s)
+by_keyword : (d : Draft) (ws : LineWords) (s : Statement) (o : Option Keyword) → keyword_says d ws o ≡ Ok (Some s)
     → IsStatement d s
 by_keyword d ws s None h = absurd cc
 by_keyword d ws s (Some k) h = by_place d k ws s (refusal_at d k) refl h
 
-by_words : (d : Draft) (ws : Words) (s : Statement) → words_say d ws ≡ Ok (Some s) → IsStatement d s
+by_words : (d : Draft) (ws : LineWords) (s : Statement) → words_say d ws ≡ Ok (Some s) → IsStatement d s
 by_words d ws s h =
     let b = bind-ok (word_at ws) (λ word. unless_ended d.place (keyword_says d word.left (keyword_of word.value)))
     (Some s) h in
     by_keyword d b.0.left s (keyword_of b.0.value) (not-ended d.place (keyword_says d b.0.left
     (keyword_of b.0.value)) s b.2)
 
-by_said : (d : Draft) (ws : Words) (s : Statement) (said : Bool) → words_say_if d ws said ≡ Ok (Some s)
+by_said : (d : Draft) (ws : LineWords) (s : Statement) (said : Bool) → words_say_if d ws said ≡ Ok (Some s)
     → IsStatement d s
 by_said d ws s true h = by_words d ws s h
 by_said d ws s false h = absurd cc

@@ -17,7 +17,7 @@ use Rattle.gba_joblog.specs.Answers.{line_error}
 use Rattle.gba_joblog.specs.Changes.{change_at, least_clock, clock_or_start, most_changes}
 use Rattle.gba_joblog.specs.Lines.{is_said}
 use Rattle.gba_joblog.specs.KeyFile.{key_files, key_line_says, change_if, plus_change, changes_with, keys_of}
-use Rattle.gba_joblog.specs.Operands.{Words, number_at, keys_at, end_at}
+use Rattle.gba_joblog.specs.Operands.{LineWords, number_at, keys_at, end_at}
 use Rattle.gba_joblog.specs.Soundness.{IsChange, AreChanges}
 use Rattle.gba_joblog.specs.declared.job.KeyChange.{KeyChange}
 use Rattle.gba_joblog.specs.declared.kinds.ParseRefused.{ParseRefused}
@@ -32,19 +32,19 @@ none = record {
   few = omega arith;
 }
 
-abbrev made : Taken Words ℕ → Taken Words ℕ → KeyChange
+abbrev made : Taken LineWords ℕ → Taken LineWords ℕ → KeyChange
 made clock keys = record { clock = clock.value; keys = keys.value }
 
-abbrev with_room : List KeyChange → Taken Words ℕ → Taken Words ℕ → Result KeyChange JobKind
+abbrev with_room : List KeyChange → Taken LineWords ℕ → Taken LineWords ℕ → Result KeyChange JobKind
 with_room before clock keys = holds (nat_lt (length before) most_changes) Long >>= (λ _. Ok (made clock keys))
 
-abbrev with_keys : List KeyChange → Taken Words ℕ → Taken Words ℕ → Result KeyChange JobKind
+abbrev with_keys : List KeyChange → Taken LineWords ℕ → Taken LineWords ℕ → Result KeyChange JobKind
 with_keys before clock keys = end_at keys.left >>= (λ _. with_room before clock keys)
 
-abbrev in_order : List KeyChange → Taken Words ℕ → Result KeyChange JobKind
+abbrev in_order : List KeyChange → Taken LineWords ℕ → Result KeyChange JobKind
 in_order before clock = keys_at clock.left >>= with_keys before clock
 
-abbrev with_clock : List KeyChange → Taken Words ℕ → Result KeyChange JobKind
+abbrev with_clock : List KeyChange → Taken LineWords ℕ → Result KeyChange JobKind
 with_clock before clock = holds (nat_le (least_clock before) clock.value) Order >>= (λ _. in_order before clock)
 
 -- what a change that is read tells
@@ -53,7 +53,7 @@ record IsNext (before : List KeyChange) (change : KeyChange) : Type 0 where
   after : least_clock before ≤ change.clock
   room : length before < most_changes
 
-change_at-next : (before : List KeyChange) (ws : Words) (change : KeyChange) → change_at before ws ≡ Ok change
+change_at-next : (before : List KeyChange) (ws : LineWords) (change : KeyChange) → change_at before ws ≡ Ok change
     → IsNext before change
 unfolding change_at
 change_at-next before ws change h =
@@ -76,7 +76,7 @@ pub last-least : (before : List KeyChange) (d : KeyChange) → 0 < length before
 unfolding least_clock
 last-least before d some = ap clock_or_start (slice_get-get_or before (length before - 1) d (omega arith))
 
-pub change_at-keeps : (before : List KeyChange) (ws : Words) (change : KeyChange) → AreChanges before
+pub change_at-keeps : (before : List KeyChange) (ws : LineWords) (change : KeyChange) → AreChanges before
     → change_at before ws ≡ Ok change → AreChanges (before ++ change ∷ [])
 change_at-keeps before ws change h said =
     let next = change_at-next before ws change said in
@@ -87,7 +87,7 @@ change_at-keeps before ws change h said =
       few = rw length-append (omega (arith, next.room));
     }
 
-by_said : (before : List KeyChange) (ws : Words) (said : Bool) (change : Option KeyChange) → AreChanges before
+by_said : (before : List KeyChange) (ws : LineWords) (said : Bool) (change : Option KeyChange) → AreChanges before
     → change_if before ws said ≡ Ok change → AreChanges (plus_change before change)
 by_said before ws said None h e = h
 by_said before ws false (Some change) h e = absurd cc

@@ -18,7 +18,7 @@ use Rattle.gba_text.specs.Steps.{taken}
 use Rattle.gba_joblog.specs.Digests.{IsDigest, digest_size}
 use Rattle.gba_joblog.specs.Log.{digest_words, keys_word}
 use Rattle.gba_joblog.specs.Names.{is_name, is_name_byte, longest_name}
-use Rattle.gba_joblog.specs.Operands.{Words, digest_at, digest_of, digits_at, keys_at, name_at, number_at, out_kind_at, player_at, version_at}
+use Rattle.gba_joblog.specs.Operands.{LineWords, digest_at, digest_of, digits_at, keys_at, name_at, number_at, out_kind_at, player_at, version_at}
 use Rattle.gba_joblog.specs.Outputs.{out_name}
 use Rattle.gba_joblog.specs.declared.outputs.OutKind.{OutKind}
 use Rattle.gba_joblog.specs.declared.outputs.OutKind.TheVariants.{Frames, Samples, State, Save}
@@ -51,7 +51,7 @@ decimal-number n small =
     let all : all_digits (decimal n) ≡ true = digits_decimal own n small in
     rw (some, few, all) refl
 
-pub number-again : (least most n : ℕ) (ws : Words) → least ≤ n → n ≤ most → n < 2 ^ 64
+pub number-again : (least most n : ℕ) (ws : LineWords) → least ≤ n → n ≤ most → n < 2 ^ 64
     → number_at least most (decimal n ∷ ws) ≡ Ok (taken n ws)
 unfolding number_at number_of
 number-again least most n ws low high small =
@@ -61,7 +61,7 @@ number-again least most n ws low high small =
     let to : nat_le n most ≡ true = le-leb n most high in
     rw (is, value, from, to) refl
 
-pub player-again : (player : ℕ) (ws : Words) → player ≤ 3 → player_at player (decimal player ∷ ws) ≡ Ok (taken player ws)
+pub player-again : (player : ℕ) (ws : LineWords) → player ≤ 3 → player_at player (decimal player ∷ ws) ≡ Ok (taken player ws)
 unfolding player_at number_of
 player-again player ws few =
     let small : player < 2 ^ 64 = omega arith in
@@ -116,7 +116,7 @@ IsWord-keys keys small =
     let c = digit (keys % 16) (omega arith) in
     record { some = omega arith; bytes = rw (a.word, b.word, c.word) refl }
 
-pub keys-again : (keys : ℕ) (ws : Words) → keys < 1024 → keys_at (keys_word keys ∷ ws) ≡ Ok (taken keys ws)
+pub keys-again : (keys : ℕ) (ws : LineWords) → keys < 1024 → keys_at (keys_word keys ∷ ws) ≡ Ok (taken keys ws)
 unfolding keys_at hex_number_of
 keys-again keys ws small =
     let a = digit (keys / 256) (omega arith) in
@@ -188,7 +188,7 @@ IsWord-name name is =
     let parts = name-parts name is in
     record { some = parts.0; bytes = list_all-weaker is_name_byte is_word_byte name_byte-word name parts.1 }
 
-pub name-again : (name : List ℕ) (ws : Words) → is_name name ≡ true → name_at (name ∷ ws) ≡ Ok (taken name ws)
+pub name-again : (name : List ℕ) (ws : LineWords) → is_name name ≡ true → name_at (name ∷ ws) ≡ Ok (taken name ws)
 unfolding name_at
 name-again name ws is = rw is refl
 
@@ -197,7 +197,7 @@ pub version-again : version_at (codes "1" ∷ []) ≡ Ok (taken true [])
 unfolding version_at
 version-again = refl
 
-pub out-again : (out : OutKind) (ws : Words) → out_kind_at (out_name out ∷ ws) ≡ Ok (taken out ws)
+pub out-again : (out : OutKind) (ws : LineWords) → out_kind_at (out_name out ∷ ws) ≡ Ok (taken out ws)
 unfolding out_kind_at
 out-again Frames ws = refl
 out-again Samples ws = refl

@@ -11,7 +11,7 @@ use Rattle.gba_text.proofs.FirstPieces.{lines_feed, lines_more, no_blank, words_
 use Rattle.gba_text.proofs.Spans.{first_of_all, rest_of_all}
 use Rattle.gba_joblog.specs.Lines.{is_comment, is_said}
 use Rattle.gba_joblog.specs.Log.{after_words, line_of}
-use Rattle.gba_joblog.specs.Operands.{Words}
+use Rattle.gba_joblog.specs.Operands.{LineWords}
 
 -- a byte of a word
 abbrev pub is_word_byte : ℕ → Bool
@@ -22,7 +22,7 @@ pub record IsWord (word : List ℕ) : Type 0 where
   pub bytes : list_all is_word_byte word ≡ true
 
 -- each of these is a word
-unfoldable pub AreWords : Words → Type 0
+unfoldable pub AreWords : LineWords → Type 0
 AreWords [] = Unit {0}
 AreWords (word ∷ words) = IsWord word × AreWords words
 
@@ -30,7 +30,7 @@ pub are_none : AreWords []
 unfolding AreWords
 are_none = tt
 
-pub are_more : (word : List ℕ) (words : Words) → IsWord word → AreWords words → AreWords (word ∷ words)
+pub are_more : (word : List ℕ) (words : LineWords) → IsWord word → AreWords words → AreWords (word ∷ words)
 unfolding AreWords
 are_more word words is rest = (is, rest)
 
@@ -49,11 +49,11 @@ word_byte-text : (b : ℕ) → is_word_byte b ≡ true → is_text_byte b ≡ tr
 word_byte-text b h = grind (arith, nat_tests)
 
 -- the words after the first one, each after a space
-abbrev pub spaced : Words → List ℕ
+abbrev pub spaced : LineWords → List ℕ
 spaced [] = []
 spaced (word ∷ words) = 32 ∷ (word ++ spaced words)
 
-ends-spaced : (ws : Words) → ends_before (spaced ws) ≡ true
+ends-spaced : (ws : LineWords) → ends_before (spaced ws) ≡ true
 ends-spaced [] = refl
 ends-spaced (w ∷ ws) = refl
 
@@ -61,24 +61,24 @@ words_blank : (bs : List ℕ) → words (32 ∷ bs) ≡ words bs
 unfolding words
 words_blank bs = refl
 
-words-front : (word : List ℕ) (ws : Words) → IsWord word → words (word ++ spaced ws) ≡ word ∷ words (spaced ws)
+words-front : (word : List ℕ) (ws : LineWords) → IsWord word → words (word ++ spaced ws) ≡ word ∷ words (spaced ws)
 words-front [] ws is = absurd (omega (arith, is.some))
 words-front (b ∷ word) ws is =
     words_first b word (spaced ws) (list_all-weaker is_word_byte no_blank word_byte-no_blank (b ∷ word) is.bytes)
     (ends-spaced ws)
 
-words-spaced : (ws : Words) → AreWords ws → words (spaced ws) ≡ ws
+words-spaced : (ws : LineWords) → AreWords ws → words (spaced ws) ≡ ws
 unfolding AreWords
 words-spaced [] are = words_none
 words-spaced (w ∷ ws) are =
     words_blank (w ++ spaced ws) ∙ words-front w ws are.0 ∙ ap (λ rest. w ∷ rest) (words-spaced ws are.1)
 
 -- the words of a line
-pub words-line : (keyword : List ℕ) (ws : Words) → IsWord keyword → AreWords ws
+pub words-line : (keyword : List ℕ) (ws : LineWords) → IsWord keyword → AreWords ws
     → words (keyword ++ spaced ws) ≡ keyword ∷ ws
 words-line keyword ws is are = words-front keyword ws is ∙ ap (λ rest. keyword ∷ rest) (words-spaced ws are)
 
-text-spaced : (ws : Words) → AreWords ws → has_text_alone (spaced ws) ≡ true
+text-spaced : (ws : LineWords) → AreWords ws → has_text_alone (spaced ws) ≡ true
 unfolding AreWords
 text-spaced [] are = refl
 text-spaced (w ∷ ws) are =
@@ -86,7 +86,7 @@ text-spaced (w ∷ ws) are =
     ∙ (let here = list_all-weaker is_word_byte is_text_byte word_byte-text w are.0.bytes in
     let rest = text-spaced ws are.1 in rw (here, rest) refl)
 
-pub text-line : (keyword : List ℕ) (ws : Words) → IsWord keyword → AreWords ws
+pub text-line : (keyword : List ℕ) (ws : LineWords) → IsWord keyword → AreWords ws
     → has_text_alone (keyword ++ spaced ws) ≡ true
 text-line keyword ws is are =
     list_all-append is_text_byte keyword (spaced ws)
@@ -94,12 +94,12 @@ text-line keyword ws is are =
     let rest = text-spaced ws are in rw (here, rest) refl)
 
 -- a line with its line feed
-after-spaced : (ws : Words) → after_words ws ≡ spaced ws ++ 10 ∷ []
+after-spaced : (ws : LineWords) → after_words ws ≡ spaced ws ++ 10 ∷ []
 after-spaced [] = refl
 after-spaced (w ∷ ws) =
     ap (λ rest. 32 ∷ (w ++ rest)) (after-spaced ws) ∙ ap (λ rest. 32 ∷ rest) (sym (append_assoc w (spaced ws) (10 ∷ [])))
 
-pub line_of-spaced : (keyword : List ℕ) (ws : Words) → line_of keyword ws ≡ (keyword ++ spaced ws) ++ 10 ∷ []
+pub line_of-spaced : (keyword : List ℕ) (ws : LineWords) → line_of keyword ws ≡ (keyword ++ spaced ws) ++ 10 ∷ []
 line_of-spaced keyword ws =
     ap (λ rest. keyword ++ rest) (after-spaced ws) ∙ sym (append_assoc keyword (spaced ws) (10 ∷ []))
 
@@ -119,13 +119,13 @@ lines-first (b ∷ line) rest h =
     ∙ ap (onto_front b) after
 
 -- a line that is no comment, and not too long
-pub record IsLine (front : List ℕ) (ws : Words) : Type 0 where
+pub record IsLine (front : List ℕ) (ws : LineWords) : Type 0 where
   pub keyword : IsWord front
   pub words : AreWords ws
   pub plain : is_comment (front ++ spaced ws) ≡ false
   pub short : length (front ++ spaced ws) ≤ 400
 
-pub is_said-line : (keyword : List ℕ) (ws : Words) → IsLine keyword ws → is_said (keyword ++ spaced ws) ≡ Ok true
+pub is_said-line : (keyword : List ℕ) (ws : LineWords) → IsLine keyword ws → is_said (keyword ++ spaced ws) ≡ Ok true
 unfolding is_said
 is_said-line keyword ws is =
     let short = le-ltb _ _ is.short in

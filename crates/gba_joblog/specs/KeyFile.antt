@@ -7,12 +7,12 @@ use Rattle.gba_text.specs.Languages.{Language, Says, answer_of}
 use Rattle.gba_text.specs.Steps.{◌>>=◌}
 use Rattle.gba_joblog.specs.Changes.{change_at}
 use Rattle.gba_joblog.specs.Lines.{is_said}
-use Rattle.gba_joblog.specs.Operands.{Words}
+use Rattle.gba_joblog.specs.Operands.{LineWords}
 use Rattle.gba_joblog.specs.declared.job.KeyChange.{KeyChange}
 use Rattle.gba_joblog.specs.declared.kinds.JobKind.{JobKind}
 use Rattle.gba_joblog.specs.declared.kinds.JobKind.TheVariants as kind
 
-abbrev pub change_if : List KeyChange → Words → Bool → Result (Option KeyChange) JobKind
+abbrev pub change_if : List KeyChange → LineWords → Bool → Result (Option KeyChange) JobKind
 change_if before words false = Ok None
 change_if before words true = change_at before words >>= (λ change. Ok (Some change))
 

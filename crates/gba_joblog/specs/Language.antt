@@ -8,7 +8,7 @@ use Rattle.gba_text.specs.Steps.{◌>>=◌}
 use Rattle.gba_joblog.specs.Draft.{Draft, nothing_said}
 use Rattle.gba_joblog.specs.Lines.{is_said}
 use Rattle.gba_joblog.specs.Job.{WholeJob}
-use Rattle.gba_joblog.specs.Operands.{Words, word_at}
+use Rattle.gba_joblog.specs.Operands.{LineWords, word_at}
 use Rattle.gba_joblog.specs.Statements.{Statement, keyword_of, refusal_at, arguments, plus_statement}
 use Rattle.gba_joblog.specs.declared.draft.Place.{Place}
 use Rattle.gba_joblog.specs.declared.draft.Place.TheVariants.{Start, Head, Inside, Ended}
@@ -17,12 +17,12 @@ use Rattle.gba_joblog.specs.declared.kinds.JobKind.TheVariants as kind
 use Rattle.gba_joblog.specs.declared.statement.Keyword.{Keyword}
 
 -- a keyword that may stand here, with its operands
-abbrev pub statement_of : Draft → Keyword → Words → Option JobKind → Result (Option Statement) JobKind
+abbrev pub statement_of : Draft → Keyword → LineWords → Option JobKind → Result (Option Statement) JobKind
 statement_of d keyword words (Some refusal) = Err refusal
 statement_of d keyword words None = arguments d keyword words >>= (λ statement. Ok (Some statement))
 
 -- the first word: a keyword, and one that may stand here
-abbrev pub keyword_says : Draft → Words → Option Keyword → Result (Option Statement) JobKind
+abbrev pub keyword_says : Draft → LineWords → Option Keyword → Result (Option Statement) JobKind
 keyword_says d words None = Err kind.Word
 keyword_says d words (Some keyword) = statement_of d keyword words (refusal_at d keyword)
 
@@ -34,10 +34,10 @@ unless_ended Head said = said
 unless_ended Inside said = said
 
 -- what the words of a line say, the first of which is the keyword
-abbrev pub words_say : Draft → Words → Result (Option Statement) JobKind
+abbrev pub words_say : Draft → LineWords → Result (Option Statement) JobKind
 words_say d words = word_at words >>= (λ word. unless_ended d.place (keyword_says d word.left (keyword_of word.value)))
 
-abbrev pub words_say_if : Draft → Words → Bool → Result (Option Statement) JobKind
+abbrev pub words_say_if : Draft → LineWords → Bool → Result (Option Statement) JobKind
 words_say_if d words false = Ok None
 words_say_if d words true = words_say d words
 

@@ -3,7 +3,7 @@ use Rattle.std.specs.Prelude.{ℕ, ◌+◌, ◌/◌, ◌%◌, List, [], ◌∷�
 use Rattle.std.specs.List.{flat_map}
 use Rattle.hex.specs.Hex.{encode_lower, lower_digits}
 use Rattle.gba_joblog.specs.Job.{ConsoleJob, NamedFile, WholeJob}
-use Rattle.gba_joblog.specs.Operands.{Words}
+use Rattle.gba_joblog.specs.Operands.{LineWords}
 use Rattle.gba_joblog.specs.Outputs.{all_kinds, out_name}
 use Rattle.gba_joblog.specs.Statements.{output_of}
 use Rattle.gba_joblog.specs.declared.job.KeyChange.{KeyChange}
@@ -11,16 +11,16 @@ use Rattle.gba_joblog.specs.declared.job.OutLine.{OutLine}
 use Rattle.gba_joblog.specs.declared.outputs.OutKind.{OutKind}
 
 -- what follows a word of a line: a space before each of the other words, and the line feed
-abbrev pub after_words : Words → List ℕ
+abbrev pub after_words : LineWords → List ℕ
 after_words [] = codes "\n"
 after_words (word ∷ words) = codes " " ++ (word ++ after_words words)
 
 -- a line of these words, the first of which is the keyword
-abbrev pub line_of : List ℕ → Words → List ℕ
+abbrev pub line_of : List ℕ → LineWords → List ℕ
 line_of keyword words = keyword ++ after_words words
 
 -- a stated digest, with lower case digits
-abbrev pub digest_words : Option (List ℕ) → Words
+abbrev pub digest_words : Option (List ℕ) → LineWords
 digest_words None = []
 digest_words (Some digest) = codes "sha256" ∷ encode_lower digest ∷ []
 

@@ -6,7 +6,7 @@ use Rattle.gba_joblog.specs.Changes.{change_at}
 use Rattle.gba_joblog.specs.Draft.{Draft, DraftConsole, silent_console, with_image}
 use Rattle.gba_joblog.specs.Job.{ConsoleJob, NamedFile}
 use Rattle.gba_joblog.specs.Outputs.{at_kind, with_kind}
-use Rattle.gba_joblog.specs.Operands.{Words, number_at, name_at, digest_at, player_at, version_at, out_kind_at, end_at}
+use Rattle.gba_joblog.specs.Operands.{LineWords, number_at, name_at, digest_at, player_at, version_at, out_kind_at, end_at}
 use Rattle.gba_joblog.specs.declared.draft.Place.{Place}
 use Rattle.gba_joblog.specs.declared.draft.Place.TheVariants.{Start, Head, Inside, Ended}
 use Rattle.gba_joblog.specs.declared.job.FileKind.{FileKind}
@@ -152,7 +152,7 @@ has_image Head last = true
 has_image Ended last = true
 
 -- the operands of each line, from left to right, and what it says with them
-unfoldable pub arguments : Draft → Keyword → Words → Result Statement JobKind
+unfoldable pub arguments : Draft → Keyword → LineWords → Result Statement JobKind
 arguments d keyword.Version words = do
   version ← version_at words
   _ ← end_at version.left
