@@ -8,7 +8,7 @@ use Rattle.gba_joblog.specs.Kinds.{JobError, kind_name}
 -- why a command is refused, as its words and the files say
 pub data Cause : Type 0 where
   -- the words are no command
-  Words : Cause
+  NoCommand : Cause
   -- the job of this name isn't of the language, or clashes with an output: the first refused line, and its kind
   Job : List ℕ → JobError → Cause
   -- the image of this name is refused, and why
@@ -19,7 +19,7 @@ pub data Cause : Type 0 where
   Source : List ℕ → AsmError → Cause
 
 abbrev pub status_of : Cause → ℕ
-status_of Words = 2
+status_of NoCommand = 2
 status_of (Job name error) = 5
 status_of (Image name error) = 6
 status_of (Digest name stated got) = 7
@@ -27,7 +27,7 @@ status_of (Source name error) = 8
 
 -- the line that is reported on standard output
 abbrev pub report_of : Cause → List ℕ
-report_of Words = codes "words\n"
+report_of NoCommand = codes "words\n"
 report_of (Image name error) = codes "image " ++ name ++ codes " " ++ error_name error ++ codes "\n"
 report_of (Job name error) =
     codes "job " ++ name ++ codes " line " ++ decimal error.line ++ codes " " ++ kind_name error.kind ++ codes "\n"

@@ -8,7 +8,7 @@ use Rattle.gba_command.specs.declared.writing.WriteStop.{WriteStop}
 use Rattle.gba_command.specs.declared.writing.WriteStop.TheVariants as writing
 use Rattle.gba_command.specs.declared.outputs.OutputFile.{OutputFile}
 use Rattle.gba_command.specs.declared.outputs.Outputs.{Outputs}
-use Rattle.gba_command.specs.Cause.{Cause, Words, Job, Image, Digest, Source, Stop, Refused, Absent, StoreFails, LacksMemory}
+use Rattle.gba_command.specs.Cause.{Cause, NoCommand, Job, Image, Digest, Source, Stop, Refused, Absent, StoreFails, LacksMemory}
 use Rattle.gba_command.specs.Words.{Command, RunJob, Assemble, ListArm, ListThumb, Generate, RunWords, FileWords, GenerateWords}
 use Rattle.gba_command.specs.Writing.{Output, Run, WriteEnd, Wrote, SinkFails, SinkLacks, at_once}
 use Rattle.gba_command.specs.declared.words.Command.{Command as CommandText}
@@ -36,7 +36,7 @@ command_value (command.ListThumb words) = ListThumb (file_words_value words)
 command_value (command.Generate words) = Generate (generate_words_value words)
 
 abbrev pub cause_value : CauseText → Cause
-cause_value cause.Words = Words
+cause_value cause.NoCommand = NoCommand
 cause_value (cause.Job name error) = Job name.items error
 cause_value (cause.Image name error) = Image name.items error
 cause_value (cause.Digest name stated got) = Digest name.items stated got

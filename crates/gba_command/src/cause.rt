@@ -17,7 +17,7 @@ use itoa::Buffer;
 #[derive(Drop)]
 pub enum Cause {
     /// The words are no command: 2.
-    Words,
+    NoCommand,
     /// The job of this name isn't of the language, or an output file would be the job or one of its inputs: 5.
     Job(Name, JobError),
     /// The image of this name is refused for this: 6.
@@ -104,7 +104,7 @@ impl Cause {
         ensures { result ≡ status_of (cause_value self.now) }
     {
         match self {
-            Cause::Words => 2,
+            Cause::NoCommand => 2,
             Cause::Job(..) => 5,
             Cause::Image(..) => 6,
             Cause::Digest { .. } => 7,
@@ -117,7 +117,7 @@ impl Cause {
         ensures { result.items ≡ report_of (cause_value self.now) }
     {
         match self {
-            Cause::Words => line_of(b"words\n"),
+            Cause::NoCommand => line_of(b"words\n"),
             Cause::Job(name, error) => refused_line(
                 b"job ",
                 name,

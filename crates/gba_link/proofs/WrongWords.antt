@@ -3,7 +3,7 @@ use Rattle.std.proofs.Common.{◌≡◌, ◌⊎◌, ℕ, Bool, true, false, List
 use Rattle.std.specs.Str.{bytes_eq}
 use Rattle.sha2.specs.Sha256.{sha256}
 use Rattle.gba_store.specs.declared.outside.ReadError.{ReadError}
-use Rattle.gba_command.specs.Cause.{Cause, Words, Digest, Stop, Refused, LacksMemory}
+use Rattle.gba_command.specs.Cause.{Cause, NoCommand, Digest, Stop, Refused, LacksMemory}
 use Rattle.gba_command.specs.Plan.{Plan, Done, Refuse, Read, bind, each, judgement}
 use Rattle.gba_command.specs.Reading.{GoesTo}
 use Rattle.gba_command.specs.Words.{Command, FileWords, RunWords, RunJob, Assemble, ListArm, ListThumb, Generate}
@@ -30,15 +30,15 @@ abbrev refused_as : (X : Type 0) → Cause → Result X Cause
 refused_as X cause = Err cause
 
 -- a judgement isn't that the words are wrong, and nor is what follows
-judgement-apart : {X Y : Type 0} (result : Result X Cause) (following : X → Plan Y) → (result ≡ Err Words → ⊥)
-    → ((x : X) → Names Words (following x) → ⊥) → Names Words (bind (judgement result) following) → ⊥
+judgement-apart : {X Y : Type 0} (result : Result X Cause) (following : X → Plan Y) → (result ≡ Err NoCommand → ⊥)
+    → ((x : X) → Names NoCommand (following x) → ⊥) → Names NoCommand (bind (judgement result) following) → ⊥
 unfolding Names
 judgement-apart (Ok x) following apart rest h = rest x h
 judgement-apart {X} (Err cause) following apart rest h = apart (ap (λ (c : Cause). refused_as X c) h)
 
 -- plans one after another, however they are put together
 names-together : {X Y Z : Type 0} (plan : Plan X) (next : X → Plan Y) (last : Y → Plan Z)
-    → Names Words (bind (bind plan next) last) → Names Words (bind plan (λ x. bind (next x) last))
+    → Names NoCommand (bind (bind plan next) last) → Names NoCommand (bind plan (λ x. bind (next x) last))
 unfolding Names
 names-together (Done x) next last h = h
 names-together (Refuse cause) next last h = h
@@ -47,80 +47,80 @@ names-together (Read name most long more) next last (inr h) = inr (h.0, names-to
 
 -- neither a digest nor an image nor a key file says that the words are wrong
 by-digest : {X : Type 0} (test : Bool) (x : X) (name stated got : List ℕ)
-    → after_digest x (if test then Ok got else Err (Digest name stated got)) ≡ Err Words → ⊥
+    → after_digest x (if test then Ok got else Err (Digest name stated got)) ≡ Err NoCommand → ⊥
 by-digest true x name stated got h = cc
 by-digest false x name stated got h = cc
 
 digest-apart : {X : Type 0} (x : X) (file : NamedFile) (stated : Option (List ℕ)) (got : List ℕ)
-    → after_digest x (compared_with file stated got) ≡ Err Words → ⊥
+    → after_digest x (compared_with file stated got) ≡ Err NoCommand → ⊥
 digest-apart x file None got h = cc
 digest-apart x file (Some stated) got h = by-digest (bytes_eq stated got) x file.name stated got h
 
 fault-apart : (file : NamedFile) (bytes : List ℕ) (fault : Option ImageError)
-    → unless_fault file bytes fault ≡ Err Words → ⊥
+    → unless_fault file bytes fault ≡ Err NoCommand → ⊥
 fault-apart file bytes (Some error) h = cc
 fault-apart file bytes None h = digest-apart (digested bytes) file file.digest (sha256 bytes) h
 
 image-apart : {Y : Type 0} (form : ImageForm) (file : NamedFile) (following : DigestedImage → Plan Y)
-    → ((x : DigestedImage) → Names Words (following x) → ⊥) → Names Words (bind (image_plan form file) following) → ⊥
+    → ((x : DigestedImage) → Names NoCommand (following x) → ⊥) → Names NoCommand (bind (image_plan form file) following) → ⊥
 unfolding Names
 image-apart form file following rest (inl h) = cc
 image-apart form file following rest (inr h) =
     judgement-apart (accepted form file h.0) following (fault-apart file h.0 (form.fault h.0)) rest h.1
 
 any-cart-apart : {Y : Type 0} (file : Option NamedFile) (following : Option DigestedImage → Plan Y)
-    → ((x : Option DigestedImage) → Names Words (following x) → ⊥) → Names Words (bind (any_cart_plan file) following) → ⊥
+    → ((x : Option DigestedImage) → Names NoCommand (following x) → ⊥) → Names NoCommand (bind (any_cart_plan file) following) → ⊥
 any-cart-apart None following rest h = rest None h
 any-cart-apart (Some file) following rest h =
     image-apart cart_form file (λ x. following (Some x)) (λ x k. rest (Some x) k)
     (names-together (cart_plan file) found following h)
 
 any-save-apart : {Y : Type 0} (file : Option NamedFile) (following : Option DigestedImage → Plan Y)
-    → ((x : Option DigestedImage) → Names Words (following x) → ⊥) → Names Words (bind (any_save_plan file) following) → ⊥
+    → ((x : Option DigestedImage) → Names NoCommand (following x) → ⊥) → Names NoCommand (bind (any_save_plan file) following) → ⊥
 any-save-apart None following rest h = rest None h
 any-save-apart (Some file) following rest h =
     image-apart save_form file (λ x. following (Some x)) (λ x k. rest (Some x) k)
     (names-together (save_plan file) found following h)
 
 keys-not-words : (file : NamedFile) (bytes : List ℕ) (said : Result (List KeyChange) JobError)
-    → keys_or_fault file bytes said ≡ Err Words → ⊥
+    → keys_or_fault file bytes said ≡ Err NoCommand → ⊥
 keys-not-words file bytes (Ok changes) h = digest-apart changes file file.digest (sha256 bytes) h
 keys-not-words file bytes (Err error) h = cc
 
 key-file-apart : {Y : Type 0} (file : NamedFile) (following : List KeyChange → Plan Y)
-    → ((x : List KeyChange) → Names Words (following x) → ⊥) → Names Words (bind (key_file_plan file) following) → ⊥
+    → ((x : List KeyChange) → Names NoCommand (following x) → ⊥) → Names NoCommand (bind (key_file_plan file) following) → ⊥
 unfolding Names
 key-file-apart file following rest (inl h) = cc
 key-file-apart file following rest (inr h) =
     judgement-apart (keys_or_refusal file h.0) following (keys-not-words file h.0 (keys_of h.0)) rest h.1
 
 any-keys-apart : {Y : Type 0} (changes : List KeyChange) (file : Option NamedFile) (following : List KeyChange → Plan Y)
-    → ((x : List KeyChange) → Names Words (following x) → ⊥)
-    → Names Words (bind (any_keys_plan changes file) following) → ⊥
+    → ((x : List KeyChange) → Names NoCommand (following x) → ⊥)
+    → Names NoCommand (bind (any_keys_plan changes file) following) → ⊥
 any-keys-apart changes None following rest h = rest changes h
 any-keys-apart changes (Some file) following rest h = key-file-apart file following rest h
 
 console-apart : {Y : Type 0} (console : ConsoleJob) (following : ConsoleInputs → Plan Y)
-    → ((x : ConsoleInputs) → Names Words (following x) → ⊥) → Names Words (bind (console_plan console) following) → ⊥
+    → ((x : ConsoleInputs) → Names NoCommand (following x) → ⊥) → Names NoCommand (bind (console_plan console) following) → ⊥
 console-apart console following rest h =
     let at-end : (bios : DigestedImage) (cart save : Option DigestedImage)
-    → Names Words (bind (after_save console bios cart save) following) → ⊥ = λ bios cart save k.
+    → Names NoCommand (bind (after_save console bios cart save) following) → ⊥ = λ bios cart save k.
     any-keys-apart console.changes console.keys (λ changes. bind (after_keys bios cart save changes) following)
     (λ changes j. rest _ j)
     (names-together (any_keys_plan console.changes console.keys) (after_keys bios cart save) following k) in
     let at-save : (bios : DigestedImage) (cart : Option DigestedImage)
-    → Names Words (bind (after_cart console bios cart) following) → ⊥ = λ bios cart k.
+    → Names NoCommand (bind (after_cart console bios cart) following) → ⊥ = λ bios cart k.
     any-save-apart console.save (λ save. bind (after_save console bios cart save) following) (at-end bios cart)
     (names-together (any_save_plan console.save) (after_save console bios cart) following k) in
-    let at-cart : (bios : DigestedImage) → Names Words (bind (after_bios console bios) following) → ⊥ = λ bios k.
+    let at-cart : (bios : DigestedImage) → Names NoCommand (bind (after_bios console bios) following) → ⊥ = λ bios k.
     any-cart-apart console.cart (λ cart. bind (after_cart console bios cart) following) (at-save bios)
     (names-together (any_cart_plan console.cart) (after_cart console bios) following k) in
     image-apart bios_form console.bios (λ bios. bind (after_bios console bios) following) at-cart
     (names-together (bios_plan console.bios) (after_bios console) following h)
 
 consoles-apart : {Y : Type 0} (done : List ConsoleInputs) (consoles : List ConsoleJob) (following : List ConsoleInputs → Plan Y)
-    → ((x : List ConsoleInputs) → Names Words (following x) → ⊥)
-    → Names Words (bind (each console_plan done consoles) following) → ⊥
+    → ((x : List ConsoleInputs) → Names NoCommand (following x) → ⊥)
+    → Names NoCommand (bind (each console_plan done consoles) following) → ⊥
 unfolding each
 consoles-apart done [] following rest h = rest done h
 consoles-apart done (console ∷ consoles) following rest h =
@@ -128,45 +128,45 @@ consoles-apart done (console ∷ consoles) following rest h =
     (λ y k. consoles-apart (done ++ (y ∷ [])) consoles following rest k)
     (names-together (console_plan console) (λ y. each console_plan (done ++ (y ∷ [])) consoles) following h)
 
-run-named : (words : RunWords) (job : WholeJob) → Names Words (run_plan words job) → ⊥
+run-named : (words : RunWords) (job : WholeJob) → Names NoCommand (run_plan words job) → ⊥
 unfolding Names
 run-named words job h = consoles-apart [] job.consoles (after_inputs words job) (λ inputs none. none) h
 
-judged-named : (words : RunWords) (result : Result WholeJob Cause) → (result ≡ Err Words → ⊥)
-    → Names Words (bind (judgement result) (run_plan words)) → ⊥
+judged-named : (words : RunWords) (result : Result WholeJob Cause) → (result ≡ Err NoCommand → ⊥)
+    → Names NoCommand (bind (judgement result) (run_plan words)) → ⊥
 judged-named words result apart h = judgement-apart result (run_plan words) apart (run-named words) h
 
-unclashing : (words : RunWords) (job : WholeJob) (clash : Option ℕ) → unless_clash words job clash ≡ Err Words → ⊥
+unclashing : (words : RunWords) (job : WholeJob) (clash : Option ℕ) → unless_clash words job clash ≡ Err NoCommand → ⊥
 unclashing words job None h = cc
 unclashing words job (Some line) h = cc
 
-not-words : (words : RunWords) (said : Result WholeJob JobError) → without_clash words said ≡ Err Words → ⊥
+not-words : (words : RunWords) (said : Result WholeJob JobError) → without_clash words said ≡ Err NoCommand → ⊥
 not-words words (Ok job) h = unclashing words job (clash_of job words.job words.out) h
 not-words words (Err error) h = cc
 
-job-named : (words : RunWords) → Names Words (whole_run_plan words) → ⊥
+job-named : (words : RunWords) → Names NoCommand (whole_run_plan words) → ⊥
 unfolding Names
 job-named words (inl h) = cc
 job-named words (inr h) = judged-named words (job_or_refusal words h.0) (not-words words (job_of h.0)) h.1
 
 -- nor does a source or an image
-source-apart : (name : List ℕ) (made : Result (List ℕ) AsmError) → unless_refused name made ≡ Err Words → ⊥
+source-apart : (name : List ℕ) (made : Result (List ℕ) AsmError) → unless_refused name made ≡ Err NoCommand → ⊥
 source-apart name (Ok image) h = cc
 source-apart name (Err error) h = cc
 
-assembly-named : (words : FileWords) → Names Words (assembly_plan words) → ⊥
+assembly-named : (words : FileWords) → Names NoCommand (assembly_plan words) → ⊥
 unfolding Names
 assembly-named words (inl h) = cc
 assembly-named words (inr h) =
     judgement-apart (assembled words.from h.0) (after_assembly words) (source-apart words.from (assembly_of h.0))
     (λ image none. none) h.1
 
-listing-named : (set : Set) (words : FileWords) → Names Words (listing_plan set words) → ⊥
+listing-named : (set : Set) (words : FileWords) → Names NoCommand (listing_plan set words) → ⊥
 unfolding Names
 listing-named set words (inl h) = cc
 listing-named set words (inr h) = h.1
 
-read-named : (command : Command) → Names Words (plan_of_command command) → ⊥
+read-named : (command : Command) → Names NoCommand (plan_of_command command) → ⊥
 unfolding Names
 read-named (RunJob words) h = job-named words h
 read-named (Assemble words) h = assembly-named words h
@@ -176,15 +176,15 @@ read-named (Generate words) h = h
 
 module _ {Store : Type 0} (gives : List ℕ → ℕ → Result (List ℕ) ReadError → Store → Store → Type 0) where
   pub refused-words : (command : Option Command) (old new : Store) (end : Result Run Stop)
-      → GoesTo gives (command_plan command) old new end → (end ≡ Err (Refused Words)) → command ≡ None
+      → GoesTo gives (command_plan command) old new end → (end ≡ Err (Refused NoCommand)) → command ≡ None
   refused-words None old new end goes is = refl
   refused-words (Some command) old new end goes is =
-      let named = refused-named gives (command_plan (Some command)) old new Words
+      let named = refused-named gives (command_plan (Some command)) old new NoCommand
       (subst (λ (e : Result Run Stop). GoesTo gives (command_plan (Some command)) old new e) is goes) in
       absurd (read-named command named)
 
   pub wrong-words : (command : Option Command) (old new : Store) (end : Result Run Stop)
       → GoesTo gives (command_plan command) old new end → command ≡ None
-      → (new ≡ old) × ((end ≡ Err LacksMemory) ⊎ (end ≡ Err (Refused Words)))
-  wrong-words None old new end goes is = refuses-alone gives Words old new end goes
+      → (new ≡ old) × ((end ≡ Err LacksMemory) ⊎ (end ≡ Err (Refused NoCommand)))
+  wrong-words None old new end goes is = refuses-alone gives NoCommand old new end goes
   wrong-words (Some command) old new end goes is = absurd cc

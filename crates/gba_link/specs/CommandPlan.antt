@@ -1,6 +1,6 @@
 -- What the words after the program's name say to do.
 use Rattle.std.specs.Prelude.{ℕ, List, Option, Some, None}
-use Rattle.gba_command.specs.Cause.{Words}
+use Rattle.gba_command.specs.Cause.{NoCommand}
 use Rattle.gba_command.specs.Plan.{Plan, Done, Refuse}
 use Rattle.gba_command.specs.Words.{Command, RunJob, Assemble, ListArm, ListThumb, Generate, command_of}
 use Rattle.gba_command.specs.Writing.{Run}
@@ -18,7 +18,7 @@ plan_of_command (ListThumb words) = listing_plan Thumb words
 plan_of_command (Generate words) = Done (generated_run words)
 
 abbrev pub command_plan : Option Command → Plan Run
-command_plan None = Refuse Words
+command_plan None = Refuse NoCommand
 command_plan (Some command) = plan_of_command command
 
 -- What the words after the program's name say to do: which files are read, in which order, and what comes of them.

@@ -1,6 +1,6 @@
 use Rattle.std.specs.Prelude.{◌≡◌, ◌⊎◌, ℕ, List, None, Result, Err}
 use Rattle.gba_store.specs.declared.outside.ReadError.{ReadError}
-use Rattle.gba_command.specs.Cause.{Words, Stop, Refused, LacksMemory}
+use Rattle.gba_command.specs.Cause.{NoCommand, Stop, Refused, LacksMemory}
 use Rattle.gba_command.specs.Reading.{GoesTo}
 use Rattle.gba_command.specs.Words.{command_of}
 use Rattle.gba_command.specs.Writing.{Run}
@@ -11,5 +11,5 @@ use Rattle.gba_link.specs.CommandPlan.{plan_of}
 abbrev pub RefusesWrongWords : {Store : Type 0} → (List ℕ → ℕ → Result (List ℕ) ReadError → Store → Store → Type 0) → Type 0
 RefusesWrongWords {Store} gives =
     (words : List (List ℕ)) (old new : Store) (end : Result Run Stop) → GoesTo gives (plan_of words) old new end
-    → ((end ≡ Err (Refused Words)) → command_of words ≡ None)
-    × (command_of words ≡ None → (new ≡ old) × ((end ≡ Err LacksMemory) ⊎ (end ≡ Err (Refused Words))))
+    → ((end ≡ Err (Refused NoCommand)) → command_of words ≡ None)
+    × (command_of words ≡ None → (new ≡ old) × ((end ≡ Err LacksMemory) ⊎ (end ≡ Err (Refused NoCommand))))

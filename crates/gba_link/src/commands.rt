@@ -49,6 +49,6 @@ pub(crate) fn do_words<R: Threads + Sync, S: Store, G: Gate + Sync>(
 {
     match command_of(words) {
         Some(command) => do_command(rt, alloc, store, &command, gate),
-        None => Err(Refusal::Refused(Cause::Words)),
+        None => Err(Refusal::Refused(Cause::NoCommand)),
     }
 }
