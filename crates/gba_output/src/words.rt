@@ -13,7 +13,7 @@ use link_node::LinkMode;
 pub const WORDS_ROOM: usize = 49;
 
 /// Adds four digits and a blank.
-#[tactic(auto, unfolding(crate::specs::Words::half_text))]
+#[tactic(auto, unfolding(crate::specs::TransferWords::half_text))]
 fn add_half(into: &mut Vec<u8>, value: u16)
     requires { vec_len into.old + 5 ≤ vec_capacity into.old }
     ensures items { into.new.items ≡ into.old.items ++ half_text value }
@@ -81,7 +81,7 @@ fn add_words(into: &mut Vec<u8>, transfer: &Transfer)
 }
 
 /// Adds the line of a transfer.
-#[tactic(auto, unfolding(crate::specs::Words::words_line))]
+#[tactic(auto, unfolding(crate::specs::TransferWords::words_line))]
 fn add_transfer(into: &mut Vec<u8>, transfer: &Transfer)
     requires { vec_len into.old + 49 ≤ vec_capacity into.old }
     ensures items { into.new.items ≡ into.old.items ++ words_line transfer.now }
