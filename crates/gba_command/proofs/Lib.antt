@@ -7,3 +7,4 @@ pub mod Completing
 pub mod KindNames
 pub mod Each
 pub mod Comes
+pub mod LeftFiles

@@ -6,3 +6,4 @@ pub mod Writing
 pub mod Answer
 pub mod Views
 pub mod Law
+pub mod LeftFiles
