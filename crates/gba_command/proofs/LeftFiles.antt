@@ -8,19 +8,19 @@ use Rattle.std.proofs.Common.{◌≡◌, ◌≢◌, ◌⊎◌, ℕ, zero, suc, �
 use Rattle.gba_store.specs.Files.{Files}
 use Rattle.gba_command.specs.Answer.{Closes, Concludes, Finishes}
 use Rattle.gba_command.specs.Cause.{Cause, NoCommand, Job, Image, Digest, Source, status_of}
-use Rattle.gba_command.specs.LeftFiles.{standard_output, is_named, added, NamesDiffer, HasOwnFiles, with_summary, LeavesFiles, left_in, HasStopped, MayHold, LeavesFronts, LeavesPieces}
+use Rattle.gba_command.specs.LeftFiles.{standard_output, is_among, added, NamesDiffer, HasOwnFiles, with_summary, LeavesFiles, left_in, HasStopped, MayHold, LeavesFronts, LeavesPieces}
 use Rattle.gba_command.specs.Writing.{Output, Run, SinkState, WriteEnd, Wrote, SinkFails, SinkLacks, IsStopped, Call, Create, Append, Performs, PerformsAll, creation, addition, line_call, summary_calls, calls_of, at_once}
 
-same-name : (a b : List ℕ) → bytes_eq a b ≡ true → a ≡ b
+pub same-name : (a b : List ℕ) → bytes_eq a b ≡ true → a ≡ b
 same-name a b h = grind (arith, bytes_eq-Decides)
 
-own-name : (a : List ℕ) → bytes_eq a a ≡ true
+pub own-name : (a : List ℕ) → bytes_eq a a ≡ true
 own-name a = grind (arith, bytes_eq-Decides)
 
 other-name : (a b : List ℕ) → bytes_eq a b ≡ false → a ≢ b
 other-name a b h is = let same : bytes_eq a b ≡ true = subst (λ (c : List ℕ). bytes_eq a c ≡ true) is (own-name a) in absurd cc
 
-names-apart : (a b : List ℕ) → a ≢ b → bytes_eq a b ≡ false
+pub names-apart : (a b : List ℕ) → a ≢ b → bytes_eq a b ≡ false
 names-apart a b apart = by (bytes_eq a b) refl where
   by : (t : Bool) → bytes_eq a b ≡ t → bytes_eq a b ≡ false
   by true is = absurd (apart (same-name a b is))
@@ -28,22 +28,22 @@ names-apart a b apart = by (bytes_eq a b) refl where
 
 -- each of these files has a name of theirs
 own-named : (outputs : List Output) (k : ℕ) (d : Output) → k < length outputs
-    → is_named (slice_index_or outputs k d).name outputs ≡ true
-unfolding is_named
+    → is_among (slice_index_or outputs k d).name outputs ≡ true
+unfolding is_among
 own-named [] k d below = absurd (omega (arith, below))
 own-named (output ∷ outputs) zero d below = rw (own-name output.name) refl
 own-named (output ∷ outputs) (suc k) d below =
     let one : Output = slice_index_or outputs k d in
     by (bytes_eq output.name one.name) (own-named outputs k d (omega (arith, below))) where
-  by : (t : Bool) → is_named (slice_index_or outputs k d).name outputs ≡ true
-      → (t || is_named (slice_index_or outputs k d).name outputs) ≡ true
+  by : (t : Bool) → is_among (slice_index_or outputs k d).name outputs ≡ true
+      → (t || is_among (slice_index_or outputs k d).name outputs) ≡ true
   by true is = refl
   by false is = is
 
-absurd-named : (one : List ℕ) (outputs : List Output) → is_named one outputs ≡ true
-    → is_named standard_output outputs ≡ false → one ≡ standard_output → ⊥
+absurd-named : (one : List ℕ) (outputs : List Output) → is_among one outputs ≡ true
+    → is_among standard_output outputs ≡ false → one ≡ standard_output → ⊥
 absurd-named one outputs is none same =
-    let there : is_named standard_output outputs ≡ true = subst (λ (n : List ℕ). is_named n outputs ≡ true) same is in
+    let there : is_among standard_output outputs ≡ true = subst (λ (n : List ℕ). is_among n outputs ≡ true) same is in
     absurd cc
 
 -- what one call makes of the file of a name
@@ -110,8 +110,8 @@ module _ (Tells : Type 0) where
 
   made-first : (output : Output) (outputs : List Output) (name : List ℕ) (before : Option (List ℕ))
       → left_in outputs [] name (if bytes_eq output.name name then Some [] else before) ≡ left_in (output ∷ outputs) [] name before
-  unfolding is_named added
-  made-first output outputs name before = by (bytes_eq output.name name) (is_named name outputs) where
+  unfolding is_among added
+  made-first output outputs name before = by (bytes_eq output.name name) (is_among name outputs) where
     by : (a b : Bool) → (if b then Some [] else (if a then Some [] else before)) ≡ (if a || b then Some [] else before)
     by true true = refl
     by true false = refl
@@ -121,7 +121,7 @@ module _ (Tells : Type 0) where
   creates-leave : (outputs : List Output) (old new : SinkState) → Tells
       → PerformsAll Tells (map creation outputs) old new Wrote → (name : List ℕ)
       → new.files name ≡ left_in outputs [] name (old.files name)
-  unfolding PerformsAll is_named
+  unfolding PerformsAll is_among
   creates-leave [] old new tells h name = ap (λ (s : SinkState). s.files name) h.0
   creates-leave (output ∷ outputs) old new tells (inl h) name = absurd h.1
   creates-leave (output ∷ outputs) old new tells (inr h) name =
@@ -150,20 +150,20 @@ module _ (Tells : Type 0) where
       (done-one (addition piece) old h.0 tells h.1 name ∙ piece-adds piece name bytes (old.files name) is)
       ∙ ap Some (append_assoc bytes more (added name pieces))
 
-  not-named : (one name : List ℕ) (outputs : List Output) → is_named one outputs ≡ true → is_named name outputs ≡ false
+  not-named : (one name : List ℕ) (outputs : List Output) → is_among one outputs ≡ true → is_among name outputs ≡ false
       → bytes_eq one name ≡ false
   not-named one name outputs is none = by (bytes_eq one name) refl where
     by : (b : Bool) → bytes_eq one name ≡ b → bytes_eq one name ≡ false
     by true same =
-        let there : is_named name outputs ≡ true
-        = subst (λ (n : List ℕ). is_named n outputs ≡ true) (same-name one name same) is in
+        let there : is_among name outputs ≡ true
+        = subst (λ (n : List ℕ). is_among n outputs ≡ true) (same-name one name same) is in
         absurd cc
     by false is = is
 
   -- pieces of files, and a name that none of them has
   adds-spare : (outputs pieces later : List Output) (old new : SinkState) → Tells
-      → All (λ (piece : Output). is_named piece.name outputs ≡ true) (pieces ++ later)
-      → PerformsAll Tells (map addition pieces) old new Wrote → (name : List ℕ) → is_named name outputs ≡ false
+      → All (λ (piece : Output). is_among piece.name outputs ≡ true) (pieces ++ later)
+      → PerformsAll Tells (map addition pieces) old new Wrote → (name : List ℕ) → is_among name outputs ≡ false
       → new.files name ≡ old.files name
   unfolding PerformsAll
   adds-spare outputs [] later old new tells own h name none = ap (λ (s : SinkState). s.files name) h.0
@@ -177,12 +177,12 @@ module _ (Tells : Type 0) where
 
   -- all files made, and then pieces added
   leaves : (outputs front later : List Output) (old mid new : SinkState) → Tells
-      → All (λ (piece : Output). is_named piece.name outputs ≡ true) (front ++ later)
+      → All (λ (piece : Output). is_among piece.name outputs ≡ true) (front ++ later)
       → PerformsAll Tells (map creation outputs) old mid Wrote → PerformsAll Tells (map addition front) mid new Wrote
       → (name : List ℕ) → new.files name ≡ left_in outputs front name (old.files name)
   unfolding added
-  leaves outputs front later old mid new tells own made adds name = by (is_named name outputs) refl where
-    by : (b : Bool) → is_named name outputs ≡ b
+  leaves outputs front later old mid new tells own made adds name = by (is_among name outputs) refl where
+    by : (b : Bool) → is_among name outputs ≡ b
         → new.files name ≡ (if b then Some (added name front) else old.files name)
     by true is =
         adds-leave front mid new tells adds name []
@@ -238,19 +238,19 @@ module _ (Tells : Type 0) where
       → PerformsAll Tells (calls_of run) old new Wrote → LeavesFiles run old.files new.files
   left-files run old new tells own h =
       let d : Done run old new = all-done run old new h in
-      let all : All (λ (piece : Output). is_named piece.name run.outputs ≡ true) (run.pieces ++ [])
-      = subst (λ (l : List Output). All (λ (piece : Output). is_named piece.name run.outputs ≡ true) l)
+      let all : All (λ (piece : Output). is_among piece.name run.outputs ≡ true) (run.pieces ++ [])
+      = subst (λ (l : List Output). All (λ (piece : Output). is_among piece.name run.outputs ≡ true) l)
       (sym (append-nil run.pieces)) own.own in
       let held : (name : List ℕ) → d.added_to.files name ≡ left_in run.outputs run.pieces name (old.files name)
       = leaves run.outputs run.pieces [] old d.made d.added_to tells all d.creates d.adds in
       let last = summary-leaves run.end d.added_to new tells d.tells_end in
-      let unnamed : (name : List ℕ) → is_named name run.outputs ≡ false → d.added_to.files name ≡ old.files name
+      let unnamed : (name : List ℕ) → is_among name run.outputs ≡ false → d.added_to.files name ≡ old.files name
       = λ name none. held name
       ∙ ap (λ (b : Bool). if b then Some (added name run.pieces) else old.files name) none in
       record {
         outputs = λ k output below.
             let one : Output = slice_index_or run.outputs k output in
-            let there : is_named one.name run.outputs ≡ true = own-named run.outputs k output below in
+            let there : is_among one.name run.outputs ≡ true = own-named run.outputs k output below in
             last.1 one.name (λ same. absurd-named one.name run.outputs there own.apart same)
             ∙ held one.name
             ∙ ap (λ (b : Bool). if b then Some (added one.name run.pieces) else old.files one.name) there
@@ -321,7 +321,7 @@ module _ (Tells : Type 0) where
         stopped = record { files = all-made run; pieces = s.place; files_first = inl refl };
         mid = s.mid;
         held = leaves run.outputs s.before (s.one ∷ s.after) old made s.mid tells
-            (subst (λ (l : List Output). All (λ (piece : Output). is_named piece.name run.outputs ≡ true) l) s.place own.own)
+            (subst (λ (l : List Output). All (λ (piece : Output). is_among piece.name run.outputs ≡ true) l) s.place own.own)
             creates s.done;
         call = addition s.one;
         next = inr (inl (s.one, s.after, refl, refl, refl));
@@ -342,7 +342,7 @@ module _ (Tells : Type 0) where
         stopped = record { files = all-made run; pieces = sym (append-nil run.pieces); files_first = inl refl };
         mid = whole;
         held = leaves run.outputs run.pieces [] old made whole tells
-            (subst (λ (l : List Output). All (λ (piece : Output). is_named piece.name run.outputs ≡ true) l)
+            (subst (λ (l : List Output). All (λ (piece : Output). is_among piece.name run.outputs ≡ true) l)
             (sym (append-nil run.pieces)) own.own) creates adds;
         call = line_call last.0;
         next = inr (inr (last.0, refl, refl, last.1, refl));
@@ -485,11 +485,11 @@ module _ (Tells : Type 0) where
     by (SinkFails name) calls closes = absurd (let nine : 0 ≡ 9 = closes.0 in cc)
     by SinkLacks calls closes = absurd (let ten : 0 ≡ 10 = closes.0 in cc)
 
-none-added : (name : List ℕ) (outputs : List Output) → is_named name outputs ≡ false → added name outputs ≡ []
-unfolding is_named added
+none-added : (name : List ℕ) (outputs : List Output) → is_among name outputs ≡ false → added name outputs ≡ []
+unfolding is_among added
 none-added name [] none = refl
 none-added name (output ∷ outputs) none = by (bytes_eq output.name name) none (none-added name outputs) where
-  by : (t : Bool) → (t || is_named name outputs) ≡ false → (is_named name outputs ≡ false → added name outputs ≡ [])
+  by : (t : Bool) → (t || is_among name outputs) ≡ false → (is_among name outputs ≡ false → added name outputs ≡ [])
       → (if t then output.bytes else []) ++ added name outputs ≡ []
   by true is rest = absurd cc
   by false is rest = rest is
@@ -504,16 +504,16 @@ whole-once (output ∷ outputs) differ zero d below =
     ∙ append-nil output.bytes
 whole-once (output ∷ outputs) differ (suc k) d below =
     let one : Output = slice_index_or outputs k d in
-    let there : is_named one.name outputs ≡ true = own-named outputs k d (omega (arith, below)) in
+    let there : is_among one.name outputs ≡ true = own-named outputs k d (omega (arith, below)) in
     let apart : bytes_eq output.name one.name ≡ false
     = names-apart output.name one.name (λ same.
-    let here : is_named output.name outputs ≡ true
-    = subst (λ (n : List ℕ). is_named n outputs ≡ true) (sym same) there in
+    let here : is_among output.name outputs ≡ true
+    = subst (λ (n : List ℕ). is_among n outputs ≡ true) (sym same) there in
     let none = differ.0 in absurd cc) in
     ap (λ (b : Bool). (if b then output.bytes else []) ++ added one.name outputs) apart
     ∙ whole-once outputs differ.1 k d (omega (arith, below))
 
 pub has-own-files : (outputs : List Output) (end : Result (List ℕ) Cause) → NamesDiffer outputs
-    → is_named standard_output outputs ≡ false → HasOwnFiles (at_once outputs end)
+    → is_among standard_output outputs ≡ false → HasOwnFiles (at_once outputs end)
 has-own-files outputs end differ none =
     record { apart = none; own = own-named outputs; whole = whole-once outputs differ }

@@ -8,3 +8,4 @@ pub mod KindNames
 pub mod Each
 pub mod Comes
 pub mod LeftFiles
+pub mod Parts

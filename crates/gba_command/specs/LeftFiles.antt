@@ -13,9 +13,9 @@ abbrev pub standard_output : List ℕ
 standard_output = codes "-"
 
 -- whether one of these files has a name
-unfoldable pub is_named : List ℕ → List Output → Bool
-is_named name [] = false
-is_named name (output ∷ outputs) = bytes_eq output.name name || is_named name outputs
+unfoldable pub is_among : List ℕ → List Output → Bool
+is_among name [] = false
+is_among name (output ∷ outputs) = bytes_eq output.name name || is_among name outputs
 
 -- the bytes that pieces add to the file of a name, in their order
 unfoldable pub added : List ℕ → List Output → List ℕ
@@ -25,13 +25,13 @@ added name (piece ∷ pieces) = (if bytes_eq piece.name name then piece.bytes el
 -- no two of these files have one name
 unfoldable pub NamesDiffer : List Output → Type 0
 NamesDiffer [] = Unit {0}
-NamesDiffer (output ∷ outputs) = (is_named output.name outputs ≡ false) × NamesDiffer outputs
+NamesDiffer (output ∷ outputs) = (is_among output.name outputs ≡ false) × NamesDiffer outputs
 
 -- None of a run's files is standard output, each piece is one of a file, and the pieces of a file, one after another, are
 -- its bytes.
 pub record HasOwnFiles (run : Run) : Type 0 where
-  pub apart : is_named standard_output run.outputs ≡ false
-  pub own : All (λ piece. is_named piece.name run.outputs ≡ true) run.pieces
+  pub apart : is_among standard_output run.outputs ≡ false
+  pub own : All (λ piece. is_among piece.name run.outputs ≡ true) run.pieces
   pub whole : All (λ output. added output.name run.pieces ≡ output.bytes) run.outputs
 
 -- what standard output holds after the summary, if the run ends with one
@@ -44,12 +44,12 @@ with_summary (Err cause) before = before
 pub record LeavesFiles (run : Run) (old new : Files) : Type 0 where
   pub outputs : All (λ output. new output.name ≡ Some output.bytes) run.outputs
   pub summary : new standard_output ≡ with_summary run.end (old standard_output)
-  pub others : (name : List ℕ) → is_named name run.outputs ≡ false → name ≢ standard_output → new name ≡ old name
+  pub others : (name : List ℕ) → is_among name run.outputs ≡ false → name ≢ standard_output → new name ≡ old name
 
 -- What a name's file holds once the files of `made` were made empty and the pieces of `front` added: a file that wasn't made
 -- is as before.
 abbrev pub left_in : List Output → List Output → List ℕ → Option (List ℕ) → Option (List ℕ)
-left_in made front name before = if is_named name made then Some (added name front) else before
+left_in made front name before = if is_among name made then Some (added name front) else before
 
 -- The files that were made empty and the pieces that were added before the calls of a run stopped, and those that weren't. No
 -- piece is added before all files are made.
@@ -135,5 +135,5 @@ module _ (Tells : Type 0) where
 -- a run that adds each file in one piece, where names differ
 abbrev pub AtOnceIsWhole : Type 0
 AtOnceIsWhole =
-    (outputs : List Output) (end : Result (List ℕ) Cause) → NamesDiffer outputs → is_named standard_output outputs ≡ false
+    (outputs : List Output) (end : Result (List ℕ) Cause) → NamesDiffer outputs → is_among standard_output outputs ≡ false
     → HasOwnFiles (at_once outputs end)

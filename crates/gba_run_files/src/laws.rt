@@ -1,8 +1,13 @@
 //! Laws over the definitions. Each is the contract of a function that takes no value.
 
-ghost use Rattle.gba_run_files.specs.Law.{LogsHaveRoom};
+ghost use Rattle.gba_run_files.specs.Law.{LogsHaveRoom, OutputsDiffer};
 
 /// How much longer a log is once the digests of its outputs are stated.
 pub fn logs_have_room()
     ensures { LogsHaveRoom }
+{}
+
+/// The files of a run of at most four consoles have different names, and none is standard output.
+pub fn outputs_differ()
+    ensures { OutputsDiffer }
 {}
