@@ -8,6 +8,6 @@ pub use console::Console;
 pub use ticker::Ticker;
 
 #[cfg(test)]
-mod pair;
+mod seated;
 #[cfg(test)]
 mod tests;

@@ -1,11 +1,12 @@
-//! Two consoles by one thread, in several orders.
+//! Two, three and four consoles by one thread, in several orders.
 
-ghost use Rattle.std.specs.Prelude.{ℕ, ◌≡◌, ◌+◌, ◌<◌, ◌≤◌, ◌^◌, IfOk, length, All};
+ghost use Rattle.std.specs.Prelude.{ℕ, ◌≡◌, ◌≢◌, ◌+◌, ◌<◌, ◌≤◌, ◌^◌, IfOk, length, All};
 ghost use Rattle.std.specs.Vec.{vec_len};
 ghost use Rattle.link_node.specs.Delays.{AreDelays};
+ghost use Rattle.link_table_tests.specs.Following.{HaveOneLimit, AreSeated};
 
 use crate::console::Console;
-use crate::pair::two_consoles;
+use crate::seated::{make_consoles, two_consoles};
 use crate::ticker::Ticker;
 use link_node::{Delays, LinkMode, Signal, Start};
 use link_table::{Joined, Look, Shared};
@@ -58,28 +59,26 @@ fn advance(shared: &Shared<Ticker>, console: &mut Console, most: u64)
     ensures { console.new ≡ console.old }
 {
     for index in 0..most {
-        console.step(shared);
+        if !console.step(shared) {
+            break;
+        }
     }
 }
 
-/// A look, all signals that it counts, and a second look. Signal n is that of the step at clock n times `pace`.
-fn catch_up(
-    rt: &impl Abort,
-    shared: &Shared<Ticker>,
-    console: &mut Console,
-    fetched: u64,
-    pace: u64,
-) -> u64
-    requires { console.old.table ≡ shared.now }
+/// A look, all signals that it counts, and a second look. Signal n is that of the step at clock n times `apart`.
+fn catch_up(rt: &impl Abort, shared: &Shared<Ticker>, console: &mut Console, peer: u32, apart: u64)
+    requires table { console.old.table ≡ shared.now }
+    requires below { peer < console.old.players }
+    requires other { peer ≢ console.old.player }
     ensures { console.new ≡ console.old }
 {
-    let look = console.look(shared);
+    let fetched = console.fetched(peer);
+    let look = console.look(shared, peer);
     for number in fetched..look.count {
-        let signal = console.fetch(shared);
-        assert_eq!(rt; signal, Some(told(number.saturating_mul(pace))));
+        let signal = console.fetch(shared, peer);
+        assert_eq!(rt; signal, Some(told(number.saturating_mul(apart))));
     }
-    console.look(shared);
-    look.count
+    console.look(shared, peer);
 }
 
 #[test]
@@ -93,8 +92,8 @@ fn a_peer_that_has_not_stepped_stands_at_its_opening_clock(rt: HostRuntime) -> R
         second,
         Delays::all(16),
     )?;
-    let seen = own.look(&shared);
-    let back = other.look(&shared);
+    let seen = own.look(&shared, 1);
+    let back = other.look(&shared, 0);
     assert_eq!(rt; seen, Look { clock: 0, count: 0 });
     assert_eq!(rt; back, Look { clock: 0, count: 0 });
     Ok(())
@@ -111,11 +110,11 @@ fn a_look_tells_steps_and_a_fetch_the_signal(rt: HostRuntime) -> Result<(), Fail
         second,
         Delays::all(16),
     )?;
-    let before = own.look(&shared);
+    let before = own.look(&shared, 1);
     steps(&rt, &shared, &mut other, 3);
-    let after = own.look(&shared);
-    let signal = own.fetch(&shared);
-    let again = own.look(&shared);
+    let after = own.look(&shared, 1);
+    let signal = own.fetch(&shared, 1);
+    let again = own.look(&shared, 1);
     assert_eq!(rt; before, Look { clock: 0, count: 0 });
     assert_eq!(rt; after, Look { clock: 9, count: 1 });
     assert_eq!(rt; signal, Some(told(0)));
@@ -145,18 +144,17 @@ fn play(
     rounds: u64,
     pace: u64,
 ) -> u64
-    requires { (own.old.table ≡ shared.now) × (other.old.table ≡ shared.now) }
+    requires own { (own.old.table ≡ shared.now) × (own.old.player ≡ 0) × (own.old.players ≡ 2) }
+    requires other { (other.old.table ≡ shared.now) × (other.old.player ≡ 1) × (other.old.players ≡ 2) }
     ensures { (own.new ≡ own.old) × (other.new ≡ other.old) }
 {
-    let mut fetched = 0;
-    let mut heard = 0;
     for round in 0..rounds {
         advance(shared, own, 2_000);
-        fetched = catch_up(rt, shared, other, fetched, 1);
+        catch_up(rt, shared, other, 0, 1);
         advance(shared, other, 3 * (round % 2) + 1);
-        heard = catch_up(rt, shared, own, heard, pace);
+        catch_up(rt, shared, own, 1, pace);
     }
-    fetched
+    other.fetched(0)
 }
 
 /// Two consoles at 20,000 signals of the first one, which come one in each cycle.
@@ -206,10 +204,12 @@ fn no_more_than_2559_signals_are_unread(rt: HostRuntime) -> Result<(), Fail> {
     )?;
     advance(&shared, &mut other, 10);
     assert_eq!(rt; other.clock(), 1535);
-    assert_eq!(rt; catch_up(&rt, &shared, &mut own, 0, 1), 1);
+    catch_up(&rt, &shared, &mut own, 1, 1);
+    assert_eq!(rt; own.fetched(1), 1);
     advance(&shared, &mut own, 10_000);
     assert_eq!(rt; own.clock(), 2559);
-    assert_eq!(rt; catch_up(&rt, &shared, &mut other, 0, 1), 2559);
+    catch_up(&rt, &shared, &mut other, 0, 1);
+    assert_eq!(rt; other.fetched(0), 2559);
     Ok(())
 }
 
@@ -238,6 +238,7 @@ fn meet_both(
 ) -> Result<Joined<Ticker>, Fail>
     requires table { (own.table ≡ shared.now) × (other.table ≡ shared.now) }
     requires players { (own.player ≡ 0) × (other.player ≡ 1) }
+    requires two { (own.players ≡ 2) × (other.players ≡ 2) }
     ensures { IfOk result (λ joined. (joined.table ≡ shared.now) × (length joined.made ≡ 2)) }
 {
     let mut seats = Vec::new(alloc);
@@ -281,9 +282,9 @@ fn what_was_not_fetched_is_left_in_order(rt: HostRuntime) -> Result<(), Fail> {
         Delays::all(16),
     )?;
     steps(&rt, &shared, &mut own, 5);
-    let look = other.look(&shared);
-    let none = other.fetch(&shared);
-    let one = other.fetch(&shared);
+    let look = other.look(&shared, 0);
+    let none = other.fetch(&shared, 0);
+    let one = other.fetch(&shared, 0);
     steps(&rt, &shared, &mut own, 3);
     steps(&rt, &shared, &mut other, 2);
     assert_eq!(rt; look, Look { clock: 5, count: 5 });
@@ -306,5 +307,231 @@ fn one_console_alone_meets_itself(rt: HostRuntime) -> Result<(), Fail> {
     };
     assert!(rt; seats.len() == 1);
     let _joined = shared.meet(seats);
+    Ok(())
+}
+
+/// The end of the tickers below.
+const LIMIT: u64 = 6_000;
+
+/// A ticker by its pace and its gap, and what they come to by hand: how many cycles are between two of its signals, how
+/// many signals it tells before the end, and its clock after the last step.
+struct Row {
+    pace: u64,
+    gap: u64,
+    apart: u64,
+    signals: u64,
+    end: u64,
+}
+
+static ROWS: [Row; 4] = [
+    // a step and a signal in each cycle, more than a ring holds
+    Row {
+        pace: 0,
+        gap: 0,
+        apart: 1,
+        signals: 6000,
+        end: 6000,
+    },
+    // 857 * 7 = 5,999
+    Row {
+        pace: 6,
+        gap: 6,
+        apart: 7,
+        signals: 858,
+        end: 6006,
+    },
+    // steps at multiples of 4, signals at those of 6 among them
+    Row {
+        pace: 3,
+        gap: 5,
+        apart: 12,
+        signals: 500,
+        end: 6000,
+    },
+    // 11 * 512 = 5,632
+    Row {
+        pace: 511,
+        gap: 0,
+        apart: 512,
+        signals: 12,
+        end: 6144,
+    },
+];
+
+/// The row of a player, in a play that begins its count of rows at `first`.
+fn row_of(player: usize, first: usize) -> &'static Row {
+    &ROWS[player.wrapping_add(first) % 4]
+}
+
+/// A table of so many consoles with the tickers of the rows from `first` on.
+fn row_consoles(
+    rt: &impl Abort,
+    alloc: Global,
+    count: usize,
+    first: usize,
+    delays: Delays,
+) -> Result<(Shared<Ticker>, Vec<Console>), Fail>
+    requires some { 0 < count }
+    requires four { count ≤ 4 }
+    requires delays { AreDelays delays }
+    ensures { IfOk result (λ made. AreSeated made.0 count count made.1.items) }
+{
+    let mut nodes = Vec::new(alloc);
+    for player in 0..count {
+        let row = row_of(player, first);
+        assert!(rt; row.gap < 512);
+        nodes.push(ticker(row.pace, row.gap, LIMIT))?;
+    }
+    make_consoles(rt, alloc, nodes, delays)
+}
+
+/// A console catches up with each other one, and steps as far as it may.
+fn take_turn(rt: &impl Abort, shared: &Shared<Ticker>, console: &mut Console, first: usize)
+    requires { console.old.table ≡ shared.now }
+    ensures { console.new ≡ console.old }
+{
+    for peer in 0..console.count() {
+        if peer != console.player() {
+            catch_up(
+                rt,
+                shared,
+                console,
+                peer,
+                row_of(peer as usize, first).apart,
+            );
+        }
+    }
+    advance(shared, console, 10_000);
+}
+
+/// One turn of each console.
+fn play_round(rt: &impl Abort, shared: &Shared<Ticker>, consoles: &mut [Console], first: usize)
+    requires { AreSeated shared.now (length consoles.old) (length consoles.old) consoles.old }
+    ensures { consoles.new ≡ consoles.old }
+{
+    for player in 0..consoles.len() {
+        take_turn(rt, shared, &mut consoles[player], first);
+    }
+}
+
+/// Whether all have come to their end.
+fn are_done(consoles: &[Console]) -> bool {
+    consoles.iter().all(|console| console.clock() >= LIMIT)
+}
+
+/// Rounds until all have come to their end, and one more, so that each knows all.
+fn play_all(rt: &impl Abort, shared: &Shared<Ticker>, consoles: &mut [Console], first: usize)
+    requires { AreSeated shared.now (length consoles.old) (length consoles.old) consoles.old }
+    ensures { consoles.new ≡ consoles.old }
+{
+    for round in 0..10_000 {
+        if are_done(consoles) {
+            break;
+        }
+        play_round(rt, shared, consoles, first);
+    }
+    play_round(rt, shared, consoles, first);
+}
+
+/// A console has come to its end and has fetched all signals of each other one.
+fn knows_all(rt: &impl Abort, console: &Console, first: usize) {
+    assert_eq!(rt;
+        console.clock(),
+        row_of(console.player() as usize, first).end
+    );
+    for peer in 0..console.count() {
+        if peer != console.player() {
+            assert_eq!(rt; console.fetched(peer), row_of(peer as usize, first).signals);
+        }
+    }
+}
+
+/// A play of so many consoles, with the tickers of the rows from `first` on.
+fn play_rows(
+    rt: &impl Abort,
+    alloc: Global,
+    count: usize,
+    first: usize,
+    delays: Delays,
+) -> Result<(), Fail>
+    requires some { 0 < count }
+    requires four { count ≤ 4 }
+    requires delays { AreDelays delays }
+{
+    let (shared, mut consoles) = row_consoles(rt, alloc, count, first, delays)?;
+    play_all(rt, &shared, &mut consoles, first);
+    for console in &consoles {
+        knows_all(rt, console, first);
+    }
+    Ok(())
+}
+
+#[test]
+fn two_to_four_consoles_come_to_their_end_and_know_all_signals(
+    rt: HostRuntime,
+) -> Result<(), Fail> {
+    for count in 2..5 {
+        for number in [0x0000, 0xffff, 0x0010, 0x0812, 0x4821, 0xa5c3] {
+            for first in 0..4 {
+                play_rows(&rt, rt.alloc(), count, first, drawn(number))?;
+            }
+        }
+    }
+    Ok(())
+}
+
+#[test]
+fn of_two_consoles_each_goes_as_far_as_the_delay_from_the_other(
+    rt: HostRuntime,
+) -> Result<(), Fail> {
+    // a signal takes a cycle from 0 to 1, and 1,024 cycles back
+    let (shared, mut own, mut other) = two_consoles(
+        &rt,
+        rt.alloc(),
+        ticker(0, 0, LIMIT),
+        ticker(0, 0, LIMIT),
+        drawn(0x0010),
+    )?;
+    advance(&shared, &mut own, 2_000);
+    advance(&shared, &mut other, 2_000);
+    assert_eq!(rt; (own.clock(), other.clock()), (1024, 1));
+    catch_up(&rt, &shared, &mut other, 0, 1);
+    advance(&shared, &mut other, 2_000);
+    assert_eq!(rt; other.clock(), 1025);
+    catch_up(&rt, &shared, &mut own, 1, 1);
+    advance(&shared, &mut own, 2_000);
+    assert_eq!(rt; own.clock(), 2049);
+    Ok(())
+}
+
+/// Of four consoles with a step in each cycle that have seen the opening alone, only the receiver of the short delay
+/// stops at it.
+fn one_short_delay(
+    rt: &impl Abort,
+    alloc: Global,
+    sender: usize,
+    receiver: usize,
+) -> Result<(), Fail> {
+    let node = ticker(0, 0, LIMIT);
+    let nodes = vec![in alloc; node, node, node, node]?;
+    let delays = Delays::all(1024).with(sender, receiver, 1);
+    let (shared, mut consoles) = make_consoles(rt, alloc, nodes, delays)?;
+    for player in 0..consoles.len() {
+        advance(&shared, &mut consoles[player], 2_000);
+        let end = if player == receiver { 1 } else { 1024 };
+        assert_eq!(rt; consoles[player].clock(), end);
+    }
+    Ok(())
+}
+
+#[test]
+fn each_short_delay_stops_its_receiver_alone(rt: HostRuntime) -> Result<(), Fail> {
+    for sender in 0..4 {
+        for receiver in 0..4 {
+            if sender != receiver {
+                one_short_delay(&rt, rt.alloc(), sender, receiver)?;
+            }
+        }
+    }
     Ok(())
 }
