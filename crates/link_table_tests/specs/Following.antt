@@ -38,7 +38,7 @@ console_state seat = record { table = seat.table; player = seat.player; players 
 abbrev pub heard_at : List Heard → ℕ → Heard
 heard_at heard j = slice_index_or heard j (record { seen = 0; taken = 0; count = 0 })
 
--- which is what its seat knows of that peer; the clock is none that the seat may not rest on
+-- which is what its seat knows of that peer; a clock of the table has 40 bits
 pub record IsHeard (heard : Heard) (peer : Peer) : Type 0 where
   pub seen_is : heard.seen ≤ peer.base
   pub small : heard.seen < 2 ^ 40
