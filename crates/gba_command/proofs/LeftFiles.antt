@@ -35,10 +35,10 @@ own-named (output ∷ outputs) zero d below = rw (own-name output.name) refl
 own-named (output ∷ outputs) (suc k) d below =
     let one : Output = slice_index_or outputs k d in
     by (bytes_eq output.name one.name) (own-named outputs k d (omega (arith, below))) where
-  by : (t : Bool) → is_among (slice_index_or outputs k d).name outputs ≡ true
-      → (t || is_among (slice_index_or outputs k d).name outputs) ≡ true
-  by true is = refl
-  by false is = is
+      by : (t : Bool) → is_among (slice_index_or outputs k d).name outputs ≡ true
+          → (t || is_among (slice_index_or outputs k d).name outputs) ≡ true
+      by true is = refl
+      by false is = is
 
 absurd-named : (one : List ℕ) (outputs : List Output) → is_among one outputs ≡ true
     → is_among standard_output outputs ≡ false → one ≡ standard_output → ⊥
@@ -204,14 +204,13 @@ module _ (Tells : Type 0) where
   summary-leaves (Ok summary) old new tells (inl h) = absurd h.1
   summary-leaves (Ok summary) old new tells (inr h) =
       let call : (name : List ℕ) → new.files name ≡ after_one (line_call summary) name (old.files name)
-      = λ name. ap (λ (s : SinkState). s.files name) h.2.0 ∙ done-one (line_call summary) old h.0 tells h.1 name in
-      (
+      = λ name. ap (λ (s : SinkState). s.files name) h.2.0 ∙ done-one (line_call summary) old h.0 tells h.1 name in (
         call standard_output
-        ∙ ap (λ (b : Bool). if b then Some (unwrap_or (old.files standard_output) [] ++ summary) else old.files standard_output)
-        (own-name standard_output),
+            ∙ ap (λ (b : Bool). if b then Some (unwrap_or (old.files standard_output) [] ++ summary) else old.files standard_output)
+            (own-name standard_output),
         λ name apart. call name
-        ∙ ap (λ (b : Bool). if b then Some (unwrap_or (old.files name) [] ++ summary) else old.files name)
-        (names-apart standard_output name (λ same. apart (sym same))),
+            ∙ ap (λ (b : Bool). if b then Some (unwrap_or (old.files name) [] ++ summary) else old.files name)
+            (names-apart standard_output name (λ same. apart (sym same))),
       )
 
   -- the calls of a run that were all done: its files are made, its pieces added, and then comes the summary

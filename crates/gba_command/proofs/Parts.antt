@@ -62,8 +62,7 @@ unfolding ArePart all_differ NamesDiffer
 part-differ [] names h differ = tt
 part-differ (output ∷ outputs) [] h differ = absurd h
 part-differ (output ∷ outputs) (name ∷ names) (inl h) differ =
-    let d = differ-parts (has_name name names) (all_differ names) differ in
-    (
+    let d = differ-parts (has_name name names) (all_differ names) differ in (
       part-among output.name outputs names h.1 (ap (λ (x : List ℕ). has_name x names) h.0 ∙ d.0),
       part-differ outputs names h.1 d.1,
     )

@@ -155,10 +155,9 @@ written-differ out count job files lines few =
     let plain : List Output = (written (run_names [] count) job files lines).outputs in
     let part : ArePart plain (run_file_names count) = written-part count job files lines few in
     let n = names-differ count few in
-    let is = written-under out count job files lines in
-    (
+    let is = written-under out count job files lines in (
       subst (λ (l : List Output). NamesDiffer l) (sym is)
-      (differ-under out plain (part-differ plain (run_file_names count) part n.0)),
+          (differ-under out plain (part-differ plain (run_file_names count) part n.0)),
       subst (λ (l : List Output). is_among standard_output l ≡ false) (sym is)
-      (apart-under out plain (run_file_names count) part n.1),
+          (apart-under out plain (run_file_names count) part n.1),
     )
