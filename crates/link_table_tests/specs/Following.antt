@@ -1,4 +1,5 @@
-use Rattle.std.specs.Prelude.{ℕ, ◌≡◌, ◌≢◌, ◌+◌, ◌<◌, ◌≤◌, ◌^◌, List, [], ◌∷◌, Some, All, length, slice_get, slice_index_or}
+use Rattle.std.specs.Prelude.{ℕ, ◌≡◌, ◌≢◌, ◌+◌, ◌<◌, ◌≤◌, ◌^◌, List, [], ◌∷◌, Some, All, length}
+use Rattle.std.specs.Prelude.{slice_get, slice_index_or}
 use Rattle.link_order.specs.NodeKind.{NodeKind}
 use Rattle.link_order.specs.Cut.{Cut, hop, plain_cut, IsSound, IsCable}
 use Rattle.link_order.specs.GlobalOrder.{trace}

@@ -155,6 +155,11 @@ impl Console {
         self.node.clock
     }
 
+    /// The clock at which the node's last step began.
+    pub fn was(&self) -> u64 {
+        self.node.was
+    }
+
     /// The player's number.
     pub fn player(&self) -> u32
         ensures { result ≡ self.now.player }

@@ -358,59 +358,76 @@ static ROWS: [Row; 4] = [
     },
 ];
 
-/// The row of a player, in a play that begins its count of rows at `first`.
+/// The row of a player, where player 0 has the row `first`.
 fn row_of(player: usize, first: usize) -> &'static Row {
     &ROWS[player.wrapping_add(first) % 4]
 }
 
-/// A table of so many consoles with the tickers of the rows from `first` on.
+/// A course: the row of player 0's ticker, from which on the others' rows follow, and the delays.
+#[derive(Clone, Copy)]
+struct Course {
+    first: usize,
+    delays: Delays,
+}
+
+/// A table of so many consoles of a course.
 fn row_consoles(
     rt: &impl Abort,
     alloc: Global,
     count: usize,
-    first: usize,
-    delays: Delays,
+    course: &Course,
 ) -> Result<(Shared<Ticker>, Vec<Console>), Fail>
     requires some { 0 < count }
     requires four { count ≤ 4 }
-    requires delays { AreDelays delays }
+    requires delays { AreDelays course.now.delays }
     ensures { IfOk result (λ made. AreSeated made.0 count count made.1.items) }
 {
     let mut nodes = Vec::new(alloc);
     for player in 0..count {
-        let row = row_of(player, first);
+        let row = row_of(player, course.first);
         assert!(rt; row.gap < 512);
         nodes.push(ticker(row.pace, row.gap, LIMIT))?;
     }
-    make_consoles(rt, alloc, nodes, delays)
+    make_consoles(rt, alloc, nodes, course.delays)
+}
+
+/// A console catches up with a peer. The first of the signals that are new to it arrives after its last step began.
+fn hear(rt: &impl Abort, shared: &Shared<Ticker>, console: &mut Console, peer: u32, course: &Course)
+    requires table { console.old.table ≡ shared.now }
+    requires below { peer < console.old.players }
+    requires other { peer ≢ console.old.player }
+    ensures { console.new ≡ console.old }
+{
+    let apart = row_of(peer as usize, course.first).apart;
+    let number = console.fetched(peer);
+    catch_up(rt, shared, console, peer, apart);
+    if console.fetched(peer) > number {
+        let delay = course.delays.hop(peer as usize, console.player() as usize);
+        let arrival = number.saturating_mul(apart).saturating_add(delay);
+        assert!(rt; console.was() < arrival);
+    }
 }
 
 /// A console catches up with each other one, and steps as far as it may.
-fn take_turn(rt: &impl Abort, shared: &Shared<Ticker>, console: &mut Console, first: usize)
+fn take_turn(rt: &impl Abort, shared: &Shared<Ticker>, console: &mut Console, course: &Course)
     requires { console.old.table ≡ shared.now }
     ensures { console.new ≡ console.old }
 {
     for peer in 0..console.count() {
         if peer != console.player() {
-            catch_up(
-                rt,
-                shared,
-                console,
-                peer,
-                row_of(peer as usize, first).apart,
-            );
+            hear(rt, shared, console, peer, course);
         }
     }
     advance(shared, console, 10_000);
 }
 
 /// One turn of each console.
-fn play_round(rt: &impl Abort, shared: &Shared<Ticker>, consoles: &mut [Console], first: usize)
+fn play_round(rt: &impl Abort, shared: &Shared<Ticker>, consoles: &mut [Console], course: &Course)
     requires { AreSeated shared.now (length consoles.old) (length consoles.old) consoles.old }
     ensures { consoles.new ≡ consoles.old }
 {
     for player in 0..consoles.len() {
-        take_turn(rt, shared, &mut consoles[player], first);
+        take_turn(rt, shared, &mut consoles[player], course);
     }
 }
 
@@ -420,7 +437,7 @@ fn are_done(consoles: &[Console]) -> bool {
 }
 
 /// Rounds until all have come to their end, and one more, so that each knows all.
-fn play_all(rt: &impl Abort, shared: &Shared<Ticker>, consoles: &mut [Console], first: usize)
+fn play_all(rt: &impl Abort, shared: &Shared<Ticker>, consoles: &mut [Console], course: &Course)
     requires { AreSeated shared.now (length consoles.old) (length consoles.old) consoles.old }
     ensures { consoles.new ≡ consoles.old }
 {
@@ -428,9 +445,9 @@ fn play_all(rt: &impl Abort, shared: &Shared<Ticker>, consoles: &mut [Console], 
         if are_done(consoles) {
             break;
         }
-        play_round(rt, shared, consoles, first);
+        play_round(rt, shared, consoles, course);
     }
-    play_round(rt, shared, consoles, first);
+    play_round(rt, shared, consoles, course);
 }
 
 /// A console has come to its end and has fetched all signals of each other one.
@@ -446,22 +463,16 @@ fn knows_all(rt: &impl Abort, console: &Console, first: usize) {
     }
 }
 
-/// A play of so many consoles, with the tickers of the rows from `first` on.
-fn play_rows(
-    rt: &impl Abort,
-    alloc: Global,
-    count: usize,
-    first: usize,
-    delays: Delays,
-) -> Result<(), Fail>
+/// So many consoles of a course, until each knows all.
+fn play_rows(rt: &impl Abort, alloc: Global, count: usize, course: &Course) -> Result<(), Fail>
     requires some { 0 < count }
     requires four { count ≤ 4 }
-    requires delays { AreDelays delays }
+    requires delays { AreDelays course.now.delays }
 {
-    let (shared, mut consoles) = row_consoles(rt, alloc, count, first, delays)?;
-    play_all(rt, &shared, &mut consoles, first);
+    let (shared, mut consoles) = row_consoles(rt, alloc, count, course)?;
+    play_all(rt, &shared, &mut consoles, course);
     for console in &consoles {
-        knows_all(rt, console, first);
+        knows_all(rt, console, course.first);
     }
     Ok(())
 }
@@ -473,7 +484,8 @@ fn two_to_four_consoles_come_to_their_end_and_know_all_signals(
     for count in 2..5 {
         for number in [0x0000, 0xffff, 0x0010, 0x0812, 0x4821, 0xa5c3] {
             for first in 0..4 {
-                play_rows(&rt, rt.alloc(), count, first, drawn(number))?;
+                let delays = drawn(number);
+                play_rows(&rt, rt.alloc(), count, &Course { first, delays })?;
             }
         }
     }

@@ -15,7 +15,8 @@ tell-requires-clause-next c =
     let early : c.self.inside.node.clock < c.self.inside.node.limit = omega arith in
     let may : c.may_begin.result ≡ true = search rules in
     let go : MayGo c.self.inside.node c.self.inside.seat c.self.invariant.key
-    = may_go c.self.inside.node c.self.inside.seat c.self.inside.heard c.self.invariant early (c.may_begin.ensures.allowed may) in
+    = may_go c.self.inside.node c.self.inside.seat c.self.inside.heard c.self.invariant early
+    (c.may_begin.ensures.allowed may) in
     told_next c.self.inside.node c.self.inside.seat c.self.inside.heard c.self.invariant go c.turn-signal.result
     c.turn-signal.ensures.signal
 
@@ -24,7 +25,8 @@ publish-requires-clause-next c =
     let early : c.self.inside.node.clock < c.self.inside.node.limit = omega arith in
     let may : c.may_begin.result ≡ true = search rules in
     let go : MayGo c.self.inside.node c.self.inside.seat c.self.invariant.key
-    = may_go c.self.inside.node c.self.inside.seat c.self.inside.heard c.self.invariant early (c.may_begin.ensures.allowed may) in
+    = may_go c.self.inside.node c.self.inside.seat c.self.inside.heard c.self.invariant early
+    (c.may_begin.ensures.allowed may) in
     publish_next c.self.inside.node c.self.inside.seat c.tell.new.seat c.self.inside.heard c.self.invariant go
     c.turn-signal.result c.turn-signal.ensures.signal c.tell.ensures c.turn-signal.new.self.clock
     (ap (λ (r : Ticked). r.clock) c.turn-signal.ensures.node)
@@ -34,7 +36,8 @@ invariant_of-self c =
     let early : c.self.inside.node.clock < c.self.inside.node.limit = omega arith in
     let may : c.may_begin.result ≡ true = search rules in
     let go : MayGo c.self.inside.node c.self.inside.seat c.self.invariant.key
-    = may_go c.self.inside.node c.self.inside.seat c.self.inside.heard c.self.invariant early (c.may_begin.ensures.allowed may) in
+    = may_go c.self.inside.node c.self.inside.seat c.self.inside.heard c.self.invariant early
+    (c.may_begin.ensures.allowed may) in
     stepped c.self.inside.node c.turn-signal.new.self c.self.inside.seat c.tell.new.seat c.publish.new.seat
     c.self.inside.heard c.self.invariant (go.goes_on ∙ ap Some (sym c.turn-signal.ensures.node)) c.turn-signal.ensures.limit
     (2 * length (option_to_list (ticked_told (ticked_plain c.self.inside.node)))) c.turn-signal.new.self.clock
