@@ -450,24 +450,6 @@ fn boards_do_as_worked_out(rt: HostRuntime) -> Result<(), Fail> {
     Ok(())
 }
 
-/// Nothing is kept once the transfers are taken out, and they are counted as ever.
-#[test]
-fn words_are_taken_out(rt: HostRuntime) -> Result<(), Fail> {
-    let mut board = board_of(rt.alloc(), (0, 2, 512), true)?;
-    for one in &ALONE {
-        play(&rt, &mut board, *one);
-    }
-    assert_eq!(rt; board.core.serial().known(1), Other);
-    let taken = board.take_words(rt.alloc());
-    assert_eq!(rt; taken.len(), 1);
-    counts(&rt, &board, 1, 0);
-    store(&rt, &mut board, 0x128, Half, 0x5081);
-    advance(&rt, &mut board, 2048);
-    end(&rt, &mut board);
-    counts(&rt, &board, 2, 0);
-    Ok(())
-}
-
 /// The list is emptied, and what ends later is kept in it. All are counted.
 #[test]
 fn words_are_forgotten(rt: HostRuntime) -> Result<(), Fail> {
@@ -475,6 +457,7 @@ fn words_are_forgotten(rt: HostRuntime) -> Result<(), Fail> {
     for one in &ALONE {
         play(&rt, &mut board, *one);
     }
+    assert_eq!(rt; board.core.serial().known(1), Other);
     counts(&rt, &board, 1, 1);
     forget(&rt, &mut board);
     counts(&rt, &board, 1, 0);

@@ -1,12 +1,13 @@
 -- Calls of a sink, one after another.
 use Rattle.std.proofs.Common.{◌≡◌, ℕ, suc, ◌+◌, ◌<◌, ◌≤◌, List, [], ◌∷◌, ◌++◌, length, drop, get_or, map, refl, sym, ap, ◌∙◌, subst, inl, inr, Result, add-one, drop-cons}
 use Rattle.std.proofs.Math.ListN.{drop_of_length-le}
+use Rattle.std.proofs.lemmas.List.{map-append}
 use Rattle.gba_command.specs.declared.writing.WriteStop.{WriteStop}
 use Rattle.gba_command.specs.declared.writing.WriteStop.TheVariants as writing
 use Rattle.gba_command.specs.Cause.{Cause}
 use Rattle.gba_command.specs.Answer.{Closes, Reported, end_status, end_report}
 use Rattle.gba_command.specs.Views.{write_stop_value}
-use Rattle.gba_command.specs.Writing.{Call, SinkState, WriteEnd, Wrote, SinkFails, SinkLacks, IsStopped, Performs, PerformsAll}
+use Rattle.gba_command.specs.Writing.{Call, Output, SinkState, WriteEnd, Wrote, SinkFails, SinkLacks, IsStopped, Performs, PerformsAll}
 
 -- the whole list of calls ends as its rest does from here
 unfoldable pub Leads : Type 0 → List Call → List Call → SinkState → SinkState → Type 0
@@ -54,6 +55,48 @@ performs-stopped Tells (call ∷ before) after old new end (inl done) stopped = 
 performs-stopped Tells (call ∷ before) after old new end (inr done) stopped =
     inr (done.0, done.1, performs-stopped Tells before after done.0 new end done.2 stopped)
 
+-- ---- the calls of files, several at once
+
+module _ (Tells : Type 0) (call : Output → Call) where
+  -- files whose calls were all done, and files behind them
+  pub files-then : (before after : List Output) (old mid new : SinkState) (end : WriteEnd)
+      → PerformsAll Tells (map call before) old mid Wrote → PerformsAll Tells (map call after) mid new end
+      → PerformsAll Tells (map call (before ++ after)) old new end
+  files-then before after old mid new end done h =
+      subst (λ calls. PerformsAll Tells calls old new end) (sym (map-append call before after))
+      (performs-then Tells (map call before) (map call after) old mid new end done h)
+
+  -- files of which a call wasn't done, and those behind them
+  pub files-stopped : (before after : List Output) (old new : SinkState) (end : WriteEnd)
+      → PerformsAll Tells (map call before) old new end → IsStopped end
+      → PerformsAll Tells (map call (before ++ after)) old new end
+  files-stopped before after old new end done stopped =
+      subst (λ calls. PerformsAll Tells calls old new end) (sym (map-append call before after))
+      (performs-stopped Tells (map call before) (map call after) old new end done stopped)
+
+  module _ (whole : List Call) (left here rest : List Output) (old mid : SinkState) (is : left ≡ here ++ rest)
+      (leads : Leads Tells whole (map call left) old mid) where
+    -- the calls of the next files were all done
+    pub leads-files : (next : SinkState) → PerformsAll Tells (map call here) mid next Wrote
+        → Leads Tells whole (map call rest) old next
+    unfolding Leads
+    leads-files next done = λ new end h.
+        leads new end (subst (λ files. PerformsAll Tells (map call files) mid new end) (sym is)
+        (files-then here rest mid next new end done h))
+
+    -- one of them wasn't
+    pub leads-broken : (new : SinkState) (end : WriteEnd) → PerformsAll Tells (map call here) mid new end → IsStopped end
+        → PerformsAll Tells whole old new end
+    unfolding Leads
+    leads-broken new end done stopped =
+        leads new end (subst (λ files. PerformsAll Tells (map call files) mid new end) (sym is)
+        (files-stopped here rest mid new end done stopped))
+
+  -- no file is left
+  pub leads-none : (whole : List Call) (left : List Output) (old mid : SinkState) → left ≡ []
+      → Leads Tells whole (map call left) old mid → PerformsAll Tells whole old mid Wrote
+  leads-none whole left old mid none leads = leads-last Tells whole (map call left) old mid (ap (map call) none) leads
+
 -- a stop is one
 pub stopped : (stop : WriteStop) → IsStopped (write_stop_value stop)
 stopped (writing.Fault name) = tt
@@ -73,6 +116,11 @@ unfolding PerformsAll
 performs-one Tells call old new Wrote done = inr (new, done, (refl, refl))
 performs-one Tells call old new (SinkFails name) done = inl (done, tt)
 performs-one Tells call old new SinkLacks done = inl (done, tt)
+
+-- and no call
+pub performs-none : (Tells : Type 0) (old : SinkState) → PerformsAll Tells [] old old Wrote
+unfolding PerformsAll
+performs-none Tells old = (refl, refl)
 
 -- the calls of files, from a place on: the file's there, and then those behind it
 pub calls-from : {X Y Z : Type 0} (view : X → Y) (call : Y → Z) (files : List X) (i : ℕ) (file : X) → i < length files → file ≡ get_or files i file

@@ -17,7 +17,7 @@ same-name a b h = grind (arith, bytes_eq-Decides)
 pub own-name : (a : List ℕ) → bytes_eq a a ≡ true
 own-name a = grind (arith, bytes_eq-Decides)
 
-other-name : (a b : List ℕ) → bytes_eq a b ≡ false → a ≢ b
+pub other-name : (a b : List ℕ) → bytes_eq a b ≡ false → a ≢ b
 other-name a b h is = let same : bytes_eq a b ≡ true = subst (λ (c : List ℕ). bytes_eq a c ≡ true) is (own-name a) in absurd cc
 
 pub names-apart : (a b : List ℕ) → a ≢ b → bytes_eq a b ≡ false

@@ -35,7 +35,7 @@ part-append (output ∷ outputs) more [] others h k = absurd h
 part-append (output ∷ outputs) more (name ∷ names) others (inl h) k = inl (h.0, part-append outputs more names others h.1 k)
 part-append (output ∷ outputs) more (name ∷ names) others (inr h) k = inr (part-append (output ∷ outputs) more names others h k)
 
-neither : (a b : Bool) → (a || b) ≡ false → (a ≡ false) × (b ≡ false)
+pub neither : (a b : Bool) → (a || b) ≡ false → (a ≡ false) × (b ≡ false)
 neither true b h = absurd cc
 neither false b h = (refl, h)
 

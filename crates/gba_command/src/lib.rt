@@ -11,9 +11,10 @@ mod refusal;
 mod words;
 mod writing;
 
-pub use answering::answer;
+pub use answering::{answer, close_stopped, close_written};
 pub use cause::Cause;
 pub use outputs::{OutputFile, Outputs};
 pub use reading::read_file;
 pub use refusal::{Name, Refusal, name_in_report};
 pub use words::{Command, FileWords, GenerateWords, RunWords, command_of};
+pub use writing::{WriteStop, append, append_files, create, create_files};

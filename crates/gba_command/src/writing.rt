@@ -2,18 +2,18 @@
 
 ghost use Rattle.std.specs.Prelude.{◌≡◌, ◌≤◌, ◌++◌, length, map, codes};
 ghost use Rattle.gba_command.specs.Answer.{Reported};
-ghost use Rattle.gba_command.specs.Views.{conclusion_value, output_value, run_value, write_end};
-ghost use Rattle.gba_command.specs.Writing.{Create, Append, Performs, PerformsAll, addition, calls_of, creation, summary_calls};
+ghost use Rattle.gba_command.specs.Views.{conclusion_value, output_value, write_end};
+ghost use Rattle.gba_command.specs.Writing.{Create, Append, Performs, PerformsAll, addition, creation, summary_calls};
 
 use crate::cause::Cause;
-use crate::outputs::{OutputFile, Outputs};
+use crate::outputs::OutputFile;
 use crate::refusal::{Name, line_about, name_in_report};
 use gba_store::{Sink, WriteError};
 use gba_text::{Line, line_of};
 
 /// Why the writing of a run stopped.
 #[derive(Drop)]
-pub(crate) enum WriteStop {
+pub enum WriteStop {
     /// The sink failed at this file: 9.
     Fault(Name),
     /// Memory was wanting: 10.
@@ -46,9 +46,9 @@ impl WriteStop {
     }
 }
 
-/// Makes a file empty.
+/// Makes a file empty. The name has at most 200 bytes.
 #[tactic(auto, unfolding(crate::specs::Writing::Performs))]
-fn create<O: Sink>(out: &mut O, name: &str) -> Result<(), WriteStop>
+pub fn create<O: Sink>(out: &mut O, name: &str) -> Result<(), WriteStop>
     requires { length name.now ≤ 200 }
     ensures { Performs O.Tells (Create name.now)
         (O.state out.old) (O.state out.new) (write_end result) }
@@ -60,9 +60,9 @@ fn create<O: Sink>(out: &mut O, name: &str) -> Result<(), WriteStop>
     }
 }
 
-/// Adds bytes at the end of a file.
+/// Adds bytes at the end of a file. The name has at most 200 bytes.
 #[tactic(auto, unfolding(crate::specs::Writing::Performs))]
-fn append<O: Sink>(out: &mut O, name: &str, piece: &[u8]) -> Result<(), WriteStop>
+pub fn append<O: Sink>(out: &mut O, name: &str, piece: &[u8]) -> Result<(), WriteStop>
     requires { length name.now ≤ 200 }
     ensures { Performs O.Tells (Append name.now piece.now)
         (O.state out.old) (O.state out.new) (write_end result) }
@@ -74,8 +74,8 @@ fn append<O: Sink>(out: &mut O, name: &str, piece: &[u8]) -> Result<(), WriteSto
     }
 }
 
-/// Makes the files empty, one after another.
-fn create_all<O: Sink>(out: &mut O, files: &[OutputFile]) -> Result<(), WriteStop>
+/// Makes files empty, one after another.
+pub fn create_files<O: Sink>(out: &mut O, files: &[OutputFile]) -> Result<(), WriteStop>
     ensures { PerformsAll O.Tells (map creation (map output_value files.now))
         (O.state out.old) (O.state out.new) (write_end result) }
 {
@@ -85,8 +85,8 @@ fn create_all<O: Sink>(out: &mut O, files: &[OutputFile]) -> Result<(), WriteSto
     Ok(())
 }
 
-/// Adds the bytes of the files, one after another.
-fn append_all<O: Sink>(out: &mut O, files: &[OutputFile]) -> Result<(), WriteStop>
+/// Adds the bytes of files to them, one after another.
+pub fn append_files<O: Sink>(out: &mut O, files: &[OutputFile]) -> Result<(), WriteStop>
     ensures { PerformsAll O.Tells (map addition (map output_value files.now))
         (O.state out.old) (O.state out.new) (write_end result) }
 {
@@ -97,17 +97,20 @@ fn append_all<O: Sink>(out: &mut O, files: &[OutputFile]) -> Result<(), WriteSto
 }
 
 /// Makes all files empty, and then adds their bytes.
-fn write_files<O: Sink>(out: &mut O, files: &[OutputFile]) -> Result<(), WriteStop>
+pub(crate) fn write_files<O: Sink>(out: &mut O, files: &[OutputFile]) -> Result<(), WriteStop>
     ensures { PerformsAll O.Tells
         (map creation (map output_value files.now) ++ map addition (map output_value files.now))
         (O.state out.old) (O.state out.new) (write_end result) }
 {
-    create_all(out, files)?;
-    append_all(out, files)
+    create_files(out, files)?;
+    append_files(out, files)
 }
 
 /// The summary goes to standard output, if there is one.
-fn write_summary<O: Sink>(out: &mut O, end: &Result<Line, Cause>) -> Result<(), WriteStop>
+pub(crate) fn write_summary<O: Sink>(
+    out: &mut O,
+    end: &Result<Line, Cause>,
+) -> Result<(), WriteStop>
     ensures { PerformsAll O.Tells (summary_calls (conclusion_value end.now))
         (O.state out.old) (O.state out.new) (write_end result) }
 {
@@ -115,15 +118,6 @@ fn write_summary<O: Sink>(out: &mut O, end: &Result<Line, Cause>) -> Result<(), 
         Ok(summary) => append(out, "-", summary.as_slice()),
         Err(_) => Ok(()),
     }
-}
-
-/// Writes a run: its files, and the summary if it ends with one.
-pub(crate) fn write_run<O: Sink>(out: &mut O, run: &Outputs) -> Result<(), WriteStop>
-    ensures { PerformsAll O.Tells (calls_of (run_value run.now))
-        (O.state out.old) (O.state out.new) (write_end result) }
-{
-    write_files(out, run.files.as_slice())?;
-    write_summary(out, &run.end)
 }
 
 /// Reports a line on standard output. Where that is refused, nothing more is done.

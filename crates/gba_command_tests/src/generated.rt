@@ -119,14 +119,18 @@ fn made_jobs_are_run(rt: HostRuntime) -> Result<(), Fail> {
     Ok(())
 }
 
-/// Numbers of creates and of appends that fail, and the file that is told.
-static FAILURES: [(&[u64], &[u64], &[u8]); 6] = [
+/// Numbers of creates and of appends that fail, and the file that is told. No transfer ends within 1,000 cycles, so that the
+/// files of the words get no append.
+static FAILURES: [(&[u64], &[u64], &[u8]); 9] = [
     (&[1], &[], b"sink g.0.bios\n"),
     (&[4], &[], b"sink g.3.bios\n"),
     (&[5], &[], b"sink g.job\n"),
     (&[6], &[], b"sink g.0.words\n"),
+    (&[14], &[], b"sink g.log\n"),
     (&[], &[5], b"sink g.job\n"),
-    (&[], &[14], b"sink g.log\n"),
+    (&[], &[6], b"sink g.0.state\n"),
+    (&[], &[9], b"sink g.3.state\n"),
+    (&[], &[10], b"sink g.log\n"),
 ];
 
 /// The order of the files: the images, the job, and those of the run.

@@ -19,11 +19,6 @@ same-if false n = refl
 least-alone : (m : Machine) (delays : Delays) (sent : List Sent) → least console_kind (alone m delays sent) ≡ 0
 least-alone m delays sent = same-if (nat_lt (clock_of m) (clock_of m)) 0
 
--- and its step takes nothing
-step-alone : (m : Machine) (delays : Delays) (sent : List Sent)
-    → step_of console_kind (alone m delays sent) 0 ≡ alone (next m) delays (with_signal 0 (told [] m) sent)
-step-alone m delays sent = refl
-
 -- whether it goes on
 test-alone : (until : ℕ) (m : Machine) (delays : Delays) (sent : List Sent) (test : Bool) → nat_lt (clock_of m) until ≡ test
     → nat_lt (clock_at console_kind (alone m delays sent) (least console_kind (alone m delays sent))) until ≡ test

@@ -7,7 +7,6 @@ use Rattle.gba_io.specs.Cable.{AreApart, EndsFit}
 use Rattle.gba_io.specs.Core.{Core}
 use Rattle.gba_io.specs.Drawing.{cycles_early, cycles_in, lines_drawn}
 use Rattle.gba_io.specs.Ended.{Ended}
-use Rattle.gba_io.specs.Made.{without_frames, without_samples}
 use Rattle.gba_ppu_reg.specs.Position.{IsPosition}
 use Rattle.gba_ppu_reg.specs.declared.position.Position.{Position}
 use Rattle.gba_io.specs.declared.board.Board.{Board}
@@ -36,28 +35,7 @@ core-in-step b core ended clock place step =
       drawn = subst drawn (sym place) step.drawn;
     }
 
--- what is kept changes nothing of that
-pub samples-sound : (was : ℕ) (b : Board) → IsSound was b → IsSound was (record b { made = without_samples b.made })
-samples-sound was b sound = record {
-  step = record { place = sound.step.place; pairs = sound.step.pairs; frames = sound.step.frames; drawn = sound.step.drawn };
-  ends = record { apart = sound.ends.apart; seat = sound.ends.seat; few = sound.ends.few };
-  short = sound.short;
-  clock = sound.clock;
-  few = sound.few;
-  same = sound.same;
-}
-
-pub frames-sound : (was : ℕ) (b : Board) → IsSound was b → IsSound was (record b { made = without_frames b.made })
-frames-sound was b sound = record {
-  step = record { place = sound.step.place; pairs = sound.step.pairs; frames = sound.step.frames; drawn = sound.step.drawn };
-  ends = record { apart = sound.ends.apart; seat = sound.ends.seat; few = sound.ends.few };
-  short = sound.short;
-  clock = sound.clock;
-  few = sound.few;
-  same = sound.same;
-}
-
--- and so is a board whose lists were emptied
+-- a board whose lists were emptied is sound
 pub forgotten-sound : (was until : ℕ) (b : Board) → IsSound was b → until ≤ 2 ^ 39 → b.made.until ≤ until
     → IsSound was (board_from (base_of b) until (board_emptied b))
 forgotten-sound was until b sound most later = record {

@@ -1,5 +1,6 @@
 -- Steps in a row that take nothing.
 use Rattle.std.proofs.Common.{◌≡◌, ℕ, ◌+◌, ◌<◌, ◌≤◌, ◌⊎◌, inl, inr, ⊎_elim, true, [], Option, None, Some, refl, sym, ap, ◌∙◌, subst, arith}
+use Rattle.std.specs.Prelude.{false, is_some}
 use Rattle.link_node.specs.Alone.{Stays, Steps}
 use Rattle.link_node.specs.declared.signal.Signal.{Signal}
 use Rattle.gba_devices.specs.State.{is_calm, is_idle}
@@ -19,24 +20,24 @@ pub and-then : {first end : ℕ} {x y z : Machine} {o : Option Signal} → first
 and-then within alone Stays = alone
 and-then within alone (Steps w rest early) = Steps w (and-then within alone rest) (omega (arith, early, within))
 
--- a calm console has told nothing, nor has an idle one
+-- a calm console has told nothing
 pub calm-silent : StaysQuiet → (m : Machine) → core_is_calm m.board.core ≡ true → news m ≡ None
 calm-silent quiet m calm =
     let core = m.board.core in
     quiet.outgoing m.was core.serial (not-second (is_calm core.devices) (has_news core.serial) calm)
 
-pub idle-silent : StaysQuiet → (m : Machine) → core_is_idle m.board.core ≡ true → news m ≡ None
-idle-silent quiet m idle =
-    let core = m.board.core in
-    quiet.outgoing m.was core.serial (not-second (is_idle core.devices) (has_news core.serial) idle)
-
--- nor has one after it whose serial unit is the same
+-- nor has one whose serial unit is an idle one's
 pub serial-silent : StaysQuiet → (before after : Machine) → core_is_idle before.board.core ≡ true
     → after.board.core.serial ≡ before.board.core.serial → news after ≡ None
 serial-silent quiet before after idle same =
     let core = before.board.core in
     ap (outgoing after.was) same
     ∙ quiet.outgoing after.was core.serial (not-second (is_idle core.devices) (has_news core.serial) idle)
+
+-- nothing is told
+pub none-told : (o : Option Signal) → is_some o ≡ false → o ≡ None
+none-told None is = refl
+none-told (Some s) is = cc
 
 -- the same of the consoles without their limits
 pub alone-unlimited : {end : ℕ} {x z : Machine} {o : Option Signal} → GoesAlone end x z o
@@ -71,6 +72,12 @@ module _ (passes : (m : Machine) → StepPasses [] m) where
       → clock_of x < clock_of z
   told-rises s Stays is = cc
   told-rises s (Steps y alone early) is = omega (arith, not-back alone, (passes y).raised)
+
+  -- a row that tells something begins below its end
+  pub told-early : {end : ℕ} {x z : Machine} {o : Option Signal} → GoesAlone end x z o → is_some o ≡ true
+      → clock_of x < end
+  told-early Stays is = cc
+  told-early (Steps y alone early) is = omega (arith, not-back alone, early)
 
   stays-or-rises : {end : ℕ} {x z : Machine} {o : Option Signal} → GoesAlone end x z o
       → (z ≡ x) ⊎ (clock_of x < clock_of z)

@@ -7,6 +7,7 @@ pub mod NodeLaws
 pub mod Passing
 pub mod Run
 pub mod Segments
+pub mod Shorn
 pub mod Step
 pub mod StepLaws
 pub mod Waiting

@@ -2,8 +2,6 @@ use Rattle.std.specs.Prelude.{ℕ, List, Option}
 use Rattle.gba_psr.specs.RegisterFile.{reset_file}
 use Rattle.gba_io.specs.Base.{at_reset}
 use Rattle.gba_io.specs.Board.{board_at_start, board_emptied, board_from}
-use Rattle.gba_io.specs.Ended.{without_words}
-use Rattle.gba_io.specs.Made.{without_frames, without_samples}
 use Rattle.gba_io.specs.declared.board.Board.{Board}
 use Rattle.gba_io.specs.declared.made.Room.{Room}
 use Rattle.gba_console.specs.declared.keys.KeyState.{KeyState}
@@ -40,18 +38,6 @@ reset player count round bios cart save keys room = record {
   keys = keys;
   was = 0;
 }
-
--- its whole frames are taken out
-abbrev pub frames_taken : Machine → Machine
-frames_taken m = record m { board = record m.board { made = without_frames m.board.made } }
-
--- its pairs of samples are taken out
-abbrev pub samples_taken : Machine → Machine
-samples_taken m = record m { board = record m.board { made = without_samples m.board.made } }
-
--- its transfers are taken out
-abbrev pub words_taken : Machine → Machine
-words_taken m = record m { board = record m.board { ended = without_words m.board.ended } }
 
 -- its three lists are emptied, and what they had stays counted
 abbrev pub forgotten : Machine → Machine

@@ -102,8 +102,7 @@ impl Model for Console {
 impl Console {
     ghost use Rattle.std.specs.Prelude.{ℕ, ◌≡◌, ◌+◌, ◌*◌, ◌≤◌, ◌<◌, ◌^◌, IfOk, IsTrue, All, [], None, length, true, false};
     ghost use Rattle.gba_console.specs.Keys.{due_of};
-    ghost use Rattle.gba_console.specs.Machine.{clock_of, forgotten, frames_taken, limit_of, reset, samples_taken, without_limit};
-    ghost use Rattle.gba_console.specs.Machine.{words_taken};
+    ghost use Rattle.gba_console.specs.Machine.{clock_of, forgotten, limit_of, reset, without_limit};
     ghost use Rattle.gba_console.specs.Run.{GoesAlone, news, run_to};
     ghost use Rattle.gba_console.specs.Step.{next, stepped, told};
     ghost use Rattle.gba_console.specs.Waiting.{IsPlain};
@@ -113,8 +112,8 @@ impl Console {
 
     /// A console at reset, at clock 0, of a player below `count`, on a cable of 1 to 4 consoles whose signals take `round`
     /// cycles, from 1 to 1,024, from its images and the changes of its keys, which are dropped on refusal. It takes the
-    /// memory of its RAM, of the decoded instructions and of all that it keeps of what it makes in the steps which begin
-    /// below `room.until`, or within 2^24 cycles of a call of `forget`, and no more later.
+    /// memory of its RAM, of the decoded instructions and of all that it keeps of what it makes in 2^24 cycles, and no more
+    /// later: it runs up to `room.until`, at most 2^24, and on after a call of `forget`.
     pub fn new(
         alloc: Global,
         player: u32,
@@ -128,7 +127,7 @@ impl Console {
         requires count { count ≤ 4 }
         requires least_round { 2 ≤ round }
         requires most_round { round ≤ 2048 }
-        requires until { room.until ≤ 2 ^ 39 }
+        requires until { room.until ≤ 16777216 }
         ensures { IfOk result (λ console. console
             ≡ reset player count round images.bios images.cart images.save keys.items room) }
     {
@@ -189,14 +188,6 @@ impl Console {
         self.board.made.samples()
     }
 
-    /// Takes the pairs of samples out. None is kept from then on.
-    pub fn take_samples(&mut self, alloc: Global) -> Vec<u8>
-        ensures taken { result.items ≡ self.old.board.made.samples }
-        ensures left { self.new ≡ samples_taken self.old }
-    {
-        self.board.made.take_samples(alloc)
-    }
-
     /// The whole frames, each of 160 lines of 240 colours: 16 bits each, low byte first, of which the lowest five are red,
     /// the next green and then blue. Empty where they aren't kept.
     pub fn frames(&self) -> &[u8]
@@ -205,29 +196,13 @@ impl Console {
         self.board.made.frames()
     }
 
-    /// Takes the whole frames out. None is kept from then on.
-    pub fn take_frames(&mut self, alloc: Global) -> Vec<u8>
-        ensures taken { result.items ≡ self.old.board.made.frames }
-        ensures left { self.new ≡ frames_taken self.old }
-    {
-        self.board.made.take_frames(alloc)
-    }
-
-    /// The transfers that ended, in the order of their ends, which are at least 512 cycles apart. Empty where they aren't
-    /// kept.
+    /// The transfers that ended since the last call of `forget`, in the order of their ends, which are at least 512 cycles
+    /// apart. Empty where they aren't kept.
     pub fn words(&self) -> &[Transfer]
         ensures words { result.now ≡ self.now.board.ended.words }
-        ensures few { 512 * length result.now + self.now.board.ended.base.clock ≤ self.now.board.made.until + 1535 }
+        ensures few { length result.now ≤ 32770 }
     {
         self.board.words()
-    }
-
-    /// Takes the transfers out. None is kept from then on.
-    pub fn take_words(&mut self, alloc: Global) -> Vec<Transfer>
-        ensures taken { result.items ≡ self.old.board.ended.words }
-        ensures left { self.new ≡ words_taken self.old }
-    {
-        self.board.take_words(alloc)
     }
 
     /// How much was made, whether it is kept or not.
@@ -585,6 +560,7 @@ impl Console {
     pub fn go_alone(&mut self, end: u64) -> Option<Signal>
         requires { end ≤ self.old.board.made.until }
         ensures alone { GoesAlone end self.old self.new result }
+        ensures ends { result ≡ None → end ≤ clock_of self.new }
         ensures rises { clock_of self.old < end → clock_of self.old < clock_of self.new }
         ensures until { self.new.board.made.until ≡ self.old.board.made.until }
     {
@@ -616,7 +592,8 @@ impl Console {
         None
     }
 
-    /// Makes steps until the clock is at least `until`, which is no more than the end of the room. Nothing is due in them.
+    /// Makes steps until the clock is at least `until`, which is no more than the end of the room. Nothing is due in them, and
+    /// what they tell nobody hears.
     pub fn run_to(&mut self, until: u64)
         requires { until ≤ self.old.board.made.until }
         ensures run { self.new ≡ run_to until self.old }
@@ -624,8 +601,6 @@ impl Console {
     {
         steps_pass();
         enough();
-        while self.clock() < until {
-            let _ = self.go_alone(until);
-        }
+        while self.go_alone(until).is_some() {}
     }
 }

@@ -58,7 +58,7 @@ fn console_of(alloc: Global, source: &[u8], until: u64) -> Result<Console, Fail>
         samples: true,
         words: true,
     };
-    if until > 1 << 25 {
+    if until > 1 << 24 {
         return Err("a late end")?;
     }
     Ok(Console::new(alloc, 0, 1, 1024, images, Vec::new(alloc), room)?)

@@ -1,6 +1,7 @@
 //! Transfers over whole consoles, whose programs start and await them.
 
 use crate::cable::{Cable, console_of, turn};
+use crate::console::{forget, run};
 use gba_console::Console;
 use gba_serial::Transfer;
 use link_node::LinkMode::{self, Multi, Normal8, Normal32, Other};
@@ -248,11 +249,6 @@ fn a_signal_arrives(rt: HostRuntime) -> Result<(), Fail> {
     Ok(())
 }
 
-fn run<R: Abort>(rt: &R, console: &mut Console, until: u64) {
-    assert!(rt; until <= console.until());
-    console.run_to(until);
-}
-
 /// A step by a turn that takes nothing, where the console isn't at a clock yet.
 fn turn_before<R: Abort>(rt: &R, console: &mut Console, clock: u64) {
     if console.clock() < clock {
@@ -293,13 +289,13 @@ fn runs_are_turns(rt: HostRuntime) -> Result<(), Fail> {
     Ok(())
 }
 
-/// Transfers are taken out.
+/// A transfer that is forgotten stays counted.
 #[test]
-fn words_are_taken_out(rt: HostRuntime) -> Result<(), Fail> {
+fn words_are_forgotten(rt: HostRuntime) -> Result<(), Fail> {
     let mut console = console_of(rt.alloc(), (0, 1, 512), STARTS_WORD)?;
     run(&rt, &mut console, 9_001);
-    let words = console.take_words(rt.alloc());
-    assert_eq!(rt; words.len(), 1);
+    assert_eq!(rt; console.words().len(), 1);
+    forget(&rt, &mut console);
     assert_eq!(rt; console.words().len(), 0);
     assert_eq!(rt; console.counts().words, 1);
     Ok(())

@@ -62,7 +62,7 @@ image-again old new form named image kept h =
     ∙ ok-judged new (accepted form (record named { digest = Some image.digest }) f.0) image is
 
 -- what is read for a line goes by its name and its digest
-image-unlined : (files : Files) (form : ImageForm) (one other : NamedFile) → unlined_file one ≡ unlined_file other
+pub image-unlined : (files : Files) (form : ImageForm) (one other : NamedFile) → unlined_file one ≡ unlined_file other
     → outcome files (image_plan form one) ≡ outcome files (image_plan form other)
 image-unlined files form one other same = ap (λ (named : NamedFile). outcome files (image_plan form named)) same
 
@@ -106,7 +106,7 @@ IsSaid console inputs outs later =
     unlined_console later ≡ unlined_console (without_key_file (record (filled_console console inputs) { outs = outs }))
 
 -- with these files the console has these inputs
-abbrev Has : Files → ConsoleJob → ConsoleInputs → Type 0
+abbrev pub Has : Files → ConsoleJob → ConsoleInputs → Type 0
 Has files console inputs = outcome files (console_plan console) ≡ Ok inputs
 
 console-again : (old new : Files) (console later : ConsoleJob) (inputs : ConsoleInputs) (outs : PerKind (Option OutLine))
@@ -155,7 +155,7 @@ each-gives files (console ∷ consoles) done all h =
       given = (parts.1, rest.given);
     }
 
-gives-each : (files : Files) (consoles : List ConsoleJob) (done inputs : List ConsoleInputs)
+pub gives-each : (files : Files) (consoles : List ConsoleJob) (done inputs : List ConsoleInputs)
     → AllZip (Has files) consoles inputs → outcome files (each console_plan done consoles) ≡ Ok (done ++ inputs)
 unfolding each
 gives-each files [] done [] given = outcome-done files done ∙ ap (λ i. Ok i) (sym (append-nil done))
@@ -260,7 +260,7 @@ file-unlined : (front : List ℕ) (named : Option NamedFile)
 file-unlined front None = refl
 file-unlined front (Some named) = refl
 
-console-unlined : (player : ℕ) (console : ConsoleJob)
+pub console-unlined : (player : ℕ) (console : ConsoleJob)
     → console_text player (unlined_console (without_key_file console)) ≡ console_text player console
 unfolding console_text
 console-unlined player console = rw (file-unlined, file-unlined) refl

@@ -1,4 +1,4 @@
-use Rattle.std.specs.Prelude.{ℕ, Bool, false, ◌+◌, List, [], ◌∷◌, ◌++◌, Option, None, Some, if◌then◌else◌}
+use Rattle.std.specs.Prelude.{ℕ, Bool, ◌+◌, List, [], ◌∷◌, ◌++◌, Option, None, Some, if◌then◌else◌}
 use Rattle.gba_io.specs.Base.{at_reset}
 use Rattle.gba_io.specs.declared.base.Base.{Base}
 use Rattle.gba_io.specs.declared.made.Room.{Room}
@@ -28,10 +28,6 @@ with_transfer transfer e = record e { words = words_with transfer e; count = cou
 -- none ended yet
 abbrev pub none_ended : Room → Ended
 none_ended room = record { keeps_words = room.words; until = room.until; words = []; count = 0; base = at_reset }
-
--- the transfers are taken out, and none is kept from then on
-abbrev pub without_words : Ended → Ended
-without_words e = record e { keeps_words = false; words = [] }
 
 -- none is kept any more, and all stay counted
 abbrev pub ended_emptied : Ended → Ended

@@ -1,4 +1,4 @@
-use Rattle.std.specs.Prelude.{ℕ, ℤ, Bool, false, ◌+◌, ◌&&◌, List, [], ◌++◌, if◌then◌else◌}
+use Rattle.std.specs.Prelude.{ℕ, ℤ, Bool, ◌+◌, ◌&&◌, List, [], ◌++◌, if◌then◌else◌}
 use Rattle.std.specs.Int.{w16, cast_unsigned, to_le_bytes}
 use Rattle.gba_io.specs.Base.{at_reset}
 use Rattle.gba_io.specs.declared.base.Base.{Base}
@@ -58,14 +58,6 @@ none_made room = record {
   pairs = 0;
   base = at_reset;
 }
-
--- the pairs are taken out, and none is kept from then on
-abbrev pub without_samples : Made → Made
-without_samples m = record m { keeps_samples = false; samples = [] }
-
--- the whole frames are taken out, and none is kept from then on
-abbrev pub without_frames : Made → Made
-without_frames m = record m { keeps_frames = false; frames = [] }
 
 -- none of it is kept any more, and all of it stays counted
 abbrev pub made_emptied : Made → Made

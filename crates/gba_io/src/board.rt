@@ -25,8 +25,8 @@ impl Board {
     ghost use Rattle.gba_io.specs.Core.{core_cycled};
 
     /// A board at reset, at clock 0, of a player below `count`, on a cable of 1 to 4 consoles whose signals take `round`
-    /// cycles, from 1 to 1,024. Its images are dropped on refusal. The room for what it makes and for the transfers that
-    /// end is taken now.
+    /// cycles, from 1 to 1,024. Its images are dropped on refusal. The room for what it makes in 2^24 cycles and for the
+    /// transfers that end in them is taken now.
     pub fn new(
         alloc: Global,
         player: u32,
@@ -39,7 +39,7 @@ impl Board {
         requires count { count ≤ 4 }
         requires least_round { 2 ≤ round }
         requires most_round { round ≤ 2048 }
-        requires until { room.until ≤ 2 ^ 39 }
+        requires until { room.until ≤ 16777216 }
         ensures { IfOk result (λ board. board ≡ board_at_start player count round images.bios images.cart images.save room) }
     {
         Ok(Board {
@@ -72,7 +72,6 @@ impl Board {
     /// Empties the lists of what it has made and of the transfers that ended, all of which stay counted, and makes `until`
     /// the end of their room, at most 2^24 cycles on. It takes no memory: the room for as much was taken at the start.
     pub fn forget(&mut self, until: u64)
-        requires most { until ≤ 2 ^ 39 }
         requires near { until ≤ self.old.core.devices.clock + 16777216 }
         requires step { IsInStep self.old }
         requires clock { self.old.core.devices.clock ≤ 2 ^ 39 + 511 }

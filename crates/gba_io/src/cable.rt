@@ -9,7 +9,6 @@ use crate::parts::is_calm;
 use crate::{Board, Core, Counts};
 use gba_serial::Transfer;
 use link_node::{Incoming, Signal};
-use std::alloc::Global;
 
 /// Whether a transfer that ended asks for the interrupt.
 fn asks_interrupt(transfer: Option<Transfer>) -> bool
@@ -63,7 +62,7 @@ impl Core {
 impl Board {
     ghost use Rattle.gba_io.specs.Base.{words_from};
     ghost use Rattle.gba_io.specs.Cable.{NextEndFits};
-    ghost use Rattle.gba_io.specs.Ended.{with_transfer, without_words};
+    ghost use Rattle.gba_io.specs.Ended.{with_transfer};
 
     /// Counts a transfer that ended, and keeps it where it is asked for.
     fn count(&mut self, transfer: Option<Transfer>)
@@ -110,17 +109,9 @@ impl Board {
     /// The transfers that ended, in the order of their ends. Empty where they aren't kept.
     pub fn words(&self) -> &[Transfer]
         ensures words { result.now ≡ self.now.ended.words }
-        ensures few { length result.now + self.now.ended.base.words ≤ self.now.ended.count }
+        ensures few { length result.now ≤ 32770 }
     {
         self.ended.words()
-    }
-
-    /// Takes the transfers out. None is kept from then on.
-    pub fn take_words(&mut self, alloc: Global) -> Vec<Transfer>
-        ensures taken { result.items ≡ self.old.ended.words }
-        ensures left { self.new ≡ record self.old { ended = without_words self.old.ended } }
-    {
-        self.ended.take_words(alloc)
     }
 
     /// How much was made, whether it is kept or not.

@@ -7,9 +7,8 @@ use gba_serial::Transfer;
 use gba_terms::NoMemory;
 use std::alloc::Global;
 use std::marker::Model;
-use std::mem::replace;
 
-/// The transfers that ended. The room for all that are kept is taken at once.
+/// The transfers that ended. The room for all that are kept of 2^24 cycles is taken at once.
 #[derive(Drop)]
 pub struct Ended {
     keeps_words: bool,
@@ -20,8 +19,8 @@ pub struct Ended {
 }
 
 impl Model for Ended {
-    ghost use Rattle.std.specs.Prelude.{◌≡◌, ◌+◌, ◌≤◌, ◌^◌, true, vec_len, vec_capacity};
-    ghost use Rattle.gba_io.specs.Base.{IsBase, words_from};
+    ghost use Rattle.std.specs.Prelude.{◌≡◌, ◌+◌, ◌≤◌, true, vec_len, vec_capacity};
+    ghost use Rattle.gba_io.specs.Base.{IsBase};
     ghost use Rattle.gba_io.specs.Ended.{Ended};
 
     ghost Value = { Ended };
@@ -35,13 +34,12 @@ impl Model for Ended {
     } };
 
     ghost invariant = { λ e.
-        (e.keeps_words ≡ true → words_from e.base e.until ≤ vec_capacity e.words)
-        × (e.keeps_words ≡ true → 32770 ≤ vec_capacity e.words)
-        × (vec_len e.words + e.base.words ≤ e.count) × (e.until ≤ 2 ^ 39) × IsBase e.base };
+        (e.keeps_words ≡ true → 32770 ≤ vec_capacity e.words) × (vec_len e.words ≤ 32770)
+        × (vec_len e.words + e.base.words ≤ e.count) × (e.until ≤ e.base.clock + 16777216) × IsBase e.base };
 }
 
 /// The most transfers of a segment, which is 2^24 cycles long at most.
-const SEGMENT_WORDS: u64 = 32_770;
+pub const SEGMENT_WORDS: usize = 32_770;
 
 /// Adds a transfer, for which there is room.
 fn push(words: &mut Vec<Transfer>, transfer: Transfer)
@@ -56,25 +54,20 @@ fn push(words: &mut Vec<Transfer>, transfer: Transfer)
 }
 
 impl Ended {
-    ghost use Rattle.std.specs.Prelude.{◌+◌, ◌<◌, ◌≤◌, ◌^◌, IfOk, Some, length};
+    ghost use Rattle.std.specs.Prelude.{◌+◌, ◌<◌, ◌≤◌, IfOk, Some, length};
     ghost use Rattle.gba_io.specs.Base.{IsBase, words_from};
-    ghost use Rattle.gba_io.specs.Ended.{ended_emptied, ended_from, none_ended, with_transfer, without_words};
+    ghost use Rattle.gba_io.specs.Ended.{ended_emptied, ended_from, none_ended, with_transfer};
 
-    /// None yet, with room for all that are kept in the steps which begin below `room.until`, and in a segment: they end
-    /// at least 512 cycles apart.
+    /// None yet, with room for all that are kept of 2^24 cycles: they end at least 512 cycles apart.
     pub(crate) fn new(alloc: Global, room: Room) -> Result<Ended, NoMemory>
-        requires { room.until ≤ 2 ^ 39 }
+        requires { room.until ≤ 16777216 }
         ensures { IfOk result (λ ended. ended ≡ none_ended room) }
     {
-        let most = if room.words {
-            (room.until / 512 + 2).max(SEGMENT_WORDS)
-        } else {
-            0
-        };
+        let most = if room.words { SEGMENT_WORDS } else { 0 };
         Ok(Ended {
             keeps_words: room.words,
             until: room.until,
-            words: Vec::with_capacity(alloc, most as usize)?,
+            words: Vec::with_capacity(alloc, most)?,
             count: 0,
             base: Base::at_reset(),
         })
@@ -99,7 +92,6 @@ impl Ended {
     /// Empties the list of them, which begins at this base from then on, where so many have ended. There is room for all
     /// that end in the steps which begin below `until`, at most 2^24 cycles later.
     pub(crate) fn forget(&mut self, base: Base, until: u64)
-        requires most { until ≤ 2 ^ 39 }
         requires near { until ≤ base.clock + 16777216 }
         requires sound { IsBase base }
         requires words { base.words ≡ self.old.count }
@@ -113,18 +105,9 @@ impl Ended {
     /// The transfers in the order of their ends. Empty where they aren't kept.
     pub fn words(&self) -> &[Transfer]
         ensures words { result.now ≡ self.now.words }
-        ensures few { length result.now + self.now.base.words ≤ self.now.count }
+        ensures few { length result.now ≤ 32770 }
     {
         self.words.as_slice()
-    }
-
-    /// Takes the transfers out. None is kept from then on.
-    pub fn take_words(&mut self, alloc: Global) -> Vec<Transfer>
-        ensures taken { result.items ≡ self.old.words }
-        ensures left { self.new ≡ without_words self.old }
-    {
-        self.keeps_words = false;
-        replace(&mut self.words, Vec::new(alloc))
     }
 
     /// How many ended, whether they are kept or not.

@@ -15,6 +15,6 @@ mod serial;
 
 pub use base::Base;
 pub use board::Board;
-pub use ended::Ended;
+pub use ended::{Ended, SEGMENT_WORDS};
 pub use made::{Counts, Made, Room};
 pub use parts::{Core, MemoryName};

@@ -1,6 +1,6 @@
 //! What a board has made.
 
-ghost use Rattle.std.specs.Prelude.{◌≡◌, ◌+◌, ◌*◌, ◌/◌, ◌^◌, ◌++◌, ◌≤◌, length, vec_len, vec_capacity};
+ghost use Rattle.std.specs.Prelude.{◌≡◌, ◌+◌, ◌*◌, ◌++◌, ◌≤◌, length, vec_len, vec_capacity};
 ghost use Rattle.gba_io.specs.Drawing.{colours_bytes};
 ghost use Rattle.gba_io.specs.Made.{sample_bytes};
 
@@ -8,10 +8,9 @@ use crate::Base;
 use gba_terms::NoMemory;
 use std::alloc::Global;
 use std::marker::Model;
-use std::mem::replace;
 
-/// What is kept of what a board makes, and the room for it: `until` is the clock, in cycles since reset, below which the
-/// last step begins.
+/// What is kept of what a board makes, and the end of its room: `until` is the clock, in cycles since reset, below which the
+/// last step begins, at most 2^24. `Board::forget` moves it on.
 #[derive(Clone, Copy, Debug, PartialEq, Eq)]
 pub struct Room {
     pub until: u64,
@@ -34,7 +33,7 @@ pub struct Counts {
     pub words: u64,
 }
 
-/// What a board has made. The room for all of it is taken at once.
+/// What a board has made. The room for all that is kept of 2^24 cycles is taken at once.
 #[derive(Drop)]
 pub struct Made {
     keeps_frames: bool,
@@ -50,8 +49,8 @@ pub struct Made {
 }
 
 impl Model for Made {
-    ghost use Rattle.std.specs.Prelude.{◌≡◌, ◌+◌, ◌*◌, ◌≤◌, ◌^◌, true, vec_len, vec_capacity};
-    ghost use Rattle.gba_io.specs.Base.{IsBase, frames_from, pairs_from};
+    ghost use Rattle.std.specs.Prelude.{◌≡◌, ◌+◌, ◌*◌, ◌≤◌, true, vec_len, vec_capacity};
+    ghost use Rattle.gba_io.specs.Base.{IsBase};
     ghost use Rattle.gba_io.specs.Made.{Made};
 
     ghost Value = { Made };
@@ -69,30 +68,20 @@ impl Model for Made {
     } };
 
     ghost invariant = { λ m.
-        (m.keeps_samples ≡ true → 4 * pairs_from m.base m.until ≤ vec_capacity m.samples)
-        × (m.keeps_samples ≡ true → 131076 ≤ vec_capacity m.samples)
+        (m.keeps_samples ≡ true → 131076 ≤ vec_capacity m.samples)
         × (vec_len m.samples + 4 * m.base.pairs ≤ 4 * m.pairs)
-        × (m.keeps_frames ≡ true → 76800 * frames_from m.base m.until ≤ vec_capacity m.frames)
         × (m.keeps_frames ≡ true → 4608000 ≤ vec_capacity m.frames)
         × (vec_len m.frames + 76800 * m.base.frames ≤ 76800 * m.frame_count) × (76800 ≤ vec_capacity m.drawn)
-        × (m.until ≤ 2 ^ 39) × IsBase m.base };
+        × (m.until ≤ m.base.clock + 16777216) × IsBase m.base };
 }
 
 /// The bytes of a frame: 160 lines of 240 colours.
 const FRAME: usize = 76_800;
 
 /// The most whole frames and pairs of samples of a segment, which is 2^24 cycles long at most.
-const SEGMENT_FRAMES: u64 = 60;
+const SEGMENT_FRAMES: usize = 60;
 
-const SEGMENT_PAIRS: u64 = 32_769;
-
-/// The frames that are whole at the end of a room: one at clock 196,894, and one each 280,896 cycles from there on.
-fn whole_frames(until: u64) -> u64
-    requires { until ≤ 2 ^ 39 }
-    ensures { result ≡ (until + 84513) / 280896 }
-{
-    (until + 84_513) / 280_896
-}
+const SEGMENT_PAIRS: usize = 32_769;
 
 /// Adds bytes, for which there is room.
 fn add_bytes(bytes: &mut Vec<u8>, more: &[u8])
@@ -160,35 +149,26 @@ fn add_sample(samples: &mut Vec<u8>, sample: i16)
 }
 
 impl Made {
-    ghost use Rattle.std.specs.Prelude.{◌≡◌, ◌+◌, ◌<◌, ◌≤◌, ◌^◌, length, true, IfOk};
+    ghost use Rattle.std.specs.Prelude.{◌≡◌, ◌+◌, ◌<◌, ◌≤◌, length, true, IfOk};
     ghost use Rattle.gba_io.specs.Base.{IsBase, frames_from, pairs_from};
     ghost use Rattle.gba_io.specs.Drawing.{colours_bytes};
     ghost use Rattle.gba_io.specs.Made.{frame_ended, made_emptied, made_from, none_made, with_line, with_pair};
-    ghost use Rattle.gba_io.specs.Made.{without_frames, without_samples};
 
-    /// Nothing yet, with room for all that is kept until `room.until` and one step more, and for a segment.
+    /// Nothing yet, with room for all that is kept of 2^24 cycles and one step more.
     pub(crate) fn new(alloc: Global, room: Room) -> Result<Made, NoMemory>
-        requires { room.until ≤ 2 ^ 39 }
+        requires { room.until ≤ 16777216 }
         ensures { IfOk result (λ made. made ≡ none_made room) }
     {
-        let pairs = if room.samples {
-            ((room.until + 511) / 512).max(SEGMENT_PAIRS)
-        } else {
-            0
-        };
-        let frames = if room.frames {
-            whole_frames(room.until).max(SEGMENT_FRAMES)
-        } else {
-            0
-        };
+        let pairs = if room.samples { SEGMENT_PAIRS } else { 0 };
+        let frames = if room.frames { SEGMENT_FRAMES } else { 0 };
         Ok(Made {
             keeps_frames: room.frames,
             keeps_samples: room.samples,
             until: room.until,
             drawn: Vec::with_capacity(alloc, FRAME)?,
-            frames: Vec::with_capacity(alloc, FRAME * frames as usize)?,
+            frames: Vec::with_capacity(alloc, FRAME * frames)?,
             frame_count: 0,
-            samples: Vec::with_capacity(alloc, 4 * pairs as usize)?,
+            samples: Vec::with_capacity(alloc, 4 * pairs)?,
             pairs: 0,
             base: Base::at_reset(),
         })
@@ -212,7 +192,6 @@ impl Made {
     /// Empties what is kept, which begins at this base from then on, where the counts are these. There is room up to
     /// `until`, at most 2^24 cycles later.
     pub(crate) fn forget(&mut self, base: Base, until: u64)
-        requires most { until ≤ 2 ^ 39 }
         requires near { until ≤ base.clock + 16777216 }
         requires sound { IsBase base }
         requires pairs { base.pairs ≡ self.old.pairs }
@@ -233,15 +212,6 @@ impl Made {
         self.frames.as_slice()
     }
 
-    /// Takes the whole frames out. None is kept from then on.
-    pub fn take_frames(&mut self, alloc: Global) -> Vec<u8>
-        ensures taken { result.items ≡ self.old.frames }
-        ensures left { self.new ≡ without_frames self.old }
-    {
-        self.keeps_frames = false;
-        replace(&mut self.frames, Vec::new(alloc))
-    }
-
     /// How many bytes of the present frame are drawn.
     pub(crate) fn drawn_length(&self) -> usize
         ensures { result ≡ length self.now.drawn }
@@ -255,15 +225,6 @@ impl Made {
         ensures { result.now ≡ self.now.samples }
     {
         self.samples.as_slice()
-    }
-
-    /// Takes the pairs of samples out. None is kept from then on.
-    pub fn take_samples(&mut self, alloc: Global) -> Vec<u8>
-        ensures taken { result.items ≡ self.old.samples }
-        ensures left { self.new ≡ without_samples self.old }
-    {
-        self.keeps_samples = false;
-        replace(&mut self.samples, Vec::new(alloc))
     }
 
     /// How much was made, where so many transfers ended.

@@ -31,16 +31,19 @@ use Rattle.gba_joblog.specs.declared.job.OutLine.{OutLine}
 use Rattle.gba_joblog.specs.declared.outputs.PerKind.{PerKind}
 use Rattle.gba_joblog.specs.declared.kinds.JobKind.TheVariants.{Long}
 use Rattle.gba_link.specs.AgainLaw.{HasLog, RunsAgain, SaysJob, bytes_of}
-use Rattle.gba_link.specs.RunPlan.{after_inputs, after_job, end_with, files_at, images_in, job_or_refusal, job_plan, job_refusal, result_of_run, run_plan, summary_lines, unless_clash, whole_run_plan, without_clash, written_at}
-use Rattle.gba_session.proofs.SameRun.{RunsAlike, asks-alike, end-alike, end-many}
-use Rattle.gba_session.specs.Files.{all_files, asks_of}
+use Rattle.gba_link.specs.RunPlan.{after_inputs, after_job, end_with, images_in, job_or_refusal, job_plan, job_refusal, result_of_run, run_plan, unless_clash, whole_run_plan, without_clash}
+use Rattle.gba_session.proofs.SameRun.{RunsAlike, asks-alike, end-many, prepared-alike}
+use Rattle.gba_session.specs.Files.{all_files}
+use Rattle.gba_session.specs.Session.{Consoles, prepared}
 use Rattle.gba_store.specs.Files.{Files}
 use Rattle.gba_run_files.proofs.LogRoom.{all-stated, logged-sound}
 use Rattle.gba_run_files.proofs.RunAgain.{AreStatedBy, asked-filled, filled-alike, outs-again, written-end, written-outputs, written-under}
 use Rattle.gba_run_files.specs.Law.{under}
-use Rattle.gba_run_files.specs.Names.{run_names}
+use Rattle.gba_run_files.proofs.PiecesAgain.{written-pieces}
+use Rattle.gba_run_files.specs.Names.{names_from, run_names}
 use Rattle.gba_run_files.specs.Outputs.{all_outs, difference_of, outputs_of}
-use Rattle.gba_run_files.specs.Written.{conclusion, log_line, log_of, logged, written}
+use Rattle.gba_run_files.specs.Pieces.{run_pieces}
+use Rattle.gba_run_files.specs.Written.{conclusion, files_at, log_line, log_of, log_output, logged, run_of, summary_lines, written}
 use Rattle.link_order.specs.Cut.{Cut}
 
 -- ---- what a words read
@@ -54,28 +57,28 @@ said : (words : RunWords) (job : WholeJob) (r : Result WholeJob JobError) → wi
 said words job (Ok found) h = ap (λ j. Ok j) (unclashed words job found (clash_of found words.job words.out) h)
 said words job (Err error) h = absurd cc
 
-file-there : (files : Files) (name : List ℕ) (most : ℕ) (long : Cause) (bytes : List ℕ)
+pub file-there : (files : Files) (name : List ℕ) (most : ℕ) (long : Cause) (bytes : List ℕ)
     → outcome files (file name most long) ≡ Ok bytes → files name ≡ Some bytes
 unfolding outcome
 file-there files name most long bytes h =
     let f = file-ok name most long (λ bytes. outcome files (Done bytes)) (files name) bytes h in
     f.1.there ∙ ap (λ b. Some b) (ok-is f.0 bytes f.2)
 
-file-gives : (files : Files) (name : List ℕ) (most : ℕ) (long : Cause) (bytes : List ℕ) → files name ≡ Some bytes
+pub file-gives : (files : Files) (name : List ℕ) (most : ℕ) (long : Cause) (bytes : List ℕ) → files name ≡ Some bytes
     → length bytes ≤ most → outcome files (file name most long) ≡ Ok bytes
 unfolding outcome
 file-gives files name most long bytes there short =
     let fits : nat_lt most (length bytes) ≡ false = grind (arith, nat_tests) in
     file-reads name most long (λ bytes. outcome files (Done bytes)) (files name) bytes (record { there = there; short = fits })
 
-record IsDone (files : Files) (words : RunWords) (run : Run) : Type 0 where
-  job : WholeJob
-  says : SaysJob files words.job job
-  inputs : List ConsoleInputs
-  passes : outcome files (inputs_plan job.consoles) ≡ Ok inputs
-  is : result_of_run words.out job inputs ≡ run
+pub record IsDone (files : Files) (words : RunWords) (run : Run) : Type 0 where
+  pub job : WholeJob
+  pub says : SaysJob files words.job job
+  pub inputs : List ConsoleInputs
+  pub passes : outcome files (inputs_plan job.consoles) ≡ Ok inputs
+  pub is : result_of_run words.out job inputs ≡ run
 
-done : (files : Files) (words : RunWords) (run : Run) → outcome files (whole_run_plan words) ≡ Ok run
+pub done : (files : Files) (words : RunWords) (run : Run) → outcome files (whole_run_plan words) ≡ Ok run
     → IsDone files words run
 done files words run h =
     let parts = outcome-parts files (job_plan words) (run_plan words) run h in
@@ -96,7 +99,7 @@ done files words run h =
     }
 
 -- what it comes to
-comes-to : (files : Files) (words : RunWords) (job : WholeJob) (inputs : List ConsoleInputs) (bytes : List ℕ)
+pub comes-to : (files : Files) (words : RunWords) (job : WholeJob) (inputs : List ConsoleInputs) (bytes : List ℕ)
     → files words.job ≡ Some bytes → length bytes ≤ longest_job → job_of bytes ≡ Ok job
     → clash_of job words.job words.out ≡ None → outcome files (inputs_plan job.consoles) ≡ Ok inputs
     → outcome files (whole_run_plan words) ≡ Ok (result_of_run words.out job inputs)
@@ -126,15 +129,6 @@ same-end : (cause : Option Cause) (summary : List ℕ) → IfOk (conclusion caus
 same-end None summary = refl
 same-end (Some cause) summary = tt
 
--- what is written goes by as many consoles that are asked for the same
-written-same : (out : List ℕ) (job other : WholeJob) (cut : Cut Machine) → length other.consoles ≡ length job.consoles
-    → map asks_of other.consoles ≡ map asks_of job.consoles
-    → written_at out other cut
-    ≡ written (run_names out (length job.consoles)) other (files_at job cut) (summary_lines cut.consoles)
-written-same out job other cut many asks =
-    ap (λ count. written (run_names out count) other (files_at other cut) (summary_lines cut.consoles)) many
-    ∙ ap (λ asked. written (run_names out (length job.consoles)) other (all_files asked cut.consoles) (summary_lines cut.consoles)) asks
-
 -- ---- the jobs of a run and of its log
 
 module _ (job : WholeJob) (inputs : List ConsoleInputs) (is : IsJob job) (read : AllZip AreInputs job.consoles inputs) where
@@ -153,25 +147,32 @@ module _ (job : WholeJob) (inputs : List ConsoleInputs) (is : IsJob job) (read :
   abbrev lines : List ℕ
   lines = summary_lines cut.consoles
 
+  abbrev ready : Consoles
+  ready = prepared whole (map images_in inputs)
+
+  abbrev pieces_under : List ℕ → List Output
+  pieces_under out = run_pieces (names_from out 0 (length whole.consoles)) ready
+
   inputs-many : length inputs ≡ length job.consoles
   inputs-many = sym (zip-long job.consoles inputs read)
 
   whole-many : length whole.consoles ≡ length job.consoles
   whole-many = (filled_consoles-sound job.consoles inputs is.each read).long
 
-  made-many : length made ≡ length whole.consoles
+  pub made-many : length made ≡ length whole.consoles
   made-many = end-many whole (map images_in inputs) (length-map inputs images_in ∙ inputs-many ∙ sym whole-many)
 
   log-fits : length (log_of whole made) ≤ longest_job
   log-fits = log-short (logged whole made) (logged-sound whole made (filled-sound job inputs is read) made-many)
 
-  run-outputs : (out : List ℕ)
+  pub run-outputs : (out : List ℕ)
       → (result_of_run out job inputs).outputs ≡ map (under out) (result_of_run [] job inputs).outputs
-  run-outputs out = written-under out (length whole.consoles) whole made lines
+  run-outputs out =
+      written-under out (length whole.consoles) whole made lines (pieces_under out) (pieces_under [])
 
-  run-pieces : (out : List ℕ)
+  pub run-pieces-under : (out : List ℕ)
       → (result_of_run out job inputs).pieces ≡ map (under out) (result_of_run [] job inputs).pieces
-  run-pieces out = written-under out (length whole.consoles) whole made lines
+  run-pieces-under out = written-pieces out (length whole.consoles) whole made lines ready
 
   run-log : (out name log : List ℕ) (others : List Output)
       → (result_of_run out job inputs).outputs ≡ others ++ record { name = name; bytes = log } ∷ []
@@ -181,7 +182,7 @@ module _ (job : WholeJob) (inputs : List ConsoleInputs) (is : IsJob job) (read :
       ap bytes_of (sym (last-is (outputs_of names.consoles whole.consoles made) others
       (record { name = names.log; bytes = log_of whole made }) (record { name = name; bytes = log }) h))
 
-  run-end : (out : List ℕ)
+  pub run-end : (out : List ℕ)
       → IfOk (result_of_run out job inputs).end (λ end. end ≡ lines ++ log_line (log_of whole made))
   run-end out =
       let names = run_names out (length whole.consoles) in
@@ -216,31 +217,35 @@ module _ (job : WholeJob) (inputs : List ConsoleInputs) (is : IsJob job) (read :
         ∙ replay.own
 
     rerun-is : (out : List ℕ) → result_of_run out replay.again inputs
-        ≡ written (run_names out (length whole.consoles)) later made lines
+        ≡ written (run_names out (length whole.consoles)) later made lines (pieces_under out)
     rerun-is out =
-        ap (λ end. written_at out later end) (end-alike whole later (map images_in inputs) alike)
-        ∙ written-same out whole later cut alike.many (asks-alike whole.consoles later.consoles alike.each)
+        let images = map images_in inputs in
+        let names = run_names out (length whole.consoles) in
+        ap (λ count. run_of (run_names out count) later (prepared later images)) alike.many
+        ∙ ap (λ (s : Consoles). run_of names later s) (prepared-alike whole later images alike)
+        ∙ ap (λ asked. written names later (all_files asked cut.consoles) lines (pieces_under out))
+        (asks-alike whole.consoles later.consoles alike.each)
 
     rerun-outputs : (out : List ℕ) → (result_of_run out replay.again inputs).outputs
         ≡ map (under out) (result_of_run [] job inputs).outputs
     rerun-outputs out =
         let count = length whole.consoles in
         ap (λ (run : Run). run.outputs) (rerun-is out)
-        ∙ written-outputs out count whole later made lines stated-by same-log
-        ∙ written-under out count whole made lines
+        ∙ written-outputs out count whole later made lines (pieces_under out) stated-by same-log
+        ∙ written-under out count whole made lines (pieces_under out) (pieces_under [])
 
     rerun-pieces : (out : List ℕ) → (result_of_run out replay.again inputs).pieces
         ≡ map (under out) (result_of_run [] job inputs).pieces
     rerun-pieces out =
-        let count = length whole.consoles in
+        let names = run_names out (length whole.consoles) in
         ap (λ (run : Run). run.pieces) (rerun-is out)
-        ∙ written-outputs out count whole later made lines stated-by same-log
-        ∙ written-under out count whole made lines
+        ∙ ap (λ log. pieces_under out ++ log_output names log ∷ []) same-log
+        ∙ run-pieces-under out
 
     rerun-end : (out : List ℕ) → (result_of_run out replay.again inputs).end ≡ Ok (lines ++ log_line (log_of whole made))
     rerun-end out =
         ap (λ (run : Run). run.end) (rerun-is out)
-        ∙ written-end out (length whole.consoles) whole later made lines stated-by same-log
+        ∙ written-end out (length whole.consoles) whole later made lines (pieces_under out) stated-by same-log
 
 pub run-again : (old new : Files) (first again : RunWords) (run : Run) → outcome old (whole_run_plan first) ≡ Ok run
     → HasLog old new first again run → RunsAgain new first again run
@@ -274,7 +279,7 @@ run-again old new first again run comes has =
       first_names = was;
       names = now;
       pieces = (result_of_run [] job inputs).pieces;
-      first_pieces = ap (λ (r : Run). r.pieces) (sym d.is) ∙ run-pieces job inputs is read first.out;
+      first_pieces = ap (λ (r : Run). r.pieces) (sym d.is) ∙ run-pieces-under job inputs is read first.out;
       again_pieces = rerun-pieces job inputs is read new replay again.out;
       summary = summary;
       end = rerun-end job inputs is read new replay again.out;

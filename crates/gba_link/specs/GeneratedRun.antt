@@ -1,5 +1,5 @@
 -- What `gen` makes of its words: the files of a job, and its run.
-use Rattle.std.specs.Prelude.{ℕ, List, [], ◌∷◌, ◌++◌, None}
+use Rattle.std.specs.Prelude.{ℕ, List, [], ◌∷◌, None}
 use Rattle.gba_command.specs.Words.{GenerateWords}
 use Rattle.gba_command.specs.Writing.{Output, Run}
 use Rattle.gba_generator.specs.Job.{bios_file, job, job_file, job_text}
@@ -8,6 +8,7 @@ use Rattle.gba_image.specs.declared.images.ConsoleImages.{ConsoleImages}
 use Rattle.gba_inputs.specs.Inputs.{ConsoleInputs}
 use Rattle.gba_inputs.specs.Law.{digests_of}
 use Rattle.gba_link.specs.RunPlan.{result_of_run}
+use Rattle.gba_run_files.specs.Written.{after_files}
 
 -- the file of a player's BIOS
 abbrev pub bios_output : GenerateWords → ℕ → Output
@@ -33,10 +34,6 @@ abbrev pub made_inputs : ℕ → List ConsoleInputs
 made_inputs number =
     bare_inputs (bios number 0) ∷ bare_inputs (bios number 1) ∷ bare_inputs (bios number 2)
     ∷ bare_inputs (bios number 3) ∷ []
-
--- a run that writes these files too, before its own
-abbrev pub after_files : List Output → Run → Run
-after_files files run = record run { outputs = files ++ run.outputs; pieces = files ++ run.pieces }
 
 -- The files of the job, and then what the run of the job with these images writes.
 abbrev pub generated_run : GenerateWords → Run

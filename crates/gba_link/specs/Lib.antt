@@ -3,3 +3,9 @@ pub mod GeneratedRun
 pub mod CommandPlan
 pub mod Law
 pub mod AgainLaw
+pub mod AskedLaw
+pub mod DigestsLaw
+pub mod GeneratedLaw
+pub mod InputsLaw
+pub mod Work
+pub mod FilesLaw

@@ -1,6 +1,5 @@
 -- What `run` reads, and what comes of it.
 use Rattle.std.specs.Prelude.{ℕ, List, length, map, Option, Some, None, Result, Ok, Err}
-use Rattle.std.specs.List.{flat_map}
 use Rattle.gba_command.specs.Cause.{Cause, Job}
 use Rattle.gba_command.specs.Plan.{Plan, Done, bind, file, judgement}
 use Rattle.gba_command.specs.Words.{RunWords}
@@ -16,12 +15,10 @@ use Rattle.gba_joblog.specs.Clash.{clash_of}
 use Rattle.gba_joblog.specs.Job.{WholeJob}
 use Rattle.gba_joblog.specs.Language.{job_of, longest_job}
 use Rattle.gba_joblog.specs.declared.kinds.JobKind.TheVariants.{Long, Clash}
-use Rattle.gba_joblog.specs.declared.outputs.PerKind.{PerKind}
-use Rattle.gba_output.specs.StateFile.{summary_line}
-use Rattle.gba_session.specs.Files.{all_files, asks_of}
+use Rattle.gba_session.specs.Session.{prepared}
 use Rattle.gba_session.specs.Start.{end_of}
 use Rattle.gba_run_files.specs.Names.{run_names}
-use Rattle.gba_run_files.specs.Written.{written}
+use Rattle.gba_run_files.specs.Written.{run_of}
 use Rattle.link_order.specs.Cut.{Cut}
 
 -- JOB is refused at a line
@@ -57,18 +54,12 @@ images_in inputs = inputs.images
 abbrev pub end_with : WholeJob → List ConsoleInputs → Cut Machine
 end_with job inputs = end_of (filled job inputs) (map images_in inputs)
 
-abbrev pub files_at : WholeJob → Cut Machine → List (PerKind (List ℕ))
-files_at job cut = all_files (map asks_of job.consoles) cut.consoles
-
-abbrev pub summary_lines : List Machine → List ℕ
-summary_lines machines = flat_map summary_line machines
-
-abbrev pub written_at : List ℕ → WholeJob → Cut Machine → Run
-written_at out job cut =
-    written (run_names out (length job.consoles)) job (files_at job cut) (summary_lines cut.consoles)
+-- what the run of a job with these images writes under OUT
+abbrev pub run_under : List ℕ → WholeJob → List ConsoleImages → Run
+run_under out job images = run_of (run_names out (length job.consoles)) job (prepared job images)
 
 abbrev pub result_of_run : List ℕ → WholeJob → List ConsoleInputs → Run
-result_of_run out job inputs = written_at out (filled job inputs) (end_with job inputs)
+result_of_run out job inputs = run_under out (filled job inputs) (map images_in inputs)
 
 -- the inputs of a job, and what the job with them comes to
 abbrev pub after_inputs : RunWords → WholeJob → List ConsoleInputs → Plan Run

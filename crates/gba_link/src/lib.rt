@@ -14,9 +14,10 @@ mod commands;
 mod generation;
 pub mod laws;
 mod run;
+mod work;
 
 use crate::commands::do_words;
-use gba_command::answer;
+use crate::work::answer_work;
 use gba_store::{Gate, Sink, Store};
 use std::alloc::Global;
 use std::thread::Threads;
@@ -59,5 +60,6 @@ pub fn gba_link<R: Threads + Sync, S: Store, O: Sink, G: Gate + Sync>(
         → Completes O.Tells result (outcome (S.files store.old) (plan_of (map string_bytes words.now)))
         (O.state out.old) (O.state out.new) }
 {
-    answer(out, &do_words(rt, alloc, store, words, gate))
+    let work = do_words(alloc, store, words);
+    answer_work(rt, alloc, out, work, gate)
 }

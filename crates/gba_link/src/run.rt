@@ -1,26 +1,27 @@
-//! From the words and the files to what a run writes.
+//! From the words and the files to a run that is ready.
 
 ghost use Rattle.std.specs.Prelude.{◌≡◌, ◌≤◌, IfOk, length, map};
 ghost use Rattle.std.specs.List.{AllZip};
 ghost use Rattle.gba_command.specs.Reading.{GoesTo};
-ghost use Rattle.gba_command.specs.Views.{Agrees, end_of, run_value, run_words_value};
+ghost use Rattle.gba_command.specs.Views.{Agrees, end_of, output_value, run_words_value};
 ghost use Rattle.gba_command.specs.Words.{AreRunWords};
 ghost use Rattle.gba_inputs.specs.Law.{AreInputs};
 ghost use Rattle.gba_inputs.specs.Views.{images_of, inputs_value};
 ghost use Rattle.gba_joblog.specs.Soundness.{IsJob};
 ghost use Rattle.gba_joblog.specs.Views.{job_value};
 ghost use Rattle.gba_link.specs.RunPlan.{job_or_refusal, result_of_run, run_plan, whole_run_plan};
+ghost use Rattle.gba_link.specs.Work.{work_value};
+ghost use Rattle.gba_run_files.specs.Written.{after_files};
 
-use gba_command::{Cause, Outputs, Refusal, RunWords, name_in_report, read_file};
+use crate::work::Work;
+use gba_command::{Cause, OutputFile, Refusal, RunWords, name_in_report, read_file};
 use gba_image::ConsoleImages;
 use gba_inputs::{Inputs, fill_job, read_inputs};
 use gba_joblog::{Job, JobError, JobKind, LONGEST_JOB, ParseRefused};
-use gba_run_files::RunRoom;
-use gba_session::Session;
-use gba_store::{Gate, Store};
+use gba_run_files::PreparedRun;
+use gba_store::Store;
 use gba_terms::NoMemory;
 use std::alloc::{AllocError, Global};
-use std::thread::Threads;
 
 /// The job that the bytes say, where no output file is JOB or one of the job's inputs.
 fn accepted_job(alloc: Global, words: &RunWords<'_>, bytes: &[u8]) -> Result<Job, Refusal>
@@ -55,62 +56,54 @@ fn images_from(alloc: Global, inputs: Vec<Inputs>) -> Result<Vec<ConsoleImages>,
     inputs.into_iter().map(|one| one.images).collect(alloc)
 }
 
-/// Runs the consoles of a job with their inputs, and makes what is written. All memory that can be wanting is taken before
-/// the first step.
-pub(crate) fn run_inputs<R: Threads + Sync, G: Gate + Sync>(
-    rt: &R,
+/// Prepares the run of a job with its inputs, which writes these files before its own. All memory is taken.
+pub(crate) fn prepare_inputs(
     alloc: Global,
     out: &str,
+    first: Vec<OutputFile>,
     mut job: Job,
     mut inputs: Vec<Inputs>,
-    gate: &G,
-) -> Result<Outputs, NoMemory>
+) -> Result<PreparedRun, NoMemory>
     requires out { length out.now ≤ 180 }
     requires sound { IsJob (job_value job) }
     requires inputs { AllZip AreInputs (job_value job).consoles (map inputs_value inputs.items) }
-    ensures { IfOk result (λ outputs. run_value outputs ≡ result_of_run out.now (job_value job) (map inputs_value inputs.items)) }
+    ensures { IfOk result (λ run. run ≡ after_files (map output_value first.items)
+        (result_of_run out.now (job_value job) (map inputs_value inputs.items))) }
 {
     fill_job(alloc, &mut job, inputs.as_mut_slice());
-    let room = RunRoom::new(alloc, out, &job)?;
     let images = images_from(alloc, inputs)?;
-    let session = Session::prepare(alloc, &job, images)?.run(rt, alloc, gate);
-    let summary = session.summary();
-    let files = session.into_files(alloc);
-    Ok(room.fill(job, files, summary))
+    let run = PreparedRun::new(alloc, out, first, job, images)?;
+    Ok(run)
 }
 
-/// Reads the inputs of a job and runs it.
-fn run_job<R: Threads + Sync, S: Store, G: Gate + Sync>(
-    rt: &R,
+/// Reads the inputs of a job and prepares its run.
+fn prepare_job<S: Store>(
     alloc: Global,
     store: &mut S,
     words: &RunWords<'_>,
     job: Job,
-    gate: &G,
-) -> Result<Outputs, Refusal>
+) -> Result<Work, Refusal>
     requires out { length words.now.out.now ≤ 180 }
     requires sound { IsJob (job_value job) }
     ensures { GoesTo S.gives (run_plan (run_words_value words.now) (job_value job))
-        store.old store.new (end_of run_value result) }
+        store.old store.new (end_of work_value result) }
 {
     let inputs = read_inputs(alloc, store, job.consoles.as_slice())?;
-    match run_inputs(rt, alloc, words.out, job, inputs, gate) {
-        Ok(outputs) => Ok(outputs),
+    match prepare_inputs(alloc, words.out, Vec::new(alloc), job, inputs) {
+        Ok(run) => Ok(Work::Ready(run)),
         Err(_) => Err(Refusal::NoMemory),
     }
 }
 
-/// Reads the job of a command and runs it.
-pub(crate) fn run_command<R: Threads + Sync, S: Store, G: Gate + Sync>(
-    rt: &R,
+/// Reads the job of a command and prepares its run.
+pub(crate) fn prepare_command<S: Store>(
     alloc: Global,
     store: &mut S,
     words: &RunWords<'_>,
-    gate: &G,
-) -> Result<Outputs, Refusal>
+) -> Result<Work, Refusal>
     requires { AreRunWords (run_words_value words.now) }
     ensures { GoesTo S.gives (whole_run_plan (run_words_value words.now))
-        store.old store.new (end_of run_value result) }
+        store.old store.new (end_of work_value result) }
 {
     let long = Cause::Job(
         name_in_report(words.job),
@@ -121,5 +114,5 @@ pub(crate) fn run_command<R: Threads + Sync, S: Store, G: Gate + Sync>(
     );
     let bytes = read_file(alloc, store, words.job, LONGEST_JOB as u64, long)?;
     let job = accepted_job(alloc, words, bytes.as_slice())?;
-    run_job(rt, alloc, store, words, job, gate)
+    prepare_job(alloc, store, words, job)
 }

@@ -1,7 +1,7 @@
 //! Calls of the program over files in memory.
 
 use gba_link::gba_link;
-use gba_store::{Gate, MemorySink, MemoryStore, NoGate, StoredFile};
+use gba_store::{Gate, MemorySink, MemoryStore, NoGate, Sink, StoredFile};
 use std::alloc::{AllocError, Global};
 use std::test::Fail;
 use std::thread::Threads;
@@ -61,6 +61,20 @@ pub fn call_with<R: Threads + Sync>(
     Ok(Answer { status, out })
 }
 
+/// The status of a call with these words over these files, which writes into a sink, and whose lanes go through this gate.
+pub fn call_into<R: Threads + Sync, O: Sink, G: Gate + Sync>(
+    rt: &R,
+    alloc: Global,
+    words: &[&str],
+    files: Vec<StoredFile>,
+    out: &mut O,
+    gate: &G,
+) -> Result<u8, Fail> {
+    let said = copies_of(alloc, words)?;
+    let mut store = MemoryStore::new(files, Vec::new(alloc));
+    Ok(gba_link(rt, alloc, said.as_slice(), &mut store, out, gate))
+}
+
 /// A call with these words over these files, in which nothing fails, and whose lanes go through this gate.
 pub fn call_through<R: Threads + Sync, G: Gate + Sync>(
     rt: &R,
@@ -69,10 +83,8 @@ pub fn call_through<R: Threads + Sync, G: Gate + Sync>(
     files: Vec<StoredFile>,
     gate: &G,
 ) -> Result<Answer, Fail> {
-    let said = copies_of(alloc, words)?;
-    let mut store = MemoryStore::new(files, Vec::new(alloc));
     let mut out = MemorySink::new(alloc, Vec::new(alloc), Vec::new(alloc));
-    let status = gba_link(rt, alloc, said.as_slice(), &mut store, &mut out, gate);
+    let status = call_into(rt, alloc, words, files, &mut out, gate)?;
     Ok(Answer { status, out })
 }
 

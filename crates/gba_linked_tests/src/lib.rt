@@ -1,5 +1,6 @@
 #![tactic(auto)]
-//! Tests of consoles on a cable by the top call: whole runs with all their files, lanes that meet, and a thousand schedules.
+//! Tests of consoles on a cable by the top call: whole runs with all their files, lanes that meet, a thousand schedules,
+//! and runs in segments.
 
 #[cfg(test)]
 mod linked;
@@ -7,3 +8,5 @@ mod linked;
 mod meeting;
 #[cfg(test)]
 mod schedules;
+#[cfg(test)]
+mod segmented;

@@ -6,5 +6,5 @@ mod devices;
 mod state;
 mod words;
 
-pub use state::{SAVE_ROOM, STATE_ROOM, add_summary, write_save, write_state};
+pub use state::{SAVE_ROOM, STATE_ROOM, add_state, add_summary, write_save, write_state};
 pub use words::{WORDS_ROOM, write_words};

@@ -267,7 +267,8 @@ fn add_io_lines(into: &mut Vec<u8>, core: &Core)
 /// Adds the lines of the memories.
 fn add_memories(into: &mut Vec<u8>, core: &Core)
     requires { vec_len into.old + 1040256 ≤ vec_capacity into.old }
-    ensures { into.new.items ≡ into.old.items ++ lines_of_memories core.now }
+    ensures items { into.new.items ≡ into.old.items ++ lines_of_memories core.now }
+    ensures room { vec_capacity into.old ≤ vec_capacity into.new }
 {
     add_io_lines(into, core);
     add_memory_lines(into, b"wram", core.memory(MemoryName::Wram));
@@ -277,11 +278,11 @@ fn add_memories(into: &mut Vec<u8>, core: &Core)
     add_memory_lines(into, b"oam", core.memory(MemoryName::Oam));
 }
 
-/// Writes the state file of a console into an empty buffer with room for it: 1,041,678 bytes are enough for any.
-pub fn write_state(into: &mut Vec<u8>, console: &Console)
-    requires empty { into.old.items ≡ [] }
-    requires room { 1041678 ≤ vec_capacity into.old }
-    ensures { into.new.items ≡ state_file console.now }
+/// Adds the state file of a console at the end of a buffer that has room for it: 1,041,678 bytes are enough for any.
+pub fn add_state(into: &mut Vec<u8>, console: &Console)
+    requires { vec_len into.old + 1041678 ≤ vec_capacity into.old }
+    ensures items { into.new.items ≡ into.old.items ++ state_file console.now }
+    ensures room { vec_capacity into.old ≤ vec_capacity into.new }
 {
     let core = &console.board().core;
     add_heading(into, core.serial().player(), console.clock(), core.halted());
@@ -294,11 +295,22 @@ pub fn write_state(into: &mut Vec<u8>, console: &Console)
     add_memories(into, core);
 }
 
+/// Writes the state file of a console into an empty buffer with room for it: 1,041,678 bytes are enough for any.
+pub fn write_state(into: &mut Vec<u8>, console: &Console)
+    requires empty { into.old.items ≡ [] }
+    requires room { 1041678 ≤ vec_capacity into.old }
+    ensures items { into.new.items ≡ state_file console.now }
+    ensures room { vec_capacity into.old ≤ vec_capacity into.new }
+{
+    add_state(into, console);
+}
+
 /// Writes the save of a console, its 32,768 bytes of SRAM, into an empty buffer with room for it.
 pub fn write_save(into: &mut Vec<u8>, console: &Console)
     requires empty { into.old.items ≡ [] }
     requires room { 32768 ≤ vec_capacity into.old }
-    ensures { into.new.items ≡ save_file console.now }
+    ensures items { into.new.items ≡ save_file console.now }
+    ensures room { vec_capacity into.old ≤ vec_capacity into.new }
 {
     add(into, console.board().core.memory(MemoryName::Backup));
 }

@@ -99,7 +99,8 @@ fn add_transfer(into: &mut Vec<u8>, transfer: &Transfer)
 pub fn write_words(into: &mut Vec<u8>, transfers: &[Transfer])
     requires empty { into.old.items ≡ [] }
     requires room { 49 * length transfers.now ≤ vec_capacity into.old }
-    ensures { into.new.items ≡ words_text transfers.now }
+    ensures items { into.new.items ≡ words_text transfers.now }
+    ensures room { vec_capacity into.old ≤ vec_capacity into.new }
 {
     for transfer in transfers {
         add_transfer(into, transfer);

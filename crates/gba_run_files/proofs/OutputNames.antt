@@ -132,9 +132,9 @@ one-part : (output : Output) → ArePart (output ∷ []) (output.name ∷ [])
 unfolding ArePart
 one-part output = inl (refl, tt)
 
-pub written-part : (count : ℕ) (job : WholeJob) (files : List (PerKind (List ℕ))) (lines : List ℕ) → count ≤ 4
-    → ArePart (written (run_names [] count) job files lines).outputs (run_file_names count)
-written-part count job files lines few =
+pub written-part : (count : ℕ) (job : WholeJob) (files : List (PerKind (List ℕ))) (lines : List ℕ) (pieces : List Output)
+    → count ≤ 4 → ArePart (written (run_names [] count) job files lines pieces).outputs (run_file_names count)
+written-part count job files lines pieces few =
     let log : Output = record { name = log_file []; bytes = log_of job files } in
     part-append (outputs_of (names_from [] 0 count) job.consoles files) (log ∷ []) (player_names 0 count) (log_file [] ∷ [])
     (outputs-part 0 count job.consoles files (omega (arith, few))) (one-part log)
@@ -149,13 +149,13 @@ names-differ (suc (suc (suc (suc zero)))) few = (refl, refl)
 names-differ (suc (suc (suc (suc (suc n))))) few = absurd (omega (arith, few))
 
 pub written-differ : (out : List ℕ) (count : ℕ) (job : WholeJob) (files : List (PerKind (List ℕ))) (lines : List ℕ)
-    → count ≤ 4 → NamesDiffer (written (run_names out count) job files lines).outputs
-    × (is_among standard_output (written (run_names out count) job files lines).outputs ≡ false)
-written-differ out count job files lines few =
-    let plain : List Output = (written (run_names [] count) job files lines).outputs in
-    let part : ArePart plain (run_file_names count) = written-part count job files lines few in
+    (pieces : List Output) → count ≤ 4 → NamesDiffer (written (run_names out count) job files lines pieces).outputs
+    × (is_among standard_output (written (run_names out count) job files lines pieces).outputs ≡ false)
+written-differ out count job files lines pieces few =
+    let plain : List Output = (written (run_names [] count) job files lines pieces).outputs in
+    let part : ArePart plain (run_file_names count) = written-part count job files lines pieces few in
     let n = names-differ count few in
-    let is = written-under out count job files lines in (
+    let is = written-under out count job files lines pieces pieces in (
       subst (λ (l : List Output). NamesDiffer l) (sym is)
           (differ-under out plain (part-differ plain (run_file_names count) part n.0)),
       subst (λ (l : List Output). is_among standard_output l ≡ false) (sym is)

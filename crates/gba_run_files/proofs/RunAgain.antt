@@ -20,7 +20,7 @@ use Rattle.gba_joblog.specs.declared.outputs.PerKind.{PerKind}
 use Rattle.gba_joblog.proofs.EachKind.{at-per_kind}
 use Rattle.gba_session.proofs.SameRun.{RunsAs}
 use Rattle.gba_session.specs.Files.{asks_of}
-use Rattle.gba_run_files.proofs.WrittenLists.{asked-same}
+use Rattle.gba_run_files.proofs.StatedLists.{asked-same}
 use Rattle.gba_run_files.specs.Law.{under}
 use Rattle.gba_run_files.specs.Names.{names_from, names_of, run_names}
 use Rattle.gba_run_files.specs.Outputs.{all_outs, console_difference, console_outputs, difference_of, first_differs, kind_differs, kind_output, kind_stated, output_differs, output_if, outputs_of, outs_of, stated_out}
@@ -70,9 +70,9 @@ outputs-under out player (suc count) (c ∷ consoles) (one ∷ files) =
 
 -- what is written goes by OUT alone in its names
 pub written-under : (out : List ℕ) (count : ℕ) (job : WholeJob) (files : List (PerKind (List ℕ))) (lines : List ℕ)
-    → (written (run_names out count) job files lines).outputs
-    ≡ map (under out) (written (run_names [] count) job files lines).outputs
-written-under out count job files lines =
+    (pieces plain : List Output) → (written (run_names out count) job files lines pieces).outputs
+    ≡ map (under out) (written (run_names [] count) job files lines plain).outputs
+written-under out count job files lines pieces plain =
     let made = outputs_of (names_from [] 0 count) job.consoles files in
     let log : Output = record { name = (run_names [] count).log; bytes = log_of job files } in
     ap (λ xs. xs ++ under out log ∷ []) (outputs-under out 0 count job.consoles files)
@@ -187,9 +187,10 @@ difference-again (n ∷ names) (c ∷ consoles) (l ∷ later) (one ∷ files) is
 
 -- What is written for a job that states the digests of the outputs of another, where their logs are one.
 pub written-outputs : (out : List ℕ) (count : ℕ) (job other : WholeJob) (files : List (PerKind (List ℕ))) (lines : List ℕ)
-    → AreStatedBy job.consoles files other.consoles → log_of other files ≡ log_of job files
-    → (written (run_names out count) other files lines).outputs ≡ (written (run_names out count) job files lines).outputs
-written-outputs out count job other files lines is log =
+    (pieces : List Output) → AreStatedBy job.consoles files other.consoles → log_of other files ≡ log_of job files
+    → (written (run_names out count) other files lines pieces).outputs
+    ≡ (written (run_names out count) job files lines pieces).outputs
+written-outputs out count job other files lines pieces is log =
     let names = run_names out count in
     ap (λ outputs. outputs ++ record { name = names.log; bytes = log_of other files } ∷ [])
     (outputs-again names.consoles job.consoles other.consoles files is)
@@ -197,9 +198,9 @@ written-outputs out count job other files lines is log =
 
 -- it ends with the summary
 pub written-end : (out : List ℕ) (count : ℕ) (job other : WholeJob) (files : List (PerKind (List ℕ))) (lines : List ℕ)
-    → AreStatedBy job.consoles files other.consoles → log_of other files ≡ log_of job files
-    → (written (run_names out count) other files lines).end ≡ Ok (lines ++ log_line (log_of job files))
-written-end out count job other files lines is log =
+    (pieces : List Output) → AreStatedBy job.consoles files other.consoles → log_of other files ≡ log_of job files
+    → (written (run_names out count) other files lines pieces).end ≡ Ok (lines ++ log_line (log_of job files))
+written-end out count job other files lines pieces is log =
     let none = difference-again (run_names out count).consoles job.consoles other.consoles files is in
     rw (none, log) refl
 

@@ -1,12 +1,14 @@
 use Rattle.std.specs.Prelude.{◌≡◌, ℕ, ◌≤◌, ◌+◌, ◌++◌, false, List, length}
-use Rattle.gba_command.specs.LeftFiles.{NamesDiffer, is_among, standard_output}
+use Rattle.gba_command.specs.LeftFiles.{HasOwnFiles, NamesDiffer, is_among, standard_output}
 use Rattle.gba_command.specs.Writing.{Output}
+use Rattle.gba_image.specs.declared.images.ConsoleImages.{ConsoleImages}
 use Rattle.gba_joblog.specs.Job.{WholeJob}
 use Rattle.gba_joblog.specs.Log.{log_text}
 use Rattle.gba_joblog.specs.Soundness.{IsJob}
 use Rattle.gba_joblog.specs.declared.outputs.PerKind.{PerKind}
 use Rattle.gba_run_files.specs.Names.{run_names}
-use Rattle.gba_run_files.specs.Written.{log_of, written}
+use Rattle.gba_run_files.specs.Written.{log_of, run_of, written}
+use Rattle.gba_session.specs.Session.{prepared}
 
 -- how much longer a log may be once the digests of twenty outputs are stated: 72 bytes each
 abbrev pub digests_room : ℕ
@@ -24,6 +26,13 @@ under out output = record output { name = out ++ output.name }
 -- The files of a run of at most four consoles have different names, and none is standard output.
 abbrev pub OutputsDiffer : Type 0
 OutputsDiffer =
-    (out : List ℕ) (count : ℕ) (job : WholeJob) (files : List (PerKind (List ℕ))) (lines : List ℕ) → count ≤ 4
-    → NamesDiffer (written (run_names out count) job files lines).outputs
-    × (is_among standard_output (written (run_names out count) job files lines).outputs ≡ false)
+    (out : List ℕ) (count : ℕ) (job : WholeJob) (files : List (PerKind (List ℕ))) (lines : List ℕ) (pieces : List Output)
+    → count ≤ 4 → NamesDiffer (written (run_names out count) job files lines pieces).outputs
+    × (is_among standard_output (written (run_names out count) job files lines pieces).outputs ≡ false)
+
+-- Of the run of a job with these images each piece is one of a file, the pieces of a file, one after another, are its bytes,
+-- and standard output is none of its files.
+abbrev pub RunsHaveOwnFiles : Type 0
+RunsHaveOwnFiles =
+    (out : List ℕ) (job : WholeJob) (images : List ConsoleImages) → IsJob job → length images ≡ length job.consoles
+    → HasOwnFiles (run_of (run_names out (length job.consoles)) job (prepared job images))

@@ -1,6 +1,9 @@
+pub mod AskedLaw
+pub mod DigestsLaw
 pub mod Law
 pub mod Names
 pub mod Outputs
-pub mod RunRoom
+pub mod Pieces
+pub mod Ready
 pub mod Views
 pub mod Written

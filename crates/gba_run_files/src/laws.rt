@@ -1,6 +1,8 @@
 //! Laws over the definitions. Each is the contract of a function that takes no value.
 
-ghost use Rattle.gba_run_files.specs.Law.{LogsHaveRoom, OutputsDiffer};
+ghost use Rattle.gba_run_files.specs.Law.{LogsHaveRoom, OutputsDiffer, RunsHaveOwnFiles};
+
+use gba_console::laws::segments;
 
 /// How much longer a log is once the digests of its outputs are stated.
 pub fn logs_have_room()
@@ -11,3 +13,10 @@ pub fn logs_have_room()
 pub fn outputs_differ()
     ensures { OutputsDiffer }
 {}
+
+/// Of a job's run each piece is one of a file, and the pieces of a file, one after another, are its bytes.
+pub fn runs_have_own_files()
+    ensures { RunsHaveOwnFiles }
+{
+    segments();
+}

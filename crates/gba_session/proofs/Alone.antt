@@ -6,7 +6,7 @@ use Rattle.link_node.specs.declared.signal.Signal.{Signal}
 use Rattle.link_node.specs.declared.delays.Delays.{Delays}
 use Rattle.link_order.proofs.Lists.{all_head, all_map, all_nil, all_tail}
 use Rattle.link_order.proofs.Sound.{joined_all}
-use Rattle.link_order.specs.Cut.{IsCable, IsSound, IsSoundSignal, is_live, live}
+use Rattle.link_order.specs.Cut.{IsSound, IsSoundSignal, is_live, live}
 use Rattle.link_order.specs.GlobalOrder.{after_turns, cycles_left, trace_of, with_signal}
 use Rattle.link_order.specs.declared.sent.Sent.{Sent}
 use Rattle.gba_console.proofs.Alone.{turns, turns-end, turns-go}
@@ -147,14 +147,6 @@ alone-sound m delays close = record {
   short = λ i a. let first : i ≡ 0 = omega (arith, a) in rw first close.short;
   signals = all_nil _;
   ordered = λ i j d less below. absurd (omega (arith, below));
-}
-
-pub alone-cable : (m : Machine) (delays : Delays) → IsCable (alone m delays [])
-alone-cable m delays = record {
-  some_console = omega arith;
-  at_most_four = omega arith;
-  some_delay = λ i j a b apart. absurd (apart (omega (arith, a, b)));
-  short_delay = λ i j a b apart. absurd (apart (omega (arith, a, b)));
 }
 
 -- what is on its way in a sound cut of one console is its own

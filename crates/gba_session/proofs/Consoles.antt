@@ -1,8 +1,8 @@
-use Rattle.std.proofs.Common.{◌≡◌, ◌≤◌, ◌<◌, ℕ, ◌+◌, ◌∙◌, Bool, List, Vec, [], ◌∷◌, ◌++◌, length, drop, take, get_or, map, refl, sym, ap, subst, arith, append_assoc, take_all}
+use Rattle.std.proofs.Common.{◌≡◌, ◌≤◌, ◌<◌, ℕ, ◌+◌, ◌∙◌, Bool, List, [], ◌∷◌, ◌++◌, length, drop, take, get_or, map, refl, sym, ap, subst, arith, append_assoc, take_all}
 use Rattle.std.specs.List.{All}
-use Rattle.std.proofs.lemmas.List.{append-nil, length-map, map-append, nil_from_length, take_more}
+use Rattle.std.proofs.lemmas.List.{length-map, map-append, take_more}
 use Rattle.std.proofs.lemmas.List.Elements.{All-append}
-use Rattle.link_order.proofs.Lists.{all_cons, all_head, all_nil, all_tail}
+use Rattle.link_order.proofs.Lists.{all_cons, all_nil}
 use Rattle.link_order.proofs.Hops.{cable_of_delays}
 use Rattle.link_order.proofs.Starts.{sound_start}
 use Rattle.link_node.specs.Delays.{AreDelays}
@@ -10,17 +10,17 @@ use Rattle.link_node.proofs.DelayLaws.{all_are_delays}
 use Rattle.link_order.specs.Cut.{IsCable, IsFresh, IsSound, opening, plain_cut}
 use Rattle.gba_joblog.specs.Soundness.{IsJob}
 use Rattle.gba_console.specs.Alone.{console_kind}
-use Rattle.gba_console.specs.Machine.{Machine, limit_of, without_limit}
+use Rattle.gba_console.specs.Machine.{Machine, forgotten, limit_of, without_limit}
 use Rattle.gba_image.specs.declared.images.ConsoleImages.{ConsoleImages}
 use Rattle.gba_joblog.specs.declared.outputs.PerKind.{PerKind}
 use Rattle.gba_joblog.proofs.OutputNames.{at_item}
 use Rattle.gba_joblog.specs.Job.{ConsoleJob, WholeJob}
-use Rattle.gba_session.specs.Files.{all_files, asks_of, files_of}
+use Rattle.gba_session.specs.Files.{all_files, asks_of}
 use Rattle.gba_session.specs.Start.{console_at, consoles_from, delays_of}
 use Rattle.gba_joblog.specs.Views.{console_value}
 use Rattle.gba_joblog.specs.declared.job.JobConsole.{JobConsole}
-use Rattle.gba_session.specs.Session.{RoomForFiles, room_for}
-use Rattle.gba_session.specs.Views.{files_value}
+use Rattle.gba_session.specs.Held.{IsUnused, asks_in}
+use Rattle.gba_session.specs.declared.player.Player.{Player}
 
 -- The consoles of a job, one after another.
 
@@ -36,7 +36,7 @@ pub consoles-more : (job : WholeJob) (player : ℕ) (said : ConsoleJob) (made : 
     (one : ConsoleImages) (rest : List ConsoleImages) (all : List Machine) → player < length job.consoles
     → said ≡ get_or job.consoles player said
     → made ++ consoles_from job player (drop player job.consoles) (one ∷ rest) ≡ all
-    → console ≡ console_at job player said one
+    → without_limit console ≡ without_limit (console_at job player said one)
     → (made ++ (without_limit console ∷ [])) ++ consoles_from job (player + 1) (drop (player + 1) job.consoles) rest ≡ all
 consoles-more job player said made console one rest all within here before is =
     let cs = job.consoles in
@@ -44,7 +44,7 @@ consoles-more job player said made console one rest all within here before is =
     let more = consoles-cons job player said (drop (player + 1) cs) (drop player cs) one rest split in
     let left = consoles_from job (player + 1) (drop (player + 1) cs) rest in
     append_assoc made (without_limit console ∷ []) left
-    ∙ ap (λ (m : Machine). made ++ (without_limit m ∷ left)) is
+    ∙ ap (λ (m : Machine). made ++ (m ∷ left)) is
     ∙ ap (λ ms. made ++ ms) (sym more)
     ∙ before
 
@@ -56,7 +56,7 @@ pub kept-consoles : (job : WholeJob) (player : ℕ) (said : ConsoleJob) (old new
     (one : ConsoleImages) (left rest : List ConsoleImages) (all : List Machine) → player < length job.consoles
     → said ≡ get_or job.consoles player said
     → new ≡ old ++ (console ∷ []) → left ≡ one ∷ rest
-    → console ≡ console_at job player said one
+    → without_limit console ≡ without_limit (console_at job player said one)
     → map without_limit old ++ consoles_from job player (drop player job.consoles) left ≡ all
     → map without_limit new ++ consoles_from job (player + 1) (drop (player + 1) job.consoles) rest ≡ all
 kept-consoles job player said old new console one left rest all within here kept split is before =
@@ -126,120 +126,46 @@ module _ (job : WholeJob) (images : List ConsoleImages) (made : List Machine) (s
       (omega (arith, many, made-length, sound.some_consoles)) (omega (arith, many, made-length, sound.few_consoles))
       start-delays
 
--- the files so far and those that are left
-files-cons : (asks : PerKind Bool) (rest left : List (PerKind Bool)) (m : Machine) (machines others : List Machine) → left ≡ asks ∷ rest
-    → others ≡ m ∷ machines → all_files left others ≡ files_of asks m ∷ all_files rest machines
-unfolding all_files
-files-cons asks rest left m machines others a b = rw (a, b) refl
-
-pub files-none : (left : List (PerKind Bool)) → all_files left [] ≡ []
-unfolding all_files
-files-none [] = refl
-files-none (asks ∷ left) = refl
-
--- the rooms of consoles, which are asked for the same and run as far
-rooms-map : (until : ℕ) (made : List JobConsole)
-    → map (λ console. room_for until (console_value console)) made ≡ map (room_for until) (map console_value made)
-rooms-map until [] = refl
-rooms-map until (console ∷ made) = ap (λ rooms. room_for until (console_value console) ∷ rooms) (rooms-map until made)
-
--- one more room
-pub rooms-more : (until i : ℕ) (made : List JobConsole) (x : JobConsole) (old new : List RoomForFiles) (room : RoomForFiles)
-    → i < length made → x ≡ get_or made i x → new ≡ old ++ room ∷ [] → room ≡ room_for until (console_value x)
-    → old ≡ map (λ console. room_for until (console_value console)) (take i made)
-    → new ≡ map (λ console. room_for until (console_value console)) (take (i + 1) made)
-rooms-more until i made x old new room within here kept is before =
-    let f = λ (console : JobConsole). room_for until (console_value console) in
+-- one more player, who is asked for what its console is
+pub asks-more : (i : ℕ) (made : List JobConsole) (x : JobConsole) (old new : List Player) (p : Player)
+    → i < length made → x ≡ get_or made i x → new ≡ old ++ p ∷ [] → p.asks ≡ asks_of (console_value x)
+    → map asks_in old ≡ map (λ console. asks_of (console_value console)) (take i made)
+    → map asks_in new ≡ map (λ console. asks_of (console_value console)) (take (i + 1) made)
+asks-more i made x old new p within here kept is before =
+    let f = λ (console : JobConsole). asks_of (console_value console) in
     let split : take (i + 1) made ≡ take i made ++ x ∷ [] =
     take_more made i x within ∙ ap (λ y. take i made ++ y ∷ []) (sym here) in
-    kept ∙ ap (λ r. old ++ r ∷ []) is ∙ ap (λ rs. rs ++ f x ∷ []) before ∙ sym (map-append f (take i made) (x ∷ []))
+    ap (map asks_in) kept ∙ map-append asks_in old (p ∷ [])
+    ∙ ap (λ (asks : PerKind Bool). map asks_in old ++ asks ∷ []) is
+    ∙ ap (λ (all : List (PerKind Bool)). all ++ f x ∷ []) before ∙ sym (map-append f (take i made) (x ∷ []))
     ∙ ap (map f) (sym split)
 
-pub rooms-are : (until i : ℕ) (made : List JobConsole) (rooms : List RoomForFiles) → length made ≤ i
-    → rooms ≡ map (λ console. room_for until (console_value console)) (take i made)
-    → rooms ≡ map (room_for until) (map console_value made)
-rooms-are until i made rooms over is =
-    is ∙ ap (map (λ console. room_for until (console_value console))) (take_all i made over) ∙ rooms-map until made
+asks-map : (made : List JobConsole)
+    → map (λ console. asks_of (console_value console)) made ≡ map asks_of (map console_value made)
+asks-map [] = refl
+asks-map (console ∷ made) = ap (λ asks. asks_of (console_value console) ∷ asks) (asks-map made)
 
-asks-map : (until : ℕ) (consoles : List ConsoleJob)
-    → map (λ (room : RoomForFiles). room.asks) (map (room_for until) consoles) ≡ map asks_of consoles
-asks-map until [] = refl
-asks-map until (console ∷ consoles) = ap (λ asks. asks_of console ∷ asks) (asks-map until consoles)
+pub asks-are : (i : ℕ) (made : List JobConsole) (players : List Player) → length made ≤ i
+    → map asks_in players ≡ map (λ console. asks_of (console_value console)) (take i made)
+    → map asks_in players ≡ map asks_of (map console_value made)
+asks-are i made players over is =
+    is ∙ ap (map (λ console. asks_of (console_value console))) (take_all i made over) ∙ asks-map made
 
-pub asks-are : (until : ℕ) (consoles : List ConsoleJob) (rooms : List RoomForFiles) → rooms ≡ map (room_for until) consoles
-    → map (λ (room : RoomForFiles). room.asks) rooms ≡ map asks_of consoles
-asks-are until consoles rooms is = ap (map (λ (room : RoomForFiles). room.asks)) is ∙ asks-map until consoles
+pub unused-more : (old new : List Player) (p : Player) → new ≡ old ++ p ∷ [] → IsUnused p → All IsUnused old
+    → All IsUnused new
+unused-more old new p kept is before =
+    subst (All IsUnused) (sym kept)
+    (All-append IsUnused old (p ∷ []) before (all_cons IsUnused p [] is (all_nil IsUnused)))
 
-untils-map : (until : ℕ) (consoles : List ConsoleJob)
-    → All (λ (room : RoomForFiles). room.until ≡ until) (map (room_for until) consoles)
-untils-map until [] = all_nil (λ (room : RoomForFiles). room.until ≡ until)
-untils-map until (console ∷ consoles) =
-    all_cons (λ (room : RoomForFiles). room.until ≡ until) (room_for until console) (map (room_for until) consoles) refl
-    (untils-map until consoles)
-
-pub untils-are : (until : ℕ) (consoles : List ConsoleJob) (rooms : List RoomForFiles) → rooms ≡ map (room_for until) consoles
-    → All (λ (room : RoomForFiles). room.until ≡ until) rooms
-untils-are until consoles rooms is =
-    let P : List RoomForFiles → Type 0 = λ xs. All (λ (room : RoomForFiles). room.until ≡ until) xs in
-    subst P (sym is) (untils-map until consoles)
-
-pub rooms-many : (until : ℕ) (consoles : List ConsoleJob) (rooms : List RoomForFiles) → rooms ≡ map (room_for until) consoles
-    → length rooms ≡ length consoles
-rooms-many until consoles rooms is = ap length is ∙ length-map consoles (room_for until)
-
--- one more file
-pub files-more : {Z : Type 0} (files new : List (PerKind (Vec ℕ Z))) (one : PerKind (Vec ℕ Z)) (room : RoomForFiles)
-    (left rest : List RoomForFiles) (m : Machine) (others machines : List Machine) (all : List (PerKind (List ℕ)))
-    → new ≡ files ++ (one ∷ []) → left ≡ room ∷ rest → others ≡ m ∷ machines
-    → files_value one ≡ files_of room.asks m
-    → map files_value files ++ all_files (map (λ (r : RoomForFiles). r.asks) left) (map without_limit others) ≡ all
-    → map files_value new ++ all_files (map (λ (r : RoomForFiles). r.asks) rest) (map without_limit machines) ≡ all
-files-more files new one room left rest m others machines all grew split parted filled before =
-    let asks = λ (r : RoomForFiles). r.asks in
-    let tail = all_files (map asks rest) (map without_limit machines) in
-    let made = map files_value files in
-    ap (λ xs. map files_value xs ++ tail) grew
-    ∙ ap (λ xs. xs ++ tail) (map-append files_value files (one ∷ []))
-    ∙ append_assoc made (files_value one ∷ []) tail
-    ∙ ap (λ (f : PerKind (List ℕ)). made ++ (f ∷ tail)) filled
-    ∙ ap (λ fs. made ++ fs)
-    (sym (files-cons room.asks (map asks rest) (map asks left) (without_limit m) (map without_limit machines)
-    (map without_limit others) (ap (map asks) split) (ap (map without_limit) parted)))
-    ∙ before
-
-pub files-whole : (files : List (PerKind (List ℕ))) (left : List RoomForFiles) (others : List Machine) (all : List (PerKind (List ℕ)))
-    → length others ≡ 0 → files ++ all_files (map (λ (r : RoomForFiles). r.asks) left) (map without_limit others) ≡ all
-    → files ≡ all
-files-whole files left others all over before =
-    let asks = λ (r : RoomForFiles). r.asks in
-    let none = ap (λ xs. all_files (map asks left) (map without_limit xs)) (nil_from_length others over)
-    ∙ files-none (map asks left) in
-    sym (ap (λ fs. files ++ fs) none ∙ append-nil files) ∙ before
-
--- what is left of rooms and consoles is sound
-pub limit-first : (until : ℕ) (others machines : List Machine) (m : Machine) → others ≡ m ∷ machines
-    → All (λ limit. limit ≡ until) (map limit_of others) → limit_of m ≡ until
-limit-first until others machines m is all =
-    let P : List Machine → Type 0 = λ ms. All (λ limit. limit ≡ until) (map limit_of ms) in
-    all_head (λ limit. limit ≡ until) (limit_of m) (map limit_of machines) (subst P is all)
-
-pub limits-rest : (until : ℕ) (others machines : List Machine) (m : Machine) → others ≡ m ∷ machines
-    → All (λ limit. limit ≡ until) (map limit_of others) → All (λ limit. limit ≡ until) (map limit_of machines)
-limits-rest until others machines m is all =
-    let P : List Machine → Type 0 = λ ms. All (λ limit. limit ≡ until) (map limit_of ms) in
-    all_tail (λ limit. limit ≡ until) (limit_of m) (map limit_of machines) (subst P is all)
-
-pub room-first : (until : ℕ) (left rest : List RoomForFiles) (room : RoomForFiles) → left ≡ room ∷ rest
-    → All (λ (r : RoomForFiles). r.until ≡ until) left → room.until ≡ until
-room-first until left rest room is all =
-    let Q : RoomForFiles → Type 0 = λ r. r.until ≡ until in
-    all_head Q room rest (subst (All Q) is all)
-
-pub rooms-rest : (until : ℕ) (left rest : List RoomForFiles) (room : RoomForFiles) → left ≡ room ∷ rest
-    → All (λ (r : RoomForFiles). r.until ≡ until) left → All (λ (r : RoomForFiles). r.until ≡ until) rest
-rooms-rest until left rest room is all =
-    let Q : RoomForFiles → Type 0 = λ r. r.until ≡ until in
-    all_tail Q room rest (subst (All Q) is all)
+-- at reset the lists of consoles are empty
+pub consoles-empty : (job : WholeJob) (player : ℕ) (consoles : List ConsoleJob) (images : List ConsoleImages)
+    → map forgotten (consoles_from job player consoles images) ≡ consoles_from job player consoles images
+unfolding consoles_from
+consoles-empty job player [] images = refl
+consoles-empty job player (console ∷ consoles) [] = refl
+consoles-empty job player (console ∷ consoles) (one ∷ images) =
+    ap (λ (ms : List Machine). without_limit (console_at job player console one) ∷ ms)
+    (consoles-empty job (player + 1) consoles images)
 
 -- there are as many files as consoles
 pub files-long : (asks : List (PerKind Bool)) (machines : List Machine) → length asks ≡ length machines

@@ -1,5 +1,12 @@
+pub mod Advancing
 pub mod Alone
+pub mod Asking
 pub mod Consoles
+pub mod Forgetting
+pub mod Joining
 pub mod Limits
 pub mod Summaries
+pub mod Taking
+pub mod Preparing
 pub mod SameRun
+pub mod SoFar

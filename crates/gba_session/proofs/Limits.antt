@@ -1,4 +1,4 @@
-use Rattle.std.proofs.Common.{◌≡◌, ◌≤◌, ◌<◌, ℕ, ◌∙◌, List, length, get_or, map, sym, ap, arith}
+use Rattle.std.proofs.Common.{◌≡◌, ◌≤◌, ◌<◌, ℕ, List, length, get_or, map, arith}
 use Rattle.std.specs.List.{All}
 use Rattle.std.proofs.lemmas.List.{length-map, get_or-map}
 use Rattle.gba_console.specs.Machine.{limit_of}
@@ -10,7 +10,3 @@ pub limits-reach : (until : ℕ) (consoles : List Console) → All (λ limit. li
 limits-reach until consoles all k d within =
     let there = all k 0 (omega (arith, within, length-map consoles limit_of)) in
     grind (arith, there, get_or-map)
-
-pub same-length : (new old : List Console) → map limit_of new ≡ map limit_of old → length new ≡ length old
-same-length new old same =
-    sym (length-map new limit_of) ∙ ap length same ∙ length-map old limit_of

@@ -15,7 +15,8 @@ use Rattle.gba_joblog.specs.declared.outputs.PerKind.{PerKind}
 use Rattle.gba_session.proofs.Consoles.{consoles-length, files-long}
 use Rattle.gba_session.specs.Files.{all_files, asks_of}
 use Rattle.gba_console.specs.Alone.{console_kind}
-use Rattle.gba_session.specs.Start.{console_at, consoles_from, end_of, run_until, start_of}
+use Rattle.gba_session.specs.Session.{Consoles, prepared}
+use Rattle.gba_session.specs.Start.{console_at, consoles_from, end_of, start_of}
 
 -- consoles that run alike over the same images: what they state of digests and the numbers of their lines may differ
 pub record RunsAs (one other : ConsoleJob) : Type 0 where
@@ -58,12 +59,6 @@ start-alike job other images alike =
     let consoles = consoles-alike job other 0 job.consoles other.consoles images alike.cycles alike.delay alike.many alike.each in
     rw (consoles, alike.delay) refl
 
-pub end-alike : (job other : WholeJob) (images : List ConsoleImages) → RunsAlike job other
-    → end_of other images ≡ end_of job images
-end-alike job other images alike =
-    ap (λ (cut : Cut Machine). run_until other.cycles cut) (start-alike job other images alike)
-    ∙ ap (λ (until : ℕ). run_until until (start_of job images)) alike.cycles
-
 pub asks-alike : (consoles later : List ConsoleJob) → AllZip RunsAs consoles later → map asks_of later ≡ map asks_of consoles
 asks-alike [] [] alike = refl
 asks-alike [] (l ∷ later) alike = absurd alike
@@ -71,6 +66,17 @@ asks-alike (c ∷ consoles) [] alike = absurd alike
 asks-alike (c ∷ consoles) (l ∷ later) alike =
     ap (λ (asks : PerKind Bool). asks ∷ map asks_of later) alike.0.asks
     ∙ ap (λ (asks : List (PerKind Bool)). asks_of c ∷ asks) (asks-alike consoles later alike.1)
+
+-- they are prepared alike
+pub prepared-alike : (job other : WholeJob) (images : List ConsoleImages) → RunsAlike job other
+    → prepared other images ≡ prepared job images
+prepared-alike job other images alike =
+    let with_start : Cut Machine → ℕ → List (PerKind Bool) → Consoles =
+    λ start until asks. record { start = start; from = 0; to = 0; until = until; asks = asks } in
+    ap (λ (start : Cut Machine). with_start start other.cycles (map asks_of other.consoles))
+    (start-alike job other images alike)
+    ∙ ap (λ (until : ℕ). with_start (start_of job images) until (map asks_of other.consoles)) alike.cycles
+    ∙ ap (with_start (start_of job images) job.cycles) (asks-alike job.consoles other.consoles alike.each)
 
 -- after a run there are as many consoles as before
 stepped-many : {C : Type 0} (kind : NodeKind C) (cut : Cut C) (i : ℕ) (due : List Incoming) (stepped : Option C)
@@ -86,7 +92,7 @@ turns-many kind cut (i ∷ turns) =
     turns-many kind (step_of kind cut i) turns
     ∙ stepped-many kind cut i (due_at kind cut i) (slice_get cut.consoles i)
 
-run-many : {C : Type 0} (kind : NodeKind C) (cut : Cut C) (until : ℕ)
+pub run-many : {C : Type 0} (kind : NodeKind C) (cut : Cut C) (until : ℕ)
     → length (live kind (run kind cut until)).consoles ≡ length cut.consoles
 run-many kind cut until = turns-many kind cut (trace kind cut until)
 

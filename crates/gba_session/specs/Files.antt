@@ -1,4 +1,4 @@
-use Rattle.std.specs.Prelude.{ℕ, Bool, List, [], ◌∷◌, if◌then◌else◌}
+use Rattle.std.specs.Prelude.{ℕ, Bool, true, false, List, [], ◌∷◌, if◌then◌else◌}
 use Rattle.gba_console.specs.Machine.{Machine}
 use Rattle.gba_joblog.specs.Job.{ConsoleJob}
 use Rattle.gba_joblog.specs.Outputs.{at_kind, per_kind}
@@ -16,6 +16,14 @@ output_bytes Samples m = samples_file m
 output_bytes Words m = words_text m.board.ended.words
 output_bytes State m = state_file m
 output_bytes Save m = save_file m
+
+-- whether an output is made piece by piece while the console runs; of the others the whole is made at the end
+abbrev pub grows : OutKind → Bool
+grows Frames = true
+grows Samples = true
+grows Words = true
+grows State = false
+grows Save = false
 
 -- what a console is asked for
 abbrev pub asks_of : ConsoleJob → PerKind Bool

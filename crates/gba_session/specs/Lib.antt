@@ -1,4 +1,5 @@
 pub mod Files
+pub mod Held
 pub mod Session
 pub mod Start
 pub mod Views

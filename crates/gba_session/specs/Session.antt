@@ -1,31 +1,50 @@
-use Rattle.std.specs.Prelude.{ℕ, Bool, List, map}
+use Rattle.std.specs.Prelude.{ℕ, ◌+◌, ◌*◌, ◌/◌, Bool, not, nat_lt, min, List, map, if◌then◌else◌}
 use Rattle.gba_console.specs.Machine.{Machine}
+use Rattle.gba_console.specs.Segments.{forgotten_cut}
 use Rattle.gba_image.specs.declared.images.ConsoleImages.{ConsoleImages}
-use Rattle.gba_joblog.specs.Job.{ConsoleJob, WholeJob}
+use Rattle.gba_joblog.specs.Job.{WholeJob}
 use Rattle.gba_joblog.specs.declared.outputs.PerKind.{PerKind}
 use Rattle.gba_session.specs.Files.{asks_of}
 use Rattle.gba_session.specs.Start.{run_until, start_of}
 use Rattle.link_order.specs.Cut.{Cut}
 
--- the consoles of a job, the clock up to which they run, and what each is asked for
+-- The consoles of a job, which run in segments. A segment ends at each multiple of 2^24 cycles before the job's end, and at
+-- that end; between two of them the lists of the consoles are emptied.
 pub record Consoles : Type 0 where
-  pub cut : Cut Machine
+  -- the consoles at reset
+  pub start : Cut Machine
+  -- the clocks at which the last segment began and ended: no step of it begins at its end or later; 0 before the first
+  pub from : ℕ
+  pub to : ℕ
+  -- the job's cycles
   pub until : ℕ
   pub asks : List (PerKind Bool)
 
 -- a job's consoles at reset
 abbrev pub prepared : WholeJob → List ConsoleImages → Consoles
 prepared job images =
-    record { cut = start_of job images; until = job.cycles; asks = map asks_of job.consoles }
+    record { start = start_of job images; from = 0; to = 0; until = job.cycles; asks = map asks_of job.consoles }
 
--- the same once the job's cycles are over
-abbrev pub finished : Consoles → Consoles
-finished s = record s { cut = run_until s.until s.cut }
+-- the most cycles of a segment
+abbrev pub segment_cycles : ℕ
+segment_cycles = 16777216
 
--- the room for what is written of a console: what is asked for, and the clock up to which it runs
-pub record RoomForFiles : Type 0 where
-  pub asks : PerKind Bool
-  pub until : ℕ
+-- the end of the segment that begins at a clock
+abbrev pub later_end : ℕ → ℕ → ℕ
+later_end until clock = min until ((clock / segment_cycles + 1) * segment_cycles)
 
-abbrev pub room_for : ℕ → ConsoleJob → RoomForFiles
-room_for until console = record { asks = asks_of console; until = until }
+-- the same once the next segment is run; after the last one nothing more is
+abbrev pub advanced : Consoles → Consoles
+advanced s = if nat_lt s.to s.until then record s { from = s.to; to = later_end s.until s.to } else s
+
+-- whether the last segment is run
+abbrev pub is_over : Consoles → Bool
+is_over s = not (nat_lt s.to s.until)
+
+-- the consoles at the end of the last segment, with the lists of that segment alone
+abbrev pub segment_cut : Consoles → Cut Machine
+segment_cut s = run_until s.to (forgotten_cut (run_until s.from s.start))
+
+-- the consoles at the end, with the lists of the whole run
+abbrev pub whole_cut : Consoles → Cut Machine
+whole_cut s = run_until s.until s.start

@@ -1,7 +1,9 @@
 #![tactic(auto)]
-//! A session: the consoles of a job, from their reset to the outputs that they are asked for.
+//! A session: the consoles of a job, from their reset to the outputs that they are asked for, in segments.
 
-mod files;
+mod player;
+mod running;
 mod session;
+mod starting;
 
 pub use session::Session;

@@ -7,7 +7,7 @@ use crate::signal::{Incoming, Signal};
 /// Contracts see a node as a plain record (`plain`) and a limit (`bound`); no step depends on the limit. One step is
 /// `next`, a function of the record and of the signals that are due. Clocks count cycles from the start.
 pub trait Node {
-    ghost use Rattle.std.specs.Prelude.{ℕ, ◌≡◌, ◌+◌, ◌<◌, ◌≤◌, ◌^◌, List, Option, IfSome, All};
+    ghost use Rattle.std.specs.Prelude.{ℕ, ◌≡◌, ◌+◌, ◌<◌, ◌≤◌, ◌^◌, List, Option, None, IfSome, All};
     ghost use Rattle.link_node.specs.declared.signal.Incoming.{Incoming};
     ghost use Rattle.link_node.specs.declared.signal.Signal.{Signal};
     ghost use Rattle.link_node.specs.Alone.{StepsAlone};
@@ -52,6 +52,7 @@ pub trait Node {
     fn go_alone(&mut self, end: u64) -> Option<Signal>
         requires { end ≤ bound self.old }
         ensures alone { StepsAlone clock next end (plain self.old) (plain self.new) result }
+        ensures ends { result ≡ None → end ≤ clock (plain self.new) }
         ensures rises { clock (plain self.old) < end → clock (plain self.old) < clock (plain self.new) }
         ensures limit { bound self.new ≡ bound self.old }
     {

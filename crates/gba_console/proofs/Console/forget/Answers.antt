@@ -12,7 +12,6 @@ forget-requires c =
     let b = inside.board in
     let sound = c.self.invariant.5 in
     record {
-      most = c.requires.most;
       near = rw (← c.self.view_is) at c.requires.near;
       step = sound.step;
       clock = omega (arith, sound.clock, sound.few);

@@ -10,8 +10,8 @@ use Rattle.gba_link.proofs.Generated.{made-sound}
 use Rattle.gba_link.specs.GeneratedRun.{made_inputs}
 use Rattle.gba_link.proofs.generation.make.Goals as goal
 
-pub run_after-requires-clause-inputs : goal.run_after-requires-clause-inputs
-run_after-requires-clause-inputs g c = λ lifetimes outlives.
+pub prepare_inputs-requires-clause-inputs : goal.prepare_inputs-requires-clause-inputs
+prepare_inputs-requires-clause-inputs c =
     let words = c.args.words.now in
     let read = map inputs_value c.in_ok-inputs.inputs.items in
     let same : read ≡ made_inputs words.number = search rules in

@@ -1,12 +1,18 @@
-use Rattle.std.proofs.Common.{arith}
-use Rattle.gba_session.proofs.Summaries.{line-added}
+use Rattle.std.proofs.Common.{◌∙◌, List, ap, map, subst}
+use Rattle.std.specs.List.{flat_map}
+use Rattle.gba_console.specs.Machine.{Machine, without_limit}
+use Rattle.gba_output.specs.StateFile.{summary_line}
+use Rattle.gba_session.proofs.Asking.{whole-lines}
 use Rattle.gba_session.proofs.session.Session.summary.Goals as goal
+use Rattle.gba_session.specs.Held.{IsSegmented}
+use Rattle.gba_session.specs.Session.{Consoles}
 
-pub loop-console-preserved : goal.loop-console-preserved
-loop-console-preserved c =
-    let held = c.loop-console.invariant in (
-      line-added c.loop-console.lines.items c.add_summary.new.line.items _ c.nodes-console-items.result.now
-          c.loop-console.console-index c.console-item.result c.loop-console-test.true c.console-item.is
-          c.add_summary.ensures.items held.0,
-      omega (arith, held.1, c.add_summary.ensures.len),
-    )
+pub returns-clause-lines : goal.returns-clause-lines
+returns-clause-lines c =
+    let players = c.self.inside.players.items in
+    let cut = c.self.inside.cut in
+    let held = subst (λ (v : Consoles). IsSegmented v cut players) c.self.view_is c.self.invariant in
+    c.lines_of.ensures.lines
+    ∙ ap (λ (ms : List Machine). flat_map summary_line (map without_limit ms)) c.nodes.ensures.value
+    ∙ whole-lines c.args.self.now cut players held (ap (λ (v : Consoles). v.asks) c.self.view_is) c.segments.ensures.live
+    c.requires.over

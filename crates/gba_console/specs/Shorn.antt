@@ -1,0 +1,17 @@
+use Rattle.gba_io.specs.Board.{board_emptied}
+use Rattle.gba_io.specs.declared.board.Board.{Board}
+use Rattle.gba_console.specs.Machine.{Machine, board_without_limit}
+use Rattle.gba_console.specs.Step.{board_begun}
+
+-- A console but for what no step looks at (this project's profile).
+
+-- What a step resets before it looks at anything is reset: the prices of the accesses, and what the last step told.
+abbrev pub rested : Machine → Machine
+rested m = record m { board = board_begun m.board }
+
+-- and the three lists are empty, where they begin is as at reset, and the end of their room is 0
+abbrev pub shorn_board : Board → Board
+shorn_board b = board_without_limit (board_emptied b)
+
+abbrev pub shorn : Machine → Machine
+shorn m = rested (record m { board = shorn_board m.board })

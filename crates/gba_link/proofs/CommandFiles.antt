@@ -1,0 +1,205 @@
+-- The files of the runs of commands.
+use Rattle.std.proofs.Common.{◌≡◌, ℕ, ◌+◌, ◌<◌, ◌∙◌, true, false, List, [], ◌∷◌, ◌++◌, length, map, Ok, refl, sym, ap, subst, inl, arith}
+use Rattle.std.specs.Prelude.{codes}
+use Rattle.std.specs.List.{All, AllZip}
+use Rattle.std.specs.Str.{bytes_eq}
+use Rattle.std.proofs.lemmas.Fmt.{decimal_digit}
+use Rattle.std.proofs.lemmas.List.{append-nil, length-map, map-append}
+use Rattle.std.proofs.lemmas.List.Elements.{All-cons, All-nil}
+use Rattle.gba_command.proofs.Comes.{outcome-done, outcome-parts}
+use Rattle.gba_command.proofs.LeftFiles.{has-own-files, names-apart}
+use Rattle.gba_command.proofs.Parts.{ArePart, all_differ, all_long, has_name, part-append, part-differ}
+use Rattle.gba_command.specs.LeftFiles.{NamesDiffer, is_among, standard_output}
+use Rattle.gba_command.specs.Plan.{outcome}
+use Rattle.gba_command.specs.Words.{Command, GenerateWords, RunJob, Assemble, ListArm, ListThumb, Generate, IsCommand, IsOut}
+use Rattle.gba_command.specs.Writing.{Output, Run}
+use Rattle.gba_dis.specs.declared.units.Set.TheVariants.{Arm, Thumb}
+use Rattle.gba_generator.proofs.MadeJob.{job-sound}
+use Rattle.gba_generator.specs.Job.{bios_file, job, job_file, job_text}
+use Rattle.gba_generator.specs.Source.{bios}
+use Rattle.gba_inputs.proofs.SoundInputs.{filled-sound, filled_consoles-sound, inputs-sound, zip-long}
+use Rattle.gba_inputs.specs.Filled.{filled}
+use Rattle.gba_inputs.specs.Inputs.{ConsoleInputs}
+use Rattle.gba_inputs.specs.Law.{AreInputs}
+use Rattle.gba_joblog.proofs.Sound.{sound}
+use Rattle.gba_joblog.specs.Job.{WholeJob}
+use Rattle.gba_joblog.specs.Names.{is_name}
+use Rattle.gba_joblog.specs.Soundness.{IsJob}
+use Rattle.gba_link.proofs.Generated.{made-sound}
+use Rattle.gba_link.proofs.RunsAgain.{done}
+use Rattle.gba_link.specs.CommandPlan.{plan_of_command}
+use Rattle.gba_link.specs.FilesLaw.{HasFilesUnder, IsUnder, out_of}
+use Rattle.gba_link.specs.GeneratedRun.{generated_run, made_files, made_inputs}
+use Rattle.gba_link.specs.RunPlan.{images_in, result_of_run}
+use Rattle.gba_run_files.proofs.OutputNames.{apart-under, differ-under, player_names, run_file_names, written-differ, written-part}
+use Rattle.gba_run_files.proofs.OwnFiles.{own-after}
+use Rattle.gba_run_files.proofs.RunAgain.{written-under}
+use Rattle.gba_run_files.specs.Law.{RunsHaveOwnFiles, under}
+use Rattle.gba_run_files.specs.Names.{names_from}
+use Rattle.gba_run_files.specs.Pieces.{run_pieces}
+use Rattle.gba_run_files.specs.Written.{files_at, summary_lines}
+use Rattle.gba_session.specs.Session.{prepared, whole_cut}
+use Rattle.gba_store.specs.Files.{Files}
+use Rattle.gba_text.proofs.Steps.{ok-is}
+use Rattle.gba_translate.specs.Translation.{after_assembly, after_image, image_plan, listed, one_file, source_plan}
+
+all-under : (out : List ℕ) (files : List Output) → All (IsUnder out) (map (under out) files)
+all-under out [] = All-nil (IsUnder out)
+all-under out (file ∷ files) =
+    All-cons (IsUnder out) (under out file) (map (under out) files) (record { rest = file.name; named = refl })
+    (all-under out files)
+
+-- ---- one file
+
+name-apart : (name : List ℕ) → is_name name ≡ true → bytes_eq name standard_output ≡ false
+unfolding is_name
+name-apart name is =
+    names-apart name standard_output (λ same.
+    let dash : is_name standard_output ≡ true = subst (λ (n : List ℕ). is_name n ≡ true) same is in absurd cc)
+
+file-under : (name word bytes : List ℕ) → IsOut name → HasFilesUnder name (one_file name word bytes)
+unfolding NamesDiffer is_among
+file-under name word bytes is =
+    let file : Output = record { name = name; bytes = bytes } in
+    let differ : NamesDiffer (file ∷ []) = (refl, tt) in
+    let apart : is_among standard_output (file ∷ []) ≡ false = rw (name-apart name is.0) refl in
+    record {
+      differ = differ;
+      own = has-own-files (file ∷ []) (one_file name word bytes).end differ apart;
+      under = All-cons (IsUnder name) file [] (record { rest = []; named = sym (append-nil name) }) (All-nil (IsUnder name));
+    }
+
+-- ---- a job
+
+module _ (law : RunsHaveOwnFiles) where
+  job-under : (out : List ℕ) (said : WholeJob) (inputs : List ConsoleInputs) → IsJob said
+      → AllZip AreInputs said.consoles inputs → HasFilesUnder out (result_of_run out said inputs)
+  job-under out said inputs is read =
+      let whole : WholeJob = filled said inputs in
+      let images = map images_in inputs in
+      let s = prepared whole images in
+      let count = length whole.consoles in
+      let fine : IsJob whole = filled-sound said inputs is read in
+      let many : length images ≡ count =
+      length-map inputs images_in ∙ sym (zip-long said.consoles inputs read)
+      ∙ sym (filled_consoles-sound said.consoles inputs is.each read).long in
+      let files = files_at whole (whole_cut s) in
+      let lines = summary_lines (whole_cut s).consoles in
+      let pieces = run_pieces (names_from out 0 count) s in
+      record {
+        differ = (written-differ out count whole files lines pieces fine.few_consoles).0;
+        own = law out whole images fine many;
+        under = subst (All (IsUnder out)) (sym (written-under out count whole files lines pieces pieces)) (all-under out _);
+      }
+
+  -- ---- what `gen` makes
+
+  plain_made : GenerateWords → List Output
+  plain_made words =
+      record { name = bios_file [] 0; bytes = bios words.number 0 } ∷ record { name = bios_file [] 1; bytes = bios words.number 1 }
+      ∷ record { name = bios_file [] 2; bytes = bios words.number 2 } ∷ record { name = bios_file [] 3; bytes = bios words.number 3 }
+      ∷ record { name = job_file []; bytes = job_text words.cycles words.out } ∷ []
+
+  made-is : (words : GenerateWords) → made_files words ≡ map (under words.out) (plain_made words)
+  unfolding plain_made
+  made-is words = refl
+
+  digit_bios : ℕ → List ℕ
+  digit_bios player = codes "." ++ ((48 + player) ∷ codes ".bios")
+
+  made_names : List (List ℕ)
+  made_names = digit_bios 0 ∷ digit_bios 1 ∷ digit_bios 2 ∷ digit_bios 3 ∷ job_file [] ∷ []
+
+  bios-digit : (player : ℕ) → player < 10 → bios_file [] player ≡ digit_bios player
+  unfolding digit_bios
+  bios-digit player few = ap (λ (digits : List ℕ). codes "." ++ (digits ++ codes ".bios")) (decimal_digit player (omega (arith, few)))
+
+  made-part : (words : GenerateWords) → ArePart (plain_made words) made_names
+  unfolding ArePart plain_made made_names
+  made-part words =
+      inl (
+        bios-digit 0 (omega arith),
+        inl (
+          bios-digit 1 (omega arith),
+          inl (
+            bios-digit 2 (omega arith),
+            inl (bios-digit 3 (omega arith), inl (refl, tt)),
+          ),
+        ),
+      )
+
+  four-differ : (all_differ (made_names ++ run_file_names 4) ≡ true) × (all_long (made_names ++ run_file_names 4) ≡ true)
+  unfolding all_differ has_name all_long made_names digit_bios player_names
+  four-differ = (refl, refl)
+
+  all-differ : (count : ℕ) → count ≡ 4
+      → (all_differ (made_names ++ run_file_names count) ≡ true) × (all_long (made_names ++ run_file_names count) ≡ true)
+  all-differ count is =
+      subst (λ (n : ℕ). (all_differ (made_names ++ run_file_names n) ≡ true) × (all_long (made_names ++ run_file_names n) ≡ true))
+      (sym is) four-differ
+
+  made-under : (words : GenerateWords) → IsCommand (Generate words) → HasFilesUnder words.out (generated_run words)
+  made-under words fine =
+      let out = words.out in
+      let said : WholeJob = job words.cycles out in
+      let inputs = made_inputs words.number in
+      let is : IsJob said = job-sound words.cycles out fine.some_cycles fine.few_cycles fine.out in
+      let read = made-sound words.number words.cycles out in
+      let whole : WholeJob = filled said inputs in
+      let s = prepared whole (map images_in inputs) in
+      let count = length whole.consoles in
+      let four : count ≡ 4 = (filled_consoles-sound said.consoles inputs is.each read).long in
+      let files = files_at whole (whole_cut s) in
+      let lines = summary_lines (whole_cut s).consoles in
+      let pieces = run_pieces (names_from out 0 count) s in
+      let plain : List Output = (result_of_run [] said inputs).outputs in
+      let run = result_of_run out said inputs in
+      let own : HasFilesUnder out run = job-under out said inputs is read in
+      let outputs : made_files words ++ run.outputs ≡ map (under out) (plain_made words ++ plain) =
+      ap (λ (files : List Output). files ++ run.outputs) (made-is words)
+      ∙ ap (λ (files : List Output). map (under out) (plain_made words) ++ files)
+      (written-under out count whole files lines pieces (run_pieces (names_from [] 0 count) s))
+      ∙ sym (map-append (under out) (plain_made words) plain) in
+      let part : ArePart (plain_made words ++ plain) (made_names ++ run_file_names count) =
+      part-append (plain_made words) plain made_names (run_file_names count) (made-part words)
+      (written-part count whole files lines (run_pieces (names_from [] 0 count) s) (omega (arith, four))) in
+      let names = all-differ count four in
+      let differ : NamesDiffer (made_files words ++ run.outputs) =
+      subst NamesDiffer (sym outputs) (differ-under out (plain_made words ++ plain)
+      (part-differ (plain_made words ++ plain) (made_names ++ run_file_names count) part names.0)) in
+      let apart : is_among standard_output (made_files words ++ run.outputs) ≡ false =
+      subst (λ (files : List Output). is_among standard_output files ≡ false) (sym outputs)
+      (apart-under out (plain_made words ++ plain) (made_names ++ run_file_names count) part names.1) in
+      record {
+        differ = differ;
+        own = own-after (made_files words) run differ apart own.own;
+        under = subst (All (IsUnder out)) (sym outputs) (all-under out (plain_made words ++ plain));
+      }
+
+  -- ---- every command
+
+  pub commands-under : (files : Files) (command : Command) (run : Run) → IsCommand command
+      → outcome files (plan_of_command command) ≡ Ok run → HasFilesUnder (out_of command) run
+  commands-under files (RunJob words) run fine h =
+      let d = done files words run h in
+      let is : IsJob d.job = sound d.says.bytes d.job d.says.says in
+      subst (HasFilesUnder words.out) d.is
+      (job-under words.out d.job d.inputs is (inputs-sound files d.job.consoles d.inputs is.each d.passes))
+  commands-under files (Assemble words) run fine h =
+      let parts = outcome-parts files (source_plan words.from) (after_assembly words) run h in
+      let file = one_file words.to (codes "asm") parts.0 in
+      subst (HasFilesUnder words.to) (ok-is file run (sym (outcome-done files file) ∙ parts.2))
+      (file-under words.to (codes "asm") parts.0 fine.to)
+  commands-under files (ListArm words) run fine h =
+      let parts = outcome-parts files (image_plan words.from) (after_image Arm words) run h in
+      let file = listed words.to Arm parts.0 in
+      subst (HasFilesUnder words.to) (ok-is file run (sym (outcome-done files file) ∙ parts.2))
+      (file-under words.to (codes "dis") _ fine.to)
+  commands-under files (ListThumb words) run fine h =
+      let parts = outcome-parts files (image_plan words.from) (after_image Thumb words) run h in
+      let file = listed words.to Thumb parts.0 in
+      subst (HasFilesUnder words.to) (ok-is file run (sym (outcome-done files file) ∙ parts.2))
+      (file-under words.to (codes "dis") _ fine.to)
+  commands-under files (Generate words) run fine h =
+      subst (HasFilesUnder words.out) (ok-is (generated_run words) run (sym (outcome-done files (generated_run words)) ∙ h))
+      (made-under words fine)

@@ -1,0 +1,18 @@
+use Rattle.std.specs.Prelude.{◌≡◌, true, length, map}
+use Rattle.gba_joblog.specs.Job.{WholeJob}
+use Rattle.gba_session.specs.Files.{asks_of}
+use Rattle.gba_session.specs.Session.{Consoles, is_over}
+
+-- the consoles of a job of which no segment is run yet
+pub record IsReady (job : WholeJob) (s : Consoles) : Type 0 where
+  pub asks : s.asks ≡ map asks_of job.consoles
+  pub until : s.until ≡ job.cycles
+  pub begun : s.to ≡ 0
+  pub many : length s.start.consoles ≡ length job.consoles
+
+-- the same consoles, once the last segment is run
+pub record IsLast (first last : Consoles) : Type 0 where
+  pub over : is_over last ≡ true
+  pub start : last.start ≡ first.start
+  pub until : last.until ≡ first.until
+  pub asks : last.asks ≡ first.asks

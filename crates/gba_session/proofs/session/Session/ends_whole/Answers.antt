@@ -1,0 +1,13 @@
+use Rattle.std.proofs.Common.{ap, subst}
+use Rattle.gba_session.proofs.Asking.{ends-forgotten}
+use Rattle.gba_session.proofs.session.Session.ends_whole.Goals as goal
+use Rattle.gba_session.specs.Held.{IsSegmented}
+use Rattle.gba_session.specs.Session.{Consoles}
+
+pub returns : goal.returns
+returns c =
+    let players = c.self.inside.players.items in
+    let cut = c.self.inside.cut in
+    let held = subst (λ (v : Consoles). IsSegmented v cut players) c.self.view_is c.self.invariant in
+    ends-forgotten c.args.self.now cut players held (ap (λ (v : Consoles). v.asks) c.self.view_is) c.segments.ensures.live
+    c.requires.over
