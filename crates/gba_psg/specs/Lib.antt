@@ -1,0 +1,11 @@
+pub mod Tone
+pub mod Square
+pub mod Wave
+pub mod Noise
+pub mod Tones
+pub mod Registers
+pub mod Amount
+pub mod Soundness
+pub mod Numbers
+pub mod Laws
+pub mod Running
