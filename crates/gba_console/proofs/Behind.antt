@@ -17,11 +17,13 @@ use Rattle.gba_serial.specs.declared.transfer.Transfer.{Transfer}
 use Rattle.gba_sound.specs.Queues.{left_sample, right_sample}
 use Rattle.link_mapped.specs.Mapped.{IsUnseen}
 use Rattle.link_node.specs.declared.signal.Incoming.{Incoming}
+use Rattle.link_node.specs.declared.signal.Signal.{Signal}
 use Rattle.gba_console.specs.Alone.{console_kind}
 use Rattle.gba_console.specs.Keys.{after_keys}
-use Rattle.gba_console.specs.Machine.{Machine, clock_of, forgotten}
+use Rattle.gba_console.specs.Machine.{Machine, clock_of, forgotten, is_off}
 use Rattle.gba_console.specs.Segments.{behind, behind_if, board_behind, ended_behind, made_behind}
-use Rattle.gba_console.specs.Step.{acted, all_taken, board_begun, done_in, heard, moved, stepped, told}
+use Rattle.gba_console.specs.Step.{acted, all_taken, board_begun, done_in, heard, moved, stepped, stepped_off, stepped_on, told, told_on}
+use Rattle.gba_console.proofs.On.{both}
 
 -- what is added goes to the end, or nothing does
 in-front : {X : Type 0} (test : Bool) (first old more : List X)
@@ -101,9 +103,9 @@ done-in-front : (dues : List Incoming) (first m : Machine) → done_in dues (beh
 done-in-front dues first m =
     ap (λ (b : Board). acted m.registers (after_keys (clock_of m) m.keys b.core)) (heard-in-front dues first m)
 
-pub stepped-in-front : (dues : List Incoming) (first m : Machine) → stepped dues (behind first m) ≡ behind first (stepped dues m)
-unfolding stepped
-stepped-in-front dues first m =
+on-in-front : (dues : List Incoming) (first m : Machine) → stepped_on dues (behind first m) ≡ behind first (stepped_on dues m)
+unfolding stepped_on
+on-in-front dues first m =
     let changed = behind first m in
     let done = done_in dues m in
     ap (λ (b : Board). moved b changed (done_in dues changed)) (heard-in-front dues first m)
@@ -111,10 +113,28 @@ stepped-in-front dues first m =
     ∙ ap (λ (b : Board). record (moved (heard dues m) m done) { board = b })
     (after-in-front done.cycles first.board (record (heard dues m) { core = done.bus }))
 
+off-in-front : (dues : List Incoming) (first m : Machine)
+    → stepped_off dues (behind first m) ≡ behind first (stepped_off dues m)
+unfolding stepped_off
+off-in-front dues first m = refl
+
+told-on-in-front : (dues : List Incoming) (first m : Machine) → told_on dues (behind first m) ≡ told_on dues m
+unfolding told_on
+told-on-in-front dues first m =
+    ap (λ (done : Done Core). outgoing (clock_of m) done.bus.serial) (done-in-front dues first m)
+
+pub stepped-in-front : (dues : List Incoming) (first m : Machine) → stepped dues (behind first m) ≡ behind first (stepped dues m)
+unfolding stepped
+stepped-in-front dues first m =
+    let changed = behind first m in
+    both (behind first) (is_off m) (stepped_off dues m) (stepped_on dues m) (stepped_off dues changed) (stepped_on dues changed)
+    (off-in-front dues first m) (on-in-front dues first m)
+
 pub told-in-front : (dues : List Incoming) (first m : Machine) → told dues (behind first m) ≡ told dues m
 unfolding told
 told-in-front dues first m =
-    ap (λ (done : Done Core). outgoing (clock_of m) done.bus.serial) (done-in-front dues first m)
+    both (λ (o : Option Signal). o) (is_off m) None (told_on dues m) None (told_on dues (behind first m)) refl
+    (told-on-in-front dues first m)
 
 -- where there is something in front
 stepped-if : (dues : List Incoming) (first : Option Machine) (m : Machine)

@@ -1,5 +1,5 @@
 -- Where nothing asks for more, a step is an instruction.
-use Rattle.std.proofs.Common.{◌≡◌, ℕ, ◌<◌, Bool, true, false, List, [], refl, ◌∙◌, ap, sym, if◌then◌else◌}
+use Rattle.std.proofs.Common.{◌≡◌, ℕ, ◌<◌, ◌≤◌, Bool, true, false, List, [], refl, ◌∙◌, ap, sym, if◌then◌else◌}
 use Rattle.std.specs.Prelude.{not, ◌&&◌, ◌||◌, ◌==◌, Option, None, Some, option_map}
 use Rattle.gba_terms.specs.Bits.{bit}
 use Rattle.gba_psr.specs.RegisterFile.{status}
@@ -23,9 +23,10 @@ use Rattle.gba_serial.specs.declared.transfer.Transfer.{Transfer}
 use Rattle.gba_console.specs.Keys.{after_keys, due_of, keys_left}
 use Rattle.gba_console.specs.declared.keys.KeyState.{KeyState}
 use Rattle.gba_console.specs.Machine.{Machine, clock_of}
-use Rattle.gba_console.specs.Step.{acted, acted_for, awake_done, enters, entry_done, idle_done, heard, idles, instruction_done, next, stepped}
+use Rattle.gba_console.specs.Step.{acted, acted_for, awake_done, enters, entry_done, idle_done, heard, idles, instruction_done, next, stepped_on}
 use Rattle.gba_console.specs.Waiting.{IsPlain}
 use Rattle.gba_console.proofs.Keying.{keys-early, left-early}
+use Rattle.gba_console.proofs.On.{stepped-is-on}
 
 -- what calm devices don't ask for
 record IsCalm (halt entry move : Bool) : Type 0 where
@@ -146,17 +147,16 @@ not-second false other both = cc
 -- what such a step leaves
 step-is : (m : Machine) (done : Done Core) → heard [] m ≡ m.board → clock_of m < due_of m.keys
     → acted m.registers m.board.core ≡ done
-    → next m ≡ record {
+    → stepped_on [] m ≡ record m {
       registers = done.registers;
       board = board_after done.cycles (record m.board { core = done.bus });
-      keys = m.keys;
       was = clock_of m;
     }
-unfolding stepped
+unfolding stepped_on
 step-is m done here early acts =
     let left = keys_left (clock_of m) m.keys in
     let put = λ (b : Board) (some : Done Core) (keys : List KeyState).
-    let after : Machine = record {
+    let after : Machine = record m {
       registers = some.registers;
       board = board_after some.cycles (record b { core = some.bus });
       keys = keys;
@@ -169,30 +169,31 @@ step-is m done here early acts =
     ∙ ap (put m.board done) (left-early (clock_of m) m.keys early)
 
 -- where nothing asks for more than idling, a step is 16 cycles
-pub idle-next : CalmHasBegun → StaysQuiet → (m : Machine) → core_is_idle m.board.core ≡ true
+pub idle-next : CalmHasBegun → StaysQuiet → (m : Machine) → core_is_idle m.board.core ≡ true → m.off ≤ clock_of m
     → clock_of m < due_of m.keys → clock_of m < next_end m.board.core.serial
     → next m ≡ record m { board = board_after 16 m.board; was = clock_of m }
-idle-next begins quiet m idle early before =
+idle-next begins quiet m idle on early before =
     let core = m.board.core in
     let devices = and-first (is_idle core.devices) (not (has_news core.serial)) idle in
     let told = not-second (is_idle core.devices) (has_news core.serial) idle in
-    step-is m (idle_done m.registers core) (heard-none quiet m (begins.idle core.devices devices) told before) early
+    stepped-is-on [] m on
+    ∙ step-is m (idle_done m.registers core) (heard-none quiet m (begins.idle core.devices devices) told before) early
     (idle-acts m.registers core devices)
 
 pub plain-next : CalmHasBegun → StaysQuiet → (m : Machine) → IsPlain m
-    → next m ≡ record {
+    → next m ≡ record m {
       registers = (instruction_done m.registers m.board.core).registers;
       board =
           board_after (instruction_done m.registers m.board.core).cycles
           (record m.board { core = (instruction_done m.registers m.board.core).bus });
-      keys = m.keys;
       was = clock_of m;
     }
 plain-next begins quiet m plain =
     let core = m.board.core in
     let devices = and-first (is_calm core.devices) (not (has_news core.serial)) plain.calm in
     let told = not-second (is_calm core.devices) (has_news core.serial) plain.calm in
-    step-is m (instruction_done m.registers core) (heard-none quiet m (begins.calm core.devices devices) told plain.ends)
+    stepped-is-on [] m plain.on
+    ∙ step-is m (instruction_done m.registers core) (heard-none quiet m (begins.calm core.devices devices) told plain.ends)
     plain.keys (calm-acts m.registers core devices)
 
 -- what an instruction leaves, put together

@@ -24,13 +24,13 @@ use Rattle.gba_console.proofs.Passing.{has-room, sound-ready, step-sound, step-w
 
 module _ (passes : (cycles : ℕ) (b : Board) → BoardPasses cycles b) where
   pub idle-is : CalmHasBegun → StaysQuiet → (m : Machine) (after : Board) → core_is_idle m.board.core ≡ true
-      → clock_of m < due_of m.keys → clock_of m < next_end m.board.core.serial → after ≡ board_after 16 m.board
+      → m.off ≤ clock_of m → clock_of m < due_of m.keys → clock_of m < next_end m.board.core.serial → after ≡ board_after 16 m.board
       → (record m { board = after; was = after.core.devices.clock - 16 }) ≡ next m
-  idle-is begun quiet m after idle early before e =
+  idle-is begun quiet m after idle on early before e =
       ap (λ (b : Board). record m { board = b; was = b.core.devices.clock - 16 }) e
       ∙ ap (λ (was : ℕ). record m { board = board_after 16 m.board; was = was })
       (step-was (clock_of m) 16 m.board (board_after 16 m.board) refl (passes 16 m.board) refl)
-      ∙ sym (idle-next begun quiet m idle early before)
+      ∙ sym (idle-next begun quiet m idle on early before)
 
   pub idle-sound : (was : ℕ) (b after : Board) → IsSound was b → was ≤ b.core.devices.clock
       → b.core.devices.clock < b.made.until → after ≡ board_after 16 b → IsSound (after.core.devices.clock - 16) after
@@ -53,7 +53,7 @@ machine_at m (suc steps) =
 
 module _ (passes : (cycles : ℕ) (b : Board) → BoardPasses cycles b) (begun : CalmHasBegun) (quiet : StaysQuiet)
     (steps_pass : (m : Machine) → StepPasses [] m) (m : Machine) (stop : ℕ)
-    (idle : core_is_idle m.board.core ≡ true) (early : stop ≤ due_of m.keys) (before : stop ≤ next_end m.board.core.serial) where
+    (idle : core_is_idle m.board.core ≡ true) (on : m.off ≤ clock_of m) (early : stop ≤ due_of m.keys) (before : stop ≤ next_end m.board.core.serial) where
   -- after some of them, its board
   board-at : (steps : ℕ) → (machine_at m steps).board ≡ board_after (16 * steps) m.board
   unfolding machine_at board_after
@@ -64,6 +64,11 @@ module _ (passes : (cycles : ℕ) (b : Board) → BoardPasses cycles b) (begun :
   unfolding machine_at
   keys-at zero = refl
   keys-at (suc steps) = refl
+
+  off-at : (steps : ℕ) → (machine_at m steps).off ≡ m.off
+  unfolding machine_at
+  off-at zero = refl
+  off-at (suc steps) = refl
 
   serial-at : (steps : ℕ) → (machine_at m steps).board.core.serial ≡ m.board.core.serial
   serial-at steps = ap (λ (b : Board). b.core.serial) (board-at steps) ∙ (passes (16 * steps) m.board).serial
@@ -97,6 +102,7 @@ module _ (passes : (cycles : ℕ) (b : Board) → BoardPasses cycles b) (begun :
   one-at steps same below =
       sym (next-at steps)
       ∙ idle-is passes begun quiet (machine_at m steps) (board_after (16 * suc steps) m.board) (still-idle steps same)
+      (omega (arith, off-at steps, clock-at steps, on))
       (let due = ap due_of (keys-at steps) in omega (arith, due, early, below, clock-at steps))
       (let ends = ap next_end (serial-at steps) in omega (arith, ends, before, below, clock-at steps))
       (next-board steps)

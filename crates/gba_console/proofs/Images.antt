@@ -208,7 +208,7 @@ either-memory : (test : Bool) (m : Memories) (one other : Core) → one.memory �
 either-memory true m one other here there = here
 either-memory false m one other here there = there
 
-keyed-memory : (clock : ℕ) (changes : List KeyState) (b : Core) → (after_keys clock changes b).memory ≡ b.memory
+pub keyed-memory : (clock : ℕ) (changes : List KeyState) (b : Core) → (after_keys clock changes b).memory ≡ b.memory
 unfolding after_keys
 keyed-memory clock [] b = refl
 keyed-memory clock (change ∷ changes) b =

@@ -1,6 +1,6 @@
 -- What a console records in a step, and consoles at reset on a cable.
-use Rattle.std.proofs.Common.{ℕ, ◌≡◌, List, [], ◌∷◌, ◌++◌, length, Option, None, Some, refl, ap, sym, ◌+◌, ◌∙◌, get_or}
-use Rattle.std.specs.Prelude.{All, option_to_list, slice_get}
+use Rattle.std.proofs.Common.{ℕ, ◌≡◌, Bool, true, false, if◌then◌else◌, List, [], ◌∷◌, ◌++◌, length, Option, None, Some, refl, ap, sym, ◌+◌, ◌∙◌, get_or}
+use Rattle.std.specs.Prelude.{All, not, option_to_list, slice_get}
 use Rattle.std.proofs.lemmas.Option.{slice_get-get_or}
 use Rattle.gba_agreement.specs.UnitView.{IsSeat}
 use Rattle.gba_io.specs.Board.{BoardPasses}
@@ -11,6 +11,7 @@ use Rattle.gba_serial.specs.SerialUnit.{SerialUnit}
 use Rattle.gba_serial.specs.End.{ended, ending}
 use Rattle.gba_serial.specs.Take.{taken}
 use Rattle.gba_serial.specs.Steps.{ends, fed, fed_ends}
+use Rattle.gba_serial.specs.Tell.{silent}
 use Rattle.gba_serial.specs.declared.transfer.Transfer.{Transfer}
 use Rattle.link_node.specs.declared.signal.Incoming.{Incoming}
 use Rattle.link_node.specs.declared.delays.Delays.{Delays}
@@ -19,8 +20,8 @@ use Rattle.link_order.specs.Cut.{IsFresh, opening}
 use Rattle.link_order.proofs.Starts.{in_time_start, sound_start}
 use Rattle.gba_console.specs.Alone.{console_kind}
 use Rattle.gba_console.specs.Linked.{IsAtReset, RecordsEnds, StartsLinked, all_ended, console_view}
-use Rattle.gba_console.specs.Machine.{Machine, clock_of}
-use Rattle.gba_console.specs.Step.{all_taken, board_begun, done_in, heard, stepped}
+use Rattle.gba_console.specs.Machine.{Machine, clock_of, is_off}
+use Rattle.gba_console.specs.Step.{all_taken, board_begun, done_in, heard, stepped, stepped_off, stepped_on}
 use Rattle.gba_console.proofs.Touching.{taken-serial}
 
 -- one transfer more, or none
@@ -50,11 +51,20 @@ heard-ended clock dues b =
     ∙ ap (with_transfer (ending clock u)) (taken-ended dues b)
     ∙ sym (ended-last (ending clock u) (fed_ends dues b.core.serial) b.ended)
 
+either-ended : (test : Bool) (one other : Machine) (transfers : List Transfer) (e : Ended) → one.board.ended ≡ e
+    → other.board.ended ≡ all_ended transfers e
+    → (if test then one else other).board.ended ≡ all_ended (if not test then transfers else []) e
+either-ended true one other transfers e here there = here
+either-ended false one other transfers e here there = there
+
 pub records-ends : ((count : ℕ) (b : Board) → BoardPasses count b) → RecordsEnds
-unfolding stepped
+unfolding stepped stepped_on stepped_off
 records-ends cycles dues m =
     let done = done_in dues m in
-    (cycles done.cycles (record (heard dues m) { core = done.bus })).ended ∙ heard-ended (clock_of m) dues (board_begun m.board)
+    either-ended (is_off m) (stepped_off dues m) (stepped_on dues m) (ends (clock_of m) dues (silent m.board.core.serial))
+    m.board.ended refl
+    ((cycles done.cycles (record (heard dues m) { core = done.bus })).ended
+    ∙ heard-ended (clock_of m) dues (board_begun m.board))
 
 -- consoles at reset
 fresh : (player count round : ℕ) (m : Machine) → IsAtReset player count round m → IsFresh console_kind m

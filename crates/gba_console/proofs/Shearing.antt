@@ -5,17 +5,17 @@ use Rattle.link_node.specs.declared.signal.Incoming.{Incoming}
 use Rattle.gba_console.specs.Alone.{console_kind}
 use Rattle.gba_console.specs.Machine.{Machine, clock_of, forgotten, without_limit}
 use Rattle.gba_console.specs.Shorn.{rested, shorn}
-use Rattle.gba_console.specs.Step.{stepped, told}
+use Rattle.gba_console.specs.Step.{stepped, stepped_off, stepped_on, told, told_on}
 use Rattle.gba_console.proofs.Behind.{behind-forgotten, stepped-in-front, told-in-front}
 use Rattle.gba_console.proofs.Unlimited.{stepped-unlimited, told-unlimited}
 
 -- what a step resets at its start
 stepped-rested : (dues : List Incoming) (m : Machine) → stepped dues (rested m) ≡ stepped dues m
-unfolding stepped
+unfolding stepped stepped_off stepped_on
 stepped-rested dues m = refl
 
 told-rested : (dues : List Incoming) (m : Machine) → told dues (rested m) ≡ told dues m
-unfolding told
+unfolding told told_on
 told-rested dues m = refl
 
 -- the lists, what was in them put in front again

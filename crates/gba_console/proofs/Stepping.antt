@@ -14,7 +14,7 @@ use Rattle.link_node.specs.declared.signal.Signal.{Signal}
 use Rattle.gba_console.specs.Keys.{after_keys, keys_left}
 use Rattle.gba_console.specs.Machine.{Machine, clock_of}
 use Rattle.gba_console.specs.Passing.{ActsPass, KeepsCourse}
-use Rattle.gba_console.specs.Step.{acted, all_taken, board_begun, done_in, heard, prepared, stepped, told}
+use Rattle.gba_console.specs.Step.{acted, all_taken, board_begun, done_in, heard, prepared, stepped_on, told_on}
 use Rattle.gba_console.specs.Waiting.{IsSound}
 use Rattle.gba_console.specs.declared.keys.KeyState.{KeyState}
 use Rattle.gba_console.specs.StepLaws.{keys-clock, keys-place, keys-serial}
@@ -50,8 +50,8 @@ acts-is m dues keyed file core cycles same leaves =
 pub step-is-made : (m : Machine) (dues : List Incoming) (b after : Board) (file : List ℕ) (core : Core) (cycles was : ℕ)
     (keys : List KeyState) → b ≡ heard dues m → Leaves (done_in dues m) file core cycles
     → after ≡ board_after cycles (record b { core = core }) → keys ≡ keys_left (clock_of m) m.keys → was ≡ clock_of m
-    → (record m { registers = file; board = after; keys = keys; was = was }) ≡ stepped dues m
-unfolding stepped
+    → (record m { registers = file; board = after; keys = keys; was = was }) ≡ stepped_on dues m
+unfolding stepped_on
 step-is-made m dues b after file core cycles was keys here leaves moved left same =
     let registers = leaves.registers_left in
     let bus = leaves.bus_left in
@@ -59,8 +59,8 @@ step-is-made m dues b after file core cycles was keys here leaves moved left sam
     rw (moved, here, registers, bus, taken, left, same) refl
 
 pub told-is : ActsPass → (m : Machine) (dues : List Incoming) (file : List ℕ) (core : Core) (cycles : ℕ) (signal : Option Signal)
-    → Leaves (done_in dues m) file core cycles → signal ≡ outgoing core.devices.clock core.serial → signal ≡ told dues m
-unfolding told
+    → Leaves (done_in dues m) file core cycles → signal ≡ outgoing core.devices.clock core.serial → signal ≡ told_on dues m
+unfolding told_on
 told-is acts m dues file core cycles signal leaves e =
     let done = done_in dues m in
     let act = acts.all m.registers (prepared dues m) in

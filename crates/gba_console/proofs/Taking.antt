@@ -8,7 +8,8 @@ use Rattle.gba_io.specs.Cable.{EndsFit, EndsStayFit, board_taken}
 use Rattle.gba_io.specs.declared.board.Board.{Board}
 use Rattle.link_node.specs.Due.{InOrder, IsDue, Precedes}
 use Rattle.link_node.specs.declared.signal.Incoming.{Incoming}
-use Rattle.gba_console.specs.Step.{all_taken}
+use Rattle.gba_io.specs.Core.{Core, core_learned}
+use Rattle.gba_console.specs.Step.{all_learned, all_taken}
 use Rattle.gba_console.specs.Waiting.{CanTakeAll}
 
 all-head : (P : Incoming → Type 0) (x : Incoming) (xs : List Incoming) → All P (x ∷ xs) → P x
@@ -78,3 +79,12 @@ taken-at dues place b inside = sym (ap (λ (list : List Incoming). all_taken lis
 
 pub taken-all : (dues : List Incoming) (place : ℕ) (b : Board) → length dues ≤ place → b ≡ all_taken (drop place dues) b
 taken-all dues place b past = sym (ap (λ (list : List Incoming). all_taken list b) (drop_of_length-le dues past))
+
+-- The same of a console that is off.
+pub learned-at : (dues : List Incoming) (place : ℕ) (b : Core) → place < length dues
+    → all_learned (drop (place + 1) dues) (core_learned (due_at dues place) b) ≡ all_learned (drop place dues) b
+learned-at dues place b inside = sym (ap (λ (list : List Incoming). all_learned list b) (from dues place inside))
+
+pub learned-all : (dues : List Incoming) (place : ℕ) (b : Core) → length dues ≤ place → b ≡ all_learned (drop place dues) b
+learned-all dues place b past =
+    sym (ap (λ (list : List Incoming). all_learned list b) (drop_of_length-le dues past))

@@ -1,5 +1,5 @@
 -- What a step does to the serial unit: it hears what is due, is written some times, and tells.
-use Rattle.std.proofs.Common.{ℕ, ◌≡◌, ◌-◌, ◌+◌, ◌*◌, ◌%◌, ◌^◌, Bool, true, false, List, [], ◌∷◌, Option, None, Some, refl, ap, sym, subst, ◌∙◌, if◌then◌else◌}
+use Rattle.std.proofs.Common.{ℕ, ◌≡◌, ◌<◌, ◌≤◌, ◌-◌, ◌+◌, ◌*◌, ◌%◌, ◌^◌, Bool, true, false, List, [], ◌∷◌, Option, None, Some, refl, ap, sym, subst, ◌∙◌, arith, if◌then◌else◌}
 use Rattle.std.specs.Prelude.{◌==◌}
 use Rattle.gba_terms.specs.Bits.{field}
 use Rattle.gba_bus.specs.Regions.{region_of}
@@ -28,12 +28,14 @@ use Rattle.gba_serial.specs.End.{ended}
 use Rattle.gba_serial.specs.Write.{written}
 use Rattle.gba_serial.specs.Steps.{HalfwordWrite, all_written, fed, hear}
 use Rattle.link_node.specs.declared.signal.Incoming.{Incoming}
-use Rattle.gba_agreement.specs.UnitView.{HasUnit, Touches}
+use Rattle.gba_agreement.specs.UnitView.{HasUnit, Rests, Touches}
 use Rattle.gba_console.specs.Alone.{console_kind}
 use Rattle.gba_console.specs.Linked.{console_view}
 use Rattle.gba_console.specs.Machine.{Machine, clock_of}
-use Rattle.gba_console.specs.Step.{acted, acted_for, all_taken, awake_done, board_begun, done_in, enters, entry_done, half_done, heard, idle_done, idles, in_thumb, instruction_done, prepared, stepped, told, word_done}
-use Rattle.gba_console.specs.StepLaws.{keys-serial, prepared-clock}
+use Rattle.gba_console.specs.Run.{StepPasses}
+use Rattle.gba_console.specs.Step.{acted, acted_for, all_taken, awake_done, board_begun, done_in, enters, entry_done, half_done, heard, idle_done, idles, in_thumb, instruction_done, prepared, stepped, stepped_off, stepped_on, told_on, word_done}
+use Rattle.gba_console.specs.StepLaws.{keys-serial, known_after, off-serial, prepared-clock}
+use Rattle.gba_console.proofs.On.{off-by, on-by, stepped-is-off, stepped-is-on, still-on, told-is-off, told-is-on}
 
 -- a core with this clock, whose serial unit is u after some writes at that clock
 record IsWritten (clock : ℕ) (u : SerialUnit) (c : Core) : Type 0 where
@@ -180,26 +182,40 @@ prepared-is dues m = record {
   serial_is = keys-serial (clock_of m) m.keys (heard dues m).core ∙ heard-serial dues m;
 }
 
-touches : ((count : ℕ) (b : Board) → BoardPasses count b) → (m : Machine) (dues : List Incoming)
-    → Touches console_kind console_view m dues
-unfolding stepped told
-touches cycles m dues =
-    let u = hear (clock_of m) dues (silent m.board.core.serial) in
-    let done = done_in dues m in
-    let is : IsWritten (clock_of m) u done.bus = after-acted (clock_of m) u m.registers (prepared dues m) (prepared-is dues m) in
-    let moved = cycles done.cycles (record (heard dues m) { core = done.bus }) in
-    record {
-      writes = is.writes;
-      after = done.bus.serial;
-      after_is = is.serial_is;
-      unit_is = ap silent moved.serial;
-      told_is = refl;
-      stays = refl;
-    }
+module _ (cycles : (count : ℕ) (b : Board) → BoardPasses count b)
+    (steps : (dues : List Incoming) (m : Machine) → StepPasses dues m) where
+  touches : (m : Machine) (dues : List Incoming) → m.off ≤ clock_of m → Touches console_kind console_view m dues
+  unfolding stepped_on told_on
+  touches m dues on =
+      let u = hear (clock_of m) dues (silent m.board.core.serial) in
+      let done = done_in dues m in
+      let is : IsWritten (clock_of m) u done.bus
+      = after-acted (clock_of m) u m.registers (prepared dues m) (prepared-is dues m) in
+      let moved = cycles done.cycles (record (heard dues m) { core = done.bus }) in
+      let step = steps dues m in
+      record {
+        writes = is.writes;
+        after = done.bus.serial;
+        after_is = is.serial_is;
+        unit_is =
+            ap (λ (n : Machine). silent n.board.core.serial) (stepped-is-on dues m on) ∙ ap silent moved.serial;
+        told_is = told-is-on dues m on;
+        stays =
+            still-on (stepped dues m).off (clock_of (stepped dues m)) (omega (arith, on, step.raised, step.off));
+      }
 
-pub has-unit : ((count : ℕ) (b : Board) → BoardPasses count b) → HasUnit console_kind console_view
-has-unit cycles = record {
-  quiet = λ m. refl;
-  touches = λ m dues on. touches cycles m dues;
-  rests = λ m dues off. let never : true ≡ false = off in cc;
-}
+  resting : (m : Machine) (dues : List Incoming) → clock_of m < m.off → Rests console_kind console_view m dues
+  unfolding stepped_off
+  resting m dues off = record {
+    known = known_after dues (silent m.board.core.serial);
+    unit_is =
+        ap (λ (n : Machine). silent n.board.core.serial) (stepped-is-off dues m off) ∙ ap silent (off-serial dues m);
+    told_is = told-is-off dues m off;
+  }
+
+  pub has-unit : HasUnit console_kind console_view
+  has-unit = record {
+    quiet = λ m. refl;
+    touches = λ m dues on. touches m dues (on-by m.off (clock_of m) on);
+    rests = λ m dues off. resting m dues (off-by m.off (clock_of m) off);
+  }

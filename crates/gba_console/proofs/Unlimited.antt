@@ -11,9 +11,11 @@ use Rattle.gba_io.specs.Core.{Core}
 use Rattle.gba_io.specs.declared.board.Board.{Board}
 use Rattle.gba_serial.specs.Tell.{outgoing}
 use Rattle.link_node.specs.declared.signal.Incoming.{Incoming}
+use Rattle.link_node.specs.declared.signal.Signal.{Signal}
 use Rattle.gba_console.specs.Keys.{after_keys}
-use Rattle.gba_console.specs.Machine.{Machine, board_without_limit, clock_of, without_limit}
-use Rattle.gba_console.specs.Step.{acted, all_taken, board_begun, done_in, heard, moved, stepped, told}
+use Rattle.gba_console.specs.Machine.{Machine, board_without_limit, clock_of, is_off, without_limit}
+use Rattle.gba_console.specs.Step.{acted, all_taken, board_begun, done_in, heard, moved, stepped, stepped_off, stepped_on, told, told_on}
+use Rattle.gba_console.proofs.On.{both}
 
 cycle-unlimited : (b : Board) → board_cycle (board_without_limit b) ≡ board_without_limit (board_cycle b)
 unfolding board_cycle
@@ -56,9 +58,9 @@ done-unlimited : (dues : List Incoming) (m : Machine) → done_in dues (without_
 done-unlimited dues m =
     ap (λ (b : Board). acted m.registers (after_keys (clock_of m) m.keys b.core)) (heard-unlimited dues m)
 
-pub stepped-unlimited : (dues : List Incoming) (m : Machine) → stepped dues (without_limit m) ≡ without_limit (stepped dues m)
-unfolding stepped
-stepped-unlimited dues m =
+on-unlimited : (dues : List Incoming) (m : Machine) → stepped_on dues (without_limit m) ≡ without_limit (stepped_on dues m)
+unfolding stepped_on
+on-unlimited dues m =
     let plain = without_limit m in
     let done = done_in dues m in
     ap (λ (b : Board). moved b plain (done_in dues plain)) (heard-unlimited dues m)
@@ -66,6 +68,23 @@ stepped-unlimited dues m =
     ∙ ap (λ (b : Board). record (moved (heard dues m) m done) { board = b })
     (after-unlimited done.cycles (record (heard dues m) { core = done.bus }))
 
+off-unlimited : (dues : List Incoming) (m : Machine) → stepped_off dues (without_limit m) ≡ without_limit (stepped_off dues m)
+unfolding stepped_off
+off-unlimited dues m = refl
+
+told-on-unlimited : (dues : List Incoming) (m : Machine) → told_on dues (without_limit m) ≡ told_on dues m
+unfolding told_on
+told-on-unlimited dues m = ap (λ (done : Done Core). outgoing (clock_of m) done.bus.serial) (done-unlimited dues m)
+
+pub stepped-unlimited : (dues : List Incoming) (m : Machine) → stepped dues (without_limit m) ≡ without_limit (stepped dues m)
+unfolding stepped
+stepped-unlimited dues m =
+    let plain = without_limit m in
+    both without_limit (is_off m) (stepped_off dues m) (stepped_on dues m) (stepped_off dues plain) (stepped_on dues plain)
+    (off-unlimited dues m) (on-unlimited dues m)
+
 pub told-unlimited : (dues : List Incoming) (m : Machine) → told dues (without_limit m) ≡ told dues m
 unfolding told
-told-unlimited dues m = ap (λ (done : Done Core). outgoing (clock_of m) done.bus.serial) (done-unlimited dues m)
+told-unlimited dues m =
+    both (λ (o : Option Signal). o) (is_off m) None (told_on dues m) None (told_on dues (without_limit m)) refl
+    (told-on-unlimited dues m)

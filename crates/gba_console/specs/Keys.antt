@@ -1,4 +1,4 @@
-use Rattle.std.specs.Prelude.{ℕ, ◌-◌, ◌^◌, List, [], ◌∷◌, nat_le, if◌then◌else◌}
+use Rattle.std.specs.Prelude.{ℕ, ◌-◌, ◌^◌, List, [], ◌∷◌, nat_le, nat_lt, if◌then◌else◌}
 use Rattle.gba_io.specs.Core.{Core, core_keyed}
 use Rattle.gba_console.specs.declared.keys.KeyState.{KeyState}
 
@@ -22,3 +22,7 @@ keys_left clock (change ∷ changes) =
 abbrev pub due_of : List KeyState → ℕ
 due_of [] = 2 ^ 64 - 1
 due_of (change ∷ changes) = change.clock
+
+-- The same for a console that is off below a clock: there the next change is due at once. Only private functions cite this.
+abbrev pub next_due : ℕ → ℕ → List KeyState → ℕ
+next_due off clock changes = if nat_lt clock off then 0 else due_of changes

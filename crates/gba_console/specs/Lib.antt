@@ -1,4 +1,5 @@
 pub mod Alone
+pub mod Counted
 pub mod Fixed
 pub mod Keys
 pub mod Linked

@@ -1,4 +1,4 @@
-use Rattle.std.specs.Prelude.{ℕ, ◌≡◌, ◌+◌, true, List, [], ◌∷◌, length, Option, Some, slice_get}
+use Rattle.std.specs.Prelude.{ℕ, ◌≡◌, ◌+◌, not, List, [], ◌∷◌, length, Option, Some, slice_get}
 use Rattle.gba_agreement.specs.Agreement.{AreLinked}
 use Rattle.gba_agreement.specs.UnitView.{UnitView, ends_in}
 use Rattle.gba_io.specs.Ended.{Ended, with_transfer}
@@ -10,14 +10,14 @@ use Rattle.link_node.specs.declared.delays.Delays.{Delays}
 use Rattle.link_node.specs.Delays.{hop_of}
 use Rattle.link_order.specs.Cut.{IsCable, opening}
 use Rattle.gba_console.specs.Alone.{console_kind}
-use Rattle.gba_console.specs.Machine.{Machine, reset, without_limit}
+use Rattle.gba_console.specs.Machine.{Machine, is_off, reset, without_limit}
 use Rattle.gba_console.specs.Step.{stepped}
 use Rattle.gba_console.specs.declared.keys.KeyState.{KeyState}
 
 -- A console as the laws on transfers see it: its serial unit, which has nothing to tell between two steps, since the next
--- one begins with that. Every console is on.
+-- one begins with that.
 abbrev pub console_view : UnitView Machine
-console_view = record { unit = λ m. silent m.board.core.serial; is_on = λ m. true }
+console_view = record { unit = λ m. silent m.board.core.serial; is_on = λ m. not (is_off m) }
 
 -- What the laws call recorded is what a console counts, and keeps where its transfers are asked for: those that end in a
 -- step, one after another.
@@ -32,12 +32,13 @@ RecordsEnds =
 
 -- a console at reset in its place on a cable with this way from player 0 to player 1 and back, whatever its limit
 pub record IsAtReset (player count round : ℕ) (m : Machine) : Type 0 where
+  pub off : ℕ
   pub bios : List ℕ
   pub cart : Option (List ℕ)
   pub save : Option (List ℕ)
   pub keys : List KeyState
   pub room : Room
-  pub is : without_limit m ≡ without_limit (reset player count round bios cart save keys room)
+  pub is : without_limit m ≡ without_limit (reset player count round off bios cart save keys room)
 
 -- Consoles at reset, with nothing sent, are a cut from which the laws speak.
 abbrev pub StartsLinked : Type 0

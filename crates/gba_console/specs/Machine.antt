@@ -1,22 +1,27 @@
-use Rattle.std.specs.Prelude.{ℕ, List, Option}
+use Rattle.std.specs.Prelude.{ℕ, ◌+◌, ◌*◌, ◌/◌, Bool, List, Option, nat_lt}
 use Rattle.gba_psr.specs.RegisterFile.{reset_file}
 use Rattle.gba_io.specs.Base.{at_reset}
-use Rattle.gba_io.specs.Board.{board_at_start, board_emptied, board_from}
+use Rattle.gba_io.specs.Board.{board_at_start, board_begun_at, board_emptied, board_from}
 use Rattle.gba_io.specs.declared.board.Board.{Board}
 use Rattle.gba_io.specs.declared.made.Room.{Room}
 use Rattle.gba_console.specs.declared.keys.KeyState.{KeyState}
 
 -- a console: its 37 registers in the order of the register names, its board, the key changes that aren't applied yet, in
--- their order, and the clock at which the last step began, 0 before the first
+-- their order, the clock below which it is off, and the clock at which the last step began, 0 before the first
 pub record Machine : Type 0 where
   pub registers : List ℕ
   pub board : Board
   pub keys : List KeyState
+  pub off : ℕ
   pub was : ℕ
 
 -- its clock in cycles since reset
 abbrev pub clock_of : Machine → ℕ
 clock_of m = m.board.core.devices.clock
+
+-- whether it is off: below a clock, from which on it is on
+abbrev pub is_off : Machine → Bool
+is_off m = nat_lt (clock_of m) m.off
 
 -- The clock from which on no step begins, and the console but for it and for where its lists begin: no step depends on
 -- either.
@@ -29,13 +34,19 @@ board_without_limit b = board_from at_reset 0 b
 abbrev pub without_limit : Machine → Machine
 without_limit m = record m { board = board_without_limit m.board }
 
--- a console at reset, from its player number, the number of consoles, the way from player 0 to player 1 and back, a BIOS, a cartridge, a
--- save, the changes of its keys and what is to be kept of what it makes
-abbrev pub reset : ℕ → ℕ → ℕ → List ℕ → Option (List ℕ) → Option (List ℕ) → List KeyState → Room → Machine
-reset player count round bios cart save keys room = record {
+-- The clock of the first step of a console that is off below a clock: until then its clock rises by 16 cycles at a time.
+abbrev pub first_on : ℕ → ℕ
+first_on off = (off + 15) / 16 * 16
+
+-- a console at reset, from its player number, the number of consoles, the way from player 0 to player 1 and back, the clock below which it
+-- is off, a BIOS, a cartridge, a save, the changes of its keys and what is to be kept of what it makes, which begins with
+-- its first step
+abbrev pub reset : ℕ → ℕ → ℕ → ℕ → List ℕ → Option (List ℕ) → Option (List ℕ) → List KeyState → Room → Machine
+reset player count round off bios cart save keys room = record {
   registers = reset_file;
-  board = board_at_start player count round bios cart save room;
+  board = board_begun_at (first_on off) room.until (board_at_start player count round bios cart save room);
   keys = keys;
+  off = off;
   was = 0;
 }
 

@@ -6,14 +6,19 @@ use Rattle.link_node.specs.declared.signal.Signal.{Signal}
 use Rattle.gba_console.specs.Machine.{Machine, clock_of}
 use Rattle.gba_console.specs.Step.{next, node_next, stepped, told}
 
--- Each step raises the clock by 1 to 512 cycles, whatever the console's numbers are and whatever it takes, keeps its own
--- start, and leaves the end of its room. What it tells can be read from the serial unit after it.
-pub record StepPasses (dues : List Incoming) (m : Machine) : Type 0 where
-  pub raised : clock_of m < clock_of (stepped dues m)
-  pub short : clock_of (stepped dues m) ≤ clock_of m + 512
-  pub was : (stepped dues m).was ≡ clock_of m
-  pub until : (stepped dues m).board.made.until ≡ m.board.made.until
-  pub tells : told dues m ≡ outgoing (clock_of m) (stepped dues m).board.core.serial
+-- A console has come to another one by a step, which raised the clock by 1 to 512 cycles, keeps its own start, and leaves
+-- the end of the room and the clock below which the console is off. What it told can be read from the serial unit after it.
+pub record Follows (m after : Machine) (signal : Option Signal) : Type 0 where
+  pub raised : clock_of m < clock_of after
+  pub short : clock_of after ≤ clock_of m + 512
+  pub was : after.was ≡ clock_of m
+  pub until : after.board.made.until ≡ m.board.made.until
+  pub off : after.off ≡ m.off
+  pub tells : signal ≡ outgoing (clock_of m) after.board.core.serial
+
+-- Each step does so, whatever the console's numbers are and whatever it takes.
+abbrev pub StepPasses : List Incoming → Machine → Type 0
+StepPasses dues m = Follows m (stepped dues m) (told dues m)
 
 -- what the last step told, which the serial unit keeps up to the next one
 abbrev pub news : Machine → Option Signal

@@ -17,14 +17,14 @@ use Rattle.gba_devices.specs.State.{asks_entry}
 use Rattle.gba_io.specs.Board.{board_after}
 use Rattle.gba_io.specs.Cable.{board_ended, board_taken}
 use Rattle.gba_io.specs.declared.board.Board.{Board}
-use Rattle.gba_io.specs.Core.{Core, core_begun, core_woken}
+use Rattle.gba_io.specs.Core.{Core, core_begun, core_learned, core_rested, core_woken}
 use Rattle.gba_io.specs.Bus.{core_load, core_price, core_read, core_store}
 use Rattle.gba_io.specs.Units.{core_after_unit, unit_cycles}
 use Rattle.gba_serial.specs.Tell.{outgoing}
 use Rattle.link_node.specs.declared.signal.Incoming.{Incoming}
 use Rattle.link_node.specs.declared.signal.Signal.{Signal}
 use Rattle.gba_console.specs.Keys.{after_keys, keys_left}
-use Rattle.gba_console.specs.Machine.{Machine, clock_of}
+use Rattle.gba_console.specs.Machine.{Machine, clock_of, is_off}
 
 -- what the instruction at r15 is read as: a word, or a halfword
 abbrev pub instruction : Width → List ℕ → Core → ℕ
@@ -119,19 +119,44 @@ done_in dues m = acted m.registers (prepared dues m)
 
 -- a console after what a step did: the devices move by its cycles, and make what they make
 abbrev pub moved : Board → Machine → Done Core → Machine
-moved b m done = record {
+moved b m done = record m {
   registers = done.registers;
   board = board_after done.cycles (record b { core = done.bus });
   keys = keys_left (clock_of m) m.keys;
   was = clock_of m;
 }
 
--- A step that takes these signals, and what it tells: that is known before the devices move.
+-- A step of a console that is on, which takes these signals, and what it tells: that is known before the devices move.
+unfoldable pub stepped_on : List Incoming → Machine → Machine
+stepped_on dues m = moved (heard dues m) m (done_in dues m)
+
+unfoldable pub told_on : List Incoming → Machine → Option Signal
+told_on dues m = outgoing (clock_of m) (done_in dues m).bus.serial
+
+-- the core of a console that is off once it has learned what it can of the signals that are due, one after another, and the
+-- keys that are due changed
+abbrev pub all_learned : List Incoming → Core → Core
+all_learned [] b = b
+all_learned (due ∷ dues) b = all_learned dues (core_learned due b)
+
+abbrev pub prepared_off : List Incoming → Machine → Core
+prepared_off dues m = after_keys (clock_of m) m.keys (all_learned dues (core_begun m.board.core))
+
+-- A step of a console that is off: the modes of due peers are known and the keys that are due change, and then 16 cycles
+-- pass in which no device moves.
+unfoldable pub stepped_off : List Incoming → Machine → Machine
+stepped_off dues m = record m {
+  board = record m.board { core = core_rested 16 (prepared_off dues m) };
+  keys = keys_left (clock_of m) m.keys;
+  was = clock_of m;
+}
+
+-- A step of either, and what it tells: a console that is off tells nothing.
 unfoldable pub stepped : List Incoming → Machine → Machine
-stepped dues m = moved (heard dues m) m (done_in dues m)
+stepped dues m = if is_off m then stepped_off dues m else stepped_on dues m
 
 unfoldable pub told : List Incoming → Machine → Option Signal
-told dues m = outgoing (clock_of m) (done_in dues m).bus.serial
+told dues m = if is_off m then None else told_on dues m
 
 -- a step with nothing due
 abbrev pub next : Machine → Machine

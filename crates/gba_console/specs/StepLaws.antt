@@ -4,12 +4,12 @@ use Rattle.std.proofs.lemmas.Bool.Decides.{nat_tests}
 use Rattle.gba_bus.specs.declared.width.Width.TheVariants.{Half, Word}
 use Rattle.gba_dma.specs.Channels.{next_unit}
 use Rattle.gba_dma.specs.declared.unit.Unit.{Unit as DmaUnit}
-use Rattle.gba_devices.specs.State.{after_dma_unit}
+use Rattle.gba_devices.specs.State.{Devices, after_dma_unit}
 use Rattle.gba_exec_registers.specs.Access.{code_width}
 use Rattle.gba_exec_transfers.specs.Done.{Done, IsStepLength}
 use Rattle.gba_exec_transfers.specs.Keeping.{LoadsKeep, Passing, StoresKeep}
 use Rattle.gba_io.specs.Board.{BoardPasses}
-use Rattle.gba_io.specs.Core.{Core, core_keyed, core_woken}
+use Rattle.gba_io.specs.Core.{Core, core_begun, core_keyed, core_learned, core_woken}
 use Rattle.gba_io.specs.Units.{core_after_unit, start_cycles, unit_ended, unit_stored, unit_value}
 use Rattle.gba_io.specs.declared.board.Board.{Board}
 use Rattle.gba_io.specs.Bus.{core_load, core_store, core_written}
@@ -19,13 +19,16 @@ use Rattle.gba_io.specs.Keeping.{IsSameTime, WritesKeepTime}
 use Rattle.gba_ppu_reg.specs.declared.position.Position.{Position}
 use Rattle.gba_io.specs.Made.{Made}
 use Rattle.gba_serial.specs.Apart.{next_end}
-use Rattle.gba_serial.specs.SerialUnit.{SerialUnit}
-use Rattle.gba_serial.specs.Tell.{outgoing}
+use Rattle.gba_serial.specs.SerialUnit.{SerialUnit, is_peer}
+use Rattle.gba_serial.specs.Take.{learned, with_known}
+use Rattle.gba_serial.specs.Tell.{outgoing, silent}
+use Rattle.link_node.specs.declared.signal.LinkMode.{LinkMode}
+use Rattle.link_node.specs.declared.signal.Signal.{Signal}
 use Rattle.link_node.specs.declared.signal.Incoming.{Incoming}
-use Rattle.gba_console.specs.Machine.{Machine, clock_of}
+use Rattle.gba_console.specs.Machine.{Machine, clock_of, is_off}
 use Rattle.gba_console.specs.Passing.{ActsPass, KeepsCourse, Passes}
-use Rattle.gba_console.specs.Run.{StepPasses}
-use Rattle.gba_console.specs.Step.{acted, acted_for, all_taken, awake_done, board_begun, done_in, enters, entry_done, execution_of_half, execution_of_word, half_done, heard, idle_done, idles, in_thumb, instruction, instruction_done, next_site, prepared, stepped, told, undisturbed_done, unit_done, word_done}
+use Rattle.gba_console.specs.Run.{Follows, StepPasses}
+use Rattle.gba_console.specs.Step.{acted, acted_for, all_learned, all_taken, awake_done, board_begun, done_in, enters, entry_done, execution_of_half, execution_of_word, half_done, heard, idle_done, idles, in_thumb, instruction, instruction_done, next_site, prepared, prepared_off, stepped, stepped_off, stepped_on, told, told_on, undisturbed_done, unit_done, word_done}
 use Rattle.gba_console.specs.Keys.{after_keys}
 use Rattle.gba_console.specs.declared.keys.KeyState.{KeyState}
 use Rattle.gba_devices.specs.Registers.{keyed}
@@ -363,18 +366,75 @@ taken-until (due ∷ dues) b = taken-until dues (board_taken due b)
 pub prepared-clock : (dues : List Incoming) (m : Machine) → (prepared dues m).devices.clock ≡ clock_of m
 prepared-clock dues m = keys-clock (clock_of m) m.keys (heard dues m).core ∙ taken-clock dues (board_begun m.board)
 
-pub steps-pass : ActsPass → ((count : ℕ) (b : Board) → BoardPasses count b) → (dues : List Incoming) (m : Machine)
-    → StepPasses dues m
-unfolding stepped told
-steps-pass acts cycles dues m =
+-- what a console that is off learns: modes of its peers
+pub known_after : List Incoming → SerialUnit → List LinkMode
+known_after [] u = u.known
+known_after (due ∷ dues) u = known_after dues (learned due u)
+
+either-known : (test : Bool) (due : Incoming) (u : SerialUnit)
+    → (if test then with_known due u else u) ≡ record u { known = (if test then with_known due u else u).known }
+either-known true due u = refl
+either-known false due u = refl
+
+pub learned-serial : (dues : List Incoming) (b : Core)
+    → (all_learned dues b).serial ≡ record b.serial { known = known_after dues b.serial }
+unfolding known_after
+learned-serial [] b = refl
+learned-serial (due ∷ dues) b =
+    learned-serial dues (core_learned due b)
+    ∙ ap (λ (u : SerialUnit). record u { known = known_after dues (learned due b.serial) })
+    (either-known (is_peer due.sender b.serial) due b.serial)
+
+pub learned-devices : (dues : List Incoming) (b : Core) → (all_learned dues b).devices ≡ b.devices
+learned-devices [] b = refl
+learned-devices (due ∷ dues) b = learned-devices dues (core_learned due b)
+
+pub off-time : (dues : List Incoming) (m : Machine) → IsSameTime m.board.core (prepared_off dues m)
+off-time dues m =
+    let learned = all_learned dues (core_begun m.board.core) in
+    let kept = keys-time (clock_of m) m.keys learned in
+    let same = learned-devices dues (core_begun m.board.core) in
+    record {
+      clock = kept.clock ∙ ap (λ (d : Devices). d.clock) same;
+      place = kept.place ∙ ap (λ (d : Devices). d.place) same;
+    }
+
+pub off-serial : (dues : List Incoming) (m : Machine) → (prepared_off dues m).serial
+    ≡ record (silent m.board.core.serial) { known = known_after dues (silent m.board.core.serial) }
+off-serial dues m =
+    keys-serial (clock_of m) m.keys (all_learned dues (core_begun m.board.core)) ∙ learned-serial dues (core_begun m.board.core)
+
+either-follows : (test : Bool) (m one other : Machine) (first second : Option Signal) → Follows m one first
+    → Follows m other second → Follows m (if test then one else other) (if test then first else second)
+either-follows true m one other first second here there = here
+either-follows false m one other first second here there = there
+
+pub steps-pass : ActsPass → ((clock : ℕ) (u : SerialUnit) → outgoing clock (silent u) ≡ None)
+    → ((count : ℕ) (b : Board) → BoardPasses count b) → (dues : List Incoming) (m : Machine) → StepPasses dues m
+unfolding stepped told stepped_on told_on stepped_off
+steps-pass acts silence cycles dues m =
     let done = done_in dues m in
     let act = acts.all m.registers (prepared dues m) in
     let start = prepared-clock dues m in
     let moved = cycles done.cycles (record (heard dues m) { core = done.bus }) in
-    record {
+    let rested = off-time dues m in
+    let unit = m.board.core.serial in
+    either-follows (is_off m) m (stepped_off dues m) (stepped_on dues m) None (told_on dues m)
+    (record {
+      raised = omega (arith, rested.clock);
+      short = omega (arith, rested.clock);
+      was = refl;
+      until = refl;
+      off = refl;
+      tells =
+          sym (ap (outgoing (clock_of m)) (off-serial dues m)
+          ∙ silence (clock_of m) (record unit { known = known_after dues (silent unit) }));
+    })
+    (record {
       raised = omega (arith, act.length.least, act.clock, start, moved.clock);
       short = omega (arith, act.length.most, act.clock, start, moved.clock);
       was = refl;
       until = moved.until ∙ ap (λ (made : Made). made.until) (taken-made dues (board_begun m.board));
+      off = refl;
       tells = ap (outgoing (clock_of m)) (sym moved.serial);
-    }
+    })

@@ -1,4 +1,6 @@
-use Rattle.std.specs.Prelude.{ℕ, ◌≡◌, ◌+◌, ◌^◌, ◌<◌, ◌≤◌, true, List, [], ◌∷◌}
+use Rattle.std.specs.Prelude.{ℕ, ◌≡◌, ◌+◌, ◌%◌, ◌^◌, ◌<◌, ◌≤◌, true, List, [], ◌∷◌}
+use Rattle.gba_devices.specs.State.{place_at_reset}
+use Rattle.gba_io.specs.Base.{at_reset, begun_at}
 use Rattle.gba_io.specs.Board.{IsInStep}
 use Rattle.gba_io.specs.Cable.{EndsFit, NextEndFits, board_taken}
 use Rattle.gba_io.specs.Core.{core_is_calm}
@@ -6,7 +8,7 @@ use Rattle.gba_io.specs.declared.board.Board.{Board}
 use Rattle.gba_serial.specs.Apart.{next_end}
 use Rattle.link_node.specs.declared.signal.Incoming.{Incoming}
 use Rattle.gba_console.specs.Keys.{due_of}
-use Rattle.gba_console.specs.Machine.{Machine, clock_of}
+use Rattle.gba_console.specs.Machine.{Machine, clock_of, first_on}
 
 -- what the taking of one signal needs: it was sent before it arrives, and there is room for a transfer that ends before it
 pub record CanTake (due : Incoming) (b : Board) : Type 0 where
@@ -20,7 +22,7 @@ abbrev pub CanTakeAll : List Incoming → Board → Type 0
 CanTakeAll [] b = Unit {0}
 CanTakeAll (due ∷ dues) b = CanTake due b × CanTakeAll dues (board_taken due b)
 
--- What holds of the board of each console between its steps, the last of which began at a clock and took at most 512
+-- What holds of the board of each console that is on between its steps, the last of which began at a clock and took at most 512
 -- cycles: what it made and its transfers are those of its clocks, and there is room for more.
 pub record IsSound (was : ℕ) (b : Board) : Type 0 where
   pub step : IsInStep b
@@ -30,8 +32,35 @@ pub record IsSound (was : ℕ) (b : Board) : Type 0 where
   pub few : b.made.until ≤ 2 ^ 39
   pub same : b.ended.until ≡ b.made.until
 
--- nothing asks for more than an instruction in the step that comes
+-- What holds of the board of a console that is off: nothing was made, no transfer has ended, and what it makes begins with
+-- its first step.
+pub record IsResting (off : ℕ) (b : Board) : Type 0 where
+  pub begins : b.made.base ≡ begun_at (first_on off) at_reset
+  pub ends : b.ended.base ≡ begun_at (first_on off) at_reset
+  pub place : b.core.devices.place ≡ place_at_reset
+  pub drawn : b.made.drawn ≡ []
+  pub frames : b.made.frames ≡ []
+  pub samples : b.made.samples ≡ []
+  pub words : b.ended.words ≡ []
+  pub frame_count : b.made.frame_count ≡ 0
+  pub pairs : b.made.pairs ≡ 0
+  pub count : b.ended.count ≡ 0
+  pub seat : 1 ≤ b.core.serial.count
+  pub turn : b.core.devices.clock % 16 ≡ 0
+
+-- what holds of either, where it is off below a clock
+pub record IsKept (off was : ℕ) (b : Board) : Type 0 where
+  pub most : off ≤ 2 ^ 39
+  pub on : off ≤ b.core.devices.clock → IsSound was b
+  pub rests : b.core.devices.clock < off → IsResting off b
+  pub short : b.core.devices.clock ≤ was + 512
+  pub clock : b.core.devices.clock ≤ b.made.until + 511
+  pub few : b.made.until ≤ 2 ^ 39
+  pub same : b.ended.until ≡ b.made.until
+
+-- The console is on, and nothing asks for more than an instruction in the step that comes.
 pub record IsPlain (m : Machine) : Type 0 where
+  pub on : m.off ≤ clock_of m
   pub calm : core_is_calm m.board.core ≡ true
   pub keys : clock_of m < due_of m.keys
   pub ends : clock_of m < next_end m.board.core.serial

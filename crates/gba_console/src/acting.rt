@@ -23,6 +23,9 @@ pub(crate) const DECODED: usize = 4096;
 /// How many cycles a halted console idles at a time.
 pub(crate) const IDLE_CYCLES: u32 = 16;
 
+/// How many cycles pass at a time of a console that is off.
+pub(crate) const OFF_CYCLES: u32 = 16;
+
 /// Where the table of words has the one at this address. Words 16 KiB apart share a place.
 fn place_of_word(address: u32) -> usize
     ensures { result < 4096 }

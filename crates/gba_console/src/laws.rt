@@ -5,6 +5,7 @@ ghost use Rattle.link_node.specs.declared.signal.Incoming.{Incoming};
 ghost use Rattle.gba_agreement.specs.Agreement.{AgreesMulti, AgreesNormal};
 ghost use Rattle.gba_agreement.specs.UnitView.{HasUnit};
 ghost use Rattle.gba_console.specs.Alone.{RunsAlone, console_kind};
+ghost use Rattle.gba_console.specs.Counted.{CountsAlways};
 ghost use Rattle.gba_console.specs.Linked.{RecordsEnds, StartsLinked, console_view};
 ghost use Rattle.gba_console.specs.Machine.{Machine, forgotten};
 ghost use Rattle.gba_console.specs.Passing.{ActsPass};
@@ -17,8 +18,10 @@ ghost use Rattle.link_order.specs.Cut.{Cut};
 use crate::Console;
 use gba_agreement::{multi as units_agree_in_multi, normal as units_agree_in_normal};
 use gba_arm_exec::laws::{cycles_of_a_word, words_keep};
+use gba_devices::laws::cycle_keeps;
 use gba_io::Core;
 use gba_io::laws::{board_passes, writes_keep_ends, writes_keep_time};
+use gba_serial::laws::tells_once;
 use gba_thumb_exec::laws::{cycles_of_a_halfword, halfwords_keep};
 use link_laws::split;
 use link_mapped::{alike, maps, parts};
@@ -37,11 +40,12 @@ pub(crate) fn acts_pass()
 }
 
 /// Each step raises the clock by 1 to 512 cycles, whatever the console's numbers are and whatever it takes, keeps its own
-/// start, and leaves the end of its room.
+/// start, and leaves the end of its room and the clock below which it is off.
 pub fn steps_pass()
     ensures { (dues : List Incoming) (m : Machine) → StepPasses dues m }
 {
     acts_pass();
+    tells_once();
     board_passes();
 }
 
@@ -66,12 +70,13 @@ pub fn runs_alone()
     enough();
 }
 
-/// Each step does to the serial unit what the laws on transfers ask of it: the unit hears what is due, is written some
-/// times, and tells.
+/// Each step does to the serial unit what the laws on transfers ask of it: where the console is on, the unit hears what is
+/// due, is written some times, and tells; where it is off, the unit learns modes of its peers and tells nothing.
 pub fn has_unit()
     ensures { HasUnit console_kind console_view }
 {
     board_passes();
+    steps_pass();
 }
 
 /// What the laws on transfers call recorded in a step is what the console counts, and keeps where it is asked for.
@@ -79,6 +84,17 @@ pub fn records_ends()
     ensures { RecordsEnds }
 {
     board_passes();
+}
+
+/// What a console keeps is what it counts: where whole frames are kept, 76,800 bytes for each, where pairs of samples are, 4 for
+/// each, and where transfers are, each of them. So it is at reset, and so it stays in each step; and no step changes what is
+/// kept.
+pub fn counts_what_it_keeps()
+    ensures { CountsAlways }
+{
+    acts_pass();
+    board_passes();
+    cycle_keeps();
 }
 
 /// Consoles at reset, each in its place on a cable and with nothing sent, are a cut from which the laws on transfers speak.

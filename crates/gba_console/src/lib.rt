@@ -1,9 +1,10 @@
 #![tactic(auto)]
 //! A console: registers, a board and changes of the keys, one step of it, and the console as a node of the cable.
 
-ghost use Rattle.std.specs.Prelude.{◌≡◌, ◌+◌, ◌<◌, All, IfOk, drop, length, vec_len, ℕ, List};
+ghost use Rattle.std.specs.Prelude.{◌≡◌, ◌+◌, ◌<◌, ◌≤◌, ◌^◌, All, IfOk, drop, length, vec_len, ℕ, List};
 ghost use Rattle.gba_console.specs.Fixed.{Stands};
-ghost use Rattle.gba_console.specs.Keys.{due_of};
+ghost use Rattle.gba_console.specs.Keys.{due_of, next_due};
+ghost use Rattle.gba_console.specs.Machine.{first_on};
 
 mod acting;
 mod fixed;
@@ -12,7 +13,7 @@ mod keys;
 pub mod laws;
 mod node;
 
-use acting::{DECODED, IDLE_CYCLES, act, execute};
+use acting::{DECODED, IDLE_CYCLES, OFF_CYCLES, act, execute};
 use fixed::{KeptHalf, first_kept};
 use gba_arm_exec::{Decoded as DecodedWord, decode_word};
 use gba_devices::laws::calm_has_begun;
@@ -23,7 +24,7 @@ use gba_psr::Registers;
 use gba_serial::Transfer;
 use gba_serial::laws::stays_quiet;
 use gba_terms::NoMemory;
-use hearing::take_all;
+use hearing::{learn_all, take_all};
 pub use keys::KeyState;
 use keys::apply;
 use laws::{acts_pass, enough, steps_pass};
@@ -59,15 +60,38 @@ fn due_after(changes: &[KeyState], applied: usize) -> u64
     }
 }
 
+/// The same at a clock of a console that is off below another one: 0 while it is off.
+fn due_at(off: u64, clock: u64, changes: &[KeyState], applied: usize) -> u64
+    ensures { result ≡ next_due off clock (drop applied changes.now) }
+{
+    if clock < off {
+        0
+    } else {
+        due_after(changes, applied)
+    }
+}
+
+/// The clock of the first step of a console that is off below a clock: until then its clock rises by 16 at a time.
+fn first_on(off: u64) -> u64
+    requires { off ≤ 2 ^ 39 }
+    ensures value { result ≡ first_on off }
+    ensures few { result ≤ 2 ^ 39 + 15 }
+{
+    (off + 15) / 16 * 16
+}
+
 /// A Game Boy Advance. Contracts see the record `Machine`.
 #[derive(Drop)]
 pub struct Console {
     registers: Registers,
     board: Board,
-    // The key changes, how many of them are applied, and the clock of the next one.
+    // The key changes, how many of them are applied, and the clock of the next one, which is 0 while the console is off, so
+    // that no step is plain.
     keys: Vec<KeyState>,
     applied: usize,
     due: u64,
+    // The clock below which it is off.
+    off: u64,
     // The cycles of the last step.
     last: u32,
     // Words and halfwords that were decoded at their addresses. An entry counts only where it is the one that is read, or
@@ -77,10 +101,10 @@ pub struct Console {
 }
 
 impl Model for Console {
-    ghost use Rattle.gba_console.specs.Keys.{due_of};
+    ghost use Rattle.gba_console.specs.Keys.{next_due};
     ghost use Rattle.gba_console.specs.Machine.{Machine};
     ghost use Rattle.gba_console.specs.Fixed.{Stands};
-    ghost use Rattle.gba_console.specs.Waiting.{IsSound};
+    ghost use Rattle.gba_console.specs.Waiting.{IsKept};
     ghost use Rattle.std.specs.Prelude.{◌≡◌, ◌-◌, ◌≤◌, All, drop, vec_len};
 
     ghost Value = { Machine };
@@ -89,13 +113,14 @@ impl Model for Console {
       registers = c.registers;
       board = c.board;
       keys = drop c.applied c.keys.items;
+      off = c.off;
       was = c.board.core.devices.clock - c.last;
     } };
 
     ghost invariant = { λ c.
         (vec_len c.words ≡ 4096) × (vec_len c.halves ≡ 4096) × (c.applied ≤ vec_len c.keys)
-        × (c.due ≡ due_of (drop c.applied c.keys.items)) × (c.last ≤ c.board.core.devices.clock)
-        × IsSound (c.board.core.devices.clock - c.last) c.board
+        × (c.due ≡ next_due c.off c.board.core.devices.clock (drop c.applied c.keys.items))
+        × (c.last ≤ c.board.core.devices.clock) × IsKept c.off (c.board.core.devices.clock - c.last) c.board
         × All (Stands c.board.core.memory.bios c.board.core.memory.rom) c.halves.items };
 }
 
@@ -104,14 +129,16 @@ impl Console {
     ghost use Rattle.gba_console.specs.Keys.{due_of};
     ghost use Rattle.gba_console.specs.Machine.{clock_of, forgotten, limit_of, reset, without_limit};
     ghost use Rattle.gba_console.specs.Run.{GoesAlone, news, run_to};
-    ghost use Rattle.gba_console.specs.Step.{next, stepped, told};
+    ghost use Rattle.gba_console.specs.Step.{next, stepped, stepped_off, stepped_on, told, told_on};
     ghost use Rattle.gba_console.specs.Waiting.{IsPlain};
     ghost use Rattle.gba_io.specs.Core.{core_is_calm, core_is_idle};
     ghost use Rattle.gba_serial.specs.Apart.{next_end};
     ghost use Rattle.link_node.specs.Due.{InOrder, IsDue};
 
     /// A console at reset, at clock 0, of a player below `count`, on a cable of 1 to 4 consoles whose signals take `round`
-    /// cycles, from 1 to 1,024, from its images and the changes of its keys, which are dropped on refusal. It takes the
+    /// cycles from player 0 to player 1 and back, from 2 to 2,048, from its images and the changes of its keys, which are
+    /// dropped on refusal. Below the clock `off` it is off: no device moves, due signals only tell the modes of its peers, key
+    /// changes are applied, and each step takes 16 cycles (this project's profile); 0 means from the start on. It takes the
     /// memory of its RAM, of the decoded instructions and of all that it keeps of what it makes in 2^24 cycles, and no more
     /// later: it runs up to `room.until`, at most 2^24, and on after a call of `forget`.
     pub fn new(
@@ -119,6 +146,7 @@ impl Console {
         player: u32,
         count: u32,
         round: u64,
+        off: u64,
         images: ConsoleImages,
         keys: Vec<KeyState>,
         room: Room,
@@ -127,14 +155,18 @@ impl Console {
         requires count { count ≤ 4 }
         requires least_round { 2 ≤ round }
         requires most_round { round ≤ 2048 }
+        requires off { off ≤ 2 ^ 39 }
         requires until { room.until ≤ 16777216 }
         ensures { IfOk result (λ console. console
-            ≡ reset player count round images.bios images.cart images.save keys.items room) }
+            ≡ reset player count round off images.bios images.cart images.save keys.items room) }
     {
+        let mut board = Board::new(alloc, player, count, round, images, room)?;
+        board.begin_at(first_on(off), room.until);
         Ok(Console {
             registers: Registers::reset(),
-            board: Board::new(alloc, player, count, round, images, room)?,
-            due: due_after(keys.as_slice(), 0),
+            board,
+            due: due_at(off, 0, keys.as_slice(), 0),
+            off,
             keys,
             applied: 0,
             last: 0,
@@ -224,7 +256,11 @@ impl Console {
         ensures plain { without_limit self.new ≡ forgotten (without_limit self.old) }
         ensures limit { limit_of self.new ≡ until }
     {
-        self.board.forget(until);
+        if self.is_off() {
+            self.board.begin_at(first_on(self.off), until);
+        } else {
+            self.board.forget(until);
+        }
     }
 
     /// Makes a step, of 1 to 512 cycles, which begins below the end of the room. Nothing is due in it.
@@ -316,7 +352,6 @@ impl Console {
     }
 
     /// Makes a step, whatever is asked for, and answers what it tells.
-    #[tactic(auto, unfolding(crate::specs::Step::stepped, crate::specs::Step::told))]
     #[inline(never)]
     fn step_fully(&mut self, due: &[Incoming]) -> Option<Signal>
         requires below { clock_of self.old < self.old.board.made.until }
@@ -324,6 +359,58 @@ impl Console {
         requires taken { All (IsDue self.old.was (clock_of self.old)) due.now }
         ensures step { self.new ≡ stepped due.now self.old }
         ensures signal { result ≡ told due.now self.old }
+    {
+        if self.is_off() {
+            self.step_off(due);
+            return None;
+        }
+        self.step_on(due)
+    }
+
+    /// Whether the console is off.
+    fn is_off(&self) -> bool
+        ensures on { result ≡ false → self.now.off ≤ clock_of self.now }
+        ensures off { result ≡ true → clock_of self.now < self.now.off }
+    {
+        self.clock() < self.off
+    }
+
+    /// Makes a step of a console that is off.
+    #[tactic(auto, unfolding(crate::specs::Step::stepped_off))]
+    fn step_off(&mut self, due: &[Incoming])
+        requires below { clock_of self.old < self.old.board.made.until }
+        requires off { clock_of self.old < self.old.off }
+        ensures { self.new ≡ stepped_off due.now self.old }
+    {
+        steps_pass();
+        let clock = self.board.core.clock();
+        self.board.core.begin();
+        learn_all(&mut self.board.core, due);
+        self.applied = apply(
+            clock,
+            self.keys.as_slice(),
+            self.applied,
+            &mut self.board.core,
+        );
+        self.last = OFF_CYCLES;
+        self.board.core.rest(OFF_CYCLES);
+        self.due = due_at(
+            self.off,
+            clock + u64::from(OFF_CYCLES),
+            self.keys.as_slice(),
+            self.applied,
+        );
+    }
+
+    /// Makes a step of a console that is on, and answers what it tells.
+    #[tactic(auto, unfolding(crate::specs::Step::stepped_on, crate::specs::Step::told_on))]
+    fn step_on(&mut self, due: &[Incoming]) -> Option<Signal>
+        requires below { clock_of self.old < self.old.board.made.until }
+        requires on { self.old.off ≤ clock_of self.old }
+        requires ordered { InOrder due.now }
+        requires taken { All (IsDue self.old.was (clock_of self.old)) due.now }
+        ensures step { self.new ≡ stepped_on due.now self.old }
+        ensures signal { result ≡ told_on due.now self.old }
     {
         acts_pass();
         board_passes();
@@ -353,6 +440,7 @@ impl Console {
         requires plain { IsPlain self.old }
         ensures step { self.new ≡ next self.old }
         ensures keys { self.new.keys ≡ self.old.keys }
+        ensures off { self.new.off ≡ self.old.off }
         ensures ends { (bound : ℕ) → bound ≤ clock_of self.old + 512 → bound ≤ next_end self.old.board.core.serial
             → bound ≤ next_end self.new.board.core.serial }
         ensures clock { clock_of self.new ≡ clock_of self.old + result }
@@ -382,9 +470,10 @@ impl Console {
         self.board.core.is_calm()
     }
 
-    /// The clock of the next change of the keys, or one that no run reaches.
+    /// The clock of the next change of the keys, or one that no run reaches; 0 while the console is off.
     fn due(&self) -> u64
-        ensures { result ≡ due_of self.now.keys }
+        ensures on { clock_of self.now < result → self.now.off ≤ clock_of self.now }
+        ensures early { result ≤ due_of self.now.keys }
     {
         self.due
     }
@@ -413,6 +502,7 @@ impl Console {
         requires keys { clock_of self.old + most ≤ due_of self.old.keys }
         requires ends { clock_of self.old + most ≤ next_end self.old.board.core.serial }
         requires calm { core_is_calm self.old.board.core ≡ true }
+        requires on { self.old.off ≤ clock_of self.old }
         ensures alone { GoesAlone (clock_of self.old + most) self.old self.new (news self.new) }
         ensures later { clock_of self.old < clock_of self.new }
         ensures until { self.new.board.made.until ≡ self.old.board.made.until }
@@ -457,11 +547,13 @@ impl Console {
     fn step_idly(&mut self) -> bool
         requires clock { clock_of self.old < self.old.board.made.until }
         requires idle { core_is_idle self.old.board.core ≡ true }
+        requires on { self.old.off ≤ clock_of self.old }
         requires early { clock_of self.old < due_of self.old.keys }
         requires ends { clock_of self.old < next_end self.old.board.core.serial }
         ensures step { self.new ≡ next self.old }
         ensures clock { clock_of self.new ≡ clock_of self.old + 16 }
         ensures keys { self.new.keys ≡ self.old.keys }
+        ensures off { self.new.off ≡ self.old.off }
         ensures serial { self.new.board.core.serial ≡ self.old.board.core.serial }
         ensures idle { result ≡ core_is_idle self.new.board.core }
         ensures until { self.new.board.made.until ≡ self.old.board.made.until }
@@ -488,11 +580,13 @@ impl Console {
         requires below { clock_of self.old + 16 * most < stop + 16 }
         requires until { stop ≤ self.old.board.made.until }
         requires idle { core_is_idle self.old.board.core ≡ true }
+        requires on { self.old.off ≤ clock_of self.old }
         requires keys { stop ≤ due_of self.old.keys }
         requires ends { stop ≤ next_end self.old.board.core.serial }
         ensures alone { GoesAlone stop self.old self.new None }
         ensures clock { clock_of self.new ≡ clock_of self.old + 16 * result }
         ensures keys { self.new.keys ≡ self.old.keys }
+        ensures off { self.new.off ≡ self.old.off }
         ensures serial { self.new.board.core.serial ≡ self.old.board.core.serial }
         ensures idle { core_is_idle self.new.board.core ≡ true }
         ensures until { self.new.board.made.until ≡ self.old.board.made.until }
@@ -516,11 +610,13 @@ impl Console {
         requires below { clock_of self.old < stop }
         requires until { stop ≤ self.old.board.made.until }
         requires idle { core_is_idle self.old.board.core ≡ true }
+        requires on { self.old.off ≤ clock_of self.old }
         requires keys { stop ≤ due_of self.old.keys }
         requires ends { stop ≤ next_end self.old.board.core.serial }
         ensures alone { GoesAlone stop self.old self.new None }
         ensures rises { clock_of self.old < clock_of self.new }
         ensures keys { self.new.keys ≡ self.old.keys }
+        ensures off { self.new.off ≡ self.old.off }
         ensures serial { self.new.board.core.serial ≡ self.old.board.core.serial }
         ensures idle { result ≡ core_is_idle self.new.board.core }
         ensures until { self.new.board.made.until ≡ self.old.board.made.until }

@@ -31,18 +31,29 @@ pub fn bios_of(alloc: Global, source: &[u8]) -> Result<Bios, Fail> {
 
 /// A console of a player of so many on a cable with a delay, whose BIOS is this source.
 pub fn console_of(alloc: Global, seat: (u32, u32, u64), source: &[u8]) -> Result<Console, Fail> {
+    console_off(alloc, seat, 0, source)
+}
+
+/// The same, which is off below a clock.
+pub fn console_off(
+    alloc: Global,
+    seat: (u32, u32, u64),
+    off: u64,
+    source: &[u8],
+) -> Result<Console, Fail> {
     let (player, count, delay) = seat;
     let images = ConsoleImages {
         bios: bios_of(alloc, source)?,
         cart: None,
         save: None,
     };
-    if player < count && count <= 4 && 1 <= delay && delay <= 1024 {
+    if player < count && count <= 4 && 1 <= delay && delay <= 1024 && off <= 100_000 {
         Ok(Console::new(
             alloc,
             player,
             count,
             2 * delay,
+            off,
             images,
             Vec::new(alloc),
             ROOM,
@@ -70,10 +81,20 @@ pub struct Cable {
 impl Cable {
     /// Two consoles with these sources.
     pub fn new(alloc: Global, delay: u64, sources: [&[u8]; 2]) -> Result<Cable, Fail> {
+        Cable::with_off(alloc, delay, sources, 0)
+    }
+
+    /// The same, where player 1 is off below a clock.
+    pub fn with_off(
+        alloc: Global,
+        delay: u64,
+        sources: [&[u8]; 2],
+        off: u64,
+    ) -> Result<Cable, Fail> {
         Ok(Cable {
             consoles: [
                 console_of(alloc, (0, 2, delay), sources[0])?,
-                console_of(alloc, (1, 2, delay), sources[1])?,
+                console_off(alloc, (1, 2, delay), off, sources[1])?,
             ],
             delay,
             told: [Vec::new(alloc), Vec::new(alloc)],

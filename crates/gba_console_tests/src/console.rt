@@ -33,7 +33,7 @@ fn console_of_images(
     images: ConsoleImages,
     keys: Vec<KeyState>,
 ) -> Result<Console, Fail> {
-    Ok(Console::new(alloc, 0, 1, 1024, images, keys, ROOM)?)
+    Ok(Console::new(alloc, 0, 1, 1024, 0, images, keys, ROOM)?)
 }
 
 /// A console whose BIOS begins with these words, without a cartridge.

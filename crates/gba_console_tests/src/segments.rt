@@ -61,7 +61,8 @@ fn console_of(alloc: Global, source: &[u8], until: u64) -> Result<Console, Fail>
     if until > 1 << 24 {
         return Err("a late end")?;
     }
-    Ok(Console::new(alloc, 0, 1, 1024, images, Vec::new(alloc), room)?)
+    let keys = Vec::new(alloc);
+    Ok(Console::new(alloc, 0, 1, 1024, 0, images, keys, room)?)
 }
 
 /// What a console kept, one segment behind the other.

@@ -11,7 +11,7 @@ use std::process::Abort;
 use std::test::Fail;
 
 /// Player 0: waits until all are ready in Multi, and starts with 1234h at speed 3.
-const STARTS_MULTI: &[u8] = b"
+pub(crate) const STARTS_MULTI: &[u8] = b"
         mov r5, #0x04000000
         add r5, r5, #0x100
         mov r0, #0
@@ -32,7 +32,7 @@ go:     .word 0x6083
 ";
 
 /// Player 1: in Multi with ABCDh.
-const AWAITS_MULTI: &[u8] = b"
+pub(crate) const AWAITS_MULTI: &[u8] = b"
         mov r5, #0x04000000
         add r5, r5, #0x100
         mov r0, #0
@@ -47,7 +47,7 @@ mode:   .word 0x2003
 ";
 
 /// Starts Multi with 1234h at speed 3 at once.
-const STARTS_ALONE: &[u8] = b"
+pub(crate) const STARTS_ALONE: &[u8] = b"
         mov r5, #0x04000000
         add r5, r5, #0x100
         mov r0, #0

@@ -57,6 +57,10 @@ devices_at_reset = record {
 abbrev pub begun : Devices → Devices
 begun d = record d { priced = d.waits }
 
+-- So many cycles pass in which no device moves: the console is off (this project's profile).
+abbrev pub rested : ℕ → Devices → Devices
+rested cycles d = record d { clock = d.clock + cycles }
+
 -- the halt ends
 abbrev pub woken : Devices → Devices
 woken d = record d { halted = false }

@@ -51,7 +51,7 @@ impl Devices {
     ghost use Rattle.gba_timer.specs.Timers.{timer_at};
     ghost use Rattle.gba_devices.specs.Cycles.{after_cycles, device_cycle, draws_line, makes_pair, makes_within, quiet, skipped};
     ghost use Rattle.gba_devices.specs.Registers.{half_stored, io_loaded, io_stored, keyed};
-    ghost use Rattle.gba_devices.specs.State.{after_dma_unit, begun, devices_at_reset, is_calm, is_idle, woken};
+    ghost use Rattle.gba_devices.specs.State.{after_dma_unit, begun, devices_at_reset, is_calm, is_idle, rested, woken};
 
     /// The devices at reset.
     pub fn new() -> Devices
@@ -290,6 +290,19 @@ impl Devices {
     {
         self.set.begin();
         self.calm = self.set.is_calm();
+    }
+
+    /// Lets so many cycles pass in which no device moves: the console is off.
+    pub fn rest(&mut self, cycles: u32)
+        requires { self.old.clock + cycles < 2 ^ 61 }
+        ensures { self.new ≡ rested cycles self.old }
+    {
+        skips_cycles();
+        self.set.skip(self.debt);
+        self.debt = 0;
+        self.set.rest(cycles);
+        self.horizon = self.set.quiet();
+        self.silence = self.horizon.min(self.set.pairless());
     }
 
     /// Ends the halt.

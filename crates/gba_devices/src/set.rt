@@ -84,7 +84,7 @@ impl DeviceSet {
     ghost use Rattle.gba_timer.specs.Timers.{requests};
     ghost use Rattle.gba_devices.specs.Cycles.{asked_by, at_hblank, at_line, at_place, device_cycle, pairless, placed, quiet, rung, skipped, sounded, status_of, with_bit, with_timer_requests};
     ghost use Rattle.gba_devices.specs.Registers.{half_kept, half_read, half_stored, half_written, halves_written, io_loaded, io_stored, keyed, owner_of as owner_in, read_of, stored_of, with_key_control, with_key_request, word_written};
-    ghost use Rattle.gba_devices.specs.State.{after_dma_unit, asks_entry, begun, devices_at_reset, is_calm, is_idle, with_dma_request, woken};
+    ghost use Rattle.gba_devices.specs.State.{after_dma_unit, asks_entry, begun, devices_at_reset, is_calm, is_idle, rested, with_dma_request, woken};
 
     /// The devices at reset.
     pub(crate) fn new() -> DeviceSet
@@ -110,6 +110,14 @@ impl DeviceSet {
         ensures { result ≡ self.now.clock }
     {
         self.clock
+    }
+
+    /// Lets so many cycles pass in which no device moves.
+    pub(crate) fn rest(&mut self, cycles: u32)
+        requires { self.old.clock + cycles < 2 ^ 64 }
+        ensures { self.new ≡ rested cycles self.old }
+    {
+        self.clock += u64::from(cycles);
     }
 
     pub(crate) fn waits(&self) -> u16

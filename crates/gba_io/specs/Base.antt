@@ -5,6 +5,10 @@ use Rattle.gba_io.specs.declared.base.Base.{Base}
 abbrev pub at_reset : Base
 at_reset = record { clock = 0; pairs = 0; frames = 0; words = 0; cycles = 0 }
 
+-- They begin at a later clock: nothing was made before it.
+abbrev pub begun_at : ℕ → Base → Base
+begun_at clock base = record base { clock = clock }
+
 -- of a frame that is whole already after so many of its cycles, all the cycles of the next one: the last line is drawn in
 -- cycle 196,894
 abbrev pub early_at : ℕ → ℕ

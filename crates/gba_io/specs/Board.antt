@@ -2,7 +2,7 @@ use Rattle.std.specs.Prelude.{◌≡◌, ℕ, zero, suc, false, ◌+◌, ◌*◌
 use Rattle.gba_devices.specs.Cycles.{after_cycles, device_cycle, draws_line, makes_pair, makes_within}
 use Rattle.gba_ppu_reg.specs.Position.{IsPosition}
 use Rattle.gba_sound.specs.Queues.{left_sample, right_sample}
-use Rattle.gba_io.specs.Base.{early_at}
+use Rattle.gba_io.specs.Base.{begun_at, early_at}
 use Rattle.gba_io.specs.Core.{Core, core_after, core_at_start, core_cycled}
 use Rattle.gba_io.specs.Drawing.{cycles_early, cycles_in, ends_frame, line_bytes, lines_drawn}
 use Rattle.gba_io.specs.Ended.{ended_emptied, ended_from, none_ended}
@@ -89,6 +89,13 @@ base_of b = record {
 -- the board with its three lists emptied: the whole frames, the pairs and the transfers. All stay counted
 abbrev pub board_emptied : Board → Board
 board_emptied b = record b { made = made_emptied b.made; ended = ended_emptied b.ended }
+
+-- the board whose lists begin at a later clock, with room up to another one: nothing was made yet
+abbrev pub board_begun_at : ℕ → ℕ → Board → Board
+board_begun_at clock until b = record b {
+  made = made_from (begun_at clock b.made.base) until b.made;
+  ended = ended_from (begun_at clock b.ended.base) until b.ended;
+}
 
 -- the board whose lists begin at this base, with room up to this clock
 abbrev pub board_from : Base → ℕ → Board → Board

@@ -1,14 +1,16 @@
 use Rattle.std.specs.Prelude.{ℕ, Bool, not, ◌&&◌, List, [], Option, if◌then◌else◌}
 use Rattle.gba_devices.specs.Registers.{half_stored, keyed}
-use Rattle.gba_devices.specs.State.{Devices, begun, devices_at_reset, is_calm, is_idle, woken}
+use Rattle.gba_devices.specs.State.{Devices, begun, devices_at_reset, is_calm, is_idle, rested, woken}
 use Rattle.gba_devices.specs.Cycles.{after_cycles, device_cycle}
 use Rattle.gba_mem.specs.Memories.{Memories, at_start}
 use Rattle.gba_io.specs.SerialRegisters.{is_serial}
 use Rattle.gba_serial.specs.Registers.{serial_stored}
 use Rattle.gba_serial.specs.SerialUnit.{SerialUnit, serial_at_reset}
+use Rattle.gba_serial.specs.Take.{learned}
 use Rattle.gba_serial.specs.Tell.{has_news, silent}
 use Rattle.gba_io.specs.declared.parts.MemoryName.{MemoryName}
 use Rattle.gba_io.specs.declared.parts.MemoryName.TheVariants.{Io, Wram, Iwram, Palette, Vram, Oam, Backup}
+use Rattle.link_node.specs.declared.signal.Incoming.{Incoming}
 
 -- the core of a board: the memories, the devices and the serial unit
 pub record Core : Type 0 where
@@ -40,6 +42,13 @@ core_is_idle b = is_idle b.devices && not (has_news b.serial)
 -- what is stored at a halfword of the I/O registers
 unfoldable pub core_half_stored : ℕ → Core → ℕ
 core_half_stored offset b = if is_serial offset then serial_stored offset b.serial else half_stored offset b.devices
+
+-- While its console is off, so many cycles pass in which no device moves, and a signal only tells its sender's mode.
+abbrev pub core_rested : ℕ → Core → Core
+core_rested cycles b = record b { devices = rested cycles b.devices }
+
+abbrev pub core_learned : Incoming → Core → Core
+core_learned due b = record b { serial = learned due b.serial }
 
 abbrev pub core_woken : Core → Core
 core_woken b = record b { devices = woken b.devices }

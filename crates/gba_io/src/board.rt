@@ -20,7 +20,7 @@ impl Board {
     ghost use Rattle.gba_devices.specs.Cycles.{draws_line};
     ghost use Rattle.gba_devices.specs.State.{is_idle};
     ghost use Rattle.gba_io.specs.Base.{IsBase};
-    ghost use Rattle.gba_io.specs.Board.{HasRoom, IsInStep, base_of, board_after, board_at_start, board_cycle, board_emptied};
+    ghost use Rattle.gba_io.specs.Board.{HasRoom, IsInStep, base_of, board_after, board_at_start, board_begun_at, board_cycle, board_emptied};
     ghost use Rattle.gba_io.specs.Board.{board_from, line_in_cycle};
     ghost use Rattle.gba_io.specs.Core.{core_cycled};
 
@@ -67,6 +67,19 @@ impl Board {
             words: counts.words,
             cycles: u64::from(cycles_in(&self.core.place())),
         }
+    }
+
+    /// Makes a clock that hasn't come yet the one at which the lists begin of what it makes, and `until` the end of their room,
+    /// at most 2^24 cycles later: up to that clock the console is off.
+    pub fn begin_at(&mut self, clock: u64, until: u64)
+        requires made { self.old.made.base.clock ≤ clock }
+        requires ended { self.old.ended.base.clock ≤ clock }
+        requires few { clock ≤ 2 ^ 39 + 511 }
+        requires near { until ≤ clock + 16777216 }
+        ensures { self.new ≡ board_begun_at clock until self.old }
+    {
+        self.made.begin_at(clock, until);
+        self.ended.begin_at(clock, until);
     }
 
     /// Empties the lists of what it has made and of the transfers that ended, all of which stay counted, and makes `until`

@@ -54,8 +54,8 @@ fn push(words: &mut Vec<Transfer>, transfer: Transfer)
 }
 
 impl Ended {
-    ghost use Rattle.std.specs.Prelude.{◌+◌, ◌<◌, ◌≤◌, IfOk, Some, length};
-    ghost use Rattle.gba_io.specs.Base.{IsBase, words_from};
+    ghost use Rattle.std.specs.Prelude.{◌+◌, ◌<◌, ◌≤◌, IfOk, Some, length, ◌^◌};
+    ghost use Rattle.gba_io.specs.Base.{IsBase, begun_at, words_from};
     ghost use Rattle.gba_io.specs.Ended.{ended_emptied, ended_from, none_ended, with_transfer};
 
     /// None yet, with room for all that are kept of 2^24 cycles: they end at least 512 cycles apart.
@@ -100,6 +100,17 @@ impl Ended {
         self.words.clear();
         self.until = until;
         self.base = base;
+    }
+
+    /// What is kept begins at this later clock. There is room up to `until`, at most 2^24 cycles later.
+    pub(crate) fn begin_at(&mut self, clock: u64, until: u64)
+        requires later { self.old.base.clock ≤ clock }
+        requires few { clock ≤ 2 ^ 39 + 511 }
+        requires near { until ≤ clock + 16777216 }
+        ensures { self.new ≡ ended_from (begun_at clock self.old.base) until self.old }
+    {
+        self.base.clock = clock;
+        self.until = until;
     }
 
     /// The transfers in the order of their ends. Empty where they aren't kept.

@@ -149,8 +149,8 @@ fn add_sample(samples: &mut Vec<u8>, sample: i16)
 }
 
 impl Made {
-    ghost use Rattle.std.specs.Prelude.{◌≡◌, ◌+◌, ◌<◌, ◌≤◌, length, true, IfOk};
-    ghost use Rattle.gba_io.specs.Base.{IsBase, frames_from, pairs_from};
+    ghost use Rattle.std.specs.Prelude.{◌≡◌, ◌+◌, ◌<◌, ◌≤◌, length, true, IfOk, ◌^◌};
+    ghost use Rattle.gba_io.specs.Base.{IsBase, begun_at, frames_from, pairs_from};
     ghost use Rattle.gba_io.specs.Drawing.{colours_bytes};
     ghost use Rattle.gba_io.specs.Made.{frame_ended, made_emptied, made_from, none_made, with_line, with_pair};
 
@@ -202,6 +202,17 @@ impl Made {
         self.samples.clear();
         self.until = until;
         self.base = base;
+    }
+
+    /// What is kept begins at this later clock. There is room up to `until`, at most 2^24 cycles later.
+    pub(crate) fn begin_at(&mut self, clock: u64, until: u64)
+        requires later { self.old.base.clock ≤ clock }
+        requires few { clock ≤ 2 ^ 39 + 511 }
+        requires near { until ≤ clock + 16777216 }
+        ensures { self.new ≡ made_from (begun_at clock self.old.base) until self.old }
+    {
+        self.base.clock = clock;
+        self.until = until;
     }
 
     /// The whole frames, each of 160 lines of 240 colours: 16 bits each, low byte first, of which the lowest five are red,

@@ -19,6 +19,7 @@ use gba_price_table::PriceTable;
 use gba_serial::Serial;
 use gba_terms::NoMemory;
 use gba_timer::Timer;
+use link_node::Incoming;
 use std::alloc::Global;
 use std::marker::Model;
 
@@ -91,7 +92,7 @@ impl Core {
     ghost use Rattle.gba_ppu_reg.specs.Registers.{reference_of};
     ghost use Rattle.gba_sound.specs.Queues.{left_sample, queue_at, right_sample};
     ghost use Rattle.gba_timer.specs.Timers.{timer_at};
-    ghost use Rattle.gba_io.specs.Core.{core_after, core_at_start, core_begun, core_cycled, core_half_stored, core_is_calm, core_is_idle, core_keyed, core_woken, length_named, memory_named};
+    ghost use Rattle.gba_io.specs.Core.{core_after, core_at_start, core_begun, core_cycled, core_half_stored, core_is_calm, core_is_idle, core_keyed, core_learned, core_rested, core_woken, length_named, memory_named};
     ghost use Rattle.gba_io.specs.Drawing.{line_colours};
     ghost use Rattle.gba_io.specs.Units.{core_after_unit, unit_cycles};
 
@@ -187,6 +188,23 @@ impl Core {
         ensures { result ≡ self.now.devices.halted }
     {
         self.devices.halted()
+    }
+
+    /// Lets so many cycles pass in which no device moves: the console is off.
+    pub fn rest(&mut self, cycles: u32)
+        requires { self.old.devices.clock + cycles < 2 ^ 40 }
+        ensures { self.new ≡ core_rested cycles self.old }
+    {
+        self.devices.rest(cycles);
+        self.calm = is_calm(&self.devices, &self.serial);
+    }
+
+    /// Takes a due signal while the console is off: its sender's mode is known from then on, and the rest of it is lost.
+    pub fn learn(&mut self, due: &Incoming)
+        ensures { self.new ≡ core_learned due.now self.old }
+    {
+        self.serial.learn(due);
+        self.calm = is_calm(&self.devices, &self.serial);
     }
 
     /// Ends the halt.

@@ -9,7 +9,7 @@ use link_node::{Incoming, Start};
 
 impl Serial {
     ghost use Rattle.std.specs.Prelude.{◌≡◌, ◌<◌, ◌^◌};
-    ghost use Rattle.gba_serial.specs.Take.{answered, can_answer, end_of, ends_later, is_answered, is_proper_start, multi_answered, normal_answered, taken, waits, with_known, with_multi_reply, with_normal_reply, with_reply, with_reply_in, with_start};
+    ghost use Rattle.gba_serial.specs.Take.{answered, can_answer, end_of, ends_later, is_answered, is_proper_start, learned, multi_answered, normal_answered, taken, waits, with_known, with_multi_reply, with_normal_reply, with_reply, with_reply_in, with_start};
 
     fn set_known(&mut self, due: &Incoming)
         requires { due.now.sender < 4 }
@@ -193,6 +193,17 @@ impl Serial {
             self.set_known(due);
             self.take_reply(due.sender, due.signal.reply);
             self.take_start(due, due.signal.start);
+        }
+    }
+
+    /// Takes a due signal while the console is off: the mode of its sender is known from then on, and its start and its
+    /// reply are lost (this project's profile). A signal of the console itself, or of a player that the job hasn't, is
+    /// ignored.
+    pub fn learn(&mut self, due: &Incoming)
+        ensures { self.new ≡ learned due.now self.old }
+    {
+        if self.is_peer(due.sender) {
+            self.set_known(due);
         }
     }
 }

@@ -1,4 +1,4 @@
-use Rattle.std.proofs.Common.{◌≡◌, ◌-◌, ◌≤◌, true, None}
+use Rattle.std.proofs.Common.{◌≡◌, ◌-◌, ◌<◌, ◌≤◌, true, None}
 use Rattle.gba_console.specs.Keys.{due_of}
 use Rattle.gba_console.specs.Machine.{clock_of}
 use Rattle.gba_console.specs.Run.{GoesAlone}
@@ -12,6 +12,7 @@ invariant-loop-self l = record {
   alone : GoesAlone l.end l.fn.self l.self None;
   later : clock_of l.fn.self ≤ clock_of l.self;
   within : l.stop ≤ l.end;
+  on : clock_of l.self < l.stop → l.self.off ≤ clock_of l.self;
   keys : l.stop ≤ due_of l.self.keys;
   idle : core_is_idle l.self.board.core ≡ true;
   until : l.self.board.made.until ≡ l.fn.self.board.made.until;

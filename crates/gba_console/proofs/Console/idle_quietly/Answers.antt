@@ -1,4 +1,4 @@
-use Rattle.std.proofs.Common.{◌<◌, ◌-◌, ◌+◌, ◌*◌, ◌≤◌, [], refl, ap, sym, subst, arith}
+use Rattle.std.proofs.Common.{◌≡◌, ◌<◌, ◌-◌, ◌+◌, ◌*◌, ◌≤◌, [], refl, ap, sym, subst, arith}
 use Rattle.std.specs.Prelude.{All, Option, None, drop}
 use Rattle.link_node.specs.Alone.{Stays}
 use Rattle.link_node.specs.declared.signal.Signal.{Signal}
@@ -6,7 +6,9 @@ use Rattle.gba_io.specs.declared.board.Board.{Board}
 use Rattle.gba_console.specs.Fixed.{Stands}
 use Rattle.gba_console.specs.Machine.{Machine, clock_of}
 use Rattle.gba_console.specs.Run.{GoesAlone}
-use Rattle.gba_console.specs.Waiting.{IsSound}
+use Rattle.gba_console.specs.Keys.{next_due}
+use Rattle.gba_console.specs.Waiting.{IsKept}
+use Rattle.gba_console.proofs.On.{due-kept, kept-on}
 use Rattle.gba_console.proofs.Idling.{board-none, many-alone, many-idle, many-sound}
 use Rattle.gba_console.proofs.Images.{moved-images, still-stand}
 use Rattle.gba_console.proofs.Console.idle_quietly.Goals as goal
@@ -18,6 +20,7 @@ returns-then-steps-eq0-clause-alone c =
       registers = inside.registers;
       board = inside.board;
       keys = drop inside.applied inside.keys.items;
+      off = inside.off;
       was = inside.board.core.devices.clock - inside.last;
     } in
     let last = inside.last in
@@ -34,6 +37,7 @@ returns-clause-alone c =
       registers = inside.registers;
       board = inside.board;
       keys = drop inside.applied inside.keys.items;
+      off = inside.off;
       was = inside.board.core.devices.clock - inside.last;
     } in
     let steps = c.owe_steps-steps.result in
@@ -41,7 +45,7 @@ returns-clause-alone c =
     let below : clock_of m + 16 * c.args.most < c.args.stop + 16 = rw (← c.self.view_is) at c.requires.below in
     rw (← c.self.view_is)
     (many-alone c.board_passes.ensures.all c.calm_has_begun.ensures c.stays_quiet.ensures (c.steps_pass.ensures []) m
-    c.args.stop (rw (← c.self.view_is) at c.requires.idle) (rw (← c.self.view_is) at c.requires.keys)
+    c.args.stop (rw (← c.self.view_is) at c.requires.idle) (rw (← c.self.view_is) at c.requires.on) (rw (← c.self.view_is) at c.requires.keys)
     (rw (← c.self.view_is) at c.requires.ends) steps some c.owe_steps-steps.new.self c.owe_steps-steps.ensures.owed
     c.owe_steps-steps.ensures.idle (omega (arith, below, c.owe_steps-steps.ensures.most)))
 
@@ -49,15 +53,18 @@ pub invariant_of-self : goal.invariant_of-self
 invariant_of-self c =
     let inside = c.self.inside in
     let last = inside.last in
+    let due = inside.due in
+    let off = inside.off in
+    let keys = drop inside.applied inside.keys.items in
     let halves = inside.halves.items in
     let left = sym (board-none c.owe_steps-steps.result inside.board c.owe_steps-steps.new.self c.if-steps-eq0.true
     c.owe_steps-steps.ensures.owed) in (
       c.self.invariant.0,
       c.self.invariant.1,
       c.self.invariant.2,
-      c.self.invariant.3,
+      subst (λ (b : Board). due ≡ next_due off b.core.devices.clock keys) left c.self.invariant.3,
       subst (λ (b : Board). last ≤ b.core.devices.clock) left c.self.invariant.4,
-      subst (λ (b : Board). IsSound (b.core.devices.clock - last) b) left c.self.invariant.5,
+      subst (λ (b : Board). IsKept off (b.core.devices.clock - last) b) left c.self.invariant.5,
       subst (λ (b : Board). All (Stands b.core.memory.bios b.core.memory.rom) halves) left c.self.invariant.6,
     )
 
@@ -68,6 +75,7 @@ invariant_of-self-2 c =
       registers = inside.registers;
       board = inside.board;
       keys = drop inside.applied inside.keys.items;
+      off = inside.off;
       was = inside.board.core.devices.clock - inside.last;
     } in
     let b = inside.board in
@@ -77,16 +85,19 @@ invariant_of-self-2 c =
     let some : 0 < steps = omega (arith, c.if-steps-eq0.false) in
     let below : clock_of m + 16 * c.args.most < c.args.stop + 16 = rw (← c.self.view_is) at c.requires.below in
     let passes = c.board_passes.ensures.all (16 * steps) b in
-    let clock = ap (λ (b : Board). b.core.devices.clock) owed in (
+    let clock = ap (λ (b : Board). b.core.devices.clock) owed in
+    let on : inside.off ≤ b.core.devices.clock = rw (← c.self.view_is) at c.requires.on in
+    let later = after.core.devices.clock in (
       c.self.invariant.0,
       c.self.invariant.1,
       c.self.invariant.2,
-      c.self.invariant.3,
+      due-kept inside.off b.core.devices.clock later inside.due (drop inside.applied inside.keys.items) on
+          (omega (arith, clock, passes.clock)) c.self.invariant.3,
       omega (arith, clock, passes.clock, some),
-      many-sound c.board_passes.ensures.all c.calm_has_begun.ensures c.stays_quiet.ensures (c.steps_pass.ensures []) m
-          c.args.stop (rw (← c.self.view_is) at c.requires.idle) (rw (← c.self.view_is) at c.requires.keys)
-          (rw (← c.self.view_is) at c.requires.ends) steps some after owed c.self.invariant.5 (omega arith)
-          (rw (← c.self.view_is) at c.requires.until) (omega (arith, below, c.owe_steps-steps.ensures.most)),
+      kept-on inside.off (later - 16) after c.self.invariant.5.most (omega (arith, on, clock, passes.clock)) (many-sound c.board_passes.ensures.all c.calm_has_begun.ensures c.stays_quiet.ensures (c.steps_pass.ensures []) m
+          c.args.stop (rw (← c.self.view_is) at c.requires.idle) (rw (← c.self.view_is) at c.requires.on) (rw (← c.self.view_is) at c.requires.keys)
+          (rw (← c.self.view_is) at c.requires.ends) steps some after owed (c.self.invariant.5.on on) (omega arith)
+          (rw (← c.self.view_is) at c.requires.until) (omega (arith, below, c.owe_steps-steps.ensures.most))),
       still-stand b.core.memory after.core.memory inside.halves.items
           (moved-images b.core.memory.bios b.core.memory.rom (16 * steps) b after (record { bios = refl; rom = refl }) owed
           passes)
@@ -100,9 +111,10 @@ returns-clause-idle c =
       registers = inside.registers;
       board = inside.board;
       keys = drop inside.applied inside.keys.items;
+      off = inside.off;
       was = inside.board.core.devices.clock - inside.last;
     } in
     many-idle c.board_passes.ensures.all c.calm_has_begun.ensures c.stays_quiet.ensures (c.steps_pass.ensures []) m
-    c.args.stop (rw (← c.self.view_is) at c.requires.idle) (rw (← c.self.view_is) at c.requires.keys)
+    c.args.stop (rw (← c.self.view_is) at c.requires.idle) (rw (← c.self.view_is) at c.requires.on) (rw (← c.self.view_is) at c.requires.keys)
     (rw (← c.self.view_is) at c.requires.ends) c.owe_steps-steps.result c.owe_steps-steps.new.self
     c.owe_steps-steps.ensures.owed c.owe_steps-steps.ensures.idle

@@ -16,6 +16,7 @@ loop-left-init c = record {
   ends = c.requires.ends;
   some = c.requires.some;
   calm = c.requires.calm;
+  on = c.requires.on;
   until = refl;
 }
 
@@ -44,5 +45,6 @@ loop-left-preserved c =
       ends = step.ends last (omega (arith, c.requires.few, held.later)) held.ends;
       some = omega (arith, c.if-cycles-left.false);
       calm = calm;
+      on = omega (arith, step.off, step.clock, held.on);
       until = step.until ∙ held.until;
     }

@@ -16,6 +16,7 @@ invariant-loop-left l = record {
   ends : clock_of l.fn.self + l.most ≤ next_end l.self.board.core.serial;
   some : 1 ≤ l.left;
   calm : core_is_calm l.self.board.core ≡ true;
+  on : l.self.off ≤ clock_of l.self;
   until : l.self.board.made.until ≡ l.fn.self.board.made.until;
 }
 

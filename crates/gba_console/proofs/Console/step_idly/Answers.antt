@@ -1,14 +1,16 @@
-use Rattle.std.proofs.Common.{◌-◌, refl, arith}
+use Rattle.std.proofs.Common.{◌-◌, ◌≤◌, refl, arith}
 use Rattle.std.specs.Prelude.{drop}
 use Rattle.gba_console.specs.Machine.{Machine}
 use Rattle.gba_console.proofs.Idling.{idle-clock, idle-is, idle-room, idle-sound}
+use Rattle.gba_console.proofs.On.{due-kept, kept-on}
 use Rattle.gba_console.proofs.Images.{moved-images, still-stand}
 use Rattle.gba_console.proofs.Console.step_idly.Goals as goal
 
 pub advance-requires-clause-room : goal.advance-requires-clause-room
 advance-requires-clause-room c =
     let b = c.self.inside.board in
-    idle-room (b.core.devices.clock - c.self.inside.last) b c.self.invariant.5 (rw (← c.self.view_is) at c.requires.clock)
+    idle-room (b.core.devices.clock - c.self.inside.last) b
+    (c.self.invariant.5.on (rw (← c.self.view_is) at c.requires.on)) (rw (← c.self.view_is) at c.requires.clock)
 
 pub returns-clause-step : goal.returns-clause-step
 returns-clause-step c =
@@ -17,11 +19,13 @@ returns-clause-step c =
       registers = inside.registers;
       board = inside.board;
       keys = drop inside.applied inside.keys.items;
+      off = inside.off;
       was = inside.board.core.devices.clock - inside.last;
     } in
     rw (← c.self.view_is)
     (idle-is c.board_passes.ensures.all c.calm_has_begun.ensures c.stays_quiet.ensures m c.advance.new.self
-    (rw (← c.self.view_is) at c.requires.idle) (rw (← c.self.view_is) at c.requires.early)
+    (rw (← c.self.view_is) at c.requires.idle) (rw (← c.self.view_is) at c.requires.on)
+    (rw (← c.self.view_is) at c.requires.early)
     (rw (← c.self.view_is) at c.requires.ends) c.advance.ensures)
 
 pub invariant_of-self : goal.invariant_of-self
@@ -30,14 +34,19 @@ invariant_of-self c =
     let b = inside.board in
     let after = c.advance.new.self in
     let moved = c.advance.ensures in
-    let early = rw (← c.self.view_is) at c.requires.clock in (
+    let early = rw (← c.self.view_is) at c.requires.clock in
+    let on : inside.off ≤ b.core.devices.clock = rw (← c.self.view_is) at c.requires.on in
+    let passed = idle-clock c.board_passes.ensures.all b after moved in
+    let later = after.core.devices.clock in (
       c.self.invariant.0,
       c.self.invariant.1,
       c.self.invariant.2,
-      c.self.invariant.3,
-      omega (arith, idle-clock c.board_passes.ensures.all b after moved),
-      idle-sound c.board_passes.ensures.all (b.core.devices.clock - inside.last) b after c.self.invariant.5 (omega arith)
-          early moved,
+      due-kept inside.off b.core.devices.clock later inside.due (drop inside.applied inside.keys.items) on
+          (omega (arith, passed)) c.self.invariant.3,
+      omega (arith, passed),
+      kept-on inside.off (later - 16) after c.self.invariant.5.most (omega (arith, on, passed))
+          (idle-sound c.board_passes.ensures.all (b.core.devices.clock - inside.last) b after (c.self.invariant.5.on on)
+          (omega arith) early moved),
       still-stand b.core.memory after.core.memory inside.halves.items
           (moved-images b.core.memory.bios b.core.memory.rom 16 b after (record { bios = refl; rom = refl }) moved
           (c.board_passes.ensures.all 16 b))

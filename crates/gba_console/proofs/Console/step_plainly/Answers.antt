@@ -5,6 +5,7 @@ use Rattle.gba_console.specs.Machine.{Machine}
 use Rattle.gba_console.specs.Step.{instruction_done}
 use Rattle.gba_console.proofs.Calm.{plain-next, put-together}
 use Rattle.gba_console.proofs.Images.{done-images, moved-images, still-stand, whole-again}
+use Rattle.gba_console.proofs.On.{due-kept, kept-on}
 use Rattle.gba_console.proofs.Passing.{ends-after, left-clock, left-ends, sound-ready, step-sound, step-was}
 use Rattle.gba_console.proofs.Console.step_plainly.Goals as goal
 
@@ -15,6 +16,7 @@ returns-clause-step c =
       registers = inside.registers;
       board = inside.board;
       keys = drop inside.applied inside.keys.items;
+      off = inside.off;
       was = inside.board.core.devices.clock - inside.last;
     } in
     let done = instruction_done inside.registers inside.board.core in
@@ -41,7 +43,8 @@ returns-clause-ends c =
     let keeps = left-ends inside.board.core core done c.execute-cycles.ensures.left.bus_left acts in
     rw (← c.self.view_is) (λ bound soon before.
     ends-after cycles bound inside.board c.advance.new.self core c.advance.ensures
-    (c.board_passes.ensures.all cycles (record inside.board { core = core })) keeps c.self.invariant.5.ends.seat soon before)
+    (c.board_passes.ensures.all cycles (record inside.board { core = core })) keeps
+    (c.self.invariant.5.on (rw (← c.self.view_is) at c.requires.plain).on).ends.seat soon before)
 
 pub returns-clause-some : goal.returns-clause-some
 returns-clause-some c =
@@ -60,15 +63,20 @@ invariant_of-self c =
     let passes = c.board_passes.ensures.all cycles (record inside.board { core = core }) in
     let ends = ap (λ (b : Board). b.core.devices.clock) c.advance.ensures in
     let early = rw (← c.self.view_is) at c.requires.clock in
-    let short : cycles ≤ 512 = omega (arith, c.execute-cycles.ensures.left.cycles_taken, acts.length.most) in (
+    let plain = rw (← c.self.view_is) at c.requires.plain in
+    let short : cycles ≤ 512 = omega (arith, c.execute-cycles.ensures.left.cycles_taken, acts.length.most) in
+    let clock = inside.board.core.devices.clock in
+    let later = c.advance.new.self.core.devices.clock in
+    let past : clock ≤ later = omega (arith, ends, passes.clock, same) in (
       c.self.invariant.0,
       c.self.invariant.1,
       c.self.invariant.2,
-      c.self.invariant.3,
+      due-kept inside.off clock later inside.due (drop inside.applied inside.keys.items) plain.on past c.self.invariant.3,
       omega (arith, ends, passes.clock),
-      step-sound inside.board.core.devices.clock cycles inside.board c.advance.new.self core
-          (sound-ready (inside.board.core.devices.clock - inside.last) inside.board c.self.invariant.5 (omega arith) early)
-          same keeps short c.advance.ensures passes,
+      kept-on inside.off (later - cycles) c.advance.new.self c.self.invariant.5.most (omega (arith, plain.on, past))
+          (step-sound clock cycles inside.board c.advance.new.self core
+          (sound-ready (clock - inside.last) inside.board (c.self.invariant.5.on plain.on) (omega arith) early)
+          same keeps short c.advance.ensures passes),
       still-stand inside.board.core.memory c.advance.new.self.core.memory
           (take inside.halves.len
           (c.execute-cycles.new.halves ++ drop (length c.execute-cycles.new.halves) inside.halves.items))
