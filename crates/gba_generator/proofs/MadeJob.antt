@@ -1,5 +1,5 @@
 -- The generator's job is a job of the language, and its lines are read as that job.
-use Rattle.std.proofs.Common.{◌≡◌, ◌≤◌, ◌<◌, ◌^◌, ℕ, ◌+◌, Bool, true, false, ◌&&◌, not, nat_le, List, [], ◌∷◌, ◌++◌, length, codes, refl, sym, ap, ◌∙◌, length-append, le-leb, lit<, lit≤, arith}
+use Rattle.std.proofs.Common.{◌≡◌, ◌≤◌, ◌<◌, ◌^◌, ℕ, ◌+◌, Bool, true, false, ◌&&◌, not, nat_le, List, [], ◌∷◌, ◌++◌, length, codes, refl, sym, ap, subst, ◌∙◌, length-append, append_assoc, le-leb, lit<, lit≤, arith}
 use Rattle.std.specs.Prelude.{decimal}
 use Rattle.std.specs.List.{All, list_all}
 use Rattle.std.specs.Str.{bytes_eq}
@@ -10,15 +10,20 @@ use Rattle.std.proofs.lemmas.List.{append-nil}
 use Rattle.std.proofs.lemmas.List.Elements.{All-cons, All-nil}
 use Rattle.gba_text.proofs.Spans.{first_of_all, rest_of_all}
 use Rattle.gba_command.specs.Words.{IsOut}
-use Rattle.gba_joblog.proofs.LogAgain.{job-again}
+use Rattle.link_node.specs.Delays.{all_delays}
+use Rattle.gba_joblog.proofs.Cables.{IsLink, delays-sound}
+use Rattle.gba_joblog.proofs.LogAgain.{old-again}
+use Rattle.gba_joblog.proofs.LogLength.{old-short, old_text}
 use Rattle.gba_joblog.proofs.SoundChanges as changes
 use Rattle.gba_joblog.specs.Job.{ConsoleJob}
-use Rattle.gba_joblog.specs.Language.{job_of}
-use Rattle.gba_joblog.specs.Log.{changes_text, line_of, log_text}
+use Rattle.gba_joblog.specs.Cable.{delays_of, table_of}
+use Rattle.gba_joblog.specs.Language.{job_of, longest_job}
+use Rattle.gba_joblog.specs.LogLaw.{unlined}
+use Rattle.gba_joblog.specs.Log.{changes_text, line_of}
 use Rattle.gba_joblog.specs.Log as log
 use Rattle.gba_joblog.specs.Names.{is_name, is_name_byte, longest_name}
 use Rattle.gba_joblog.specs.Outputs.{EachKind}
-use Rattle.gba_joblog.specs.Soundness.{IsConsole, IsJob, IsOutput}
+use Rattle.gba_joblog.specs.Soundness.{AreJobDelays, IsConsole, IsJob, IsOutput}
 use Rattle.gba_joblog.specs.declared.outputs.OutKind.TheVariants.{Frames, Samples, Words, State, Save}
 use Rattle.gba_generator.specs.Job.{asked, bios_file, console, console_text, job, job_text}
 use Rattle.gba_generator.specs.Law.{IsReadAs}
@@ -92,6 +97,7 @@ outs-sound Save = tt
 console-sound : (out : List ℕ) (player : ℕ) → IsOut out → player < 4 → IsConsole (console out player)
 console-sound out player is few = record {
   bios = record { named = bios-named out player is few; stated = tt };
+  off = lit< tt;
   lines = record {
     cart = tt;
     save = tt;
@@ -113,12 +119,15 @@ all-sound out is =
     (All-cons IsConsole (console out 2) fourth (console-sound out 2 is (lit< tt))
     (All-cons IsConsole (console out 3) [] (console-sound out 3 is (lit< tt)) (All-nil IsConsole))))
 
+all-delays : delays_of 512 [] 4 ≡ all_delays 512
+unfolding delays_of table_of all_delays
+all-delays = refl
+
 pub job-sound : (cycles : ℕ) (out : List ℕ) → 1 ≤ cycles → cycles ≤ 2 ^ 31 → IsOut out → IsJob (job cycles out)
 job-sound cycles out some few is = record {
   some_cycles = some;
-  few_cycles = few;
-  some_delay = lit≤ tt;
-  few_delay = lit≤ tt;
+  few_cycles = omega (arith, few);
+  delays = subst (AreJobDelays 4) all-delays (delays-sound 512 [] 4 (lit≤ tt, lit≤ tt) (All-nil IsLink));
   some_consoles = lit≤ tt;
   few_consoles = lit≤ tt;
   each = all-sound out is;
@@ -131,20 +140,40 @@ console-text out player =
     ap (λ files. line_of (codes "console") (decimal player ∷ []) ++ (files ++ codes "out words\nout state\n"))
     (append-nil bios)
 
-pub text-is : (cycles : ℕ) (out : List ℕ) → log_text (job cycles out) ≡ job_text cycles out
-unfolding log_text log.consoles_text
+-- the four consoles
+abbrev pub consoles : List ℕ → List ConsoleJob
+consoles out = console out 0 ∷ console out 1 ∷ console out 2 ∷ console out 3 ∷ []
+
+pub text-is : (cycles : ℕ) (out : List ℕ) → old_text cycles 512 (consoles out) ≡ job_text cycles out
+unfolding log.consoles_text
 text-is cycles out =
     rw (console-text out 0, console-text out 1, console-text out 2, console-text out 3, append-nil (console_text out 3))
     refl
 
+-- they are on from the start
+all-on : (out : List ℕ) → All (λ one. one.off ≡ 0) (consoles out)
+all-on out =
+    let IsOn : ConsoleJob → Type 0 = λ one. one.off ≡ 0 in
+    let fourth : List ConsoleJob = console out 3 ∷ [] in
+    let third : List ConsoleJob = console out 2 ∷ fourth in
+    let second : List ConsoleJob = console out 1 ∷ third in
+    All-cons IsOn (console out 0) second refl (All-cons IsOn (console out 1) third refl
+    (All-cons IsOn (console out 2) fourth refl (All-cons IsOn (console out 3) [] refl (All-nil IsOn))))
+
 pub job-read : (cycles : ℕ) (out : List ℕ) → 1 ≤ cycles → cycles ≤ 2 ^ 31 → IsOut out → IsReadAs cycles out
 job-read cycles out some few is =
-    let again = job-again (job cycles out) (job-sound cycles out some few is) in
+    let again = old-again cycles 512 (consoles out) some few (lit≤ tt) (lit≤ tt) (all-sound out is) (all-on out) (lit≤ tt) (lit≤ tt) in
     record {
       again = again.again;
       read = ap job_of (sym (text-is cycles out)) ∙ again.read;
-      same = again.same;
+      same = again.same
+          ∙ ap (λ delays. unlined (record { cycles = cycles; delays = delays; consoles = consoles out })) all-delays;
     }
+
+pub text-short : (cycles : ℕ) (out : List ℕ) → cycles ≤ 2 ^ 31 → IsOut out → length (job_text cycles out) ≤ longest_job
+text-short cycles out few is =
+    subst (λ (text : List ℕ). length text ≤ longest_job) (text-is cycles out)
+    (old-short cycles 512 (consoles out) few (lit≤ tt) (lit≤ tt) (all-sound out is))
 
 pub name-short : (out : List ℕ) (player : ℕ) → length out ≤ 180 → player < 4 → length (bios_file out player) ≤ 200
 name-short out player short few =
@@ -152,3 +181,19 @@ name-short out player short few =
     let tail = length-append (decimal player) (codes ".bios") in
     let whole = length-append out (codes "." ++ (decimal player ++ codes ".bios")) in
     omega (arith, digit, tail, whole, short)
+
+-- the job's lines put together from those of its consoles
+regrouped : (cycles delay a b c d : List ℕ)
+    → codes "gbalink 1\ncycles " ++ (cycles ++ (codes "\ndelay " ++ (delay
+    ++ (codes "\n" ++ (a ++ (b ++ (c ++ (d ++ codes "end\n"))))))))
+    ≡ codes "gbalink 1\n" ++ (line_of (codes "cycles") (cycles ∷ []) ++ (line_of (codes "delay") (delay ∷ [])
+    ++ ((a ++ (b ++ (c ++ d))) ++ codes "end\n")))
+regrouped cycles delay a b c d = simp append_assoc refl
+
+pub lines-joined : (cycles : ℕ) (out a b c d text : List ℕ) → a ≡ console_text out 0 → b ≡ console_text out 1
+    → c ≡ console_text out 2 → d ≡ console_text out 3
+    → text ≡ codes "gbalink 1\ncycles " ++ (decimal cycles ++ (codes "\ndelay " ++ (decimal 512
+    ++ (codes "\n" ++ (a ++ (b ++ (c ++ (d ++ codes "end\n"))))))))
+    → text ≡ job_text cycles out
+lines-joined cycles out a b c d text one two three four e =
+    e ∙ regrouped (decimal cycles) (decimal 512) a b c d ∙ rw (one, two, three, four) refl

@@ -1,5 +1,6 @@
 -- The job that runs the consoles whose images are made of a number. This project's profile.
 use Rattle.std.specs.Prelude.{ℕ, ◌+◌, ◌*◌, List, [], ◌∷◌, ◌++◌, codes, decimal, Option, Some, None}
+use Rattle.link_node.specs.Delays.{all_delays}
 use Rattle.gba_joblog.specs.Draft.{silent_console, with_image}
 use Rattle.gba_joblog.specs.Job.{ConsoleJob, WholeJob}
 use Rattle.gba_joblog.specs.Log.{line_of}
@@ -25,7 +26,7 @@ abbrev pub console : List ℕ → ℕ → ConsoleJob
 console out player =
     with_image (record silent_console { outs = asked }) (named_file (bios_file out player) None (5 + 4 * player))
 
--- the delay of the cable in cycles
+-- the delay in cycles of each pair of the cable
 abbrev pub delay : ℕ
 delay = 512
 
@@ -33,11 +34,11 @@ delay = 512
 abbrev pub job : ℕ → List ℕ → WholeJob
 job cycles out = record {
   cycles = cycles;
-  delay = delay;
+  delays = all_delays delay;
   consoles = console out 0 ∷ console out 1 ∷ console out 2 ∷ console out 3 ∷ [];
 }
 
--- the lines of a console, of all four, and of the job
+-- the lines of a console, of all four, and of the job, which is of version 1 of the language
 abbrev pub console_text : List ℕ → ℕ → List ℕ
 console_text out player =
     line_of (codes "console") (decimal player ∷ [])

@@ -1,17 +1,17 @@
 //! The job that runs the four consoles.
 
-ghost use Rattle.std.specs.Prelude.{◌≡◌, ◌≤◌, ◌<◌, ◌^◌, IfOk};
+ghost use Rattle.std.specs.Prelude.{◌≡◌, ◌≤◌, ◌<◌, ◌^◌, IfOk, string_bytes};
 ghost use Rattle.gba_command.specs.Words.{IsOut};
 ghost use Rattle.gba_joblog.specs.Soundness.{IsJob};
 ghost use Rattle.gba_joblog.specs.Views.{console_value, job_value};
-ghost use Rattle.gba_generator.specs.Job.{job as job_of, job_text as job_text_of, console as console_of};
+ghost use Rattle.gba_generator.specs.Job.{job as job_of, job_text as job_text_of, console as console_of, console_text};
 
 use crate::names::bios_name;
 use gba_joblog::{FileLine, Job, JobConsole, OutKind, OutLine, PerKind};
-use gba_log::{print, printed_len};
+use link_node::Delays;
 use std::alloc::{AllocError, Global};
 
-/// The cable's delay in cycles.
+/// The delay in cycles of each pair of the cable.
 const DELAY: u64 = 512;
 
 /// The lines before those of the first console's BIOS, and the lines of each console.
@@ -41,6 +41,7 @@ fn console(alloc: Global, out: &str, player: u64) -> Result<JobConsole, AllocErr
         save: None,
         keys: None,
         changes: Vec::new(alloc),
+        off: 0,
         outs,
     })
 }
@@ -60,18 +61,31 @@ pub fn make_job(alloc: Global, cycles: u64, out: &str) -> Result<Job, AllocError
     let consoles = vec![in alloc; first, second, third, fourth]?;
     Ok(Job {
         cycles,
-        delay: DELAY,
+        delays: Delays::all(DELAY),
         consoles,
     })
 }
 
-/// The lines of that job: as a log's, but that no digest is stated.
-pub fn job_text(alloc: Global, cycles: u64, out: &str, made: &Job) -> Result<Vec<u8>, AllocError>
-    requires made { job_value made.now ≡ job_of cycles out.now }
-    requires sound { IsJob (job_value made.now) }
+/// The lines of a console.
+fn console_lines(alloc: Global, out: &str, player: u64) -> Result<String, AllocError>
+    ensures { IfOk result (λ text. string_bytes text ≡ console_text out.now player) }
+{
+    let text = format!(in alloc;
+        "console {player}\nbios {out}.{player}.bios\nout words\nout state\n"
+    )?;
+    Ok(text)
+}
+
+/// The lines of that job, which is of version 1 of the language and states no digest.
+pub fn job_text(alloc: Global, cycles: u64, out: &str) -> Result<Vec<u8>, AllocError>
     ensures text { IfOk result (λ text. text.items ≡ job_text_of cycles out.now) }
 {
-    let mut text = Vec::with_capacity(alloc, printed_len(made) as usize)?;
-    print(made, &mut text);
-    Ok(text)
+    let first = console_lines(alloc, out, 0)?;
+    let second = console_lines(alloc, out, 1)?;
+    let third = console_lines(alloc, out, 2)?;
+    let fourth = console_lines(alloc, out, 3)?;
+    let text = format!(in alloc;
+        "gbalink 1\ncycles {cycles}\ndelay {DELAY}\n{first}{second}{third}{fourth}end\n"
+    )?;
+    Ok(text.into_bytes())
 }

@@ -3,7 +3,7 @@ use Rattle.std.proofs.Common.{◌≡◌, ℕ, ◌+◌, true, List, [], ◌∷◌
 use Rattle.std.specs.List.{All, AllZip}
 use Rattle.std.specs.Prelude.{IfSome, option_map}
 use Rattle.std.specs.Str.{bytes_eq}
-use Rattle.std.proofs.lemmas.List.{append-nil, append_assoc}
+use Rattle.std.proofs.lemmas.List.{append-nil, append_assoc, length-map}
 use Rattle.std.proofs.lemmas.List.Elements.{All-cons, All-head, All-nil, All-tail}
 use Rattle.std.proofs.lemmas.Slice.Eq.{bytes_eq-Decides}
 use Rattle.sha2.specs.Sha256.{sha256}
@@ -12,10 +12,11 @@ use Rattle.gba_command.specs.Cause.{Cause}
 use Rattle.gba_command.specs.Plan.{each, judgement, outcome}
 use Rattle.gba_command.proofs.Comes.{file-ok, file-reads, outcome-done, outcome-parts, outcome-then}
 use Rattle.gba_text.proofs.Steps.{ok-is, some-is}
+use Rattle.gba_joblog.specs.Cable.{players_for}
 use Rattle.gba_joblog.specs.Job.{ConsoleJob, NamedFile, WholeJob}
 use Rattle.gba_joblog.specs.Log.{any_file_text, console_text, consoles_text, log_text}
 use Rattle.gba_joblog.specs.LogLaw.{unlined_console, unlined_file, without_key_file}
-use Rattle.gba_joblog.specs.Soundness.{IsConsole, IsJob}
+use Rattle.gba_joblog.specs.Soundness.{AreJobDelays, IsConsole, IsJob}
 use Rattle.gba_joblog.specs.declared.job.KeyChange.{KeyChange}
 use Rattle.gba_joblog.specs.declared.job.OutLine.{OutLine}
 use Rattle.gba_joblog.specs.declared.outputs.PerKind.{PerKind}
@@ -23,7 +24,7 @@ use Rattle.gba_joblog.proofs.LogAgain.{job-again}
 use Rattle.gba_inputs.specs.Filled.{any_with_digest, filled_console, filled_consoles, log_job, with_digest, with_outputs}
 use Rattle.gba_inputs.specs.Inputs.{ConsoleInputs, DigestedImage, digested}
 use Rattle.gba_inputs.specs.InputsPlan.{ImageForm, accepted, after_bios, after_cart, after_keys, after_save, any_cart_plan, any_image_plan, any_keys_plan, any_save_plan, bios_form, bios_plan, cart_form, console_plan, digest_of, found, image_plan, inputs_of, inputs_plan, judged_image, save_form}
-use Rattle.gba_inputs.specs.Law.{AreInputs, AreOutputs, IsKept, IsReplayed, KeepsImages, asked_of}
+use Rattle.gba_inputs.specs.Law.{AreInputs, AreOutputs, IsKept, IsReplayed, KeepsImages, asked_of, off_of}
 use Rattle.gba_inputs.proofs.SoundInputs.{accepted-is, filled_consoles-sound, inputs-sound, zip-long}
 
 -- ---- images
@@ -212,6 +213,21 @@ consoles-asked (c ∷ consoles) (l ∷ later) (i ∷ inputs) (o ∷ outs) read l
     let rest = consoles-asked consoles later inputs outs (omega (arith, read)) (omega (arith, long)) (tail-is _ _ _ _ said) in
     rw (first, rest) refl
 
+-- and from when on they are on
+consoles-on : (consoles later : List ConsoleJob) (inputs : List ConsoleInputs) (outs : List (PerKind (Option OutLine)))
+    → length consoles ≡ length inputs → length outs ≡ length consoles → AreSaid consoles inputs outs later
+    → map off_of later ≡ map off_of consoles
+unfolding filled_consoles with_outputs
+consoles-on [] [] inputs outs read long said = refl
+consoles-on [] (l ∷ later) inputs outs read long said = absurd cc
+consoles-on (c ∷ consoles) later [] outs read long said = absurd (omega (arith, read))
+consoles-on (c ∷ consoles) later (i ∷ inputs) [] read long said = absurd (omega (arith, long))
+consoles-on (c ∷ consoles) [] (i ∷ inputs) (o ∷ outs) read long said = absurd cc
+consoles-on (c ∷ consoles) (l ∷ later) (i ∷ inputs) (o ∷ outs) read long said =
+    let first : l.off ≡ c.off = ap (λ (c : ConsoleJob). c.off) (head-is _ _ _ _ said) in
+    let rest = consoles-on consoles later inputs outs (omega (arith, read)) (omega (arith, long)) (tail-is _ _ _ _ said) in
+    rw (first, rest) refl
+
 -- ---- the job of a log is sound
 
 pub with_outputs-sound : (consoles : List ConsoleJob) (outs : List (PerKind (Option OutLine))) → All IsConsole consoles
@@ -226,6 +242,7 @@ with_outputs-sound (c ∷ consoles) (o ∷ outs) sound right long =
     let rest = with_outputs-sound consoles outs (All-tail IsConsole c consoles sound) (All-tail AreOutputs o outs right) (omega arith) in
     let first : IsConsole (record c { outs = o }) = record {
       bios = here.bios;
+      off = here.off;
       lines = record {
         cart = here.lines.cart;
         save = here.lines.save;
@@ -246,8 +263,7 @@ log_job-sound job inputs outs sound read long right =
     record {
       some_cycles = sound.some_cycles;
       few_cycles = sound.few_cycles;
-      some_delay = sound.some_delay;
-      few_delay = sound.few_delay;
+      delays = subst (λ n. AreJobDelays (players_for n) job.delays) (sym (said.1 ∙ all.long)) sound.delays;
       some_consoles = omega (arith, said.1, all.long, sound.some_consoles);
       few_consoles = omega (arith, said.1, all.long, sound.few_consoles);
       each = said.0;
@@ -293,7 +309,8 @@ console-said console later inputs outs said =
     ap (λ (c : ConsoleJob). with_digest c.bios (Some inputs.digests.bios)) said in
     let cart = stated-again console.cart later.cart inputs.digests.cart (ap (λ (c : ConsoleJob). c.cart) said) in
     let save = stated-again console.save later.save inputs.digests.save (ap (λ (c : ConsoleJob). c.save) said) in
-    rw (bios, cart, save) refl
+    let off : later.off ≡ console.off = ap (λ (c : ConsoleJob). c.off) said in
+    rw (bios, cart, save, off) refl
 
 consoles-said : (consoles later : List ConsoleJob) (inputs : List ConsoleInputs) (outs : List (PerKind (Option OutLine)))
     → AreSaid consoles inputs outs later
@@ -312,17 +329,33 @@ consoles-said (c ∷ consoles) (l ∷ later) (i ∷ inputs) (o ∷ outs) said =
     let rest = consoles-said consoles later inputs outs (tail-is _ _ _ _ said) in
     rw (first, rest) refl
 
+same-long : (now was : List ConsoleJob)
+    → map unlined_console (map without_key_file now) ≡ map unlined_console (map without_key_file was)
+    → length now ≡ length was
+same-long now was same =
+    omega (
+      arith,
+      length-map now without_key_file,
+      length-map was without_key_file,
+      length-map (map without_key_file now) unlined_console,
+      length-map (map without_key_file was) unlined_console,
+      ap length same,
+    )
+
 own-text : (job again : WholeJob) (inputs : List ConsoleInputs) (outs : List (PerKind (Option OutLine)))
-    → again.cycles ≡ job.cycles → again.delay ≡ job.delay → AreSaid job.consoles inputs outs again.consoles
+    → again.cycles ≡ job.cycles → again.delays ≡ job.delays → AreSaid job.consoles inputs outs again.consoles
     → log_text (log_job again inputs outs) ≡ log_text (log_job job inputs outs)
 unfolding log_text
-own-text job again inputs outs cycles delay said =
+own-text job again inputs outs cycles delays said =
+    let now = with_outputs (filled_consoles again.consoles inputs) outs in
+    let was = with_outputs (filled_consoles job.consoles inputs) outs in
+    let long : length now ≡ length was = same-long now was (consoles-said job.consoles again.consoles inputs outs said) in
     let text : consoles_text 0 (with_outputs (filled_consoles again.consoles inputs) outs)
     ≡ consoles_text 0 (with_outputs (filled_consoles job.consoles inputs) outs) =
     sym (consoles-unlined 0 (with_outputs (filled_consoles again.consoles inputs) outs))
     ∙ ap (consoles_text 0) (consoles-said job.consoles again.consoles inputs outs said)
     ∙ consoles-unlined 0 (with_outputs (filled_consoles job.consoles inputs) outs) in
-    rw (cycles, delay, text) refl
+    rw (cycles, delays, long, text) refl
 
 pub replayed : (old new : Files) (job : WholeJob) (inputs : List ConsoleInputs) (outs : List (PerKind (Option OutLine)))
     → IsJob job → length outs ≡ length job.consoles → All AreOutputs outs
@@ -332,7 +365,7 @@ replayed old new job inputs outs sound long right h kept =
     let read = inputs-sound old job.consoles inputs sound.each h in
     let log = job-again (log_job job inputs outs) (log_job-sound job inputs outs sound read long right) in
     let cycles : log.again.cycles ≡ job.cycles = ap (λ (j : WholeJob). j.cycles) log.same in
-    let delay : log.again.delay ≡ job.delay = ap (λ (j : WholeJob). j.delay) log.same in
+    let delays : log.again.delays ≡ job.delays = ap (λ (j : WholeJob). j.delays) log.same in
     let said : AreSaid job.consoles inputs outs log.again.consoles = ap (λ (j : WholeJob). j.consoles) log.same in
     let given = each-gives old job.consoles [] inputs h in
     let has : AllZip (Has old) job.consoles inputs = subst (AllZip (Has old) job.consoles) given.is given.given in
@@ -340,9 +373,10 @@ replayed old new job inputs outs sound long right h kept =
       again = log.again;
       read = log.read;
       cycles = cycles;
-      delay = delay;
+      delays = delays;
+      offs = consoles-on job.consoles log.again.consoles inputs outs (zip-long job.consoles inputs read) long said;
       asked = consoles-asked job.consoles log.again.consoles inputs outs (zip-long job.consoles inputs read) long said;
       passes = gives-each new log.again.consoles [] inputs
           (consoles-again old new job.consoles log.again.consoles inputs outs sound.each long kept has said);
-      own = own-text job log.again inputs outs cycles delay said;
+      own = own-text job log.again inputs outs cycles delays said;
     }

@@ -16,9 +16,10 @@ use Rattle.gba_store.specs.declared.outside.ReadError.{ReadError}
 use Rattle.gba_image.specs.declared.error.ImageError.{ImageError}
 use Rattle.gba_joblog.specs.Kinds.{JobError}
 use Rattle.gba_text.proofs.Steps.{ok-is}
+use Rattle.gba_joblog.specs.Cable.{players_for}
 use Rattle.gba_joblog.specs.Job.{ConsoleJob, NamedFile, WholeJob}
 use Rattle.gba_joblog.specs.KeyFile.{keys_of}
-use Rattle.gba_joblog.specs.Soundness.{AreChanges, IsConsole, IsFile, IsJob}
+use Rattle.gba_joblog.specs.Soundness.{AreChanges, AreJobDelays, IsConsole, IsFile, IsJob}
 use Rattle.gba_joblog.specs.declared.job.KeyChange.{KeyChange}
 use Rattle.gba_joblog.proofs.Digests.{IsDigest-sha256}
 use Rattle.gba_joblog.proofs.SoundChanges.{keys-sound}
@@ -163,6 +164,7 @@ filled_console-sound : (console : ConsoleJob) (inputs : ConsoleInputs) → IsCon
 filled_console-sound console inputs sound read =
     rw read.digests (record {
       bios = record { named = sound.bios.named; stated = IsDigest-sha256 inputs.images.bios };
+      off = sound.off;
       lines = record {
         cart = with_digest-sound console.cart inputs.images.cart sound.lines.cart;
         save = with_digest-sound console.save inputs.images.save sound.lines.save;
@@ -199,8 +201,7 @@ filled-sound job inputs sound read =
     record {
       some_cycles = sound.some_cycles;
       few_cycles = sound.few_cycles;
-      some_delay = sound.some_delay;
-      few_delay = sound.few_delay;
+      delays = subst (λ n. AreJobDelays (players_for n) job.delays) (sym all.long) sound.delays;
       some_consoles = omega (arith, all.long, sound.some_consoles);
       few_consoles = omega (arith, all.long, sound.few_consoles);
       each = all.each;

@@ -71,13 +71,19 @@ pub record KeepsImages (old new : Files) (console : ConsoleJob) : Type 0 where
 abbrev pub asked_of : ConsoleJob → PerKind (Option OutLine)
 asked_of console = console.outs
 
--- The log of a run is read as a job of as many cycles, the same delay and these outputs. Over these files every input of
--- it passes its check and has the digest that the log states, and is the same; and its own log is this log.
+-- the clock from which on a console is on
+abbrev pub off_of : ConsoleJob → ℕ
+off_of console = console.off
+
+-- The log of a run is read as a job of as many cycles, the same delays, consoles that are off as long and these outputs. Over
+-- these files every input of it passes its check and has the digest that the log states, and is the same; and its own log is
+-- this log.
 pub record IsReplayed (files : Files) (job : WholeJob) (inputs : List ConsoleInputs) (outs : List (PerKind (Option OutLine))) : Type 0 where
   pub again : WholeJob
   pub read : job_of (log_text (log_job job inputs outs)) ≡ Ok again
   pub cycles : again.cycles ≡ job.cycles
-  pub delay : again.delay ≡ job.delay
+  pub delays : again.delays ≡ job.delays
+  pub offs : map off_of again.consoles ≡ map off_of job.consoles
   pub asked : map asked_of again.consoles ≡ outs
   pub passes : outcome files (inputs_plan again.consoles) ≡ Ok inputs
   pub own : log_text (log_job again inputs outs) ≡ log_text (log_job job inputs outs)

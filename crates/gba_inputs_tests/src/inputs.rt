@@ -267,7 +267,7 @@ fn inputs_are_read_and_written_in(rt: HostRuntime) -> Result<(), Fail> {
 
 // The log of a job of two consoles, whose digests are those of `sha256sum`.
 static LOG: &[u8] =
-    b"gbalink 1\ncycles 1\ndelay 512\nconsole 0\nbios bios sha256 4fe7b59af6de3b665b67788cc2f99892ab827efae3a467342b3bb4e3bc8e5bfe\nsave save sha256 c35020473aed1b4642cd726cad727b63fff2824ad68cedd7ffb73c7cbd890479\nkey 5 001\nkey 7 3ff\nout state\nconsole 1\nbios bios sha256 4fe7b59af6de3b665b67788cc2f99892ab827efae3a467342b3bb4e3bc8e5bfe\ncart cart sha256 27eaafceba64121dc1dd9ee392632473b0318065fdae32a70842ca8bd4f5e2e4\nkey 9 001\nend\n";
+    b"gbalink 2\ncycles 1\nlink 0 1 512\nlink 1 0 512\nconsole 0\nbios bios sha256 4fe7b59af6de3b665b67788cc2f99892ab827efae3a467342b3bb4e3bc8e5bfe\nsave save sha256 c35020473aed1b4642cd726cad727b63fff2824ad68cedd7ffb73c7cbd890479\nkey 5 001\nkey 7 3ff\nout state\nconsole 1\nbios bios sha256 4fe7b59af6de3b665b67788cc2f99892ab827efae3a467342b3bb4e3bc8e5bfe\ncart cart sha256 27eaafceba64121dc1dd9ee392632473b0318065fdae32a70842ca8bd4f5e2e4\nkey 9 001\nend\n";
 
 // The log of a job, once what is read for it is written in; no bytes where it isn't read.
 fn log_of(alloc: Global, text: &[u8]) -> Result<Vec<u8>, AllocError> {

@@ -4,10 +4,12 @@ pub mod NameTexts
 pub mod OutputNames
 pub mod Steps
 pub mod SoundChanges
+pub mod Cables
 pub mod Sound
 pub mod Spelling
 pub mod SpelledValues
 pub mod LogLines
 pub mod LogParts
 pub mod LogLength
+pub mod LogLinks
 pub mod LogAgain

@@ -1,65 +1,113 @@
 -- The log of a job is read as the same job.
-use Rattle.std.proofs.Common.{◌≡◌, ℕ, ◌+◌, ◌≤◌, ◌^◌, List, [], ◌∷◌, ◌++◌, length, map, Some, None, Ok, refl, ap, sym, subst, ◌∙◌, lit≤, arith}
-use Rattle.std.specs.Prelude.{codes, decimal}
+use Rattle.std.proofs.Common.{◌≡◌, ℕ, ◌+◌, ◌<◌, ◌≤◌, ◌^◌, List, [], ◌∷◌, ◌++◌, length, map, Some, None, Ok, refl, ap, sym, subst, ◌∙◌, lit≤, arith}
+use Rattle.std.specs.Prelude.{codes, decimal, unwrap_or}
 use Rattle.std.specs.List.{All}
-use Rattle.std.proofs.lemmas.List.{append-nil, append_assoc, length-append, map-append}
+use Rattle.std.proofs.lemmas.List.{append-nil, append_assoc, length-append, length-map, map-append}
 use Rattle.std.proofs.lemmas.List.Elements.{All-head, All-tail}
 use Rattle.gba_text.specs.Lines.{lines}
 use Rattle.gba_text.proofs.Languages.{answer_of-lines, leads_none, led}
 use Rattle.gba_text.specs.Languages.{Leads}
+use Rattle.link_node.specs.declared.delays.Delays.{Delays}
+use Rattle.gba_joblog.specs.Cable.{all_pairs, delays_of, players_for, usual_delay}
 use Rattle.gba_joblog.specs.Draft.{Draft, nothing_said, silent_console}
 use Rattle.gba_joblog.specs.Job.{ConsoleJob, WholeJob}
-use Rattle.gba_joblog.specs.Language.{job_at_end, job_of, jobs, words_say}
-use Rattle.gba_joblog.specs.Log.{changes_text, console_text, consoles_text, files_text, line_of, log_text, outs_text}
-use Rattle.gba_joblog.specs.LogLaw.{IsReadAgain, unlined_console, without_key_file}
+use Rattle.gba_joblog.specs.Language.{job_at_end, job_of, jobs, longest_job, words_say}
+use Rattle.gba_joblog.specs.Log.{changes_text, console_text, consoles_text, files_text, line_of, links_text, log_text, off_text, outs_text}
+use Rattle.gba_joblog.specs.LogLaw.{IsReadAgain, unlined, unlined_console, without_key_file, without_key_files}
 use Rattle.gba_joblog.specs.Soundness.{IsConsole, IsJob}
-use Rattle.gba_joblog.specs.Statements.{Console, Cycles, Delay, End, Version, arguments, keyword_of, plus_statement, refusal_at}
+use Rattle.gba_joblog.specs.Statements.{Console, Cycles, Delay, End, Version, arguments, keyword_of, most_cycles, plus_statement, refusal_at}
+use Rattle.gba_joblog.specs.declared.draft.JobVersion.{JobVersion}
+use Rattle.gba_joblog.specs.declared.draft.JobVersion.TheVariants.{One, Two}
 use Rattle.gba_joblog.specs.declared.draft.Place.TheVariants.{Ended, Head}
-use Rattle.gba_joblog.proofs.LogLines.{Reads, head, inside, line-reads, number-line, reads-nothing, reads-then}
-use Rattle.gba_joblog.proofs.LogLength.{log-short}
-use Rattle.gba_joblog.proofs.LogParts.{as_draft, body-read}
-use Rattle.gba_joblog.proofs.Spelling.{IsLine, are_more, are_none}
-use Rattle.gba_joblog.proofs.SpelledValues.{number-again, player-again, version-again}
+use Rattle.gba_joblog.proofs.LogLines.{Reads, Top, head, inside, line-reads, number-line, reads-nothing, reads-then}
+use Rattle.gba_joblog.proofs.LogLength.{log-short, old-short, old_text}
+use Rattle.gba_joblog.proofs.LogLinks.{cable-read, linked}
+use Rattle.gba_joblog.proofs.Cables.{delays-again, links_in}
+use Rattle.gba_joblog.proofs.LogParts.{CanStand, as_draft, body-read}
+use Rattle.gba_joblog.proofs.Spelling.{IsLine, IsWord, are_more, are_none}
+use Rattle.gba_joblog.proofs.SpelledValues.{number-again, player-again, second-again, version-again}
 
 -- ---- the lines before the first console
 
-version-line : IsLine (codes "gbalink") (codes "1" ∷ [])
-version-line = record {
+version-line : (word : List ℕ) → IsWord word → length word ≤ 1 → IsLine (codes "gbalink") (word ∷ [])
+version-line word is short = record {
   keyword = record { some = omega arith; bytes = refl };
-  words = are_more (codes "1") [] (record { some = omega arith; bytes = refl }) are_none;
+  words = are_more word [] is are_none;
   plain = refl;
-  short = lit≤ tt;
+  short = omega (arith, length-append word [], short);
 }
 
-abbrev versioned : Draft
-versioned = record { place = Head; cycles = None; delay = None; consoles = []; last = silent_console }
+abbrev versioned : JobVersion → Draft
+versioned version = record {
+  version = version;
+  place = Head;
+  cycles = None;
+  delay = None;
+  links = [];
+  consoles = [];
+  last = silent_console;
+}
 
-version-says : words_say nothing_said (codes "gbalink" ∷ codes "1" ∷ []) ≡ Ok (Some Version)
+first-says : words_say nothing_said (codes "gbalink" ∷ codes "1" ∷ []) ≡ Ok (Some (Version One))
 unfolding keyword_of refusal_at arguments
-version-says = let is = version-again in rw is refl
+first-says = let is = version-again in rw is refl
 
-version-plus : (n : ℕ) → plus_statement n Version nothing_said ≡ versioned
-unfolding plus_statement
-version-plus n = refl
-
-abbrev timed : ℕ → Draft
-timed t = record { place = Head; cycles = Some t; delay = None; consoles = []; last = silent_console }
-
-cycles-says : (t : ℕ) → 1 ≤ t → t ≤ 2 ^ 31 → words_say versioned (codes "cycles" ∷ decimal t ∷ []) ≡ Ok (Some (Cycles t))
+second-says : words_say nothing_said (codes "gbalink" ∷ codes "2" ∷ []) ≡ Ok (Some (Version Two))
 unfolding keyword_of refusal_at arguments
-cycles-says t low high = let is = number-again 1 (2 ^ 31) t [] low high (omega arith) in rw is refl
+second-says = let is = second-again in rw is refl
 
-cycles-plus : (n t : ℕ) → plus_statement n (Cycles t) versioned ≡ timed t
+version-plus : (n : ℕ) (version : JobVersion) → plus_statement n (Version version) nothing_said ≡ versioned version
 unfolding plus_statement
-cycles-plus n t = refl
+version-plus n version = refl
 
-delay-says : (t q : ℕ) → 1 ≤ q → q ≤ 1024 → words_say (timed t) (codes "delay" ∷ decimal q ∷ []) ≡ Ok (Some (Delay q))
+first-read : Reads 0 nothing_said (line_of (codes "gbalink") (codes "1" ∷ [])) 1 (versioned One)
+first-read =
+    rw (version-plus 1 One) at (line-reads 0 nothing_said (codes "gbalink") (codes "1" ∷ []) (Version One)
+    (version-line (codes "1") (record { some = omega arith; bytes = refl }) (lit≤ tt)) first-says)
+
+second-read : Reads 0 nothing_said (line_of (codes "gbalink") (codes "2" ∷ [])) 1 (versioned Two)
+second-read =
+    rw (version-plus 1 Two) at (line-reads 0 nothing_said (codes "gbalink") (codes "2" ∷ []) (Version Two)
+    (version-line (codes "2") (record { some = omega arith; bytes = refl }) (lit≤ tt)) second-says)
+
+abbrev timed : JobVersion → ℕ → Top
+timed version t = record { version = version; cycles = t; delay = None; links = [] }
+
+cycles-says : (version : JobVersion) (t : ℕ) → 1 ≤ t → t ≤ most_cycles version → t < 2 ^ 64
+    → words_say (versioned version) (codes "cycles" ∷ decimal t ∷ []) ≡ Ok (Some (Cycles t))
+unfolding keyword_of refusal_at arguments
+cycles-says version t low high small = let is = number-again 1 (most_cycles version) t [] low high small in rw is refl
+
+cycles-plus : (n : ℕ) (version : JobVersion) (t : ℕ) → plus_statement n (Cycles t) (versioned version) ≡ head (timed version t)
+unfolding plus_statement
+cycles-plus n version t = refl
+
+cycles-read : (version : JobVersion) (t : ℕ) → 1 ≤ t → t ≤ most_cycles version → t < 2 ^ 64
+    → Reads 1 (versioned version) (line_of (codes "cycles") (decimal t ∷ [])) 2 (head (timed version t))
+cycles-read version t low high small =
+    rw (cycles-plus 2 version t) at (line-reads 1 (versioned version) (codes "cycles") (decimal t ∷ []) (Cycles t)
+    (number-line (codes "cycles") t (record { some = omega arith; bytes = refl }) refl (lit≤ tt) small)
+    (cycles-says version t low high small))
+
+-- after a line of the delay of all pairs
+abbrev delayed : ℕ → ℕ → Top
+delayed t q = record { version = One; cycles = t; delay = Some q; links = [] }
+
+delay-says : (t q : ℕ) → 1 ≤ q → q ≤ 1024
+    → words_say (head (timed One t)) (codes "delay" ∷ decimal q ∷ []) ≡ Ok (Some (Delay q))
 unfolding keyword_of refusal_at arguments
 delay-says t q low high = let is = number-again 1 1024 q [] low high (omega arith) in rw is refl
 
-delay-plus : (n t q : ℕ) → plus_statement n (Delay q) (timed t) ≡ head t q
+delay-plus : (n t q : ℕ) → plus_statement n (Delay q) (head (timed One t)) ≡ head (delayed t q)
 unfolding plus_statement
 delay-plus n t q = refl
+
+delay-read : (t q : ℕ) → 1 ≤ q → q ≤ 1024
+    → Reads 2 (head (timed One t)) (line_of (codes "delay") (decimal q ∷ [])) 3 (head (delayed t q))
+delay-read t q low high =
+    rw (delay-plus 3 t q) at (line-reads 2 (head (timed One t)) (codes "delay") (decimal q ∷ []) (Delay q)
+    (number-line (codes "delay") q (record { some = omega arith; bytes = refl }) refl (lit≤ tt) (omega (arith, high)))
+    (delay-says t q low high))
 
 -- ---- consoles
 
@@ -67,64 +115,65 @@ console-line : (player : ℕ) → player ≤ 3 → IsLine (codes "console") (dec
 console-line player few =
     number-line (codes "console") player (record { some = omega arith; bytes = refl }) refl (lit≤ tt) (omega arith)
 
-first-says : (t q : ℕ) → words_say (head t q) (codes "console" ∷ decimal 0 ∷ []) ≡ Ok (Some (Console 0))
+opening-says : (top : Top) → words_say (head top) (codes "console" ∷ decimal 0 ∷ []) ≡ Ok (Some (Console 0))
 unfolding keyword_of refusal_at arguments
-first-says t q = let is = player-again 0 [] (omega arith) in rw is refl
+opening-says top = let is = player-again 0 [] (omega arith) in rw is refl
 
-first-plus : (n t q : ℕ) → plus_statement n (Console 0) (head t q) ≡ inside t q [] silent_console
+opening-plus : (n : ℕ) (top : Top) → plus_statement n (Console 0) (head top) ≡ inside top [] silent_console
 unfolding plus_statement
-first-plus n t q = refl
+opening-plus n top = refl
 
-next-says : (t q : ℕ) (whole : List ConsoleJob) (last : ConsoleJob) → length whole + 1 ≤ 3
-    → words_say (inside t q whole (as_draft last)) (codes "console" ∷ decimal (length whole + 1) ∷ []) ≡ Ok (Some (Console (length whole + 1)))
+next-says : (top : Top) (whole : List ConsoleJob) (last : ConsoleJob) → length whole + 1 ≤ 3
+    → words_say (inside top whole (as_draft last)) (codes "console" ∷ decimal (length whole + 1) ∷ []) ≡ Ok (Some (Console (length whole + 1)))
 unfolding keyword_of refusal_at arguments
-next-says t q whole last few =
+next-says top whole last few =
     let is = player-again (length whole + 1) [] few in
     rw is refl
 
-next-plus : (n t q player : ℕ) (whole : List ConsoleJob) (last : ConsoleJob)
-    → plus_statement n (Console player) (inside t q whole (as_draft last)) ≡ inside t q (whole ++ last ∷ []) silent_console
+next-plus : (n : ℕ) (top : Top) (player : ℕ) (whole : List ConsoleJob) (last : ConsoleJob)
+    → plus_statement n (Console player) (inside top whole (as_draft last)) ≡ inside top (whole ++ last ∷ []) silent_console
 unfolding plus_statement
-next-plus n t q player whole last = refl
+next-plus n top player whole last = refl
 
 console_text-is : (player : ℕ) (console : ConsoleJob)
     → console_text player console ≡ line_of (codes "console") (decimal player ∷ [])
-    ++ (files_text console ++ (changes_text console.changes ++ outs_text console))
+    ++ (files_text console ++ (off_text console.off ++ (changes_text console.changes ++ outs_text console)))
 unfolding console_text
 console_text-is player console = refl
 
 -- the consoles after the first ones, which are read but for their lines and key files
-record ConsolesRead (n t q : ℕ) (whole : List ConsoleJob) (last : ConsoleJob) (consoles : List ConsoleJob) : Type 0 where
+record ConsolesRead (n : ℕ) (top : Top) (whole : List ConsoleJob) (last : ConsoleJob) (consoles : List ConsoleJob) : Type 0 where
   after : ℕ
   before : List ConsoleJob
   latest : ConsoleJob
   same : map unlined_console (before ++ latest ∷ [])
       ≡ map unlined_console (whole ++ last ∷ []) ++ map unlined_console (map without_key_file consoles)
-  reads : Reads n (inside t q whole (as_draft last)) (consoles_text (length whole + 1) consoles) after
-      (inside t q before (as_draft latest))
+  reads : Reads n (inside top whole (as_draft last)) (consoles_text (length whole + 1) consoles) after
+      (inside top before (as_draft latest))
 
-consoles-read : (n t q : ℕ) (whole : List ConsoleJob) (last : ConsoleJob) (consoles : List ConsoleJob)
-    → All IsConsole consoles → length whole + 1 + length consoles ≤ 4
-    → ConsolesRead n t q whole last consoles
+consoles-read : (n : ℕ) (top : Top) (whole : List ConsoleJob) (last : ConsoleJob) (consoles : List ConsoleJob)
+    → All IsConsole consoles → All (CanStand top.version) consoles → length whole + 1 + length consoles ≤ 4
+    → ConsolesRead n top whole last consoles
 unfolding consoles_text
-consoles-read n t q whole last [] sound few = record {
+consoles-read n top whole last [] sound can few = record {
   after = n;
   before = whole;
   latest = last;
   same = sym (append-nil (map unlined_console (whole ++ last ∷ [])));
-  reads = reads-nothing n (inside t q whole (as_draft last));
+  reads = reads-nothing n (inside top whole (as_draft last));
 }
-consoles-read n t q whole last (console ∷ consoles) sound few =
+consoles-read n top whole last (console ∷ consoles) sound can few =
     let player = length whole + 1 in
-    let opened = line-reads n (inside t q whole (as_draft last)) (codes "console") (decimal player ∷ []) (Console player)
-    (console-line player (omega arith)) (next-says t q whole last (omega arith)) in
-    let start = rw (next-plus (n + 1) t q player whole last) at opened in
-    let body = body-read (n + 1) t q (whole ++ last ∷ []) console (All-head IsConsole console consoles sound) in
+    let opened = line-reads n (inside top whole (as_draft last)) (codes "console") (decimal player ∷ []) (Console player)
+    (console-line player (omega arith)) (next-says top whole last (omega arith)) in
+    let start = rw (next-plus (n + 1) top player whole last) at opened in
+    let body = body-read (n + 1) top (whole ++ last ∷ []) console (All-head IsConsole console consoles sound)
+    (All-head (CanStand top.version) console consoles can) in
     let long : length (whole ++ last ∷ []) ≡ length whole + 1 = length-append whole (last ∷ []) in
-    let rest = consoles-read body.after t q (whole ++ last ∷ []) body.last consoles
-    (All-tail IsConsole console consoles sound) (omega (arith, long)) in
-    let P : ℕ → Type 0 = λ k. Reads body.after (inside t q (whole ++ last ∷ []) (as_draft body.last)) (consoles_text (k + 1) consoles)
-    rest.after (inside t q rest.before (as_draft rest.latest)) in
+    let rest = consoles-read body.after top (whole ++ last ∷ []) body.last consoles
+    (All-tail IsConsole console consoles sound) (All-tail (CanStand top.version) console consoles can) (omega (arith, long)) in
+    let P : ℕ → Type 0 = λ k. Reads body.after (inside top (whole ++ last ∷ []) (as_draft body.last)) (consoles_text (k + 1) consoles)
+    rest.after (inside top rest.before (as_draft rest.latest)) in
     let reads : P (length whole + 1) = subst P long rest.reads in
     record {
       after = rest.after;
@@ -140,22 +189,25 @@ consoles-read n t q whole last (console ∷ consoles) sound few =
     }
 
 -- the consoles of a job
-record AllRead (n t q : ℕ) (consoles : List ConsoleJob) : Type 0 where
+record AllRead (n : ℕ) (top : Top) (consoles : List ConsoleJob) : Type 0 where
   after : ℕ
   before : List ConsoleJob
   latest : ConsoleJob
   same : map unlined_console (before ++ latest ∷ []) ≡ map unlined_console (map without_key_file consoles)
-  reads : Reads n (head t q) (consoles_text 0 consoles) after (inside t q before (as_draft latest))
+  reads : Reads n (head top) (consoles_text 0 consoles) after (inside top before (as_draft latest))
 
-all-read : (n t q : ℕ) (consoles : List ConsoleJob) → All IsConsole consoles → 1 ≤ length consoles
-    → length consoles ≤ 4 → AllRead n t q consoles
+all-read : (n : ℕ) (top : Top) (consoles : List ConsoleJob) → All IsConsole consoles
+    → All (CanStand top.version) consoles → 1 ≤ length consoles
+    → length consoles ≤ 4 → AllRead n top consoles
 unfolding consoles_text
-all-read n t q [] sound some few = absurd (omega arith)
-all-read n t q (console ∷ consoles) sound some few =
-    let opened = line-reads n (head t q) (codes "console") (decimal 0 ∷ []) (Console 0) (console-line 0 (omega arith)) (first-says t q) in
-    let start = rw (first-plus (n + 1) t q) at opened in
-    let body = body-read (n + 1) t q [] console (All-head IsConsole console consoles sound) in
-    let rest = consoles-read body.after t q [] body.last consoles (All-tail IsConsole console consoles sound) (omega arith) in
+all-read n top [] sound can some few = absurd (omega arith)
+all-read n top (console ∷ consoles) sound can some few =
+    let opened = line-reads n (head top) (codes "console") (decimal 0 ∷ []) (Console 0) (console-line 0 (omega arith)) (opening-says top) in
+    let start = rw (opening-plus (n + 1) top) at opened in
+    let body = body-read (n + 1) top [] console (All-head IsConsole console consoles sound)
+    (All-head (CanStand top.version) console consoles can) in
+    let rest = consoles-read body.after top [] body.last consoles (All-tail IsConsole console consoles sound)
+    (All-tail (CanStand top.version) console consoles can) (omega arith) in
     record {
       after = rest.after;
       before = rest.before;
@@ -171,81 +223,143 @@ all-read n t q (console ∷ consoles) sound some few =
 end-line : IsLine (codes "end") []
 end-line = record { keyword = record { some = omega arith; bytes = refl }; words = are_none; plain = refl; short = lit≤ tt }
 
-end-says : (t q : ℕ) (whole : List ConsoleJob) (last : ConsoleJob)
-    → words_say (inside t q whole (as_draft last)) (codes "end" ∷ []) ≡ Ok (Some End)
+end-says : (top : Top) (whole : List ConsoleJob) (last : ConsoleJob)
+    → words_say (inside top whole (as_draft last)) (codes "end" ∷ []) ≡ Ok (Some End)
 unfolding keyword_of refusal_at arguments
-end-says t q whole last = refl
+end-says top whole last = refl
 
-abbrev ended : ℕ → ℕ → List ConsoleJob → Draft
-ended t q whole =
-    record { place = Ended; cycles = Some t; delay = Some q; consoles = whole; last = silent_console }
+abbrev ended : Top → List ConsoleJob → Draft
+ended top whole = record {
+  version = top.version;
+  place = Ended;
+  cycles = Some top.cycles;
+  delay = top.delay;
+  links = top.links;
+  consoles = whole;
+  last = silent_console;
+}
 
-end-plus : (n t q : ℕ) (whole : List ConsoleJob) (last : ConsoleJob)
-    → plus_statement n End (inside t q whole (as_draft last)) ≡ ended t q (whole ++ last ∷ [])
+end-plus : (n : ℕ) (top : Top) (whole : List ConsoleJob) (last : ConsoleJob)
+    → plus_statement n End (inside top whole (as_draft last)) ≡ ended top (whole ++ last ∷ [])
 unfolding plus_statement
-end-plus n t q whole last = refl
+end-plus n top whole last = refl
 
 -- what is said at the end
-abbrev said : ℕ → ℕ → List ConsoleJob → WholeJob
-said t q whole = record { cycles = t; delay = q; consoles = whole }
+abbrev said : Top → List ConsoleJob → WholeJob
+said top whole = record {
+  cycles = top.cycles;
+  delays = delays_of (unwrap_or top.delay usual_delay) top.links (players_for (length whole));
+  consoles = whole;
+}
 
-at-end : (n t q : ℕ) (whole : List ConsoleJob) → job_at_end n (ended t q whole) ≡ Ok (said t q whole)
+at-end : (n : ℕ) (top : Top) (whole : List ConsoleJob) → job_at_end n (ended top whole) ≡ Ok (said top whole)
 unfolding job_at_end
-at-end n t q whole = refl
+at-end n top whole = refl
 
--- the whole log
-record LogRead (job : WholeJob) : Type 0 where
+-- the lines from the first console on
+record RestRead (n : ℕ) (top : Top) (consoles : List ConsoleJob) : Type 0 where
   after : ℕ
   whole : List ConsoleJob
-  same : map unlined_console whole ≡ map unlined_console (map without_key_file job.consoles)
-  reads : Reads 0 nothing_said (log_text job) after (ended job.cycles job.delay whole)
+  same : map unlined_console whole ≡ map unlined_console (map without_key_file consoles)
+  reads : Reads n (head top) (consoles_text 0 consoles ++ line_of (codes "end") []) after (ended top whole)
 
-log-read : (job : WholeJob) → IsJob job → LogRead job
-unfolding log_text
-log-read job sound =
-    let t = job.cycles in
-    let q = job.delay in
-    let first = rw (version-plus 1) at (line-reads 0 nothing_said (codes "gbalink") (codes "1" ∷ []) Version version-line version-says) in
-    let second = rw (cycles-plus 2 t) at (line-reads 1 versioned (codes "cycles") (decimal t ∷ []) (Cycles t)
-    (number-line (codes "cycles") t (record { some = omega arith; bytes = refl }) refl (lit≤ tt) (omega (arith, sound.few_cycles)))
-    (cycles-says t sound.some_cycles sound.few_cycles)) in
-    let third = rw (delay-plus 3 t q) at (line-reads 2 (timed t) (codes "delay") (decimal q ∷ []) (Delay q)
-    (number-line (codes "delay") q (record { some = omega arith; bytes = refl }) refl (lit≤ tt) (omega (arith, sound.few_delay)))
-    (delay-says t q sound.some_delay sound.few_delay)) in
-    let all = all-read 3 t q job.consoles sound.each sound.some_consoles sound.few_consoles in
-    let last = rw (end-plus (all.after + 1) t q all.before all.latest) at (line-reads all.after (inside t q all.before (as_draft all.latest))
-    (codes "end") [] End end-line (end-says t q all.before all.latest)) in
+rest-read : (n : ℕ) (top : Top) (consoles : List ConsoleJob) → All IsConsole consoles
+    → All (CanStand top.version) consoles → 1 ≤ length consoles → length consoles ≤ 4 → RestRead n top consoles
+rest-read n top consoles sound can some few =
+    let all = all-read n top consoles sound can some few in
+    let last = rw (end-plus (all.after + 1) top all.before all.latest) at (line-reads all.after (inside top all.before (as_draft all.latest))
+    (codes "end") [] End end-line (end-says top all.before all.latest)) in
     record {
       after = all.after + 1;
       whole = all.before ++ all.latest ∷ [];
       same = all.same;
-      reads = reads-then _ _ _ _ _ _ (line_of (codes "gbalink") (codes "1" ∷ [])) _ first
-          (reads-then _ _ _ _ _ _ (line_of (codes "cycles") (decimal t ∷ [])) _ second
-          (reads-then _ _ _ _ _ _ (line_of (codes "delay") (decimal q ∷ [])) _ third
-          (reads-then _ _ _ _ _ _ (consoles_text 0 job.consoles) (line_of (codes "end") []) all.reads last)));
+      reads = reads-then _ _ _ _ _ _ (consoles_text 0 consoles) (line_of (codes "end") []) all.reads last;
     }
+
+-- ---- the whole text
 
 lines-none : lines [] ≡ []
 unfolding lines
 lines-none = refl
 
-leads-log : (job : WholeJob) (read : LogRead job)
-    → Leads jobs 0 nothing_said (lines (log_text job)) (ended job.cycles job.delay read.whole)
-leads-log job read =
-    let e = ended job.cycles job.delay read.whole in
-    let none : Leads jobs read.after e (lines []) e = rw lines-none (leads_none jobs read.after e) in
-    subst (λ text. Leads jobs 0 nothing_said (lines text) e) (append-nil (log_text job)) (read.reads.goes [] e none)
+leads-text : (text : List ℕ) (n : ℕ) (e : Draft) → Reads 0 nothing_said text n e
+    → Leads jobs 0 nothing_said (lines text) e
+leads-text text n e read =
+    let none : Leads jobs n e (lines []) e = rw lines-none (leads_none jobs n e) in
+    subst (λ all. Leads jobs 0 nothing_said (lines all) e) (append-nil text) (read.goes [] e none)
+
+text-again : (text : List ℕ) (n : ℕ) (top : Top) (whole : List ConsoleJob) → length text ≤ longest_job
+    → Reads 0 nothing_said text n (ended top whole) → job_of text ≡ Ok (said top whole)
+unfolding job_of
+text-again text n top whole short read =
+    let end = led jobs 0 nothing_said (ended top whole) (lines text) (leads-text text n (ended top whole) read) in
+    answer_of-lines jobs text (Ok (said top whole)) short (end ∙ at-end (0 + length (lines text)) top whole)
+
+same-long : (whole consoles : List ConsoleJob)
+    → map unlined_console whole ≡ map unlined_console (map without_key_file consoles) → length whole ≡ length consoles
+same-long whole consoles same =
+    omega (
+      arith,
+      length-map whole unlined_console,
+      length-map (map without_key_file consoles) unlined_console,
+      length-map consoles without_key_file,
+      ap length same,
+    )
+
+-- a job with these consoles and these delays
+abbrev job_of_delays : ℕ → Delays → List ConsoleJob → WholeJob
+job_of_delays t delays consoles = record { cycles = t; delays = delays; consoles = consoles }
+
+same-said : (top : Top) (whole consoles : List ConsoleJob) (delays : Delays)
+    → map unlined_console whole ≡ map unlined_console (map without_key_file consoles)
+    → delays_of (unwrap_or top.delay usual_delay) top.links (players_for (length consoles)) ≡ delays
+    → unlined (said top whole) ≡ unlined (without_key_files (job_of_delays top.cycles delays consoles))
+same-said top whole consoles delays same are =
+    let long = same-long whole consoles same in
+    let cable = ap (λ n. delays_of (unwrap_or top.delay usual_delay) top.links (players_for n)) long ∙ are in
+    ap (λ d. record { cycles = top.cycles; delays = d; consoles = map unlined_console whole }) cable
+    ∙ ap (λ cs. record { cycles = top.cycles; delays = delays; consoles = cs }) same
 
 -- the log of a sound job is read as the same job, but for the numbers of its lines and its key files
 pub job-again : (job : WholeJob) → IsJob job → IsReadAgain job
-unfolding job_of
+unfolding log_text
 job-again job sound =
-    let read = log-read job sound in
-    let again = said job.cycles job.delay read.whole in
-    let text = log_text job in
-    let end = led jobs 0 nothing_said (ended job.cycles job.delay read.whole) (lines text) (leads-log job read) in
+    let t = job.cycles in
+    let n = length job.consoles in
+    let cycles = cycles-read Two t sound.some_cycles sound.few_cycles (omega (arith, sound.few_cycles)) in
+    let cable = cable-read 2 t n job.delays sound.some_consoles sound.few_consoles sound.delays.within in
+    let top = linked t (links_in (players_for n) job.delays all_pairs) in
+    let rest = rest-read cable.after top job.consoles sound.each (λ i d lt some. refl) sound.some_consoles sound.few_consoles in
+    let reads : Reads 0 nothing_said (log_text job) rest.after (ended top rest.whole) =
+    reads-then _ _ _ _ _ _ (line_of (codes "gbalink") (codes "2" ∷ [])) _ second-read
+    (reads-then _ _ _ _ _ _ (line_of (codes "cycles") (decimal t ∷ [])) _ cycles
+    (reads-then _ _ _ _ _ _ (links_text (players_for n) job.delays) _ cable.reads rest.reads)) in
     record {
-      again = again;
-      read = answer_of-lines jobs text (Ok again) (log-short job sound) (end ∙ at-end (0 + length (lines text)) job.cycles job.delay read.whole);
-      same = ap (said job.cycles job.delay) read.same;
+      again = said top rest.whole;
+      read = text-again (log_text job) rest.after top rest.whole (log-short job sound) reads;
+      same = same-said top rest.whole job.consoles job.delays rest.same
+          (delays-again n job.delays sound.some_consoles sound.few_consoles sound.delays);
+    }
+
+-- a text of version 1 is read as its job, but for the numbers of its lines and its key files
+pub record IsOldAgain (t q : ℕ) (consoles : List ConsoleJob) : Type 0 where
+  pub again : WholeJob
+  pub read : job_of (old_text t q consoles) ≡ Ok again
+  pub same : unlined again
+      ≡ unlined (without_key_files (job_of_delays t (delays_of q [] (players_for (length consoles))) consoles))
+
+pub old-again : (t q : ℕ) (consoles : List ConsoleJob) → 1 ≤ t → t ≤ 2 ^ 31 → 1 ≤ q → q ≤ 1024 → All IsConsole consoles
+    → All (λ console. console.off ≡ 0) consoles → 1 ≤ length consoles → length consoles ≤ 4 → IsOldAgain t q consoles
+old-again t q consoles low high least most sound on some few =
+    let top = delayed t q in
+    let can : All (CanStand One) consoles = λ i d lt after. absurd (omega (arith, on i d lt, after)) in
+    let rest = rest-read 3 top consoles sound can some few in
+    let reads : Reads 0 nothing_said (old_text t q consoles) rest.after (ended top rest.whole) =
+    reads-then _ _ _ _ _ _ (line_of (codes "gbalink") (codes "1" ∷ [])) _ first-read
+    (reads-then _ _ _ _ _ _ (line_of (codes "cycles") (decimal t ∷ [])) _ (cycles-read One t low high (omega (arith, high)))
+    (reads-then _ _ _ _ _ _ (line_of (codes "delay") (decimal q ∷ [])) _ (delay-read t q least most) rest.reads)) in
+    record {
+      again = said top rest.whole;
+      read = text-again (old_text t q consoles) rest.after top rest.whole (old-short t q consoles high most few sound) reads;
+      same = same-said top rest.whole consoles (delays_of q [] (players_for (length consoles))) rest.same refl;
     }

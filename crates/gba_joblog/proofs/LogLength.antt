@@ -1,17 +1,21 @@
 -- A log isn't longer than a job may be.
-use Rattle.std.proofs.Common.{ℕ, ◌+◌, ◌*◌, ◌<◌, ◌≤◌, ◌^◌, List, [], ◌∷◌, ◌++◌, length, Option, Some, None, lit≤, arith}
+use Rattle.std.proofs.Common.{ℕ, ◌+◌, ◌*◌, ◌<◌, ◌≤◌, ◌^◌, ◌==◌, Bool, true, false, cond, List, [], ◌∷◌, ◌++◌, length, Option, Some, None, lit<, lit≤, arith}
 use Rattle.std.specs.Prelude.{IfSome, codes, decimal}
 use Rattle.std.specs.List.{All, flat_map}
 use Rattle.std.proofs.lemmas.List.{length-append}
 use Rattle.std.proofs.lemmas.List.Elements.{All-head, All-tail}
 use Rattle.hex.specs.Hex.{encode_lower}
+use Rattle.link_node.specs.Delays.{hop_of, AreDelays}
+use Rattle.link_node.specs.declared.delays.Delays.{Delays}
+use Rattle.gba_joblog.specs.Cable.{all_pairs, is_joined, players_for}
 use Rattle.gba_joblog.specs.Digests.{IsDigest}
 use Rattle.gba_joblog.specs.Job.{ConsoleJob, NamedFile, WholeJob}
 use Rattle.gba_joblog.specs.Language.{longest_job}
-use Rattle.gba_joblog.specs.Log.{after_words, any_file_text, asked_text, change_text, changes_text, console_text, consoles_text, digest_words, file_text, files_text, keys_word, line_of, log_text, out_text, outs_text}
+use Rattle.gba_joblog.specs.Log.{after_words, any_file_text, asked_text, change_text, changes_text, console_text, consoles_text, digest_words, file_text, files_text, keys_word, line_of, link_text, links_text, log_text, off_text, out_text, outs_text}
 use Rattle.gba_joblog.specs.Outputs.{all_kinds, out_name}
 use Rattle.gba_joblog.specs.Soundness.{IsChange, IsConsole, IsFile, IsJob, IsOutput}
 use Rattle.gba_joblog.specs.Statements.{output_of}
+use Rattle.gba_joblog.specs.declared.cable.Pair.{Pair}
 use Rattle.gba_joblog.specs.declared.job.KeyChange.{KeyChange}
 use Rattle.gba_joblog.specs.declared.job.OutLine.{OutLine}
 use Rattle.gba_joblog.specs.declared.outputs.OutKind.{OutKind}
@@ -99,19 +103,28 @@ files-short console sound =
       any-file_short (codes "save") console.save (lit≤ tt) sound.lines.save,
     )
 
+off-short : (off : ℕ) → off < 2 ^ 64 → length (off_text off) ≤ 30
+off-short off small = by_test (off == 0) where
+  by_test : (b : Bool) → length (cond b [] (line_of (codes "off") (decimal off ∷ []))) ≤ 30
+  by_test true = omega arith
+  by_test false = number-short (codes "off") off (lit≤ tt) small
+
 console-short : (player : ℕ) (console : ConsoleJob) → player < 2 ^ 64 → IsConsole console
-    → length (console_text player console) ≤ 29001296
+    → length (console_text player console) ≤ 29001326
 unfolding console_text
 console-short player console small sound =
     let a = line_of (codes "console") (decimal player ∷ []) in
     let b = files_text console in
+    let o = off_text console.off in
     let c = changes_text console.changes in
     let d = outs_text console in
     omega (
       arith,
-      length-append a (b ++ (c ++ d)),
-      length-append b (c ++ d),
+      length-append a (b ++ (o ++ (c ++ d))),
+      length-append b (o ++ (c ++ d)),
+      length-append o (c ++ d),
       length-append c d,
+      off-short console.off (omega (arith, sound.off)),
       number-short (codes "console") player (lit≤ tt) small,
       files-short console sound,
       changes-short console.changes sound.lines.changes.each,
@@ -120,7 +133,7 @@ console-short player console small sound =
     )
 
 consoles-short : (player : ℕ) (consoles : List ConsoleJob) → player + length consoles ≤ 4 → All IsConsole consoles
-    → length (consoles_text player consoles) ≤ 29001296 * length consoles
+    → length (consoles_text player consoles) ≤ 29001326 * length consoles
 unfolding consoles_text
 consoles-short player [] few sound = lit≤ tt
 consoles-short player (console ∷ consoles) few sound =
@@ -132,11 +145,87 @@ consoles-short player (console ∷ consoles) few sound =
       consoles-short (player + 1) consoles (omega arith) (All-tail IsConsole console consoles sound),
     )
 
+link-short : (players : ℕ) (delays : Delays) (pair : Pair) → AreDelays delays → pair.sender < 4 → pair.receiver < 4
+    → length (link_text players delays pair) ≤ 68
+link-short players delays pair are from to = by_test (is_joined players pair) where
+  line : List ℕ
+  line = line_of (codes "link")
+      (decimal pair.sender ∷ decimal pair.receiver ∷ decimal (hop_of delays pair.sender pair.receiver) ∷ [])
+
+  by_test : (b : Bool) → length (cond b line []) ≤ 68
+  by_test true =
+      let delay = hop_of delays pair.sender pair.receiver in
+      let last = decimal delay ++ codes "\n" in
+      let second = decimal pair.receiver ++ (32 ∷ last) in
+      omega (
+        arith,
+        length-append (decimal pair.sender) (32 ∷ second),
+        length-append (decimal pair.receiver) (32 ∷ last),
+        length-append (decimal delay) (codes "\n"),
+        decimal-short pair.sender (omega (arith, from)),
+        decimal-short pair.receiver (omega (arith, to)),
+        decimal-short delay (omega (arith, (are pair.sender pair.receiver from to).1)),
+      )
+  by_test false = omega arith
+
+-- two players of four
+abbrev pub AreFour : List Pair → Type 0
+AreFour [] = Unit {0}
+AreFour (pair ∷ pairs) = ((pair.sender < 4) × (pair.receiver < 4)) × AreFour pairs
+
+pub all-four : AreFour all_pairs
+all-four = (
+  (lit< tt, lit< tt),
+  (
+    (lit< tt, lit< tt),
+    (
+      (lit< tt, lit< tt),
+      (
+        (lit< tt, lit< tt),
+        (
+          (lit< tt, lit< tt),
+          (
+            (lit< tt, lit< tt),
+            (
+              (lit< tt, lit< tt),
+              (
+                (lit< tt, lit< tt),
+                (
+                  (lit< tt, lit< tt),
+                  (
+                    (lit< tt, lit< tt),
+                    ((lit< tt, lit< tt), ((lit< tt, lit< tt), tt)),
+                  ),
+                ),
+              ),
+            ),
+          ),
+        ),
+      ),
+    ),
+  ),
+)
+
+pairs-short : (players : ℕ) (delays : Delays) (pairs : List Pair) → AreDelays delays → AreFour pairs
+    → length (flat_map (link_text players delays) pairs) ≤ 68 * length pairs
+pairs-short players delays [] are four = omega arith
+pairs-short players delays (pair ∷ pairs) are four =
+    omega (
+      arith,
+      length-append (link_text players delays pair) (flat_map (link_text players delays) pairs),
+      link-short players delays pair are four.0.0 four.0.1,
+      pairs-short players delays pairs are four.1,
+    )
+
+links-short : (players : ℕ) (delays : Delays) → AreDelays delays → length (links_text players delays) ≤ 816
+unfolding links_text
+links-short players delays are = pairs-short players delays all_pairs are all-four
+
 pub log-short : (job : WholeJob) → IsJob job → length (log_text job) ≤ longest_job
 unfolding log_text
 log-short job sound =
     let a = line_of (codes "cycles") (decimal job.cycles ∷ []) in
-    let b = line_of (codes "delay") (decimal job.delay ∷ []) in
+    let b = links_text (players_for (length job.consoles)) job.delays in
     let c = consoles_text 0 job.consoles in
     omega (
       arith,
@@ -144,7 +233,30 @@ log-short job sound =
       length-append b (c ++ codes "end\n"),
       length-append c (codes "end\n"),
       number-short (codes "cycles") job.cycles (lit≤ tt) (omega (arith, sound.few_cycles)),
-      number-short (codes "delay") job.delay (lit≤ tt) (omega (arith, sound.few_delay)),
+      links-short (players_for (length job.consoles)) job.delays sound.delays.within,
       consoles-short 0 job.consoles (omega (arith, sound.few_consoles)) sound.each,
       sound.few_consoles,
+    )
+
+-- a job of version 1 with this delay for all pairs, spelled as a log is
+abbrev pub old_text : ℕ → ℕ → List ConsoleJob → List ℕ
+old_text cycles delay consoles =
+    line_of (codes "gbalink") (codes "1" ∷ []) ++ (line_of (codes "cycles") (decimal cycles ∷ [])
+    ++ (line_of (codes "delay") (decimal delay ∷ []) ++ (consoles_text 0 consoles ++ line_of (codes "end") [])))
+
+pub old-short : (cycles delay : ℕ) (consoles : List ConsoleJob) → cycles ≤ 2 ^ 31 → delay ≤ 1024 → length consoles ≤ 4
+    → All IsConsole consoles → length (old_text cycles delay consoles) ≤ longest_job
+old-short cycles delay consoles high most few sound =
+    let a = line_of (codes "cycles") (decimal cycles ∷ []) in
+    let b = line_of (codes "delay") (decimal delay ∷ []) in
+    let c = consoles_text 0 consoles in
+    omega (
+      arith,
+      length-append a (b ++ (c ++ codes "end\n")),
+      length-append b (c ++ codes "end\n"),
+      length-append c (codes "end\n"),
+      number-short (codes "cycles") cycles (lit≤ tt) (omega (arith, high)),
+      number-short (codes "delay") delay (lit≤ tt) (omega (arith, most)),
+      consoles-short 0 consoles (omega (arith, few)) sound,
+      few,
     )

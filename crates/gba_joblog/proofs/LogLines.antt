@@ -16,6 +16,8 @@ use Rattle.gba_joblog.specs.Language.{jobs, line_says, said_with, words_say, wor
 use Rattle.gba_joblog.specs.Log.{digest_words, line_of}
 use Rattle.gba_joblog.specs.Operands.{LineWords}
 use Rattle.gba_joblog.specs.Statements.{Statement, plus_statement}
+use Rattle.gba_joblog.specs.declared.cable.Link.{Link}
+use Rattle.gba_joblog.specs.declared.draft.JobVersion.{JobVersion}
 use Rattle.gba_joblog.specs.declared.draft.Place.TheVariants.{Head, Inside}
 use Rattle.gba_joblog.proofs.Spelling.{IsLine, IsWord, are_more, are_none, is_said-line, line_of-spaced, lines-first, spaced, text-line, words-line}
 use Rattle.gba_joblog.proofs.SpelledValues.{AreWords-digest, IsWord-decimal, decimal-short, digits-long}
@@ -91,11 +93,32 @@ stated-line front name stated is named plain short few right = record {
   );
 }
 
--- before the first console, and inside of one
-abbrev pub head : ℕ → ℕ → Draft
-head cycles delay =
-    record { place = Head; cycles = Some cycles; delay = Some delay; consoles = []; last = silent_console }
+-- what the lines before the first console have said
+pub record Top : Type 0 where
+  pub version : JobVersion
+  pub cycles : ℕ
+  pub delay : Option ℕ
+  pub links : List Link
 
-abbrev pub inside : ℕ → ℕ → List ConsoleJob → DraftConsole → Draft
-inside cycles delay whole last =
-    record { place = Inside; cycles = Some cycles; delay = Some delay; consoles = whole; last = last }
+-- before the first console, and inside of one
+abbrev pub head : Top → Draft
+head top = record {
+  version = top.version;
+  place = Head;
+  cycles = Some top.cycles;
+  delay = top.delay;
+  links = top.links;
+  consoles = [];
+  last = silent_console;
+}
+
+abbrev pub inside : Top → List ConsoleJob → DraftConsole → Draft
+inside top whole last = record {
+  version = top.version;
+  place = Inside;
+  cycles = Some top.cycles;
+  delay = top.delay;
+  links = top.links;
+  consoles = whole;
+  last = last;
+}

@@ -1,9 +1,10 @@
 -- The lines of one console of a log.
-use Rattle.std.proofs.Common.{◌≡◌, ℕ, ◌+◌, ◌-◌, ◌<◌, ◌≤◌, ◌^◌, true, false, List, [], ◌∷◌, ◌++◌, length, nat_le, nat_lt, Option, Some, None, Ok, refl, ap, subst, lit≤, arith}
+use Rattle.std.proofs.Common.{◌≡◌, ℕ, zero, suc, ◌+◌, ◌-◌, ◌<◌, ◌≤◌, ◌^◌, ◌==◌, true, false, List, [], ◌∷◌, ◌++◌, length, nat_le, nat_lt, Option, Some, None, Ok, refl, ap, subst, lit≤, arith}
 use Rattle.std.specs.Prelude.{IfSome, codes, decimal, is_some, option_map}
 use Rattle.std.specs.List.{flat_map}
 use Rattle.std.proofs.Math.Seq.{get_or-append_seam}
 use Rattle.std.proofs.lemmas.Bool.{le-leb, lt-ltb}
+use Rattle.std.proofs.lemmas.Bool.Decides.{nat_tests}
 use Rattle.std.proofs.lemmas.List.{append-nil, append_assoc, get_or_append_left, length-append}
 use Rattle.gba_joblog.specs.Changes.{change_at, least_clock, most_changes}
 use Rattle.gba_joblog.specs.Digests.{IsDigest}
@@ -11,12 +12,13 @@ use Rattle.gba_joblog.specs.Draft.{DraftConsole}
 use Rattle.gba_joblog.specs.Lines.{is_comment}
 use Rattle.gba_joblog.specs.Job.{ConsoleJob, NamedFile}
 use Rattle.gba_joblog.specs.Language.{words_say}
-use Rattle.gba_joblog.specs.Log.{any_file_text, asked_text, change_text, changes_text, digest_words, file_text, files_text, keys_word, out_text, outs_text}
+use Rattle.gba_joblog.specs.Log.{any_file_text, asked_text, change_text, changes_text, digest_words, file_text, files_text, keys_word, line_of, off_text, out_text, outs_text}
 use Rattle.gba_joblog.specs.LogLaw.{unlined_console, unlined_file, without_key_file}
 use Rattle.gba_joblog.specs.Names.{is_name}
 use Rattle.gba_joblog.specs.Outputs.{all_kinds, at_kind, out_name, per_kind, with_kind}
 use Rattle.gba_joblog.specs.Soundness.{AreChanges, IsChange, IsConsole, IsFile, IsOutput}
-use Rattle.gba_joblog.specs.Statements.{File, Key, Out, arguments, file_refusal, keyword_of, named_file, plus_statement, refusal_at, with_file, with_output}
+use Rattle.gba_joblog.specs.Statements.{File, Key, Off, Out, arguments, file_refusal, is_two, keyword_of, named_file, plus_statement, refusal_at, with_file, with_output}
+use Rattle.gba_joblog.specs.declared.draft.JobVersion.{JobVersion}
 use Rattle.gba_joblog.specs.declared.job.FileKind.{FileKind}
 use Rattle.gba_joblog.specs.declared.job.FileKind.TheVariants as file
 use Rattle.gba_joblog.specs.declared.job.KeyChange.{KeyChange}
@@ -26,16 +28,16 @@ use Rattle.gba_joblog.specs.declared.outputs.OutKind.TheVariants.{Frames, Sample
 use Rattle.gba_joblog.specs.declared.outputs.OutKind.TheVariants as output
 use Rattle.gba_joblog.specs.declared.outputs.PerKind.{PerKind}
 use Rattle.gba_joblog.proofs.EachKind.{all_with}
-use Rattle.gba_joblog.proofs.LogLines.{Reads, inside, line-reads, reads-nothing, reads-then, stated-line}
+use Rattle.gba_joblog.proofs.LogLines.{Reads, Top, inside, line-reads, number-line, reads-nothing, reads-then, stated-line}
 use Rattle.gba_joblog.proofs.NameTexts.{name-short}
 use Rattle.gba_joblog.proofs.SoundChanges.{last-least}
 use Rattle.gba_joblog.proofs.Spelling.{IsLine, IsWord, are_more, are_none, spaced}
 use Rattle.gba_joblog.proofs.SpelledValues.{IsWord-decimal, IsWord-keys, IsWord-name, IsWord-out, decimal-short, digest-again, keys-again, name-again, number-again, out-again, out-short}
 
 -- a console as far as its lines are read
-abbrev pub part : Option NamedFile → Option NamedFile → Option NamedFile → List KeyChange → PerKind (Option OutLine) → DraftConsole
-part bios cart save changes outs =
-    record { bios = bios; cart = cart; save = save; keys = None; changes = changes; outs = outs }
+abbrev pub part : Option NamedFile → Option NamedFile → Option NamedFile → ℕ → List KeyChange → PerKind (Option OutLine) → DraftConsole
+part bios cart save off changes outs =
+    record { bios = bios; cart = cart; save = save; keys = None; changes = changes; off = off; outs = outs }
 
 abbrev pub no_outs : PerKind (Option OutLine)
 no_outs = per_kind (λ _. None)
@@ -66,23 +68,23 @@ file_word-short file.Cart = lit≤ tt
 file_word-short file.Save = lit≤ tt
 file_word-short file.Keys = lit≤ tt
 
-file-says : (t q : ℕ) (whole : List ConsoleJob) (last : DraftConsole) (f : FileKind) (name : List ℕ) (stated : Option (List ℕ))
+file-says : (top : Top) (whole : List ConsoleJob) (last : DraftConsole) (f : FileKind) (name : List ℕ) (stated : Option (List ℕ))
     → file_refusal f last ≡ None → is_name name ≡ true → IfSome stated IsDigest
-    → words_say (inside t q whole last) (file_word f ∷ name ∷ digest_words stated) ≡ Ok (Some (File f name stated))
+    → words_say (inside top whole last) (file_word f ∷ name ∷ digest_words stated) ≡ Ok (Some (File f name stated))
 unfolding keyword_of refusal_at arguments
-file-says t q whole last file.Bios name stated place named right =
+file-says top whole last file.Bios name stated place named right =
     let a = name-again name (digest_words stated) named in
     let b = digest-again stated right in
     rw (place, a, b) refl
-file-says t q whole last file.Cart name stated place named right =
+file-says top whole last file.Cart name stated place named right =
     let a = name-again name (digest_words stated) named in
     let b = digest-again stated right in
     rw (place, a, b) refl
-file-says t q whole last file.Save name stated place named right =
+file-says top whole last file.Save name stated place named right =
     let a = name-again name (digest_words stated) named in
     let b = digest-again stated right in
     rw (place, a, b) refl
-file-says t q whole last file.Keys name stated place named right =
+file-says top whole last file.Keys name stated place named right =
     let a = name-again name (digest_words stated) named in
     let b = digest-again stated right in
     rw (place, a, b) refl
@@ -92,52 +94,52 @@ abbrev pub put_file : FileKind → Option NamedFile → DraftConsole → DraftCo
 put_file f None last = last
 put_file f (Some named) last = with_file f named last
 
-file-plus : (n t q : ℕ) (whole : List ConsoleJob) (last : DraftConsole) (f : FileKind) (name : List ℕ) (stated : Option (List ℕ))
-    → plus_statement n (File f name stated) (inside t q whole last)
-    ≡ inside t q whole (with_file f (named_file name stated n) last)
+file-plus : (n : ℕ) (top : Top) (whole : List ConsoleJob) (last : DraftConsole) (f : FileKind) (name : List ℕ) (stated : Option (List ℕ))
+    → plus_statement n (File f name stated) (inside top whole last)
+    ≡ inside top whole (with_file f (named_file name stated n) last)
 unfolding plus_statement
-file-plus n t q whole last f name stated = refl
+file-plus n top whole last f name stated = refl
 
 -- the line of a file that is named: it is found again, but for its line
-record NamedReads (n t q : ℕ) (whole : List ConsoleJob) (last : DraftConsole) (f : FileKind) (named : NamedFile) : Type 0 where
+record NamedReads (n : ℕ) (top : Top) (whole : List ConsoleJob) (last : DraftConsole) (f : FileKind) (named : NamedFile) : Type 0 where
   after : ℕ
   found : NamedFile
   same : unlined_file found ≡ unlined_file named
-  reads : Reads n (inside t q whole last) (file_text (file_word f) named) after (inside t q whole (with_file f found last))
+  reads : Reads n (inside top whole last) (file_text (file_word f) named) after (inside top whole (with_file f found last))
 
-named-reads : (n t q : ℕ) (whole : List ConsoleJob) (last : DraftConsole) (f : FileKind) (named : NamedFile)
-    → file_refusal f last ≡ None → IsFile named → NamedReads n t q whole last f named
-named-reads n t q whole last f named place sound =
+named-reads : (n : ℕ) (top : Top) (whole : List ConsoleJob) (last : DraftConsole) (f : FileKind) (named : NamedFile)
+    → file_refusal f last ≡ None → IsFile named → NamedReads n top whole last f named
+named-reads n top whole last f named place sound =
     let line = stated-line (file_word f) named.name named.digest (file_word-word f) (IsWord-name named.name sound.named)
     (file_word-plain f (spaced (named.name ∷ digest_words named.digest))) (file_word-short f)
     (name-short named.name sound.named) sound.stated in
-    let says = file-says t q whole last f named.name named.digest place sound.named sound.stated in
-    let reads = line-reads n (inside t q whole last) (file_word f) (named.name ∷ digest_words named.digest)
+    let says = file-says top whole last f named.name named.digest place sound.named sound.stated in
+    let reads = line-reads n (inside top whole last) (file_word f) (named.name ∷ digest_words named.digest)
     (File f named.name named.digest) line says in
     record {
       after = n + 1;
       found = named_file named.name named.digest (n + 1);
       same = refl;
-      reads = rw (file-plus (n + 1) t q whole last f named.name named.digest) at reads;
+      reads = rw (file-plus (n + 1) top whole last f named.name named.digest) at reads;
     }
 
 -- the line of a file that may be named
-record FileReads (n t q : ℕ) (whole : List ConsoleJob) (last : DraftConsole) (f : FileKind) (named : Option NamedFile) : Type 0 where
+record FileReads (n : ℕ) (top : Top) (whole : List ConsoleJob) (last : DraftConsole) (f : FileKind) (named : Option NamedFile) : Type 0 where
   after : ℕ
   found : Option NamedFile
   same : option_map unlined_file found ≡ option_map unlined_file named
-  reads : Reads n (inside t q whole last) (any_file_text (file_word f) named) after (inside t q whole (put_file f found last))
+  reads : Reads n (inside top whole last) (any_file_text (file_word f) named) after (inside top whole (put_file f found last))
 
-file-reads : (n t q : ℕ) (whole : List ConsoleJob) (last : DraftConsole) (f : FileKind) (named : Option NamedFile)
-    → file_refusal f last ≡ None → IfSome named IsFile → FileReads n t q whole last f named
-file-reads n t q whole last f None place sound = record {
+file-reads : (n : ℕ) (top : Top) (whole : List ConsoleJob) (last : DraftConsole) (f : FileKind) (named : Option NamedFile)
+    → file_refusal f last ≡ None → IfSome named IsFile → FileReads n top whole last f named
+file-reads n top whole last f None place sound = record {
   after = n;
   found = None;
   same = refl;
-  reads = reads-nothing n (inside t q whole last);
+  reads = reads-nothing n (inside top whole last);
 }
-file-reads n t q whole last f (Some named) place sound =
-    let line = named-reads n t q whole last f named place sound in
+file-reads n top whole last f (Some named) place sound =
+    let line = named-reads n top whole last f named place sound in
     record {
       after = line.after;
       found = Some line.found;
@@ -145,16 +147,16 @@ file-reads n t q whole last f (Some named) place sound =
       reads = line.reads;
     }
 
-put-cart : (a found : Option NamedFile) → put_file file.Cart found (part a None None [] no_outs) ≡ part a found None [] no_outs
+put-cart : (a found : Option NamedFile) → put_file file.Cart found (part a None None 0 [] no_outs) ≡ part a found None 0 [] no_outs
 put-cart a None = refl
 put-cart a (Some named) = refl
 
-put-save : (a b found : Option NamedFile) → put_file file.Save found (part a b None [] no_outs) ≡ part a b found [] no_outs
+put-save : (a b found : Option NamedFile) → put_file file.Save found (part a b None 0 [] no_outs) ≡ part a b found 0 [] no_outs
 put-save a b None = refl
 put-save a b (Some named) = refl
 
 -- the lines of a console's files
-pub record FilesRead (n t q : ℕ) (whole : List ConsoleJob) (console : ConsoleJob) : Type 0 where
+pub record FilesRead (n : ℕ) (top : Top) (whole : List ConsoleJob) (console : ConsoleJob) : Type 0 where
   pub after : ℕ
   pub bios : NamedFile
   pub cart : Option NamedFile
@@ -162,16 +164,16 @@ pub record FilesRead (n t q : ℕ) (whole : List ConsoleJob) (console : ConsoleJ
   pub same_bios : unlined_file bios ≡ unlined_file console.bios
   pub same_cart : option_map unlined_file cart ≡ option_map unlined_file console.cart
   pub same_save : option_map unlined_file save ≡ option_map unlined_file console.save
-  pub reads : Reads n (inside t q whole (part None None None [] no_outs)) (files_text console) after
-      (inside t q whole (part (Some bios) cart save [] no_outs))
+  pub reads : Reads n (inside top whole (part None None None 0 [] no_outs)) (files_text console) after
+      (inside top whole (part (Some bios) cart save 0 [] no_outs))
 
-pub files-read : (n t q : ℕ) (whole : List ConsoleJob) (console : ConsoleJob) → IsConsole console
-    → FilesRead n t q whole console
-files-read n t q whole console sound =
-    let bios = named-reads n t q whole (part None None None [] no_outs) file.Bios console.bios refl sound.bios in
+pub files-read : (n : ℕ) (top : Top) (whole : List ConsoleJob) (console : ConsoleJob) → IsConsole console
+    → FilesRead n top whole console
+files-read n top whole console sound =
+    let bios = named-reads n top whole (part None None None 0 [] no_outs) file.Bios console.bios refl sound.bios in
     let image = Some bios.found in
-    let cart = file-reads bios.after t q whole (part image None None [] no_outs) file.Cart console.cart refl sound.lines.cart in
-    let save = file-reads cart.after t q whole (part image cart.found None [] no_outs) file.Save console.save refl sound.lines.save in
+    let cart = file-reads bios.after top whole (part image None None 0 [] no_outs) file.Cart console.cart refl sound.lines.cart in
+    let save = file-reads cart.after top whole (part image cart.found None 0 [] no_outs) file.Save console.save refl sound.lines.save in
     let b = rw (put-cart image cart.found) at cart.reads in
     let c = rw (put-save image cart.found save.found) at save.reads in
     record {
@@ -184,6 +186,55 @@ files-read n t q whole console sound =
       same_save = save.same;
       reads = reads-then _ _ _ _ _ _ (file_text (codes "bios") console.bios) _ bios.reads
           (reads-then _ _ _ _ _ _ (any_file_text (codes "cart") console.cart) _ b c);
+    }
+
+-- ---- the clock from which on the console is on
+
+-- a console that isn't on from the start is of version 2
+abbrev pub CanStand : JobVersion → ConsoleJob → Type 0
+CanStand version console = 0 < console.off → is_two version ≡ true
+
+off-says : (top : Top) (whole : List ConsoleJob) (bios cart save : Option NamedFile) (off : ℕ) → 0 < off → off < 2 ^ 38
+    → is_two top.version ≡ true
+    → words_say (inside top whole (part bios cart save 0 [] no_outs)) (codes "off" ∷ decimal off ∷ [])
+    ≡ Ok (Some (Off off))
+unfolding keyword_of refusal_at arguments
+off-says top whole bios cart save off some few two =
+    let is = number-again 1 (2 ^ 38 - 1) off [] (omega (arith, some)) (omega (arith, few)) (omega (arith, few)) in
+    rw (two, is) refl
+
+off-plus : (n : ℕ) (top : Top) (whole : List ConsoleJob) (bios cart save : Option NamedFile) (off : ℕ)
+    → plus_statement n (Off off) (inside top whole (part bios cart save 0 [] no_outs))
+    ≡ inside top whole (part bios cart save off [] no_outs)
+unfolding plus_statement
+off-plus n top whole bios cart save off = refl
+
+off-line : (off : ℕ) → off < 2 ^ 38 → IsLine (codes "off") (decimal off ∷ [])
+off-line off few =
+    number-line (codes "off") off (record { some = omega arith; bytes = refl }) refl (lit≤ tt) (omega (arith, few))
+
+off_text-some : (off : ℕ) → 0 < off → off_text off ≡ line_of (codes "off") (decimal off ∷ [])
+off_text-some off some =
+    let later : (off == 0) ≡ false = grind (arith, nat_tests) in
+    rw later refl
+
+-- the line of the clock, where there is one
+pub record OffRead (n : ℕ) (top : Top) (whole : List ConsoleJob) (bios cart save : Option NamedFile) (off : ℕ) : Type 0 where
+  pub after : ℕ
+  pub reads : Reads n (inside top whole (part bios cart save 0 [] no_outs)) (off_text off) after
+      (inside top whole (part bios cart save off [] no_outs))
+
+pub off-read : (n : ℕ) (top : Top) (whole : List ConsoleJob) (bios cart save : Option NamedFile) (off : ℕ) → off < 2 ^ 38
+    → (0 < off → is_two top.version ≡ true) → OffRead n top whole bios cart save off
+off-read n top whole bios cart save zero few two =
+    record { after = n; reads = reads-nothing n (inside top whole (part bios cart save 0 [] no_outs)) }
+off-read n top whole bios cart save (suc m) few two =
+    let some : 0 < suc m = omega arith in
+    let line = line-reads n (inside top whole (part bios cart save 0 [] no_outs)) (codes "off") (decimal (suc m) ∷ [])
+    (Off (suc m)) (off-line (suc m) few) (off-says top whole bios cart save (suc m) some few (two some)) in
+    record {
+      after = n + 1;
+      reads = rw (off_text-some (suc m) some) (rw (off-plus (n + 1) top whole bios cart save (suc m)) at line);
     }
 
 -- ---- key changes
@@ -221,12 +272,12 @@ follows before rest change all =
       room = omega (arith, long, all.few);
     }
 
-change-says : (t q : ℕ) (whole : List ConsoleJob) (bios cart save : Option NamedFile) (before : List KeyChange) (change : KeyChange)
+change-says : (top : Top) (whole : List ConsoleJob) (bios cart save : Option NamedFile) (off : ℕ) (before : List KeyChange) (change : KeyChange)
     → Follows before change
-    → words_say (inside t q whole (part bios cart save before no_outs)) (codes "key" ∷ decimal change.clock ∷ keys_word change.keys ∷ [])
+    → words_say (inside top whole (part bios cart save off before no_outs)) (codes "key" ∷ decimal change.clock ∷ keys_word change.keys ∷ [])
     ≡ Ok (Some (Key change))
 unfolding keyword_of refusal_at arguments change_at
-change-says t q whole bios cart save before change h =
+change-says top whole bios cart save off before change h =
     let clock = number-again 0 (2 ^ 38 - 1) change.clock (keys_word change.keys ∷ []) (omega arith) (omega (arith, h.is.early)) (omega (arith, h.is.early)) in
     let keys = keys-again change.keys [] h.is.keys in
     let rising : nat_le (least_clock before) change.clock ≡ true = le-leb _ _ h.after in
@@ -246,34 +297,34 @@ change-line change is = record {
   );
 }
 
-change-plus : (n t q : ℕ) (whole : List ConsoleJob) (bios cart save : Option NamedFile) (before : List KeyChange) (change : KeyChange)
-    → plus_statement n (Key change) (inside t q whole (part bios cart save before no_outs))
-    ≡ inside t q whole (part bios cart save (before ++ change ∷ []) no_outs)
+change-plus : (n : ℕ) (top : Top) (whole : List ConsoleJob) (bios cart save : Option NamedFile) (off : ℕ) (before : List KeyChange) (change : KeyChange)
+    → plus_statement n (Key change) (inside top whole (part bios cart save off before no_outs))
+    ≡ inside top whole (part bios cart save off (before ++ change ∷ []) no_outs)
 unfolding plus_statement
-change-plus n t q whole bios cart save before change = refl
+change-plus n top whole bios cart save off before change = refl
 
 -- the lines of the changes after those before them
-pub record ChangesRead (n t q : ℕ) (whole : List ConsoleJob) (bios cart save : Option NamedFile) (before changes : List KeyChange) : Type 0 where
+pub record ChangesRead (n : ℕ) (top : Top) (whole : List ConsoleJob) (bios cart save : Option NamedFile) (off : ℕ) (before changes : List KeyChange) : Type 0 where
   pub after : ℕ
-  pub reads : Reads n (inside t q whole (part bios cart save before no_outs)) (changes_text changes) after
-      (inside t q whole (part bios cart save (before ++ changes) no_outs))
+  pub reads : Reads n (inside top whole (part bios cart save off before no_outs)) (changes_text changes) after
+      (inside top whole (part bios cart save off (before ++ changes) no_outs))
 
-pub changes-read : (n t q : ℕ) (whole : List ConsoleJob) (bios cart save : Option NamedFile) (before changes : List KeyChange)
-    → AreChanges (before ++ changes) → ChangesRead n t q whole bios cart save before changes
+pub changes-read : (n : ℕ) (top : Top) (whole : List ConsoleJob) (bios cart save : Option NamedFile) (off : ℕ) (before changes : List KeyChange)
+    → AreChanges (before ++ changes) → ChangesRead n top whole bios cart save off before changes
 unfolding changes_text
-changes-read n t q whole bios cart save before [] all =
+changes-read n top whole bios cart save off before [] all =
     record {
       after = n;
-      reads = rw append-nil (reads-nothing n (inside t q whole (part bios cart save before no_outs)));
+      reads = rw append-nil (reads-nothing n (inside top whole (part bios cart save off before no_outs)));
     }
-changes-read n t q whole bios cart save before (change ∷ changes) all =
+changes-read n top whole bios cart save off before (change ∷ changes) all =
     let next = follows before changes change all in
-    let line = line-reads n (inside t q whole (part bios cart save before no_outs)) (codes "key")
+    let line = line-reads n (inside top whole (part bios cart save off before no_outs)) (codes "key")
     (decimal change.clock ∷ keys_word change.keys ∷ []) (Key change) (change-line change next.is)
-    (change-says t q whole bios cart save before change next) in
-    let here = rw (change-plus (n + 1) t q whole bios cart save before change) at line in
+    (change-says top whole bios cart save off before change next) in
+    let here = rw (change-plus (n + 1) top whole bios cart save off before change) at line in
     let joined : (before ++ change ∷ []) ++ changes ≡ before ++ change ∷ changes = append_assoc before (change ∷ []) changes in
-    let rest = changes-read (n + 1) t q whole bios cart save (before ++ change ∷ []) changes (rw joined all) in
+    let rest = changes-read (n + 1) top whole bios cart save off (before ++ change ∷ []) changes (rw joined all) in
     record {
       after = rest.after;
       reads = reads-then _ _ _ _ _ _ (change_text change) _ here (rw joined at rest.reads);
@@ -281,11 +332,11 @@ changes-read n t q whole bios cart save before (change ∷ changes) all =
 
 -- ---- outputs
 
-out-says : (t q : ℕ) (whole : List ConsoleJob) (last : DraftConsole) (out : OutKind) (stated : Option (List ℕ))
+out-says : (top : Top) (whole : List ConsoleJob) (last : DraftConsole) (out : OutKind) (stated : Option (List ℕ))
     → is_some (at_kind last.outs out) ≡ false → IfSome stated IsDigest
-    → words_say (inside t q whole last) (codes "out" ∷ out_name out ∷ digest_words stated) ≡ Ok (Some (Out out stated))
+    → words_say (inside top whole last) (codes "out" ∷ out_name out ∷ digest_words stated) ≡ Ok (Some (Out out stated))
 unfolding keyword_of refusal_at arguments
-out-says t q whole last out stated free right =
+out-says top whole last out stated free right =
     let a = out-again out (digest_words stated) in
     let b = digest-again stated right in
     rw (a, free, b) refl
@@ -295,46 +346,46 @@ put_out out None last = last
 put_out out (Some asked) last = with_output out asked last
 
 -- the line of an output that may be asked for
-record OutReads (n t q : ℕ) (whole : List ConsoleJob) (last : DraftConsole) (out : OutKind) (asked : Option OutLine) : Type 0 where
+record OutReads (n : ℕ) (top : Top) (whole : List ConsoleJob) (last : DraftConsole) (out : OutKind) (asked : Option OutLine) : Type 0 where
   after : ℕ
-  reads : Reads n (inside t q whole last) (asked_text (out_name out) asked) after (inside t q whole (put_out out asked last))
+  reads : Reads n (inside top whole last) (asked_text (out_name out) asked) after (inside top whole (put_out out asked last))
 
-out-plus : (n t q : ℕ) (whole : List ConsoleJob) (last : DraftConsole) (out : OutKind) (asked : OutLine)
-    → plus_statement n (Out out asked.digest) (inside t q whole last) ≡ inside t q whole (with_output out asked last)
+out-plus : (n : ℕ) (top : Top) (whole : List ConsoleJob) (last : DraftConsole) (out : OutKind) (asked : OutLine)
+    → plus_statement n (Out out asked.digest) (inside top whole last) ≡ inside top whole (with_output out asked last)
 unfolding plus_statement
-out-plus n t q whole last out asked = refl
+out-plus n top whole last out asked = refl
 
 out-word : IsWord (codes "out")
 out-word = record { some = omega arith; bytes = refl }
 
-out-reads : (n t q : ℕ) (whole : List ConsoleJob) (last : DraftConsole) (out : OutKind) (asked : Option OutLine)
-    → is_some (at_kind last.outs out) ≡ false → IsOutput asked → OutReads n t q whole last out asked
-out-reads n t q whole last out None free sound =
-    record { after = n; reads = reads-nothing n (inside t q whole last) }
-out-reads n t q whole last out (Some asked) free sound =
+out-reads : (n : ℕ) (top : Top) (whole : List ConsoleJob) (last : DraftConsole) (out : OutKind) (asked : Option OutLine)
+    → is_some (at_kind last.outs out) ≡ false → IsOutput asked → OutReads n top whole last out asked
+out-reads n top whole last out None free sound =
+    record { after = n; reads = reads-nothing n (inside top whole last) }
+out-reads n top whole last out (Some asked) free sound =
     let line = stated-line (codes "out") (out_name out) asked.digest out-word (IsWord-out out) refl (lit≤ tt)
     (omega (arith, out-short out)) sound in
-    let says = out-says t q whole last out asked.digest free sound in
-    let reads = line-reads n (inside t q whole last) (codes "out") (out_name out ∷ digest_words asked.digest)
+    let says = out-says top whole last out asked.digest free sound in
+    let reads = line-reads n (inside top whole last) (codes "out") (out_name out ∷ digest_words asked.digest)
     (Out out asked.digest) line says in
-    record { after = n + 1; reads = rw (out-plus (n + 1) t q whole last out asked) at reads }
+    record { after = n + 1; reads = rw (out-plus (n + 1) top whole last out asked) at reads }
 
 -- an output that isn't asked for yet, put in
-put-out : (kind : OutKind) (found : Option OutLine) (bios cart save : Option NamedFile) (changes : List KeyChange)
+put-out : (kind : OutKind) (found : Option OutLine) (bios cart save : Option NamedFile) (off : ℕ) (changes : List KeyChange)
     (outs : PerKind (Option OutLine)) → at_kind outs kind ≡ None
-    → put_out kind found (part bios cart save changes outs)
-    ≡ part bios cart save changes (with_kind kind found outs)
-put-out kind (Some asked) bios cart save changes outs free = refl
-put-out Frames None bios cart save changes outs free =
-    ap (λ one. part bios cart save changes (with_kind Frames one outs)) free
-put-out Samples None bios cart save changes outs free =
-    ap (λ one. part bios cart save changes (with_kind Samples one outs)) free
-put-out output.Words None bios cart save changes outs free =
-    ap (λ one. part bios cart save changes (with_kind output.Words one outs)) free
-put-out State None bios cart save changes outs free =
-    ap (λ one. part bios cart save changes (with_kind State one outs)) free
-put-out Save None bios cart save changes outs free =
-    ap (λ one. part bios cart save changes (with_kind Save one outs)) free
+    → put_out kind found (part bios cart save off changes outs)
+    ≡ part bios cart save off changes (with_kind kind found outs)
+put-out kind (Some asked) bios cart save off changes outs free = refl
+put-out Frames None bios cart save off changes outs free =
+    ap (λ one. part bios cart save off changes (with_kind Frames one outs)) free
+put-out Samples None bios cart save off changes outs free =
+    ap (λ one. part bios cart save off changes (with_kind Samples one outs)) free
+put-out output.Words None bios cart save off changes outs free =
+    ap (λ one. part bios cart save off changes (with_kind output.Words one outs)) free
+put-out State None bios cart save off changes outs free =
+    ap (λ one. part bios cart save off changes (with_kind State one outs)) free
+put-out Save None bios cart save off changes outs free =
+    ap (λ one. part bios cart save off changes (with_kind Save one outs)) free
 
 -- none of these kinds is asked for when its turn comes
 abbrev pub AreFree : List OutKind → PerKind (Option OutLine) → Type 0
@@ -346,24 +397,24 @@ all-free : AreFree all_kinds no_outs
 all-free = (refl, λ a. (refl, λ b. (refl, λ c. (refl, λ d. (refl, λ e. tt)))))
 
 -- the lines of a console's outputs of these kinds
-pub record KindsRead (n t q : ℕ) (whole : List ConsoleJob) (bios cart save : Option NamedFile) (changes : List KeyChange)
+pub record KindsRead (n : ℕ) (top : Top) (whole : List ConsoleJob) (bios cart save : Option NamedFile) (off : ℕ) (changes : List KeyChange)
     (outs : PerKind (Option OutLine)) (console : ConsoleJob) (kinds : List OutKind) : Type 0 where
   pub after : ℕ
-  pub reads : Reads n (inside t q whole (part bios cart save changes outs)) (flat_map (out_text console) kinds) after
-      (inside t q whole (part bios cart save changes (all_with kinds console.outs outs)))
+  pub reads : Reads n (inside top whole (part bios cart save off changes outs)) (flat_map (out_text console) kinds) after
+      (inside top whole (part bios cart save off changes (all_with kinds console.outs outs)))
 
-kinds-read : (n t q : ℕ) (whole : List ConsoleJob) (bios cart save : Option NamedFile) (changes : List KeyChange)
+kinds-read : (n : ℕ) (top : Top) (whole : List ConsoleJob) (bios cart save : Option NamedFile) (off : ℕ) (changes : List KeyChange)
     (outs : PerKind (Option OutLine)) (console : ConsoleJob) (kinds : List OutKind) → IsConsole console
-    → AreFree kinds outs → KindsRead n t q whole bios cart save changes outs console kinds
-kinds-read n t q whole bios cart save changes outs console [] sound free =
-    record { after = n; reads = reads-nothing n (inside t q whole (part bios cart save changes outs)) }
-kinds-read n t q whole bios cart save changes outs console (kind ∷ kinds) sound free =
+    → AreFree kinds outs → KindsRead n top whole bios cart save off changes outs console kinds
+kinds-read n top whole bios cart save off changes outs console [] sound free =
+    record { after = n; reads = reads-nothing n (inside top whole (part bios cart save off changes outs)) }
+kinds-read n top whole bios cart save off changes outs console (kind ∷ kinds) sound free =
     let found = at_kind console.outs kind in
-    let last = part bios cart save changes outs in
+    let last = part bios cart save off changes outs in
     let unasked : is_some (at_kind last.outs kind) ≡ false = rw free.0 refl in
-    let line = out-reads n t q whole last kind found unasked (sound.lines.outs kind) in
-    let here = rw (put-out kind found bios cart save changes outs free.0) at line.reads in
-    let rest = kinds-read line.after t q whole bios cart save changes (with_kind kind found outs) console kinds sound
+    let line = out-reads n top whole last kind found unasked (sound.lines.outs kind) in
+    let here = rw (put-out kind found bios cart save off changes outs free.0) at line.reads in
+    let rest = kinds-read line.after top whole bios cart save off changes (with_kind kind found outs) console kinds sound
     (free.1 found) in
     record {
       after = rest.after;
@@ -371,15 +422,15 @@ kinds-read n t q whole bios cart save changes outs console (kind ∷ kinds) soun
     }
 
 -- the lines of a console's outputs
-pub record OutsRead (n t q : ℕ) (whole : List ConsoleJob) (bios cart save : Option NamedFile) (changes : List KeyChange) (console : ConsoleJob) : Type 0 where
+pub record OutsRead (n : ℕ) (top : Top) (whole : List ConsoleJob) (bios cart save : Option NamedFile) (off : ℕ) (changes : List KeyChange) (console : ConsoleJob) : Type 0 where
   pub after : ℕ
-  pub reads : Reads n (inside t q whole (part bios cart save changes no_outs)) (outs_text console) after
-      (inside t q whole (part bios cart save changes console.outs))
+  pub reads : Reads n (inside top whole (part bios cart save off changes no_outs)) (outs_text console) after
+      (inside top whole (part bios cart save off changes console.outs))
 
-pub outs-read : (n t q : ℕ) (whole : List ConsoleJob) (bios cart save : Option NamedFile) (changes : List KeyChange) (console : ConsoleJob)
-    → IsConsole console → OutsRead n t q whole bios cart save changes console
-outs-read n t q whole bios cart save changes console sound =
-    let all = kinds-read n t q whole bios cart save changes no_outs console all_kinds sound all-free in
+pub outs-read : (n : ℕ) (top : Top) (whole : List ConsoleJob) (bios cart save : Option NamedFile) (off : ℕ) (changes : List KeyChange) (console : ConsoleJob)
+    → IsConsole console → OutsRead n top whole bios cart save off changes console
+outs-read n top whole bios cart save off changes console sound =
+    let all = kinds-read n top whole bios cart save off changes no_outs console all_kinds sound all-free in
     record { after = all.after; reads = all.reads }
 
 -- ---- a console's lines after its first one
@@ -392,23 +443,25 @@ as_draft console = record {
   save = console.save;
   keys = console.keys;
   changes = console.changes;
+  off = console.off;
   outs = console.outs;
 }
 
-pub record BodyRead (n t q : ℕ) (whole : List ConsoleJob) (console : ConsoleJob) : Type 0 where
+pub record BodyRead (n : ℕ) (top : Top) (whole : List ConsoleJob) (console : ConsoleJob) : Type 0 where
   pub after : ℕ
   pub last : ConsoleJob
   pub same : unlined_console last ≡ unlined_console (without_key_file console)
-  pub reads : Reads n (inside t q whole (part None None None [] no_outs))
-      (files_text console ++ (changes_text console.changes ++ outs_text console)) after (inside t q whole (as_draft last))
+  pub reads : Reads n (inside top whole (part None None None 0 [] no_outs))
+      (files_text console ++ (off_text console.off ++ (changes_text console.changes ++ outs_text console))) after (inside top whole (as_draft last))
 
-pub body-read : (n t q : ℕ) (whole : List ConsoleJob) (console : ConsoleJob) → IsConsole console
-    → BodyRead n t q whole console
-body-read n t q whole console sound =
-    let files = files-read n t q whole console sound in
+pub body-read : (n : ℕ) (top : Top) (whole : List ConsoleJob) (console : ConsoleJob) → IsConsole console
+    → CanStand top.version console → BodyRead n top whole console
+body-read n top whole console sound can =
+    let files = files-read n top whole console sound in
     let image = Some files.bios in
-    let changes = changes-read files.after t q whole image files.cart files.save [] console.changes sound.lines.changes in
-    let outs = outs-read changes.after t q whole image files.cart files.save console.changes console sound in
+    let off = off-read files.after top whole image files.cart files.save console.off sound.off can in
+    let changes = changes-read off.after top whole image files.cart files.save console.off [] console.changes sound.lines.changes in
+    let outs = outs-read changes.after top whole image files.cart files.save console.off console.changes console sound in
     record {
       after = outs.after;
       last = record {
@@ -417,9 +470,11 @@ body-read n t q whole console sound =
         save = files.save;
         keys = None;
         changes = console.changes;
+        off = console.off;
         outs = console.outs;
       };
       same = rw (files.same_bios, files.same_cart, files.same_save) refl;
       reads = reads-then _ _ _ _ _ _ (files_text console) _ files.reads
-          (reads-then _ _ _ _ _ _ (changes_text console.changes) _ changes.reads outs.reads);
+          (reads-then _ _ _ _ _ _ (off_text console.off) _ off.reads
+          (reads-then _ _ _ _ _ _ (changes_text console.changes) _ changes.reads outs.reads));
     }

@@ -1,5 +1,5 @@
 -- Every job that is read is sound: each line keeps what is said so far sound.
-use Rattle.std.proofs.Common.{◌≡◌, ◌≤◌, ◌^◌, ℕ, ◌+◌, Bool, true, false, cond, not, List, [], ◌∷◌, length, Option, Some, None, Result, Ok, Err, refl, ap, sym, subst, ◌∙◌, arith}
+use Rattle.std.proofs.Common.{◌≡◌, ◌<◌, ◌≤◌, ◌^◌, ℕ, ◌+◌, ◌-◌, Bool, true, false, cond, not, List, [], ◌∷◌, length, Option, Some, None, Result, Ok, Err, refl, ap, sym, subst, ◌∙◌, lit<, lit≤, arith}
 use Rattle.std.specs.Prelude.{IfOk, IfSome, is_some, unwrap_or}
 use Rattle.std.specs.List.{All}
 use Rattle.std.proofs.lemmas.List.{length-append}
@@ -13,16 +13,20 @@ use Rattle.gba_text.specs.Answers.{Parses}
 use Rattle.gba_text.specs.Languages.{Leads, EndsIn}
 use Rattle.gba_text.specs.Steps.{◌>>=◌, holds, Taken}
 use Rattle.gba_joblog.specs.Answers.{line_error}
+use Rattle.gba_joblog.specs.Cable.{delays_of, link_for, players_for, usual_delay}
 use Rattle.gba_joblog.specs.Changes.{change_at}
 use Rattle.gba_joblog.specs.Draft.{Draft, DraftConsole, nothing_said, silent_console, with_image}
 use Rattle.gba_joblog.specs.Lines.{is_said}
 use Rattle.gba_joblog.specs.Job.{ConsoleJob, NamedFile, WholeJob}
-use Rattle.gba_joblog.specs.Language.{jobs, line_says, said_with, words_say, words_say_if, keyword_says, statement_of, unless_ended, plus_statement_if, job_at_end, job_at_place, job_with, job_of, usual_delay}
+use Rattle.gba_joblog.specs.Language.{jobs, line_says, said_with, words_say, words_say_if, keyword_says, statement_of, unless_ended, plus_statement_if, job_at_end, job_at_place, job_with, job_of}
 use Rattle.gba_joblog.specs.Names.{is_name}
-use Rattle.gba_joblog.specs.Operands.{LineWords, word_at, number_at, name_in, name_of, name_at, digest_at, player_at, version_at, out_kind_at, end_at}
+use Rattle.gba_joblog.specs.Operands.{LineWords, word_at, number_at, name_in, name_of, name_at, digest_at, pair_at, player_at, version_at, out_kind_at, end_at}
 use Rattle.gba_joblog.specs.Outputs.{EachKind, at_kind}
 use Rattle.gba_joblog.specs.Soundness.{AreConsoleLines, IsFile, IsOutput, IsPartOfConsole, IsConsole, IsJob}
-use Rattle.gba_joblog.specs.Statements.{Statement, and_whole, Version, Cycles, Delay, Console, File, Key, Out, End, keyword_of, refusal_at, file_refusal, without_changes, without_file, once, arguments, plus_statement, at_start, in_console, has_image, next_player, whole_consoles, named_file, asked_output, with_file}
+use Rattle.gba_joblog.specs.Statements.{Statement, and_whole, Version, Cycles, Delay, Link, Console, File, Key, Off, Out, End, keyword_in, most_cycles, refusal_at, file_refusal, without_changes, without_file, once, arguments, plus_statement, at_start, in_console, has_image, next_player, whole_consoles, named_file, asked_output, with_file}
+use Rattle.gba_joblog.specs.declared.cable.Link.{Link as CableLink}
+use Rattle.gba_joblog.specs.declared.draft.JobVersion.{JobVersion}
+use Rattle.gba_joblog.specs.declared.draft.JobVersion.TheVariants.{One, Two}
 use Rattle.gba_joblog.specs.declared.draft.Place.{Place}
 use Rattle.gba_joblog.specs.declared.draft.Place.TheVariants.{Start, Head, Inside, Ended}
 use Rattle.gba_joblog.specs.declared.job.FileKind.{FileKind}
@@ -36,15 +40,17 @@ use Rattle.gba_joblog.specs.declared.outputs.OutKind.TheVariants.{Frames, Sample
 use Rattle.gba_joblog.specs.declared.outputs.OutKind.TheVariants as output
 use Rattle.gba_joblog.specs.declared.statement.Keyword.{Keyword}
 use Rattle.gba_joblog.specs.declared.statement.Keyword.TheVariants as keyword
+use Rattle.gba_joblog.proofs.Cables.{DelayInRange, IsLink, delays-sound}
 use Rattle.gba_joblog.proofs.EachKind.{put-holds}
 use Rattle.gba_joblog.proofs.SoundChanges.{none, change_at-keeps}
 use Rattle.gba_joblog.proofs.Steps.{number_at-range, player_at-is, digest_at-is}
 
 abbrev pub InRange : ℕ → Type 0
-InRange cycles = (1 ≤ cycles) × (cycles ≤ 2 ^ 31)
+InRange cycles = (1 ≤ cycles) × (cycles ≤ 2 ^ 38)
 
-abbrev pub DelayInRange : ℕ → Type 0
-DelayInRange delay = (1 ≤ delay) × (delay ≤ 1024)
+most-few : (version : JobVersion) → most_cycles version ≤ 2 ^ 38
+most-few One = lit≤ tt
+most-few Two = lit≤ tt
 
 -- how many consoles are whole, by the place
 abbrev pub AreCounted : Place → ℕ → Type 0
@@ -56,6 +62,7 @@ AreCounted Ended whole = (1 ≤ whole) × (whole ≤ 4)
 pub record IsDraft (d : Draft) : Type 0 where
   cycles : IfSome d.cycles InRange
   delay : IfSome d.delay DelayInRange
+  links : All IsLink d.links
   last : IsPartOfConsole d.last
   each : All IsConsole d.consoles
   count : AreCounted d.place (length d.consoles)
@@ -70,11 +77,12 @@ silent-asks Save = tt
 silent : IsPartOfConsole silent_console
 silent = record {
   bios = tt;
+  off = lit< tt;
   lines = record { cart = tt; save = tt; keys = tt; changes = none; apart = λ _. refl; outs = silent-asks };
 }
 
 pub begins : IsDraft nothing_said
-begins = record { cycles = tt; delay = tt; last = silent; each = All-nil IsConsole; count = refl }
+begins = record { cycles = tt; delay = tt; links = All-nil IsLink; last = silent; each = All-nil IsConsole; count = refl }
 
 starts : (place : Place) → at_start place ≡ None → place ≡ Start
 starts Start h = refl
@@ -117,9 +125,10 @@ name_at-is ws t h =
 
 with_file-keeps : (f : FileKind) (named : NamedFile) (c : DraftConsole) → IsFile named → IsPartOfConsole c
     → file_refusal f c ≡ None → IsPartOfConsole (with_file f named c)
-with_file-keeps file.Bios named c is h place = record { bios = is; lines = h.lines }
+with_file-keeps file.Bios named c is h place = record { bios = is; off = h.off; lines = h.lines }
 with_file-keeps file.Cart named c is h place = record {
   bios = h.bios;
+  off = h.off;
   lines = record {
     cart = is;
     save = h.lines.save;
@@ -131,6 +140,7 @@ with_file-keeps file.Cart named c is h place = record {
 }
 with_file-keeps file.Save named c is h place = record {
   bios = h.bios;
+  off = h.off;
   lines = record {
     cart = h.lines.cart;
     save = is;
@@ -142,6 +152,7 @@ with_file-keeps file.Save named c is h place = record {
 }
 with_file-keeps file.Keys named c is h place = record {
   bios = h.bios;
+  off = h.off;
   lines = record {
     cart = h.lines.cart;
     save = h.lines.save;
@@ -153,18 +164,18 @@ with_file-keeps file.Keys named c is h place = record {
 }
 
 and_whole-sound : (consoles : List ConsoleJob) (last : DraftConsole) (bios : Option NamedFile) → All IsConsole consoles
-    → IfSome bios IsFile
+    → IfSome bios IsFile → last.off < 2 ^ 38
     → AreConsoleLines last.cart last.save last.keys last.changes last.outs
     → All IsConsole (and_whole consoles last bios)
-and_whole-sound consoles last None h is lines = h
-and_whole-sound consoles last (Some bios) h is lines =
-    All-push IsConsole consoles (with_image last bios) h (record { bios = is; lines = lines })
+and_whole-sound consoles last None h is off lines = h
+and_whole-sound consoles last (Some bios) h is off lines =
+    All-push IsConsole consoles (with_image last bios) h (record { bios = is; off = off; lines = lines })
 
 closes : (place : Place) (consoles : List ConsoleJob) (last : DraftConsole) → All IsConsole consoles
     → IsPartOfConsole last → All IsConsole (whole_consoles place consoles last)
 closes Start consoles last h part = h
 closes Head consoles last h part = h
-closes Inside consoles last h part = and_whole-sound consoles last last.bios h part.bios part.lines
+closes Inside consoles last h part = and_whole-sound consoles last last.bios h part.bios part.off part.lines
 closes Ended consoles last h part = h
 
 and_whole-count : (consoles : List ConsoleJob) (last : DraftConsole) (bios : Option NamedFile) → is_some bios ≡ true
@@ -193,24 +204,45 @@ keeps : (n : ℕ) (d : Draft) (k : Keyword) (ws : LineWords) (s : Statement) →
     → arguments d k ws ≡ Ok s → IsDraft (plus_statement n s d)
 unfolding refusal_at arguments plus_statement
 keeps n d keyword.Version ws s h place e =
-    let b = bind-ok (version_at ws) (λ version. end_at version.left >>= (λ _. Ok Version)) s e in
-    let c = bind-ok (end_at b.0.left) (λ _. Ok Version) s b.2 in
-    let same : s ≡ Version = sym (ok-is Version s c.2) in
+    let b = bind-ok (version_at ws) (λ version. end_at version.left >>= (λ _. Ok (Version version.value))) s e in
+    let c = bind-ok (end_at b.0.left) (λ _. Ok (Version b.0.value)) s b.2 in
+    let same : s ≡ Version b.0.value = sym (ok-is (Version b.0.value) s c.2) in
     let here : d.place ≡ Start = starts d.place place in
     let none : length d.consoles ≡ 0 = rw here at h.count in
-    rw same (record { cycles = h.cycles; delay = h.delay; last = h.last; each = h.each; count = none })
+    rw same (record { cycles = h.cycles; delay = h.delay; links = h.links; last = h.last; each = h.each; count = none })
 keeps n d keyword.Cycles ws s h place e =
-    let b = bind-ok (number_at 1 (2 ^ 31) ws) (λ cycles. end_at cycles.left >>= (λ _. Ok (Cycles cycles.value))) s e in
+    let b = bind-ok (number_at 1 (most_cycles d.version) ws) (λ cycles. end_at cycles.left >>= (λ _. Ok (Cycles cycles.value))) s e in
     let c = bind-ok (end_at b.0.left) (λ _. Ok (Cycles b.0.value)) s b.2 in
     let same : s ≡ Cycles b.0.value = sym (ok-is (Cycles b.0.value) s c.2) in
-    let range = number_at-range 1 (2 ^ 31) ws b.0 b.1 in
-    rw same (record { cycles = range; delay = h.delay; last = h.last; each = h.each; count = h.count })
+    let range = number_at-range 1 (most_cycles d.version) ws b.0 b.1 in
+    let few = most-few d.version in
+    rw same (record { cycles = (range.0, omega (arith, range.1, few)); delay = h.delay; links = h.links; last = h.last; each = h.each; count = h.count })
 keeps n d keyword.Delay ws s h place e =
     let b = bind-ok (number_at 1 1024 ws) (λ delay. end_at delay.left >>= (λ _. Ok (Delay delay.value))) s e in
     let c = bind-ok (end_at b.0.left) (λ _. Ok (Delay b.0.value)) s b.2 in
     let same : s ≡ Delay b.0.value = sym (ok-is (Delay b.0.value) s c.2) in
     let range = number_at-range 1 1024 ws b.0 b.1 in
-    rw same (record { cycles = h.cycles; delay = range; last = h.last; each = h.each; count = h.count })
+    rw same (record { cycles = h.cycles; delay = range; links = h.links; last = h.last; each = h.each; count = h.count })
+keeps n d keyword.Link ws s h place e =
+    let b = bind-ok (pair_at ws)
+    (λ pair. holds (not (is_some (link_for pair.value d.links))) Repeated >>= (λ _. number_at 1 1024 pair.left >>= (λ delay. end_at
+    delay.left >>= (λ _. Ok (Link (record { pair = pair.value; delay = delay.value })))))) s e in
+    let c = bind-ok (holds (not (is_some (link_for b.0.value d.links))) Repeated) (λ _. number_at 1 1024 b.0.left >>= (λ delay. end_at
+    delay.left >>= (λ _. Ok (Link (record { pair = b.0.value; delay = delay.value }))))) s b.2 in
+    let g = bind-ok (number_at 1 1024 b.0.left) (λ delay. end_at delay.left >>= (λ _. Ok
+    (Link (record { pair = b.0.value; delay = delay.value })))) s c.2 in
+    let link : CableLink = record { pair = b.0.value; delay = g.0.value } in
+    let f = bind-ok (end_at g.0.left) (λ _. Ok (Link link)) s g.2 in
+    let same : s ≡ Link link = sym (ok-is (Link link) s f.2) in
+    let range = number_at-range 1 1024 b.0.left g.0 g.1 in
+    rw same (record {
+      cycles = h.cycles;
+      delay = h.delay;
+      links = All-push IsLink d.links link h.links range;
+      last = h.last;
+      each = h.each;
+      count = h.count;
+    })
 keeps n d keyword.Console ws s h place e =
     let b = bind-ok (player_at (next_player d.place (length d.consoles)) ws)
     (λ player. holds (has_image d.place d.last) Missing >>= (λ _. end_at player.left >>= (λ _. Ok
@@ -224,6 +256,7 @@ keeps n d keyword.Console ws s h place e =
     rw same (record {
       cycles = h.cycles;
       delay = h.delay;
+      links = h.links;
       last = silent;
       each = closes d.place d.consoles d.last h.each h.last;
       count = rw (whole-count d.place d.consoles d.last image) few.1;
@@ -240,6 +273,7 @@ keeps n d (keyword.File f) ws s h place e =
     rw same (record {
       cycles = h.cycles;
       delay = h.delay;
+      links = h.links;
       last = with_file-keeps f (named_file b.0.value c.0.value n) d.last is h.last
           (stands d.place (file_refusal f d.last) place);
       each = h.each;
@@ -253,8 +287,10 @@ keeps n d keyword.Key ws s h place e =
     rw same (record {
       cycles = h.cycles;
       delay = h.delay;
+      links = h.links;
       last = record {
         bios = h.last.bios;
+        off = h.last.off;
         lines = record {
           cart = h.last.lines.cart;
           save = h.last.lines.save;
@@ -264,6 +300,19 @@ keeps n d keyword.Key ws s h place e =
           outs = h.last.lines.outs;
         };
       };
+      each = h.each;
+      count = h.count;
+    })
+keeps n d keyword.Off ws s h place e =
+    let b = bind-ok (number_at 1 (2 ^ 38 - 1) ws) (λ off. end_at off.left >>= (λ _. Ok (Off off.value))) s e in
+    let c = bind-ok (end_at b.0.left) (λ _. Ok (Off b.0.value)) s b.2 in
+    let same : s ≡ Off b.0.value = sym (ok-is (Off b.0.value) s c.2) in
+    let range = number_at-range 1 (2 ^ 38 - 1) ws b.0 b.1 in
+    rw same (record {
+      cycles = h.cycles;
+      delay = h.delay;
+      links = h.links;
+      last = record { bios = h.last.bios; off = omega (arith, range.1); lines = h.last.lines };
       each = h.each;
       count = h.count;
     })
@@ -281,8 +330,10 @@ keeps n d keyword.Out ws s h place e =
     rw same (record {
       cycles = h.cycles;
       delay = h.delay;
+      links = h.links;
       last = record {
         bios = h.last.bios;
+        off = h.last.off;
         lines = record {
           cart = h.last.lines.cart;
           save = h.last.lines.save;
@@ -303,6 +354,7 @@ keeps n d keyword.End ws s h place e =
     rw same (record {
       cycles = h.cycles;
       delay = h.delay;
+      links = h.links;
       last = silent;
       each = closes d.place d.consoles d.last h.each h.last;
       count = ends_with d.place d.consoles d.last place h.count image;
@@ -337,10 +389,10 @@ by_keyword d ws s (Some k) h = by_place d k ws s (refusal_at d k) refl h
 
 by_words : (d : Draft) (ws : LineWords) (s : Statement) → words_say d ws ≡ Ok (Some s) → IsStatement d s
 by_words d ws s h =
-    let b = bind-ok (word_at ws) (λ word. unless_ended d.place (keyword_says d word.left (keyword_of word.value)))
+    let b = bind-ok (word_at ws) (λ word. unless_ended d.place (keyword_says d word.left (keyword_in d.version word.value)))
     (Some s) h in
-    by_keyword d b.0.left s (keyword_of b.0.value) (not-ended d.place (keyword_says d b.0.left
-    (keyword_of b.0.value)) s b.2)
+    by_keyword d b.0.left s (keyword_in d.version b.0.value) (not-ended d.place (keyword_says d b.0.left
+    (keyword_in d.version b.0.value)) s b.2)
 
 by_said : (d : Draft) (ws : LineWords) (s : Statement) (said : Bool) → words_say_if d ws said ≡ Ok (Some s)
     → IsStatement d s
@@ -380,13 +432,13 @@ by_cycles : (d : Draft) (o : Option ℕ) (n : ℕ) (job : WholeJob) → IsDraft 
     → AreCounted Ended (length d.consoles) → job_with d o n ≡ Ok job → IsJob job
 by_cycles d None n job is range count h = absurd cc
 by_cycles d (Some cycles) n job is range count h =
-    let delay = usual d.delay is.delay in
-    subst IsJob (ok-is (record { cycles = cycles; delay = unwrap_or d.delay usual_delay; consoles = d.consoles }) job h)
+    let every = unwrap_or d.delay usual_delay in
+    let players = players_for (length d.consoles) in
+    subst IsJob (ok-is (record { cycles = cycles; delays = delays_of every d.links players; consoles = d.consoles }) job h)
     (record {
       some_cycles = range.0;
       few_cycles = range.1;
-      some_delay = delay.0;
-      few_delay = delay.1;
+      delays = delays-sound every d.links players (usual d.delay is.delay) is.links;
       some_consoles = count.0;
       few_consoles = count.1;
       each = is.each;

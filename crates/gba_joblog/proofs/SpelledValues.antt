@@ -20,6 +20,7 @@ use Rattle.gba_joblog.specs.Log.{digest_words, keys_word}
 use Rattle.gba_joblog.specs.Names.{is_name, is_name_byte, longest_name}
 use Rattle.gba_joblog.specs.Operands.{LineWords, digest_at, digest_of, digits_at, keys_at, name_at, number_at, out_kind_at, player_at, version_at}
 use Rattle.gba_joblog.specs.Outputs.{out_name}
+use Rattle.gba_joblog.specs.declared.draft.JobVersion.TheVariants.{One, Two}
 use Rattle.gba_joblog.specs.declared.outputs.OutKind.{OutKind}
 use Rattle.gba_joblog.specs.declared.outputs.OutKind.TheVariants.{Frames, Samples, State, Save}
 use Rattle.gba_joblog.specs.declared.outputs.OutKind.TheVariants as output
@@ -193,9 +194,13 @@ unfolding name_at
 name-again name ws is = rw is refl
 
 -- the version, and the kinds of output
-pub version-again : version_at (codes "1" ∷ []) ≡ Ok (taken true [])
+pub version-again : version_at (codes "1" ∷ []) ≡ Ok (taken One [])
 unfolding version_at
 version-again = refl
+
+pub second-again : version_at (codes "2" ∷ []) ≡ Ok (taken Two [])
+unfolding version_at
+second-again = refl
 
 pub out-again : (out : OutKind) (ws : LineWords) → out_kind_at (out_name out ∷ ws) ≡ Ok (taken out ws)
 unfolding out_kind_at

@@ -1,6 +1,9 @@
 use Rattle.std.specs.Prelude.{ℕ, List, [], Option, None}
 use Rattle.gba_joblog.specs.Job.{ConsoleJob, NamedFile}
 use Rattle.gba_joblog.specs.Outputs.{per_kind}
+use Rattle.gba_joblog.specs.declared.cable.Link.{Link}
+use Rattle.gba_joblog.specs.declared.draft.JobVersion.{JobVersion}
+use Rattle.gba_joblog.specs.declared.draft.JobVersion.TheVariants.{One}
 use Rattle.gba_joblog.specs.declared.draft.Place.{Place}
 use Rattle.gba_joblog.specs.declared.draft.Place.TheVariants.{Start}
 use Rattle.gba_joblog.specs.declared.job.KeyChange.{KeyChange}
@@ -14,14 +17,19 @@ pub record DraftConsole : Type 0 where
   pub save : Option NamedFile
   pub keys : Option NamedFile
   pub changes : List KeyChange
+  -- 0 where it isn't said
+  pub off : ℕ
   pub outs : PerKind (Option OutLine)
 
--- What the lines before have said: where in the job the next line stands, the cycles, the cable's delay, the consoles
--- that are whole, and what is said of the console whose lines stand here.
+-- What the lines before have said: the version of the language, where in the job the next line stands, the cycles, the
+-- delay of all pairs, the links in their order, the consoles that are whole, and what is said of the console whose lines
+-- stand here.
 pub record Draft : Type 0 where
+  pub version : JobVersion
   pub place : Place
   pub cycles : Option ℕ
   pub delay : Option ℕ
+  pub links : List Link
   pub consoles : List ConsoleJob
   pub last : DraftConsole
 
@@ -33,6 +41,7 @@ silent_console = record {
   save = None;
   keys = None;
   changes = [];
+  off = 0;
   outs = per_kind (λ _. None);
 }
 
@@ -44,9 +53,18 @@ with_image console bios = record {
   save = console.save;
   keys = console.keys;
   changes = console.changes;
+  off = console.off;
   outs = console.outs;
 }
 
 -- before the first line
 abbrev pub nothing_said : Draft
-nothing_said = record { place = Start; cycles = None; delay = None; consoles = []; last = silent_console }
+nothing_said = record {
+  version = One;
+  place = Start;
+  cycles = None;
+  delay = None;
+  links = [];
+  consoles = [];
+  last = silent_console;
+}

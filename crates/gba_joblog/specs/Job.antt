@@ -1,4 +1,5 @@
 use Rattle.std.specs.Prelude.{ℕ, List, Option}
+use Rattle.link_node.specs.declared.delays.Delays.{Delays}
 use Rattle.gba_joblog.specs.declared.job.KeyChange.{KeyChange}
 use Rattle.gba_joblog.specs.declared.job.OutLine.{OutLine}
 use Rattle.gba_joblog.specs.declared.outputs.PerKind.{PerKind}
@@ -16,10 +17,12 @@ pub record ConsoleJob : Type 0 where
   pub save : Option NamedFile
   pub keys : Option NamedFile
   pub changes : List KeyChange
+  -- the clock from which on the console is on
+  pub off : ℕ
   pub outs : PerKind (Option OutLine)
 
--- a job: how many cycles its consoles run, the cable's delay, and its consoles
+-- a job: how many cycles its consoles run, the delays of the cable, and its consoles
 pub record WholeJob : Type 0 where
   pub cycles : ℕ
-  pub delay : ℕ
+  pub delays : Delays
   pub consoles : List ConsoleJob

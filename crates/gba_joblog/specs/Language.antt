@@ -1,15 +1,16 @@
 -- The job language: what a line says after the lines before it, and the job that a file says.
-use Rattle.std.specs.Prelude.{◌≡◌, ℕ, ◌+◌, Bool, true, false, List, Option, Some, None, Result, Ok, Err, unwrap_or}
+use Rattle.std.specs.Prelude.{◌≡◌, ℕ, ◌+◌, Bool, true, false, List, length, Option, Some, None, Result, Ok, Err, unwrap_or}
 use Rattle.gba_text.specs.Lines.{lines}
 use Rattle.gba_text.specs.Words.{words}
 use Rattle.gba_joblog.specs.Kinds.{JobError}
 use Rattle.gba_text.specs.Languages.{error_at, Language, Says, answer_of}
 use Rattle.gba_text.specs.Steps.{◌>>=◌}
+use Rattle.gba_joblog.specs.Cable.{delays_of, players_for, usual_delay}
 use Rattle.gba_joblog.specs.Draft.{Draft, nothing_said}
 use Rattle.gba_joblog.specs.Lines.{is_said}
 use Rattle.gba_joblog.specs.Job.{WholeJob}
 use Rattle.gba_joblog.specs.Operands.{LineWords, word_at}
-use Rattle.gba_joblog.specs.Statements.{Statement, keyword_of, refusal_at, arguments, plus_statement}
+use Rattle.gba_joblog.specs.Statements.{Statement, keyword_in, refusal_at, arguments, plus_statement}
 use Rattle.gba_joblog.specs.declared.draft.Place.{Place}
 use Rattle.gba_joblog.specs.declared.draft.Place.TheVariants.{Start, Head, Inside, Ended}
 use Rattle.gba_joblog.specs.declared.kinds.JobKind.{JobKind}
@@ -35,7 +36,7 @@ unless_ended Inside said = said
 
 -- what the words of a line say, the first of which is the keyword
 abbrev pub words_say : Draft → LineWords → Result (Option Statement) JobKind
-words_say d words = word_at words >>= (λ word. unless_ended d.place (keyword_says d word.left (keyword_of word.value)))
+words_say d words = word_at words >>= (λ word. unless_ended d.place (keyword_says d word.left (keyword_in d.version word.value)))
 
 abbrev pub words_say_if : Draft → LineWords → Bool → Result (Option Statement) JobKind
 words_say_if d words false = Ok None
@@ -54,13 +55,13 @@ plus_statement_if line d None = d
 unfoldable pub said_with : ℕ → Draft → List ℕ → Result Draft JobKind
 said_with number d line = line_says d line >>= (λ statement. Ok (plus_statement_if number d statement))
 
--- the delay of the cable in cycles, where no line says it
-abbrev pub usual_delay : ℕ
-usual_delay = 512
-
 abbrev pub job_with : Draft → Option ℕ → ℕ → Result WholeJob JobError
 job_with d (Some cycles) lines =
-    Ok (record { cycles = cycles; delay = unwrap_or d.delay usual_delay; consoles = d.consoles })
+    Ok (record {
+      cycles = cycles;
+      delays = delays_of (unwrap_or d.delay usual_delay) d.links (players_for (length d.consoles));
+      consoles = d.consoles;
+    })
 job_with d None lines = Err (error_at (lines + 1) kind.Missing)
 
 -- the job, once all the lines are read: the last statement is `end`

@@ -1,5 +1,6 @@
 pub mod Kinds
 pub mod Outputs
+pub mod Cable
 pub mod Job
 pub mod Names
 pub mod Draft

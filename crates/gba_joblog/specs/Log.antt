@@ -1,11 +1,15 @@
 -- The log: a job in one spelling.
-use Rattle.std.specs.Prelude.{ℕ, ◌+◌, ◌/◌, ◌%◌, List, [], ◌∷◌, ◌++◌, codes, decimal, slice_index, Option, Some, None}
+use Rattle.std.specs.Prelude.{ℕ, ◌+◌, ◌/◌, ◌%◌, ◌==◌, if◌then◌else◌, List, [], ◌∷◌, ◌++◌, length, codes, decimal, slice_index, Option, Some, None}
 use Rattle.std.specs.List.{flat_map}
 use Rattle.hex.specs.Hex.{encode_lower, lower_digits}
+use Rattle.link_node.specs.Delays.{hop_of}
+use Rattle.link_node.specs.declared.delays.Delays.{Delays}
+use Rattle.gba_joblog.specs.Cable.{all_pairs, is_joined, players_for}
 use Rattle.gba_joblog.specs.Job.{ConsoleJob, NamedFile, WholeJob}
 use Rattle.gba_joblog.specs.Operands.{LineWords}
 use Rattle.gba_joblog.specs.Outputs.{all_kinds, out_name}
 use Rattle.gba_joblog.specs.Statements.{output_of}
+use Rattle.gba_joblog.specs.declared.cable.Pair.{Pair}
 use Rattle.gba_joblog.specs.declared.job.KeyChange.{KeyChange}
 use Rattle.gba_joblog.specs.declared.job.OutLine.{OutLine}
 use Rattle.gba_joblog.specs.declared.outputs.OutKind.{OutKind}
@@ -63,19 +67,36 @@ files_text console =
     file_text (codes "bios") console.bios
     ++ (any_file_text (codes "cart") console.cart ++ any_file_text (codes "save") console.save)
 
+-- the line of the clock from which on the console is on, where it isn't on from the start
+abbrev pub off_text : ℕ → List ℕ
+off_text off = if off == 0 then [] else line_of (codes "off") (decimal off ∷ [])
+
 -- The lines of the console of this number. The key file isn't named: its changes stand as lines.
 unfoldable pub console_text : ℕ → ConsoleJob → List ℕ
 console_text player console =
     line_of (codes "console") (decimal player ∷ [])
-    ++ (files_text console ++ (changes_text console.changes ++ outs_text console))
+    ++ (files_text console ++ (off_text console.off ++ (changes_text console.changes ++ outs_text console)))
 
 unfoldable pub consoles_text : ℕ → List ConsoleJob → List ℕ
 consoles_text player [] = []
 consoles_text player (console ∷ consoles) = console_text player console ++ consoles_text (player + 1) consoles
 
--- The log of a job: its lines in the order of the language's table, each word parted from the next by one space, decimal
--- numbers without leading zeros, the delay always there, no comments and no blank lines.
+-- the line of a pair's delay, where the cable joins the pair
+abbrev pub link_text : ℕ → Delays → Pair → List ℕ
+link_text players delays pair =
+    if is_joined players pair
+    then line_of (codes "link")
+    (decimal pair.sender ∷ decimal pair.receiver ∷ decimal (hop_of delays pair.sender pair.receiver) ∷ [])
+    else []
+
+-- a line for each pair that the cable joins, by sender and then by receiver
+unfoldable pub links_text : ℕ → Delays → List ℕ
+links_text players delays = flat_map (link_text players delays) all_pairs
+
+-- The log of a job, which is of version 2: its lines in the order of the language's table, each word parted from the next
+-- by one space, decimal numbers without leading zeros, a link for each pair that the cable joins and no other delay, no
+-- comments and no blank lines.
 unfoldable pub log_text : WholeJob → List ℕ
 log_text job =
-    line_of (codes "gbalink") (codes "1" ∷ []) ++ (line_of (codes "cycles") (decimal job.cycles ∷ [])
-    ++ (line_of (codes "delay") (decimal job.delay ∷ []) ++ (consoles_text 0 job.consoles ++ line_of (codes "end") [])))
+    line_of (codes "gbalink") (codes "2" ∷ []) ++ (line_of (codes "cycles") (decimal job.cycles ∷ [])
+    ++ (links_text (players_for (length job.consoles)) job.delays ++ (consoles_text 0 job.consoles ++ line_of (codes "end") [])))

@@ -1,13 +1,17 @@
 -- The words after a line's first one, from left to right: each reader takes the next word, or says why it can't.
-use Rattle.std.specs.Prelude.{ℕ, Bool, true, false, nat_lt, ◌==◌, List, [], ◌∷◌, codes, Option, Some, None, Result, Ok, Err, if◌then◌else◌}
+use Rattle.std.specs.Prelude.{ℕ, Bool, true, false, not, nat_lt, ◌==◌, List, [], ◌∷◌, codes, Option, Some, None, Result, Ok, Err, if◌then◌else◌}
 use Rattle.std.specs.Str.{bytes_eq}
 use Rattle.std.specs.Result.{result_ok}
 use Rattle.hex.specs.Hex.{decode_sized}
 use Rattle.gba_text.specs.Numbers.{is_number, number_of, hex_number_of}
-use Rattle.gba_text.specs.Steps.{◌>>=◌, Taken, taken, or_refused, no_more}
+use Rattle.gba_text.specs.Steps.{◌>>=◌, Taken, taken, holds, or_refused, no_more}
+use Rattle.gba_joblog.specs.Cable.{pair_of}
 use Rattle.gba_joblog.specs.Digests.{digest_size}
 use Rattle.gba_joblog.specs.Names.{is_name}
 use Rattle.gba_joblog.specs.Outputs.{kind_named}
+use Rattle.gba_joblog.specs.declared.cable.Pair.{Pair}
+use Rattle.gba_joblog.specs.declared.draft.JobVersion.{JobVersion}
+use Rattle.gba_joblog.specs.declared.draft.JobVersion.TheVariants.{One, Two}
 use Rattle.gba_joblog.specs.declared.outputs.OutKind.{OutKind}
 use Rattle.gba_joblog.specs.declared.kinds.JobKind.{JobKind}
 use Rattle.gba_joblog.specs.declared.kinds.JobKind.TheVariants.{Word, Number, Name, Digest, Order, Missing, Extra}
@@ -53,15 +57,15 @@ name_in t = or_refused Name t.left (name_of t.value)
 unfoldable pub name_at : LineWords → Result (Taken LineWords (List ℕ)) JobKind
 name_at words = word_at words >>= name_in
 
--- the version of the language that is understood
-abbrev pub version_of : List ℕ → Option Bool
-version_of word = if bytes_eq word (codes "1") then Some true else None
+-- the versions of the language that are understood
+abbrev pub version_of : List ℕ → Option JobVersion
+version_of word = if bytes_eq word (codes "1") then Some One else if bytes_eq word (codes "2") then Some Two else None
 
-abbrev pub version_in : Taken LineWords (List ℕ) → Result (Taken LineWords Bool) JobKind
+abbrev pub version_in : Taken LineWords (List ℕ) → Result (Taken LineWords JobVersion) JobKind
 version_in t = or_refused Word t.left (version_of t.value)
 
--- the word `1`, the version
-unfoldable pub version_at : LineWords → Result (Taken LineWords Bool) JobKind
+-- the word `1` or `2`, the version
+unfoldable pub version_at : LineWords → Result (Taken LineWords JobVersion) JobKind
 version_at words = word_at words >>= version_in
 
 abbrev pub out_kind_in : Taken LineWords (List ℕ) → Result (Taken LineWords OutKind) JobKind
@@ -117,6 +121,14 @@ digest_if words true = word_at words >>= digest_in
 -- the digest that the rest of the line states, by the word `sha256` and its digits; there may be none
 unfoldable pub digest_at : LineWords → Result (Taken LineWords (Option (List ℕ))) JobKind
 digest_at words = digest_if words (has_words words)
+
+-- two players, of which the second isn't the first
+unfoldable pub pair_at : LineWords → Result (Taken LineWords Pair) JobKind
+pair_at words = do
+  sender ← number_at 0 last_player words
+  receiver ← number_at 0 last_player sender.left
+  _ ← holds (not (sender.value == receiver.value)) Number
+  Ok (taken (pair_of sender.value receiver.value) receiver.left)
 
 -- nothing follows
 abbrev pub end_at : LineWords → Result Bool JobKind

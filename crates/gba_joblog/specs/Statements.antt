@@ -1,12 +1,16 @@
 -- The table of statements. Each keyword has its spelling, its place, its operands, and what it says.
-use Rattle.std.specs.Prelude.{ℕ, ◌+◌, ◌^◌, Bool, true, false, List, [], ◌∷◌, ◌++◌, length, codes, not, Option, Some, None, Result, Ok, is_some, if◌then◌else◌}
+use Rattle.std.specs.Prelude.{ℕ, ◌+◌, ◌-◌, ◌^◌, ◌==◌, Bool, true, false, List, [], ◌∷◌, ◌++◌, length, codes, not, Option, Some, None, Result, Ok, is_some, if◌then◌else◌}
 use Rattle.std.specs.Str.{bytes_eq}
 use Rattle.gba_text.specs.Steps.{◌>>=◌, holds}
+use Rattle.gba_joblog.specs.Cable.{link_for}
 use Rattle.gba_joblog.specs.Changes.{change_at}
 use Rattle.gba_joblog.specs.Draft.{Draft, DraftConsole, silent_console, with_image}
 use Rattle.gba_joblog.specs.Job.{ConsoleJob, NamedFile}
 use Rattle.gba_joblog.specs.Outputs.{at_kind, with_kind}
-use Rattle.gba_joblog.specs.Operands.{LineWords, number_at, name_at, digest_at, player_at, version_at, out_kind_at, end_at}
+use Rattle.gba_joblog.specs.Operands.{LineWords, number_at, name_at, digest_at, player_at, version_at, pair_at, out_kind_at, end_at}
+use Rattle.gba_joblog.specs.declared.cable.Link.{Link as CableLink}
+use Rattle.gba_joblog.specs.declared.draft.JobVersion.{JobVersion}
+use Rattle.gba_joblog.specs.declared.draft.JobVersion.TheVariants.{One, Two}
 use Rattle.gba_joblog.specs.declared.draft.Place.{Place}
 use Rattle.gba_joblog.specs.declared.draft.Place.TheVariants.{Start, Head, Inside, Ended}
 use Rattle.gba_joblog.specs.declared.job.FileKind.{FileKind}
@@ -21,14 +25,19 @@ use Rattle.gba_joblog.specs.declared.statement.Keyword.TheVariants as keyword
 
 -- what a line can say
 pub data Statement : Type 0 where
-  Version : Statement
+  Version : JobVersion → Statement
   Cycles : ℕ → Statement
+  -- the delay of all pairs that have no link
   Delay : ℕ → Statement
+  -- the delay of one pair
+  Link : CableLink → Statement
   -- the console of this number begins
   Console : ℕ → Statement
   -- an input, its name, and the digest stated with it
   File : FileKind → List ℕ → Option (List ℕ) → Statement
   Key : KeyChange → Statement
+  -- the console is off before this clock
+  Off : ℕ → Statement
   -- an output, and the digest stated for it
   Out : OutKind → Option (List ℕ) → Statement
   End : Statement
@@ -39,15 +48,47 @@ keyword_of word =
     if bytes_eq word (codes "gbalink") then Some keyword.Version
     else if bytes_eq word (codes "cycles") then Some keyword.Cycles
     else if bytes_eq word (codes "delay") then Some keyword.Delay
+    else if bytes_eq word (codes "link") then Some keyword.Link
     else if bytes_eq word (codes "console") then Some keyword.Console
     else if bytes_eq word (codes "bios") then Some (keyword.File file.Bios)
     else if bytes_eq word (codes "cart") then Some (keyword.File file.Cart)
     else if bytes_eq word (codes "save") then Some (keyword.File file.Save)
     else if bytes_eq word (codes "keys") then Some (keyword.File file.Keys)
     else if bytes_eq word (codes "key") then Some keyword.Key
+    else if bytes_eq word (codes "off") then Some keyword.Off
     else if bytes_eq word (codes "out") then Some keyword.Out
     else if bytes_eq word (codes "end") then Some keyword.End
     else None
+
+abbrev pub is_two : JobVersion → Bool
+is_two One = false
+is_two Two = true
+
+-- whether a version of the language has a keyword: two of them came with version 2
+abbrev pub has_keyword : JobVersion → Keyword → Bool
+has_keyword version keyword.Version = true
+has_keyword version keyword.Cycles = true
+has_keyword version keyword.Delay = true
+has_keyword version keyword.Link = is_two version
+has_keyword version keyword.Console = true
+has_keyword version (keyword.File file) = true
+has_keyword version keyword.Key = true
+has_keyword version keyword.Off = is_two version
+has_keyword version keyword.Out = true
+has_keyword version keyword.End = true
+
+abbrev pub known_in : JobVersion → Option Keyword → Option Keyword
+known_in version None = None
+known_in version (Some keyword) = if has_keyword version keyword then Some keyword else None
+
+-- the keyword that a line's first word spells in a version of the language
+abbrev pub keyword_in : JobVersion → List ℕ → Option Keyword
+keyword_in version word = known_in version (keyword_of word)
+
+-- the most cycles of a job
+abbrev pub most_cycles : JobVersion → ℕ
+most_cycles One = 2 ^ 31
+most_cycles Two = 2 ^ 38
 
 -- refused as said before, if it was said
 abbrev pub once : Bool → Option JobKind
@@ -112,9 +153,11 @@ unfoldable pub refusal_at : Draft → Keyword → Option JobKind
 refusal_at d keyword.Version = at_start d.place
 refusal_at d keyword.Cycles = in_head d.place (is_some d.cycles)
 refusal_at d keyword.Delay = in_head d.place (is_some d.delay)
+refusal_at d keyword.Link = in_head d.place false
 refusal_at d keyword.Console = before_console d.place (is_some d.cycles)
 refusal_at d (keyword.File file) = in_console d.place (file_refusal file d.last)
 refusal_at d keyword.Key = in_console d.place (without_file (is_some d.last.keys))
+refusal_at d keyword.Off = in_console d.place (once (not (d.last.off == 0)))
 refusal_at d keyword.Out = in_console d.place None
 refusal_at d keyword.End = in_console d.place None
 
@@ -156,15 +199,21 @@ unfoldable pub arguments : Draft → Keyword → LineWords → Result Statement 
 arguments d keyword.Version words = do
   version ← version_at words
   _ ← end_at version.left
-  Ok Version
+  Ok (Version version.value)
 arguments d keyword.Cycles words = do
-  cycles ← number_at 1 (2 ^ 31) words
+  cycles ← number_at 1 (most_cycles d.version) words
   _ ← end_at cycles.left
   Ok (Cycles cycles.value)
 arguments d keyword.Delay words = do
   delay ← number_at 1 1024 words
   _ ← end_at delay.left
   Ok (Delay delay.value)
+arguments d keyword.Link words = do
+  pair ← pair_at words
+  _ ← holds (not (is_some (link_for pair.value d.links))) kind.Repeated
+  delay ← number_at 1 1024 pair.left
+  _ ← end_at delay.left
+  Ok (Link (record { pair = pair.value; delay = delay.value }))
 arguments d keyword.Console words = do
   player ← player_at (next_player d.place (length d.consoles)) words
   _ ← holds (has_image d.place d.last) kind.Missing
@@ -178,6 +227,10 @@ arguments d (keyword.File file) words = do
 arguments d keyword.Key words = do
   change ← change_at d.last.changes words
   Ok (Key change)
+arguments d keyword.Off words = do
+  off ← number_at 1 (2 ^ 38 - 1) words
+  _ ← end_at off.left
+  Ok (Off off.value)
 arguments d keyword.Out words = do
   out ← out_kind_at words
   _ ← holds (not (is_some (at_kind d.last.outs out.value))) kind.Repeated
@@ -213,12 +266,14 @@ closed place d =
 
 -- what is said once a line, with its number, is said as well
 unfoldable pub plus_statement : ℕ → Statement → Draft → Draft
-plus_statement line Version d = record d { place = Head }
+plus_statement line (Version version) d = record d { version = version; place = Head }
 plus_statement line (Cycles cycles) d = record d { cycles = Some cycles }
 plus_statement line (Delay delay) d = record d { delay = Some delay }
+plus_statement line (Link link) d = record d { links = d.links ++ link ∷ [] }
 plus_statement line (Console player) d = closed Inside d
 plus_statement line (File file name digest) d =
     record d { last = with_file file (named_file name digest line) d.last }
 plus_statement line (Key change) d = record d { last = record d.last { changes = d.last.changes ++ change ∷ [] } }
+plus_statement line (Off off) d = record d { last = record d.last { off = off } }
 plus_statement line (Out out digest) d = record d { last = with_output out (asked_output digest) d.last }
 plus_statement line End d = closed Ended d

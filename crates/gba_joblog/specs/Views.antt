@@ -1,7 +1,7 @@
 use Rattle.std.specs.Prelude.{map, option_map, string_bytes}
 use Rattle.gba_joblog.specs.Draft.{Draft, DraftConsole}
 use Rattle.gba_joblog.specs.Job.{ConsoleJob, NamedFile, WholeJob}
-use Rattle.gba_joblog.specs.Statements.{Statement, Version, Cycles, Delay, Console, File, Key, Out, End}
+use Rattle.gba_joblog.specs.Statements.{Statement, Version, Cycles, Delay, Link, Console, File, Key, Off, Out, End}
 use Rattle.gba_joblog.specs.declared.draft.DraftJob.{DraftJob}
 use Rattle.gba_joblog.specs.declared.console.DraftConsole.{DraftConsole as ConsoleText}
 use Rattle.gba_joblog.specs.declared.job.FileLine.{FileLine}
@@ -21,6 +21,7 @@ console_value console = record {
   save = option_map file_value console.save;
   keys = option_map file_value console.keys;
   changes = console.changes.items;
+  off = console.off;
   outs = console.outs;
 }
 
@@ -31,27 +32,32 @@ draft_console_value console = record {
   save = option_map file_value console.save;
   keys = option_map file_value console.keys;
   changes = console.changes.items;
+  off = console.off;
   outs = console.outs;
 }
 
 abbrev pub job_value : Job → WholeJob
-job_value job = record { cycles = job.cycles; delay = job.delay; consoles = map console_value job.consoles.items }
+job_value job = record { cycles = job.cycles; delays = job.delays; consoles = map console_value job.consoles.items }
 
 abbrev pub draft_value : DraftJob → Draft
 draft_value draft = record {
+  version = draft.version;
   place = draft.place;
   cycles = draft.cycles;
   delay = draft.delay;
+  links = draft.links.items;
   consoles = map console_value draft.consoles.items;
   last = draft_console_value draft.last;
 }
 
 abbrev pub statement_value : Line → Statement
-statement_value line.Version = Version
+statement_value (line.Version version) = Version version
 statement_value (line.Cycles cycles) = Cycles cycles
 statement_value (line.Delay delay) = Delay delay
+statement_value (line.Link link) = Link link
 statement_value (line.Console player) = Console player
 statement_value (line.File file name digest) = File file name.now digest
 statement_value (line.Key change) = Key change
+statement_value (line.Off off) = Off off
 statement_value (line.Out out digest) = Out out digest
 statement_value line.End = End

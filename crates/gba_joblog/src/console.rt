@@ -18,6 +18,8 @@ pub(crate) struct DraftConsole {
     pub(crate) save: Option<FileLine>,
     pub(crate) keys: Option<FileLine>,
     pub(crate) changes: Vec<KeyChange>,
+    /// The console is off before this clock; 0 where no line says one.
+    pub(crate) off: u64,
     pub(crate) outs: PerKind<Option<OutLine>>,
 }
 
@@ -32,6 +34,7 @@ impl DraftConsole {
             save: None,
             keys: None,
             changes: Vec::new(alloc),
+            off: 0,
             outs: PerKind::all(None),
         }
     }
@@ -74,6 +77,7 @@ impl DraftConsole {
             save: self.save,
             keys: self.keys,
             changes: self.changes,
+            off: self.off,
             outs: self.outs,
         })
     }

@@ -7,6 +7,7 @@ ghost use Rattle.gba_joblog.specs.Language.{job_at_end as job_at_end_of};
 ghost use Rattle.gba_joblog.specs.Statements.{closed, named_file as named_file_of, next_player as next_player_of, plus_statement};
 ghost use Rattle.gba_joblog.specs.Views.{draft_value, file_value, job_value, statement_value};
 
+use crate::cable::{Link, USUAL_DELAY, delays_of, players_for};
 use crate::console::DraftConsole;
 use crate::job::{FileLine, Job, JobConsole};
 use crate::kinds::{JobError, JobKind};
@@ -14,8 +15,12 @@ use crate::statement::Line;
 use std::alloc::{AllocError, Global};
 use std::mem;
 
-/// The cable's delay in cycles, where no line says it.
-const USUAL_DELAY: u64 = 512;
+/// A version of the job language.
+#[derive(Clone, Copy, Debug, PartialEq, Eq)]
+pub(crate) enum JobVersion {
+    One,
+    Two,
+}
 
 /// Where in a job the next line stands.
 #[derive(Clone, Copy, Debug, PartialEq, Eq)]
@@ -33,9 +38,14 @@ pub(crate) enum Place {
 /// A job as far as it is said.
 #[derive(Drop)]
 pub(crate) struct DraftJob {
+    /// That of the first line, and `One` before it.
+    pub(crate) version: JobVersion,
     pub(crate) place: Place,
     pub(crate) cycles: Option<u64>,
+    /// The delay of all pairs that have no link.
     pub(crate) delay: Option<u64>,
+    /// The delays of single pairs, in the order of their lines.
+    pub(crate) links: Vec<Link>,
     /// The consoles that are whole.
     pub(crate) consoles: Vec<JobConsole>,
     /// The console whose lines stand here.
@@ -63,9 +73,11 @@ impl DraftJob {
         ensures { draft_value result ≡ nothing_said }
     {
         DraftJob {
+            version: JobVersion::One,
             place: Place::Start,
             cycles: None,
             delay: None,
+            links: Vec::new(alloc),
             consoles: Vec::new(alloc),
             last: DraftConsole::silent(alloc),
         }
@@ -108,7 +120,8 @@ impl DraftJob {
             (draft_value self.new ≡ plus_statement number (statement_value line.entry) (draft_value self.old)) }
     {
         match line {
-            Line::Version => {
+            Line::Version(version) => {
+                self.version = version;
                 self.place = Place::Head;
                 Ok(())
             }
@@ -120,6 +133,10 @@ impl DraftJob {
                 self.delay = Some(delay);
                 Ok(())
             }
+            Line::Link(link) => {
+                self.links.push(link)?;
+                Ok(())
+            }
             Line::Console(_) => self.close(alloc, Place::Inside),
             Line::File(kind, name, digest) => {
                 let file = named_file(alloc, name, digest, number)?;
@@ -128,6 +145,10 @@ impl DraftJob {
             }
             Line::Key(change) => {
                 self.last.changes.push(change)?;
+                Ok(())
+            }
+            Line::Off(off) => {
+                self.last.off = off;
                 Ok(())
             }
             Line::Out(out, digest) => {
@@ -152,11 +173,15 @@ impl DraftJob {
             return Err(missing);
         }
         match self.cycles {
-            Some(cycles) => Ok(Job {
-                cycles,
-                delay: self.delay.unwrap_or(USUAL_DELAY),
-                consoles: self.consoles,
-            }),
+            Some(cycles) => {
+                let every = self.delay.unwrap_or(USUAL_DELAY);
+                let players = players_for(self.consoles.len());
+                Ok(Job {
+                    cycles,
+                    delays: delays_of(every, &self.links, players),
+                    consoles: self.consoles,
+                })
+            }
             None => Err(missing),
         }
     }

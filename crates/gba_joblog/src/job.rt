@@ -6,6 +6,7 @@ ghost use Rattle.gba_joblog.specs.Statements.{asks_for as asks_for_of, output_of
 ghost use Rattle.gba_joblog.specs.Views.{console_value};
 
 use crate::outputs::{OutKind, PerKind};
+use link_node::Delays;
 
 /// From a clock on, these keys are pressed and no others.
 #[derive(Clone, Copy, Debug, PartialEq, Eq)]
@@ -46,6 +47,9 @@ pub struct JobConsole {
     /// The key changes of the job's own lines, in their order, by clocks that don't fall; at most 1,000,000. Those of a
     /// key file may be written in, once the job names it no longer.
     pub changes: Vec<KeyChange>,
+    /// From this clock on, in cycles of 16,777,216 Hz, the console is on: 0 where no line says one, else from 1 to
+    /// 274,877,906,943.
+    pub off: u64,
     /// What the console is asked for.
     pub outs: PerKind<Option<OutLine>>,
 }
@@ -53,10 +57,12 @@ pub struct JobConsole {
 /// A job: consoles, and how long they run.
 #[derive(Debug, Drop)]
 pub struct Job {
-    /// In cycles of 16,777,216 Hz, from 1 to 2,147,483,648.
+    /// In cycles of 16,777,216 Hz, from 1 to 274,877,906,944, in version 1 of the language to 2,147,483,648.
     pub cycles: u64,
-    /// The cable's delay in cycles, from 1 to 1,024; 512 where no line says it.
-    pub delay: u64,
+    /// How long a signal takes from each player to each other one, in cycles, from 1 to 1,024; 512 where no line says it.
+    /// It is 512 also for a pair with a player that the cable hasn't, and for a player with itself. The cable of one
+    /// console has two players.
+    pub delays: Delays,
     /// The consoles in the order of their numbers, from 0; one to four.
     pub consoles: Vec<JobConsole>,
 }

@@ -4,6 +4,7 @@
 //!
 //! Contracts see a [`Job`] as numbers and lists, and a name as its bytes (`specs/Job.antt`).
 
+mod cable;
 mod changes;
 mod clash;
 mod console;
@@ -20,6 +21,7 @@ mod outputs;
 mod parse;
 mod statement;
 
+pub use cable::{PAIRS, Pair, players_for};
 pub use digest::{digest_of, digits_of};
 pub use job::{FileLine, Job, JobConsole, KeyChange, OutLine};
 pub use key_file::{LONGEST_KEYS, parse_keys};

@@ -4,8 +4,10 @@ ghost use Rattle.std.specs.Prelude.{◌≡◌, ◌<◌, true};
 ghost use Rattle.gba_text.specs.Numbers.{is_number as is_number_of};
 ghost use Rattle.gba_text.specs.Words.{fault_of};
 ghost use Rattle.gba_text.specs.Answers.{Agrees, Takes};
-ghost use Rattle.gba_joblog.specs.Operands.{digest_at as digest_at_of, digits_at as digits_at_of, end_at as end_at_of, has_words as has_words_of, keys_at as keys_at_of, name_at as name_at_of, number_at as number_at_of, out_kind_at as out_kind_at_of, player_at as player_at_of, version_at as version_at_of, word_at as word_at_of};
+ghost use Rattle.gba_joblog.specs.Operands.{digest_at as digest_at_of, digits_at as digits_at_of, end_at as end_at_of, has_words as has_words_of, keys_at as keys_at_of, name_at as name_at_of, number_at as number_at_of, out_kind_at as out_kind_at_of, pair_at as pair_at_of, player_at as player_at_of, version_at as version_at_of, word_at as word_at_of};
 
+use crate::cable::Pair;
+use crate::draft::JobVersion;
 use crate::kinds::JobKind;
 use crate::names::{is_name, name_text};
 use crate::outputs::OutKind;
@@ -90,21 +92,24 @@ pub(crate) fn name_at<'a>(cursor: &mut Cursor<'a>) -> Result<&'a str, JobKind>
     Ok(name_text(word))
 }
 
-/// The word `1`, the version of the language.
+/// The word `1` or `2`, the version of the language.
 #[tactic(auto, unfolding(crate::specs::Operands::version_at))]
-pub(crate) fn version_at(cursor: &mut Cursor<'_>) -> Result<(), JobKind>
+pub(crate) fn version_at(cursor: &mut Cursor<'_>) -> Result<JobVersion, JobKind>
     requires given { 0 < cursor.old.number }
     requires sound { fault_of cursor.old.line ≡ None }
-    ensures word { Takes (λ _. true) result cursor.new.words (version_at_of cursor.old.words) }
+    ensures word { Takes (λ version. version) result cursor.new.words (version_at_of cursor.old.words) }
     ensures number { cursor.new.number ≡ cursor.old.number }
     ensures line { cursor.new.line ≡ cursor.old.line }
     ensures lines { cursor.new.lines ≡ cursor.old.lines }
 {
     let word = word_at(cursor)?;
-    if word != b"1".as_slice() {
-        return Err(JobKind::Word);
+    if word == b"1".as_slice() {
+        Ok(JobVersion::One)
+    } else if word == b"2".as_slice() {
+        Ok(JobVersion::Two)
+    } else {
+        Err(JobKind::Word)
     }
-    Ok(())
 }
 
 /// The next word as the kind of an output.
@@ -149,6 +154,27 @@ pub(crate) fn player_at(cursor: &mut Cursor<'_>, next: u64) -> Result<u64, JobKi
         return Err(JobKind::Order);
     }
     Err(JobKind::Number)
+}
+
+/// The next two words as a pair of players, of which the second isn't the first.
+#[tactic(auto, unfolding(crate::specs::Operands::pair_at))]
+pub(crate) fn pair_at(cursor: &mut Cursor<'_>) -> Result<Pair, JobKind>
+    requires given { 0 < cursor.old.number }
+    requires sound { fault_of cursor.old.line ≡ None }
+    ensures words { Takes (λ pair. pair) result cursor.new.words (pair_at_of cursor.old.words) }
+    ensures number { cursor.new.number ≡ cursor.old.number }
+    ensures line { cursor.new.line ≡ cursor.old.line }
+    ensures lines { cursor.new.lines ≡ cursor.old.lines }
+{
+    let sender = number_at(cursor, 0, LAST_PLAYER)?;
+    let receiver = number_at(cursor, 0, LAST_PLAYER)?;
+    if sender == receiver {
+        return Err(JobKind::Number);
+    }
+    Ok(Pair {
+        sender: sender as usize,
+        receiver: receiver as usize,
+    })
 }
 
 /// Whether words are left in the line.

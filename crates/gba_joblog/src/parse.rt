@@ -13,7 +13,7 @@ use crate::job::Job;
 use crate::kinds::{JobKind, ParseRefused};
 use crate::lines::{is_said, make_refusal};
 use crate::operands::word_at;
-use crate::statement::{Line, arguments, keyword_of, refusal_at};
+use crate::statement::{Line, arguments, keyword_in, refusal_at};
 use gba_text::Cursor;
 use std::alloc::Global;
 
@@ -33,7 +33,7 @@ fn words_say<'a>(draft: &DraftJob, cursor: &mut Cursor<'a>) -> Result<Option<Lin
     if draft.place == Place::Ended {
         return Err(JobKind::Extra);
     }
-    let Some(keyword) = keyword_of(word) else {
+    let Some(keyword) = keyword_in(draft.version, word) else {
         return Err(JobKind::Word);
     };
     if let Some(refusal) = refusal_at(draft, keyword) {

@@ -3,20 +3,29 @@
 ghost use Rattle.std.specs.Prelude.{◌≡◌, ◌<◌};
 ghost use Rattle.gba_text.specs.Words.{fault_of};
 ghost use Rattle.gba_text.specs.Answers.{Agrees};
-ghost use Rattle.gba_joblog.specs.Statements.{arguments as arguments_of, file_refusal as file_refusal_of, has_image as has_image_of, keyword_of as keyword_spelled, once as once_of, refusal_at as refusal_at_of};
+ghost use Rattle.gba_joblog.specs.Statements.{arguments as arguments_of, file_refusal as file_refusal_of, has_image as has_image_of, keyword_in as keyword_in_of, keyword_of as keyword_spelled, most_cycles as most_cycles_of, once as once_of, refusal_at as refusal_at_of};
 ghost use Rattle.gba_joblog.specs.Views.{draft_console_value, draft_value, statement_value};
 
+use crate::cable::{Link, link_for};
 use crate::changes::change_at;
 use crate::console::DraftConsole;
-use crate::draft::{DraftJob, Place};
+use crate::draft::{DraftJob, JobVersion, Place};
 use crate::job::{FileKind, KeyChange};
 use crate::kinds::JobKind;
-use crate::operands::{digest_at, end_at, name_at, number_at, out_kind_at, player_at, version_at};
+use crate::operands::{
+    digest_at, end_at, name_at, number_at, out_kind_at, pair_at, player_at, version_at,
+};
 use crate::outputs::OutKind;
 use gba_text::Cursor;
 
-/// The greatest number of cycles.
+/// The most cycles of a job of version 1.
 const MOST_CYCLES: u64 = 2_147_483_648;
+
+/// The most cycles of a job of version 2.
+const MOST_CYCLES_TWO: u64 = 274_877_906_944;
+
+/// The greatest clock at which a console goes on, in cycles: one less than 2^38.
+const MOST_OFF: u64 = 274_877_906_943;
 
 /// The longest delay of the cable, in cycles.
 const MOST_DELAY: u64 = 1_024;
@@ -27,9 +36,11 @@ pub(crate) enum Keyword {
     Version,
     Cycles,
     Delay,
+    Link,
     Console,
     File(FileKind),
     Key,
+    Off,
     Out,
     End,
 }
@@ -37,14 +48,19 @@ pub(crate) enum Keyword {
 /// What a line says.
 #[derive(Clone, Copy)]
 pub(crate) enum Line<'a> {
-    Version,
+    Version(JobVersion),
     Cycles(u64),
+    /// The delay of all pairs that have no link.
     Delay(u64),
+    /// The delay of one pair.
+    Link(Link),
     /// The console of this number begins.
     Console(u64),
     /// An input, its name, and the digest stated with it.
     File(FileKind, &'a str, Option<[u8; 32]>),
     Key(KeyChange),
+    /// The console is off before this clock.
+    Off(u64),
     /// An output, and the digest stated for it.
     Out(OutKind, Option<[u8; 32]>),
     End,
@@ -52,7 +68,7 @@ pub(crate) enum Line<'a> {
 
 /// The keyword that a word spells.
 #[tactic(auto, unfolding(crate::specs::Statements::keyword_of))]
-pub(crate) fn keyword_of(word: &[u8]) -> Option<Keyword>
+fn keyword_of(word: &[u8]) -> Option<Keyword>
     ensures { result ≡ keyword_spelled word.now }
 {
     if word == b"gbalink".as_slice() {
@@ -61,6 +77,8 @@ pub(crate) fn keyword_of(word: &[u8]) -> Option<Keyword>
         Some(Keyword::Cycles)
     } else if word == b"delay".as_slice() {
         Some(Keyword::Delay)
+    } else if word == b"link".as_slice() {
+        Some(Keyword::Link)
     } else if word == b"console".as_slice() {
         Some(Keyword::Console)
     } else if word == b"bios".as_slice() {
@@ -73,12 +91,34 @@ pub(crate) fn keyword_of(word: &[u8]) -> Option<Keyword>
         Some(Keyword::File(FileKind::Keys))
     } else if word == b"key".as_slice() {
         Some(Keyword::Key)
+    } else if word == b"off".as_slice() {
+        Some(Keyword::Off)
     } else if word == b"out".as_slice() {
         Some(Keyword::Out)
     } else if word == b"end".as_slice() {
         Some(Keyword::End)
     } else {
         None
+    }
+}
+
+/// The keyword that a word spells in a version of the language.
+pub(crate) fn keyword_in(version: JobVersion, word: &[u8]) -> Option<Keyword>
+    ensures { result ≡ keyword_in_of version word.now }
+{
+    match (version, keyword_of(word)) {
+        (JobVersion::One, Some(Keyword::Link | Keyword::Off)) => None,
+        (_, keyword) => keyword,
+    }
+}
+
+/// The most cycles of a job, by the version of the language.
+fn most_cycles(version: JobVersion) -> u64
+    ensures { result ≡ most_cycles_of version }
+{
+    match version {
+        JobVersion::One => MOST_CYCLES,
+        JobVersion::Two => MOST_CYCLES_TWO,
     }
 }
 
@@ -115,10 +155,12 @@ pub(crate) fn refusal_at(draft: &DraftJob, keyword: Keyword) -> Option<JobKind>
         (Keyword::Version, _) => Some(JobKind::Repeated),
         (Keyword::Cycles, Place::Head) => once(draft.cycles.is_some()),
         (Keyword::Delay, Place::Head) => once(draft.delay.is_some()),
+        (Keyword::Link, Place::Head) => None,
         (Keyword::Console, Place::Inside) => None,
         (Keyword::Console, Place::Head) if draft.cycles.is_some() => None,
         (Keyword::File(kind), Place::Inside) => file_refusal(kind, &draft.last),
         (Keyword::Key, Place::Inside) if draft.last.keys.is_some() => Some(JobKind::Order),
+        (Keyword::Off, Place::Inside) => once(draft.last.off != 0),
         (Keyword::Key | Keyword::Out | Keyword::End, Place::Inside) => None,
         _ => Some(JobKind::Order),
     }
@@ -150,12 +192,12 @@ pub(crate) fn arguments<'a>(
 {
     match keyword {
         Keyword::Version => {
-            version_at(cursor)?;
+            let version = version_at(cursor)?;
             end_at(cursor)?;
-            Ok(Line::Version)
+            Ok(Line::Version(version))
         }
         Keyword::Cycles => {
-            let cycles = number_at(cursor, 1, MOST_CYCLES)?;
+            let cycles = number_at(cursor, 1, most_cycles(draft.version))?;
             end_at(cursor)?;
             Ok(Line::Cycles(cycles))
         }
@@ -163,6 +205,15 @@ pub(crate) fn arguments<'a>(
             let delay = number_at(cursor, 1, MOST_DELAY)?;
             end_at(cursor)?;
             Ok(Line::Delay(delay))
+        }
+        Keyword::Link => {
+            let pair = pair_at(cursor)?;
+            if link_for(pair, &draft.links).is_some() {
+                return Err(JobKind::Repeated);
+            }
+            let delay = number_at(cursor, 1, MOST_DELAY)?;
+            end_at(cursor)?;
+            Ok(Line::Link(Link { pair, delay }))
         }
         Keyword::Console => {
             let player = player_at(cursor, draft.next_player())?;
@@ -181,6 +232,11 @@ pub(crate) fn arguments<'a>(
         Keyword::Key => {
             let change = change_at(&draft.last.changes, cursor)?;
             Ok(Line::Key(change))
+        }
+        Keyword::Off => {
+            let off = number_at(cursor, 1, MOST_OFF)?;
+            end_at(cursor)?;
+            Ok(Line::Off(off))
         }
         Keyword::Out => {
             let out = out_kind_at(cursor)?;

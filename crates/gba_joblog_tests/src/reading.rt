@@ -1,7 +1,11 @@
 //! Jobs that are read.
 
 use crate::helpers::{FIRST, HEAD, NOTHING, OF_NOTHING, joined, padded};
-use gba_joblog::{FileLine, Job, JobConsole, OutKind, OutLine, PerKind, digest_of, digits_of};
+use gba_joblog::{
+    FileLine, Job, JobConsole, OutKind, OutLine, PAIRS, Pair, PerKind, digest_of, digits_of,
+    players_for,
+};
+use link_node::Delays;
 use std::test::Fail;
 
 // What a job says: its cycles, its image with the line, and whether the state is asked for.
@@ -12,7 +16,7 @@ fn says(job: &Job, cycles: u64, bios: &str, line: u64, state: bool) -> bool {
     let file = &console.bios;
     let plain = OutLine { digest: None };
     job.cycles == cycles
-        && job.delay == 512
+        && job.delays == Delays::all(512)
         && file.name.as_str() == bios
         && file.line == line
         && file.digest.is_none()
@@ -20,6 +24,7 @@ fn says(job: &Job, cycles: u64, bios: &str, line: u64, state: bool) -> bool {
         && console.save.is_none()
         && console.keys.is_none()
         && console.changes.is_empty()
+        && console.off == 0
         && is_asked(
             &console.outs,
             [None, None, None, state.then_some(plain), None],
@@ -136,7 +141,8 @@ fn cartridges_and_saves_are_read(rt: HostRuntime) {
     }
 }
 
-// The delays of jobs: without a line, the least, the greatest, and before `cycles`.
+// The delays of jobs: without a line, the least, the greatest, and before `cycles`. They are those between players 0 and
+// 1, the others of one console's cable stay 512.
 #[test]
 fn delays_are_read(rt: HostRuntime) {
     static CASES: [(&[u8], u64); 5] = [
@@ -157,10 +163,154 @@ fn delays_are_read(rt: HostRuntime) {
     ];
     for &(text, delay) in &CASES {
         match Job::parse(rt.alloc(), text) {
-            Ok(job) => assert_eq!(rt; job.delay, delay, "of {text:?}"),
+            Ok(job) => assert_eq!(rt; job.delays, both_ways(delay, delay), "of {text:?}"),
             Err(_) => panic!(rt; "no job"),
         }
     }
+}
+
+// The cable of two players, of which the third and the fourth are missing.
+fn both_ways(there: u64, back: u64) -> Delays {
+    Delays {
+        rows: [
+            [512, there, 512, 512],
+            [back, 512, 512, 512],
+            [512, 512, 512, 512],
+            [512, 512, 512, 512],
+        ],
+    }
+}
+
+// The lines between `gbalink 2` with `cycles 1` and those of so many consoles, and the delays from each player to each other
+// one.
+static CABLES: [(&[u8], usize, Delays); 6] = [
+    (
+        b"",
+        4,
+        Delays {
+            rows: [
+                [512, 512, 512, 512],
+                [512, 512, 512, 512],
+                [512, 512, 512, 512],
+                [512, 512, 512, 512],
+            ],
+        },
+    ),
+    (
+        b"link 0 1 1\nlink 1 0 1024\n",
+        1,
+        Delays {
+            rows: [
+                [512, 1, 512, 512],
+                [1024, 512, 512, 512],
+                [512, 512, 512, 512],
+                [512, 512, 512, 512],
+            ],
+        },
+    ),
+    // the links of players that are missing
+    (
+        b"delay 7\nlink 0 2 3\nlink 2 0 4\nlink 3 1 5\nlink 2 3 6\n",
+        2,
+        Delays {
+            rows: [
+                [512, 7, 512, 512],
+                [7, 512, 512, 512],
+                [512, 512, 512, 512],
+                [512, 512, 512, 512],
+            ],
+        },
+    ),
+    (
+        b"link 1 2 3\ndelay 9\nlink 2 1 4\n",
+        3,
+        Delays {
+            rows: [
+                [512, 9, 9, 512],
+                [9, 512, 3, 512],
+                [9, 4, 512, 512],
+                [512, 512, 512, 512],
+            ],
+        },
+    ),
+    (
+        b"link 0 3 00000000000000000011\nlink 03 00 12\n",
+        4,
+        Delays {
+            rows: [
+                [512, 512, 512, 11],
+                [512, 512, 512, 512],
+                [512, 512, 512, 512],
+                [12, 512, 512, 512],
+            ],
+        },
+    ),
+    (
+        b"link 0 1 1\nlink 0 2 2\nlink 0 3 3\nlink 1 0 4\nlink 1 2 5\nlink 1 3 6\nlink 2 0 7\nlink 2 1 8\nlink 2 3 9\nlink 3 0 10\nlink 3 1 11\nlink 3 2 12\ndelay 13\n",
+        4,
+        Delays {
+            rows: [
+                [512, 1, 2, 3],
+                [4, 512, 5, 6],
+                [7, 8, 512, 9],
+                [10, 11, 12, 512],
+            ],
+        },
+    ),
+];
+
+static FOUR_CONSOLES: [&[u8]; 4] = [
+    b"console 0\nbios b\n",
+    b"console 1\nbios b\n",
+    b"console 2\nbios b\n",
+    b"console 3\nbios b\n",
+];
+
+#[test]
+fn links_are_read(rt: HostRuntime) -> Result<(), Fail> {
+    for (lines, consoles, delays) in &CABLES {
+        let mut text = joined(rt.alloc(), &[b"gbalink 2\ncycles 1\n", lines])?;
+        for console in FOUR_CONSOLES.iter().take(*consoles) {
+            text.extend_from_slice(console)?;
+        }
+        text.extend_from_slice(b"end\n")?;
+        match Job::parse(rt.alloc(), &text) {
+            Ok(job) => assert_eq!(rt; job.delays, *delays, "of {lines:?}"),
+            Err(_) => panic!(rt; "no job of {lines:?}"),
+        }
+    }
+    Ok(())
+}
+
+// The longest run of version 2, and consoles that are off: for one cycle, for as long as can be, and not at all.
+#[test]
+fn consoles_that_are_off_are_read(rt: HostRuntime) {
+    let text: &[u8] =
+        b" gbalink 2\ncycles 274877906944\nconsole 0\noff 1\nbios b\nconsole 1\nbios b\noff 274877906943\nconsole 2\nbios b\nend\n";
+    match Job::parse(rt.alloc(), text) {
+        Ok(job) => {
+            let [first, second, third] = job.consoles.as_slice() else {
+                return assert!(rt; false);
+            };
+            assert_eq!(rt; job.cycles, 274_877_906_944);
+            assert_eq!(rt; (first.off, second.off, third.off), (1, 274_877_906_943, 0));
+        }
+        Err(_) => panic!(rt; "no job"),
+    }
+}
+
+// The pairs of players, and how many players a cable has.
+#[test]
+fn pairs_are_told(rt: HostRuntime) {
+    assert_eq!(rt; (players_for(1), players_for(2), players_for(4)), (2, 2, 4));
+    assert_eq!(rt; PAIRS.iter().filter(|pair| pair.is_joined(3)).count(), 6);
+    assert!(rt;
+        !Pair {
+            sender: 1,
+            receiver: 1
+        }
+        .is_joined(4)
+    );
 }
 
 #[test]

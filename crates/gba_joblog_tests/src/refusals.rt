@@ -92,11 +92,13 @@ fn the_first_refused_line_is_named(rt: HostRuntime) {
     }
 }
 
-static TESTS_IN_ORDER: [(&[u8], u64, JobKind); 47] = [
+static TESTS_IN_ORDER: [(&[u8], u64, JobKind); 49] = [
     (b" #\n", 1, JobKind::Word),
     (b"GBALINK 1\n", 1, JobKind::Word),
     (b"gbalink 01", 1, JobKind::Word),
-    (b"gbalink 2 3", 1, JobKind::Word),
+    (b"gbalink 2 3", 1, JobKind::Extra),
+    (b"gbalink 3", 1, JobKind::Word),
+    (b"gbalink 02", 1, JobKind::Word),
     (b"cart c", 1, JobKind::Order),
     (b"carts c", 1, JobKind::Word),
     (b"gbalink 1\ncycles 1\nconsole 0\nKeys k", 4, JobKind::Word),
@@ -254,6 +256,100 @@ static DELAYS: [(&[u8], u64, JobKind); 15] = [
         JobKind::Extra,
     ),
 ];
+
+// The lines that version 2 added, and its limits; in version 1 they are no lines, and its limits stay.
+static OF_VERSION_2: [(&[u8], u64, JobKind); 39] = [
+    (b"link 0 1 1", 1, JobKind::Word),
+    (b"off 1", 1, JobKind::Word),
+    (b"gbalink 1\nlink 0 1 1", 2, JobKind::Word),
+    (b"gbalink 1\ncycles 1\nconsole 0\noff 1", 4, JobKind::Word),
+    (
+        b"gbalink 1\ncycles 1\nconsole 0\nlink 0 1 1",
+        4,
+        JobKind::Word,
+    ),
+    (b"gbalink 1\ncycles 274877906944", 2, JobKind::Number),
+    (b"gbalink 2\ncycles 274877906945", 2, JobKind::Number),
+    (b"gbalink 2\ncycles 0", 2, JobKind::Number),
+    (b"gbalink 2\ngbalink 2", 2, JobKind::Repeated),
+    (b"gbalink 2\nLink 0 1 1", 2, JobKind::Word),
+    (b"gbalink 2\nlinks 0 1 1", 2, JobKind::Word),
+    (b"gbalink 2\nlink", 2, JobKind::Missing),
+    (b"gbalink 2\nlink 0", 2, JobKind::Missing),
+    (b"gbalink 2\nlink 0 1", 2, JobKind::Missing),
+    (b"gbalink 2\nlink 4", 2, JobKind::Number),
+    (b"gbalink 2\nlink x 1 1", 2, JobKind::Number),
+    (b"gbalink 2\nlink 0 4 1", 2, JobKind::Number),
+    (b"gbalink 2\nlink 2 2", 2, JobKind::Number),
+    (
+        b"gbalink 2\nlink 3 00000000000000000003 1 1",
+        2,
+        JobKind::Number,
+    ),
+    (b"gbalink 2\nlink 0 1 0", 2, JobKind::Number),
+    (b"gbalink 2\nlink 0 1 1025", 2, JobKind::Number),
+    (b"gbalink 2\nlink 0 1 1 1", 2, JobKind::Extra),
+    (b"gbalink 2\nlink 0 1 1\nlink 0 1", 3, JobKind::Repeated),
+    (
+        b"gbalink 2\nlink 0 1 1\nlink 1 0 1\nlink 00 01 x 1",
+        4,
+        JobKind::Repeated,
+    ),
+    (
+        b"gbalink 2\nlink 3 2 1\ncycles 1\nlink 3 2 1",
+        4,
+        JobKind::Repeated,
+    ),
+    (b"gbalink 2\nlink 0 1 1\nlink 1 1 1", 3, JobKind::Number),
+    (b"gbalink 2\ncycles 1\nconsole 0\nlink x", 4, JobKind::Order),
+    (b"gbalink 2\noff 1", 2, JobKind::Order),
+    (b"gbalink 2\ncycles 1\noff", 3, JobKind::Order),
+    (b"gbalink 2\nlink 0 1 1\nconsole 0", 3, JobKind::Order),
+    (b"gbalink 2\ncycles 1\nconsole 0\noff", 4, JobKind::Missing),
+    (b"gbalink 2\ncycles 1\nconsole 0\noff 0", 4, JobKind::Number),
+    (
+        b"gbalink 2\ncycles 1\nconsole 0\noff 274877906944",
+        4,
+        JobKind::Number,
+    ),
+    (
+        b"gbalink 2\ncycles 1\nconsole 0\noff 1 1",
+        4,
+        JobKind::Extra,
+    ),
+    (
+        b"gbalink 2\ncycles 1\nconsole 0\noff 1\noff x",
+        5,
+        JobKind::Repeated,
+    ),
+    (
+        b"gbalink 2\ncycles 1\nconsole 0\noff 1\nconsole 1",
+        5,
+        JobKind::Missing,
+    ),
+    (
+        b"gbalink 2\ncycles 1\nconsole 0\nbios b\noff 1\nconsole 1\noff 1\nend",
+        8,
+        JobKind::Missing,
+    ),
+    (
+        b"gbalink 2\ncycles 1\nconsole 0\nbios b\nend\noff 1",
+        6,
+        JobKind::Extra,
+    ),
+    (
+        b"gbalink 2\ncycles 1\nconsole 0\nbios b\nend\nlink 0 1 1",
+        6,
+        JobKind::Extra,
+    ),
+];
+
+#[test]
+fn version_1_has_no_lines_of_version_2(rt: HostRuntime) {
+    for (text, line, kind) in &OF_VERSION_2 {
+        assert!(rt; refuses(rt.alloc(), text, *line, *kind), "of {text:?}");
+    }
+}
 
 // What follows the first lines of a job, up to `cycles`: the next line is the third.
 static CONSOLES: [(&[u8], u64, JobKind); 22] = [

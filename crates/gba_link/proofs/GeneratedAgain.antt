@@ -11,7 +11,7 @@ use Rattle.gba_command.specs.Plan.{file, outcome}
 use Rattle.gba_command.specs.Words.{AreGenerateWords, GenerateWords}
 use Rattle.gba_command.specs.Writing.{Output, Run}
 use Rattle.gba_generator.proofs.Assembled.{bios-fine, is-code}
-use Rattle.gba_generator.proofs.MadeJob.{job-read, job-sound, text-is}
+use Rattle.gba_generator.proofs.MadeJob.{job-read, job-sound, text-short}
 use Rattle.gba_generator.specs.Job.{bios_file, console, job, job_file, job_text}
 use Rattle.gba_generator.specs.Law.{IsReadAs}
 use Rattle.gba_generator.specs.Source.{bios}
@@ -20,7 +20,6 @@ use Rattle.gba_inputs.proofs.Replay.{Has, gives-each, image-unlined, ok-judged}
 use Rattle.gba_inputs.specs.Inputs.{ConsoleInputs, digested}
 use Rattle.gba_inputs.specs.InputsPlan.{accepted, after_bios, after_cart, after_keys, after_save, any_cart_plan, any_keys_plan, any_save_plan, bios_form, bios_plan, inputs_plan, judged_image}
 use Rattle.gba_inputs.specs.Law.{AreInputs}
-use Rattle.gba_joblog.proofs.LogLength.{log-short}
 use Rattle.gba_joblog.specs.Clash.{clash_of, console_clash, console_writes, inputs_clash, is_output, log_file, output_file, writes, writes_as}
 use Rattle.gba_joblog.specs.Job.{ConsoleJob, NamedFile, WholeJob}
 use Rattle.gba_joblog.specs.Language.{longest_job}
@@ -279,7 +278,7 @@ made-again files words out are has =
     = gives-each files again.again.consoles [] inputs (all-given files again.again.consoles made.consoles inputs like all) in
     let text : List ℕ = job_text words.cycles words.out in
     let short : length text ≤ longest_job
-    = subst (λ (t : List ℕ). length t ≤ longest_job) (text-is words.cycles words.out) (log-short made is) in
+    = text-short words.cycles words.out are.few_cycles are.out in
     let comes = comes-to files (made_run words out) again.again inputs text (has 4 one (lit< tt)) short again.read
     (no-clash words.cycles words.out out again.again like) passes in
     let plain : Run = result_of_run [] made inputs in

@@ -38,7 +38,7 @@ use Rattle.link_order.specs.Cut.{Cut}
 
 -- ---- what a job asks for is no input
 
-filled-asks : (kind : OutKind) (consoles : List ConsoleJob) (inputs : List ConsoleInputs) (k : ℕ)
+pub filled-asks : (kind : OutKind) (consoles : List ConsoleJob) (inputs : List ConsoleInputs) (k : ℕ)
     → length consoles ≡ length inputs
     → is_some (option_and_then (line_in kind) (slice_get (filled_consoles consoles inputs) k))
     ≡ is_some (option_and_then (line_in kind) (slice_get consoles k))
@@ -58,7 +58,7 @@ filled-count (c ∷ consoles) (i ∷ inputs) many =
     ∙ ap (λ (n : ℕ). console_count c + n) (filled-count consoles inputs (omega (arith, many)))
     ∙ sym (sum_by-cons console_count c consoles)
 
-filled-long : (consoles : List ConsoleJob) (inputs : List ConsoleInputs) → length consoles ≡ length inputs
+pub filled-long : (consoles : List ConsoleJob) (inputs : List ConsoleInputs) → length consoles ≡ length inputs
     → length (filled_consoles consoles inputs) ≡ length consoles
 unfolding filled_consoles
 filled-long [] inputs many = refl

@@ -41,14 +41,14 @@ consoles-filled (c ∷ consoles) (i ∷ inputs) =
 
 each-alike : (consoles : List ConsoleJob) → AllZip RunsAs consoles (map unlined_console consoles)
 each-alike [] = tt
-each-alike (c ∷ consoles) = (record { changes = refl; asks = refl }, each-alike consoles)
+each-alike (c ∷ consoles) = (record { changes = refl; off = refl; asks = refl }, each-alike consoles)
 
 under-unlined : (out : List ℕ) (job : WholeJob) (images : List ConsoleImages)
     → run_under out (unlined job) images ≡ run_under out job images
 under-unlined out job images =
     let alike : RunsAlike job (unlined job) = record {
       cycles = refl;
-      delay = refl;
+      delays = refl;
       many = length-map job.consoles unlined_console;
       each = each-alike job.consoles;
     } in

@@ -203,10 +203,11 @@ module _ (job : WholeJob) (inputs : List ConsoleInputs) (is : IsJob job) (read :
 
     alike : RunsAlike whole later
     alike =
-        let each = filled-alike job.consoles replay.again.consoles inputs made inputs-many (made-many ∙ whole-many) replay.asked in
+        let each = filled-alike job.consoles replay.again.consoles inputs made inputs-many (made-many ∙ whole-many) replay.offs
+        replay.asked in
         record {
           cycles = replay.cycles;
-          delay = replay.delay;
+          delays = replay.delays;
           many = sym (length_all_zip _ whole.consoles later.consoles each);
           each = each;
         }

@@ -4,6 +4,7 @@ pub mod CommandPlan
 pub mod Law
 pub mod AgainLaw
 pub mod AskedLaw
+pub mod CountedLaw
 pub mod DigestsLaw
 pub mod GeneratedLaw
 pub mod InputsLaw

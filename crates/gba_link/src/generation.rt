@@ -60,13 +60,11 @@ fn bios_of(
 }
 
 /// The file of the job.
-fn job_file(alloc: Global, words: &GenerateWords<'_>, made: &Job) -> Result<OutputFile, AllocError>
-    requires out { IsOut words.now.out.now }
-    requires made { job_value made.now ≡ job_of words.now.cycles words.now.out.now }
-    requires sound { IsJob (job_value made.now) }
+fn job_file(alloc: Global, words: &GenerateWords<'_>) -> Result<OutputFile, AllocError>
+    requires { IsOut words.now.out.now }
     ensures { IfOk result (λ file. output_value file ≡ job_output (generate_words_value words.now)) }
 {
-    let bytes = job_text(alloc, words.cycles, words.out, made)?;
+    let bytes = job_text(alloc, words.cycles, words.out)?;
     let name = job_name(alloc, words.out)?;
     Ok(OutputFile { name, bytes })
 }
@@ -96,7 +94,7 @@ fn make(alloc: Global, words: &GenerateWords<'_>) -> Result<PreparedRun, NoMemor
     let (second, second_file) = bios_of(alloc, words, 1)?;
     let (third, third_file) = bios_of(alloc, words, 2)?;
     let (fourth, fourth_file) = bios_of(alloc, words, 3)?;
-    let job_file = job_file(alloc, words, &job)?;
+    let job_file = job_file(alloc, words)?;
     let made = [first_file, second_file, third_file, fourth_file, job_file];
     let files = first_files(alloc, made)?;
     let inputs = all_inputs(alloc, [first, second, third, fourth])?;

@@ -2,12 +2,14 @@
 
 ghost use Rattle.gba_link.specs.AgainLaw.{LogsRunAgain};
 ghost use Rattle.gba_link.specs.AskedLaw.{KeepsWhatIsAsked};
+ghost use Rattle.gba_link.specs.CountedLaw.{CountsItsFiles};
 ghost use Rattle.gba_link.specs.DigestsLaw.{ComparesDigests};
 ghost use Rattle.gba_link.specs.FilesLaw.{CommandsHaveFiles};
 ghost use Rattle.gba_link.specs.GeneratedLaw.{GeneratedRunsAgain};
 ghost use Rattle.gba_link.specs.InputsLaw.{SparesItsInputs};
 ghost use Rattle.gba_link.specs.Law.{RefusesWrongWords, TwoIsWrongWords};
 
+use gba_console::laws::counts_what_it_keeps;
 use gba_run_files::laws::runs_have_own_files;
 use gba_store::{Sink, Store};
 
@@ -37,6 +39,14 @@ pub fn spares_its_inputs()
 pub fn keeps_what_is_asked()
     ensures { KeepsWhatIsAsked }
 {}
+
+/// A file of frames that a job asks for has 76,800 bytes for each whole frame that the summary counts of its console, a file of
+/// samples 4 for each pair, and a file of words a line for each transfer.
+pub fn counts_its_files()
+    ensures { CountsItsFiles }
+{
+    counts_what_it_keeps();
+}
 
 /// A run ends with its summary where each digest that the job states of an output is the SHA-256 of the bytes that it writes;
 /// else it is refused for the first output of which it isn't, with the stated digest and that of the bytes.

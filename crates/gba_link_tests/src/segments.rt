@@ -32,41 +32,41 @@ static COURSES: [Course<'static>; 5] = [
     Course {
         cycles: 16_777_217,
         kinds: "out samples\n",
-        calls: "create g.0.samples\ncreate g.log\nappend g.0.samples 131072\nappend g.log 213\nappend - 126\n",
-        log: "gbalink 1\ncycles 16777217\ndelay 512\nconsole 0\nbios b sha256 dd445ac7aea6a84b1946353430e78f8548e64d4da914b88eccb71ccb8920e70a\nout samples sha256 fa43239bcee7b97ca62f007cc68487560a39e19f74f3dde7486db3f98df8e471\nend\n",
-        report: "console 0 clock 16777219 frames 60 samples 32768 words 0\nlog 2b67ee0764a92e8fd0e7512a535ae2a618f112fb3196a5f28c03a37a358f54ed\n",
+        calls: "create g.0.samples\ncreate g.log\nappend g.0.samples 131072\nappend g.log 229\nappend - 126\n",
+        log: "gbalink 2\ncycles 16777217\nlink 0 1 512\nlink 1 0 512\nconsole 0\nbios b sha256 dd445ac7aea6a84b1946353430e78f8548e64d4da914b88eccb71ccb8920e70a\nout samples sha256 fa43239bcee7b97ca62f007cc68487560a39e19f74f3dde7486db3f98df8e471\nend\n",
+        report: "console 0 clock 16777219 frames 60 samples 32768 words 0\nlog 429a14fc60bbfc577a07369934832c9194f179d1c4b3c7ec11991c9533dd953d\n",
     },
     // The second segment has two pairs.
     Course {
         cycles: 16_778_240,
         kinds: "out samples\n",
-        calls: "create g.0.samples\ncreate g.log\nappend g.0.samples 131072\nappend g.0.samples 8\nappend g.log 213\nappend - 126\n",
-        log: "gbalink 1\ncycles 16778240\ndelay 512\nconsole 0\nbios b sha256 dd445ac7aea6a84b1946353430e78f8548e64d4da914b88eccb71ccb8920e70a\nout samples sha256 aa7db7093aaece22495cdd47cd53337e361f003c48c7531b261eb6466cc8252e\nend\n",
-        report: "console 0 clock 16778243 frames 60 samples 32770 words 0\nlog 46cef0eb3df8fce95f6ea71213ea7ea77b05d25451442308e7dc75e374a5a49e\n",
+        calls: "create g.0.samples\ncreate g.log\nappend g.0.samples 131072\nappend g.0.samples 8\nappend g.log 229\nappend - 126\n",
+        log: "gbalink 2\ncycles 16778240\nlink 0 1 512\nlink 1 0 512\nconsole 0\nbios b sha256 dd445ac7aea6a84b1946353430e78f8548e64d4da914b88eccb71ccb8920e70a\nout samples sha256 aa7db7093aaece22495cdd47cd53337e361f003c48c7531b261eb6466cc8252e\nend\n",
+        report: "console 0 clock 16778243 frames 60 samples 32770 words 0\nlog 81e5b5f206662aab852b9a6961a5ddb6f9c04cafc2c658c8f1d7c157dc8ce7bc\n",
     },
     // One whole segment, and no words.
     Course {
         cycles: 16_777_216,
         kinds: "out words\nout samples\n",
-        calls: "create g.0.samples\ncreate g.0.words\ncreate g.log\nappend g.0.samples 131072\nappend g.log 295\nappend - 126\n",
-        log: "gbalink 1\ncycles 16777216\ndelay 512\nconsole 0\nbios b sha256 dd445ac7aea6a84b1946353430e78f8548e64d4da914b88eccb71ccb8920e70a\nout samples sha256 fa43239bcee7b97ca62f007cc68487560a39e19f74f3dde7486db3f98df8e471\nout words sha256 e3b0c44298fc1c149afbf4c8996fb92427ae41e4649b934ca495991b7852b855\nend\n",
-        report: "console 0 clock 16777219 frames 60 samples 32768 words 0\nlog 69f2518f30dc77d8df86fe978c74444c8a0e49d1284cc3a8139a584a1a5c2523\n",
+        calls: "create g.0.samples\ncreate g.0.words\ncreate g.log\nappend g.0.samples 131072\nappend g.log 311\nappend - 126\n",
+        log: "gbalink 2\ncycles 16777216\nlink 0 1 512\nlink 1 0 512\nconsole 0\nbios b sha256 dd445ac7aea6a84b1946353430e78f8548e64d4da914b88eccb71ccb8920e70a\nout samples sha256 fa43239bcee7b97ca62f007cc68487560a39e19f74f3dde7486db3f98df8e471\nout words sha256 e3b0c44298fc1c149afbf4c8996fb92427ae41e4649b934ca495991b7852b855\nend\n",
+        report: "console 0 clock 16777219 frames 60 samples 32768 words 0\nlog 0599a50d503cbad1dbdbb49016841625046efa65ed84d7fb1dc69f68c3ae7b64\n",
     },
     // Two whole segments.
     Course {
         cycles: 33_554_432,
         kinds: "out frames\nout samples\n",
-        calls: "create g.0.frames\ncreate g.0.samples\ncreate g.log\nappend g.0.frames 4608000\nappend g.0.samples 131072\nappend g.0.frames 4531200\nappend g.0.samples 131072\nappend g.log 296\nappend - 127\n",
-        log: "gbalink 1\ncycles 33554432\ndelay 512\nconsole 0\nbios b sha256 dd445ac7aea6a84b1946353430e78f8548e64d4da914b88eccb71ccb8920e70a\nout frames sha256 1e248dd562bb6f825e0501746b0aa7ab220e463e70bd594134ae7a078717edec\nout samples sha256 8a39d2abd3999ab73c34db2476849cddf303ce389b35826850f9a700589b4a90\nend\n",
-        report: "console 0 clock 33554435 frames 119 samples 65536 words 0\nlog e8c5bdb9ff4d4b423da756669b66b72bfcefb04a776dfcb4698d5ae889e2b751\n",
+        calls: "create g.0.frames\ncreate g.0.samples\ncreate g.log\nappend g.0.frames 4608000\nappend g.0.samples 131072\nappend g.0.frames 4531200\nappend g.0.samples 131072\nappend g.log 312\nappend - 127\n",
+        log: "gbalink 2\ncycles 33554432\nlink 0 1 512\nlink 1 0 512\nconsole 0\nbios b sha256 dd445ac7aea6a84b1946353430e78f8548e64d4da914b88eccb71ccb8920e70a\nout frames sha256 1e248dd562bb6f825e0501746b0aa7ab220e463e70bd594134ae7a078717edec\nout samples sha256 8a39d2abd3999ab73c34db2476849cddf303ce389b35826850f9a700589b4a90\nend\n",
+        report: "console 0 clock 33554435 frames 119 samples 65536 words 0\nlog f0f98e314b1a67bb59e06c805cfdf7e461952c5ccf57484b1dd6751de5db152f\n",
     },
     // One step. What is empty is made and gets no piece.
     Course {
         cycles: 1,
         kinds: "out frames\nout samples\nout words\nout save\n",
-        calls: "create g.0.frames\ncreate g.0.samples\ncreate g.0.words\ncreate g.0.save\ncreate g.log\nappend g.0.save 32768\nappend g.log 452\nappend - 114\n",
-        log: "gbalink 1\ncycles 1\ndelay 512\nconsole 0\nbios b sha256 dd445ac7aea6a84b1946353430e78f8548e64d4da914b88eccb71ccb8920e70a\nout frames sha256 e3b0c44298fc1c149afbf4c8996fb92427ae41e4649b934ca495991b7852b855\nout samples sha256 e3b0c44298fc1c149afbf4c8996fb92427ae41e4649b934ca495991b7852b855\nout words sha256 e3b0c44298fc1c149afbf4c8996fb92427ae41e4649b934ca495991b7852b855\nout save sha256 2d864c0b789a43214eee8524d3182075125e5ca2cd527f3582ec87ffd94076bc\nend\n",
-        report: "console 0 clock 1 frames 0 samples 0 words 0\nlog 7a3ecdc158d0aa3b609f9646cfd6d0c62c7e1d6404788167ec859461eb361e54\n",
+        calls: "create g.0.frames\ncreate g.0.samples\ncreate g.0.words\ncreate g.0.save\ncreate g.log\nappend g.0.save 32768\nappend g.log 468\nappend - 114\n",
+        log: "gbalink 2\ncycles 1\nlink 0 1 512\nlink 1 0 512\nconsole 0\nbios b sha256 dd445ac7aea6a84b1946353430e78f8548e64d4da914b88eccb71ccb8920e70a\nout frames sha256 e3b0c44298fc1c149afbf4c8996fb92427ae41e4649b934ca495991b7852b855\nout samples sha256 e3b0c44298fc1c149afbf4c8996fb92427ae41e4649b934ca495991b7852b855\nout words sha256 e3b0c44298fc1c149afbf4c8996fb92427ae41e4649b934ca495991b7852b855\nout save sha256 2d864c0b789a43214eee8524d3182075125e5ca2cd527f3582ec87ffd94076bc\nend\n",
+        report: "console 0 clock 1 frames 0 samples 0 words 0\nlog 1a669802d4ba71a8b23dc3fc3e5e52520ada309c2c2ab4cb04b6371c9c49f3d0\n",
     },
 ];
 
@@ -182,13 +182,13 @@ static FAILURES: [Failure<'static>; 8] = [
 ];
 
 const LOG: &str =
-    "gbalink 1\ncycles 16778240\ndelay 512\nconsole 0\nbios b sha256 dd445ac7aea6a84b1946353430e78f8548e64d4da914b88eccb71ccb8920e70a\nout samples sha256 aa7db7093aaece22495cdd47cd53337e361f003c48c7531b261eb6466cc8252e\nout save sha256 2d864c0b789a43214eee8524d3182075125e5ca2cd527f3582ec87ffd94076bc\nend\n";
+    "gbalink 2\ncycles 16778240\nlink 0 1 512\nlink 1 0 512\nconsole 0\nbios b sha256 dd445ac7aea6a84b1946353430e78f8548e64d4da914b88eccb71ccb8920e70a\nout samples sha256 aa7db7093aaece22495cdd47cd53337e361f003c48c7531b261eb6466cc8252e\nout save sha256 2d864c0b789a43214eee8524d3182075125e5ca2cd527f3582ec87ffd94076bc\nend\n";
 
 const HALF_OF_LOG: &str =
-    "gbalink 1\ncycles 16778240\ndelay 512\nconsole 0\nbios b sha256 dd445ac7aea6a84b1946353430e78f8548e64d4da914b88eccb71ccb8920e70a\nout samples sha256 aa7";
+    "gbalink 2\ncycles 16778240\nlink 0 1 512\nlink 1 0 512\nconsole 0\nbios b sha256 dd445ac7aea6a84b1946353430e78f8548e64d4da914b88eccb71ccb8920e70a\nout samples sh";
 
 const HALF_OF_SUMMARY_AND_REPORT: &str =
-    "console 0 clock 16778243 frames 60 samples 32770 words 0\nlog 98sink -\n";
+    "console 0 clock 16778243 frames 60 samples 32770 words 0\nlog acsink -\n";
 
 #[test]
 fn failing_calls_leave_fronts(rt: HostRuntime) -> Result<(), Fail> {

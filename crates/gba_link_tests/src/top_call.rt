@@ -25,19 +25,19 @@ mem io 000000 0000000004000000000000000000000000000000000000000000000000000000\n
 mem io 000120 00000000000000000000000000000000ff030000008000000000000000000000\n";
 
 const LOG_OF_BRANCH: &str =
-    "gbalink 1\ncycles 1\ndelay 512\nconsole 0\nbios b sha256 42bc114dbdbbee2e759ce16f2cb8804ae18fefe935a14951d0e07af2a3401d8b\nout state sha256 8b22e6c757bc745dfb316412fc5f0a19f4c0b18c97be9f158b43d9daf75bd211\nend\n";
+    "gbalink 2\ncycles 1\nlink 0 1 512\nlink 1 0 512\nconsole 0\nbios b sha256 42bc114dbdbbee2e759ce16f2cb8804ae18fefe935a14951d0e07af2a3401d8b\nout state sha256 8b22e6c757bc745dfb316412fc5f0a19f4c0b18c97be9f158b43d9daf75bd211\nend\n";
 
 const SUMMARY_OF_BRANCH: &str =
-    "console 0 clock 3 frames 0 samples 0 words 0\nlog 62ac09ba3f1107ea509f7c89e66ebbef61bc02fba38b0054b953d5047a58af73\n";
+    "console 0 clock 3 frames 0 samples 0 words 0\nlog cc295056ef06c4abdf08a6ab340af618eeccb4c40eab61de3d90e28136538c2e\n";
 
 const HALF_OF_STATE: &str =
     "gbalink-state 1\nconsole 0\nclock 3\nhalted 0\nr0 00000000\nr1 00000000\nr2 00000000\nr3 00000000\nr4 00000000\nr5 00000000\nr6 00000000\nr7 00000000\nr8 00000000\nr9 00000000\nr10 00000000\nr11 00000000\nr12 00000000\nr13 00000000\nr14 00000000\nr15 00000000\nr8_fiq 00000000\nr9_fiq 00000000\nr10_fiq 00000000\nr11_fiq 00000000\nr12_fiq 00000000\nr13_fiq 00000000\nr14_fiq 00000000\nr13_irq 00000000\nr14_irq 00000000\nr13_svc 00000000\nr14_svc 00000000\nr13_abt 00000000\nr14_abt 00000000\nr13_und 00000000\nr14_und 00000000\ncpsr 000000d3\nspsr_fiq 00000000\nspsr_irq 00000000\nsps";
 
 const HALF_OF_LOG: &str =
-    "gbalink 1\ncycles 1\ndelay 512\nconsole 0\nbios b sha256 42bc114dbdbbee2e759ce16f2cb8804ae18fefe935a14951d";
+    "gbalink 2\ncycles 1\nlink 0 1 512\nlink 1 0 512\nconsole 0\nbios b sha256 42bc114dbdbbee2e759ce16f2cb8804ae18fefe93";
 
 const HALF_OF_SUMMARY_AND_REPORT: &str =
-    "console 0 clock 3 frames 0 samples 0 words 0\nlog 62ac09basink -\n";
+    "console 0 clock 3 frames 0 samples 0 words 0\nlog cc295056sink -\n";
 
 const NO_LAST_LINE_FEED: &str = "gbalink 1\ncycles 1\nconsole 0\nbios b\nout state\nend";
 
@@ -344,7 +344,7 @@ fn names_at_their_edges(rt: HostRuntime) -> Result<(), Fail> {
 /// Files that are no jobs, and the report of each.
 static WRONG_JOBS: [(&str, &str); 19] = [
     ("", "job j line 1 Missing\n"),
-    ("gbalink 2\n", "job j line 1 Word\n"),
+    ("gbalink 3\n", "job j line 1 Word\n"),
     ("gbalink 1\ncycles 0\n", "job j line 2 Number\n"),
     (
         "gbalink 1\ncycles 2147483649\nconsole 0\n",
@@ -400,8 +400,13 @@ static WRONG_JOBS: [(&str, &str); 19] = [
     ),
 ];
 
-/// Other spellings of jobs of one branch, their logs and their summaries.
-static OTHER_SPELLINGS: [(&str, &str, &str); 4] = [
+/// Other spellings of jobs of one branch, their logs and their summaries. The first is the log that an older program wrote.
+static OTHER_SPELLINGS: [(&str, &str, &str); 5] = [
+    (
+        "gbalink 1\ncycles 1\ndelay 512\nconsole 0\nbios b sha256 42bc114dbdbbee2e759ce16f2cb8804ae18fefe935a14951d0e07af2a3401d8b\nout state sha256 8b22e6c757bc745dfb316412fc5f0a19f4c0b18c97be9f158b43d9daf75bd211\nend\n",
+        LOG_OF_BRANCH,
+        SUMMARY_OF_BRANCH,
+    ),
     (
         "gbalink 1\r\ncycles 1\r\nconsole 0\r\nbios b\r\nout state\r\nend\r\n",
         LOG_OF_BRANCH,
@@ -409,8 +414,8 @@ static OTHER_SPELLINGS: [(&str, &str, &str); 4] = [
     ),
     (
         "# one branch\n\n \tgbalink\t1 \ncycles 00000000000000000003\n#\nconsole 0\nout state\nbios b\nend\n\n# done",
-        "gbalink 1\ncycles 3\ndelay 512\nconsole 0\nbios b sha256 42bc114dbdbbee2e759ce16f2cb8804ae18fefe935a14951d0e07af2a3401d8b\nout state sha256 8b22e6c757bc745dfb316412fc5f0a19f4c0b18c97be9f158b43d9daf75bd211\nend\n",
-        "console 0 clock 3 frames 0 samples 0 words 0\nlog 821bc279320a01f66d089520a6122330e79475384cc5221eee79ee976d24be6f\n",
+        "gbalink 2\ncycles 3\nlink 0 1 512\nlink 1 0 512\nconsole 0\nbios b sha256 42bc114dbdbbee2e759ce16f2cb8804ae18fefe935a14951d0e07af2a3401d8b\nout state sha256 8b22e6c757bc745dfb316412fc5f0a19f4c0b18c97be9f158b43d9daf75bd211\nend\n",
+        "console 0 clock 3 frames 0 samples 0 words 0\nlog 1ff0b56fca045507a906ef58828fd66eb1cb1645eef8f95fdc194f0df657b154\n",
     ),
     (
         "gbalink 1\ncycles 1\nconsole 0\nbios b\nout state\nend",
@@ -419,16 +424,16 @@ static OTHER_SPELLINGS: [(&str, &str, &str); 4] = [
     ),
     (
         "gbalink 1\ndelay 0512\ncycles 2\nconsole 00\nbios b\nout state\nend\n",
-        "gbalink 1\ncycles 2\ndelay 512\nconsole 0\nbios b sha256 42bc114dbdbbee2e759ce16f2cb8804ae18fefe935a14951d0e07af2a3401d8b\nout state sha256 8b22e6c757bc745dfb316412fc5f0a19f4c0b18c97be9f158b43d9daf75bd211\nend\n",
-        "console 0 clock 3 frames 0 samples 0 words 0\nlog e0b63e13b04d5f3f25fb519763fadc231576c018f1e373f82f9d15145d382d28\n",
+        "gbalink 2\ncycles 2\nlink 0 1 512\nlink 1 0 512\nconsole 0\nbios b sha256 42bc114dbdbbee2e759ce16f2cb8804ae18fefe935a14951d0e07af2a3401d8b\nout state sha256 8b22e6c757bc745dfb316412fc5f0a19f4c0b18c97be9f158b43d9daf75bd211\nend\n",
+        "console 0 clock 3 frames 0 samples 0 words 0\nlog d67c69d6ade7303b999c6266840ecf589637fe728b72e82cb49b2afc53c9d74c\n",
     ),
 ];
 
 const LOG_OF_SILENCE: &str =
-    "gbalink 1\ncycles 1\ndelay 512\nconsole 0\nbios b sha256 42bc114dbdbbee2e759ce16f2cb8804ae18fefe935a14951d0e07af2a3401d8b\nend\n";
+    "gbalink 2\ncycles 1\nlink 0 1 512\nlink 1 0 512\nconsole 0\nbios b sha256 42bc114dbdbbee2e759ce16f2cb8804ae18fefe935a14951d0e07af2a3401d8b\nend\n";
 
 const SUMMARY_OF_SILENCE: &str =
-    "console 0 clock 3 frames 0 samples 0 words 0\nlog 98bb33b113e15ca9d3b9c08aaffa5482d85f65a97177124b5b221ac7bd3205a3\n";
+    "console 0 clock 3 frames 0 samples 0 words 0\nlog ac045c9b0192e3954cd28375232e13a43d0bfae63455a440a8f8b8ea5c1f04f8\n";
 
 #[test]
 fn jobs_are_read_or_refused(rt: HostRuntime) -> Result<(), Fail> {

@@ -151,7 +151,7 @@ mem io 000080 0000000000000000000200000000000000000000000000000000000000000000\n
 mem io 000120 3412cdabffffffff1720cdab00000000fe010000000000000000000000000000\n";
 
 /// The log of the two consoles.
-const TWO_LOG: &str = "gbalink 1\ncycles 10000\ndelay 512\nconsole 0\n\
+const TWO_LOG: &str = "gbalink 2\ncycles 10000\nlink 0 1 512\nlink 1 0 512\nconsole 0\n\
 bios b sha256 05cde85c2cd4f991045b48b9a2bca9a139c000f6c72d424ac6a7b46e5fe9adf5\n\
 out words sha256 4cee999209fc00d1e7484c00cd09baa8f06250c103e845adfe296696a21d373d\n\
 out state sha256 a50f5527e7b6f788864fbfda5ac5f82f716bfd2620dd719e104c66ab7dda1f44\nconsole 1\n\
@@ -162,7 +162,7 @@ out state sha256 458472be32f90d5e1888bb340bd97bc0938c3415982a5b71de06733931afb1b
 /// Their summary.
 const TWO_REPORT: &str =
     "console 0 clock 10002 frames 0 samples 19 words 1\nconsole 1 clock 10000 frames 0 samples 19 words 1\n\
-log 739c768b32abed260545f0da55b2e99f26829409378d0c75d1fc2bb8e654488a\n";
+log 1a58126aa3b0aa2b4efedacf77e7de346c46801a942f4f91e34bb7c0f5d5745c\n";
 
 /// Four consoles, whose words are their keys.
 const FOUR: &str =
@@ -174,7 +174,8 @@ out save\nout words\nend\n";
 const FOUR_WORDS: &str = "11257 multi 03fe 03fd 03fb 03f7 0\n";
 
 /// The log of the four consoles. Console 2 has no whole frame.
-const FOUR_LOG: &str = "gbalink 1\ncycles 12000\ndelay 1000\nconsole 0\n\
+const FOUR_LOG: &str =
+    "gbalink 2\ncycles 12000\nlink 0 1 1000\nlink 0 2 1000\nlink 0 3 1000\nlink 1 0 1000\nlink 1 2 1000\nlink 1 3 1000\nlink 2 0 1000\nlink 2 1 1000\nlink 2 3 1000\nlink 3 0 1000\nlink 3 1 1000\nlink 3 2 1000\nconsole 0\n\
 bios b sha256 89364a8ce0fb5104679526389974a096ee083c01a13f8cd59e220a9be0020072\nkey 0 001\n\
 out words sha256 d11bd10d0c0aa1f6b9f6b0b2b8f6063d76ab8bbfd96b2b47eb08594d81c0bc81\nconsole 1\n\
 bios b sha256 89364a8ce0fb5104679526389974a096ee083c01a13f8cd59e220a9be0020072\nkey 0 002\n\
@@ -191,10 +192,10 @@ out save sha256 2d864c0b789a43214eee8524d3182075125e5ca2cd527f3582ec87ffd94076bc
 const FOUR_REPORT: &str =
     "console 0 clock 12000 frames 0 samples 23 words 1\nconsole 1 clock 12000 frames 0 samples 23 words 1\n\
 console 2 clock 12000 frames 0 samples 23 words 1\nconsole 3 clock 12000 frames 0 samples 23 words 1\n\
-log 2d83dea7046d617247894f027b357fb018ad7407b1c57d0c00c9f71e706f6ec2\n";
+log 4a45939ab3009e5cd54cf4cc3e14e82b4f6c4b37a7add38dccd22da7ffcd234a\n";
 
 /// The log of a byte over the shortest delay.
-const BYTE_LOG: &str = "gbalink 1\ncycles 3000\ndelay 1\nconsole 0\n\
+const BYTE_LOG: &str = "gbalink 2\ncycles 3000\nlink 0 1 1\nlink 1 0 1\nconsole 0\n\
 bios b sha256 e1ce6b6a88418e87da36e9a668019c3d7e70fb2510aaaf5de7583768a4446ebe\n\
 out words sha256 dec946359235e1c75e59e83e6c40ffdb670b8fb694a686c3b0a441ff8315cfd9\nconsole 1\n\
 bios c sha256 2229f53b78afe0f30febb2e13738d9311b1663b0bcc223fce9b279540b8b9ad6\n\
@@ -203,10 +204,10 @@ out words sha256 718fadf919307721700dc50330bae99c022cf21f4eae7d7af158e32545804cf
 /// Its summary.
 const BYTE_REPORT: &str =
     "console 0 clock 3002 frames 0 samples 5 words 1\nconsole 1 clock 3002 frames 0 samples 5 words 1\n\
-log a1a91d5f5dd5e228da344ed2f82f2234fe756545924a700db3348104fd290acb\n";
+log adec26164570b4682c029a09788c1d7ecdb79aa45e9e51c46cadaf6d43b124a6\n";
 
 /// The log of two starts in Normal32.
-const WORD_LOG: &str = "gbalink 1\ncycles 3000\ndelay 512\nconsole 0\n\
+const WORD_LOG: &str = "gbalink 2\ncycles 3000\nlink 0 1 512\nlink 1 0 512\nconsole 0\n\
 bios b sha256 f3a102aea9e772cbd2e57f90385d14e24616a9766001503992913e3e90bd205b\n\
 out words sha256 86d0c91863cfea7afa0a9875e39c896433990212487a7da9be5d74537bb4391a\nconsole 1\n\
 bios b sha256 f3a102aea9e772cbd2e57f90385d14e24616a9766001503992913e3e90bd205b\n\
@@ -215,7 +216,99 @@ out words sha256 86d0c91863cfea7afa0a9875e39c896433990212487a7da9be5d74537bb4391
 /// Its summary.
 const WORD_REPORT: &str =
     "console 0 clock 3000 frames 0 samples 5 words 1\nconsole 1 clock 3000 frames 0 samples 5 words 1\n\
-log c8a4882ac2e125445b0fb8591b7f4682def52885dfb50a8f997835db333ef2de\n";
+log d373d30ae07d067fd3b2f3fa956a3a2d0ddfb097543215be159060c0d75373b7\n";
+
+/// Normal8 with 5Ah at 2 MHz, started at 408, as above but for the speed.
+const STARTS_FAST: [u32; 12] = [
+    0xE3A0_5301,
+    0xE285_5C01,
+    0xE3A0_0000,
+    0xE1C5_03B4,
+    0xE3A0_1064,
+    0xE251_1001,
+    0x1AFF_FFFD,
+    0xE3A0_005A,
+    0xE1C5_02BA,
+    0xE3A0_0083, // MOV r0, #83h
+    0xE1C5_02B8,
+    0xEAFF_FFFE,
+];
+
+/// Branches to itself from the first step on.
+const LOOPS: [u32; 1] = [0xEAFF_FFFE];
+
+/// The log of a byte over a cable with a short way and a long way back.
+const UNEVEN_LOG: &str = "gbalink 2\n\
+cycles 3000\n\
+link 0 1 1\n\
+link 1 0 1024\n\
+console 0\n\
+bios b sha256 332d1a88bd1f0f5459845e7c3b7419c22c21752135208fc0a4a48428aa00ab55\n\
+out words sha256 11c022a726e53cb7752fe65d6d1710969550f46e2768e9852dd0cec48bfbda80\n\
+console 1\n\
+bios c sha256 2229f53b78afe0f30febb2e13738d9311b1663b0bcc223fce9b279540b8b9ad6\n\
+out words sha256 6a239b23d6a8986d80a84baaaec1b593b47f7c2cea14aedbfbc6be1daf542515\n\
+end\n";
+
+/// Its summary.
+const UNEVEN_REPORT: &str = "console 0 clock 3002 frames 0 samples 5 words 1\n\
+console 1 clock 3002 frames 0 samples 5 words 1\n\
+log a206af0093e57008ec02f1b2de9e432f66c74a064e2ceaae048c496317d37076\n";
+
+/// The log of a transfer in which a reply comes before its start.
+const EARLY_LOG: &str = "gbalink 2\n\
+cycles 9000\n\
+link 0 1 1\n\
+link 0 2 1024\n\
+link 1 0 512\n\
+link 1 2 1\n\
+link 2 0 512\n\
+link 2 1 512\n\
+console 0\n\
+bios b sha256 05cde85c2cd4f991045b48b9a2bca9a139c000f6c72d424ac6a7b46e5fe9adf5\n\
+out words sha256 883af0dc7b2949ea0634bd1c5e100a15c6a17dbfadbb1b48280dd194e7472149\n\
+console 1\n\
+bios c sha256 043edf6bcebf0b42da22d4b153cbc220ef528093fbc5ad92c215d6018e71b97b\n\
+out words sha256 883af0dc7b2949ea0634bd1c5e100a15c6a17dbfadbb1b48280dd194e7472149\n\
+console 2\n\
+bios c sha256 043edf6bcebf0b42da22d4b153cbc220ef528093fbc5ad92c215d6018e71b97b\n\
+out words sha256 e2494c59a642920793b3f66e5b6a27b681ae8bea9ea83afe71a63331cc27be13\n\
+end\n";
+
+/// Its summary.
+const EARLY_REPORT: &str = "console 0 clock 9000 frames 0 samples 17 words 1\n\
+console 1 clock 9001 frames 0 samples 17 words 1\n\
+console 2 clock 9001 frames 0 samples 17 words 1\n\
+log e0540a4ebced3ab9ba4dbe22e29656be23da57ac05863ac64f8975895599e665\n";
+
+/// The log of a console that is off below 1,000.
+const OFF_LOG: &str = "gbalink 2\n\
+cycles 1009\n\
+link 0 1 512\n\
+link 1 0 512\n\
+console 0\n\
+bios b sha256 42bc114dbdbbee2e759ce16f2cb8804ae18fefe935a14951d0e07af2a3401d8b\n\
+off 1000\n\
+out samples sha256 e3b0c44298fc1c149afbf4c8996fb92427ae41e4649b934ca495991b7852b855\n\
+end\n";
+
+/// Its summary.
+const OFF_REPORT: &str = "console 0 clock 1011 frames 0 samples 0 words 0\n\
+log 3359e615ce13d5a8b1a375ff7cf77f13024d77792a7a0450c19e6bd044340cef\n";
+
+/// The log of a console alone, with the delays between it and the player that it hasn't.
+const ONE_LOG: &str = "gbalink 2\n\
+cycles 3000\n\
+link 0 1 1\n\
+link 1 0 1\n\
+console 0\n\
+bios b sha256 332d1a88bd1f0f5459845e7c3b7419c22c21752135208fc0a4a48428aa00ab55\n\
+out words sha256 c02da1bcfc419932b0f423c519ea1aaf17cc1b6a0b430a225a3e33bc3c656f43\n\
+end\n";
+
+/// Its summary.
+const ONE_REPORT: &str = "console 0 clock 3002 frames 0 samples 5 words 1\n\
+log 0f5268a12c92919ff8c2f02df60b72d723bb2267383b2f93f05a20c59b30c784\n";
 
 /// The bytes of a file.
 #[derive(Clone, Copy)]
@@ -236,7 +329,7 @@ struct Linked<'a> {
     written: &'a [(&'a str, Content<'a>)],
 }
 
-static LINKED: [Linked<'static>; 4] = [
+static LINKED: [Linked<'static>; 8] = [
     // Both have both words.
     Linked {
         job: TWO,
@@ -290,6 +383,47 @@ static LINKED: [Linked<'static>; 4] = [
             ("g.0.words", Text("2061 normal32 01234567 ffffffff\n")),
             ("g.1.words", Text("2061 normal32 01234567 ffffffff\n")),
             ("g.log", Text(WORD_LOG)),
+        ],
+    },
+    // The ways there and back are 1 and 1,024 cycles, and 514 more are the end.
+    Linked {
+        job: "gbalink 2\ncycles 3000\nlink 1 0 1024\nlink 0 1 1\nconsole 0\nbios b\nout words\nconsole 1\nbios c\nout words\nend\n",
+        inputs: &[("b", Code(&STARTS_FAST)), ("c", Code(&AWAITS_BYTE))],
+        report: UNEVEN_REPORT,
+        written: &[
+            ("g.0.words", Text("1947 normal8 5a a5\n")),
+            ("g.1.words", Text("1947 normal8 a5 5a\n")),
+            ("g.log", Text(UNEVEN_LOG)),
+        ],
+    },
+    // Player 1's reply comes to player 2 before the start does, and is lost there. The end comes 18 * 3 * 145 cycles after
+    // the start.
+    Linked {
+        job: "gbalink 2\ncycles 9000\nlink 0 1 1\nlink 1 2 1\nlink 0 2 1024\nconsole 0\nbios b\nout words\nconsole 1\nbios c\nout words\nconsole 2\nbios c\nout words\nend\n",
+        inputs: &[("b", Code(&STARTS_MULTI)), ("c", Code(&AWAITS_MULTI))],
+        report: EARLY_REPORT,
+        written: &[
+            ("g.0.words", Text("8647 multi 1234 abcd abcd ffff 0\n")),
+            ("g.1.words", Text("8647 multi 1234 abcd abcd ffff 0\n")),
+            ("g.2.words", Text("8647 multi 1234 ffff abcd ffff 1\n")),
+            ("g.log", Text(EARLY_LOG)),
+        ],
+    },
+    // Its first step begins at 1,008.
+    Linked {
+        job: "gbalink 2\ncycles 1009\nconsole 0\noff 1000\nbios b\nout samples\nend\n",
+        inputs: &[("b", Code(&LOOPS))],
+        report: OFF_REPORT,
+        written: &[("g.0.samples", Filled(0, 0)), ("g.log", Text(OFF_LOG))],
+    },
+    // A job of version 1. The transfer takes 2 cycles of the delay and 514, and nobody answers.
+    Linked {
+        job: "gbalink 1\ncycles 3000\ndelay 1\nconsole 0\nbios b\nout words\nend\n",
+        inputs: &[("b", Code(&STARTS_FAST))],
+        report: ONE_REPORT,
+        written: &[
+            ("g.0.words", Text("924 normal8 5a ff\n")),
+            ("g.log", Text(ONE_LOG)),
         ],
     },
 ];

@@ -78,7 +78,7 @@ append g.0.samples 131072\nappend g.0.words 148\nappend g.1.words 148\nappend g.
 append g.2.words 148\nappend g.3.words 148\n\
 append g.0.samples 76\nappend g.0.words 37\nappend g.1.words 37\nappend g.2.samples 76\n\
 append g.2.words 37\nappend g.3.words 37\n\
-append g.3.save 32768\nappend g.log 1003\nappend - 301\n";
+append g.3.save 32768\nappend g.log 1149\nappend - 301\n";
 
 /// The same where the frames of the first console are asked for too.
 const CALLS_WITH_FRAMES: &str =
@@ -90,10 +90,11 @@ append g.0.frames 4531200\nappend g.0.samples 131072\nappend g.0.words 148\nappe
 append g.2.samples 131072\nappend g.2.words 148\nappend g.3.words 148\n\
 append g.0.samples 76\nappend g.0.words 37\nappend g.1.words 37\nappend g.2.samples 76\n\
 append g.2.words 37\nappend g.3.words 37\n\
-append g.3.save 32768\nappend g.log 1086\nappend - 301\n";
+append g.3.save 32768\nappend g.log 1232\nappend - 301\n";
 
 /// The log with frames.
-const LOG: &str = "gbalink 1\ncycles 33564432\ndelay 512\nconsole 0\n\
+const LOG: &str =
+    "gbalink 2\ncycles 33564432\nlink 0 1 512\nlink 0 2 512\nlink 0 3 512\nlink 1 0 512\nlink 1 2 512\nlink 1 3 512\nlink 2 0 512\nlink 2 1 512\nlink 2 3 512\nlink 3 0 512\nlink 3 1 512\nlink 3 2 512\nconsole 0\n\
 bios s sha256 31183b58c32bb9a53c949fc3a02162ff40e3d54294f2c2770e236d1f89ae1767\n\
 out frames sha256 2538004afa5153381b8734d2d50cbbf09724c0f04bcd6f855c265e545c13a4b1\n\
 out samples sha256 f7b3186006cbea0709f0cd59f2c7c17941a495c42b145cdd6ebc6a88d546ba22\n\
@@ -111,7 +112,7 @@ out save sha256 2d864c0b789a43214eee8524d3182075125e5ca2cd527f3582ec87ffd94076bc
 const REPORT: &str =
     "console 0 clock 33564447 frames 119 samples 65555 words 8\nconsole 1 clock 33564434 frames 119 samples 65555 words 8\n\
 console 2 clock 33564434 frames 119 samples 65555 words 8\nconsole 3 clock 33564434 frames 119 samples 65555 words 8\n\
-log aa75bd0fb686736a8845cd72cc9cab6a58e78665f9a9bfac67815a0948087680\n";
+log 8e0a1bf8d7d05de5f262d6db9b47d386597a97d14168879d61a6db66c1fcec91\n";
 
 /// The images, and a file beside them.
 fn beside_images(alloc: Global, name: &str, bytes: Vec<u8>) -> Result<Vec<StoredFile>, Fail> {

@@ -2,7 +2,9 @@
 use Rattle.std.proofs.Common.{◌≡◌, ℕ, ◌+◌, ◌<◌, ◌≤◌, List, [], ◌∷◌, ◌++◌, length, drop, get_or, map, refl, sym, ap, ◌∙◌, arith}
 use Rattle.std.proofs.lemmas.List.{append-nil, append_assoc, drop_all, drop_more, length-append}
 use Rattle.std.specs.List.{flat_map}
+use Rattle.gba_joblog.specs.Cable.{pair_of}
 use Rattle.gba_joblog.specs.Job.{ConsoleJob}
+use Rattle.gba_joblog.specs.declared.cable.Pair.{Pair}
 use Rattle.gba_joblog.specs.declared.job.KeyChange.{KeyChange}
 use Rattle.gba_joblog.specs.Log.{change_text, changes_text, console_text, consoles_text}
 use Rattle.gba_joblog.specs.declared.outputs.OutKind.{OutKind}
@@ -71,6 +73,11 @@ changes_text-at changes i lt =
 
 pub changes_text-past : (changes : List KeyChange) (i : ℕ) → length changes ≤ i → changes_text (drop i changes) ≡ []
 changes_text-past changes i past = ap changes_text (drop_all i changes past) ∙ changes_text-none
+
+-- the links from this place of the pairs on
+pub pairs-at : (text : Pair → List ℕ) (pairs : List Pair) (i : ℕ) → i < length pairs
+    → flat_map text (drop i pairs) ≡ text (get_or pairs i (pair_of 0 0)) ++ flat_map text (drop (i + 1) pairs)
+pairs-at text pairs i lt = ap (flat_map text) (drop_more pairs i (pair_of 0 0) lt)
 
 -- the outputs from this place of the kinds on
 pub kinds-at : (text : OutKind → List ℕ) (kinds : List OutKind) (i : ℕ) → i < length kinds

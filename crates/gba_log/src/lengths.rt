@@ -5,15 +5,16 @@ ghost use Rattle.std.specs.List.{All};
 ghost use Rattle.gba_joblog.specs.Digests.{IsDigest};
 ghost use Rattle.gba_joblog.specs.Soundness.{IsConsole, IsFile, IsJob};
 ghost use Rattle.gba_joblog.specs.Views.{console_value, file_value, job_value};
-ghost use Rattle.gba_joblog.specs.Log.{after_words, any_file_text, change_text, changes_text, console_text, consoles_text, digest_words, file_text, files_text, line_of, log_text, out_text, outs_text};
+ghost use Rattle.gba_joblog.specs.Log.{after_words, any_file_text, change_text, changes_text, console_text, consoles_text, digest_words, file_text, files_text, line_of, link_text, links_text, log_text, off_text, out_text, outs_text};
 
-use gba_joblog::{FileLine, Job, JobConsole, KINDS, KeyChange, OutKind};
+use gba_joblog::{FileLine, Job, JobConsole, KINDS, KeyChange, OutKind, PAIRS, Pair, players_for};
 use itoa::Buffer;
+use link_node::Delays;
 
 /// The bytes of `sha256` and 64 digits, with the spaces before them, and of the line's end.
 const DIGEST_LEN: u64 = 73;
 
-/// The bytes of the first line, `gbalink 1`.
+/// The bytes of the first line, `gbalink 2`.
 const VERSION_LEN: u64 = 10;
 
 /// The bytes of the last line, `end`.
@@ -27,6 +28,51 @@ fn number_len(keyword: &[u8], number: u64) -> u64
 {
     let mut buffer = Buffer::new();
     keyword.len() as u64 + buffer.format(number).len() as u64 + 2
+}
+
+/// The digits of a number.
+fn decimal_len(number: u64) -> u64
+    ensures value { result ≡ length (decimal number) }
+    ensures most { result ≤ 20 }
+{
+    let mut buffer = Buffer::new();
+    buffer.format(number).len() as u64
+}
+
+/// The bytes of the line of a pair's delay.
+fn link_len(players: usize, delays: &Delays, pair: Pair) -> u64
+    ensures value { result ≡ length (link_text players delays.now pair) }
+    ensures most { result ≤ 68 }
+{
+    if !pair.is_joined(players) {
+        return 0;
+    }
+    let delay = delays.hop(pair.sender, pair.receiver);
+    decimal_len(pair.sender as u64) + decimal_len(pair.receiver as u64) + decimal_len(delay) + 8
+}
+
+/// The bytes of the lines of the delays.
+#[tactic(auto, unfolding(gba_joblog::specs::Log::links_text))]
+fn links_len(players: usize, delays: &Delays) -> u64
+    ensures value { result ≡ length (links_text players delays.now) }
+    ensures most { result ≤ 816 }
+{
+    let mut total = 0;
+    for pair in PAIRS {
+        total += link_len(players, delays, pair);
+    }
+    total
+}
+
+/// The bytes of the line of the clock from which on a console is on.
+fn off_len(off: u64) -> u64
+    ensures value { result ≡ length (off_text off) }
+    ensures most { result ≤ 30 }
+{
+    if off == 0 {
+        return 0;
+    }
+    number_len(b"off", off)
 }
 
 /// The bytes that follow a name.
@@ -117,12 +163,13 @@ fn outs_len(console: &JobConsole) -> u64
 fn console_len(player: u64, console: &JobConsole) -> u64
     requires { IsConsole (console_value console.now) }
     ensures value { result ≡ length (console_text player (console_value console.now)) }
-    ensures most { result ≤ 29001296 }
+    ensures most { result ≤ 29001326 }
 {
     number_len(b"console", player)
         + file_len(b"bios", &console.bios)
         + any_file_len(b"cart", &console.cart)
         + any_file_len(b"save", &console.save)
+        + off_len(console.off)
         + changes_len(console.changes.as_slice())
         + outs_len(console)
 }
@@ -132,7 +179,7 @@ fn consoles_len(consoles: &[JobConsole]) -> u64
     requires sound { All IsConsole (map console_value consoles.now) }
     requires few { length consoles.now ≤ 4 }
     ensures value { result ≡ length (consoles_text 0 (map console_value consoles.now)) }
-    ensures most { result ≤ 116005184 }
+    ensures most { result ≤ 116005304 }
 {
     let mut total = 0;
     for (player, console) in consoles.iter().enumerate() {
@@ -146,11 +193,11 @@ fn consoles_len(consoles: &[JobConsole]) -> u64
 pub fn printed_len(job: &Job) -> u64
     requires { IsJob (job_value job.now) }
     ensures value { result ≡ length (log_text (job_value job.now)) }
-    ensures most { result ≤ 116005258 }
+    ensures most { result ≤ 116006164 }
 {
     VERSION_LEN
         + number_len(b"cycles", job.cycles)
-        + number_len(b"delay", job.delay)
+        + links_len(players_for(job.consoles.len()), &job.delays)
         + consoles_len(job.consoles.as_slice())
         + END_LEN
 }

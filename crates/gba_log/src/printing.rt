@@ -1,14 +1,17 @@
 //! The lines of a log, added to a buffer that has room for them.
 
-ghost use Rattle.std.specs.Prelude.{◌≡◌, ◌+◌, ◌<◌, ◌≤◌, ◌++◌, [], ◌∷◌, decimal, length, map, option_map, vec_capacity, vec_len};
+ghost use Rattle.std.specs.Prelude.{◌≡◌, ◌+◌, ◌<◌, ◌≤◌, ◌++◌, [], ◌∷◌, codes, decimal, length, map, option_map, vec_capacity, vec_len};
 ghost use Rattle.std.specs.List.{All};
 ghost use Rattle.gba_joblog.specs.Soundness.{IsChange, IsConsole, IsJob};
 ghost use Rattle.gba_joblog.specs.Views.{console_value, file_value, job_value};
-ghost use Rattle.gba_joblog.specs.Log.{after_words, any_file_text, change_text, changes_text, console_text, consoles_text, digest_words, file_text, files_text, keys_word, line_of, log_text, out_text, outs_text};
+ghost use Rattle.gba_joblog.specs.Log.{after_words, any_file_text, change_text, changes_text, console_text, consoles_text, digest_words, file_text, files_text, keys_word, line_of, link_text, links_text, log_text, off_text, out_text, outs_text};
 ghost use Rattle.gba_log.specs.Buffers.{Grew, HasRoom};
 
-use gba_joblog::{FileLine, Job, JobConsole, KINDS, KeyChange, OutKind, digits_of};
+use gba_joblog::{
+    FileLine, Job, JobConsole, KINDS, KeyChange, OutKind, PAIRS, Pair, digits_of, players_for,
+};
 use itoa::Buffer;
+use link_node::Delays;
 
 /// The digits of pressed keys.
 const DIGITS: &[u8; 16] = b"0123456789abcdef";
@@ -33,6 +36,51 @@ fn add_number_line(into: &mut Vec<u8>, keyword: &[u8], number: u64)
     add(into, b" ");
     add(into, buffer.format(number).as_bytes());
     add(into, b"\n");
+}
+
+/// Adds a space and a number.
+fn add_number(into: &mut Vec<u8>, number: u64)
+    requires { HasRoom into.old (codes " " ++ decimal number) }
+    ensures { Grew into.old into.new (codes " " ++ decimal number) }
+{
+    let mut buffer = Buffer::new();
+    add(into, b" ");
+    add(into, buffer.format(number).as_bytes());
+}
+
+/// Adds the line of a pair's delay, where the cable joins the pair.
+fn add_link(into: &mut Vec<u8>, players: usize, delays: &Delays, pair: Pair)
+    requires { HasRoom into.old (link_text players delays.now pair) }
+    ensures { Grew into.old into.new (link_text players delays.now pair) }
+{
+    if pair.is_joined(players) {
+        add(into, b"link");
+        add_number(into, pair.sender as u64);
+        add_number(into, pair.receiver as u64);
+        add_number(into, delays.hop(pair.sender, pair.receiver));
+        add(into, b"\n");
+    }
+}
+
+/// Adds the lines of the delays, by sender and then by receiver.
+#[tactic(auto, unfolding(gba_joblog::specs::Log::links_text))]
+fn add_links(into: &mut Vec<u8>, players: usize, delays: &Delays)
+    requires { HasRoom into.old (links_text players delays.now) }
+    ensures { Grew into.old into.new (links_text players delays.now) }
+{
+    for pair in PAIRS {
+        add_link(into, players, delays, pair);
+    }
+}
+
+/// Adds the line of the clock from which on a console is on, where it isn't on from the start.
+fn add_off(into: &mut Vec<u8>, off: u64)
+    requires { HasRoom into.old (off_text off) }
+    ensures { Grew into.old into.new (off_text off) }
+{
+    if off != 0 {
+        add_number_line(into, b"off", off);
+    }
 }
 
 /// Adds what follows a name: its digest, if one is stated, and the end of the line.
@@ -147,6 +195,7 @@ fn add_console(into: &mut Vec<u8>, player: u64, console: &JobConsole)
 {
     add_number_line(into, b"console", player);
     add_files(into, console);
+    add_off(into, console.off);
     add_changes(into, console.changes.as_slice());
     add_outs(into, console);
 }
@@ -172,9 +221,9 @@ pub fn print(job: &Job, into: &mut Vec<u8>)
     ensures len { vec_len into.new ≡ vec_len into.old + length (log_text (job_value job.now)) }
     ensures room { vec_capacity into.old ≤ vec_capacity into.new }
 {
-    add(into, b"gbalink 1\n");
+    add(into, b"gbalink 2\n");
     add_number_line(into, b"cycles", job.cycles);
-    add_number_line(into, b"delay", job.delay);
+    add_links(into, players_for(job.consoles.len()), &job.delays);
     add_consoles(into, job.consoles.as_slice());
     add(into, b"end\n");
 }

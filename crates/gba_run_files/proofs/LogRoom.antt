@@ -1,7 +1,8 @@
 -- How much longer a log is once the digests of its outputs are stated.
-use Rattle.std.proofs.Common.{◌≡◌, ◌≤◌, ℕ, ◌+◌, ◌*◌, List, [], ◌∷◌, ◌++◌, length, Option, Some, None, refl, ap, arith}
+use Rattle.std.proofs.Common.{◌≡◌, ◌≤◌, ℕ, ◌+◌, ◌*◌, Bool, true, false, cond, List, [], ◌∷◌, ◌++◌, length, Option, Some, None, refl, sym, ap, subst, arith}
 use Rattle.std.specs.Prelude.{codes, decimal}
 use Rattle.std.specs.List.{All, flat_map}
+use Rattle.std.proofs.lemmas.Bool.Decides.{nat_tests}
 use Rattle.std.proofs.lemmas.List.{length-append}
 use Rattle.std.proofs.lemmas.List.Elements.{All-cons, All-nil}
 use Rattle.hex.specs.Hex.{encode_lower, lower_digits}
@@ -10,13 +11,17 @@ use Rattle.sha2.specs.Sha256.{sha256}
 use Rattle.gba_inputs.specs.Filled.{with_outputs}
 use Rattle.gba_inputs.specs.Law.{AreOutputs}
 use Rattle.gba_inputs.proofs.Replay.{with_outputs-sound}
+use Rattle.link_node.specs.Delays.{hop_of}
+use Rattle.link_node.specs.declared.delays.Delays.{Delays}
+use Rattle.gba_joblog.specs.Cable.{all_pairs, is_joined, players_for}
 use Rattle.gba_joblog.specs.Digests.{IsDigest}
 use Rattle.gba_joblog.proofs.Digests.{IsDigest-sha256}
 use Rattle.gba_joblog.specs.Job.{ConsoleJob, WholeJob}
-use Rattle.gba_joblog.specs.Log.{asked_text, changes_text, console_text, consoles_text, files_text, line_of, log_text, out_text, outs_text}
-use Rattle.gba_joblog.specs.Soundness.{IsJob, IsOutput}
+use Rattle.gba_joblog.specs.Log.{asked_text, changes_text, console_text, consoles_text, files_text, line_of, link_text, links_text, log_text, off_text, out_text, outs_text}
+use Rattle.gba_joblog.specs.Soundness.{AreJobDelays, IsJob, IsOutput}
 use Rattle.gba_joblog.specs.Outputs.{all_kinds, at_kind, out_name}
 use Rattle.gba_joblog.specs.Statements.{output_of}
+use Rattle.gba_joblog.specs.declared.cable.Pair.{Pair}
 use Rattle.gba_joblog.specs.declared.job.OutLine.{OutLine}
 use Rattle.gba_joblog.specs.declared.outputs.OutKind.{OutKind}
 use Rattle.gba_joblog.specs.declared.outputs.PerKind.{PerKind}
@@ -100,14 +105,15 @@ outs-more console files = kinds-more console files all_kinds
 console-is : (player : ℕ) (console : ConsoleJob)
     → length (console_text player console)
     ≡ length (line_of (codes "console") (decimal player ∷ []))
-    + (length (files_text console) + (length (changes_text console.changes) + length (outs_text console)))
+    + (length (files_text console) + (length (off_text console.off) + (length (changes_text console.changes) + length (outs_text console))))
 unfolding console_text
 console-is player console =
     let first = line_of (codes "console") (decimal player ∷ []) in
     omega (
       arith,
-      length-append first (files_text console ++ (changes_text console.changes ++ outs_text console)),
-      length-append (files_text console) (changes_text console.changes ++ outs_text console),
+      length-append first (files_text console ++ (off_text console.off ++ (changes_text console.changes ++ outs_text console))),
+      length-append (files_text console) (off_text console.off ++ (changes_text console.changes ++ outs_text console)),
+      length-append (off_text console.off) (changes_text console.changes ++ outs_text console),
       length-append (changes_text console.changes) (outs_text console),
     )
 
@@ -129,25 +135,71 @@ consoles-more player (c ∷ consoles) (one ∷ files) =
 log-is : (job : WholeJob)
     → length (log_text job)
     ≡ 10 + (length (line_of (codes "cycles") (decimal job.cycles ∷ []))
-    + (length (line_of (codes "delay") (decimal job.delay ∷ [])) + (length (consoles_text 0 job.consoles) + 4)))
+    + (length (links_text (players_for (length job.consoles)) job.delays) + (length (consoles_text 0 job.consoles) + 4)))
 unfolding log_text
 log-is job =
     let cycles = line_of (codes "cycles") (decimal job.cycles ∷ []) in
-    let delay = line_of (codes "delay") (decimal job.delay ∷ []) in
+    let links = links_text (players_for (length job.consoles)) job.delays in
     let end = consoles_text 0 job.consoles ++ line_of (codes "end") [] in
     omega (
       arith,
-      length-append cycles (delay ++ end),
-      length-append delay end,
+      length-append cycles (links ++ end),
+      length-append links end,
       length-append (consoles_text 0 job.consoles) (line_of (codes "end") []),
     )
+
+-- a cable of fewer players has no more links
+joined-more : (few many : ℕ) (pair : Pair) → few ≤ many → is_joined few pair ≡ true → is_joined many pair ≡ true
+joined-more few many pair le joined = grind (arith, nat_tests)
+
+link-more : (few many : ℕ) (delays : Delays) (pair : Pair) → few ≤ many
+    → length (link_text few delays pair) ≤ length (link_text many delays pair)
+link-more few many delays pair le = by_test (is_joined few pair) refl where
+  line : List ℕ
+  line = line_of (codes "link")
+      (decimal pair.sender ∷ decimal pair.receiver ∷ decimal (hop_of delays pair.sender pair.receiver) ∷ [])
+
+  by_test : (b : Bool) → is_joined few pair ≡ b → length (cond b line []) ≤ length (link_text many delays pair)
+  by_test true joined = let also = joined-more few many pair le joined in rw also (omega arith)
+  by_test false joined = omega arith
+
+pairs-more : (few many : ℕ) (delays : Delays) (pairs : List Pair) → few ≤ many
+    → length (flat_map (link_text few delays) pairs) ≤ length (flat_map (link_text many delays) pairs)
+pairs-more few many delays [] le = omega arith
+pairs-more few many delays (pair ∷ pairs) le =
+    omega (
+      arith,
+      length-append (link_text few delays pair) (flat_map (link_text few delays) pairs),
+      length-append (link_text many delays pair) (flat_map (link_text many delays) pairs),
+      link-more few many delays pair le,
+      pairs-more few many delays pairs le,
+    )
+
+links-more : (few many : ℕ) (delays : Delays) → few ≤ many
+    → length (links_text few delays) ≤ length (links_text many delays)
+unfolding links_text
+links-more few many delays le = pairs-more few many delays all_pairs le
+
+players-more : (few many : ℕ) → few ≤ many → players_for few ≤ players_for many
+players-more few many le = grind (arith, nat_tests)
+
+stated-fewer : (consoles : List ConsoleJob) (files : List (PerKind (List ℕ)))
+    → length (with_outputs consoles (all_outs consoles files)) ≤ length consoles
+unfolding with_outputs all_outs
+stated-fewer [] files = omega arith
+stated-fewer (c ∷ consoles) [] = omega arith
+stated-fewer (c ∷ consoles) (one ∷ files) = let rest = stated-fewer consoles files in omega (arith, rest)
 
 pub log-more : (job : WholeJob) (files : List (PerKind (List ℕ))) → IsJob job
     → length (log_of job files) ≤ length (log_text job) + digests_room
 log-more job files sound =
     let new = log-is (logged job files) in
     let old = log-is job in
-    omega (arith, new, old, consoles-more 0 job.consoles files, sound.few_consoles)
+    let now = length (with_outputs job.consoles (all_outs job.consoles files)) in
+    let was = length job.consoles in
+    let players = players-more now was (stated-fewer job.consoles files) in
+    let links = links-more (players_for now) (players_for was) job.delays players in
+    omega (arith, new, old, links, consoles-more 0 job.consoles files, sound.few_consoles)
 
 -- the outputs that are stated are sound ones
 stated-sound : (asked : Option OutLine) (bytes : List ℕ) → IsOutput (stated_out asked bytes)
@@ -184,8 +236,7 @@ logged-sound job files sound long =
     record {
       some_cycles = sound.some_cycles;
       few_cycles = sound.few_cycles;
-      some_delay = sound.some_delay;
-      few_delay = sound.few_delay;
+      delays = subst (λ n. AreJobDelays (players_for n) job.delays) (sym all.1) sound.delays;
       some_consoles = omega (arith, all.1, sound.some_consoles);
       few_consoles = omega (arith, all.1, sound.few_consoles);
       each = all.0;

@@ -7,7 +7,7 @@ use Rattle.sha2.specs.Sha256.{sha256}
 use Rattle.gba_command.specs.Writing.{Output}
 use Rattle.gba_inputs.specs.Filled.{filled_console, filled_consoles}
 use Rattle.gba_inputs.specs.Inputs.{ConsoleInputs}
-use Rattle.gba_inputs.specs.Law.{asked_of}
+use Rattle.gba_inputs.specs.Law.{asked_of, off_of}
 use Rattle.gba_inputs.proofs.Replay.{bytes_eq-same}
 use Rattle.gba_joblog.specs.Job.{ConsoleJob, WholeJob}
 use Rattle.gba_joblog.specs.Statements.{asks_for, output_of}
@@ -206,19 +206,30 @@ written-end out count job other files lines pieces is log =
 
 -- ---- the consoles run alike
 
+head-off : (x y : ℕ) (xs ys : List ℕ) → x ∷ xs ≡ y ∷ ys → x ≡ y
+head-off x y xs ys h = cc
+
+tail-offs : (x y : ℕ) (xs ys : List ℕ) → x ∷ xs ≡ y ∷ ys → xs ≡ ys
+tail-offs x y xs ys h = cc
+
 pub filled-alike : (consoles later : List ConsoleJob) (inputs : List ConsoleInputs) (files : List (PerKind (List ℕ)))
-    → length inputs ≡ length consoles → length files ≡ length consoles
+    → length inputs ≡ length consoles → length files ≡ length consoles → map off_of later ≡ map off_of consoles
     → AreStatedBy (filled_consoles consoles inputs) files later
     → AllZip RunsAs (filled_consoles consoles inputs) (filled_consoles later inputs)
 unfolding filled_consoles all_outs
-filled-alike [] [] inputs files read made is = tt
-filled-alike [] (l ∷ later) inputs files read made is = absurd cc
-filled-alike (c ∷ consoles) later [] files read made is = absurd (omega (arith, read))
-filled-alike (c ∷ consoles) later (i ∷ inputs) [] read made is = absurd (omega (arith, made))
-filled-alike (c ∷ consoles) [] (i ∷ inputs) (one ∷ files) read made is = absurd cc
-filled-alike (c ∷ consoles) (l ∷ later) (i ∷ inputs) (one ∷ files) read made is = (
-  record { changes = refl; asks = asks-again (filled_console c i) (filled_console l i) one (outs-head _ _ _ _ is) },
-  filled-alike consoles later inputs files (omega (arith, read)) (omega (arith, made)) (outs-tail _ _ _ _ is),
+filled-alike [] [] inputs files read made offs is = tt
+filled-alike [] (l ∷ later) inputs files read made offs is = absurd cc
+filled-alike (c ∷ consoles) later [] files read made offs is = absurd (omega (arith, read))
+filled-alike (c ∷ consoles) later (i ∷ inputs) [] read made offs is = absurd (omega (arith, made))
+filled-alike (c ∷ consoles) [] (i ∷ inputs) (one ∷ files) read made offs is = absurd cc
+filled-alike (c ∷ consoles) (l ∷ later) (i ∷ inputs) (one ∷ files) read made offs is = (
+  record {
+    changes = refl;
+    off = head-off l.off c.off (map off_of later) (map off_of consoles) offs;
+    asks = asks-again (filled_console c i) (filled_console l i) one (outs-head _ _ _ _ is);
+  },
+  filled-alike consoles later inputs files (omega (arith, read)) (omega (arith, made))
+      (tail-offs l.off c.off (map off_of later) (map off_of consoles) offs) (outs-tail _ _ _ _ is),
 )
 
 -- the outputs that a console is asked for are no input

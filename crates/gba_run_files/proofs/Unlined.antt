@@ -1,17 +1,19 @@
 -- What is written doesn't depend on the numbers of a job's lines.
-use Rattle.std.proofs.Common.{◌≡◌, ℕ, ◌+◌, List, [], ◌∷◌, ◌++◌, ◌∙◌, map, refl, ap}
+use Rattle.std.proofs.Common.{◌≡◌, ℕ, ◌+◌, List, [], ◌∷◌, ◌++◌, ◌∙◌, codes, length, map, refl, ap}
+use Rattle.std.proofs.lemmas.List.{length-map}
 use Rattle.gba_command.specs.Writing.{Output}
 use Rattle.gba_inputs.proofs.Replay.{console-unlined}
 use Rattle.gba_inputs.specs.Filled.{with_outputs}
 use Rattle.gba_joblog.specs.Job.{ConsoleJob, WholeJob}
-use Rattle.gba_joblog.specs.Log.{console_text, consoles_text, log_text}
+use Rattle.gba_joblog.specs.Cable.{players_for}
+use Rattle.gba_joblog.specs.Log.{console_text, consoles_text, line_of, links_text, log_text}
 use Rattle.gba_joblog.specs.LogLaw.{unlined, unlined_console}
 use Rattle.gba_joblog.specs.declared.job.OutLine.{OutLine}
 use Rattle.gba_joblog.specs.declared.outputs.PerKind.{PerKind}
 use Rattle.gba_run_files.specs.Names.{RunNames}
 use Rattle.gba_run_files.specs.Outputs.{all_outs, console_difference, console_outputs, difference_of, or_later, outputs_of, outs_of}
 use Rattle.gba_run_files.specs.Written.{log_of, written}
-use Rattle.std.specs.Prelude.{Option}
+use Rattle.std.specs.Prelude.{Option, decimal}
 
 outputs-unlined : (names : List (PerKind (List ℕ))) (consoles : List ConsoleJob) (files : List (PerKind (List ℕ)))
     → outputs_of names (map unlined_console consoles) files ≡ outputs_of names consoles files
@@ -54,13 +56,23 @@ text-unlined player (c ∷ consoles) =
     ap (λ text. text ++ consoles_text (player + 1) (map unlined_console consoles)) (console-unlined player c)
     ∙ ap (λ text. console_text player c ++ text) (text-unlined (player + 1) consoles)
 
+-- a log by how many consoles there are and their text
+text_with : WholeJob → ℕ → List ℕ → List ℕ
+text_with job count text =
+    line_of (codes "gbalink") (codes "2" ∷ []) ++ (line_of (codes "cycles") (decimal job.cycles ∷ [])
+    ++ (links_text (players_for count) job.delays ++ (text ++ line_of (codes "end") [])))
+
 log-unlined : (job : WholeJob) (files : List (PerKind (List ℕ))) → log_of (unlined job) files ≡ log_of job files
-unfolding log_text
+unfolding log_text text_with
 log-unlined job files =
-    let outs = outs-unlined job.consoles files in
-    let stated = stated-unlined job.consoles (all_outs job.consoles files) in
-    let text = text-unlined 0 (with_outputs job.consoles (all_outs job.consoles files)) in
-    rw (outs, stated, text) refl
+    let said = with_outputs job.consoles (all_outs job.consoles files) in
+    let same : with_outputs (map unlined_console job.consoles) (all_outs (map unlined_console job.consoles) files)
+    ≡ map unlined_console said =
+    ap (with_outputs (map unlined_console job.consoles)) (outs-unlined job.consoles files)
+    ∙ stated-unlined job.consoles (all_outs job.consoles files) in
+    ap (λ (consoles : List ConsoleJob). text_with job (length consoles) (consoles_text 0 consoles)) same
+    ∙ ap (λ count. text_with job count (consoles_text 0 (map unlined_console said))) (length-map said unlined_console)
+    ∙ ap (text_with job (length said)) (text-unlined 0 said)
 
 pub written-unlined : (names : RunNames) (job : WholeJob) (files : List (PerKind (List ℕ))) (lines : List ℕ)
     (pieces : List Output) → written names (unlined job) files lines pieces ≡ written names job files lines pieces

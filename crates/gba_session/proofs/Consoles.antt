@@ -6,7 +6,6 @@ use Rattle.link_order.proofs.Lists.{all_cons, all_nil}
 use Rattle.link_order.proofs.Hops.{cable_of_delays}
 use Rattle.link_order.proofs.Starts.{sound_start}
 use Rattle.link_node.specs.Delays.{AreDelays}
-use Rattle.link_node.proofs.DelayLaws.{all_are_delays}
 use Rattle.link_order.specs.Cut.{IsCable, IsFresh, IsSound, opening, plain_cut}
 use Rattle.gba_joblog.specs.Soundness.{IsJob}
 use Rattle.gba_console.specs.Alone.{console_kind}
@@ -16,7 +15,7 @@ use Rattle.gba_joblog.specs.declared.outputs.PerKind.{PerKind}
 use Rattle.gba_joblog.proofs.OutputNames.{at_item}
 use Rattle.gba_joblog.specs.Job.{ConsoleJob, WholeJob}
 use Rattle.gba_session.specs.Files.{all_files, asks_of}
-use Rattle.gba_session.specs.Start.{console_at, consoles_from, delays_of}
+use Rattle.gba_session.specs.Start.{console_at, consoles_from}
 use Rattle.gba_joblog.specs.Views.{console_value}
 use Rattle.gba_joblog.specs.declared.job.JobConsole.{JobConsole}
 use Rattle.gba_session.specs.Held.{IsUnused, asks_in}
@@ -109,20 +108,20 @@ module _ (job : WholeJob) (images : List ConsoleImages) (made : List Machine) (s
   made-length =
       sym (length-map made without_limit) ∙ ap length is ∙ consoles-length job 0 job.consoles images whole
 
-  pub start-sound : IsSound console_kind (plain_cut without_limit (opening made (delays_of job)))
+  pub start-sound : IsSound console_kind (plain_cut without_limit (opening made job.delays))
   start-sound =
-      let P : List Machine → Type 0 = λ xs. IsSound console_kind (opening xs (delays_of job)) in
+      let P : List Machine → Type 0 = λ xs. IsSound console_kind (opening xs job.delays) in
       subst P (sym is)
-      (sound_start console_kind (consoles_from job 0 job.consoles images) (delays_of job)
+      (sound_start console_kind (consoles_from job 0 job.consoles images) job.delays
       (all-fresh job 0 job.consoles images))
 
-  pub start-delays : AreDelays (delays_of job)
-  start-delays = all_are_delays job.delay (omega (arith, sound.some_delay)) sound.few_delay
+  pub start-delays : AreDelays job.delays
+  start-delays = sound.delays.within
 
-  pub start-cable : IsCable (plain_cut without_limit (opening made (delays_of job)))
+  pub start-cable : IsCable (plain_cut without_limit (opening made job.delays))
   start-cable =
       let many = length-map made without_limit in
-      cable_of_delays (plain_cut without_limit (opening made (delays_of job)))
+      cable_of_delays (plain_cut without_limit (opening made job.delays))
       (omega (arith, many, made-length, sound.some_consoles)) (omega (arith, many, made-length, sound.few_consoles))
       start-delays
 

@@ -14,7 +14,7 @@ use Rattle.gba_session.proofs.Consoles.{consoles-empty, made-length, start-cable
 use Rattle.gba_session.specs.Files.{asks_of, output_bytes}
 use Rattle.gba_session.specs.Held.{CanRun, HasPieces, IsHashed, IsSegmented, IsUnused, asks_in, session_value}
 use Rattle.gba_session.specs.Session.{Consoles, is_over, later_end, prepared, segment_cut}
-use Rattle.gba_session.specs.Start.{console_at, consoles_from, delays_of, run_until, start_of}
+use Rattle.gba_session.specs.Start.{console_at, consoles_from, run_until, start_of}
 use Rattle.gba_session.specs.declared.player.Player.{Player}
 use Rattle.link_node.specs.declared.delays.Delays.{Delays}
 use Rattle.link_order.specs.Cut.{Cut, IsCable, IsSound, clock_at, live, opening, plain_cut}
@@ -46,7 +46,7 @@ pub reset-empty : (job : WholeJob) (images : List ConsoleImages) (k : ℕ) (m : 
     → get_or (run_until 0 (start_of job images)).consoles k m ≡ forgotten (get_or (start_of job images).consoles k m)
 reset-empty job images k m within =
     let all = consoles_from job 0 job.consoles images in
-    ap (λ (c : Cut Machine). get_or c.consoles k m) (no-steps all (delays_of job))
+    ap (λ (c : Cut Machine). get_or c.consoles k m) (no-steps all job.delays)
     ∙ ap (λ (ms : List Machine). get_or ms k m) (sym (consoles-empty job 0 job.consoles images))
     ∙ get_or-map forgotten all k m m within
 
@@ -65,8 +65,8 @@ pub start-can : (job : WholeJob) (images : List ConsoleImages) → IsJob job →
 start-can job images sound whole =
     let made : List Machine = consoles_from job 0 job.consoles images in
     let plain : map without_limit made ≡ made = plain-from job 0 job.consoles images in
-    let is : plain_cut without_limit (opening made (delays_of job)) ≡ start_of job images =
-    ap (λ (ms : List Machine). opening ms (delays_of job)) plain in
+    let is : plain_cut without_limit (opening made job.delays) ≡ start_of job images =
+    ap (λ (ms : List Machine). opening ms job.delays) plain in
     let cable : IsCable (start_of job images) = subst IsCable is (start-cable job images made sound whole plain) in
     record {
       some_console = cable.some_console;
@@ -84,10 +84,9 @@ not-over : (until : ℕ) → 1 ≤ until → not (nat_lt 0 until) ≡ true → �
 not-over until some over = grind (arith, some, over)
 
 module _ (job : WholeJob) (images : List ConsoleImages) (made : List Machine) (players : List Player)
-    (cut snap : Cut Machine)
-    (ds : Delays) (sound : IsJob job) (whole : length images ≡ length job.consoles)
-    (is : map without_limit made ≡ consoles_from job 0 job.consoles images) (delays : ds ≡ delays_of job)
-    (made_cut : cut ≡ opening made ds) (snapped : snap ≡ cut)
+    (cut snap : Cut Machine) (sound : IsJob job) (whole : length images ≡ length job.consoles)
+    (is : map without_limit made ≡ consoles_from job 0 job.consoles images)
+    (made_cut : cut ≡ opening made job.delays) (snapped : snap ≡ cut)
     (limits : All (λ limit. limit ≡ later_end job.cycles 0) (map limit_of made))
     (unused : All IsUnused players) (asks : map asks_in players ≡ map asks_of job.consoles) where
   consoles : List Machine
@@ -95,8 +94,7 @@ module _ (job : WholeJob) (images : List ConsoleImages) (made : List Machine) (p
 
   pub plain-is : plain_cut without_limit cut ≡ start_of job images
   plain-is =
-      ap (plain_cut without_limit) made_cut ∙ ap (λ (d : Delays). plain_cut without_limit (opening made d)) delays
-      ∙ ap (λ (ms : List Machine). opening ms (delays_of job)) is
+      ap (plain_cut without_limit) made_cut ∙ ap (λ (ms : List Machine). opening ms job.delays) is
 
   pub start-is : plain_cut without_limit snap ≡ start_of job images
   start-is = ap (plain_cut without_limit) snapped ∙ plain-is
@@ -108,9 +106,9 @@ module _ (job : WholeJob) (images : List ConsoleImages) (made : List Machine) (p
   unfolding first
   segment-is =
       ap (λ (c : Cut Machine). run_until 0 (forgotten_cut c))
-      (no-steps (consoles_from job 0 job.consoles images) (delays_of job))
-      ∙ no-steps (map forgotten (consoles_from job 0 job.consoles images)) (delays_of job)
-      ∙ ap (λ (ms : List Machine). opening ms (delays_of job)) (consoles-empty job 0 job.consoles images)
+      (no-steps (consoles_from job 0 job.consoles images) job.delays)
+      ∙ no-steps (map forgotten (consoles_from job 0 job.consoles images)) job.delays
+      ∙ ap (λ (ms : List Machine). opening ms job.delays) (consoles-empty job 0 job.consoles images)
 
   nodes : cut.consoles ≡ made
   nodes = ap (λ (c : Cut Machine). c.consoles) made_cut
@@ -128,7 +126,7 @@ module _ (job : WholeJob) (images : List ConsoleImages) (made : List Machine) (p
       → get_or (start_of job images).consoles k m ≡ forgotten (get_or (start_of job images).consoles k m)
   empty-at k m within =
       ap (λ (c : Cut Machine). get_or c.consoles k m)
-      (sym (no-steps (consoles_from job 0 job.consoles images) (delays_of job)))
+      (sym (no-steps (consoles_from job 0 job.consoles images) job.delays))
       ∙ reset-empty job images k m (there-at k within)
 
   no-pieces : (k : ℕ) (p : Player) (m : Machine) → k < length players

@@ -1,5 +1,5 @@
--- What the run of a job depends on: its cycles, its delay, and for each console the changes of its keys and what it is
--- asked for.
+-- What the run of a job depends on: its cycles, its delays, and for each console the changes of its keys, the clock below
+-- which it is off, and what it is asked for.
 use Rattle.std.proofs.Common.{◌≡◌, ℕ, ◌+◌, ◌∙◌, Bool, List, [], ◌∷◌, length, map, Option, Some, None, refl, ap, sym}
 use Rattle.std.specs.List.{AllZip}
 use Rattle.std.specs.Prelude.{slice_get}
@@ -21,43 +21,44 @@ use Rattle.gba_session.specs.Start.{console_at, consoles_from, end_of, start_of}
 -- consoles that run alike over the same images: what they state of digests and the numbers of their lines may differ
 pub record RunsAs (one other : ConsoleJob) : Type 0 where
   pub changes : other.changes ≡ one.changes
+  pub off : other.off ≡ one.off
   pub asks : asks_of other ≡ asks_of one
 
 console-alike : (job other : WholeJob) (player : ℕ) (one later : ConsoleJob) (images : ConsoleImages)
-    → other.cycles ≡ job.cycles → other.delay ≡ job.delay → length other.consoles ≡ length job.consoles → RunsAs one later
+    → other.cycles ≡ job.cycles → other.delays ≡ job.delays → length other.consoles ≡ length job.consoles → RunsAs one later
     → console_at other player later images ≡ console_at job player one images
-console-alike job other player one later images cycles delay many alike =
+console-alike job other player one later images cycles delays many alike =
     let frames = ap (λ (asks : PerKind Bool). asks.frames) alike.asks in
     let samples = ap (λ (asks : PerKind Bool). asks.samples) alike.asks in
     let words = ap (λ (asks : PerKind Bool). asks.words) alike.asks in
-    rw (cycles, delay, many, alike.changes, frames, samples, words) refl
+    rw (cycles, delays, many, alike.changes, alike.off, frames, samples, words) refl
 
 consoles-alike : (job other : WholeJob) (player : ℕ) (consoles later : List ConsoleJob) (images : List ConsoleImages)
-    → other.cycles ≡ job.cycles → other.delay ≡ job.delay → length other.consoles ≡ length job.consoles
+    → other.cycles ≡ job.cycles → other.delays ≡ job.delays → length other.consoles ≡ length job.consoles
     → AllZip RunsAs consoles later → consoles_from other player later images ≡ consoles_from job player consoles images
 unfolding consoles_from
-consoles-alike job other player [] [] images cycles delay many alike = refl
-consoles-alike job other player [] (l ∷ later) images cycles delay many alike = absurd alike
-consoles-alike job other player (c ∷ consoles) [] images cycles delay many alike = absurd alike
-consoles-alike job other player (c ∷ consoles) (l ∷ later) [] cycles delay many alike = refl
-consoles-alike job other player (c ∷ consoles) (l ∷ later) (one ∷ images) cycles delay many alike =
+consoles-alike job other player [] [] images cycles delays many alike = refl
+consoles-alike job other player [] (l ∷ later) images cycles delays many alike = absurd alike
+consoles-alike job other player (c ∷ consoles) [] images cycles delays many alike = absurd alike
+consoles-alike job other player (c ∷ consoles) (l ∷ later) [] cycles delays many alike = refl
+consoles-alike job other player (c ∷ consoles) (l ∷ later) (one ∷ images) cycles delays many alike =
     ap (λ (m : Machine). without_limit m ∷ consoles_from other (player + 1) later images)
-    (console-alike job other player c l one cycles delay many alike.0)
+    (console-alike job other player c l one cycles delays many alike.0)
     ∙ ap (λ (ms : List Machine). without_limit (console_at job player c one) ∷ ms)
-    (consoles-alike job other (player + 1) consoles later images cycles delay many alike.1)
+    (consoles-alike job other (player + 1) consoles later images cycles delays many alike.1)
 
 -- jobs that run alike
 pub record RunsAlike (job other : WholeJob) : Type 0 where
   pub cycles : other.cycles ≡ job.cycles
-  pub delay : other.delay ≡ job.delay
+  pub delays : other.delays ≡ job.delays
   pub many : length other.consoles ≡ length job.consoles
   pub each : AllZip RunsAs job.consoles other.consoles
 
 start-alike : (job other : WholeJob) (images : List ConsoleImages) → RunsAlike job other
     → start_of other images ≡ start_of job images
 start-alike job other images alike =
-    let consoles = consoles-alike job other 0 job.consoles other.consoles images alike.cycles alike.delay alike.many alike.each in
-    rw (consoles, alike.delay) refl
+    let consoles = consoles-alike job other 0 job.consoles other.consoles images alike.cycles alike.delays alike.many alike.each in
+    rw (consoles, alike.delays) refl
 
 pub asks-alike : (consoles later : List ConsoleJob) → AllZip RunsAs consoles later → map asks_of later ≡ map asks_of consoles
 asks-alike [] [] alike = refl

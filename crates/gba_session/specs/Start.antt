@@ -8,8 +8,7 @@ use Rattle.gba_joblog.specs.Job.{ConsoleJob, WholeJob}
 use Rattle.gba_joblog.specs.Statements.{asks_for}
 use Rattle.gba_joblog.specs.declared.job.KeyChange.{KeyChange}
 use Rattle.gba_joblog.specs.declared.outputs.OutKind.TheVariants.{Frames, Samples, Words}
-use Rattle.link_node.specs.declared.delays.Delays.{Delays}
-use Rattle.link_node.specs.Delays.{all_delays, hop_of}
+use Rattle.link_node.specs.Delays.{hop_of}
 use Rattle.link_order.specs.Cut.{Cut, live, opening}
 use Rattle.link_order.specs.GlobalOrder.{run}
 
@@ -32,18 +31,15 @@ room_of job console = record {
   words = asks_for console Words;
 }
 
--- the delays of a job's cable, and how long a signal takes on it from player 0 to player 1 and back
-abbrev pub delays_of : WholeJob → Delays
-delays_of job = all_delays job.delay
-
+-- how long a signal takes on a job's cable from player 0 to player 1 and back
 abbrev pub round_of : WholeJob → ℕ
-round_of job = hop_of (delays_of job) 0 1 + hop_of (delays_of job) 1 0
+round_of job = hop_of job.delays 0 1 + hop_of job.delays 1 0
 
 -- the console of a player at reset, with these images
 abbrev pub console_at : WholeJob → ℕ → ConsoleJob → ConsoleImages → Machine
 console_at job player console images =
-    reset player (length job.consoles) (round_of job) images.bios images.cart images.save (key_states console.changes)
-    (room_of job console)
+    reset player (length job.consoles) (round_of job) console.off images.bios images.cart images.save
+    (key_states console.changes) (room_of job console)
 
 -- the consoles of the players from this one on. No step depends on the end of a console's room, so it is no part of the
 -- record that the cable sees.
@@ -55,7 +51,7 @@ consoles_from job player (console ∷ consoles) (one ∷ images) =
 
 -- the job's consoles at reset, on a cable with nothing on its way
 abbrev pub start_of : WholeJob → List ConsoleImages → Cut Machine
-start_of job images = opening (consoles_from job 0 job.consoles images) (delays_of job)
+start_of job images = opening (consoles_from job 0 job.consoles images) job.delays
 
 -- the same after the steps of the global order: always the console with the least clock, at a tie the one with the least
 -- number, until each clock is at least the job's cycles

@@ -8,7 +8,7 @@ ghost use Rattle.gba_output.specs.StateFile.{summary_line};
 
 use crate::player::{Player, digest_in};
 use crate::running::{later_end, run_segment, take_pieces};
-use crate::starting::{consoles_of, delays_of, players_of};
+use crate::starting::{consoles_of, players_of};
 use gba_console::Console;
 use gba_console::laws::segments;
 use gba_image::ConsoleImages;
@@ -92,7 +92,7 @@ impl Session {
     {
         let players = players_of(alloc, job)?;
         let consoles = consoles_of(alloc, job, images)?;
-        let Ok(cut) = Cut::new(alloc, consoles, delays_of(job)) else {
+        let Ok(cut) = Cut::new(alloc, consoles, job.delays) else {
             return Err(NoMemory);
         };
         Ok(Session {

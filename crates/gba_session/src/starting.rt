@@ -8,9 +8,8 @@ ghost use Rattle.gba_joblog.specs.Views.{console_value, job_value};
 ghost use Rattle.gba_session.specs.Files.{asks_of};
 ghost use Rattle.gba_session.specs.Held.{IsUnused, asks_in};
 ghost use Rattle.gba_session.specs.Session.{later_end as end_after};
-ghost use Rattle.gba_session.specs.Start.{console_at, consoles_from, delays_of as delays_said, key_states};
+ghost use Rattle.gba_session.specs.Start.{console_at, consoles_from, key_states};
 ghost use Rattle.gba_session.specs.Start.{room_of as room_said, round_of as round_said};
-ghost use Rattle.link_node.specs.Delays.{AreDelays};
 
 use crate::player::Player;
 use crate::running::later_end;
@@ -19,7 +18,6 @@ use gba_image::ConsoleImages;
 use gba_io::Room;
 use gba_joblog::{Job, JobConsole, KeyChange, OutKind};
 use gba_terms::NoMemory;
-use link_node::Delays;
 use std::alloc::{AllocError, Global};
 
 /// The changes of the keys as a console takes them.
@@ -50,14 +48,6 @@ fn room_of(job: &Job, console: &JobConsole) -> Room
     }
 }
 
-/// The delays of a job's cable: one for all.
-pub(crate) fn delays_of(job: &Job) -> Delays
-    ensures value { result ≡ delays_said (job_value job.now) }
-    ensures within { IsJob (job_value job.now) → AreDelays result }
-{
-    Delays::all(job.delay)
-}
-
 /// How long a signal takes from player 0 to player 1 and back.
 fn round_of(job: &Job) -> u64
     requires { IsJob (job_value job.now) }
@@ -65,8 +55,7 @@ fn round_of(job: &Job) -> u64
     ensures some { 2 ≤ result }
     ensures short { result ≤ 2048 }
 {
-    let delays = delays_of(job);
-    delays.hop(0, 1) + delays.hop(1, 0)
+    job.delays.hop(0, 1) + job.delays.hop(1, 0)
 }
 
 /// The console of a player at reset.
@@ -91,6 +80,7 @@ fn console_of(
         player as u32,
         job.consoles.len() as u32,
         round_of(job),
+        console.off,
         images,
         keys,
         room,

@@ -1,37 +1,28 @@
-use Rattle.std.proofs.Common.{sym, subst}
-use Rattle.gba_console.specs.Alone.{console_kind}
-use Rattle.gba_console.specs.Machine.{without_limit}
 use Rattle.gba_joblog.specs.Views.{job_value}
 use Rattle.gba_session.proofs.Consoles.{start-cable, start-sound}
 use Rattle.gba_session.proofs.Preparing.{begins, begins-prepared}
-use Rattle.link_node.specs.declared.delays.Delays.{Delays}
-use Rattle.link_order.specs.Cut.{IsCable, IsSound, opening, plain_cut}
 use Rattle.gba_session.proofs.session.Session.prepare.Goals as goal
 
 pub new-requires-clause-cable : goal.new-requires-clause-cable
 new-requires-clause-cable c =
-    subst (λ (d : Delays). IsCable (plain_cut without_limit (opening c.in_ok-consoles.consoles.items d)))
-    (sym c.delays_of.ensures.value)
-    (start-cable (job_value c.args.job.now) c.args.images.items c.in_ok-consoles.consoles.items c.requires.sound
-    c.requires.images c.in_ok-consoles.ensures.consoles)
+    start-cable (job_value c.args.job.now) c.args.images.items c.in_ok-consoles.consoles.items c.requires.sound
+    c.requires.images c.in_ok-consoles.ensures.consoles
 
 pub new-requires-clause-sound : goal.new-requires-clause-sound
 new-requires-clause-sound c =
-    subst (λ (d : Delays). IsSound console_kind (plain_cut without_limit (opening c.in_ok-consoles.consoles.items d)))
-    (sym c.delays_of.ensures.value)
-    (start-sound (job_value c.args.job.now) c.args.images.items c.in_ok-consoles.consoles.items c.requires.sound
-    c.requires.images c.in_ok-consoles.ensures.consoles)
+    start-sound (job_value c.args.job.now) c.args.images.items c.in_ok-consoles.consoles.items c.requires.sound
+    c.requires.images c.in_ok-consoles.ensures.consoles
 
 pub invariant_of-result : goal.invariant_of-result
 invariant_of-result c =
     begins (job_value c.args.job.now) c.args.images.items c.in_ok-consoles.consoles.items c.in_ok-players.players.items
-    c.in-Ok.cut c.of.result.value c.delays_of.result c.requires.sound c.requires.images c.in_ok-consoles.ensures.consoles
-    c.delays_of.ensures.value c.in-Ok.ensures.made c.of.ensures c.in_ok-consoles.ensures.limits
-    c.in_ok-players.ensures.unused c.in_ok-players.ensures.asks
+    c.in-Ok.cut c.of.result.value c.requires.sound c.requires.images c.in_ok-consoles.ensures.consoles
+    c.in-Ok.ensures.made c.of.ensures c.in_ok-consoles.ensures.limits c.in_ok-players.ensures.unused
+    c.in_ok-players.ensures.asks
 
 pub returns : goal.returns
 returns c =
     begins-prepared (job_value c.args.job.now) c.args.images.items c.in_ok-consoles.consoles.items
-    c.in_ok-players.players.items c.in-Ok.cut c.of.result.value c.delays_of.result c.requires.sound c.requires.images
-    c.in_ok-consoles.ensures.consoles c.delays_of.ensures.value c.in-Ok.ensures.made c.of.ensures
-    c.in_ok-consoles.ensures.limits c.in_ok-players.ensures.unused c.in_ok-players.ensures.asks
+    c.in_ok-players.players.items c.in-Ok.cut c.of.result.value c.requires.sound c.requires.images
+    c.in_ok-consoles.ensures.consoles c.in-Ok.ensures.made c.of.ensures c.in_ok-consoles.ensures.limits
+    c.in_ok-players.ensures.unused c.in_ok-players.ensures.asks
