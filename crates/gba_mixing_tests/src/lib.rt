@@ -1,6 +1,10 @@
 #![tactic(auto)]
 //! Tests of sprites, of mixed lines and of blended ones: worked lines of each, and random ones against a plain program.
 
+mod numbers;
+
+pub use numbers::Random;
+
 #[cfg(test)]
 mod arithmetic;
 #[cfg(test)]

@@ -3,6 +3,7 @@
 ghost use Rattle.std.specs.Prelude.{◌≡◌, ◌<◌, length};
 
 use crate::memory::put_half;
+use crate::numbers::Random;
 use crate::plain::{BLDCNT, DISPCNT, Effect, Pixel, Region, WININ, WINOUT, pixel_line};
 use gba_ppu_mix::mix_line;
 use gba_ppu_reg::PictureRegisters;
@@ -20,67 +21,6 @@ const ENOUGH: u32 = 240;
 
 /// WINxV of a window that has every line.
 const ALL_LINES: u16 = 0x00A0;
-
-/// Pseudo-random numbers by shifts and exclusive or.
-#[derive(Drop)]
-struct Random {
-    state: u64,
-}
-
-impl Random {
-    fn word(&mut self) -> u64 {
-        self.state ^= self.state << 13;
-        self.state ^= self.state >> 7;
-        self.state ^= self.state << 17;
-        self.state
-    }
-
-    fn half(&mut self) -> u16 {
-        (self.word() / 0x1_0000_0000 % 0x1_0000) as u16
-    }
-
-    fn below(&mut self, limit: u16) -> u16
-        requires { 0 < limit }
-        ensures { result < limit }
-    {
-        self.half() % limit
-    }
-
-    fn byte(&mut self) -> u8 {
-        self.below(0x100) as u8
-    }
-
-    /// A halfword three of four whose bits are set.
-    fn mostly_set(&mut self) -> u16 {
-        self.half() | self.half()
-    }
-
-    /// A byte of two dots, each of which is often 0.
-    fn sparse_byte(&mut self) -> u8 {
-        let byte = self.byte();
-        match self.below(4) {
-            0 => 0,
-            1 => byte % 0x10,
-            2 => byte / 0x10 * 0x10,
-            _ => byte,
-        }
-    }
-
-    /// A parameter of an affine background or sprite, from -1 up to 2, with 8 bits behind the point.
-    fn parameter(&mut self) -> u16 {
-        self.below(0x300).wrapping_sub(0x100)
-    }
-
-    /// DISPCNT: a mode from 0 to 5, more layers on than off, and seldom a forced blank.
-    fn control(&mut self) -> u16 {
-        let mode = self.below(6);
-        let layers = self.mostly_set() & 0x1F00;
-        let windows = self.half() & 0xE000;
-        let page_and_mapping = self.half() & 0x0050;
-        let blank = if self.below(16) == 0 { 0x0080 } else { 0 };
-        mode | layers | windows | page_and_mapping | blank
-    }
-}
 
 fn fill(random: &mut Random, bytes: &mut [u8]) {
     for byte in bytes.iter_mut() {
@@ -246,9 +186,7 @@ fn try_state<R: Abort>(rt: &R, random: &mut Random, vram: &[u8], number: u32, pl
 
 #[test]
 fn random_states_mix_as_the_plain_program(rt: HostRuntime) -> Result<(), Fail> {
-    let mut random = Random {
-        state: 0x2545_F491_4F6C_DD1D,
-    };
+    let mut random = Random::after(0x2545_F491_4F6C_DD1D);
     let mut places = Places::NONE;
     let mut vram = vec![in rt.alloc(); 0u8; 98304]?;
     for number in 0..STATES {
