@@ -17,7 +17,7 @@ install: build
 	install -d '$(completions)' '$(to)/share/zsh/site-functions'
 	install -m 755 $(scripts:%=bin/%) '$(to)/bin'
 	install -m 755 $(program) '$(to)/lib/gbalink'
-	install -m 644 bios/gbalink.s '$(to)/share/gbalink'
+	install -m 644 bios/gbalink.s bin/gbalink-view.html '$(to)/share/gbalink'
 	install -m 644 $(scripts:%=docs/%.1) '$(to)/share/man/man1'
 	install -m 644 README.md docs/*.md '$(to)/share/doc/gbalink'
 	install -m 644 completion/gbalink.bash '$(completions)/gbalink'
