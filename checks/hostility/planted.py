@@ -1,0 +1,57 @@
+"""Bugs that are planted: a script in place of the program, which calls it and changes its status, its report or its files.
+
+Each has to be found by the part that is named.
+"""
+import os
+import shlex
+import stat
+import subprocess
+import sys
+import tempfile
+
+# A name, the part that has to find it, and what is done: $out is what was said, $status the status, $3 OUT of a run.
+BUGS = [
+    ('a status outside the table', 'broken', '[ $status -ne 5 ] || status=11'),
+    ('a signal', 'broken', '[ $status -ne 5 ] || kill -SEGV $$'),
+    ('the line before', 'broken', 'out=$(echo "$out" | sed "s/line 3 /line 2 /")'),
+    ('another kind', 'broken', 'out=$(echo "$out" | sed "s/Repeated/Order/")'),
+    ('a refused job makes a file', 'broken', '[ $status -ne 5 ] || echo >new'),
+    ('a refused job empties a file', 'broken', '[ $status -ne 5 ] || : >g.log'),
+    ('falling clocks are accepted', 'broken', 'case $out in *Order) status=3 out="absent none" ;; esac'),
+    ('the log lacks a link', 'broken', '[ ! -s g.log ] || sed -i "/^link 1 0/d" g.log'),
+    ('a hang', 'broken', '[ $status -ne 8 ] || sleep 11'),
+    ('a file is no front', 'refused_files', '[ $status -ne 9 ] || { [ -w g.0.frames ] && echo >>g.0.frames; }'),
+    ('a full output is no failure', 'outputs', '[ $status -ne 0 ] || { echo "$out"; exit 0; } 2>/dev/null'),
+    ('a wrong name of a file', 'refused_files', 'out=$(echo "$out" | sed "s/sink g.1/sink g.0/")'),
+    ('a refused file is emptied', 'refused_files', '[ $status -ne 9 ] || { : >g.log; } 2>/dev/null'),
+    ('a run again adds', 'strange_outputs', '[ $status -ne 0 ] || [ ! -s ../ran ] || echo >>g.log; [ $status -ne 9 ] || echo >../ran'),
+    ('want of memory is another status', 'memory_limits', '[ $status -ne 10 ] || status=9'),
+    ('a signal is no end', 'signals', '[ $status -lt 128 ] || status=0'),
+    ('other bytes in a run again', 'wild', '[ "$3" != h ] || [ ! -e h.0.state ] || echo >>h.0.state'),
+    ('another status of wild code', 'wild', 'case $(head -c 2000 j) in *"console 2"*) status=9 ;; esac'),
+]
+SCRIPT = '''#!/bin/sh
+out=$({program} "$@")
+status=$?
+{bug}
+{{ [ -z "$out" ] || printf '%s\\n' "$out"; }} 2>/dev/null || [ $status -ne 0 ] || status=9
+exit $status
+'''
+
+
+def check(program, hostile):
+    """Whether each bug is found."""
+    missed = 0
+    for name, part, bug in BUGS:
+        with tempfile.TemporaryDirectory() as folder:
+            os.chmod(folder, 0o755)
+            path = os.path.join(folder, 'gbalink')
+            with open(path, 'w', encoding='ascii') as file:
+                file.write(SCRIPT.format(program=shlex.quote(program), bug=bug))
+            os.chmod(path, stat.S_IRWXU | stat.S_IRGRP | stat.S_IXGRP | stat.S_IROTH | stat.S_IXOTH)
+            done = subprocess.run([sys.executable, hostile, part, '--inputs', '200', '--cases', '8', '--program', path],
+                                  stdout=subprocess.PIPE, text=True, check=False)
+        is_found = done.returncode == 1 and 'FAILED' in done.stdout
+        missed += not is_found
+        print(f'{"found" if is_found else "MISSED"}: {name}: {done.stdout.splitlines()[-1] if done.stdout else done}', flush=True)
+    return 1 if missed else 0

@@ -1,0 +1,107 @@
+"""Wild code: cartridges and BIOS images of random bytes, alone and on cables with random delays and consoles that are off.
+
+Each run ends with status 0, and its log, run again, gives the same bytes: one of both runs on one processor, the other on all.
+"""
+import os
+import random
+import shutil
+
+from . import room
+
+START = room.bios(0xE3A0F302)  # mov pc, #0x08000000
+# Exceptions return, and the stack is in the inner RAM: then mov pc, #0x08000000.
+RETURNS = room.bios(0xEA000006, 0xE1B0F00E, 0xE1B0F00E, 0xE25EF004, 0xE25EF008, 0xE1A00000, 0xE25EF004, 0xE25EF004, 0xE3A0D403, 0xE3A0F302)
+BEGIN = 0xC0
+# Registers that start something: the serial unit, DMA, timers, the picture, interrupts, sound and waits.
+REGISTERS = [0x134, 0x128, 0x12A, 0x120, 0x0B0, 0x0B8, 0x0BA, 0x0C6, 0x0D2, 0x0DE, 0x100, 0x102, 0x104, 0x106, 0x000, 0x004, 0x008,
+             0x010, 0x020, 0x028, 0x040, 0x04C, 0x050, 0x082, 0x084, 0x0A0, 0x200, 0x208, 0x204, 0x132]
+
+
+def congruent(case):
+    """65,536 bytes of the sequence x' = 1664525 x + 1013904223 modulo 2^32 from the number of the case, its high bytes."""
+    value, data = case, bytearray()
+    for _ in range(65_536):
+        value = (1_664_525 * value + 1_013_904_223) % 2**32
+        data.append(value >> 24)
+    return room.cartridge(data)
+
+
+def random_cartridge(source):
+    """Random words behind a header, in ARM or in Thumb state, with stores to registers before them and a branch back behind."""
+    stores = [(register, source.getrandbits(16)) for register in source.sample(REGISTERS, source.randrange(12))]
+    if source.random() < 0.7:
+        mode = source.choice([0x2003, 0x2003, 0x6001, 0x1001, 0x5009])
+        stores += [(0x134, 0), (0x128, mode), (0x12A, source.getrandbits(16)), (0x128, mode | 0x80)]
+    words = []
+    for register, value in stores:
+        words += [0xE59F0008, 0xE59F1008, 0xE1C010B0, 0xEA000001, 0x04000000 + register, value]
+    if source.random() < 0.4:
+        words += [0xE28F0001, 0xE12FFF10]  # add r0, pc, #1 and bx r0
+    begin = source.choice([0, len(words)])
+    words += [source.getrandbits(32) if source.random() < 0.3 else source.choice([0xE0000000, 0xE2000000, 0xE5000000, 0xE8000000])
+              | source.getrandbits(25) for _ in range(source.randrange(4, 400))]
+    words.append(0xEA000000 | (begin - len(words) - 2) % 2**24)
+    code = b''.join(word.to_bytes(4, 'little') for word in words)
+    header = 0xEA00002E.to_bytes(4, 'little') + source.randbytes(BEGIN - 4)
+    return room.cartridge((header + code).ljust(source.choice([4_096, 65_536]), b'\0'))
+
+
+def job(source, carts, cycles):
+    lines = ['gbalink 2', f'cycles {cycles}']
+    if source.random() < 0.5:
+        lines.append(f'delay {source.choice([1, 255, 256, 512, 1024, source.randint(1, 1024)])}')
+    players = range(len(carts))
+    lines += [f'link {a} {b} {source.choice([1, 256, 257, 1024, source.randint(1, 1024)])}' for a in players for b in players
+              if a != b and source.random() < 0.7]
+    for k, cart in enumerate(carts):
+        lines += [f'console {k}', f'bios {source.choice(["start", "returns"])}', f'cart {cart}']
+        lines += [f'off {source.randint(1, cycles)}'] if source.random() < 0.3 else []
+        lines += [f'key {source.randint(0, cycles)} {source.getrandbits(10):03x}'] if source.random() < 0.5 else []
+        lines += [f'out {kind}' for kind in ('frames', 'samples', 'words', 'state', 'save')]
+    return '\n'.join([*lines, 'end']) + '\n'
+
+
+class Wild:
+    def __init__(self, program, top, seed):
+        self.program = program
+        self.tally = room.Tally('wild code')
+        self.random = random.Random(seed)
+        self.folder = room.fresh(top, start=START, returns=RETURNS)
+        self.processor = min(os.sched_getaffinity(0))
+        self.words = 0
+
+    def call(self, words, is_alone):
+        pinned = ['taskset', '-c', str(self.processor)] if is_alone and shutil.which('taskset') else []
+        return room.call([*pinned, self.program, *words][0], [*pinned, self.program, *words][1:], self.folder, seconds=60)
+
+    def runs(self, name, text):
+        """The run and the run of its log, by turns on one processor and on all."""
+        room.write(os.path.join(self.folder, 'j'), text)
+        is_alone = self.random.random() < 0.5
+        got = self.call(['run', 'j', 'g'], is_alone)
+        if not self.tally.holds(name, got.status == 0, f'{got}\n{text}'):
+            return
+        again = self.call(['run', 'g.log', 'h'], not is_alone)
+        self.tally.agrees(f'{name}, the log', again.pair, got.pair)
+        first, second = room.contents(self.folder, 'g'), room.contents(self.folder, 'h')
+        self.words += sum(data.count(b'\n') for entry, data in first.items() if entry.endswith('.words'))
+        self.tally.holds(f'{name}, the log', first == second, f'other bytes: {[entry for entry in first if first[entry] != second.get(entry)]}\n{text}')
+        for out in 'gh':
+            for entry in first:
+                os.remove(os.path.join(self.folder, out + entry))
+
+
+def check(program, top, seed, count):
+    """The sixteen cartridges alone, a million cycles each; then random ones, some alone and some on cables."""
+    wild = Wild(program, top, seed)
+    for case in range(16):
+        room.write(os.path.join(wild.folder, f'c{case}'), congruent(case))
+        text = f'gbalink 1\ncycles 1000000\nconsole 0\nbios start\ncart c{case}\n'
+        wild.runs(f'cartridge {case}', text + ''.join(f'out {kind}\n' for kind in ('frames', 'samples', 'state', 'save')) + 'end\n')
+    for case in range(count):
+        names = [f'r{k}' for k in range(wild.random.choice([1, 2, 2, 3, 4]))]
+        for name in names:
+            room.write(os.path.join(wild.folder, name), random_cartridge(wild.random))
+        wild.runs(f'seed {seed} case {case}', job(wild.random, names, wild.random.randint(50_000, 300_000)))
+    wild.tally.holds('random code makes transfers', wild.words > count // 4, f'only {wild.words} words')
+    return wild.tally
