@@ -1,2 +1,3 @@
+pub mod Backups
 pub mod Checks
 pub mod Names

@@ -1,0 +1,4 @@
+pub mod Erased
+pub mod Commands
+pub mod Sound
+pub mod Kept

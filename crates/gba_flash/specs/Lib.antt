@@ -1,0 +1,3 @@
+pub mod Flash
+pub mod Soundness
+pub mod Laws
