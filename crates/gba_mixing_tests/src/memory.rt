@@ -21,8 +21,9 @@ pub(crate) fn registers_of(writes: &[(u32, u16)]) -> PictureRegisters {
 pub(crate) fn put_half<R: Abort>(rt: &R, bytes: &mut [u8], offset: usize, half: u16) {
     assert!(rt; offset < bytes.len());
     assert!(rt; bytes.len() - offset > 1);
-    bytes[offset] = (half % 0x100) as u8;
-    bytes[offset + 1] = (half / 0x100) as u8;
+    let [low, high] = half.to_le_bytes();
+    bytes[offset] = low;
+    bytes[offset + 1] = high;
 }
 
 fn put_fill<R: Abort>(rt: &R, bytes: &mut [u8], fill: &Fill) {

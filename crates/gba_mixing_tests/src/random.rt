@@ -5,7 +5,7 @@ ghost use Rattle.std.specs.Prelude.{◌≡◌, ◌<◌, length};
 use crate::memory::put_half;
 use crate::numbers::Random;
 use crate::plain::{BLDCNT, DISPCNT, Effect, Pixel, Region, WININ, WINOUT, pixel_line};
-use gba_ppu_mix::mix_line;
+use crate::scene::mix;
 use gba_ppu_reg::PictureRegisters;
 use std::process::Abort;
 use std::test::Fail;
@@ -179,7 +179,7 @@ fn try_state<R: Abort>(rt: &R, random: &mut Random, vram: &[u8], number: u32, pl
     let line = u32::from(random.below(160));
     let pixels = pixel_line(&registers, &palette, vram, &oam, line);
     let mut colours = [0xFFFF; 240];
-    mix_line(&registers, &palette, vram, &oam, line, &mut colours);
+    mix(rt, &registers, &palette, vram, &oam, line, &mut colours);
     assert_colours(rt, number, &colours, &pixels);
     places.count(&pixels);
 }

@@ -2,6 +2,7 @@
 
 use crate::memory::{Fill, Object, oam_of, palette_of, registers_of, vram_of};
 use gba_ppu_mix::mix_line;
+use gba_ppu_reg::PictureRegisters;
 use std::alloc::{AllocError, Global};
 use std::process::Abort;
 
@@ -32,6 +33,16 @@ static FILLS: [Fill; 6] = [
     (0x1_0000, 16, 0x1111),
 ];
 
+/// The registers that each case has: backgrounds 0 to 3 with their maps, and background 2 neither scaled nor turned.
+static CONTROLS: [(u32, u16); 6] = [
+    (0x008, 0x0800),
+    (0x00A, 0x0900),
+    (0x00C, 0x0A00),
+    (0x00E, 0x0B00),
+    (0x020, 0x0100),
+    (0x026, 0x0100),
+];
+
 #[derive(Clone, Copy)]
 pub(crate) struct Case<'a> {
     pub line: u32,
@@ -43,50 +54,75 @@ pub(crate) struct Case<'a> {
     pub colours: &'a [(usize, u16)],
 }
 
+/// The entries of the palette that each case has.
+static ENTRIES: [(usize, u16); 6] = [
+    (0, 0x8000 + BACK),
+    (17, RED),
+    (33, 0x8000 + GREEN),
+    (49, BLUE),
+    (65, WHITE),
+    (257, YELLOW),
+];
+
 fn palette_with<R: Abort>(
     rt: &R,
     alloc: Global,
     entries: &[(usize, u16)],
 ) -> Result<Vec<u8>, AllocError> {
     let mut all = Vec::new(alloc);
-    all.push((0, 0x8000 + BACK))?;
-    all.push((17, RED))?;
-    all.push((33, 0x8000 + GREEN))?;
-    all.push((49, BLUE))?;
-    all.push((65, WHITE))?;
-    all.push((257, YELLOW))?;
-    for entry in entries {
-        all.push(*entry)?;
-    }
+    all.extend_from_slice(&ENTRIES)?;
+    all.extend_from_slice(entries)?;
     palette_of(rt, alloc, &all)
+}
+
+pub(crate) fn mix<R: Abort>(
+    rt: &R,
+    registers: &PictureRegisters,
+    palette: &[u8],
+    vram: &[u8],
+    oam: &[u8],
+    line: u32,
+    colours: &mut [u16; 240],
+) {
+    assert!(rt; line < 160);
+    assert!(rt; palette.len() == 1024);
+    assert!(rt; vram.len() == 98304);
+    assert!(rt; oam.len() == 1024);
+    mix_line(registers, palette, vram, oam, line, colours);
+}
+
+/// The registers of the scene, and those of a case.
+fn registers_with(writes: &[(u32, u16)]) -> PictureRegisters {
+    let mut registers = registers_of(&CONTROLS);
+    for (offset, value) in writes {
+        registers.write(*offset, *value);
+    }
+    registers
+}
+
+fn assert_colour<R: Abort>(rt: &R, colours: &[u16; 240], place: usize, colour: u16) {
+    assert!(rt; place < 240);
+    assert_eq!(rt; colours[place], colour);
 }
 
 /// Mixes the line, over what must not stay, and looks at its colours.
 pub(crate) fn try_case<R: Abort>(rt: &R, alloc: Global, case: &Case) -> Result<(), AllocError> {
-    let controls = [
-        (0x008, 0x0800),
-        (0x00A, 0x0900),
-        (0x00C, 0x0A00),
-        (0x00E, 0x0B00),
-        (0x020, 0x0100),
-        (0x026, 0x0100),
-    ];
-    let mut registers = registers_of(&controls);
-    for (offset, value) in case.registers {
-        registers.write(*offset, *value);
-    }
+    let registers = registers_with(case.registers);
     let palette = palette_with(rt, alloc, case.entries)?;
     let vram = vram_of(rt, alloc, &FILLS)?;
     let oam = oam_of(rt, alloc, case.objects, [0x0100, 0, 0, 0x0100])?;
     let mut colours = [0xFFFF; 240];
-    assert!(rt; case.line < 160);
-    assert!(rt; palette.len() == 1024);
-    assert!(rt; vram.len() == 98304);
-    assert!(rt; oam.len() == 1024);
-    mix_line(&registers, &palette, &vram, &oam, case.line, &mut colours);
+    mix(
+        rt,
+        &registers,
+        &palette,
+        &vram,
+        &oam,
+        case.line,
+        &mut colours,
+    );
     for (place, colour) in case.colours {
-        assert!(rt; *place < 240);
-        assert_eq!(rt; colours[*place], *colour);
+        assert_colour(rt, &colours, *place, *colour);
     }
     Ok(())
 }

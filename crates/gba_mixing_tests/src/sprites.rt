@@ -43,23 +43,23 @@ static COLUMNS: [Fill; 4] = [
     (0x1_0026, 1, 0x321F),
 ];
 
-fn wanted(want: Want, priority: u8) -> Dot {
-    let dot = Dot {
+/// An opaque dot of the palette.
+fn seen(entry: u16, priority: u8, kind: DotKind) -> Dot {
+    Dot {
         opaque: true,
-        entry: 0,
+        entry,
         direct: false,
         priority,
-        kind: DotKind::Plain,
+        kind,
         window: false,
-    };
+    }
+}
+
+fn wanted(want: Want, priority: u8) -> Dot {
     match want {
         Clear => Dot::CLEAR,
-        Entry(entry) => Dot { entry, ..dot },
-        Semi(entry) => Dot {
-            entry,
-            kind: DotKind::Semi,
-            ..dot
-        },
+        Entry(entry) => seen(entry, priority, DotKind::Plain),
+        Semi(entry) => seen(entry, priority, DotKind::Semi),
         Windowed => Dot {
             window: true,
             ..Dot::CLEAR
@@ -67,19 +67,27 @@ fn wanted(want: Want, priority: u8) -> Dot {
     }
 }
 
+fn draw<R: Abort>(rt: &R, control: u16, vram: &[u8], oam: &[u8], line: u32, dots: &mut [Dot; 240]) {
+    let registers = registers_of(&[(0x000, control)]);
+    assert!(rt; line < 160);
+    assert!(rt; vram.len() == 98304);
+    assert!(rt; oam.len() == 1024);
+    sprite_line(&registers, vram, oam, line, dots);
+}
+
+fn assert_dot<R: Abort>(rt: &R, dots: &[Dot; 240], place: usize, dot: Dot) {
+    assert!(rt; place < 240);
+    assert_eq!(rt; dots[place], dot);
+}
+
 /// Draws the line, over what must not stay, and looks at its dots.
 fn try_case<R: Abort>(rt: &R, alloc: Global, case: &Case) -> Result<(), AllocError> {
-    let registers = registers_of(&[(0x000, case.control)]);
     let vram = vram_of(rt, alloc, case.fills)?;
     let oam = oam_of(rt, alloc, case.objects, case.matrix)?;
     let mut dots = [Dot::coloured(3, 0x1234); 240];
-    assert!(rt; case.line < 160);
-    assert!(rt; vram.len() == 98304);
-    assert!(rt; oam.len() == 1024);
-    sprite_line(&registers, &vram, &oam, case.line, &mut dots);
+    draw(rt, case.control, &vram, &oam, case.line, &mut dots);
     for (place, want) in case.dots {
-        assert!(rt; *place < 240);
-        assert_eq!(rt; dots[*place], wanted(*want, case.priority));
+        assert_dot(rt, &dots, *place, wanted(*want, case.priority));
     }
     Ok(())
 }
@@ -104,13 +112,9 @@ static SIDES: [Sides; 12] = [
 ];
 
 fn opaque_at<R: Abort>(rt: &R, vram: &[u8], oam: &[u8], line: u32, place: usize) -> bool {
-    let registers = registers_of(&[(0x000, 0x1040)]);
     let mut dots = [Dot::CLEAR; 240];
-    assert!(rt; line < 160);
-    assert!(rt; vram.len() == 98304);
-    assert!(rt; oam.len() == 1024);
+    draw(rt, 0x1040, vram, oam, line, &mut dots);
     assert!(rt; place < 240);
-    sprite_line(&registers, vram, oam, line, &mut dots);
     dots[place].opaque
 }
 
@@ -533,7 +537,6 @@ fn the_least_priority_and_number_are_in_front(rt: HostRuntime) -> Result<(), Fai
 /// A sprite of the window beside one that is seen, before and behind it.
 #[test]
 fn a_dot_can_be_seen_and_in_the_window(rt: HostRuntime) -> Result<(), Fail> {
-    let registers = registers_of(&[(0x000, 0x0040)]);
     let vram = vram_of(&rt, rt.alloc(), &COLUMNS)?;
     for numbers in [(3, 5), (5, 3)] {
         let objects = [
@@ -542,16 +545,12 @@ fn a_dot_can_be_seen_and_in_the_window(rt: HostRuntime) -> Result<(), Fail> {
         ];
         let oam = oam_of(&rt, rt.alloc(), &objects, STRAIGHT)?;
         let mut dots = [Dot::CLEAR; 240];
-        assert!(rt; vram.len() == 98304);
-        assert!(rt; oam.len() == 1024);
-        sprite_line(&registers, &vram, &oam, 10, &mut dots);
-        assert_eq!(rt;
-            dots[20],
-            Dot {
-                window: true,
-                ..wanted(Entry(257), 1)
-            }
-        );
+        draw(&rt, 0x0040, &vram, &oam, 10, &mut dots);
+        let both = Dot {
+            window: true,
+            ..wanted(Entry(257), 1)
+        };
+        assert_dot(&rt, &dots, 20, both);
     }
     Ok(())
 }

@@ -1,6 +1,7 @@
 //! Windows.
 
 use crate::scene::{BACK, BLUE, Case, GREEN, RED, SPRITE, WHITE, YELLOW, try_case};
+use std::alloc::{AllocError, Global};
 use std::test::Fail;
 
 /// The line, registers, and colours at places.
@@ -91,12 +92,22 @@ static SIDES: [Line; 16] = [
     ),
 ];
 
+/// Writes of registers, and some more after them.
+fn writes_of(
+    alloc: Global,
+    writes: &[(u32, u16)],
+    more: &[(u32, u16)],
+) -> Result<Vec<(u32, u16)>, AllocError> {
+    let mut all = Vec::new(alloc);
+    all.extend_from_slice(writes)?;
+    all.extend_from_slice(more)?;
+    Ok(all)
+}
+
 #[test]
 fn windows_hold_what_is_between_their_sides(rt: HostRuntime) -> Result<(), Fail> {
     for (line, registers, colours) in &SIDES {
-        let mut all = Vec::new(rt.alloc());
-        all.push((0x048, 0x0101))?;
-        all.extend_from_slice(registers)?;
+        let all = writes_of(rt.alloc(), &[(0x048, 0x0101)], registers)?;
         let case = Case {
             line: *line,
             registers: &all,
@@ -261,6 +272,14 @@ fn sprites_show_where_their_bit_is_set(rt: HostRuntime) -> Result<(), Fail> {
 /// The backdrop half way to white: each of its parts is 1, and 1 + 30 * 8 / 16 is 16.
 const BRIGHT: u16 = 0x4210;
 
+/// Window 0 from 50 to 199 in all lines, and the backdrop as the target that is made brighter.
+static BRIGHTENED: [(u32, u16); 4] = [
+    (0x040, 0x32C8),
+    (0x044, 0x00A0),
+    (0x050, 0x00A0),
+    (0x054, 0x0008),
+];
+
 /// Without a layer the backdrop is brightened where effects show: outside of window 0, inside of it, and with the sprite
 /// window, which has no place while sprites are off. As a second target, or blended, or as no target, it stays.
 static BACKDROPS: [Line; 6] = [
@@ -309,12 +328,7 @@ static BACKDROPS: [Line; 6] = [
 #[test]
 fn a_line_without_layers_is_the_backdrop(rt: HostRuntime) -> Result<(), Fail> {
     for (line, registers, colours) in &BACKDROPS {
-        let mut all = Vec::new(rt.alloc());
-        all.push((0x040, 0x32C8))?;
-        all.push((0x044, 0x00A0))?;
-        all.push((0x050, 0x00A0))?;
-        all.push((0x054, 0x0008))?;
-        all.extend_from_slice(registers)?;
+        let all = writes_of(rt.alloc(), &BRIGHTENED, registers)?;
         let case = Case {
             line: *line,
             registers: &all,
