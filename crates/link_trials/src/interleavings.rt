@@ -1,15 +1,14 @@
 //! Random interleavings of looks and steps, from cuts with clocks apart and signals on their way, each console compared
 //! with the one that `Cut` has in the global order after as many of its steps.
 
-ghost use Rattle.std.specs.Prelude.{ℕ, ◌≡◌, ◌<◌, ◌≤◌, ◌^◌, length, map, All, IfOk};
-ghost use Rattle.std.specs.Vec.{vec_len};
 ghost use Rattle.link_node.specs.Delays.{AreDelays};
 ghost use Rattle.link_node.specs.Due.{IsDue, InOrder};
 
 use crate::plain::LIMIT;
-use crate::tests::{is_live, step_once};
-use crate::{Mixer, begin, drawn, may_take, mixers};
-use link_core::{Cut, Seen, Sent, Shell, may_step};
+use crate::tests::is_live;
+use crate::trial::{Trial, TrialShell, may_go};
+use crate::{Mixer, drawn, may_take};
+use link_core::{Seen, Sent};
 use link_node::{Delays, Incoming, Node, Signal};
 use std::alloc::Global;
 use std::process::Abort;
@@ -95,20 +94,14 @@ fn peers(
     seen: &[Seen],
     delays: &Delays,
     i: usize,
-) -> Result<(Vec<Seen>, Vec<u64>), Fail>
-    ensures clocks { IfOk result (λ others. All (λ peer. peer.clock < 2 ^ 40) others.0.items) }
-    ensures short { IfOk result (λ others. All (λ delay. delay ≤ 1024) others.1.items) }
-    ensures many { IfOk result (λ others. length others.1.items ≡ length others.0.items) }
-{
+) -> Result<(Vec<Seen>, Vec<u64>), Fail> {
     let mut others = Vec::new(alloc);
     let mut hops = Vec::new(alloc);
     for (j, one) in seen.iter().enumerate() {
         assert!(rt; j < 4 && i < 4);
-        let between = delays.rows[j][i];
-        assert!(rt; one.clock < 1 << 40 && between <= 1024);
         if j != i {
             others.push(*one)?;
-            hops.push(between)?;
+            hops.push(delays.rows[j][i])?;
         }
     }
     Ok((others, hops))
@@ -143,7 +136,7 @@ fn step(
 ) -> Result<bool, Fail> {
     assert!(rt; i < all.len());
     let (others, hops) = peers(rt, alloc, &all[i].seen, delays, i)?;
-    if !may_step(all[i].node.clock, until, &others, &hops) {
+    if !may_go(rt, all[i].node.clock, until, &others, &hops) {
         return Ok(false);
     }
     let due = due_of(rt, alloc, all, i, delays)?;
@@ -174,7 +167,24 @@ struct Play {
     steps: Vec<(usize, Mixer)>,
     last: Vec<Mixer>,
     left: Vec<Sent>,
-    shell: Shell,
+    shell: TrialShell,
+}
+
+/// The steps of the global order until every clock is at least `until`.
+fn steps_until(
+    rt: &impl Abort,
+    alloc: Global,
+    trial: &mut Trial,
+    until: u64,
+) -> Result<Vec<(usize, Mixer)>, Fail> {
+    let mut steps = Vec::new(alloc);
+    for _ in 0..100_000 {
+        if trial.least_clock() >= until {
+            break;
+        }
+        steps.push(trial.step(rt))?;
+    }
+    Ok(steps)
 }
 
 /// A cut of so many mixers that has run to `first`, and its run from there to `until`.
@@ -189,25 +199,15 @@ fn make_play(
 ) -> Result<Play, Fail>
     requires { AreDelays delays }
 {
-    assert!(rt; 0 < count && count <= 4);
     assert!(rt; first <= LIMIT && until <= LIMIT);
-    let nodes = mixers(alloc, count, seed, LIMIT)?;
-    let Ok(mut cut) = begin(alloc, nodes, delays) else {
-        panic!(rt; "no memory");
-    };
-    cut.run_serial(first);
-    let nodes = cut.nodes().to_vec(alloc)?;
-    let sent = cut.sent().to_vec(alloc)?;
-    let mut steps = Vec::new(alloc);
-    for _ in 0..100_000 {
-        if cut.least_clock() >= until {
-            break;
-        }
-        steps.push(step_once(rt, &mut cut))?;
-    }
-    let last = cut.nodes().to_vec(alloc)?;
-    let left = cut.sent().to_vec(alloc)?;
-    let (_, shell) = cut.part();
+    let mut trial = Trial::of(rt, alloc, count, delays, seed)?;
+    trial.run(rt, first);
+    let nodes = trial.nodes().to_vec(alloc)?;
+    let sent = trial.sent().to_vec(alloc)?;
+    let steps = steps_until(rt, alloc, &mut trial, until)?;
+    let last = trial.nodes().to_vec(alloc)?;
+    let left = trial.sent().to_vec(alloc)?;
+    let (_, shell) = trial.part();
     Ok(Play {
         nodes,
         sent,
@@ -355,11 +355,10 @@ fn live_of(
 }
 
 /// Gives a shell these signals alone, the last one first.
-fn refill(rt: &impl Abort, shell: &mut Shell, signals: &[Sent]) {
+fn refill(rt: &impl Abort, shell: &mut TrialShell, signals: &[Sent]) {
     shell.clear();
     for one in signals.iter().rev() {
-        assert!(rt; one.signal.fits() && shell.sent().len() < 16_384);
-        shell.add(*one);
+        shell.add(rt, *one);
     }
 }
 

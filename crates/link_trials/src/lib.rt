@@ -17,3 +17,5 @@ mod interleavings;
 mod plain;
 #[cfg(test)]
 mod tests;
+#[cfg(test)]
+mod trial;

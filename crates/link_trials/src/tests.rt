@@ -1,12 +1,13 @@
 //! Runs in the global order, beside a plain program that keeps every signal ever sent.
 
-ghost use Rattle.std.specs.Prelude.{◌≡◌, ◌<◌, ◌≤◌, ◌^◌, All, IfOk};
+ghost use Rattle.std.specs.Prelude.{◌≡◌, All, IfOk};
 ghost use Rattle.std.specs.Vec.{vec_len};
 ghost use Rattle.link_node.specs.Delays.{AreDelays};
 
 use crate::plain::{LIMIT, plain_run};
+use crate::trial::{Trial, TrialShell, may_go};
 use crate::{Beat, Mixer, begin, drawn, mixers};
-use link_core::{Cut, Seen, Sent, laws, may_step};
+use link_core::{Seen, Sent, laws};
 use link_node::Delays;
 use std::alloc::Global;
 use std::process::Abort;
@@ -26,13 +27,21 @@ pub fn is_live(rt: &impl Abort, nodes: &[Mixer], one: &Sent, delays: &Delays) ->
         && node.was < arrival(rt, one, i, delays))
 }
 
-/// A run in two parts.
-fn run_parts(cut: &mut Cut<Mixer>, first: u64, until: u64)
-    requires first { All (λ m. first ≤ m.limit) cut.old.consoles }
-    requires until { All (λ m. until ≤ m.limit) cut.old.consoles }
-{
-    cut.run_serial(first);
-    cut.run_serial(until);
+/// Those of the signals that some node but their sender can still take.
+pub fn still_live(
+    rt: &impl Abort,
+    alloc: Global,
+    sent: &[Sent],
+    nodes: &[Mixer],
+    delays: &Delays,
+) -> Result<Vec<Sent>, Fail> {
+    let mut live = Vec::new(alloc);
+    for one in sent {
+        if is_live(rt, nodes, one, delays) {
+            live.push(*one)?;
+        }
+    }
+    Ok(live)
 }
 
 /// A run of so many mixers, in two parts, beside that of the plain program. It answers how many signals are on their way
@@ -44,41 +53,41 @@ fn compare(
     delays: Delays,
     seed: u64,
 ) -> Result<u64, Fail>
-    requires count { (0 < count) × (count ≤ 4) }
-    requires delays { AreDelays delays }
+    requires { AreDelays delays }
 {
     let mut plain = mixers(alloc, count, seed, LIMIT)?;
     let all = plain_run(rt, alloc, &mut plain, &delays, 20_000)?;
-    let nodes = mixers(alloc, count, seed, LIMIT)?;
-    let Ok(mut cut) = begin(alloc, nodes, delays) else {
-        panic!(rt; "no memory");
-    };
-    run_parts(&mut cut, 9_000, 20_000);
-    assert_eq!(rt; cut.nodes(), plain.as_slice());
-    assert_eq!(rt; *cut.delays(), delays);
-    let mut live = Vec::new(alloc);
-    for one in &all.sent {
-        if is_live(rt, &plain, one, &delays) {
-            live.push(*one)?;
-        }
-    }
-    assert_eq!(rt; cut.sent(), live.as_slice());
-    let _ = cut.into_nodes();
+    let mut trial = Trial::of(rt, alloc, count, delays, seed)?;
+    trial.run(rt, 9_000);
+    trial.run(rt, 20_000);
+    assert_eq!(rt; trial.nodes(), plain.as_slice());
+    assert_eq!(rt; trial.delays(), delays);
+    let live = still_live(rt, alloc, &all.sent, &plain, &delays)?;
+    assert_eq!(rt; trial.sent(), live.as_slice());
+    let _ = trial.into_nodes();
     Ok(live.len() as u64)
+}
+
+/// Runs of so many mixers on several cables. It answers how many signals are on their way at the ends.
+fn compare_all(rt: &impl Abort, alloc: Global, count: usize) -> Result<u64, Fail> {
+    let mut told_at_all = 0u64;
+    for (delay, seed) in [(1, 7), (16, 8), (512, 9), (1024, 10)] {
+        let live = compare(rt, alloc, count, Delays::all(delay), seed)?;
+        told_at_all = told_at_all.saturating_add(live);
+    }
+    for number in [0x0012, 0x4821, 0x5a3c, 0xfed7] {
+        let live = compare(rt, alloc, count, drawn(number), number)?;
+        told_at_all = told_at_all.saturating_add(live);
+    }
+    Ok(told_at_all)
 }
 
 #[test]
 fn runs_are_those_of_the_plain_program(rt: HostRuntime) -> Result<(), Fail> {
     let mut told_at_all = 0u64;
     for count in 1..5 {
-        for (delay, seed) in [(1, 7), (16, 8), (512, 9), (1024, 10)] {
-            let live = compare(&rt, rt.alloc(), count, Delays::all(delay), seed)?;
-            told_at_all = told_at_all.saturating_add(live);
-        }
-        for number in [0x0012, 0x4821, 0x5a3c, 0xfed7] {
-            let live = compare(&rt, rt.alloc(), count, drawn(number), number)?;
-            told_at_all = told_at_all.saturating_add(live);
-        }
+        let told = compare_all(&rt, rt.alloc(), count)?;
+        told_at_all = told_at_all.saturating_add(told);
     }
     assert!(rt;
         told_at_all > 20,
@@ -124,80 +133,123 @@ fn beats(alloc: Global, first: u64) -> Result<Vec<Beat>, Fail>
     Ok(vec![in alloc; teller, listener]?)
 }
 
+/// When the teller and the listener heard something, at a delay of 1,024, until 1,500.
+fn heard(rt: &impl Abort, alloc: Global, first: u64) -> Result<(Option<u64>, Option<u64>), Fail> {
+    let nodes = beats(alloc, first)?;
+    let Ok(mut cut) = begin(alloc, nodes, Delays::all(1024)) else {
+        panic!(rt; "no memory");
+    };
+    cut.run_serial(1500);
+    let nodes = cut.into_nodes();
+    let [teller, listener] = nodes.as_slice() else {
+        panic!(rt; "two nodes");
+    };
+    Ok((teller.heard, listener.heard))
+}
+
 #[test]
 fn a_signal_is_taken_at_its_arrival_and_not_before(rt: HostRuntime) -> Result<(), Fail> {
     // sent at 100, so it arrives at 1,124: steps at 0, 281, 562, 843, 1,124, and at 0, 280, 561, 842, 1,123, 1,404
-    for (first, heard) in [(280, 1124), (279, 1404)] {
-        let nodes = beats(rt.alloc(), first)?;
-        let Ok(mut cut) = begin(rt.alloc(), nodes, Delays::all(1024)) else {
-            panic!(&rt; "no memory");
-        };
-        cut.run_serial(1500);
-        assert_eq!(rt; cut.nodes().len(), 2);
-        assert_eq!(rt; cut.nodes()[1].heard, Some(heard));
-        assert_eq!(rt; cut.nodes()[0].heard, None);
-        let _ = cut.into_nodes();
+    for (first, clock) in [(280, 1124), (279, 1404)] {
+        assert_eq!(rt; heard(&rt, rt.alloc(), first)?, (None, Some(clock)));
     }
     Ok(())
 }
 
-#[test]
-fn a_step_is_allowed_below_each_seen_clock_and_the_delay(rt: HostRuntime) {
-    // two consoles that have seen clock 0, and what they may do at delay 1 until 10
-    assert!(rt; may_step(0, 10, &[Seen { clock: 0 }], &[1]));
-    assert!(rt; !may_step(1, 10, &[Seen { clock: 0 }], &[1]));
-    assert!(rt; may_step(1, 10, &[Seen { clock: 1 }], &[1]));
-    assert!(rt;
-        !may_step(
-            10,
-            10,
-            &[Seen { clock: 1000 }, Seen { clock: 1000 }],
-            &[1, 1]
-        )
-    );
-    assert!(rt; !may_step(5, 10, &[Seen { clock: 9 }, Seen { clock: 4 }], &[1, 1]));
-    assert!(rt; may_step(9, 10, &[], &[]));
-    // each clock goes with the delay in its own place
-    assert!(rt;
-        may_step(
-            1023,
-            4000,
-            &[Seen { clock: 0 }, Seen { clock: 1023 }],
-            &[1024, 1]
-        )
-    );
-    assert!(rt;
-        !may_step(
-            1023,
-            4000,
-            &[Seen { clock: 0 }, Seen { clock: 1023 }],
-            &[1, 1024]
-        )
-    );
-    assert!(rt;
-        !may_step(
-            1024,
-            4000,
-            &[Seen { clock: 0 }, Seen { clock: 1024 }],
-            &[1024, 1]
-        )
-    );
-    assert!(rt;
-        !may_step(
-            1024,
-            4000,
-            &[Seen { clock: 1 }, Seen { clock: 1023 }],
-            &[1024, 1]
-        )
-    );
+/// A console's clock, where its run ends, what it has seen of its peers, the delays from them, and whether it may step.
+struct Question {
+    clock: u64,
+    until: u64,
+    seen: &'static [Seen],
+    delays: &'static [u64],
+    may: bool,
 }
 
-/// A cut that is taken apart and put together again is as it was.
-fn cut_of(cut: Cut<Mixer>) -> Cut<Mixer>
-    ensures { result ≡ cut }
-{
-    let (nodes, shell) = cut.part();
-    shell.join(nodes)
+/// One peer at delay 1; the end of the run; two peers; none; and each clock goes with the delay in its own place.
+static QUESTIONS: [Question; 10] = [
+    Question {
+        clock: 0,
+        until: 10,
+        seen: &[Seen { clock: 0 }],
+        delays: &[1],
+        may: true,
+    },
+    Question {
+        clock: 1,
+        until: 10,
+        seen: &[Seen { clock: 0 }],
+        delays: &[1],
+        may: false,
+    },
+    Question {
+        clock: 1,
+        until: 10,
+        seen: &[Seen { clock: 1 }],
+        delays: &[1],
+        may: true,
+    },
+    Question {
+        clock: 10,
+        until: 10,
+        seen: &[Seen { clock: 1000 }, Seen { clock: 1000 }],
+        delays: &[1, 1],
+        may: false,
+    },
+    Question {
+        clock: 5,
+        until: 10,
+        seen: &[Seen { clock: 9 }, Seen { clock: 4 }],
+        delays: &[1, 1],
+        may: false,
+    },
+    Question {
+        clock: 9,
+        until: 10,
+        seen: &[],
+        delays: &[],
+        may: true,
+    },
+    Question {
+        clock: 1023,
+        until: 4000,
+        seen: &[Seen { clock: 0 }, Seen { clock: 1023 }],
+        delays: &[1024, 1],
+        may: true,
+    },
+    Question {
+        clock: 1023,
+        until: 4000,
+        seen: &[Seen { clock: 0 }, Seen { clock: 1023 }],
+        delays: &[1, 1024],
+        may: false,
+    },
+    Question {
+        clock: 1024,
+        until: 4000,
+        seen: &[Seen { clock: 0 }, Seen { clock: 1024 }],
+        delays: &[1024, 1],
+        may: false,
+    },
+    Question {
+        clock: 1024,
+        until: 4000,
+        seen: &[Seen { clock: 1 }, Seen { clock: 1023 }],
+        delays: &[1024, 1],
+        may: false,
+    },
+];
+
+fn answer(rt: &impl Abort, question: &Question) {
+    let clock = question.clock;
+    let may = may_go(rt, clock, question.until, question.seen, question.delays);
+    assert!(rt; may == question.may, "at clock {clock}");
+}
+
+#[test]
+fn a_step_is_allowed_below_each_seen_clock_and_the_delay(rt: HostRuntime) {
+    for question in &QUESTIONS {
+        answer(&rt, question);
+    }
 }
 
 #[test]
@@ -216,50 +268,40 @@ fn the_laws_hold_of_a_mixer() {
     link_trace::gathering();
 }
 
+/// Adds each signal twice, the last one first.
+fn add_twice(rt: &impl Abort, shell: &mut TrialShell, signals: &[Sent]) {
+    for one in signals.iter().rev() {
+        shell.add(rt, *one);
+        shell.add(rt, *one);
+    }
+}
+
+/// The least node is one with the least clock.
+fn check_least(rt: &impl Abort, trial: &Trial) {
+    let clocks = trial.nodes().iter().map(|node| node.clock).min();
+    let least = trial.nodes().get(trial.least() as usize);
+    assert_eq!(rt; least.map(|node| node.clock), clocks);
+}
+
 #[test]
 fn a_cut_is_parted_and_joined(rt: HostRuntime) -> Result<(), Fail> {
-    let nodes = mixers(rt.alloc(), 3, 11, LIMIT)?;
-    let Ok(mut cut) = begin(rt.alloc(), nodes, drawn(0x1234)) else {
-        panic!(&rt; "no memory");
-    };
-    cut.run_serial(5_000);
-    let least = cut.least();
-    let clocks = cut.nodes().iter().map(|node| node.clock).min();
-    assert_eq!(rt;
-        cut.nodes().get(least as usize).map(|node| node.clock),
-        clocks
-    );
-    let sent = cut.sent().to_vec(rt.alloc())?;
+    let mut trial = Trial::of(&rt, rt.alloc(), 3, drawn(0x1234), 11)?;
+    trial.run(&rt, 5_000);
+    check_least(&rt, &trial);
+    let sent = trial.sent().to_vec(rt.alloc())?;
     assert!(rt; !sent.is_empty());
-    let cut = cut_of(cut);
-    assert_eq!(rt; cut.sent(), sent.as_slice());
-    assert_eq!(rt; cut.nodes().len(), 3);
-    let (nodes, mut shell) = cut.part();
+    let trial = trial.put_together();
+    assert_eq!(rt; trial.sent(), sent.as_slice());
+    assert_eq!(rt; trial.nodes().len(), 3);
+    let (nodes, mut shell) = trial.part();
     assert_eq!(rt; nodes.len(), 3);
-    assert_eq!(rt; *shell.delays(), drawn(0x1234));
+    assert_eq!(rt; shell.delays(), drawn(0x1234));
     assert_eq!(rt; shell.sent(), sent.as_slice());
     shell.clear();
     assert_eq!(rt; shell.sent().len(), 0);
-    for one in sent.iter().rev() {
-        assert!(rt; one.signal.fits());
-        assert!(rt; shell.sent().len() < 16_384);
-        shell.add(*one);
-        assert!(rt; shell.sent().len() < 16_384);
-        shell.add(*one);
-    }
+    add_twice(&rt, &mut shell, &sent);
     assert_eq!(rt; shell.sent(), sent.as_slice());
     Ok(())
-}
-
-/// One step of the global order, where the least node is below its limit. It answers the player, and the node after it.
-pub fn step_once(rt: &impl Abort, cut: &mut Cut<Mixer>) -> (usize, Mixer) {
-    let player = cut.least() as usize;
-    let node = cut.nodes()[player];
-    assert!(rt; node.clock < node.limit);
-    cut.serial_step();
-    let nodes = cut.nodes();
-    assert!(rt; player < nodes.len());
-    (player, nodes[player])
 }
 
 #[test]
@@ -267,12 +309,9 @@ fn steps_are_those_of_the_plain_program(rt: HostRuntime) -> Result<(), Fail> {
     let mut plain = mixers(rt.alloc(), 3, 5, LIMIT)?;
     let all = plain_run(&rt, rt.alloc(), &mut plain, &drawn(0x1a35), 5_000)?;
     assert!(rt; all.steps.len() > 60);
-    let nodes = mixers(rt.alloc(), 3, 5, LIMIT)?;
-    let Ok(mut cut) = begin(rt.alloc(), nodes, drawn(0x1a35)) else {
-        panic!(&rt; "no memory");
-    };
+    let mut trial = Trial::of(&rt, rt.alloc(), 3, drawn(0x1a35), 5)?;
     for wanted in &all.steps {
-        assert_eq!(rt; step_once(&rt, &mut cut), *wanted);
+        assert_eq!(rt; trial.step(&rt), *wanted);
     }
     Ok(())
 }

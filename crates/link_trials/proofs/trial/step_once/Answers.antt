@@ -3,7 +3,7 @@ use Rattle.std.specs.Prelude.{List, map, slice_index}
 use Rattle.link_core.proofs.Readings.{read-node, read-bound}
 use Rattle.link_trials.specs.declared.mixer.Mixer.{Mixer}
 use Rattle.link_trials.specs.Mixing.{Mixed}
-use Rattle.link_trials.proofs.tests.step_once.Goals as goal
+use Rattle.link_trials.proofs.trial.step_once.Goals as goal
 
 abbrev plain : Mixer → Mixed
 plain m = record { state = m.state; clock = m.clock; was = m.was }
