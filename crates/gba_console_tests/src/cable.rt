@@ -1,79 +1,41 @@
 //! A cable of two consoles, joined by hand: the one with the least clock makes the next step.
 
-use gba_asm::assemble;
-use gba_console::Console;
-use gba_image::{Bios, ConsoleImages};
+use crate::play::{Play, Seat, images_of_source};
 use gba_io::Room;
-use link_node::{Incoming, Node, Signal};
-use link_trials::may_take;
+use link_node::{Incoming, Signal};
 use std::alloc::Global;
 use std::process::Abort;
 use std::test::Fail;
 
 /// Room for a hundred thousand cycles, where the transfers are kept.
-pub const ROOM: Room = Room {
+const ROOM: Room = Room {
     until: 100_000,
     frames: false,
     samples: false,
     words: true,
 };
 
-/// A BIOS of an assembled source, with zeros behind it.
-pub fn bios_of(alloc: Global, source: &[u8]) -> Result<Bios, Fail> {
-    let Ok(mut bios) = assemble(alloc, source) else {
-        return Err("no source")?;
-    };
-    for _ in bios.len()..16_384 {
-        bios.push(0)?;
-    }
-    Ok(Bios::check(bios).ok().ok_or("no BIOS")?)
-}
-
-/// A console of a player of so many on a cable with a delay, whose BIOS is this source.
-pub fn console_of(alloc: Global, seat: (u32, u32, u64), source: &[u8]) -> Result<Console, Fail> {
+/// A console with a seat at a cable, whose BIOS is this source.
+pub fn console_of(alloc: Global, seat: Seat, source: &[u8]) -> Result<Play, Fail> {
     console_off(alloc, seat, 0, source)
 }
 
 /// The same, which is off below a clock.
-pub fn console_off(
-    alloc: Global,
-    seat: (u32, u32, u64),
-    off: u64,
-    source: &[u8],
-) -> Result<Console, Fail> {
-    let (player, count, delay) = seat;
-    let images = ConsoleImages {
-        bios: bios_of(alloc, source)?,
-        cart: None,
-        save: None,
-    };
-    if player < count && count <= 4 && 1 <= delay && delay <= 1024 && off <= 100_000 {
-        Ok(Console::new(
-            alloc,
-            player,
-            count,
-            2 * delay,
-            off,
-            images,
-            Vec::new(alloc),
-            ROOM,
-        )?)
-    } else {
-        Err("no seat")?
-    }
-}
-
-/// A step that takes these signals.
-pub fn turn<R: Abort>(rt: &R, console: &mut Console, due: &[Incoming]) -> Option<Signal> {
-    assert!(rt; console.clock() < console.until());
-    assert!(rt; may_take(due, console.was(), console.clock()));
-    console.turn(due)
+fn console_off(alloc: Global, seat: Seat, off: u64, source: &[u8]) -> Result<Play, Fail> {
+    Play::new(
+        alloc,
+        seat,
+        off,
+        images_of_source(alloc, source)?,
+        &[],
+        ROOM,
+    )
 }
 
 /// Two consoles, the delay, and what each told.
 #[derive(Drop)]
 pub struct Cable {
-    pub consoles: [Console; 2],
+    pub consoles: [Play; 2],
     pub delay: u64,
     pub told: [Vec<Signal>; 2],
 }
@@ -91,10 +53,16 @@ impl Cable {
         sources: [&[u8]; 2],
         off: u64,
     ) -> Result<Cable, Fail> {
+        let seat = Seat {
+            player: 0,
+            count: 2,
+            delay,
+        };
+        let peer = Seat { player: 1, ..seat };
         Ok(Cable {
             consoles: [
-                console_of(alloc, (0, 2, delay), sources[0])?,
-                console_off(alloc, (1, 2, delay), off, sources[1])?,
+                console_of(alloc, seat, sources[0])?,
+                console_off(alloc, peer, off, sources[1])?,
             ],
             delay,
             told: [Vec::new(alloc), Vec::new(alloc)],
@@ -125,7 +93,7 @@ impl Cable {
     fn step<R: Abort>(&mut self, rt: &R, alloc: Global) -> Result<(), Fail> {
         let player = usize::from(self.consoles[1].clock() < self.consoles[0].clock());
         let due = self.due(rt, alloc, player)?;
-        if let Some(signal) = turn(rt, &mut self.consoles[player], due.as_slice()) {
+        if let Some(signal) = self.consoles[player].turn(rt, due.as_slice()) {
             self.told[player].push(signal)?;
         }
         Ok(())

@@ -1,122 +1,51 @@
 //! A console by itself: programs of a few words in its BIOS, and what they leave.
 
-use gba_console::{Console, KeyState};
-use gba_image::{Bios, Cartridge, ConsoleImages};
+use crate::play::{ALONE, Play, cartridge_of, comes_to, has, has_bytes, images_of_words};
+use gba_console::KeyState;
 use gba_io::{MemoryName, Room};
 use std::alloc::Global;
 use std::process::Abort;
 use std::test::Fail;
 
-/// A BIOS that begins with these words and is 0 behind them.
-pub(crate) fn bios_of(alloc: Global, words: &[u32]) -> Result<Bios, Fail> {
-    let mut bios = Vec::new(alloc);
-    for word in words {
-        bios.extend_from_slice(&word.to_le_bytes())?;
-    }
-    for _ in bios.len()..16_384 {
-        bios.push(0)?;
-    }
-    Ok(Bios::check(bios).ok().ok_or("no BIOS")?)
-}
-
-/// Room for a million cycles, where frames and samples are kept.
-pub(crate) const ROOM: Room = Room {
+/// Room for a million cycles, where all is kept.
+const ROOM: Room = Room {
     until: 1_000_000,
     frames: true,
     samples: true,
     words: true,
 };
 
-/// A console with these images, whose keys change.
-fn console_of_images(
-    alloc: Global,
-    images: ConsoleImages,
-    keys: Vec<KeyState>,
-) -> Result<Console, Fail> {
-    Ok(Console::new(alloc, 0, 1, 1024, 0, images, keys, ROOM)?)
-}
-
 /// A console whose BIOS begins with these words, without a cartridge.
-pub(crate) fn console_of(alloc: Global, words: &[u32]) -> Result<Console, Fail> {
-    let bios = bios_of(alloc, words)?;
-    let images = ConsoleImages {
-        bios,
-        cart: None,
-        save: None,
-    };
-    console_of_images(alloc, images, Vec::new(alloc))
+pub(crate) fn console_of(alloc: Global, words: &[u32]) -> Result<Play, Fail> {
+    console_with_keys(alloc, words, &[])
 }
 
 /// The same, whose keys change.
-fn console_with_keys(alloc: Global, words: &[u32], keys: &[KeyState]) -> Result<Console, Fail> {
-    let changes = Vec::from_slice(alloc, keys)?;
-    let bios = bios_of(alloc, words)?;
-    let images = ConsoleImages {
-        bios,
-        cart: None,
-        save: None,
-    };
-    console_of_images(alloc, images, changes)
-}
-
-/// A cartridge with these words from C0h up, and 0 elsewhere but in its header.
-fn cartridge_of(alloc: Global, words: &[u32]) -> Result<Cartridge, Fail> {
-    let mut bytes = vec![in alloc; 0; 0xC0]?;
-    bytes[0xB2] = 0x96;
-    bytes[0xBD] = 0x51;
-    for word in words {
-        bytes.extend_from_slice(&word.to_le_bytes())?;
-    }
-    Ok(Cartridge::check(bytes).ok().ok_or("no cartridge")?)
+fn console_with_keys(alloc: Global, words: &[u32], keys: &[KeyState]) -> Result<Play, Fail> {
+    let images = images_of_words(alloc, words)?;
+    Play::new(alloc, ALONE, 0, images, keys, ROOM)
 }
 
 /// A console with a cartridge.
-fn console_with(alloc: Global, words: &[u32], cart: &[u32]) -> Result<Console, Fail> {
-    let cartridge = cartridge_of(alloc, cart)?;
-    let bios = bios_of(alloc, words)?;
-    let images = ConsoleImages {
-        bios,
-        cart: Some(cartridge),
-        save: None,
-    };
-    console_of_images(alloc, images, Vec::new(alloc))
+fn console_with(alloc: Global, words: &[u32], cart: &[u32]) -> Result<Play, Fail> {
+    let mut images = images_of_words(alloc, words)?;
+    images.cart = Some(cartridge_of(alloc, cart)?);
+    Play::new(alloc, ALONE, 0, images, &[], ROOM)
 }
 
 /// Makes steps, and asserts the clock after them.
-fn steps<R: Abort>(rt: &R, console: &mut Console, count: usize, clock: u64) {
+fn steps<R: Abort>(rt: &R, console: &mut Play, count: usize, clock: u64) {
     for _ in 0..count {
-        assert!(rt; console.clock() < console.until());
-        console.step();
+        console.step(rt);
     }
     assert_eq!(rt; console.clock(), clock);
 }
 
 /// Makes steps so many at a time, and asserts the clock after each of these.
-fn steps_to<R: Abort>(rt: &R, console: &mut Console, courses: &[(usize, u64)]) {
+fn steps_to<R: Abort>(rt: &R, console: &mut Play, courses: &[(usize, u64)]) {
     for (count, clock) in courses {
         steps(rt, console, *count, *clock);
     }
-}
-
-/// Some registers, by their places in the list of all of them, have these numbers.
-fn has<R: Abort>(rt: &R, console: &Console, registers: &[(usize, u32)]) {
-    let all = console.all();
-    for (place, number) in registers {
-        assert_eq!(rt; all.get(*place), Some(number), "at {place}");
-    }
-}
-
-/// Some bytes of a memory, by their places.
-fn has_bytes<R: Abort>(rt: &R, memory: &[u8], bytes: &[(usize, u8)]) {
-    for (place, byte) in bytes {
-        assert_eq!(rt; memory.get(*place), Some(byte), "at {place}");
-    }
-}
-
-/// Makes steps up to a clock.
-pub(crate) fn run<R: Abort>(rt: &R, console: &mut Console, until: u64) {
-    assert!(rt; until <= console.until());
-    console.run_to(until);
 }
 
 /// BL to 8, where BEQ isn't executed, and then B to 4000h, where no memory is: words 0 there, ANDEQ r0, r0, r0, are not
@@ -124,16 +53,10 @@ pub(crate) fn run<R: Abort>(rt: &R, console: &mut Console, until: u64) {
 #[test]
 fn jumps_and_no_memory(rt: HostRuntime) -> Result<(), Fail> {
     let mut console = console_of(rt.alloc(), &[0xEB00_0000, 0, 0x0A00_0000, 0xEA00_0FFB])?;
-    assert_eq!(rt; console.all()[31], 0xD3);
-    for &(count, clock, link, at) in &[
-        (1, 3, 4, 8),
-        (1, 4, 4, 12),
-        (1, 7, 4, 0x4000),
-        (3, 10, 4, 0x400C),
-    ] {
+    has(&rt, &console, &[(31, 0xD3)]);
+    for &(count, clock, at) in &[(1, 3, 8), (1, 4, 12), (1, 7, 0x4000), (3, 10, 0x400C)] {
         steps(&rt, &mut console, count, clock);
-        assert_eq!(rt; console.all()[26], link);
-        assert_eq!(rt; console.all()[15], at);
+        has(&rt, &console, &[(15, at), (26, 4)]);
     }
     Ok(())
 }
@@ -142,107 +65,104 @@ fn jumps_and_no_memory(rt: HostRuntime) -> Result<(), Fail> {
 #[test]
 fn move_and_loop(rt: HostRuntime) -> Result<(), Fail> {
     let mut console = console_of(rt.alloc(), &[0xE3A0_0005, 0xEAFF_FFFE])?;
-    for clock in [1, 4, 7, 10] {
-        steps(&rt, &mut console, 1, clock);
-    }
-    assert_eq!(rt; console.all()[0], 5);
-    assert_eq!(rt; console.all()[15], 4);
+    steps_to(&rt, &mut console, &[(1, 1), (1, 4), (1, 7), (1, 10)]);
+    has(&rt, &console, &[(0, 5), (15, 4)]);
     Ok(())
 }
 
-/// What loads and stores see, by the program: each ends with its result in r0.
+/// A program of the BIOS, how many of its steps are made, and what they leave in r0.
+#[derive(Clone, Copy)]
+struct Loads {
+    words: &'static [u32],
+    count: usize,
+    zero: u32,
+}
+
+/// What loads and stores see.
+static LOADS: [Loads; 7] = [
+    // MOV r1, #03000000h; MOV r2, #5; STR r2, [r1, #4]; ADD r1, r1, #8000h; LDR r0, [r1, #4]: repeated.
+    Loads {
+        words: &[
+            0xE3A0_1403,
+            0xE3A0_2005,
+            0xE581_2004,
+            0xE281_1902,
+            0xE591_0004,
+        ],
+        count: 5,
+        zero: 5,
+    },
+    // MOV r1, #03000000h; MOV r2, #5; STR r2, [r1]; ADD r1, r1, #FF0000h; LDR r0, [r1]: 03FF0000h is repeated too.
+    Loads {
+        words: &[
+            0xE3A0_1403,
+            0xE3A0_2005,
+            0xE581_2000,
+            0xE281_18FF,
+            0xE591_0000,
+        ],
+        count: 5,
+        zero: 5,
+    },
+    // MOV r1, #0; MVN r2, #0; STR r2, [r1]; LDR r0, [r1]: a write to the BIOS is dropped.
+    Loads {
+        words: &[0xE3A0_1000, 0xE3E0_2000, 0xE581_2000, 0xE591_0000],
+        count: 4,
+        zero: 0xE3A0_1000,
+    },
+    // MOV r1, #10000000h; MVN r2, #0; STR r2, [r1]; LDR r0, [r1]: there is no memory.
+    Loads {
+        words: &[0xE3A0_1201, 0xE3E0_2000, 0xE581_2000, 0xE591_0000],
+        count: 4,
+        zero: 0,
+    },
+    // MOV r1, #03000000h; MVN r2, #0; STR r2, [r1]; MOV r1, #10000000h; MOV r0, #7; LDR r0, [r1]: nor a value kept.
+    Loads {
+        words: &[
+            0xE3A0_1403,
+            0xE3E0_2000,
+            0xE581_2000,
+            0xE3A0_1201,
+            0xE3A0_0007,
+            0xE591_0000,
+        ],
+        count: 6,
+        zero: 0,
+    },
+    // MOV r1, #03000000h; MVN r2, #0; STRB r2, [r1, #1]; STRH r2, [r1, #6]; LDR r0, [r1]: one byte.
+    Loads {
+        words: &[
+            0xE3A0_1403,
+            0xE3E0_2000,
+            0xE5C1_2001,
+            0xE1C1_20B6,
+            0xE591_0000,
+        ],
+        count: 5,
+        zero: 0x0000_FF00,
+    },
+    // The same, and LDR r0, [r1, #4]: a halfword in the upper half.
+    Loads {
+        words: &[
+            0xE3A0_1403,
+            0xE3E0_2000,
+            0xE5C1_2001,
+            0xE1C1_20B6,
+            0xE591_0004,
+        ],
+        count: 5,
+        zero: 0xFFFF_0000,
+    },
+];
+
 #[test]
 fn memory_map(rt: HostRuntime) -> Result<(), Fail> {
-    for &(words, count, result) in &[
-        // MOV r1, #03000000h; MOV r2, #5; STR r2, [r1, #4]; ADD r1, r1, #8000h; LDR r0, [r1, #4]: repeated.
-        (
-            [
-                0xE3A0_1403,
-                0xE3A0_2005,
-                0xE581_2004,
-                0xE281_1902,
-                0xE591_0004,
-                0,
-                0,
-            ],
-            5,
-            5,
-        ),
-        // MOV r1, #03000000h; MOV r2, #5; STR r2, [r1]; ADD r1, r1, #FF0000h; LDR r0, [r1]: 03FF0000h is repeated too.
-        (
-            [
-                0xE3A0_1403,
-                0xE3A0_2005,
-                0xE581_2000,
-                0xE281_18FF,
-                0xE591_0000,
-                0,
-                0,
-            ],
-            5,
-            5,
-        ),
-        // MOV r1, #0; MVN r2, #0; STR r2, [r1]; LDR r0, [r1]: a write to the BIOS is dropped.
-        (
-            [0xE3A0_1000, 0xE3E0_2000, 0xE581_2000, 0xE591_0000, 0, 0, 0],
-            4,
-            0xE3A0_1000,
-        ),
-        // MOV r1, #10000000h; MVN r2, #0; STR r2, [r1]; LDR r0, [r1]: there is no memory.
-        (
-            [0xE3A0_1201, 0xE3E0_2000, 0xE581_2000, 0xE591_0000, 0, 0, 0],
-            4,
-            0,
-        ),
-        // MOV r1, #03000000h; MVN r2, #0; STR r2, [r1]; MOV r1, #10000000h; MOV r0, #7; LDR r0, [r1]: nor a value kept.
-        (
-            [
-                0xE3A0_1403,
-                0xE3E0_2000,
-                0xE581_2000,
-                0xE3A0_1201,
-                0xE3A0_0007,
-                0xE591_0000,
-                0,
-            ],
-            6,
-            0,
-        ),
-        // MOV r1, #03000000h; MVN r2, #0; STRB r2, [r1, #1]; STRH r2, [r1, #6]; LDR r0, [r1]: one byte.
-        (
-            [
-                0xE3A0_1403,
-                0xE3E0_2000,
-                0xE5C1_2001,
-                0xE1C1_20B6,
-                0xE591_0000,
-                0,
-                0,
-            ],
-            5,
-            0x0000_FF00,
-        ),
-        // The same, and LDR r0, [r1, #4]: a halfword in the upper half.
-        (
-            [
-                0xE3A0_1403,
-                0xE3E0_2000,
-                0xE5C1_2001,
-                0xE1C1_20B6,
-                0xE591_0004,
-                0,
-                0,
-            ],
-            5,
-            0xFFFF_0000,
-        ),
-    ] {
-        let mut console = console_of(rt.alloc(), &words)?;
-        for _ in 0..count {
-            assert!(rt; console.clock() < console.until());
-            console.step();
+    for &one in &LOADS {
+        let mut console = console_of(rt.alloc(), one.words)?;
+        for _ in 0..one.count {
+            console.step(&rt);
         }
-        assert_eq!(rt; console.all()[0], result);
+        has(&rt, &console, &[(0, one.zero)]);
     }
     Ok(())
 }
@@ -276,7 +196,7 @@ fn code_in_the_inner_ram(rt: HostRuntime) -> Result<(), Fail> {
     // LDR 3, STR 2, MOV 1, ADD 1, B 3.
     steps(&rt, &mut console, 5, 37);
     has(&rt, &console, &[(0, 0), (5, 0x12), (15, 0x0300_0010)]);
-    let inner = console.board().core.memory(MemoryName::Iwram);
+    let inner = console.memory(MemoryName::Iwram);
     assert_eq!(rt; inner.len(), 0x8000);
     has_bytes(&rt, inner, &[(8, 0x02), (11, 0xE3)]);
     Ok(())
@@ -305,10 +225,7 @@ fn both_states(rt: HostRuntime) -> Result<(), Fail> {
         (13, 3, 0x14, 0x2000_00D3),
     ] {
         steps(&rt, &mut console, 1, clock);
-        let registers = console.all();
-        assert_eq!(rt; registers[1], value);
-        assert_eq!(rt; registers[15], at);
-        assert_eq!(rt; registers[31], status);
+        has(&rt, &console, &[(1, value), (15, at), (31, status)]);
     }
     Ok(())
 }
@@ -357,11 +274,7 @@ fn the_memory_map_has_its_prices(rt: HostRuntime) -> Result<(), Fail> {
             (25, 0x5A5A_5A5A),
         ],
     );
-    has_bytes(
-        &rt,
-        console.board().core.memory(MemoryName::Backup),
-        &[(0, 0x5A)],
-    );
+    has_bytes(&rt, console.memory(MemoryName::Backup), &[(0, 0x5A)]);
     Ok(())
 }
 
@@ -376,65 +289,66 @@ fn a_whole_block_from_view_2(rt: HostRuntime) -> Result<(), Fail> {
     cart[15] = 0x0800_00C0;
     let mut console = console_with(rt.alloc(), &bios, &cart)?;
     steps(&rt, &mut console, 3, 5);
-    assert_eq!(rt; console.all()[15], 0x0C00_00C0);
+    has(&rt, &console, &[(15, 0x0C00_00C0)]);
     steps(&rt, &mut console, 1, 340);
-    assert_eq!(rt; console.all()[0], 0xE890_FFFF);
-    assert_eq!(rt; console.all()[15], 0x0800_00C0);
+    has(&rt, &console, &[(0, 0xE890_FFFF), (15, 0x0800_00C0)]);
     Ok(())
 }
 
 /// A program of the BIOS, the clock after each of its steps, and r0 at its end.
 #[derive(Clone, Copy)]
-struct Program<'a> {
-    words: &'a [u32],
-    clocks: &'a [u64],
+struct Program {
+    words: &'static [u32],
+    clocks: &'static [u64],
     zero: u32,
 }
 
 /// Registers, halts and prices in steps: a timer is started and read by the next instruction; a halt without an enabled
 /// interrupt lasts for ever, 16 cycles at a time; WAITCNT prices from the next instruction on.
+static PROGRAMS: [Program; 3] = [
+    // MOV r1, #04000000h; MOV r2, #80h; ADD r3, r1, #100h; STRH r2, [r3, #2]; LDRH r0, [r3]
+    Program {
+        words: &[
+            0xE3A0_1301,
+            0xE3A0_2080,
+            0xE281_3C01,
+            0xE1C3_20B2,
+            0xE1D3_00B0,
+        ],
+        clocks: &[1, 2, 3, 5, 8],
+        zero: 2,
+    },
+    // MOV r1, #04000000h; ADD r1, r1, #300h; STRB r0, [r1, #1]
+    Program {
+        words: &[0xE3A0_1301, 0xE281_1C03, 0xE5C1_0001],
+        clocks: &[1, 2, 4, 20, 36, 52],
+        zero: 0,
+    },
+    // MOV r1, #04000000h; ADD r1, r1, #204h; MOV r2, #0Ch; MOV r3, #08000000h; LDRH r0, [r3]; STRH r2, [r1];
+    // LDRH r0, [r3]
+    Program {
+        words: &[
+            0xE3A0_1301,
+            0xE281_1F81,
+            0xE3A0_200C,
+            0xE3A0_3302,
+            0xE1D3_00B0,
+            0xE1C1_20B0,
+            0xE1D3_00B0,
+        ],
+        clocks: &[1, 2, 3, 4, 11, 13, 24],
+        zero: 0,
+    },
+];
+
 #[test]
 fn devices_in_steps(rt: HostRuntime) -> Result<(), Fail> {
-    for &one in &[
-        // MOV r1, #04000000h; MOV r2, #80h; ADD r3, r1, #100h; STRH r2, [r3, #2]; LDRH r0, [r3]
-        Program {
-            words: &[
-                0xE3A0_1301,
-                0xE3A0_2080,
-                0xE281_3C01,
-                0xE1C3_20B2,
-                0xE1D3_00B0,
-            ],
-            clocks: &[1, 2, 3, 5, 8],
-            zero: 2,
-        },
-        // MOV r1, #04000000h; ADD r1, r1, #300h; STRB r0, [r1, #1]
-        Program {
-            words: &[0xE3A0_1301, 0xE281_1C03, 0xE5C1_0001],
-            clocks: &[1, 2, 4, 20, 36, 52],
-            zero: 0,
-        },
-        // MOV r1, #04000000h; ADD r1, r1, #204h; MOV r2, #0Ch; MOV r3, #08000000h; LDRH r0, [r3]; STRH r2, [r1];
-        // LDRH r0, [r3]
-        Program {
-            words: &[
-                0xE3A0_1301,
-                0xE281_1F81,
-                0xE3A0_200C,
-                0xE3A0_3302,
-                0xE1D3_00B0,
-                0xE1C1_20B0,
-                0xE1D3_00B0,
-            ],
-            clocks: &[1, 2, 3, 4, 11, 13, 24],
-            zero: 0,
-        },
-    ] {
+    for &one in &PROGRAMS {
         let mut console = console_of(rt.alloc(), one.words)?;
         for clock in one.clocks {
             steps(&rt, &mut console, 1, *clock);
         }
-        assert_eq!(rt; console.all()[0], one.zero);
+        has(&rt, &console, &[(0, one.zero)]);
     }
     Ok(())
 }
@@ -462,17 +376,15 @@ fn a_key_interrupts(rt: HostRuntime) -> Result<(), Fail> {
         let changes = [KeyState { clock: at, keys: 1 }];
         let mut console = console_with_keys(rt.alloc(), &WORDS, &changes)?;
         steps(&rt, &mut console, 12, 15);
-        run(&rt, &mut console, clock - 3);
-        assert_eq!(rt; console.clock(), clock - 3);
-        assert_eq!(rt; console.all()[15], 0x30);
+        comes_to(&rt, &mut console, clock - 3, clock - 3);
+        has(&rt, &console, &[(15, 0x30)]);
         steps(&rt, &mut console, 1, clock);
-        let registers = console.all();
-        assert_eq!(rt; console.clock(), clock);
-        assert_eq!(rt; registers[15], 0x18);
-        // r14 and SPSR of the interrupt's mode.
-        assert_eq!(rt; registers[24], 0x34);
-        assert_eq!(rt; registers[31], 0xD2);
-        assert_eq!(rt; registers[33], 0x53);
+        // r14 of the interrupt's mode is 24, and its SPSR 33.
+        has(
+            &rt,
+            &console,
+            &[(15, 0x18), (24, 0x34), (31, 0xD2), (33, 0x53)],
+        );
     }
     Ok(())
 }
@@ -488,9 +400,8 @@ fn keys_change_in_their_order(rt: HostRuntime) -> Result<(), Fail> {
     ];
     let mut console = console_with_keys(rt.alloc(), &[0xEAFF_FFFE], &changes)?;
     for (clock, half) in [(3, 0x3FE), (6, 0x3FE), (9, 0x3FB), (90, 0x3FB), (93, 0x3F7)] {
-        run(&rt, &mut console, clock);
-        assert_eq!(rt; console.clock(), clock);
-        assert_eq!(rt; console.board().core.io_half(0x130), half);
+        comes_to(&rt, &mut console, clock, clock);
+        assert_eq!(rt; console.io_half(0x130), half);
     }
     Ok(())
 }
@@ -526,12 +437,10 @@ fn a_halt_ends(rt: HostRuntime) -> Result<(), Fail> {
         ];
         let mut console = console_of(rt.alloc(), &words)?;
         steps(&rt, &mut console, 15, 20);
-        assert!(rt; console.board().core.halted());
-        steps(&rt, &mut console, 2, 52);
-        steps(&rt, &mut console, 1, clock);
-        assert!(rt; !console.board().core.halted());
-        assert_eq!(rt; console.all()[15], at);
-        assert_eq!(rt; console.all()[0], zero);
+        assert!(rt; console.is_halted());
+        steps_to(&rt, &mut console, &[(2, 52), (1, clock)]);
+        assert!(rt; !console.is_halted());
+        has(&rt, &console, &[(15, at), (0, zero)]);
     }
     Ok(())
 }
@@ -552,13 +461,14 @@ fn a_count_of_0_moves_65536_units(rt: HostRuntime) -> Result<(), Fail> {
         0xEAFF_FFFE, // 20 B to itself
     ];
     let mut console = console_of(rt.alloc(), &WORDS)?;
-    steps(&rt, &mut console, 8, 11);
-    steps(&rt, &mut console, 1, 20);
-    steps(&rt, &mut console, 1, 27);
-    steps(&rt, &mut console, 65_534, 27 + 65_534 * 7);
-    assert!(rt; !console.board().core.channel(3).active);
-    assert_eq!(rt; console.board().core.io_half(0xDE), 0x0400);
-    assert_eq!(rt; console.all()[15], 0x20);
+    steps_to(
+        &rt,
+        &mut console,
+        &[(8, 11), (1, 20), (1, 27), (65_534, 27 + 65_534 * 7)],
+    );
+    assert!(rt; !console.is_active(&rt, 3));
+    assert_eq!(rt; console.io_half(0xDE), 0x0400);
+    has(&rt, &console, &[(15, 0x20)]);
     steps(&rt, &mut console, 1, 27 + 65_534 * 7 + 3);
     Ok(())
 }
@@ -589,32 +499,22 @@ fn a_unit_wakes_nothing(rt: HostRuntime) -> Result<(), Fail> {
         0xEAFF_FFFE, // 48 B to itself
     ];
     let mut console = console_of(rt.alloc(), &WORDS)?;
-    steps(&rt, &mut console, 17, 22);
-    // 3 + 1 + 2 cycles, and 3 + 1.
-    steps(&rt, &mut console, 1, 28);
-    assert!(rt; console.board().core.halted());
-    assert!(rt; console.board().core.pending());
+    // The two units take 3 + 1 + 2 cycles, and 3 + 1.
+    steps_to(&rt, &mut console, &[(17, 22), (1, 28)]);
+    assert!(rt; console.is_halted() && console.is_pending());
     steps(&rt, &mut console, 1, 32);
-    assert!(rt; console.board().core.halted());
-    assert_eq!(rt; console.all()[15], 0x44);
+    assert!(rt; console.is_halted());
+    has(&rt, &console, &[(15, 0x44)]);
     steps(&rt, &mut console, 1, 33);
-    assert!(rt; !console.board().core.halted());
-    assert_eq!(rt; console.all()[8], 1);
+    assert!(rt; !console.is_halted());
+    has(&rt, &console, &[(8, 1)]);
     Ok(())
 }
 
-/// Empties the lists of what a console made. Its room ends where it did.
-pub(crate) fn forget<R: Abort>(rt: &R, console: &mut Console) {
-    let until = console.until();
-    assert!(rt; until <= 1_000_000);
-    console.forget(until);
-}
-
 /// Runs up to some clocks, and asserts the clock and the number of the pairs then.
-fn makes_pairs<R: Abort>(rt: &R, console: &mut Console, courses: &[(u64, u64, u64)]) {
+fn makes_pairs<R: Abort>(rt: &R, console: &mut Play, courses: &[(u64, u64, u64)]) {
     for (until, clock, pairs) in courses {
-        run(rt, console, *until);
-        assert_eq!(rt; console.clock(), *clock);
+        comes_to(rt, console, *until, *clock);
         assert_eq!(rt; console.counts().samples, *pairs);
     }
 }
@@ -630,7 +530,7 @@ fn pairs_go_with_the_clock(rt: HostRuntime) -> Result<(), Fail> {
         &[(511, 513, 1), (1023, 1023, 1), (1024, 1026, 2)],
     );
     assert_eq!(rt; console.samples(), [0; 8].as_slice());
-    forget(&rt, &mut console);
+    console.forget(&rt, ROOM.until);
     assert_eq!(rt; console.samples().len(), 0);
     makes_pairs(&rt, &mut console, &[(1024, 1026, 2), (1536, 1536, 3)]);
     assert_eq!(rt; console.samples().len(), 4);

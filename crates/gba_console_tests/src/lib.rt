@@ -10,6 +10,8 @@ mod off;
 #[cfg(test)]
 mod picture;
 #[cfg(test)]
+mod play;
+#[cfg(test)]
 mod segments;
 #[cfg(test)]
 mod transfers;

@@ -1,10 +1,9 @@
 //! Consoles that are off below a clock, alone and on a cable.
 
-use crate::cable::{Cable, bios_of};
-use crate::console::run;
+use crate::cable::Cable;
+use crate::play::{ALONE, Play, comes_to, has, images_of_source};
 use crate::transfers::{AWAITS_MULTI, STARTS_ALONE, STARTS_MULTI};
-use gba_console::{Console, KeyState};
-use gba_image::ConsoleImages;
+use gba_console::KeyState;
 use gba_io::Room;
 use link_node::LinkMode::{Multi, Other};
 use std::alloc::Global;
@@ -32,23 +31,15 @@ fn console_of(
     off: u64,
     keys: &[KeyState],
     until: u64,
-) -> Result<Console, Fail> {
-    let images = ConsoleImages {
-        bios: bios_of(alloc, source)?,
-        cart: None,
-        save: None,
-    };
+) -> Result<Play, Fail> {
     let room = Room {
         until,
         frames: true,
         samples: true,
         words: true,
     };
-    if until > 1 << 24 || off > 1 << 38 {
-        return Err("a late clock")?;
-    }
-    let keys = Vec::from_slice(alloc, keys)?;
-    Ok(Console::new(alloc, 0, 1, 1024, off, images, keys, room)?)
+    let images = images_of_source(alloc, source)?;
+    Play::new(alloc, ALONE, off, images, keys, room)
 }
 
 /// Where it is off below a clock and steps up to another one, the clock that it comes to: 16 cycles at a time up to the first
@@ -73,8 +64,7 @@ fn clocks_rise_by_sixteen(rt: HostRuntime) -> Result<(), Fail> {
     let rt = &rt;
     for &(off, until, clock) in &CLOCKS {
         let mut console = console_of(alloc, LOOPS, off, &[], 1 << 20)?;
-        run(rt, &mut console, until);
-        assert_eq!(rt; console.clock(), clock, "off {off} until {until}");
+        comes_to(rt, &mut console, until, clock);
     }
     Ok(())
 }
@@ -92,7 +82,7 @@ static MAKES: [(u64, u64, u64); 7] = [
 ];
 
 /// What a console made: its clock, the whole frames and the pairs of samples, and how many bytes of both are kept.
-fn made(console: &Console) -> (u64, u64, u64, usize, usize) {
+fn made(console: &Play) -> (u64, u64, u64, usize, usize) {
     let counts = console.counts();
     let frames = console.frames().len();
     (
@@ -108,14 +98,10 @@ fn made(console: &Console) -> (u64, u64, u64, usize, usize) {
 fn makes_begin_with_the_first_step(rt: HostRuntime) -> Result<(), Fail> {
     for &(off, first, pairs) in &MAKES {
         let mut console = console_of(rt.alloc(), LOOPS, off, &[], 1 << 20)?;
-        run(&rt, &mut console, first + 196_893);
-        let (clock, frames, _, bytes, _) = made(&console);
-        assert_eq!(rt;
-            (clock, frames, bytes),
-            (first + 196_893, 0, 0),
-            "off {off}"
-        );
-        run(&rt, &mut console, first + 196_894);
+        comes_to(&rt, &mut console, first + 196_893, first + 196_893);
+        let (_, frames, _, bytes, _) = made(&console);
+        assert_eq!(rt; (frames, bytes), (0, 0), "off {off}");
+        console.run(&rt, first + 196_894);
         let all = (first + 196_896, 1, pairs, 76_800, 4 * pairs as usize);
         assert_eq!(rt; made(&console), all, "off {off}");
     }
@@ -123,48 +109,40 @@ fn makes_begin_with_the_first_step(rt: HostRuntime) -> Result<(), Fail> {
 }
 
 /// Changes while it is off are applied: the last one at or below its first step is what it reads.
+static KEYS: [KeyState; 3] = [
+    KeyState {
+        clock: 5,
+        keys: 0x001,
+    },
+    KeyState {
+        clock: 100,
+        keys: 0x00C,
+    },
+    KeyState {
+        clock: 9000,
+        keys: 0x3FF,
+    },
+];
+
 #[test]
 fn keys_change_while_it_is_off(rt: HostRuntime) -> Result<(), Fail> {
-    let alloc = rt.alloc();
-    let rt = &rt;
-    let keys = [
-        KeyState {
-            clock: 5,
-            keys: 0x001,
-        },
-        KeyState {
-            clock: 100,
-            keys: 0x00C,
-        },
-        KeyState {
-            clock: 9000,
-            keys: 0x3FF,
-        },
-    ];
     for &(off, read) in &[(0u64, 0x3FFu32), (16, 0x3FE), (101, 0x3F3), (5000, 0x3F3)] {
-        let mut console = console_of(alloc, READS_KEYS, off, &keys, 1 << 20)?;
-        run(rt, &mut console, off + 32);
-        assert_eq!(rt; console.all()[1], read, "off {off}");
+        let mut console = console_of(rt.alloc(), READS_KEYS, off, &KEYS, 1 << 20)?;
+        console.run(&rt, off + 32);
+        has(&rt, &console, &[(1, read)]);
     }
     Ok(())
-}
-
-/// Empties the lists, and makes this the end of their room.
-fn forget<R: Abort>(rt: &R, console: &mut Console, until: u64) {
-    assert!(rt; console.until() <= until && until <= 1 << 20);
-    assert!(rt; until <= console.clock() + 16_777_216);
-    console.forget(until);
 }
 
 /// Empties the lists, runs to a clock, and adds the samples that were made.
 fn run_segment<R: Abort>(
     rt: &R,
-    console: &mut Console,
+    console: &mut Play,
     until: u64,
     samples: &mut Vec<u8>,
 ) -> Result<(), Fail> {
-    forget(rt, console, until);
-    run(rt, console, until);
+    console.forget(rt, until);
+    console.run(rt, until);
     samples.extend_from_slice(console.samples())?;
     Ok(())
 }
@@ -179,7 +157,7 @@ fn forgets_while_it_is_off(rt: HostRuntime) -> Result<(), Fail> {
     for &until in &[500u64, 1008, 1536, 5000] {
         run_segment(&rt, &mut parts, until, &mut samples)?;
     }
-    run(&rt, &mut whole, 5000);
+    whole.run(&rt, 5000);
     assert_eq!(rt; (parts.clock(), parts.was()), (whole.clock(), whole.was()));
     assert_eq!(rt; parts.counts(), whole.counts());
     assert_eq!(rt; whole.counts().samples, 8);
@@ -188,7 +166,7 @@ fn forgets_while_it_is_off(rt: HostRuntime) -> Result<(), Fail> {
 }
 
 /// The words of the only transfer that a console has ended, and its error.
-fn only_words<R: Abort>(rt: &R, console: &Console) -> Result<([u16; 4], bool), Fail> {
+fn only_words<R: Abort>(rt: &R, console: &Play) -> Result<([u16; 4], bool), Fail> {
     assert_eq!(rt; console.counts().words, 1);
     let transfer = console.words().first().ok_or("no transfer")?;
     let words = transfer.words;
@@ -217,10 +195,10 @@ fn modes_are_known_from_before(rt: HostRuntime) -> Result<(), Fail> {
     let alloc = rt.alloc();
     let rt = &rt;
     let mut cable = Cable::with_off(alloc, 16, [STARTS_MULTI, AWAITS_MULTI], 2000)?;
-    assert_eq!(rt; cable.consoles[1].board().core.serial().known(0), Other);
+    assert_eq!(rt; cable.consoles[1].known(rt, 0), Other);
     cable.run(rt, alloc, 1000)?;
     assert_eq!(rt; cable.consoles[1].clock() % 16, 0);
-    assert_eq!(rt; cable.consoles[1].board().core.serial().known(0), Multi);
+    assert_eq!(rt; cable.consoles[1].known(rt, 0), Multi);
     assert!(rt; cable.told[1].is_empty());
     cable.run(rt, alloc, 9000)?;
     for player in 0..2 {

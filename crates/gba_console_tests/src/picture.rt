@@ -1,6 +1,7 @@
 //! The frames of a console: when they are whole, and which registers and memories their lines are drawn by.
 
-use crate::console::{console_of, forget, run};
+use crate::console::console_of;
+use crate::play::{Play, comes_to};
 use std::process::Abort;
 use std::test::Fail;
 
@@ -10,6 +11,13 @@ fn colour_at<R: Abort>(rt: &R, frames: &[u8], frame: usize, line: usize, column:
     let place = 76_800 * frame + 480 * line + 2 * column;
     assert!(rt; place + 1 < frames.len());
     u16::from(frames[place]) + 256 * u16::from(frames[place + 1])
+}
+
+/// It has made so many frames, of which so many bytes are kept, and so many pairs of samples.
+fn has_made<R: Abort>(rt: &R, console: &Play, frames: u64, bytes: usize, pairs: u64) {
+    let counts = console.counts();
+    assert_eq!(rt; (counts.frames, counts.samples), (frames, pairs));
+    assert_eq!(rt; console.frames().len(), bytes);
 }
 
 /// Line 159 of a frame is drawn in the cycle that ends at clock 196,894 of it, and 280,896 cycles later in the next. A
@@ -24,17 +32,21 @@ fn frames_are_whole_with_line_159(rt: HostRuntime) -> Result<(), Fail> {
         (477_790, 477_792, 2, 153_600, 933),
         (1_000_000, 1_000_002, 3, 230_400, 1953),
     ] {
-        run(&rt, &mut console, until);
-        assert_eq!(rt; console.clock(), clock);
-        assert_eq!(rt; console.counts().frames, frames);
-        assert_eq!(rt; console.counts().samples, pairs);
-        assert_eq!(rt; console.frames().len(), bytes);
+        comes_to(&rt, &mut console, until, clock);
+        has_made(&rt, &console, frames, bytes, pairs);
     }
     assert!(rt; console.frames().iter().all(|byte| *byte == 0));
-    forget(&rt, &mut console);
-    assert!(rt; console.frames().is_empty());
-    assert_eq!(rt; console.counts().frames, 3);
+    console.forget(&rt, 1_000_000);
+    has_made(&rt, &console, 3, 0, 1953);
     Ok(())
+}
+
+/// A line of a frame has its own number as its colour.
+fn has_line<R: Abort>(rt: &R, frames: &[u8], frame: usize, line: usize) {
+    for column in [0, 1, 120, 239] {
+        let colour = colour_at(rt, frames, frame, line, column);
+        assert_eq!(rt; usize::from(colour), line);
+    }
 }
 
 /// A program that stores VCOUNT as the backdrop's colour all the time: each line has its own number as its colour, since
@@ -50,14 +62,11 @@ fn lines_are_drawn_when_their_hblank_begins(rt: HostRuntime) -> Result<(), Fail>
         0xEAFF_FFFC,
     ];
     let mut console = console_of(rt.alloc(), &WORDS)?;
-    run(&rt, &mut console, 500_000);
+    console.run(&rt, 500_000);
     assert_eq!(rt; console.counts().frames, 2);
     for frame in 0..2 {
         for line in 0..160 {
-            for column in [0, 1, 120, 239] {
-                let colour = colour_at(&rt, console.frames(), frame, line, column);
-                assert_eq!(rt; usize::from(colour), line);
-            }
+            has_line(&rt, console.frames(), frame, line);
         }
     }
     Ok(())
@@ -69,7 +78,7 @@ fn a_blank_screen_is_white(rt: HostRuntime) -> Result<(), Fail> {
     // MOV r0, #04000000h; MOV r1, #80h; STRH r1, [r0]; and a branch to itself
     let words = [0xE3A0_0301, 0xE3A0_1080, 0xE1C0_10B0, 0xEAFF_FFFE];
     let mut console = console_of(rt.alloc(), &words)?;
-    run(&rt, &mut console, 200_000);
+    console.run(&rt, 200_000);
     for line in [0, 80, 159] {
         for column in [0, 239] {
             let colour = colour_at(&rt, console.frames(), 0, line, column);

@@ -1,9 +1,7 @@
 //! A console that runs in segments, between which its lists are emptied: the lists of the segments, one behind the other,
 //! are those of one run.
 
-use crate::cable::bios_of;
-use gba_console::Console;
-use gba_image::ConsoleImages;
+use crate::play::{ALONE, Play, comes_to, images_of_source};
 use gba_io::Room;
 use gba_serial::Transfer;
 use std::alloc::Global;
@@ -46,23 +44,14 @@ const IDLES: &[u8] = b"
 ";
 
 /// A console alone with this source, and with room up to this clock.
-fn console_of(alloc: Global, source: &[u8], until: u64) -> Result<Console, Fail> {
-    let images = ConsoleImages {
-        bios: bios_of(alloc, source)?,
-        cart: None,
-        save: None,
-    };
+fn console_of(alloc: Global, source: &[u8], until: u64) -> Result<Play, Fail> {
     let room = Room {
         until,
         frames: true,
         samples: true,
         words: true,
     };
-    if until > 1 << 24 {
-        return Err("a late end")?;
-    }
-    let keys = Vec::new(alloc);
-    Ok(Console::new(alloc, 0, 1, 1024, 0, images, keys, room)?)
+    Play::new(alloc, ALONE, 0, images_of_source(alloc, source)?, &[], room)
 }
 
 /// What a console kept, one segment behind the other.
@@ -82,7 +71,7 @@ impl Lists {
         }
     }
 
-    fn add(&mut self, console: &Console) -> Result<(), Fail> {
+    fn add(&mut self, console: &Play) -> Result<(), Fail> {
         self.frames.extend_from_slice(console.frames())?;
         self.samples.extend_from_slice(console.samples())?;
         self.words.extend_from_slice(console.words())?;
@@ -91,24 +80,21 @@ impl Lists {
 }
 
 /// Empties the lists, which keeps the counts, and runs to a clock.
-fn run_segment<R: Abort>(rt: &R, console: &mut Console, until: u64) {
+fn run_segment<R: Abort>(rt: &R, console: &mut Play, until: u64) {
     let counts = console.counts();
-    assert!(rt; console.until() <= until && until <= 1 << 25);
-    assert!(rt; until <= console.clock() + 16_777_216);
-    console.forget(until);
-    assert_eq!(rt; console.until(), until);
-    assert_eq!(rt; console.counts(), counts);
-    assert!(rt; console.frames().is_empty() && console.samples().is_empty());
-    assert!(rt; console.words().is_empty());
-    console.run_to(until);
+    console.forget(rt, until);
+    assert_eq!(rt; (console.until(), console.counts()), (until, counts));
+    let kept = (console.frames().len(), console.samples().len());
+    assert_eq!(rt; (kept, console.words().len()), ((0, 0), 0));
+    console.run(rt, until);
 }
 
 /// Two consoles have come to the same point.
-fn are_the_same<R: Abort>(rt: &R, one: &Console, other: &Console) {
+fn are_the_same<R: Abort>(rt: &R, one: &Play, other: &Play) {
     assert_eq!(rt; (one.clock(), one.was()), (other.clock(), other.was()));
     assert_eq!(rt; one.counts(), other.counts());
-    assert_eq!(rt; one.all(), other.all());
-    assert_eq!(rt; one.board().core.place(), other.board().core.place());
+    assert_eq!(rt; one.registers(), other.registers());
+    assert_eq!(rt; one.place(), other.place());
 }
 
 /// Runs to these clocks one after another, and to the last one at once.
@@ -122,8 +108,7 @@ fn segments_make_a_run<R: Abort>(rt: &R, alloc: Global, ends: &[u64]) -> Result<
         last = *end;
     }
     let mut whole = console_of(alloc, MAKES_ALL, last)?;
-    assert!(rt; last <= whole.until());
-    whole.run_to(last);
+    whole.run(rt, last);
     are_the_same(rt, &parts, &whole);
     assert!(rt; lists.frames.as_slice() == whole.frames());
     assert!(rt; lists.samples.as_slice() == whole.samples());

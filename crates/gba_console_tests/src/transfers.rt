@@ -1,8 +1,7 @@
 //! Transfers over whole consoles, whose programs start and await them.
 
-use crate::cable::{Cable, console_of, turn};
-use crate::console::{forget, run};
-use gba_console::Console;
+use crate::cable::{Cable, console_of};
+use crate::play::{ALONE, Play, Seat};
 use gba_serial::Transfer;
 use link_node::LinkMode::{self, Multi, Normal8, Normal32, Other};
 use link_node::{Incoming, Signal};
@@ -115,7 +114,7 @@ const TELLS_LATER: &[u8] = b"
 ";
 
 /// A console has ended just this transfer.
-fn ended<R: Abort>(rt: &R, console: &Console, transfer: Transfer) {
+fn ended<R: Abort>(rt: &R, console: &Play, transfer: Transfer) {
     assert_eq!(rt; console.counts().words, 1);
     assert_eq!(rt; console.words().len(), 1);
     let word = console.words().first().copied();
@@ -134,6 +133,12 @@ fn transfer(end: u64, mode: LinkMode, words: [u16; 4], sent: u32, got: u32) -> T
     }
 }
 
+/// A halfword of the I/O registers of both consoles.
+fn has_halves<R: Abort>(rt: &R, cable: &Cable, offset: u32, halves: [u16; 2]) {
+    let [one, other] = &cable.consoles;
+    assert_eq!(rt; [one.io_half(offset), other.io_half(offset)], halves);
+}
+
 /// Both end 5,220 cycles after the start with both words, and player 0, which asked for it, has its interrupt requested.
 #[test]
 fn two_consoles_in_multi(rt: HostRuntime) -> Result<(), Fail> {
@@ -150,8 +155,7 @@ fn two_consoles_in_multi(rt: HostRuntime) -> Result<(), Fail> {
         &cable.consoles[1],
         transfer(end, Multi, words, 0xABCD, 0),
     );
-    assert_eq!(rt; cable.consoles[0].board().core.io_half(0x202), 0x0080);
-    assert_eq!(rt; cable.consoles[1].board().core.io_half(0x202), 0x0000);
+    has_halves(&rt, &cable, 0x202, [0x0080, 0x0000]);
     Ok(())
 }
 
@@ -201,78 +205,89 @@ fn bytes_are_exchanged(rt: HostRuntime) -> Result<(), Fail> {
         &cable.consoles[1],
         transfer(end, Normal8, [0; 4], 0xA5, 0x5A),
     );
-    assert_eq!(rt; cable.consoles[0].board().core.io_half(0x12A), 0x00A5);
-    assert_eq!(rt; cable.consoles[1].board().core.io_half(0x12A), 0x005A);
+    has_halves(&rt, &cable, 0x12A, [0x00A5, 0x005A]);
     Ok(())
 }
 
 /// A step that takes nothing, where the console isn't at a clock yet; it tells nothing.
-fn idle_before<R: Abort>(rt: &R, console: &mut Console, clock: u64) {
+fn idle_before<R: Abort>(rt: &R, console: &mut Play, clock: u64) {
     if console.clock() < clock {
-        assert!(rt; turn(rt, console, &[]).is_none());
+        assert!(rt; console.turn(rt, &[]).is_none());
     }
 }
 
 /// Steps that take nothing, up to a clock at which one begins.
-fn idle_to<R: Abort>(rt: &R, console: &mut Console, clock: u64) {
+fn idle_to<R: Abort>(rt: &R, console: &mut Play, clock: u64) {
     for _ in 0..clock {
         idle_before(rt, console, clock);
     }
     assert_eq!(rt; console.clock(), clock);
 }
 
+/// Told in the step at 100.
+const LATER: Signal = Signal {
+    clock: 100,
+    mode: Normal8,
+    start: None,
+    reply: None,
+};
+
+/// A player of two over the longest delay.
+const fn far(player: u32) -> Seat {
+    Seat {
+        player,
+        count: 2,
+        delay: 1024,
+    }
+}
+
+/// What is told in the step at 100.
+fn told_at_100<R: Abort>(rt: &R, alloc: Global) -> Result<Option<Signal>, Fail> {
+    let mut sender = console_of(alloc, far(0), TELLS_LATER)?;
+    idle_to(rt, &mut sender, 100);
+    Ok(sender.turn(rt, &[]))
+}
+
 /// A signal of 100 over a delay of 1,024 is taken by the step that begins at 1,124, and not by that at 1,123.
 #[test]
 fn a_signal_arrives(rt: HostRuntime) -> Result<(), Fail> {
-    let mut sender = console_of(rt.alloc(), (0, 2, 1024), TELLS_LATER)?;
-    idle_to(&rt, &mut sender, 100);
-    let told = turn(&rt, &mut sender, &[]);
-    let signal = Signal {
-        clock: 100,
-        mode: Normal8,
-        start: None,
-        reply: None,
-    };
-    assert!(rt; told == Some(signal), "{told:?} told");
+    let told = told_at_100(&rt, rt.alloc())?;
+    assert!(rt; told == Some(LATER), "{told:?} told");
     let due = Incoming {
         sender: 0,
         arrival: 1124,
-        signal,
+        signal: LATER,
     };
-    let mut taker = console_of(rt.alloc(), (1, 2, 1024), b"andeq r0, r0, r0\n")?;
+    let mut taker = console_of(rt.alloc(), far(1), b"andeq r0, r0, r0\n")?;
     idle_to(&rt, &mut taker, 1123);
-    assert_eq!(rt; turn(&rt, &mut taker, &[]).is_none(), true);
-    assert_eq!(rt; (taker.was(), taker.clock()), (1123, 1124));
-    assert_eq!(rt; taker.board().core.serial().known(0), Other);
-    assert_eq!(rt; turn(&rt, &mut taker, &[due]).is_none(), true);
-    assert_eq!(rt; taker.board().core.serial().known(0), Normal8);
+    idle_to(&rt, &mut taker, 1124);
+    assert_eq!(rt; taker.was(), 1123);
+    assert_eq!(rt; taker.known(&rt, 0), Other);
+    assert!(rt; taker.turn(&rt, &[due]).is_none());
+    assert_eq!(rt; taker.known(&rt, 0), Normal8);
     Ok(())
 }
 
 /// A step by a turn that takes nothing, where the console isn't at a clock yet.
-fn turn_before<R: Abort>(rt: &R, console: &mut Console, clock: u64) {
+fn turn_before<R: Abort>(rt: &R, console: &mut Play, clock: u64) {
     if console.clock() < clock {
-        let _ = turn(rt, console, &[]);
+        let _ = console.turn(rt, &[]);
     }
 }
 
 /// Steps by turns that take nothing, up to a clock.
-fn turn_to<R: Abort>(rt: &R, console: &mut Console, clock: u64) {
+fn turn_to<R: Abort>(rt: &R, console: &mut Play, clock: u64) {
     for _ in 0..clock {
         turn_before(rt, console, clock);
     }
 }
 
 /// Two consoles have the same clocks, transfers and serial registers.
-fn are_the_same<R: Abort>(rt: &R, one: &Console, other: &Console) {
+fn are_the_same<R: Abort>(rt: &R, one: &Play, other: &Play) {
     assert_eq!(rt; (one.clock(), one.was()), (other.clock(), other.was()));
     assert!(rt; one.words() == other.words(), "{:?}", one.words());
     for half in [0x120, 0x122, 0x128, 0x12A, 0x134, 0x202] {
-        let (here, there) = (
-            one.board().core.io_half(half),
-            other.board().core.io_half(half),
-        );
-        assert_eq!(rt; here, there, "at {half:x}");
+        assert_eq!(rt; one.io_half(half), other.io_half(half), "at {half:x}");
     }
 }
 
@@ -280,9 +295,9 @@ fn are_the_same<R: Abort>(rt: &R, one: &Console, other: &Console) {
 #[test]
 fn runs_are_turns(rt: HostRuntime) -> Result<(), Fail> {
     for source in [STARTS_ALONE, STARTS_WORD, STARTS_BYTE, AWAITS_MULTI] {
-        let mut one = console_of(rt.alloc(), (0, 1, 512), source)?;
-        let mut other = console_of(rt.alloc(), (0, 1, 512), source)?;
-        run(&rt, &mut one, 9_001);
+        let mut one = console_of(rt.alloc(), ALONE, source)?;
+        let mut other = console_of(rt.alloc(), ALONE, source)?;
+        one.run(&rt, 9_001);
         turn_to(&rt, &mut other, 9_001);
         are_the_same(&rt, &one, &other);
     }
@@ -292,11 +307,10 @@ fn runs_are_turns(rt: HostRuntime) -> Result<(), Fail> {
 /// A transfer that is forgotten stays counted.
 #[test]
 fn words_are_forgotten(rt: HostRuntime) -> Result<(), Fail> {
-    let mut console = console_of(rt.alloc(), (0, 1, 512), STARTS_WORD)?;
-    run(&rt, &mut console, 9_001);
+    let mut console = console_of(rt.alloc(), ALONE, STARTS_WORD)?;
+    console.run(&rt, 9_001);
     assert_eq!(rt; console.words().len(), 1);
-    forget(&rt, &mut console);
-    assert_eq!(rt; console.words().len(), 0);
-    assert_eq!(rt; console.counts().words, 1);
+    console.forget(&rt, 100_000);
+    assert_eq!(rt; (console.words().len(), console.counts().words), (0, 1));
     Ok(())
 }

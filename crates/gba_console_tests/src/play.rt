@@ -1,0 +1,237 @@
+//! A console as the tests play it: each call is made where it may be made, and what it shows are numbers and lists.
+
+use gba_asm::assemble;
+use gba_console::{Console, KeyState};
+use gba_image::{Bios, Cartridge, ConsoleImages};
+use gba_io::{Board, Counts, MemoryName, Room};
+use gba_serial::Transfer;
+use link_node::{Incoming, LinkMode, Node, Signal};
+use link_trials::may_take;
+use std::alloc::Global;
+use std::process::Abort;
+use std::test::Fail;
+
+/// A place on a cable with one delay, in cycles.
+#[derive(Clone, Copy)]
+pub struct Seat {
+    pub player: u32,
+    pub count: u32,
+    pub delay: u64,
+}
+
+/// The only console of a cable.
+pub const ALONE: Seat = Seat {
+    player: 0,
+    count: 1,
+    delay: 512,
+};
+
+/// A BIOS that begins with these bytes and is 0 behind them.
+fn bios_of(mut bytes: Vec<u8>) -> Result<Bios, Fail> {
+    bytes.resize(16_384, 0)?;
+    Ok(Bios::check(bytes).ok().ok_or("no BIOS")?)
+}
+
+/// These words behind what there is.
+fn add_words(bytes: &mut Vec<u8>, words: &[u32]) -> Result<(), Fail> {
+    for word in words {
+        bytes.extend_from_slice(&word.to_le_bytes())?;
+    }
+    Ok(())
+}
+
+/// Images of a BIOS alone.
+fn images_of(bios: Bios) -> ConsoleImages {
+    ConsoleImages {
+        bios,
+        cart: None,
+        save: None,
+    }
+}
+
+/// A BIOS of these words.
+pub fn images_of_words(alloc: Global, words: &[u32]) -> Result<ConsoleImages, Fail> {
+    let mut bytes = Vec::new(alloc);
+    add_words(&mut bytes, words)?;
+    Ok(images_of(bios_of(bytes)?))
+}
+
+/// A BIOS of an assembled source.
+pub fn images_of_source(alloc: Global, source: &[u8]) -> Result<ConsoleImages, Fail> {
+    let Ok(bytes) = assemble(alloc, source) else {
+        return Err("no source")?;
+    };
+    Ok(images_of(bios_of(bytes)?))
+}
+
+/// A cartridge with these words from C0h up, and 0 elsewhere but in its header.
+pub fn cartridge_of(alloc: Global, words: &[u32]) -> Result<Cartridge, Fail> {
+    let mut bytes = vec![in alloc; 0; 0xC0]?;
+    bytes[0xB2] = 0x96;
+    bytes[0xBD] = 0x51;
+    add_words(&mut bytes, words)?;
+    Ok(Cartridge::check(bytes).ok().ok_or("no cartridge")?)
+}
+
+/// A console that is played.
+#[derive(Drop)]
+pub struct Play {
+    console: Console,
+}
+
+impl Play {
+    /// A console at its reset, which is off below a clock.
+    pub fn new(
+        alloc: Global,
+        seat: Seat,
+        off: u64,
+        images: ConsoleImages,
+        keys: &[KeyState],
+        room: Room,
+    ) -> Result<Play, Fail> {
+        let Seat {
+            player,
+            count,
+            delay,
+        } = seat;
+        if player >= count || count > 4 || delay == 0 || delay > 1024 {
+            return Err("no seat")?;
+        }
+        if room.until > 1 << 24 || off > 1 << 38 {
+            return Err("a late clock")?;
+        }
+        let keys = Vec::from_slice(alloc, keys)?;
+        let round = 2 * delay;
+        Ok(Play {
+            console: Console::new(alloc, player, count, round, off, images, keys, room)?,
+        })
+    }
+
+    pub fn clock(&self) -> u64 {
+        self.console.clock()
+    }
+
+    pub fn was(&self) -> u64 {
+        self.console.was()
+    }
+
+    /// All registers, in the order of the state file.
+    pub fn registers(&self) -> [u32; 37] {
+        self.console.all()
+    }
+
+    /// One of them.
+    pub fn register<R: Abort>(&self, rt: &R, place: usize) -> u32 {
+        let registers = self.console.all();
+        assert!(rt; place < 37);
+        registers[place]
+    }
+
+    pub fn counts(&self) -> Counts {
+        self.console.counts()
+    }
+
+    pub fn frames(&self) -> &[u8] {
+        self.console.frames()
+    }
+
+    pub fn samples(&self) -> &[u8] {
+        self.console.samples()
+    }
+
+    pub fn words(&self) -> &[Transfer] {
+        self.console.words()
+    }
+
+    fn board(&self) -> &Board {
+        self.console.board()
+    }
+
+    /// A halfword of the I/O registers as it is stored.
+    pub fn io_half(&self, offset: u32) -> u16 {
+        self.board().core.io_half(offset)
+    }
+
+    pub fn memory(&self, name: MemoryName) -> &[u8] {
+        self.board().core.memory(name)
+    }
+
+    pub fn is_halted(&self) -> bool {
+        self.board().core.halted()
+    }
+
+    /// Whether an enabled interrupt is requested.
+    pub fn is_pending(&self) -> bool {
+        self.board().core.pending()
+    }
+
+    /// Whether a DMA channel's run goes on.
+    pub fn is_active<R: Abort>(&self, rt: &R, channel: u32) -> bool {
+        assert!(rt; channel < 4);
+        self.board().core.channel(channel).active
+    }
+
+    /// The line and the dot of the picture.
+    pub fn place(&self) -> (u32, u32) {
+        let place = self.board().core.place();
+        (place.line, place.dot)
+    }
+
+    /// The mode that a player told last, as far as this console has learned it.
+    pub fn known<R: Abort>(&self, rt: &R, player: u32) -> LinkMode {
+        assert!(rt; player < 4);
+        self.board().core.serial().known(player)
+    }
+
+    /// A step.
+    pub fn step<R: Abort>(&mut self, rt: &R) {
+        assert!(rt; self.console.clock() < self.console.until());
+        self.console.step();
+    }
+
+    /// A step that takes these signals.
+    pub fn turn<R: Abort>(&mut self, rt: &R, due: &[Incoming]) -> Option<Signal> {
+        assert!(rt; self.console.clock() < self.console.until());
+        assert!(rt; may_take(due, self.console.was(), self.console.clock()));
+        self.console.turn(due)
+    }
+
+    /// Makes steps up to a clock.
+    pub fn run<R: Abort>(&mut self, rt: &R, until: u64) {
+        assert!(rt; until <= self.console.until());
+        self.console.run_to(until);
+    }
+
+    /// Empties the lists of what it made, and makes this the end of their room.
+    pub fn forget<R: Abort>(&mut self, rt: &R, until: u64) {
+        assert!(rt; self.console.until() <= until && until <= 1 << 25);
+        assert!(rt; until <= self.console.clock() + 16_777_216);
+        self.console.forget(until);
+    }
+
+    /// The end of the room.
+    pub fn until(&self) -> u64 {
+        self.console.until()
+    }
+}
+
+/// Runs to a clock, and asserts the clock that it comes to.
+pub fn comes_to<R: Abort>(rt: &R, console: &mut Play, until: u64, clock: u64) {
+    console.run(rt, until);
+    assert_eq!(rt; console.clock(), clock, "until {until}");
+}
+
+/// Some registers, by their places in the list of all of them, have these numbers.
+pub fn has<R: Abort>(rt: &R, console: &Play, registers: &[(usize, u32)]) {
+    let all = console.registers();
+    for (place, number) in registers {
+        assert_eq!(rt; all.get(*place), Some(number), "at {place}");
+    }
+}
+
+/// Some bytes of a memory, by their places.
+pub fn has_bytes<R: Abort>(rt: &R, memory: &[u8], bytes: &[(usize, u8)]) {
+    for (place, byte) in bytes {
+        assert_eq!(rt; memory.get(*place), Some(byte), "at {place}");
+    }
+}
