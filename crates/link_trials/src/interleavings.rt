@@ -4,7 +4,7 @@
 ghost use Rattle.link_node.specs.Delays.{AreDelays};
 ghost use Rattle.link_node.specs.Due.{IsDue, InOrder};
 
-use crate::plain::LIMIT;
+use crate::plain::{LIMIT, taken};
 use crate::tests::is_live;
 use crate::trial::{Trial, TrialShell, may_go};
 use crate::{Mixer, drawn, may_take};
@@ -57,6 +57,29 @@ fn consoles(alloc: Global, nodes: &[Mixer], sent: &[Sent]) -> Result<Vec<Console
     Ok(all)
 }
 
+/// Adds what a console takes of the signals of a sender.
+fn take_of(
+    rt: &impl Abort,
+    due: &mut Vec<Incoming>,
+    sender: usize,
+    signals: &[Signal],
+    player: usize,
+    node: &Mixer,
+    delays: &Delays,
+) -> Result<(), Fail> {
+    assert!(rt; sender < 4);
+    for signal in signals {
+        let one = Sent {
+            sender: sender as u32,
+            signal: *signal,
+        };
+        if let Some(incoming) = taken(rt, &one, player, node, delays) {
+            due.push(incoming)?;
+        }
+    }
+    Ok(())
+}
+
 /// What a console takes of the signals that it has seen.
 fn due_of(
     rt: &impl Abort,
@@ -66,22 +89,12 @@ fn due_of(
     delays: &Delays,
 ) -> Result<Vec<Incoming>, Fail> {
     let mut due = Vec::new(alloc);
-    assert!(rt; i < all.len() && all.len() <= 4);
+    assert!(rt; i < all.len());
     let me = &all[i];
-    for j in 0..all.len() {
-        let between = delays.rows[j][i];
-        assert!(rt; j < me.got.len() && between <= 1024);
-        for signal in all[j].sent.iter().take(me.got[j]) {
-            assert!(rt; signal.clock < 1 << 40);
-            let arrival = signal.clock + between;
-            if j != i && me.node.was < arrival && arrival <= me.node.clock {
-                due.push(Incoming {
-                    sender: j as u32,
-                    arrival,
-                    signal: *signal,
-                })?;
-            }
-        }
+    for (j, peer) in all.iter().enumerate() {
+        assert!(rt; j < me.got.len() && me.got[j] <= peer.sent.len());
+        let seen = &peer.sent[..me.got[j]];
+        take_of(rt, &mut due, j, seen, i, &me.node, delays)?;
     }
     due.sort_by_key(|one| (one.arrival, one.sender))?;
     Ok(due)

@@ -1,5 +1,6 @@
 //! A plain program for runs in the global order: it keeps every signal ever sent and scans them all in each step.
 
+use crate::tests::arrival;
 use crate::{Mixer, cycles, mix_of, signal_of};
 use link_core::Sent;
 use link_node::{Delays, Incoming};
@@ -10,31 +11,54 @@ use std::test::Fail;
 /// No node of the tests has a greater limit.
 pub const LIMIT: u64 = 1 << 20;
 
-/// The signals of a plain run that player `player` takes in a step with these clocks.
+/// What a player takes of a signal, where it takes it.
+pub fn taken(
+    rt: &impl Abort,
+    one: &Sent,
+    player: usize,
+    node: &Mixer,
+    delays: &Delays,
+) -> Option<Incoming> {
+    let arrival = arrival(rt, one, player, delays);
+    if one.sender as usize == player || arrival <= node.was || node.clock < arrival {
+        return None;
+    }
+    Some(Incoming {
+        sender: one.sender,
+        arrival,
+        signal: one.signal,
+    })
+}
+
+/// The signals of a plain run that a player takes.
 fn plain_due(
     rt: &impl Abort,
     alloc: Global,
     sent: &[Sent],
-    player: u32,
+    player: usize,
     node: &Mixer,
     delays: &Delays,
 ) -> Result<Vec<Incoming>, Fail> {
     let mut due = Vec::new(alloc);
     for one in sent {
-        assert!(rt; one.sender < 4 && player < 4);
-        let between = delays.rows[one.sender as usize][player as usize];
-        assert!(rt; one.signal.clock < 1 << 40 && between <= 1024);
-        let arrival = one.signal.clock + between;
-        if one.sender != player && node.was < arrival && arrival <= node.clock {
-            due.push(Incoming {
-                sender: one.sender,
-                arrival,
-                signal: one.signal,
-            })?;
+        if let Some(incoming) = taken(rt, one, player, node, delays) {
+            due.push(incoming)?;
         }
     }
     due.sort_by_key(|one| (one.arrival, one.sender))?;
     Ok(due)
+}
+
+/// A node after a step that takes these signals.
+fn plain_turn(rt: &impl Abort, node: &Mixer, due: &[Incoming]) -> Mixer {
+    assert!(rt; node.clock < node.limit && node.limit <= LIMIT);
+    let state = mix_of(node.state, due);
+    Mixer {
+        state,
+        clock: node.clock + cycles(state),
+        was: node.clock,
+        limit: node.limit,
+    }
 }
 
 /// The player with the least clock, at a tie the least number.
@@ -57,45 +81,48 @@ pub struct Plain {
     pub steps: Vec<(usize, Mixer)>,
 }
 
+/// One step of the plain program.
+fn plain_step(
+    rt: &impl Abort,
+    alloc: Global,
+    plain: &mut Plain,
+    nodes: &mut [Mixer],
+    player: usize,
+    delays: &Delays,
+) -> Result<(), Fail> {
+    assert!(rt; player < nodes.len() && player < 4);
+    let node = nodes[player];
+    let due = plain_due(rt, alloc, &plain.sent, player, &node, delays)?;
+    let after = plain_turn(rt, &node, &due);
+    if let Some(signal) = signal_of(after.state, node.clock) {
+        plain.sent.push(Sent {
+            sender: player as u32,
+            signal,
+        })?;
+    }
+    nodes[player] = after;
+    plain.steps.push((player, after))?;
+    Ok(())
+}
+
 /// The plain program: it steps the node with the least clock until every clock is at least `until`.
 pub fn plain_run(
     rt: &impl Abort,
     alloc: Global,
-    nodes: &mut Vec<Mixer>,
+    nodes: &mut [Mixer],
     delays: &Delays,
     until: u64,
 ) -> Result<Plain, Fail> {
-    let mut sent = Vec::new(alloc);
-    let mut steps = Vec::new(alloc);
+    let mut plain = Plain {
+        sent: Vec::new(alloc),
+        steps: Vec::new(alloc),
+    };
     for _ in 0..100_000 {
         let least = plain_least(nodes);
-        assert!(rt; least < nodes.len() && least < 4);
-        let Mixer {
-            state,
-            clock,
-            was: _,
-            limit,
-        } = nodes[least];
-        if clock >= until {
-            return Ok(Plain { sent, steps });
+        if nodes.get(least).is_none_or(|node| node.clock >= until) {
+            break;
         }
-        let due = plain_due(rt, alloc, &sent, least as u32, &nodes[least], delays)?;
-        let state = mix_of(state, &due);
-        if let Some(signal) = signal_of(state, clock) {
-            sent.push(Sent {
-                sender: least as u32,
-                signal,
-            })?;
-        }
-        assert!(rt; clock < limit && limit <= LIMIT);
-        let node = Mixer {
-            state,
-            clock: clock + cycles(state),
-            was: clock,
-            limit,
-        };
-        nodes[least] = node;
-        steps.push((least, node))?;
+        plain_step(rt, alloc, &mut plain, nodes, least, delays)?;
     }
-    Ok(Plain { sent, steps })
+    Ok(plain)
 }
