@@ -1,15 +1,15 @@
 //! The board by itself: registers, prices, timers, keys, the halt, DMA, direct sound and the picture's place, by
 //! moves and what they must show.
 
-use crate::cable::{bios_of, forget};
+use crate::bench::{Bench, Seat};
 use Move::{
     Advance, Begins, Calm, Clock, Halts, Kept, Keys, Left, Lines, Load, Master, Pair, Pending,
     Place, Price, Queue, Reference, Store, Timer, Unit, Wakes,
 };
+use gba_bus::Width;
 use gba_bus::Width::{Byte, Half, Word};
-use gba_bus::{Bus, Width};
-use gba_image::ConsoleImages;
-use gba_io::{Board, MemoryName, Room};
+use gba_io::{MemoryName, Room};
+use gba_ppu_reg::{Position, Reference as Point};
 use std::alloc::Global;
 use std::process::Abort;
 use std::test::Fail;
@@ -69,58 +69,37 @@ enum Move {
     Reference(u32, u32, u32),
 }
 
-fn board_of(alloc: Global) -> Result<Board, Fail> {
-    let images = ConsoleImages {
-        bios: bios_of(alloc, 0x1234_5678)?,
-        cart: None,
-        save: None,
+/// A board of one console, whose BIOS begins with a word that isn't 0.
+fn bench_of(alloc: Global) -> Result<Bench, Fail> {
+    let seat = Seat {
+        player: 0,
+        count: 1,
+        delay: 512,
     };
-    Ok(Board::new(alloc, 0, 1, 1024, images, ROOM)?)
+    Bench::of(alloc, 0x1234_5678, seat, ROOM)
 }
 
-fn advance<R: Abort>(rt: &R, board: &mut Board, cycles: u32) {
-    assert!(rt; cycles <= 512);
-    let in_step = board.is_in_step();
-    assert!(rt; in_step);
-    assert!(rt; board.made.until() <= 1_000_000);
-    assert!(rt; board.core.clock() + u64::from(cycles) <= board.made.until() + 511);
-    board.advance(cycles);
-}
-
-fn advance_lines<R: Abort>(rt: &R, board: &mut Board, lines: u32) {
+fn advance_lines<R: Abort>(rt: &R, bench: &mut Bench, lines: u32) {
     for _ in 0..lines {
-        advance(rt, board, 512);
-        advance(rt, board, 512);
-        advance(rt, board, 208);
+        bench.advance(rt, 512);
+        bench.advance(rt, 512);
+        bench.advance(rt, 208);
     }
 }
 
-fn reference_is<R: Abort>(rt: &R, board: &Board, background: u32, x: u32, y: u32) {
-    assert!(rt; 2 <= background);
-    assert!(rt; background <= 3);
-    let point = board.core.reference(background);
-    assert_eq!(rt; (point.x, point.y), (x, y));
+fn load<R: Abort>(rt: &R, bench: &mut Bench, offset: u32, width: Width, value: u32) {
+    let got = bench.load(0x0400_0000 | offset, width);
+    assert_eq!(rt; got, (value, 1), "at {offset}");
 }
 
-fn place_is<R: Abort>(rt: &R, board: &Board, line: u32, dot: u32) {
-    let place = board.core.place();
-    assert_eq!(rt; (place.line, place.dot), (line, dot));
+fn queue_is<R: Abort>(rt: &R, bench: &Bench, queue: u32, held: usize, current: u8) {
+    assert_eq!(rt; bench.queue(rt, queue).len(), held);
+    assert_eq!(rt; bench.queue_current(rt, queue), current);
 }
 
-fn units_left<R: Abort>(rt: &R, board: &Board, channel: u32) -> u32 {
-    assert!(rt; channel < 4);
-    board.core.channel(channel).left
-}
-
-fn queue_is<R: Abort>(rt: &R, board: &Board, queue: u32, held: usize, current: u8) {
-    assert!(rt; queue < 2);
-    assert_eq!(rt; board.core.queue(queue).len(), held);
-    assert_eq!(rt; board.core.queue_current(queue), current);
-}
-
-fn pair_is<R: Abort>(rt: &R, board: &Board, count: usize, left: i16, right: i16) {
-    let samples = board.made.samples();
-    assert_eq!(rt; board.counts().samples, count as u64);
+fn pair_is<R: Abort>(rt: &R, bench: &Bench, count: usize, left: i16, right: i16) {
+    let samples = bench.samples();
+    assert_eq!(rt; bench.counts().samples, count as u64);
     assert_eq!(rt; samples.len() / 4, count);
     let [.., a, b, c, d] = samples else {
         return assert!(rt; false);
@@ -131,53 +110,59 @@ fn pair_is<R: Abort>(rt: &R, board: &Board, count: usize, left: i16, right: i16)
     );
 }
 
-fn timer_is<R: Abort>(rt: &R, board: &Board, number: u32, counter: u16, phase: u16) {
-    assert!(rt; number < 4);
-    let timer = board.core.timer(number);
+fn timer_is<R: Abort>(rt: &R, bench: &Bench, number: u32, counter: u16, phase: u16) {
+    let timer = bench.timer(rt, number);
     assert_eq!(rt; (timer.counter, timer.phase), (counter, phase));
 }
 
-fn play<R: Abort>(rt: &R, board: &mut Board, one: Move) {
+/// Looks at what must hold of the timers, the sound and the picture.
+fn look_at_devices<R: Abort>(rt: &R, bench: &Bench, one: Move) {
     match one {
-        Store(offset, width, value) => {
-            assert_eq!(rt;
-                board.core.store(0x0400_0000 | offset, width, value, false),
-                1
-            );
+        Timer(number, counter, phase) => timer_is(rt, bench, number, counter, phase),
+        Queue(queue, held, current) => queue_is(rt, bench, queue, held, current),
+        Pair(count, left, right) => pair_is(rt, bench, count, left, right),
+        Place(line, dot) => assert_eq!(rt; bench.place(), Position { line, dot }),
+        Reference(background, x, y) => {
+            assert_eq!(rt; bench.reference(rt, background), Point { x, y });
         }
-        Load(offset, width, value) => {
-            let address = 0x0400_0000 | offset;
-            assert_eq!(rt;
-                board.core.load(0, address, width, false),
-                (value, 1),
-                "at {offset}"
-            );
-        }
-        Kept(offset, half) => assert_eq!(rt; board.core.io_half(offset), half),
-        Advance(cycles) => advance(rt, board, cycles),
-        Keys(pressed) => board.core.set_keys(pressed),
-        Begins => board.core.begin(),
-        Wakes => board.core.wake(),
-        Halts(halted) => assert_eq!(rt; board.core.halted(), halted),
-        Pending(pending) => assert_eq!(rt; board.core.pending(), pending),
-        Master(master) => assert_eq!(rt; board.core.master(), master),
-        Calm(calm) => assert_eq!(rt; board.core.is_calm(), calm),
-        Price(cycles) => assert_eq!(rt; board.core.code_price(0x0800_0000, Half, false), cycles),
-        Clock(clock) => assert_eq!(rt; board.core.clock(), clock),
-        Timer(number, counter, phase) => timer_is(rt, board, number, counter, phase),
-        Unit(cycles) => assert_eq!(rt; board.core.dma_unit(), cycles),
-        Left(channel, units) => assert_eq!(rt; units_left(rt, board, channel), units),
-        Queue(queue, held, current) => queue_is(rt, board, queue, held, current),
-        Pair(count, left, right) => pair_is(rt, board, count, left, right),
-        Lines(lines) => advance_lines(rt, board, lines),
-        Place(line, dot) => place_is(rt, board, line, dot),
-        Reference(background, x, y) => reference_is(rt, board, background, x, y),
+        _ => panic!(rt; "a move that nobody makes"),
     }
 }
 
-fn play_all<R: Abort>(rt: &R, board: &mut Board, moves: &[Move]) {
+/// Looks at what must hold.
+fn look<R: Abort>(rt: &R, bench: &Bench, one: Move) {
+    match one {
+        Kept(offset, half) => assert_eq!(rt; bench.io_half(offset), half),
+        Halts(halted) => assert_eq!(rt; bench.halted(), halted),
+        Pending(pending) => assert_eq!(rt; bench.pending(), pending),
+        Master(master) => assert_eq!(rt; bench.master(), master),
+        Calm(calm) => assert_eq!(rt; bench.is_calm(), calm),
+        Price(cycles) => assert_eq!(rt; bench.code_price(0x0800_0000, Half), cycles),
+        Clock(clock) => assert_eq!(rt; bench.clock(), clock),
+        Left(channel, units) => assert_eq!(rt; bench.units_left(rt, channel), units),
+        other => look_at_devices(rt, bench, other),
+    }
+}
+
+fn play<R: Abort>(rt: &R, bench: &mut Bench, one: Move) {
+    match one {
+        Store(offset, width, value) => {
+            assert_eq!(rt; bench.store(0x0400_0000 | offset, width, value), 1);
+        }
+        Load(offset, width, value) => load(rt, bench, offset, width, value),
+        Advance(cycles) => bench.advance(rt, cycles),
+        Lines(lines) => advance_lines(rt, bench, lines),
+        Keys(pressed) => bench.set_keys(pressed),
+        Begins => bench.begin(),
+        Wakes => bench.wake(),
+        Unit(cycles) => assert_eq!(rt; bench.dma_unit(), cycles),
+        other => look(rt, bench, other),
+    }
+}
+
+fn play_all<R: Abort>(rt: &R, bench: &mut Bench, moves: &[Move]) {
     for one in moves {
-        play(rt, board, *one);
+        play(rt, bench, *one);
     }
 }
 
@@ -641,79 +626,127 @@ static MOVES: [&[Move]; 27] = [
 #[test]
 fn registers_keep_their_table(rt: HostRuntime) -> Result<(), Fail> {
     for moves in MOVES {
-        let mut board = board_of(rt.alloc())?;
-        play_all(&rt, &mut board, moves);
+        let mut bench = bench_of(rt.alloc())?;
+        play_all(&rt, &mut bench, moves);
     }
     Ok(())
 }
 
+/// A unit that copies the BIOS's first word to the inner RAM.
+static FROM_BIOS: [Move; 4] = [
+    Store(0x0D4, Word, 0x0000_0000),
+    Store(0x0D8, Word, 0x0300_0000),
+    Store(0x0DC, Word, 0x8400_0001),
+    Unit(Some(4)),
+];
+
 /// A DMA unit reads 0 in the BIOS, which begins with another word.
 #[test]
 fn a_unit_reads_no_bios(rt: HostRuntime) -> Result<(), Fail> {
-    let mut board = board_of(rt.alloc())?;
-    board.core.store(0x0300_0000, Word, 0xFFFF_FFFF, false);
-    assert_eq!(rt; board.core.load(0, 0, Word, false), (0x1234_5678, 1));
-    for &one in &[
-        Store(0x0D4, Word, 0x0000_0000),
-        Store(0x0D8, Word, 0x0300_0000),
-        Store(0x0DC, Word, 0x8400_0001),
-        Unit(Some(4)),
-    ] {
-        play(&rt, &mut board, one);
-    }
-    assert_eq!(rt; board.core.load(0, 0x0300_0000, Word, false), (0, 1));
+    let mut bench = bench_of(rt.alloc())?;
+    bench.store(0x0300_0000, Word, 0xFFFF_FFFF);
+    assert_eq!(rt; bench.load(0, Word), (0x1234_5678, 1));
+    play_all(&rt, &mut bench, &FROM_BIOS);
+    assert_eq!(rt; bench.load(0x0300_0000, Word), (0, 1));
     Ok(())
+}
+
+/// A memory, its length and its first byte.
+type Memory = (MemoryName, usize, Option<u8>);
+
+static MEMORIES: [Memory; 7] = [
+    (MemoryName::Io, 0, None),
+    (MemoryName::Wram, 0x4_0000, Some(0x78)),
+    (MemoryName::Iwram, 0x8000, Some(0)),
+    (MemoryName::Palette, 0x400, Some(0)),
+    (MemoryName::Vram, 0x1_8000, Some(0)),
+    (MemoryName::Oam, 0x400, Some(0)),
+    (MemoryName::Backup, 0x8000, Some(0xFF)),
+];
+
+fn memory_is<R: Abort>(rt: &R, bench: &Bench, (name, length, first): Memory) {
+    let bytes = bench.memory(name);
+    assert_eq!(rt; bytes.len(), length);
+    assert_eq!(rt; bytes.first().copied(), first);
 }
 
 /// Memories have their sizes, and what stands in none of them reads 0.
 #[test]
 fn memories_have_their_names(rt: HostRuntime) -> Result<(), Fail> {
-    let mut board = board_of(rt.alloc())?;
-    board.core.store(0x0300_0002, Byte, 0x5A, false);
-    board.core.store(0x0200_0000, Word, 0x1234_5678, false);
-    for &(name, length, first) in &[
-        (MemoryName::Io, 0, 0),
-        (MemoryName::Wram, 0x4_0000, 0x78),
-        (MemoryName::Iwram, 0x8000, 0),
-        (MemoryName::Palette, 0x400, 0),
-        (MemoryName::Vram, 0x1_8000, 0),
-        (MemoryName::Oam, 0x400, 0),
-        (MemoryName::Backup, 0x8000, 0xFF),
-    ] {
-        let bytes = board.core.memory(name);
-        assert_eq!(rt; bytes.len(), length);
-        if let Some(byte) = bytes.first() {
-            assert_eq!(rt; *byte, first);
-        }
+    let mut bench = bench_of(rt.alloc())?;
+    bench.store(0x0300_0002, Byte, 0x5A);
+    bench.store(0x0200_0000, Word, 0x1234_5678);
+    for &memory in &MEMORIES {
+        memory_is(&rt, &bench, memory);
     }
-    assert_eq!(rt;
-        board.core.load(0, 0x0300_0000, Word, false),
-        (0x005A_0000, 1)
-    );
-    assert_eq!(rt; board.core.load(0, 0x0400_0400, Word, false), (0, 1));
-    assert_eq!(rt; board.core.code(0x0400_0130, Half), 0x03FF);
+    assert_eq!(rt; bench.load(0x0300_0000, Word), (0x005A_0000, 1));
+    assert_eq!(rt; bench.load(0x0400_0400, Word), (0, 1));
+    assert_eq!(rt; bench.code(0x0400_0130, Half), 0x03FF);
     Ok(())
 }
 
-/// After so many lines more, the frames and the pairs that are counted and those that are kept since the lists were emptied.
+/// So many lines more, and then the frames and the pairs that are counted and those that are kept since the lists were
+/// emptied.
+#[derive(Clone, Copy)]
+struct Stretch {
+    lines: u32,
+    frames: u64,
+    kept_frames: usize,
+    pairs: u64,
+    kept_pairs: usize,
+}
+
+static STRETCHES: [Stretch; 4] = [
+    Stretch {
+        lines: 160,
+        frames: 1,
+        kept_frames: 1,
+        pairs: 385,
+        kept_pairs: 385,
+    },
+    Stretch {
+        lines: 228,
+        frames: 2,
+        kept_frames: 1,
+        pairs: 933,
+        kept_pairs: 548,
+    },
+    Stretch {
+        lines: 227,
+        frames: 2,
+        kept_frames: 0,
+        pairs: 1479,
+        kept_pairs: 546,
+    },
+    Stretch {
+        lines: 1,
+        frames: 3,
+        kept_frames: 1,
+        pairs: 1482,
+        kept_pairs: 3,
+    },
+];
+
+fn lists_are<R: Abort>(rt: &R, bench: &Bench, stretch: Stretch) {
+    let counts = bench.counts();
+    assert_eq!(rt;
+        (counts.frames, counts.samples),
+        (stretch.frames, stretch.pairs)
+    );
+    let bytes = stretch.kept_frames.saturating_mul(76_800);
+    assert_eq!(rt; bench.frames().len(), bytes);
+    let bytes = stretch.kept_pairs.saturating_mul(4);
+    assert_eq!(rt; bench.samples().len(), bytes);
+}
+
 #[test]
 fn lists_are_forgotten(rt: HostRuntime) -> Result<(), Fail> {
-    let mut board = board_of(rt.alloc())?;
-    for &(lines, frames, kept_frames, pairs, kept_pairs) in &[
-        (160, 1, 1, 385, 385),
-        (228, 2, 1, 933, 548),
-        (227, 2, 0, 1479, 546),
-        (1, 3, 1, 1482, 3),
-    ] {
-        advance_lines(&rt, &mut board, lines);
-        assert_eq!(rt;
-            (board.counts().frames, board.counts().samples),
-            (frames, pairs)
-        );
-        assert_eq!(rt; board.made.frames().len(), 76_800 * kept_frames);
-        assert_eq!(rt; board.made.samples().len(), 4 * kept_pairs);
-        forget(&rt, &mut board);
-        assert!(rt; board.made.frames().is_empty() && board.made.samples().is_empty());
+    let mut bench = bench_of(rt.alloc())?;
+    for &stretch in &STRETCHES {
+        advance_lines(&rt, &mut bench, stretch.lines);
+        lists_are(&rt, &bench, stretch);
+        bench.forget(&rt);
+        assert!(rt; bench.frames().is_empty() && bench.samples().is_empty());
     }
     Ok(())
 }

@@ -1,12 +1,12 @@
 //! The serial unit on the board: its registers at every width, and what the cable does, by moves and what they must show.
 
+use crate::bench::{Bench, Seat};
 use Move::{
     Advance, Begins, Calm, Count, Ends, Kept, Load, Reply, Silent, Start, Store, Tells, Word,
 };
+use gba_bus::Width;
 use gba_bus::Width::{Byte, Half};
-use gba_bus::{Bus, Width};
-use gba_image::{Bios, ConsoleImages};
-use gba_io::{Board, Room};
+use gba_io::Room;
 use gba_serial::Transfer;
 use link_node::LinkMode::{self, Multi, Normal8, Normal32, Other};
 use link_node::{Incoming, Signal};
@@ -44,67 +44,22 @@ enum Move {
     Word(usize, Transfer),
 }
 
-/// A BIOS of this word and zeros.
-pub(crate) fn bios_of(alloc: Global, first: u32) -> Result<Bios, Fail> {
-    let mut bytes = Vec::from_slice(alloc, &first.to_le_bytes())?;
-    for _ in bytes.len()..16_384 {
-        bytes.push(0)?;
-    }
-    Ok(Bios::check(bytes).ok().ok_or("no BIOS")?)
-}
-
-/// A board of a player of so many on a cable with a delay. Room for a million cycles.
-fn board_of(alloc: Global, seat: (u32, u32, u64), words: bool) -> Result<Board, Fail> {
-    let (player, count, delay) = seat;
-    let images = ConsoleImages {
-        bios: bios_of(alloc, 0)?,
-        cart: None,
-        save: None,
-    };
+/// A board of a player. Room for a million cycles.
+fn bench_of(alloc: Global, seat: Seat, words: bool) -> Result<Bench, Fail> {
     let room = Room {
         until: 1_000_000,
         frames: false,
         samples: false,
         words,
     };
-    if player < count && count <= 4 && 1 <= delay && delay <= 1024 {
-        Ok(Board::new(alloc, player, count, 2 * delay, images, room)?)
-    } else {
-        Err("no seat")?
-    }
+    Bench::of(alloc, 0, seat, room)
 }
 
-fn advance<R: Abort>(rt: &R, board: &mut Board, cycles: u32) {
+/// Moves the devices cycle by cycle.
+fn advance<R: Abort>(rt: &R, bench: &mut Bench, cycles: u32) {
     for _ in 0..cycles {
-        let in_step = board.is_in_step();
-        assert!(rt; in_step);
-        assert!(rt; board.made.until() <= 1_000_000);
-        assert!(rt; board.core.clock() < board.made.until());
-        board.advance(1);
+        bench.advance(rt, 1);
     }
-}
-
-fn take<R: Abort>(rt: &R, board: &mut Board, due: Incoming) {
-    let fits = board.next_end_fits();
-    assert!(rt; fits);
-    assert!(rt; board.ended.until() <= 1_000_000 && due.arrival < board.ended.until());
-    assert!(rt; due.signal.clock < due.arrival);
-    board.take(&due);
-}
-
-fn end<R: Abort>(rt: &R, board: &mut Board) {
-    let fits = board.next_end_fits();
-    assert!(rt; fits);
-    assert!(rt; board.core.clock() < board.ended.until());
-    board.end_due();
-}
-
-/// Empties the lists.
-pub(crate) fn forget<R: Abort>(rt: &R, board: &mut Board) {
-    let in_step = board.is_in_step();
-    assert!(rt; in_step);
-    assert!(rt; board.core.clock() <= 1_000_000 && board.counts().words <= 1_000_000);
-    board.forget(1_000_000);
 }
 
 fn start(clock: u64, mode: LinkMode, start: Option<(u8, u32)>, reply: Option<u32>) -> Signal {
@@ -124,78 +79,83 @@ fn incoming(arrival: u64, sender: u32, signal: Signal) -> Incoming {
     }
 }
 
-fn load<R: Abort>(rt: &R, board: &mut Board, offset: u32, width: Width, value: u32) {
-    let got = board.core.load(0, 0x0400_0000 | offset, width, false);
+fn load<R: Abort>(rt: &R, bench: &mut Bench, offset: u32, width: Width, value: u32) {
+    let got = bench.load(0x0400_0000 | offset, width);
     assert_eq!(rt; got, (value, 1), "at {offset}");
 }
 
-fn store<R: Abort>(rt: &R, board: &mut Board, offset: u32, width: Width, value: u32) {
-    let price = board.core.store(0x0400_0000 | offset, width, value, false);
-    assert_eq!(rt; price, 1);
+fn store<R: Abort>(rt: &R, bench: &mut Bench, offset: u32, width: Width, value: u32) {
+    assert_eq!(rt; bench.store(0x0400_0000 | offset, width, value), 1);
 }
 
-fn tells<R: Abort>(rt: &R, board: &Board, signal: Option<Signal>) {
-    let told = board.outgoing();
+fn tells<R: Abort>(rt: &R, bench: &Bench, signal: Option<Signal>) {
+    let told = bench.outgoing();
     assert!(rt; told == signal, "{told:?} told");
 }
 
-fn word_is<R: Abort>(rt: &R, board: &Board, place: usize, transfer: Transfer) {
-    let word = board.words().get(place).copied();
+fn word_is<R: Abort>(rt: &R, bench: &Bench, place: usize, transfer: Transfer) {
+    let word = bench.words().get(place).copied();
     assert!(rt; word == Some(transfer), "{word:?} kept");
 }
 
-fn counts<R: Abort>(rt: &R, board: &Board, count: u64, kept: usize) {
-    assert_eq!(rt; board.counts().words, count);
-    assert_eq!(rt; board.words().len(), kept);
+fn counts<R: Abort>(rt: &R, bench: &Bench, count: u64, kept: usize) {
+    assert_eq!(rt; bench.counts().words, count);
+    assert_eq!(rt; bench.words().len(), kept);
 }
 
-fn hear<R: Abort>(rt: &R, board: &mut Board, one: Move) {
+fn hear<R: Abort>(rt: &R, bench: &mut Bench, one: Move) {
     match one {
         Start(arrival, sender, clock, mode, speed, word) => {
             let signal = start(clock, mode, Some((speed, word)), None);
-            take(rt, board, incoming(arrival, sender, signal));
+            bench.take(rt, &incoming(arrival, sender, signal));
         }
         Reply(arrival, sender, clock, mode, word) => {
             let signal = start(clock, mode, None, Some(word));
-            take(rt, board, incoming(arrival, sender, signal));
+            bench.take(rt, &incoming(arrival, sender, signal));
         }
-        Ends => end(rt, board),
+        Ends => bench.end_due(rt),
         _ => {}
     }
 }
 
-fn show<R: Abort>(rt: &R, board: &Board, one: Move) {
+fn show<R: Abort>(rt: &R, bench: &Bench, one: Move) {
     match one {
-        Kept(offset, half) => assert_eq!(rt; board.core.io_half(offset), half),
-        Calm(calm) => assert_eq!(rt; board.core.is_calm(), calm),
+        Kept(offset, half) => assert_eq!(rt; bench.io_half(offset), half),
+        Calm(calm) => assert_eq!(rt; bench.is_calm(), calm),
         Tells(clock, mode, begun, reply) => tells(
             rt,
-            board,
+            bench,
             Some(start(clock, mode, begun, reply)),
         ),
-        Silent => tells(rt, board, None),
-        Count(count, kept) => counts(rt, board, count, kept),
-        Word(place, transfer) => word_is(rt, board, place, transfer),
+        Silent => tells(rt, bench, None),
+        Count(count, kept) => counts(rt, bench, count, kept),
+        Word(place, transfer) => word_is(rt, bench, place, transfer),
         _ => {}
     }
 }
 
-fn play<R: Abort>(rt: &R, board: &mut Board, one: Move) {
+fn play<R: Abort>(rt: &R, bench: &mut Bench, one: Move) {
     match one {
-        Store(offset, width, value) => store(rt, board, offset, width, value),
-        Load(offset, width, value) => load(rt, board, offset, width, value),
-        Advance(cycles) => advance(rt, board, cycles),
-        Begins => board.core.begin(),
+        Store(offset, width, value) => store(rt, bench, offset, width, value),
+        Load(offset, width, value) => load(rt, bench, offset, width, value),
+        Advance(cycles) => advance(rt, bench, cycles),
+        Begins => bench.begin(),
         other => {
-            hear(rt, board, other);
-            show(rt, board, other);
+            hear(rt, bench, other);
+            show(rt, bench, other);
         }
     }
 }
 
-/// A board of a player of so many on a cable with a delay, whether transfers are kept, and what is done to it.
+fn play_all<R: Abort>(rt: &R, bench: &mut Bench, moves: &[Move]) {
+    for one in moves {
+        play(rt, bench, *one);
+    }
+}
+
+/// A board of a player, whether transfers are kept, and what is done to it.
 struct Case {
-    seat: (u32, u32, u64),
+    seat: Seat,
     words: bool,
     moves: &'static [Move],
 }
@@ -396,44 +356,62 @@ const MODES: [Move; 8] = [
     Calm(false),
 ];
 
+const FIRST_OF_TWO: Seat = Seat {
+    player: 0,
+    count: 2,
+    delay: 512,
+};
+
+const SECOND_OF_TWO: Seat = Seat {
+    player: 1,
+    count: 2,
+    delay: 1,
+};
+
+const ONLY_ONE: Seat = Seat {
+    player: 0,
+    count: 1,
+    delay: 512,
+};
+
 static CASES: [Case; 8] = [
     Case {
-        seat: (0, 2, 512),
+        seat: FIRST_OF_TWO,
         words: true,
         moves: &WIDTHS,
     },
     Case {
-        seat: (0, 2, 512),
+        seat: FIRST_OF_TWO,
         words: true,
         moves: &BYTES,
     },
     Case {
-        seat: (0, 2, 512),
+        seat: FIRST_OF_TWO,
         words: true,
         moves: &MULTI,
     },
     Case {
-        seat: (0, 2, 512),
+        seat: FIRST_OF_TWO,
         words: false,
         moves: &LATE,
     },
     Case {
-        seat: (0, 2, 512),
+        seat: FIRST_OF_TWO,
         words: true,
         moves: &IN_TIME,
     },
     Case {
-        seat: (1, 2, 1),
+        seat: SECOND_OF_TWO,
         words: true,
         moves: &ANSWERED,
     },
     Case {
-        seat: (0, 2, 512),
+        seat: FIRST_OF_TWO,
         words: true,
         moves: &ALONE,
     },
     Case {
-        seat: (0, 1, 512),
+        seat: ONLY_ONE,
         words: true,
         moves: &MODES,
     },
@@ -442,10 +420,8 @@ static CASES: [Case; 8] = [
 #[test]
 fn boards_do_as_worked_out(rt: HostRuntime) -> Result<(), Fail> {
     for case in &CASES {
-        let mut board = board_of(rt.alloc(), case.seat, case.words)?;
-        for one in case.moves {
-            play(&rt, &mut board, *one);
-        }
+        let mut bench = bench_of(rt.alloc(), case.seat, case.words)?;
+        play_all(&rt, &mut bench, case.moves);
     }
     Ok(())
 }
@@ -453,17 +429,15 @@ fn boards_do_as_worked_out(rt: HostRuntime) -> Result<(), Fail> {
 /// The list is emptied, and what ends later is kept in it. All are counted.
 #[test]
 fn words_are_forgotten(rt: HostRuntime) -> Result<(), Fail> {
-    let mut board = board_of(rt.alloc(), (0, 2, 512), true)?;
-    for one in &ALONE {
-        play(&rt, &mut board, *one);
-    }
-    assert_eq!(rt; board.core.serial().known(1), Other);
-    counts(&rt, &board, 1, 1);
-    forget(&rt, &mut board);
-    counts(&rt, &board, 1, 0);
-    store(&rt, &mut board, 0x128, Half, 0x5081);
-    advance(&rt, &mut board, 2048);
-    end(&rt, &mut board);
-    counts(&rt, &board, 2, 1);
+    let mut bench = bench_of(rt.alloc(), FIRST_OF_TWO, true)?;
+    play_all(&rt, &mut bench, &ALONE);
+    assert_eq!(rt; bench.known(&rt, 1), Other);
+    counts(&rt, &bench, 1, 1);
+    bench.forget(&rt);
+    counts(&rt, &bench, 1, 0);
+    store(&rt, &mut bench, 0x128, Half, 0x5081);
+    advance(&rt, &mut bench, 2048);
+    bench.end_due(&rt);
+    counts(&rt, &bench, 2, 1);
     Ok(())
 }

@@ -2,6 +2,8 @@
 //! Tests of a board by itself.
 
 #[cfg(test)]
+mod bench;
+#[cfg(test)]
 mod board;
 #[cfg(test)]
 mod cable;

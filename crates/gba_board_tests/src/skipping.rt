@@ -1,9 +1,8 @@
 //! A board that moves by many cycles at once beside one that moves cycle by cycle.
 
-use gba_bus::Bus;
+use crate::bench::{Bench, Seat};
 use gba_bus::Width::Word;
-use gba_image::{Bios, ConsoleImages};
-use gba_io::{Board, Room};
+use gba_io::Room;
 use std::alloc::Global;
 use std::process::Abort;
 use std::test::Fail;
@@ -25,15 +24,11 @@ static RUNNING: [(u32, u32); 8] = [
 static MOVES: [u32; 8] = [16, 1, 3, 512, 16, 225, 47, 16];
 
 /// A board of one console, with room for a million cycles.
-fn board(alloc: Global) -> Result<Board, Fail> {
-    let mut bytes = Vec::new(alloc);
-    for _ in 0..16_384 {
-        bytes.push(0)?;
-    }
-    let images = ConsoleImages {
-        bios: Bios::check(bytes).ok().ok_or("no BIOS")?,
-        cart: None,
-        save: None,
+fn bench_of(alloc: Global) -> Result<Bench, Fail> {
+    let seat = Seat {
+        player: 0,
+        count: 1,
+        delay: 1,
     };
     let room = Room {
         until: 1_000_000,
@@ -41,84 +36,78 @@ fn board(alloc: Global) -> Result<Board, Fail> {
         samples: true,
         words: false,
     };
-    Ok(Board::new(alloc, 0, 1, 2, images, room)?)
+    Bench::of(alloc, 0, seat, room)
 }
 
-fn run<R: Abort>(rt: &R, board: &mut Board) {
+/// A board whose registers run.
+fn running(rt: &impl Abort, alloc: Global) -> Result<Bench, Fail> {
+    let mut bench = bench_of(alloc)?;
     for (offset, value) in &RUNNING {
-        let price = board.core.store(0x0400_0000 | *offset, Word, *value, false);
+        let price = bench.store(0x0400_0000 | *offset, Word, *value);
         assert_eq!(rt; price, 1);
     }
+    Ok(bench)
 }
 
-fn advance<R: Abort>(rt: &R, board: &mut Board, cycles: u32) {
-    assert!(rt; cycles <= 512);
-    let in_step = board.is_in_step();
-    assert!(rt; in_step);
-    assert!(rt; board.made.until() <= 1_000_000);
-    assert!(rt; board.core.clock() < board.made.until());
-    board.advance(cycles);
+fn check_timers<R: Abort>(rt: &R, one: &Bench, other: &Bench) {
+    for number in 0..4u32 {
+        assert_eq!(rt; one.timer(rt, number), other.timer(rt, number));
+    }
 }
 
 /// Both boards are the same, as far as their clocks, places, timers, queues, requests and samples tell.
-fn check<R: Abort>(rt: &R, one: &Board, other: &Board) {
-    assert_eq!(rt; one.core.clock(), other.core.clock());
-    assert_eq!(rt; one.core.place(), other.core.place());
-    for number in 0..4u32 {
-        assert_eq!(rt; one.core.timer(number), other.core.timer(number));
-    }
-    assert_eq!(rt; one.core.queue(0), other.core.queue(0));
-    assert_eq!(rt; one.core.queue(1), other.core.queue(1));
-    assert_eq!(rt; one.core.io_half(0x202), other.core.io_half(0x202));
-    assert!(rt; one.made.samples() == other.made.samples());
+fn check<R: Abort>(rt: &R, one: &Bench, other: &Bench) {
+    assert_eq!(rt; one.clock(), other.clock());
+    assert_eq!(rt; one.place(), other.place());
+    check_timers(rt, one, other);
+    assert_eq!(rt; one.queue(rt, 0), other.queue(rt, 0));
+    assert_eq!(rt; one.queue(rt, 1), other.queue(rt, 1));
+    assert_eq!(rt; one.io_half(0x202), other.io_half(0x202));
+    assert!(rt; one.samples() == other.samples());
     assert_eq!(rt; one.counts(), other.counts());
 }
 
-/// Owed steps are taken back as many moves of the other board.
-fn owe_steps<R: Abort>(rt: &R, one: &mut Board, other: &mut Board) {
-    assert!(rt; one.core.clock() < 1_000_000);
-    let steps = one.owe_steps(16, 9);
-    for _ in 0..steps {
-        advance(rt, other, 16);
+/// So many moves by so many cycles.
+fn advance_often<R: Abort>(rt: &R, bench: &mut Bench, times: u32, cycles: u32) {
+    for _ in 0..times {
+        bench.advance(rt, cycles);
     }
+}
+
+/// Moves one board at once and the other cycle by cycle. Steps that the one then owes are as many moves of the other.
+fn step_both<R: Abort>(rt: &R, one: &mut Bench, other: &mut Bench, cycles: u32) {
+    one.advance(rt, cycles);
+    advance_often(rt, other, cycles, 1);
+    let steps = one.owe_steps(rt, 16, 9);
+    advance_often(rt, other, steps, 16);
+    check(rt, one, other);
 }
 
 /// Eight lines, with all events of the devices but DMA.
 #[test]
 fn boards_skip_as_they_step(rt: HostRuntime) -> Result<(), Fail> {
-    let mut one = board(rt.alloc())?;
-    let mut other = board(rt.alloc())?;
-    run(&rt, &mut one);
-    run(&rt, &mut other);
+    let mut one = running(&rt, rt.alloc())?;
+    let mut other = running(&rt, rt.alloc())?;
     for _ in 0..12 {
         for cycles in &MOVES {
-            advance(&rt, &mut one, *cycles);
-            for _ in 0..*cycles {
-                advance(&rt, &mut other, 1);
-            }
-            owe_steps(&rt, &mut one, &mut other);
-            check(&rt, &one, &other);
+            step_both(&rt, &mut one, &mut other, *cycles);
         }
     }
-    assert_eq!(rt; one.counts().samples, one.core.clock() / 512);
+    assert_eq!(rt; one.counts().samples, one.clock() / 512);
     Ok(())
 }
 
 /// With nothing that runs, the steps go to the pair of samples at clock 512, to the limit of the quiet cycles, and to HBlank.
 #[test]
 fn steps_are_owed_up_to_what_happens(rt: HostRuntime) -> Result<(), Fail> {
-    let mut one = board(rt.alloc())?;
-    assert!(rt; one.core.clock() < 1_000_000);
-    assert_eq!(rt; one.owe_steps(16, 20), 20);
-    assert!(rt; one.core.clock() < 1_000_000);
-    assert_eq!(rt; one.owe_steps(16, 20), 11);
-    assert!(rt; one.core.clock() < 1_000_000);
-    assert_eq!(rt; one.owe_steps(16, 20), 0);
-    assert_eq!(rt; one.core.clock(), 496);
-    advance(&rt, &mut one, 16);
+    let mut one = bench_of(rt.alloc())?;
+    for steps in [20, 11, 0] {
+        assert_eq!(rt; one.owe_steps(&rt, 16, 20), steps);
+    }
+    assert_eq!(rt; one.clock(), 496);
+    one.advance(&rt, 16);
     assert_eq!(rt; one.counts().samples, 1);
-    assert!(rt; one.core.clock() < 1_000_000);
-    assert_eq!(rt; one.owe_steps(1, 511), 493);
-    assert_eq!(rt; one.core.clock(), 1005);
+    assert_eq!(rt; one.owe_steps(&rt, 1, 511), 493);
+    assert_eq!(rt; one.clock(), 1005);
     Ok(())
 }

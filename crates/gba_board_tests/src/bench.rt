@@ -1,0 +1,219 @@
+//! A board on a bench: calls on it, with what they need looked at first.
+
+use gba_bus::{Bus, Width};
+use gba_image::{Bios, ConsoleImages};
+use gba_io::{Board, Counts, MemoryName, Room};
+use gba_ppu_reg::{Position, Reference};
+use gba_serial::Transfer;
+use gba_timer::Timer;
+use link_node::{Incoming, LinkMode, Signal};
+use std::alloc::Global;
+use std::process::Abort;
+use std::test::Fail;
+
+/// A player, of how many, on a cable with how long a delay.
+#[derive(Clone, Copy)]
+pub(crate) struct Seat {
+    pub player: u32,
+    pub count: u32,
+    pub delay: u64,
+}
+
+#[derive(Drop)]
+pub(crate) struct Bench {
+    board: Board,
+}
+
+/// A BIOS of this word and zeros.
+fn bios_of(alloc: Global, first: u32) -> Result<Bios, Fail> {
+    let mut bytes = Vec::from_slice(alloc, &first.to_le_bytes())?;
+    for _ in bytes.len()..16_384 {
+        bytes.push(0)?;
+    }
+    Ok(Bios::check(bytes).ok().ok_or("no BIOS")?)
+}
+
+impl Bench {
+    /// A board at reset, whose BIOS has this word and zeros.
+    pub(crate) fn of(alloc: Global, first: u32, seat: Seat, room: Room) -> Result<Bench, Fail> {
+        let images = ConsoleImages {
+            bios: bios_of(alloc, first)?,
+            cart: None,
+            save: None,
+        };
+        let Seat {
+            player,
+            count,
+            delay,
+        } = seat;
+        if player >= count || count > 4 || delay < 1 || delay > 1024 || room.until > 1_000_000 {
+            Err("no seat")?
+        }
+        let board = Board::new(alloc, player, count, 2 * delay, images, room)?;
+        Ok(Bench { board })
+    }
+
+    /// Moves the devices by 512 cycles at most.
+    pub(crate) fn advance(&mut self, rt: &impl Abort, cycles: u32) {
+        assert!(rt; cycles <= 512);
+        let in_step = self.board.is_in_step();
+        assert!(rt; in_step);
+        let until = self.board.made.until();
+        assert!(rt; until <= 1_000_000);
+        assert!(rt; self.board.core.clock() + u64::from(cycles) <= until + 511);
+        self.board.advance(cycles);
+    }
+
+    /// Owes steps of so many cycles, and answers how many.
+    pub(crate) fn owe_steps(&mut self, rt: &impl Abort, cycles: u32, most: u32) -> u32 {
+        assert!(rt; 1 <= cycles);
+        assert!(rt; self.board.core.clock() < 1_000_000);
+        self.board.owe_steps(cycles, most)
+    }
+
+    pub(crate) fn take(&mut self, rt: &impl Abort, due: &Incoming) {
+        let fits = self.board.next_end_fits();
+        assert!(rt; fits);
+        let until = self.board.ended.until();
+        assert!(rt; until <= 1_000_000 && due.arrival < until);
+        assert!(rt; due.signal.clock < due.arrival);
+        self.board.take(due);
+    }
+
+    pub(crate) fn end_due(&mut self, rt: &impl Abort) {
+        let fits = self.board.next_end_fits();
+        assert!(rt; fits);
+        assert!(rt; self.board.core.clock() < self.board.ended.until());
+        self.board.end_due();
+    }
+
+    /// Empties the lists.
+    pub(crate) fn forget(&mut self, rt: &impl Abort) {
+        let in_step = self.board.is_in_step();
+        assert!(rt; in_step);
+        assert!(rt; self.board.core.clock() <= 1_000_000);
+        assert!(rt; self.board.counts().words <= 1_000_000);
+        self.board.forget(1_000_000);
+    }
+
+    /// What the write costs.
+    pub(crate) fn store(&mut self, address: u32, width: Width, value: u32) -> u32 {
+        self.board.core.store(address, width, value, false)
+    }
+
+    /// What an instruction in the BIOS reads, and what that costs.
+    pub(crate) fn load(&mut self, address: u32, width: Width) -> (u32, u32) {
+        self.board.core.load(0, address, width, false)
+    }
+
+    pub(crate) fn code(&mut self, address: u32, width: Width) -> u32 {
+        self.board.core.code(address, width)
+    }
+
+    pub(crate) fn code_price(&self, address: u32, width: Width) -> u32 {
+        self.board.core.code_price(address, width, false)
+    }
+
+    /// What is stored in a halfword of the I/O registers.
+    pub(crate) fn io_half(&self, offset: u32) -> u16 {
+        self.board.core.io_half(offset)
+    }
+
+    pub(crate) fn set_keys(&mut self, pressed: u16) {
+        self.board.core.set_keys(pressed);
+    }
+
+    pub(crate) fn begin(&mut self) {
+        self.board.core.begin();
+    }
+
+    pub(crate) fn wake(&mut self) {
+        self.board.core.wake();
+    }
+
+    pub(crate) fn halted(&self) -> bool {
+        self.board.core.halted()
+    }
+
+    pub(crate) fn pending(&self) -> bool {
+        self.board.core.pending()
+    }
+
+    pub(crate) fn master(&self) -> bool {
+        self.board.core.master()
+    }
+
+    pub(crate) fn is_calm(&self) -> bool {
+        self.board.core.is_calm()
+    }
+
+    pub(crate) fn clock(&self) -> u64 {
+        self.board.core.clock()
+    }
+
+    pub(crate) fn place(&self) -> Position {
+        self.board.core.place()
+    }
+
+    pub(crate) fn reference(&self, rt: &impl Abort, background: u32) -> Reference {
+        assert!(rt; 2 <= background);
+        assert!(rt; background <= 3);
+        self.board.core.reference(background)
+    }
+
+    pub(crate) fn timer(&self, rt: &impl Abort, number: u32) -> Timer {
+        assert!(rt; number < 4);
+        self.board.core.timer(number)
+    }
+
+    /// Does a unit of DMA, and answers how many cycles it takes.
+    pub(crate) fn dma_unit(&mut self) -> Option<u32> {
+        self.board.core.dma_unit()
+    }
+
+    /// How many units of a DMA channel are left.
+    pub(crate) fn units_left(&self, rt: &impl Abort, channel: u32) -> u32 {
+        assert!(rt; channel < 4);
+        self.board.core.channel(channel).left
+    }
+
+    pub(crate) fn queue(&self, rt: &impl Abort, queue: u32) -> &[u8] {
+        assert!(rt; queue < 2);
+        self.board.core.queue(queue)
+    }
+
+    pub(crate) fn queue_current(&self, rt: &impl Abort, queue: u32) -> u8 {
+        assert!(rt; queue < 2);
+        self.board.core.queue_current(queue)
+    }
+
+    pub(crate) fn memory(&self, name: MemoryName) -> &[u8] {
+        self.board.core.memory(name)
+    }
+
+    pub(crate) fn frames(&self) -> &[u8] {
+        self.board.made.frames()
+    }
+
+    pub(crate) fn samples(&self) -> &[u8] {
+        self.board.made.samples()
+    }
+
+    pub(crate) fn words(&self) -> &[Transfer] {
+        self.board.words()
+    }
+
+    pub(crate) fn counts(&self) -> Counts {
+        self.board.counts()
+    }
+
+    pub(crate) fn outgoing(&self) -> Option<Signal> {
+        self.board.outgoing()
+    }
+
+    /// The mode that a player is known to be in.
+    pub(crate) fn known(&self, rt: &impl Abort, player: u32) -> LinkMode {
+        assert!(rt; player < 4);
+        self.board.core.serial().known(player)
+    }
+}
