@@ -1,71 +1,71 @@
 //! Key changes, in jobs and in key files.
 
-use crate::helpers::{HEAD, padded, refuses, repeated};
-use gba_joblog::{
-    FileLine, Job, JobError, JobKind, KeyChange, LONGEST_KEYS, ParseRefused, laws, parse_keys,
+use crate::helpers::{
+    HEAD, Padded, assert_key_files, assert_refused, changes_of, is_file, job_of, refuses,
+    refuses_keys, repeated,
 };
+use gba_joblog::{Job, JobKind, KeyChange, LONGEST_KEYS, laws};
 use std::alloc::Global;
+use std::process::Abort;
 use std::test::Fail;
 
-// The name and the line of a file.
-fn is_file(file: &Option<FileLine>, name: &str, line: u64) -> bool {
-    match file {
-        Some(file) => file.name.as_str() == name && file.line == line && file.digest.is_none(),
-        None => false,
-    }
-}
-
-// Whether these are the changes, each with its clock and its keys.
+/// Whether these are the changes, each with its clock and its keys.
 fn are_changes(changes: &[KeyChange], want: &[(u64, u16)]) -> bool {
     changes.len() == want.len()
         && changes.iter().zip(want).all(|(change, (clock, keys))| change.clock == *clock
             && change.keys == *keys)
 }
 
+/// Jobs of one console, each with its changes and the line of its key file `k`, which is 0 where it has none.
+static KEYS: [(&[u8], &[(u64, u16)], u64); 5] = [
+    (
+        b"gbalink 1\ncycles 1\nconsole 0\nkey 100 001\nbios b\nend\n",
+        &[(100, 0x001)],
+        0,
+    ),
+    (
+        b"gbalink 1\ncycles 1\nconsole 0\nkey 0 000\nbios b\n\tkey 0  3fF \r\n# key 9 001\nkey 274877906943 2A0\nend\n",
+        &[(0, 0), (0, 0x3ff), (274_877_906_943, 0x2a0)],
+        0,
+    ),
+    (
+        b"gbalink 1\ncycles 1\nconsole 0\nbios b\nkey 00000000000000000007 010\nout state\nkey 7 020\nend\n",
+        &[(7, 0x010), (7, 0x020)],
+        0,
+    ),
+    (
+        b"gbalink 1\ncycles 1\nconsole 0\nbios b\nkeys k\nend\n",
+        &[],
+        5,
+    ),
+    (
+        b"gbalink 1\ncycles 1\nconsole 0\nkeys k\nbios b\nend\n",
+        &[],
+        4,
+    ),
+];
+
+/// Whether a job has one console with these changes, or with the key file `k` at this line.
+fn has_keys(job: &Job, want: &[(u64, u16)], line: u64) -> bool {
+    let [console] = job.consoles.as_slice() else {
+        return false;
+    };
+    let file = (line != 0).then_some(("k", line));
+    are_changes(&console.changes, want) && is_file(&console.keys, file)
+}
+
+/// Whether the text is a job with these changes, or with the key file `k` at this line.
+fn says_keys(alloc: Global, text: &[u8], want: &[(u64, u16)], line: u64) -> bool {
+    match job_of(alloc, text) {
+        Some(job) => has_keys(&job, want, line),
+        None => false,
+    }
+}
+
 #[test]
 fn keys_are_read(rt: HostRuntime) {
-    static CASES: [(&[u8], &[(u64, u16)], u64); 5] = [
-        (
-            b"gbalink 1\ncycles 1\nconsole 0\nkey 100 001\nbios b\nend\n",
-            &[(100, 0x001)],
-            0,
-        ),
-        (
-            b"gbalink 1\ncycles 1\nconsole 0\nkey 0 000\nbios b\n\tkey 0  3fF \r\n# key 9 001\nkey 274877906943 2A0\nend\n",
-            &[(0, 0), (0, 0x3ff), (274_877_906_943, 0x2a0)],
-            0,
-        ),
-        (
-            b"gbalink 1\ncycles 1\nconsole 0\nbios b\nkey 00000000000000000007 010\nout state\nkey 7 020\nend\n",
-            &[(7, 0x010), (7, 0x020)],
-            0,
-        ),
-        (
-            b"gbalink 1\ncycles 1\nconsole 0\nbios b\nkeys k\nend\n",
-            &[],
-            5,
-        ),
-        (
-            b"gbalink 1\ncycles 1\nconsole 0\nkeys k\nbios b\nend\n",
-            &[],
-            4,
-        ),
-    ];
-    for &(text, want, line) in &CASES {
-        match Job::parse(rt.alloc(), text) {
-            Ok(job) => {
-                let [console] = job.consoles.as_slice() else {
-                    return assert!(rt; false);
-                };
-                assert!(rt; are_changes(&console.changes, want), "of {text:?}");
-                assert_eq!(rt; console.keys.is_some(), line != 0, "of {text:?}");
-                assert!(rt;
-                    line == 0 || is_file(&console.keys, "k", line),
-                    "of {text:?}"
-                );
-            }
-            Err(_) => panic!(rt; "no job"),
-        }
+    for &(text, want, line) in &KEYS {
+        assert!(rt; says_keys(rt.alloc(), text, want, line), "of {text:?}");
     }
 }
 
@@ -115,52 +115,45 @@ static REFUSED_KEYS: [(&[u8], u64, JobKind); 38] = [
     (b"key 5 001\rend", 4, JobKind::Byte),
 ];
 
+static OUTSIDE: [(&[u8], u64, JobKind); 5] = [
+    (b"key 5 001", 1, JobKind::Order),
+    (b"keys k", 1, JobKind::Order),
+    (b"gbalink 1\nkey x", 2, JobKind::Order),
+    (b"gbalink 1\ncycles 1\nkey 5 001", 3, JobKind::Order),
+    (b"gbalink 1\ncycles 1\nkeys -", 3, JobKind::Order),
+];
+
 #[test]
 fn keys_are_refused(rt: HostRuntime) -> Result<(), Fail> {
-    for (text, line, kind) in &REFUSED_KEYS {
-        let mut whole = Vec::from_slice(rt.alloc(), HEAD)?;
-        whole.extend_from_slice(text)?;
-        assert!(rt; refuses(rt.alloc(), &whole, *line, *kind), "of {text:?}");
-    }
-    static OUTSIDE: [(&[u8], u64, JobKind); 5] = [
-        (b"key 5 001", 1, JobKind::Order),
-        (b"keys k", 1, JobKind::Order),
-        (b"gbalink 1\nkey x", 2, JobKind::Order),
-        (b"gbalink 1\ncycles 1\nkey 5 001", 3, JobKind::Order),
-        (b"gbalink 1\ncycles 1\nkeys -", 3, JobKind::Order),
-    ];
-    for &(text, line, kind) in &OUTSIDE {
-        assert!(rt; refuses(rt.alloc(), text, line, kind), "of {text:?}");
-    }
+    assert_refused(&rt, rt.alloc(), HEAD, &REFUSED_KEYS)?;
+    assert_refused(&rt, rt.alloc(), b"", &OUTSIDE)?;
     Ok(())
+}
+
+static KEY_FILES: [(&[u8], &[(u64, u16)]); 6] = [
+    (b"", &[]),
+    (b"\n# \xff\x00 5 001\n \t\n#", &[]),
+    (b"0 000", &[(0, 0)]),
+    (
+        b"5 001\n5 3ff\r\n\t6  3FF \n#7 000\n\n274877906943 000\n",
+        &[(5, 1), (5, 0x3ff), (6, 0x3ff), (274_877_906_943, 0)],
+    ),
+    (b"00000000000000000012 0aB\n", &[(12, 0x0ab)]),
+    (b"1 200\n2 100\n", &[(1, 0x200), (2, 0x100)]),
+];
+
+/// Whether the text is a key file with these changes.
+fn says_changes(alloc: Global, text: &[u8], want: &[(u64, u16)]) -> bool {
+    match changes_of(alloc, text) {
+        Some(changes) => are_changes(&changes, want),
+        None => false,
+    }
 }
 
 #[test]
 fn key_files_are_read(rt: HostRuntime) {
-    static CASES: [(&[u8], &[(u64, u16)]); 6] = [
-        (b"", &[]),
-        (b"\n# \xff\x00 5 001\n \t\n#", &[]),
-        (b"0 000", &[(0, 0)]),
-        (
-            b"5 001\n5 3ff\r\n\t6  3FF \n#7 000\n\n274877906943 000\n",
-            &[(5, 1), (5, 0x3ff), (6, 0x3ff), (274_877_906_943, 0)],
-        ),
-        (b"00000000000000000012 0aB\n", &[(12, 0x0ab)]),
-        (b"1 200\n2 100\n", &[(1, 0x200), (2, 0x100)]),
-    ];
-    for &(text, want) in &CASES {
-        match parse_keys(rt.alloc(), text) {
-            Ok(changes) => assert!(rt; are_changes(&changes, want), "of {text:?}"),
-            Err(_) => assert!(rt; false, "of {text:?}"),
-        }
-    }
-}
-
-// Whether a key file is refused at this line for this cause.
-fn refuses_keys(alloc: Global, text: &[u8], line: u64, kind: JobKind) -> bool {
-    match parse_keys(alloc, text) {
-        Err(ParseRefused::Job(refusal)) => refusal == JobError { line, kind },
-        _ => false,
+    for &(text, want) in &KEY_FILES {
+        assert!(rt; says_changes(rt.alloc(), text, want), "of {text:?}");
     }
 }
 
@@ -193,65 +186,127 @@ static REFUSED_KEY_FILES: [(&[u8], u64, JobKind); 26] = [
     (b"x\n5 \x80", 1, JobKind::Number),
 ];
 
+/// Lines of 400 bytes and more of key files.
+static LONG_LINES: [Padded; 4] = [
+    Padded {
+        front: b"#",
+        byte: b' ',
+        count: 400,
+        back: b"\n4",
+        refused: Some((1, JobKind::Long)),
+    },
+    Padded {
+        front: b" ",
+        byte: b' ',
+        count: 400,
+        back: b"\n4",
+        refused: Some((1, JobKind::Long)),
+    },
+    Padded {
+        front: b"\xff",
+        byte: b' ',
+        count: 400,
+        back: b"\n4",
+        refused: Some((1, JobKind::Long)),
+    },
+    Padded {
+        front: b"5",
+        byte: b' ',
+        count: 396,
+        back: b"001\r\n",
+        refused: None,
+    },
+];
+
 #[test]
 fn key_files_are_refused(rt: HostRuntime) -> Result<(), Fail> {
-    for (text, line, kind) in &REFUSED_KEY_FILES {
-        assert!(rt; refuses_keys(rt.alloc(), text, *line, *kind), "of {text:?}");
+    for &(text, line, kind) in &REFUSED_KEY_FILES {
+        assert!(rt; refuses_keys(rt.alloc(), text, line, kind), "of {text:?}");
     }
-    for front in [b"#", b" ", b"\xff"] {
-        let text = padded(rt.alloc(), front, b' ', 400, b"\n4")?;
-        assert!(rt;
-            refuses_keys(rt.alloc(), &text, 1, JobKind::Long),
-            "of {front:?}"
-        );
+    assert_key_files(&rt, rt.alloc(), &LONG_LINES)
+}
+
+/// Whether the text is a job of one console with so many changes.
+fn counts_job_changes(alloc: Global, text: &[u8], count: usize) -> bool {
+    match job_of(alloc, text) {
+        Some(job) => match job.consoles.as_slice() {
+            [console] => console.changes.len() == count,
+            _ => false,
+        },
+        None => false,
     }
-    let text = padded(rt.alloc(), b"5", b' ', 396, b"001\r\n")?;
-    assert!(rt; parse_keys(rt.alloc(), &text).is_ok());
+}
+
+/// Whether the text is a key file with so many changes.
+fn counts_changes(alloc: Global, text: &[u8], count: usize) -> bool {
+    match changes_of(alloc, text) {
+        Some(changes) => changes.len() == count,
+        None => false,
+    }
+}
+
+/// What follows 1,000,000 changes of a key file, and why it is refused.
+static MORE: [(&[u8], JobKind); 5] = [
+    (b"7 001\n8", JobKind::Long),
+    (b"6 001", JobKind::Order),
+    (b"7 400", JobKind::Number),
+    (b"7", JobKind::Missing),
+    (b"7 001 7", JobKind::Extra),
+];
+
+fn assert_files_changes(rt: &impl Abort, alloc: Global) -> Result<(), Fail> {
+    let text = repeated(alloc, b"", b"7 001\n", 1_000_000, b"\n# 7 001\n")?;
+    assert!(rt; counts_changes(alloc, &text, 1_000_000));
+    for &(back, kind) in &MORE {
+        let text = repeated(alloc, b"", b"7 001\n", 1_000_000, back)?;
+        assert!(rt; refuses_keys(alloc, &text, 1_000_001, kind), "of {back:?}");
+    }
+    Ok(())
+}
+
+fn assert_jobs_changes(rt: &impl Abort, alloc: Global) -> Result<(), Fail> {
+    let head: &[u8] = b"gbalink 1\ncycles 1\nconsole 0\nbios b\n";
+    let text = repeated(alloc, head, b"key 7 001\n", 1_000_000, b"end\n")?;
+    assert!(rt; counts_job_changes(alloc, &text, 1_000_000));
+    let text = repeated(alloc, head, b"key 7 001\n", 1_000_001, b"end\n")?;
+    assert!(rt; refuses(alloc, &text, 1_000_005, JobKind::Long));
     Ok(())
 }
 
 #[test]
 fn a_console_has_1000000_changes(rt: HostRuntime) -> Result<(), Fail> {
-    let text = repeated(rt.alloc(), b"", b"7 001\n", 1_000_000, b"\n# 7 001\n")?;
-    match parse_keys(rt.alloc(), &text) {
-        Ok(changes) => assert_eq!(rt; changes.len(), 1_000_000),
-        Err(_) => panic!(rt; "no changes"),
-    }
-    static MORE: [(&[u8], JobKind); 5] = [
-        (b"7 001\n8", JobKind::Long),
-        (b"6 001", JobKind::Order),
-        (b"7 400", JobKind::Number),
-        (b"7", JobKind::Missing),
-        (b"7 001 7", JobKind::Extra),
-    ];
-    for &(back, kind) in &MORE {
-        let text = repeated(rt.alloc(), b"", b"7 001\n", 1_000_000, back)?;
-        assert!(rt;
-            refuses_keys(rt.alloc(), &text, 1_000_001, kind),
-            "of {back:?}"
-        );
-    }
-    let head: &[u8] = b"gbalink 1\ncycles 1\nconsole 0\nbios b\n";
-    let text = repeated(rt.alloc(), head, b"key 7 001\n", 1_000_000, b"end\n")?;
-    match Job::parse(rt.alloc(), &text) {
-        Ok(job) => assert_eq!(rt; job.consoles[0].changes.len(), 1_000_000),
-        Err(_) => panic!(rt; "no job"),
-    }
-    let text = repeated(rt.alloc(), head, b"key 7 001\n", 1_000_001, b"end\n")?;
-    assert!(rt; refuses(rt.alloc(), &text, 1_000_005, JobKind::Long));
-    Ok(())
+    assert_files_changes(&rt, rt.alloc())?;
+    assert_jobs_changes(&rt, rt.alloc())
 }
+
+static LONG_FILES: [Padded; 3] = [
+    Padded {
+        front: b"5 001\n",
+        byte: b'\n',
+        count: 33_554_432 - 6,
+        back: b"",
+        refused: None,
+    },
+    Padded {
+        front: b"5 001\n",
+        byte: b'\n',
+        count: 33_554_433 - 6,
+        back: b"",
+        refused: Some((0, JobKind::Long)),
+    },
+    Padded {
+        front: b"x",
+        byte: b'\xff',
+        count: 33_554_432,
+        back: b"",
+        refused: Some((0, JobKind::Long)),
+    },
+];
 
 #[test]
 fn a_key_file_has_33554432_bytes(rt: HostRuntime) -> Result<(), Fail> {
     assert_eq!(rt; LONGEST_KEYS, 33_554_432);
-    let text = padded(rt.alloc(), b"5 001\n", b'\n', 33_554_432 - 6, b"")?;
-    assert!(rt; parse_keys(rt.alloc(), &text).is_ok());
-    let text = padded(rt.alloc(), b"5 001\n", b'\n', 33_554_433 - 6, b"")?;
-    assert!(rt; refuses_keys(rt.alloc(), &text, 0, JobKind::Long));
-    let text = padded(rt.alloc(), b"x", b'\xff', 33_554_432, b"")?;
-    assert!(rt; refuses_keys(rt.alloc(), &text, 0, JobKind::Long));
-    Ok(())
+    assert_key_files(&rt, rt.alloc(), &LONG_FILES)
 }
 
 // A law answers nothing: that it holds is its contract.

@@ -57,13 +57,17 @@ static LOGS: [(&[u8], &[u8]); 8] = [
     ),
 ];
 
+/// Whether this is the log of the text's job.
+fn has_log(alloc: Global, text: &[u8], want: &[u8]) -> Result<bool, AllocError> {
+    Ok(log_of(alloc, text)?.as_slice() == want)
+}
+
+// The log of each job, and the log of that log.
 #[test]
 fn logs_have_one_spelling(rt: HostRuntime) -> Result<(), Fail> {
-    for (text, want) in &LOGS {
-        let log = log_of(rt.alloc(), text)?;
-        assert_eq!(rt; log.as_slice(), *want, "of {text:?}");
-        let again = log_of(rt.alloc(), log.as_slice())?;
-        assert_eq!(rt; again.as_slice(), *want, "of the log of {text:?}");
+    for &(text, want) in &LOGS {
+        assert!(rt; has_log(rt.alloc(), text, want)?, "of {text:?}");
+        assert!(rt; has_log(rt.alloc(), want, want)?, "of the log of {text:?}");
     }
     Ok(())
 }

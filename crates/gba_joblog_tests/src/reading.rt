@@ -1,171 +1,208 @@
 //! Jobs that are read.
 
-use crate::helpers::{FIRST, HEAD, NOTHING, OF_NOTHING, joined, padded};
+use crate::helpers::{FIRST, HEAD, NOTHING, Named, OF_NOTHING, is_file, is_named, job_of, joined};
 use gba_joblog::{
     FileLine, Job, JobConsole, OutKind, OutLine, PAIRS, Pair, PerKind, digest_of, digits_of,
     players_for,
 };
 use link_node::Delays;
+use std::alloc::{AllocError, Global};
+use std::process::Abort;
 use std::test::Fail;
 
-// What a job says: its cycles, its image with the line, and whether the state is asked for.
-fn says(job: &Job, cycles: u64, bios: &str, line: u64, state: bool) -> bool {
-    let [console] = job.consoles.as_slice() else {
-        return false;
-    };
-    let file = &console.bios;
-    let plain = OutLine { digest: None };
-    job.cycles == cycles
-        && job.delays == Delays::all(512)
-        && file.name.as_str() == bios
-        && file.line == line
-        && file.digest.is_none()
-        && console.cart.is_none()
-        && console.save.is_none()
-        && console.keys.is_none()
-        && console.changes.is_empty()
-        && console.off == 0
-        && is_asked(
-            &console.outs,
-            [None, None, None, state.then_some(plain), None],
-        )
+/// What is wanted of a console: its files, and the kinds of output that it is asked for with no digest, in the order of the
+/// language's table.
+#[derive(Drop)]
+struct Wanted {
+    bios: Named,
+    cart: Option<Named>,
+    save: Option<Named>,
+    keys: Option<Named>,
+    asked: [bool; 5],
 }
 
-// What a console is asked for: the kinds in the order of the language's table.
-fn is_asked(outs: &PerKind<Option<OutLine>>, asked: [Option<OutLine>; 5]) -> bool {
-    let [frames, samples, words, state, save] = asked;
-    outs.frames == frames
-        && outs.samples == samples
-        && outs.words == words
-        && outs.state == state
-        && outs.save == save
-}
-
-#[test]
-fn jobs_are_read(rt: HostRuntime) {
-    static CASES: [(&[u8], u64, &str, u64, bool); 9] = [
-        (FIRST, 1, "b", 4, true),
-        (
-            b"gbalink 1\ncycles 1\nconsole 0\nbios b\nout state\nend",
-            1,
-            "b",
-            4,
-            true,
-        ),
-        (
-            b"gbalink 1\r\ncycles 1\r\nconsole 0\r\nbios b\r\nout state\r\nend\r\n",
-            1,
-            "b",
-            4,
-            true,
-        ),
-        (
-            b"\tgbalink\t1 \n cycles \t 2147483648\nconsole\t0\n\tbios  b.-_/9Z\t\nout\tstate \nend \t",
-            2147483648,
-            "b.-_/9Z",
-            4,
-            true,
-        ),
-        (
-            b"gbalink 1\ncycles 00000000000000000012\nconsole 000\nout state\nbios b\nend\n",
-            12,
-            "b",
-            5,
-            true,
-        ),
-        (
-            b"gbalink 1\ncycles 5\nconsole 0\nbios b\nend\n",
-            5,
-            "b",
-            4,
-            false,
-        ),
-        (
-            b"\n# \xff\x00\x7f\r \n\ngbalink 1\n#\n \t\ncycles 7\n#cycles 8\nconsole 0\nbios b\n#\x80\nend\n# after\n\n \n",
-            7,
-            "b",
-            10,
-            false,
-        ),
-        (
-            b"gbalink 1\ncycles 7\nconsole 0\nbios --\nend\n#",
-            7,
-            "--",
-            4,
-            false,
-        ),
-        (
-            b"gbalink 1\ncycles 7\nconsole 0\nbios #b\nend\n",
-            7,
-            "",
-            0,
-            false,
-        ),
-    ];
-    for &(text, cycles, bios, line, state) in &CASES {
-        match Job::parse(rt.alloc(), text) {
-            Ok(job) => assert!(rt; says(&job, cycles, bios, line, state), "of {text:?}"),
-            Err(_) => assert_eq!(rt; line, 0, "of {text:?}"),
-        }
+/// Whether an output is asked for, with no digest, or isn't where it is not to be.
+fn is_plain(out: Option<OutLine>, asked: bool) -> bool {
+    match out {
+        Some(out) => asked && out.digest.is_none(),
+        None => !asked,
     }
 }
 
-// The name and the line of a file.
-fn is_named(file: &FileLine, name: &str, line: u64) -> bool {
-    file.name.as_str() == name && file.line == line && file.digest.is_none()
+/// Whether just these outputs are asked for, with no digest.
+fn is_asked(outs: &PerKind<Option<OutLine>>, asked: [bool; 5]) -> bool {
+    let [frames, samples, words, state, save] = asked;
+    is_plain(outs.frames, frames)
+        && is_plain(outs.samples, samples)
+        && is_plain(outs.words, words)
+        && is_plain(outs.state, state)
+        && is_plain(outs.save, save)
 }
 
-fn is_file(file: &Option<FileLine>, name: &str, line: u64) -> bool {
-    match file {
-        Some(file) => is_named(file, name, line),
+/// Whether a console has these files and no others, and is asked for these outputs.
+fn is_wanted(console: &JobConsole, want: &Wanted) -> bool {
+    is_named(&console.bios, want.bios)
+        && is_file(&console.cart, want.cart)
+        && is_file(&console.save, want.save)
+        && is_file(&console.keys, want.keys)
+        && is_asked(&console.outs, want.asked)
+}
+
+/// Whether a console has no key changes and is never off.
+fn is_still(console: &JobConsole) -> bool {
+    console.changes.is_empty() && console.off == 0
+}
+
+/// The only console of a job.
+fn only_console(job: &Job) -> Option<&JobConsole> {
+    match job.consoles.as_slice() {
+        [console] => Some(console),
+        _ => None,
+    }
+}
+
+/// Whether a job of one console says this: its cycles, its image with the line, and whether the state is asked for.
+fn says(job: &Job, cycles: u64, bios: Named, state: bool) -> bool {
+    let want = Wanted {
+        bios,
+        cart: None,
+        save: None,
+        keys: None,
+        asked: [false, false, false, state, false],
+    };
+    match only_console(job) {
+        Some(console) => {
+            job.cycles == cycles
+                && job.delays == Delays::all(512)
+                && is_wanted(console, &want)
+                && is_still(console)
+        }
+        None => false,
+    }
+}
+
+/// Texts, each with what its job says, or with the line 0 where it is refused.
+static JOBS: [(&[u8], u64, &str, u64, bool); 9] = [
+    (FIRST, 1, "b", 4, true),
+    (
+        b"gbalink 1\ncycles 1\nconsole 0\nbios b\nout state\nend",
+        1,
+        "b",
+        4,
+        true,
+    ),
+    (
+        b"gbalink 1\r\ncycles 1\r\nconsole 0\r\nbios b\r\nout state\r\nend\r\n",
+        1,
+        "b",
+        4,
+        true,
+    ),
+    (
+        b"\tgbalink\t1 \n cycles \t 2147483648\nconsole\t0\n\tbios  b.-_/9Z\t\nout\tstate \nend \t",
+        2147483648,
+        "b.-_/9Z",
+        4,
+        true,
+    ),
+    (
+        b"gbalink 1\ncycles 00000000000000000012\nconsole 000\nout state\nbios b\nend\n",
+        12,
+        "b",
+        5,
+        true,
+    ),
+    (
+        b"gbalink 1\ncycles 5\nconsole 0\nbios b\nend\n",
+        5,
+        "b",
+        4,
+        false,
+    ),
+    (
+        b"\n# \xff\x00\x7f\r \n\ngbalink 1\n#\n \t\ncycles 7\n#cycles 8\nconsole 0\nbios b\n#\x80\nend\n# after\n\n \n",
+        7,
+        "b",
+        10,
+        false,
+    ),
+    (
+        b"gbalink 1\ncycles 7\nconsole 0\nbios --\nend\n#",
+        7,
+        "--",
+        4,
+        false,
+    ),
+    (
+        b"gbalink 1\ncycles 7\nconsole 0\nbios #b\nend\n",
+        7,
+        "",
+        0,
+        false,
+    ),
+];
+
+#[test]
+fn jobs_are_read(rt: HostRuntime) {
+    for &(text, cycles, bios, line, state) in &JOBS {
+        let right = match job_of(rt.alloc(), text) {
+            Some(job) => says(&job, cycles, (bios, line), state),
+            None => line == 0,
+        };
+        assert!(rt; right, "of {text:?}");
+    }
+}
+
+static OF_ONE_CONSOLE: Wanted = Wanted {
+    bios: ("b", 7),
+    cart: Some(("c.gba", 6)),
+    save: Some(("s", 5)),
+    keys: None,
+    asked: [false, true, false, true, true],
+};
+
+#[test]
+fn cartridges_and_saves_are_read(rt: HostRuntime) -> Result<(), Fail> {
+    let text =
+        b"gbalink 1\ncycles 1\nconsole 0\nout save\nsave s\ncart c.gba\nbios b\nout state\nout samples\nend\n";
+    let job = job_of(rt.alloc(), text).ok_or("no job")?;
+    let console = only_console(&job).ok_or("one console")?;
+    assert!(rt; is_wanted(console, &OF_ONE_CONSOLE));
+    Ok(())
+}
+
+// The delays of jobs: without a line, the least, the greatest, and before `cycles`. They are those between players 0 and
+// 1, the others of one console's cable stay 512.
+static DELAYS: [(&[u8], u64); 5] = [
+    (b"gbalink 1\ncycles 1\nconsole 0\nbios b\nend\n", 512),
+    (b"gbalink 1\ncycles 1\ndelay 1\nconsole 0\nbios b\nend\n", 1),
+    (
+        b"gbalink 1\ndelay 1024\ncycles 1\nconsole 0\nbios b\nend\n",
+        1024,
+    ),
+    (
+        b"gbalink 1\ndelay 00000000000000000700\ncycles 1\nconsole 0\nbios b\nend\n",
+        700,
+    ),
+    (
+        b"gbalink 1\ncycles 1\ndelay 512\nconsole 0\nbios b\nend\n",
+        512,
+    ),
+];
+
+/// Whether the text is a job with these delays.
+fn has_delays(alloc: Global, text: &[u8], delays: &Delays) -> bool {
+    match job_of(alloc, text) {
+        Some(job) => job.delays == *delays,
         None => false,
     }
 }
 
 #[test]
-fn cartridges_and_saves_are_read(rt: HostRuntime) {
-    let text =
-        b"gbalink 1\ncycles 1\nconsole 0\nout save\nsave s\ncart c.gba\nbios b\nout state\nout samples\nend\n";
-    let plain = Some(OutLine { digest: None });
-    match Job::parse(rt.alloc(), text) {
-        Ok(job) => {
-            let [console] = job.consoles.as_slice() else {
-                return assert!(rt; false);
-            };
-            assert!(rt; is_named(&console.bios, "b", 7));
-            assert!(rt; is_file(&console.cart, "c.gba", 6));
-            assert!(rt; is_file(&console.save, "s", 5));
-            assert!(rt; is_asked(&console.outs, [None, plain, None, plain, plain]));
-        }
-        Err(_) => assert!(rt; false),
-    }
-}
-
-// The delays of jobs: without a line, the least, the greatest, and before `cycles`. They are those between players 0 and
-// 1, the others of one console's cable stay 512.
-#[test]
 fn delays_are_read(rt: HostRuntime) {
-    static CASES: [(&[u8], u64); 5] = [
-        (b"gbalink 1\ncycles 1\nconsole 0\nbios b\nend\n", 512),
-        (b"gbalink 1\ncycles 1\ndelay 1\nconsole 0\nbios b\nend\n", 1),
-        (
-            b"gbalink 1\ndelay 1024\ncycles 1\nconsole 0\nbios b\nend\n",
-            1024,
-        ),
-        (
-            b"gbalink 1\ndelay 00000000000000000700\ncycles 1\nconsole 0\nbios b\nend\n",
-            700,
-        ),
-        (
-            b"gbalink 1\ncycles 1\ndelay 512\nconsole 0\nbios b\nend\n",
-            512,
-        ),
-    ];
-    for &(text, delay) in &CASES {
-        match Job::parse(rt.alloc(), text) {
-            Ok(job) => assert_eq!(rt; job.delays, both_ways(delay, delay), "of {text:?}"),
-            Err(_) => panic!(rt; "no job"),
-        }
+    for &(text, delay) in &DELAYS {
+        let delays = both_ways(delay, delay);
+        assert!(rt; has_delays(rt.alloc(), text, &delays), "of {text:?}");
     }
 }
 
@@ -266,134 +303,217 @@ static FOUR_CONSOLES: [&[u8]; 4] = [
     b"console 3\nbios b\n",
 ];
 
+/// A job of so many consoles after these lines.
+fn cable_job(alloc: Global, lines: &[u8], consoles: usize) -> Result<Vec<u8>, AllocError> {
+    let mut text = joined(alloc, &[b"gbalink 2\ncycles 1\n", lines])?;
+    for (player, console) in FOUR_CONSOLES.iter().enumerate() {
+        if player < consoles {
+            text.extend_from_slice(console)?;
+        }
+    }
+    text.extend_from_slice(b"end\n")?;
+    Ok(text)
+}
+
 #[test]
 fn links_are_read(rt: HostRuntime) -> Result<(), Fail> {
     for (lines, consoles, delays) in &CABLES {
-        let mut text = joined(rt.alloc(), &[b"gbalink 2\ncycles 1\n", lines])?;
-        for console in FOUR_CONSOLES.iter().take(*consoles) {
-            text.extend_from_slice(console)?;
-        }
-        text.extend_from_slice(b"end\n")?;
-        match Job::parse(rt.alloc(), &text) {
-            Ok(job) => assert_eq!(rt; job.delays, *delays, "of {lines:?}"),
-            Err(_) => panic!(rt; "no job of {lines:?}"),
-        }
+        let text = cable_job(rt.alloc(), lines, *consoles)?;
+        assert!(rt; has_delays(rt.alloc(), &text, delays), "of {lines:?}");
     }
     Ok(())
 }
 
+/// Whether the consoles of a job are off from these cycles on.
+fn are_off(job: &Job, want: &[u64]) -> bool {
+    job.consoles.len() == want.len()
+        && job
+            .consoles
+            .iter()
+            .zip(want)
+            .all(|(console, off)| console.off == *off)
+}
+
 // The longest run of version 2, and consoles that are off: for one cycle, for as long as can be, and not at all.
 #[test]
-fn consoles_that_are_off_are_read(rt: HostRuntime) {
+fn consoles_that_are_off_are_read(rt: HostRuntime) -> Result<(), Fail> {
     let text: &[u8] =
         b" gbalink 2\ncycles 274877906944\nconsole 0\noff 1\nbios b\nconsole 1\nbios b\noff 274877906943\nconsole 2\nbios b\nend\n";
-    match Job::parse(rt.alloc(), text) {
-        Ok(job) => {
-            let [first, second, third] = job.consoles.as_slice() else {
-                return assert!(rt; false);
-            };
-            assert_eq!(rt; job.cycles, 274_877_906_944);
-            assert_eq!(rt; (first.off, second.off, third.off), (1, 274_877_906_943, 0));
-        }
-        Err(_) => panic!(rt; "no job"),
-    }
+    let job = job_of(rt.alloc(), text).ok_or("no job")?;
+    assert_eq!(rt; job.cycles, 274_877_906_944);
+    assert!(rt; are_off(&job, &[1, 274_877_906_943, 0]));
+    Ok(())
+}
+
+/// How many pairs of players are joined on a cable of so many.
+fn joined_pairs(players: usize) -> usize {
+    PAIRS.iter().filter(|pair| pair.is_joined(players)).count()
+}
+
+/// Whether a player of a cable of four is joined to itself.
+fn is_joined_to_itself(player: usize) -> bool {
+    let pair = Pair {
+        sender: player,
+        receiver: player,
+    };
+    pair.is_joined(4)
 }
 
 // The pairs of players, and how many players a cable has.
 #[test]
 fn pairs_are_told(rt: HostRuntime) {
     assert_eq!(rt; (players_for(1), players_for(2), players_for(4)), (2, 2, 4));
-    assert_eq!(rt; PAIRS.iter().filter(|pair| pair.is_joined(3)).count(), 6);
-    assert!(rt;
-        !Pair {
-            sender: 1,
-            receiver: 1
-        }
-        .is_joined(4)
-    );
+    assert_eq!(rt; joined_pairs(3), 6);
+    assert!(rt; !is_joined_to_itself(1));
 }
 
-#[test]
-fn four_consoles_are_read(rt: HostRuntime) {
-    let text: &[u8] =
-        b"gbalink 1\ncycles 9\nconsole 0\nbios b\ncart c\nconsole 1\nkeys k\nbios b\nconsole 02\nbios d\nout words\nconsole 3\nout frames\nbios b\nsave s\nend\n";
-    let plain = Some(OutLine { digest: None });
-    match Job::parse(rt.alloc(), text) {
-        Ok(job) => {
-            let [first, second, third, fourth] = job.consoles.as_slice() else {
-                return assert!(rt; false);
-            };
-            assert!(rt; is_named(&first.bios, "b", 4) && is_file(&first.cart, "c", 5));
-            assert!(rt; first.keys.is_none() && first.save.is_none());
-            assert!(rt; is_named(&second.bios, "b", 8) && is_file(&second.keys, "k", 7));
-            assert!(rt; second.cart.is_none());
-            assert!(rt; is_named(&third.bios, "d", 10) && third.save.is_none());
-            assert!(rt; is_asked(&third.outs, [None, None, plain, None, None]));
-            assert!(rt; third.asks_for(OutKind::Words) && !third.asks_for(OutKind::Frames));
-            assert!(rt; is_named(&fourth.bios, "b", 14) && is_file(&fourth.save, "s", 15));
-            assert_eq!(rt; fourth.output(OutKind::Frames), plain);
-            assert_eq!(rt; fourth.output(OutKind::Words), None);
-        }
-        Err(_) => panic!(rt; "no job"),
+static OF_FOUR_CONSOLES: [Wanted; 4] = [
+    Wanted {
+        bios: ("b", 4),
+        cart: Some(("c", 5)),
+        save: None,
+        keys: None,
+        asked: [false; 5],
+    },
+    Wanted {
+        bios: ("b", 8),
+        cart: None,
+        save: None,
+        keys: Some(("k", 7)),
+        asked: [false; 5],
+    },
+    Wanted {
+        bios: ("d", 10),
+        cart: None,
+        save: None,
+        keys: None,
+        asked: [false, false, true, false, false],
+    },
+    Wanted {
+        bios: ("b", 14),
+        cart: None,
+        save: Some(("s", 15)),
+        keys: None,
+        asked: [true, false, false, false, false],
+    },
+];
+
+/// Whether a console is asked for words and for no frames.
+fn asks_for_words(console: &JobConsole) -> bool {
+    console.asks_for(OutKind::Words) && !console.asks_for(OutKind::Frames)
+}
+
+/// Whether a console is asked for frames, with no digest, and for no words.
+fn gives_frames(console: &JobConsole) -> bool {
+    is_plain(console.output(OutKind::Frames), true) && console.output(OutKind::Words).is_none()
+}
+
+/// Whether the third of four consoles is asked for words, and the fourth for frames.
+fn ask_for_words_and_frames(consoles: &[JobConsole]) -> bool {
+    match consoles {
+        [_, _, third, fourth] => asks_for_words(third) && gives_frames(fourth),
+        _ => false,
     }
 }
 
-fn has_digest(file: &Option<FileLine>, digest: Option<[u8; 32]>) -> bool {
+/// Whether each console has its files and no others, and is asked for its outputs.
+fn are_wanted(consoles: &[JobConsole], want: &[Wanted]) -> bool {
+    if consoles.len() != want.len() {
+        return false;
+    }
+    for (console, want) in consoles.iter().zip(want) {
+        if !is_wanted(console, want) {
+            return false;
+        }
+    }
+    true
+}
+
+#[test]
+fn four_consoles_are_read(rt: HostRuntime) -> Result<(), Fail> {
+    let text: &[u8] =
+        b"gbalink 1\ncycles 9\nconsole 0\nbios b\ncart c\nconsole 1\nkeys k\nbios b\nconsole 02\nbios d\nout words\nconsole 3\nout frames\nbios b\nsave s\nend\n";
+    let job = job_of(rt.alloc(), text).ok_or("no job")?;
+    assert!(rt; are_wanted(&job.consoles, &OF_FOUR_CONSOLES));
+    assert!(rt; ask_for_words_and_frames(&job.consoles));
+    Ok(())
+}
+
+fn has_digest(file: &Option<FileLine>, digest: [u8; 32]) -> bool {
     match file {
-        Some(file) => file.digest == digest,
+        Some(file) => file.digest == Some(digest),
         None => false,
     }
 }
 
-// Each line that may state a digest, in lower case, in upper case and in both.
+/// Whether each file of a console has the digest of the empty file.
+fn are_files_of_nothing(console: &JobConsole) -> bool {
+    console.bios.digest == Some(NOTHING)
+        && has_digest(&console.cart, NOTHING)
+        && has_digest(&console.save, NOTHING)
+        && has_digest(&console.keys, NOTHING)
+}
+
+/// Whether the frames and the words are to have the digest of the empty file, the samples none, and there are no others.
+fn are_outputs_of_nothing(outs: &PerKind<Option<OutLine>>) -> bool {
+    let stated = Some(OutLine {
+        digest: Some(NOTHING),
+    });
+    let plain = Some(OutLine { digest: None });
+    outs.frames == stated
+        && outs.samples == plain
+        && outs.words == stated
+        && outs.state.is_none()
+        && outs.save.is_none()
+}
+
+/// What stands before digits in a job whose lines all state a digest, but for its samples.
+static BEFORE_DIGITS: [&[u8]; 6] = [
+    b"bios b sha256 ",
+    b"\ncart c\tsha256  ",
+    b" \nsave s sha256 ",
+    b"\r\nkeys k sha256 ",
+    b"\nout frames sha256 ",
+    b"\nout samples\nout words sha256 ",
+];
+
+/// A job whose lines all state these digits, but for its samples.
+fn with_digits(alloc: Global, digits: &[u8]) -> Result<Vec<u8>, AllocError> {
+    let mut text = Vec::from_slice(alloc, HEAD)?;
+    for &before in &BEFORE_DIGITS {
+        text.extend_from_slice(before)?;
+        text.extend_from_slice(digits)?;
+    }
+    text.extend_from_slice(b"\nend")?;
+    Ok(text)
+}
+
+/// The digits in lower case, in upper case and in both.
+static DIGITS: [&[u8]; 3] = [
+    OF_NOTHING,
+    b"E3B0C44298FC1C149AFBF4C8996FB92427AE41E4649B934CA495991B7852B855",
+    b"e3B0c44298fC1c149AfBf4C8996fb92427ae41e4649b934Ca495991b7852B855",
+];
+
 #[test]
 fn digests_are_read(rt: HostRuntime) -> Result<(), Fail> {
-    let upper: &[u8] = b"E3B0C44298FC1C149AFBF4C8996FB92427AE41E4649B934CA495991B7852B855";
-    let both: &[u8] = b"e3B0c44298fC1c149AfBf4C8996fb92427ae41E4649b934Ca495991b7852B855";
-    for digits in [OF_NOTHING, upper, both] {
-        let text = joined(
-            rt.alloc(),
-            &[
-                HEAD,
-                b"bios b sha256 ",
-                digits,
-                b"\ncart c\tsha256  ",
-                digits,
-                b" \nsave s sha256 ",
-                digits,
-                b"\r\nkeys k sha256 ",
-                digits,
-                b"\nout frames sha256 ",
-                digits,
-                b"\nout samples\nout words sha256 ",
-                digits,
-                b"\nend",
-            ],
-        )?;
-        match Job::parse(rt.alloc(), &text) {
-            Ok(job) => {
-                let [console] = job.consoles.as_slice() else {
-                    return Err(Fail::from("one console"));
-                };
-                assert_eq!(rt; console.bios.digest, Some(NOTHING));
-                assert!(rt; has_digest(&console.cart, Some(NOTHING)));
-                assert!(rt; has_digest(&console.save, Some(NOTHING)));
-                assert!(rt; has_digest(&console.keys, Some(NOTHING)));
-                let stated = Some(OutLine {
-                    digest: Some(NOTHING),
-                });
-                let plain = Some(OutLine { digest: None });
-                assert!(rt; is_asked(&console.outs, [stated, plain, stated, None, None]));
-            }
-            Err(_) => panic!(rt; "no job of {digits:?}"),
-        }
+    for &digits in &DIGITS {
+        let text = with_digits(rt.alloc(), digits)?;
+        let job = job_of(rt.alloc(), &text).ok_or("no job")?;
+        let console = only_console(&job).ok_or("one console")?;
+        assert!(rt; are_files_of_nothing(console), "of {digits:?}");
+        assert!(rt; are_outputs_of_nothing(&console.outs), "of {digits:?}");
     }
     Ok(())
 }
 
+fn has_digits(digest: &[u8; 32], digits: &[u8]) -> bool {
+    digits_of(digest).as_slice() == digits
+}
+
 #[test]
 fn digests_are_told(rt: HostRuntime) {
-    assert_eq!(rt; digest_of(b""), NOTHING);
-    assert_eq!(rt; digits_of(&NOTHING).as_slice(), OF_NOTHING);
+    assert!(rt; digest_of(b"") == NOTHING);
+    assert!(rt; has_digits(&NOTHING, OF_NOTHING));
     assert_eq!(rt; OutKind::Samples.name(), "samples");
 }

@@ -1,7 +1,11 @@
 //! Jobs that are refused, each at a line for a cause.
 
-use crate::helpers::{FIRST, HEAD, OF_NOTHING, joined, padded, refuses};
-use gba_joblog::{Job, JobError, JobKind, is_name};
+use crate::helpers::{
+    FIRST, HEAD, OF_NOTHING, Padded, assert_jobs, assert_refused, joined, refuses,
+};
+use gba_joblog::{JobError, JobKind, is_name};
+use std::alloc::{AllocError, Global};
+use std::process::Abort;
 use std::test::Fail;
 
 static REFUSED_LINES: [(&[u8], u64, JobKind); 30] = [
@@ -86,10 +90,9 @@ static REFUSED_LINES: [(&[u8], u64, JobKind); 30] = [
 ];
 
 #[test]
-fn the_first_refused_line_is_named(rt: HostRuntime) {
-    for (text, line, kind) in &REFUSED_LINES {
-        assert!(rt; refuses(rt.alloc(), text, *line, *kind), "of {text:?}");
-    }
+fn the_first_refused_line_is_named(rt: HostRuntime) -> Result<(), Fail> {
+    assert_refused(&rt, rt.alloc(), b"", &REFUSED_LINES)?;
+    Ok(())
 }
 
 static TESTS_IN_ORDER: [(&[u8], u64, JobKind); 49] = [
@@ -217,10 +220,9 @@ static TESTS_IN_ORDER: [(&[u8], u64, JobKind); 49] = [
 ];
 
 #[test]
-fn the_tests_of_a_line_have_their_order(rt: HostRuntime) {
-    for (text, line, kind) in &TESTS_IN_ORDER {
-        assert!(rt; refuses(rt.alloc(), text, *line, *kind), "of {text:?}");
-    }
+fn the_tests_of_a_line_have_their_order(rt: HostRuntime) -> Result<(), Fail> {
+    assert_refused(&rt, rt.alloc(), b"", &TESTS_IN_ORDER)?;
+    Ok(())
 }
 
 static DELAYS: [(&[u8], u64, JobKind); 15] = [
@@ -345,10 +347,9 @@ static OF_VERSION_2: [(&[u8], u64, JobKind); 39] = [
 ];
 
 #[test]
-fn version_1_has_no_lines_of_version_2(rt: HostRuntime) {
-    for (text, line, kind) in &OF_VERSION_2 {
-        assert!(rt; refuses(rt.alloc(), text, *line, *kind), "of {text:?}");
-    }
+fn version_1_has_no_lines_of_version_2(rt: HostRuntime) -> Result<(), Fail> {
+    assert_refused(&rt, rt.alloc(), b"", &OF_VERSION_2)?;
+    Ok(())
 }
 
 // What follows the first lines of a job, up to `cycles`: the next line is the third.
@@ -411,13 +412,8 @@ static CONSOLES: [(&[u8], u64, JobKind); 22] = [
 
 #[test]
 fn delays_and_consoles_are_refused(rt: HostRuntime) -> Result<(), Fail> {
-    for (text, line, kind) in &DELAYS {
-        assert!(rt; refuses(rt.alloc(), text, *line, *kind), "of {text:?}");
-    }
-    for (text, line, kind) in &CONSOLES {
-        let whole = joined(rt.alloc(), &[b"gbalink 1\ncycles 1\n", text])?;
-        assert!(rt; refuses(rt.alloc(), &whole, *line, *kind), "of {text:?}");
-    }
+    assert_refused(&rt, rt.alloc(), b"", &DELAYS)?;
+    assert_refused(&rt, rt.alloc(), b"gbalink 1\ncycles 1\n", &CONSOLES)?;
     Ok(())
 }
 
@@ -439,31 +435,52 @@ static DIGESTS: [(&[u8], bool, &[u8], JobKind); 14] = [
     (b" sha256 ", true, b" sha256", JobKind::Extra),
 ];
 
+static LINES: [&[u8]; 6] = [
+    b"bios b",
+    b"cart c",
+    b"save s",
+    b"keys k",
+    b"out frames",
+    b"out save",
+];
+
+/// Whether a line is refused with this digest after it.
+fn refuses_digest(
+    alloc: Global,
+    line: &[u8],
+    &(before, stated, after, kind): &(&[u8], bool, &[u8], JobKind),
+) -> Result<bool, AllocError> {
+    let digits: &[u8] = if stated { OF_NOTHING } else { b"" };
+    let text = joined(alloc, &[HEAD, line, before, digits, after])?;
+    // a line that is right is the last, and then the job ends too early
+    let right = stated && before == b" sha256 ".as_slice() && kind == JobKind::Missing;
+    let at = if right { 5 } else { 4 };
+    Ok(refuses(alloc, &text, at, kind))
+}
+
+/// Asserts of a line that it is refused with each of these digests after it.
+fn assert_digests(rt: &impl Abort, alloc: Global, line: &[u8]) -> Result<(), AllocError> {
+    for row in &DIGESTS {
+        assert!(rt;
+            refuses_digest(alloc, line, row)?,
+            "of {line:?} and {:?}",
+            row.0
+        );
+    }
+    Ok(())
+}
+
+static SHORT: [&[u8]; 3] = [
+    b"e3b0c44298fc1c149afbf4c8996fb92427ae41e4649b934ca495991b7852b85",
+    b"e3b0c44298fc1c149afbf4c8996fb92427ae41e4649b934ca495991b7852b8",
+    b"e3b0c44298fc1c149afbf4c8996fb92427ae41e4649b934ca495991b7852b85g",
+];
+
 #[test]
 fn digests_are_refused(rt: HostRuntime) -> Result<(), Fail> {
-    static LINES: [&[u8]; 6] = [
-        b"bios b",
-        b"cart c",
-        b"save s",
-        b"keys k",
-        b"out frames",
-        b"out save",
-    ];
     for &line in &LINES {
-        for (before, stated, after, kind) in &DIGESTS {
-            let digits: &[u8] = if *stated { OF_NOTHING } else { b"" };
-            let text = joined(rt.alloc(), &[HEAD, line, before, digits, after])?;
-            // a line that is right is the last, and then the job ends too early
-            let right = *stated && *before == b" sha256 ".as_slice() && *kind == JobKind::Missing;
-            let at = if right { 5 } else { 4 };
-            assert!(rt; refuses(rt.alloc(), &text, at, *kind), "of {text:?}");
-        }
+        assert_digests(&rt, rt.alloc(), line)?;
     }
-    static SHORT: [&[u8]; 3] = [
-        b"e3b0c44298fc1c149afbf4c8996fb92427ae41e4649b934ca495991b7852b85",
-        b"e3b0c44298fc1c149afbf4c8996fb92427ae41e4649b934ca495991b7852b8",
-        b"e3b0c44298fc1c149afbf4c8996fb92427ae41e4649b934ca495991b7852b85g",
-    ];
     for &digits in &SHORT {
         let text = joined(rt.alloc(), &[HEAD, b"bios b sha256 ", digits, b" x"])?;
         assert!(rt;
@@ -474,99 +491,155 @@ fn digests_are_refused(rt: HostRuntime) -> Result<(), Fail> {
     Ok(())
 }
 
+static LONG_LINES: [Padded; 12] = [
+    Padded {
+        front: b"gbalink 1\ncycles 1\nconsole 0\nbios ",
+        byte: b'n',
+        count: 200,
+        back: b"\nend\n",
+        refused: None,
+    },
+    Padded {
+        front: b"gbalink 1\ncycles 1\nconsole 0\nbios ",
+        byte: b'n',
+        count: 201,
+        back: b"\nend\n",
+        refused: Some((4, JobKind::Name)),
+    },
+    Padded {
+        front: b"gbalink 1\ncycles 1\nconsole 0\nbios ",
+        byte: b' ',
+        count: 394,
+        back: b"b\r\nend\n",
+        refused: None,
+    },
+    Padded {
+        front: b"gbalink 1\ncycles 1\nconsole 0\nbios ",
+        byte: b' ',
+        count: 395,
+        back: b"b\r\nend\n",
+        refused: Some((4, JobKind::Long)),
+    },
+    Padded {
+        front: b"#",
+        byte: b'x',
+        count: 400,
+        back: b"\ngbalink 1\n",
+        refused: Some((1, JobKind::Long)),
+    },
+    Padded {
+        front: b"#",
+        byte: 0xff,
+        count: 400,
+        back: b"\ngbalink 1\n",
+        refused: Some((1, JobKind::Long)),
+    },
+    Padded {
+        front: b"\t",
+        byte: b' ',
+        count: 400,
+        back: b"\ngbalink 1\n",
+        refused: Some((1, JobKind::Long)),
+    },
+    Padded {
+        front: b"x",
+        byte: 0xff,
+        count: 400,
+        back: b"\ngbalink 1\n",
+        refused: Some((1, JobKind::Long)),
+    },
+    Padded {
+        front: b"#",
+        byte: 0xff,
+        count: 399,
+        back: b"\ngbalink 1\n",
+        refused: Some((3, JobKind::Missing)),
+    },
+    Padded {
+        front: b"\t",
+        byte: b' ',
+        count: 399,
+        back: b"\ngbalink 1\n",
+        refused: Some((3, JobKind::Missing)),
+    },
+    Padded {
+        front: b"gbalink 1\ncycles 1\nconsole 0\nbios b\nend\n",
+        byte: b'x',
+        count: 401,
+        back: b"\n",
+        refused: Some((6, JobKind::Long)),
+    },
+    Padded {
+        front: HEAD,
+        byte: b'#',
+        count: 401,
+        back: b"\xff",
+        refused: Some((4, JobKind::Long)),
+    },
+];
+
 #[test]
 fn lines_have_400_bytes_and_names_200(rt: HostRuntime) -> Result<(), Fail> {
-    let text = padded(
-        rt.alloc(),
-        b"gbalink 1\ncycles 1\nconsole 0\nbios ",
-        b'n',
-        200,
-        b"\nend\n",
-    )?;
-    assert!(rt; Job::parse(rt.alloc(), &text).is_ok());
-    let text = padded(
-        rt.alloc(),
-        b"gbalink 1\ncycles 1\nconsole 0\nbios ",
-        b'n',
-        201,
-        b"\nend\n",
-    )?;
-    assert!(rt; refuses(rt.alloc(), &text, 4, JobKind::Name));
-    let text = padded(
-        rt.alloc(),
-        b"gbalink 1\ncycles 1\nconsole 0\nbios ",
-        b' ',
-        394,
-        b"b\r\nend\n",
-    )?;
-    assert!(rt; Job::parse(rt.alloc(), &text).is_ok());
-    let text = padded(
-        rt.alloc(),
-        b"gbalink 1\ncycles 1\nconsole 0\nbios ",
-        b' ',
-        395,
-        b"b\r\nend\n",
-    )?;
-    assert!(rt; refuses(rt.alloc(), &text, 4, JobKind::Long));
-    for (byte, front) in [(b'x', b"#"), (0xff, b"#"), (b' ', b"\t"), (0xff, b"x")] {
-        let text = padded(rt.alloc(), front, byte, 400, b"\ngbalink 1\n")?;
-        assert!(rt; refuses(rt.alloc(), &text, 1, JobKind::Long), "with {byte}");
-    }
-    for (byte, front, line) in [(0xff, b"#", 3), (b' ', b"\t", 3)] {
-        let text = padded(rt.alloc(), front, byte, 399, b"\ngbalink 1\n")?;
-        assert!(rt;
-            refuses(rt.alloc(), &text, line, JobKind::Missing),
-            "with {byte}"
-        );
-    }
-    let text = padded(
-        rt.alloc(),
-        b"gbalink 1\ncycles 1\nconsole 0\nbios b\nend\n",
-        b'x',
-        401,
-        b"\n",
-    )?;
-    assert!(rt; refuses(rt.alloc(), &text, 6, JobKind::Long));
-    let text = padded(rt.alloc(), HEAD, b'#', 401, b"\xff")?;
-    assert!(rt; refuses(rt.alloc(), &text, 4, JobKind::Long));
-    Ok(())
+    assert_jobs(&rt, rt.alloc(), &LONG_LINES)
 }
+
+static LONG_JOBS: [Padded; 2] = [
+    Padded {
+        front: FIRST,
+        byte: b'\n',
+        count: 134_217_728 - FIRST.len(),
+        back: b"",
+        refused: None,
+    },
+    Padded {
+        front: FIRST,
+        byte: b'\n',
+        count: 134_217_729 - FIRST.len(),
+        back: b"",
+        refused: Some((0, JobKind::Long)),
+    },
+];
 
 // The longest job is read in seconds, and one byte more is refused as a whole.
 #[test]
 fn a_job_has_134217728_bytes(rt: HostRuntime) -> Result<(), Fail> {
-    let text = padded(rt.alloc(), FIRST, b'\n', 134_217_728 - FIRST.len(), b"")?;
-    assert!(rt; Job::parse(rt.alloc(), &text).is_ok());
-    let text = padded(rt.alloc(), FIRST, b'\n', 134_217_729 - FIRST.len(), b"")?;
-    assert!(rt; refuses(rt.alloc(), &text, 0, JobKind::Long));
-    Ok(())
+    assert_jobs(&rt, rt.alloc(), &LONG_JOBS)
+}
+
+static KINDS: [(JobKind, &str); 11] = [
+    (JobKind::Byte, "Byte"),
+    (JobKind::Word, "Word"),
+    (JobKind::Number, "Number"),
+    (JobKind::Name, "Name"),
+    (JobKind::Digest, "Digest"),
+    (JobKind::Order, "Order"),
+    (JobKind::Repeated, "Repeated"),
+    (JobKind::Missing, "Missing"),
+    (JobKind::Extra, "Extra"),
+    (JobKind::Long, "Long"),
+    (JobKind::Clash, "Clash"),
+];
+
+/// Whether a kind has this name, and is printed so.
+fn is_told(alloc: Global, kind: JobKind, name: &str) -> Result<bool, Fail> {
+    let text = format!(in alloc; "{kind}")?;
+    Ok(kind.name() == name && text.as_str() == name)
+}
+
+fn printed(alloc: Global, refusal: JobError) -> Result<String, Fail> {
+    Ok(format!(in alloc; "{refusal}")?)
 }
 
 #[test]
 fn refusals_are_told_by_line_and_kind(rt: HostRuntime) -> Result<(), Fail> {
-    for &(kind, name) in &[
-        (JobKind::Byte, "Byte"),
-        (JobKind::Word, "Word"),
-        (JobKind::Number, "Number"),
-        (JobKind::Name, "Name"),
-        (JobKind::Digest, "Digest"),
-        (JobKind::Order, "Order"),
-        (JobKind::Repeated, "Repeated"),
-        (JobKind::Missing, "Missing"),
-        (JobKind::Extra, "Extra"),
-        (JobKind::Long, "Long"),
-        (JobKind::Clash, "Clash"),
-    ] {
-        assert_eq!(rt; kind.name(), name);
-        let text = format!(in rt.alloc(); "{kind}")?;
-        assert_eq!(rt; text.as_str(), name);
+    for &(kind, name) in &KINDS {
+        assert!(rt; is_told(rt.alloc(), kind, name)?, "of {name}");
     }
     let refusal = JobError {
         line: 5,
         kind: JobKind::Repeated,
     };
-    let text = format!(in rt.alloc(); "{refusal}")?;
-    assert_eq!(rt; text.as_str(), "line 5 Repeated");
+    assert_eq!(rt; printed(rt.alloc(), refusal)?.as_str(), "line 5 Repeated");
     assert!(rt; is_name(b"a/b.c"));
     assert!(rt; !is_name(b"-"));
     Ok(())
