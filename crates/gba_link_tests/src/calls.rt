@@ -14,30 +14,64 @@ pub fn stored(alloc: Global, name: &str, bytes: Vec<u8>) -> Result<StoredFile, A
     })
 }
 
+/// These words, and zeros behind them up to this length.
+pub(crate) fn padded(alloc: Global, code: &[u32], length: usize) -> Result<Vec<u8>, AllocError> {
+    let mut bytes = Vec::new(alloc);
+    for word in code {
+        bytes.extend_from_slice(&word.to_le_bytes())?;
+    }
+    for _ in bytes.len()..length {
+        bytes.push(0)?;
+    }
+    Ok(bytes)
+}
+
 /// A BIOS that begins with these words.
 pub fn image_of(alloc: Global, code: &[u32]) -> Result<Vec<u8>, AllocError> {
-    let mut bios = Vec::new(alloc);
-    for word in code {
-        bios.extend_from_slice(&word.to_le_bytes())?;
-    }
-    for _ in bios.len()..16_384 {
-        bios.push(0)?;
-    }
-    Ok(bios)
+    padded(alloc, code, 16_384)
 }
 
 /// What a call left: its status, and the files, of which `-` is standard output.
 #[derive(Drop)]
 pub struct Answer {
     pub status: u8,
-    pub out: MemorySink,
+    out: MemorySink,
 }
 
 impl Answer {
     /// Standard output.
     pub fn report(&self) -> &[u8] {
-        self.out.bytes("-").unwrap_or(b"".as_slice())
+        self.bytes("-").unwrap_or(b"".as_slice())
     }
+
+    /// The content of the file, or None where there is no such file.
+    pub fn bytes(&self, name: &str) -> Option<&[u8]> {
+        self.out.bytes(name)
+    }
+}
+
+/// The numbers of the reads, creates and appends that fail.
+#[derive(Clone, Copy)]
+pub struct Failing<'a> {
+    pub reads: &'a [u64],
+    pub creates: &'a [u64],
+    pub appends: &'a [u64],
+}
+
+impl Failing<'static> {
+    /// Nothing fails.
+    pub const NONE: Failing<'static> = Failing {
+        reads: &[],
+        creates: &[],
+        appends: &[],
+    };
+}
+
+/// A sink with no file, in which these calls fail.
+pub(crate) fn sink_of(alloc: Global, failing: Failing<'_>) -> Result<MemorySink, AllocError> {
+    let creates = Vec::from_slice(alloc, failing.creates)?;
+    let appends = Vec::from_slice(alloc, failing.appends)?;
+    Ok(MemorySink::new(alloc, creates, appends))
 }
 
 fn copies_of(alloc: Global, words: &[&str]) -> Result<Vec<String>, AllocError> {
@@ -48,15 +82,17 @@ fn copies_of(alloc: Global, words: &[&str]) -> Result<Vec<String>, AllocError> {
     Ok(copies)
 }
 
-/// A call with these words over a store and a sink.
+/// A call with these words over these files, in which these reads, creates and appends fail.
 pub fn call_with<R: Threads + Sync>(
     rt: &R,
     alloc: Global,
     words: &[&str],
-    mut store: MemoryStore,
-    mut out: MemorySink,
+    files: Vec<StoredFile>,
+    failing: Failing<'_>,
 ) -> Result<Answer, Fail> {
     let said = copies_of(alloc, words)?;
+    let mut store = MemoryStore::new(files, Vec::from_slice(alloc, failing.reads)?);
+    let mut out = sink_of(alloc, failing)?;
     let status = gba_link(rt, alloc, said.as_slice(), &mut store, &mut out, &NoGate);
     Ok(Answer { status, out })
 }

@@ -2,9 +2,11 @@
 //! Tests of the top call over files in memory, and calls of it for other tests.
 
 mod calls;
+mod content;
 mod logging;
 
-pub use calls::{Answer, call, call_into, call_through, call_with, image_of, stored};
+pub use calls::{Answer, Failing, call, call_into, call_through, call_with, image_of, stored};
+pub use content::{Content, Expected, bytes_of, is_as_expected, stored_all};
 pub use logging::LoggingSink;
 
 #[cfg(test)]

@@ -1,7 +1,7 @@
 //! Consoles on a cable, and their logs: what is written is stated by hand, from the formats, the cycles of the programs
 //! and the rules of transfers. The digests are those that `sha256sum` gives for these bytes.
 
-use gba_link_tests::{Answer, call, image_of, stored};
+use gba_link_tests::{Answer, Content, Expected, bytes_of, call, is_as_expected, stored};
 use gba_store::StoredFile;
 use std::alloc::{AllocError, Global};
 use std::process::Abort;
@@ -310,17 +310,9 @@ end\n";
 const ONE_REPORT: &str = "console 0 clock 3002 frames 0 samples 5 words 1\n\
 log 0f5268a12c92919ff8c2f02df60b72d723bb2267383b2f93f05a20c59b30c784\n";
 
-/// The bytes of a file.
-#[derive(Clone, Copy)]
-enum Content<'a> {
-    Text(&'a str),
-    Code(&'a [u32]),
-    Filled(usize, u8),
-}
-
 use Content::{Code, Filled, Text};
 
-/// A job with its other inputs, and what its run with OUT `g` reports and writes.
+/// A job with its other inputs, and what its run reports and writes, by what the names of its files have behind OUT.
 #[derive(Clone, Copy)]
 struct Linked<'a> {
     job: &'a str,
@@ -329,23 +321,27 @@ struct Linked<'a> {
     written: &'a [(&'a str, Content<'a>)],
 }
 
+const TWO_INPUTS: &[(&str, Content<'static>)] = &[
+    ("b", Code(&STARTS_MULTI)),
+    ("c", Code(&AWAITS_MULTI)),
+    ("k", Text(KEYS)),
+];
+
+/// Both have both words.
+const TWO_FILES: &[(&str, Content<'static>)] = &[
+    (".0.words", Text(TWO_WORDS)),
+    (".0.state", Text(FIRST_STATE)),
+    (".1.words", Text(TWO_WORDS)),
+    (".1.state", Text(SECOND_STATE)),
+    (".log", Text(TWO_LOG)),
+];
+
 static LINKED: [Linked<'static>; 8] = [
-    // Both have both words.
     Linked {
         job: TWO,
-        inputs: &[
-            ("b", Code(&STARTS_MULTI)),
-            ("c", Code(&AWAITS_MULTI)),
-            ("k", Text(KEYS)),
-        ],
+        inputs: TWO_INPUTS,
         report: TWO_REPORT,
-        written: &[
-            ("g.0.words", Text(TWO_WORDS)),
-            ("g.0.state", Text(FIRST_STATE)),
-            ("g.1.words", Text(TWO_WORDS)),
-            ("g.1.state", Text(SECOND_STATE)),
-            ("g.log", Text(TWO_LOG)),
-        ],
+        written: TWO_FILES,
     },
     // All have all words. There are 23 pairs of samples, and the SRAM is full of FFh.
     Linked {
@@ -353,14 +349,14 @@ static LINKED: [Linked<'static>; 8] = [
         inputs: &[("b", Code(&SENDS_KEYS))],
         report: FOUR_REPORT,
         written: &[
-            ("g.0.words", Text(FOUR_WORDS)),
-            ("g.1.samples", Filled(92, 0)),
-            ("g.1.words", Text(FOUR_WORDS)),
-            ("g.2.frames", Filled(0, 0)),
-            ("g.2.words", Text(FOUR_WORDS)),
-            ("g.3.words", Text(FOUR_WORDS)),
-            ("g.3.save", Filled(32_768, 0xFF)),
-            ("g.log", Text(FOUR_LOG)),
+            (".0.words", Text(FOUR_WORDS)),
+            (".1.samples", Filled(92, 0)),
+            (".1.words", Text(FOUR_WORDS)),
+            (".2.frames", Filled(0, 0)),
+            (".2.words", Text(FOUR_WORDS)),
+            (".3.words", Text(FOUR_WORDS)),
+            (".3.save", Filled(32_768, 0xFF)),
+            (".log", Text(FOUR_LOG)),
         ],
     },
     // Each has the other's byte. The transfer takes 2 cycles of the delay and 514, which are more than 8 times 64.
@@ -369,9 +365,9 @@ static LINKED: [Linked<'static>; 8] = [
         inputs: &[("b", Code(&STARTS_BYTE)), ("c", Code(&AWAITS_BYTE))],
         report: BYTE_REPORT,
         written: &[
-            ("g.0.words", Text("924 normal8 5a a5\n")),
-            ("g.1.words", Text("924 normal8 a5 5a\n")),
-            ("g.log", Text(BYTE_LOG)),
+            (".0.words", Text("924 normal8 5a a5\n")),
+            (".1.words", Text("924 normal8 a5 5a\n")),
+            (".log", Text(BYTE_LOG)),
         ],
     },
     // Both start at 13, and neither answers. The transfer takes 32 times 64 cycles.
@@ -380,9 +376,9 @@ static LINKED: [Linked<'static>; 8] = [
         inputs: &[("b", Code(&STARTS_WORD))],
         report: WORD_REPORT,
         written: &[
-            ("g.0.words", Text("2061 normal32 01234567 ffffffff\n")),
-            ("g.1.words", Text("2061 normal32 01234567 ffffffff\n")),
-            ("g.log", Text(WORD_LOG)),
+            (".0.words", Text("2061 normal32 01234567 ffffffff\n")),
+            (".1.words", Text("2061 normal32 01234567 ffffffff\n")),
+            (".log", Text(WORD_LOG)),
         ],
     },
     // The ways there and back are 1 and 1,024 cycles, and 514 more are the end.
@@ -391,9 +387,9 @@ static LINKED: [Linked<'static>; 8] = [
         inputs: &[("b", Code(&STARTS_FAST)), ("c", Code(&AWAITS_BYTE))],
         report: UNEVEN_REPORT,
         written: &[
-            ("g.0.words", Text("1947 normal8 5a a5\n")),
-            ("g.1.words", Text("1947 normal8 a5 5a\n")),
-            ("g.log", Text(UNEVEN_LOG)),
+            (".0.words", Text("1947 normal8 5a a5\n")),
+            (".1.words", Text("1947 normal8 a5 5a\n")),
+            (".log", Text(UNEVEN_LOG)),
         ],
     },
     // Player 1's reply comes to player 2 before the start does, and is lost there. The end comes 18 * 3 * 145 cycles after
@@ -403,10 +399,10 @@ static LINKED: [Linked<'static>; 8] = [
         inputs: &[("b", Code(&STARTS_MULTI)), ("c", Code(&AWAITS_MULTI))],
         report: EARLY_REPORT,
         written: &[
-            ("g.0.words", Text("8647 multi 1234 abcd abcd ffff 0\n")),
-            ("g.1.words", Text("8647 multi 1234 abcd abcd ffff 0\n")),
-            ("g.2.words", Text("8647 multi 1234 ffff abcd ffff 1\n")),
-            ("g.log", Text(EARLY_LOG)),
+            (".0.words", Text("8647 multi 1234 abcd abcd ffff 0\n")),
+            (".1.words", Text("8647 multi 1234 abcd abcd ffff 0\n")),
+            (".2.words", Text("8647 multi 1234 ffff abcd ffff 1\n")),
+            (".log", Text(EARLY_LOG)),
         ],
     },
     // Its first step begins at 1,008.
@@ -414,7 +410,7 @@ static LINKED: [Linked<'static>; 8] = [
         job: "gbalink 2\ncycles 1009\nconsole 0\noff 1000\nbios b\nout samples\nend\n",
         inputs: &[("b", Code(&LOOPS))],
         report: OFF_REPORT,
-        written: &[("g.0.samples", Filled(0, 0)), ("g.log", Text(OFF_LOG))],
+        written: &[(".0.samples", Filled(0, 0)), (".log", Text(OFF_LOG))],
     },
     // A job of version 1. The transfer takes 2 cycles of the delay and 514, and nobody answers.
     Linked {
@@ -422,18 +418,14 @@ static LINKED: [Linked<'static>; 8] = [
         inputs: &[("b", Code(&STARTS_FAST))],
         report: ONE_REPORT,
         written: &[
-            ("g.0.words", Text("924 normal8 5a ff\n")),
-            ("g.log", Text(ONE_LOG)),
+            (".0.words", Text("924 normal8 5a ff\n")),
+            (".log", Text(ONE_LOG)),
         ],
     },
 ];
 
-fn bytes_of(alloc: Global, content: Content<'_>) -> Result<Vec<u8>, AllocError> {
-    match content {
-        Text(text) => Vec::from_slice(alloc, text.as_bytes()),
-        Code(code) => image_of(alloc, code),
-        Filled(length, byte) => vec![in alloc; byte; length],
-    }
+fn all_linked() -> &'static [Linked<'static>] {
+    &LINKED
 }
 
 /// A job, and the inputs beside it but for the one of this name.
@@ -444,9 +436,9 @@ fn files_of(
     left_out: &str,
 ) -> Result<Vec<StoredFile>, AllocError> {
     let mut files = vec![in alloc; job]?;
-    for (name, content) in inputs {
-        if *name != left_out {
-            files.push(stored(alloc, name, bytes_of(alloc, *content)?)?)?;
+    for &(name, content) in inputs {
+        if name != left_out {
+            files.push(stored(alloc, name, bytes_of(alloc, content)?)?)?;
         }
     }
     Ok(files)
@@ -462,6 +454,13 @@ fn run_job<R: Abort + Threads + Sync>(
     let job = stored(alloc, "j", Vec::from_slice(alloc, job.as_bytes())?)?;
     let files = files_of(alloc, job, inputs, "")?;
     call(rt, alloc, &["run", "j", "g"], files)
+}
+
+/// The name of a run's file with this ending.
+pub(crate) fn name_of(alloc: Global, out: &str, ending: &str) -> Result<String, AllocError> {
+    let mut name = String::from_str(alloc, out)?;
+    name.push_str(ending)?;
+    Ok(name)
 }
 
 /// What the names of a run's files have behind OUT.
@@ -489,14 +488,14 @@ static ENDINGS: [&str; 21] = [
     ".log",
 ];
 
-/// The content of this name, where it is one of these.
-fn content_of<'a>(written: &[(&str, Content<'a>)], name: &str) -> Option<Content<'a>> {
-    for (one, content) in written {
-        if *one == name {
-            return Some(*content);
+/// What the file with this ending is to have, where just these are written.
+fn expected_of<'a>(written: &[(&str, Content<'a>)], ending: &str) -> Expected<'a> {
+    for &(one, content) in written {
+        if one == ending {
+            return Expected::Is(content);
         }
     }
-    None
+    Expected::Absent
 }
 
 /// A call wrote these files, and no others of a run with OUT `g`.
@@ -506,34 +505,38 @@ fn wrote<R: Abort>(
     answer: &Answer,
     written: &[(&str, Content<'_>)],
 ) -> Result<(), Fail> {
-    for ending in ENDINGS {
-        let name = format!(in alloc; "g{ending}")?;
-        let made = answer.out.bytes(name.as_str());
-        match content_of(written, name.as_str()) {
-            Some(content) => {
-                let bytes = bytes_of(alloc, content)?;
-                assert!(rt; made.is_some(), "no {name}");
-                assert_eq!(rt;
-                    made.unwrap_or(b"".as_slice()),
-                    bytes.as_slice(),
-                    "in {name}"
-                );
-            }
-            None => assert!(rt; made.is_none(), "there is {name}"),
-        }
+    for &ending in &ENDINGS {
+        let name = name_of(alloc, "g", ending)?;
+        let expected = expected_of(written, ending);
+        let found = answer.bytes(name.as_str());
+        assert!(rt; is_as_expected(alloc, found, expected)?, "in {name}");
     }
     Ok(())
+}
+
+/// A call with OUT `g` ended so, and wrote these files.
+fn came_to<R: Abort>(
+    rt: &R,
+    alloc: Global,
+    answer: &Answer,
+    status: u8,
+    report: &str,
+    written: &[(&str, Content<'_>)],
+) -> Result<(), Fail> {
+    assert_eq!(rt;
+        (answer.status, answer.report()),
+        (status, report.as_bytes())
+    );
+    wrote(rt, alloc, answer, written)
 }
 
 /// Runs of two and of four consoles, and what they write.
 #[test]
 fn consoles_are_linked(rt: HostRuntime) -> Result<(), Fail> {
     let alloc = rt.alloc();
-    for one in &LINKED {
+    for one in all_linked() {
         let answer = run_job(&rt, alloc, one.job, one.inputs)?;
-        assert_eq!(rt; answer.report(), one.report.as_bytes());
-        assert_eq!(rt; answer.status, 0);
-        wrote(&rt, alloc, &answer, one.written)?;
+        came_to(&rt, alloc, &answer, 0, one.report, one.written)?;
     }
     Ok(())
 }
@@ -545,7 +548,7 @@ fn written_as(
     name: &str,
     kept: &str,
 ) -> Result<StoredFile, AllocError> {
-    let bytes = answer.out.bytes(name).unwrap_or(b"".as_slice());
+    let bytes = answer.bytes(name).unwrap_or(b"".as_slice());
     stored(alloc, kept, Vec::from_slice(alloc, bytes)?)
 }
 
@@ -556,12 +559,11 @@ fn wrote_the_same<R: Abort>(
     first: &Answer,
     second: &Answer,
 ) -> Result<(), Fail> {
-    for ending in ENDINGS {
-        let one = format!(in alloc; "g{ending}")?;
-        let other = format!(in alloc; "h{ending}")?;
-        assert_eq!(rt;
-            second.out.bytes(other.as_str()),
-            first.out.bytes(one.as_str()),
+    for &ending in &ENDINGS {
+        let one = name_of(alloc, "g", ending)?;
+        let other = name_of(alloc, "h", ending)?;
+        assert!(rt;
+            second.bytes(other.as_str()) == first.bytes(one.as_str()),
             "in {other}"
         );
     }
@@ -578,21 +580,19 @@ fn is_run_again<R: Abort + Threads + Sync>(
     let log = written_as(alloc, &first, "g.log", "l")?;
     let files = files_of(alloc, log, one.inputs, "k")?;
     let second = call(rt, alloc, &["run", "l", "h"], files)?;
-    assert_eq!(rt; second.status, 0);
-    assert_eq!(rt; second.report(), first.report());
+    assert_eq!(rt; (second.status, second.report()), (0, first.report()));
     wrote_the_same(rt, alloc, &first, &second)
 }
 
 #[test]
 fn logs_are_run_again(rt: HostRuntime) -> Result<(), Fail> {
-    for one in &LINKED {
+    for one in all_linked() {
         is_run_again(&rt, rt.alloc(), one)?;
     }
     Ok(())
 }
 
-/// Digests that the job of two consoles states of an input and of two outputs, and what its run answers; whether its
-/// files are written.
+/// Digests that the job of two consoles states of an input and of two outputs, and what its run answers and writes.
 #[derive(Clone, Copy)]
 struct Stated<'a> {
     image: &'a str,
@@ -600,7 +600,7 @@ struct Stated<'a> {
     words: &'a str,
     status: u8,
     report: &'a str,
-    is_written: bool,
+    written: &'a [(&'a str, Content<'a>)],
 }
 
 static STATED: [Stated<'static>; 5] = [
@@ -610,7 +610,7 @@ static STATED: [Stated<'static>; 5] = [
         words: " sha256 4CEE999209FC00D1E7484C00CD09BAA8F06250C103E845ADFE296696A21D373D",
         status: 0,
         report: TWO_REPORT,
-        is_written: true,
+        written: TWO_FILES,
     },
     Stated {
         image: "",
@@ -618,7 +618,7 @@ static STATED: [Stated<'static>; 5] = [
         words: "",
         status: 7,
         report: "digest g.0.state stated 1111111111111111111111111111111111111111111111111111111111111111 got a50f5527e7b6f788864fbfda5ac5f82f716bfd2620dd719e104c66ab7dda1f44\n",
-        is_written: true,
+        written: TWO_FILES,
     },
     Stated {
         image: "",
@@ -626,7 +626,7 @@ static STATED: [Stated<'static>; 5] = [
         words: " sha256 A50F5527E7B6F788864FBFDA5AC5F82F716BFD2620DD719E104C66AB7DDA1F44",
         status: 7,
         report: "digest g.1.words stated a50f5527e7b6f788864fbfda5ac5f82f716bfd2620dd719e104c66ab7dda1f44 got 4cee999209fc00d1e7484c00cd09baa8f06250c103e845adfe296696a21d373d\n",
-        is_written: true,
+        written: TWO_FILES,
     },
     Stated {
         image: "",
@@ -634,7 +634,7 @@ static STATED: [Stated<'static>; 5] = [
         words: " sha256 1111111111111111111111111111111111111111111111111111111111111111",
         status: 7,
         report: "digest g.0.state stated 1111111111111111111111111111111111111111111111111111111111111111 got a50f5527e7b6f788864fbfda5ac5f82f716bfd2620dd719e104c66ab7dda1f44\n",
-        is_written: true,
+        written: TWO_FILES,
     },
     Stated {
         image: " sha256 a50f5527e7b6f788864fbfda5ac5f82f716bfd2620dd719e104c66ab7dda1f44",
@@ -642,26 +642,34 @@ static STATED: [Stated<'static>; 5] = [
         words: "",
         status: 7,
         report: "digest c stated a50f5527e7b6f788864fbfda5ac5f82f716bfd2620dd719e104c66ab7dda1f44 got 043edf6bcebf0b42da22d4b153cbc220ef528093fbc5ad92c215d6018e71b97b\n",
-        is_written: false,
+        written: &[],
     },
 ];
+
+/// The job of two consoles with these digests.
+fn job_of(alloc: Global, one: &Stated<'_>) -> Result<String, AllocError> {
+    let (image, state, words) = (one.image, one.state, one.words);
+    format!(in alloc;
+        "gbalink 1\ncycles 10000\nconsole 0\nbios b\nout words\nout state{state}\nconsole 1\nkeys k\nbios c{image}\nout state\nout words{words}\nend\n"
+    )
+}
+
+fn is_compared<R: Abort + Threads + Sync>(
+    rt: &R,
+    alloc: Global,
+    one: &Stated<'_>,
+) -> Result<(), Fail> {
+    let job = job_of(alloc, one)?;
+    let answer = run_job(rt, alloc, job.as_str(), TWO_INPUTS)?;
+    came_to(rt, alloc, &answer, one.status, one.report, one.written)
+}
 
 /// A stated digest that differs: of an input before anything is written, and of an output once all files are whole, the
 /// log with the digests of what was written. Of several outputs the first is told, and no summary comes.
 #[test]
 fn stated_digests_are_compared(rt: HostRuntime) -> Result<(), Fail> {
-    let alloc = rt.alloc();
-    let two = LINKED[0];
     for one in &STATED {
-        let (image, state, words) = (one.image, one.state, one.words);
-        let job = format!(in alloc;
-            "gbalink 1\ncycles 10000\nconsole 0\nbios b\nout words\nout state{state}\nconsole 1\nkeys k\nbios c{image}\nout state\nout words{words}\nend\n"
-        )?;
-        let answer = run_job(&rt, alloc, job.as_str(), two.inputs)?;
-        assert_eq!(rt; answer.report(), one.report.as_bytes());
-        assert_eq!(rt; answer.status, one.status);
-        let written = if one.is_written { two.written } else { &[] };
-        wrote(&rt, alloc, &answer, written)?;
+        is_compared(&rt, rt.alloc(), one)?;
     }
     Ok(())
 }

@@ -1,9 +1,12 @@
 //! Two consoles whose lanes meet: neither goes on before the other has come, in single steps and in bursts.
 
-use gba_link_tests::{call_through, image_of, stored};
+use gba_link_tests::{Content, call_through, stored, stored_all};
 use gba_store::Gate;
+use std::alloc::Global;
+use std::process::Abort;
 use std::sync::atomic::{AtomicBool, AtomicU32, Ordering};
 use std::test::Fail;
+use std::thread::Threads;
 
 /// No wait takes more turns of its loop.
 const MOST: u32 = 1 << 26;
@@ -36,6 +39,28 @@ impl Gate for Meeting {
     }
 }
 
+/// A branch to itself.
+static LOOP: [u32; 1] = [0xEAFF_FFFE];
+
+/// The job runs through the gate, and its report begins so.
+fn runs_through<R: Abort + Threads + Sync, G: Gate + Sync>(
+    rt: &R,
+    alloc: Global,
+    gate: &G,
+    job: &str,
+    report: &str,
+) -> Result<(), Fail> {
+    let job = stored(alloc, "j", Vec::from_slice(alloc, job.as_bytes())?)?;
+    let files = stored_all(alloc, job, &[("b", Content::Code(&LOOP))])?;
+    let answer = call_through(rt, alloc, &["run", "j", "g"], files, gate)?;
+    assert_eq!(rt; answer.status, 0);
+    assert!(rt;
+        answer.report().starts_with(report.as_bytes()),
+        "the report"
+    );
+    Ok(())
+}
+
 const JOB: &str =
     "gbalink 1\ncycles 1000\nconsole 0\nbios b\nout state\nconsole 1\nbios b\nout state\nend\n";
 
@@ -45,22 +70,15 @@ const REPORT: &str =
 
 #[test]
 fn two_lanes_meet(rt: HostRuntime) -> Result<(), Fail> {
-    let alloc = rt.alloc();
     let gate = Meeting {
         here: [AtomicBool::new(false), AtomicBool::new(false)],
         missed: AtomicBool::new(false),
     };
-    let files = vec![in alloc;
-        stored(alloc, "j", Vec::from_slice(alloc, JOB.as_bytes())?)?,
-        stored(alloc, "b", image_of(alloc, &[0xEAFF_FFFE])?)?,
-    ]?;
-    let answer = call_through(&rt, alloc, &["run", "j", "g"], files, &gate)?;
+    runs_through(&rt, rt.alloc(), &gate, JOB, REPORT)?;
     assert!(rt; !gate.missed.load(Ordering::SeqCst), "a lane waits in vain");
     for here in &gate.here {
         assert!(rt; here.load(Ordering::SeqCst), "a player makes no entry");
     }
-    assert_eq!(rt; answer.status, 0);
-    assert!(rt; answer.report().starts_with(REPORT.as_bytes()));
     Ok(())
 }
 
@@ -103,22 +121,15 @@ const LONGER_REPORT: &str =
 
 #[test]
 fn two_bursts_meet(rt: HostRuntime) -> Result<(), Fail> {
-    let alloc = rt.alloc();
     let gate = Pairing {
         asked: AtomicU32::new(0),
         missed: AtomicBool::new(false),
     };
-    let files = vec![in alloc;
-        stored(alloc, "j", Vec::from_slice(alloc, LONGER_JOB.as_bytes())?)?,
-        stored(alloc, "b", image_of(alloc, &[0xEAFF_FFFE])?)?,
-    ]?;
-    let answer = call_through(&rt, alloc, &["run", "j", "g"], files, &gate)?;
+    runs_through(&rt, rt.alloc(), &gate, LONGER_JOB, LONGER_REPORT)?;
     assert!(rt; !gate.missed.load(Ordering::SeqCst), "a lane asks alone");
     assert!(rt;
         gate.asked.load(Ordering::SeqCst) >= QUESTIONS,
         "no lanes go in bursts"
     );
-    assert_eq!(rt; answer.status, 0);
-    assert!(rt; answer.report().starts_with(LONGER_REPORT.as_bytes()));
     Ok(())
 }

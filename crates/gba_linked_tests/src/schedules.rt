@@ -1,7 +1,7 @@
 //! A thousand schedules of cable jobs, each with one result.
 
-use crate::linked::{AWAITS_BYTE, AWAITS_MULTI, STARTS_BYTE, STARTS_MULTI};
-use gba_link_tests::{Answer, call, call_through, image_of, stored};
+use crate::linked::{AWAITS_BYTE, AWAITS_MULTI, STARTS_BYTE, STARTS_MULTI, name_of};
+use gba_link_tests::{Answer, Content, call, call_through, stored, stored_all};
 use gba_store::{Gate, StoredFile};
 use std::alloc::{AllocError, Global};
 use std::process::Abort;
@@ -16,54 +16,60 @@ fn next_random(number: u64) -> u64 {
         .wrapping_add(1442695040888963407)
 }
 
-/// Holds some steps for a while, by a row of numbers that look random, and counts all of them.
-#[derive(Drop)]
-struct Holding {
-    number: AtomicU64,
-    entries: AtomicU64,
-}
-
-impl Gate for Holding {
-    fn enter(&self, player: u32, clock: u64) {
-        self.entries.fetch_add(1, Ordering::SeqCst);
-        let number = next_random(
-            self.number.load(Ordering::SeqCst) ^ (clock << 2) ^ u64::from(player),
-        );
-        self.number.store(number, Ordering::SeqCst);
-        if (number >> 58) == 0 {
-            std::thread::yield_now();
-        }
-        if (number >> 58) == 1 {
-            for _turn in 0..(number >> 40) % 100 {
-                std::hint::spin_loop();
-            }
+/// Lets other threads go first where the front of a number is 0, and turns so often where it is 1.
+fn hold(front: u64, turns: u64) {
+    if front == 0 {
+        std::thread::yield_now();
+    }
+    if front == 1 {
+        for _turn in 0..turns {
+            std::hint::spin_loop();
         }
     }
 }
 
-/// An open gate that holds each of some bursts for a while, by a row of numbers that look random, and counts all of them.
+/// Holds some steps for a while, by a row of numbers that look random, and counts all of them. Or, where it is open, holds
+/// each of some bursts, and counts the questions whether it is open.
 #[derive(Drop)]
-struct OpenHolding {
+struct Holding {
+    open: bool,
     number: AtomicU64,
-    questions: AtomicU64,
+    count: AtomicU64,
 }
 
-impl Gate for OpenHolding {
-    fn enter(&self, _player: u32, _clock: u64) {}
+impl Holding {
+    fn new(open: bool, number: u64) -> Holding {
+        Holding {
+            open,
+            number: AtomicU64::new(number),
+            count: AtomicU64::new(0),
+        }
+    }
+
+    /// The next number, which this one disturbs.
+    fn next(&self, disturbing: u64) -> u64 {
+        let number = next_random(self.number.load(Ordering::SeqCst) ^ disturbing);
+        self.number.store(number, Ordering::SeqCst);
+        number
+    }
+}
+
+impl Gate for Holding {
+    fn enter(&self, player: u32, clock: u64) {
+        if !self.open {
+            self.count.fetch_add(1, Ordering::SeqCst);
+            let number = self.next((clock << 2) ^ u64::from(player));
+            hold(number >> 58, (number >> 40) % 100);
+        }
+    }
 
     fn is_open(&self) -> bool {
-        let question = self.questions.fetch_add(1, Ordering::SeqCst);
-        let number = next_random(self.number.load(Ordering::SeqCst) ^ question);
-        self.number.store(number, Ordering::SeqCst);
-        if (number >> 62) == 0 {
-            std::thread::yield_now();
+        if self.open {
+            let question = self.count.fetch_add(1, Ordering::SeqCst);
+            let number = self.next(question);
+            hold(number >> 62, (number >> 40) % 1_000);
         }
-        if (number >> 62) == 1 {
-            for _turn in 0..(number >> 40) % 1_000 {
-                std::hint::spin_loop();
-            }
-        }
-        true
+        self.open
     }
 }
 
@@ -74,74 +80,77 @@ struct Cable<'a> {
     consoles: u32,
     delay: u64,
     cycles: u64,
-    programs: Programs,
+    programs: &'a [(&'a str, Content<'a>)],
     words: [&'a str; 2],
 }
 
-/// What the consoles do.
-#[derive(Clone, Copy)]
-enum Programs {
-    /// A Normal transfer starts at 408. It lasts 512 cycles, or two delays and 514 where that is more.
-    Byte,
-    /// A Multi transfer starts at 817.
-    Multi,
-}
+/// A Normal transfer starts at 408. It lasts 512 cycles, or two delays and 514 where that is more.
+const BYTE: &[(&str, Content<'static>)] = &[
+    ("s", Content::Code(&STARTS_BYTE)),
+    ("a", Content::Code(&AWAITS_BYTE)),
+];
+
+/// A Multi transfer starts at 817.
+const MULTI: &[(&str, Content<'static>)] = &[
+    ("s", Content::Code(&STARTS_MULTI)),
+    ("a", Content::Code(&AWAITS_MULTI)),
+];
 
 static CABLES: [Cable<'static>; 8] = [
     Cable {
         consoles: 1,
         delay: 512,
         cycles: 1_000,
-        programs: Programs::Multi,
+        programs: MULTI,
         words: ["", ""],
     },
     Cable {
         consoles: 2,
         delay: 1,
         cycles: 1_000,
-        programs: Programs::Byte,
+        programs: BYTE,
         words: ["924 normal8 5a a5\n", "924 normal8 a5 5a\n"],
     },
     Cable {
         consoles: 2,
         delay: 512,
         cycles: 2_000,
-        programs: Programs::Byte,
+        programs: BYTE,
         words: ["1946 normal8 5a a5\n", "1946 normal8 a5 5a\n"],
     },
     Cable {
         consoles: 2,
         delay: 1_024,
         cycles: 3_000,
-        programs: Programs::Byte,
+        programs: BYTE,
         words: ["2970 normal8 5a a5\n", "2970 normal8 a5 5a\n"],
     },
     Cable {
         consoles: 3,
         delay: 16,
         cycles: 1_000,
-        programs: Programs::Multi,
+        programs: MULTI,
         words: ["", ""],
     },
     Cable {
         consoles: 3,
         delay: 1_024,
         cycles: 1_000,
-        programs: Programs::Multi,
+        programs: MULTI,
         words: ["", ""],
     },
     Cable {
         consoles: 4,
         delay: 1,
         cycles: 1_000,
-        programs: Programs::Multi,
+        programs: MULTI,
         words: ["", ""],
     },
     Cable {
         consoles: 4,
         delay: 1_024,
         cycles: 1_000,
-        programs: Programs::Multi,
+        programs: MULTI,
         words: ["", ""],
     },
 ];
@@ -149,35 +158,25 @@ static CABLES: [Cable<'static>; 8] = [
 /// How many schedules each cable has.
 const SCHEDULES: u64 = 125;
 
-/// The job of a cable and its images: `s` starts the transfer, and `a` awaits it.
-fn files_of(alloc: Global, cable: &Cable<'_>) -> Result<Vec<StoredFile>, AllocError> {
+/// The job of a cable.
+fn job_of(alloc: Global, cable: &Cable<'_>) -> Result<String, AllocError> {
     let mut job = format!(in alloc;
         "gbalink 1\ncycles {}\ndelay {}\n",
         cable.cycles, cable.delay
     )?;
     for player in 0..cable.consoles {
         let bios = if player == 0 { "s" } else { "a" };
-        job.push_str(format!(in alloc;
-            "console {player}\nbios {bios}\nout words\nout state\n"
-        )?.as_str())?;
+        let lines = format!(in alloc; "console {player}\nbios {bios}\nout words\nout state\n")?;
+        job.push_str(lines.as_str())?;
     }
     job.push_str("end\n")?;
-    let (first, other) = match cable.programs {
-        Programs::Byte => (
-            image_of(alloc, &STARTS_BYTE)?,
-            image_of(alloc, &AWAITS_BYTE)?,
-        ),
-        Programs::Multi => (
-            image_of(alloc, &STARTS_MULTI)?,
-            image_of(alloc, &AWAITS_MULTI)?,
-        ),
-    };
-    let files = vec![in alloc;
-        stored(alloc, "j", job.into_bytes())?,
-        stored(alloc, "s", first)?,
-        stored(alloc, "a", other)?,
-    ]?;
-    Ok(files)
+    Ok(job)
+}
+
+/// The job of a cable and its images: `s` starts the transfer, and `a` awaits it.
+fn files_of(alloc: Global, cable: &Cable<'_>) -> Result<Vec<StoredFile>, AllocError> {
+    let job = stored(alloc, "j", job_of(alloc, cable)?.into_bytes())?;
+    stored_all(alloc, job, cable.programs)
 }
 
 /// What the names of a run's files have behind OUT.
@@ -188,13 +187,11 @@ static ENDINGS: [&str; 9] = [
 
 /// Two calls answered and wrote the same.
 fn are_the_same<R: Abort>(rt: &R, alloc: Global, one: &Answer, other: &Answer) -> Result<(), Fail> {
-    assert_eq!(rt; one.status, other.status);
-    assert_eq!(rt; one.report(), other.report());
-    for ending in ENDINGS {
-        let name = format!(in alloc; "g{ending}")?;
-        assert_eq!(rt;
-            one.out.bytes(name.as_str()),
-            other.out.bytes(name.as_str()),
+    assert_eq!(rt; (one.status, one.report()), (other.status, other.report()));
+    for &ending in &ENDINGS {
+        let name = name_of(alloc, "g", ending)?;
+        assert!(rt;
+            one.bytes(name.as_str()) == other.bytes(name.as_str()),
             "in {name}"
         );
     }
@@ -210,69 +207,33 @@ fn have_words<R: Abort>(
 ) -> Result<(), Fail> {
     assert_eq!(rt; answer.status, 0);
     for player in 0..cable.consoles {
-        let words = if player == 0 {
-            cable.words[0]
-        } else {
-            cable.words[1]
-        };
+        let words = cable.words[if player == 0 { 0 } else { 1 }];
         let name = format!(in alloc; "g.{player}.words")?;
-        assert_eq!(rt;
-            answer.out.bytes(name.as_str()),
-            Some(words.as_bytes()),
+        assert!(rt;
+            answer.bytes(name.as_str()) == Some(words.as_bytes()),
             "in {name}"
         );
     }
     Ok(())
 }
 
-/// A gate that counts how often it was entered or asked.
-trait Counting: Gate {
-    fn begin(number: u64) -> Self;
-
-    fn count(&self) -> u64;
-}
-
-impl Counting for Holding {
-    fn begin(number: u64) -> Holding {
-        Holding {
-            number: AtomicU64::new(number),
-            entries: AtomicU64::new(0),
-        }
-    }
-
-    fn count(&self) -> u64 {
-        self.entries.load(Ordering::SeqCst)
-    }
-}
-
-impl Counting for OpenHolding {
-    fn begin(number: u64) -> OpenHolding {
-        OpenHolding {
-            number: AtomicU64::new(number),
-            questions: AtomicU64::new(0),
-        }
-    }
-
-    fn count(&self) -> u64 {
-        self.questions.load(Ordering::SeqCst)
-    }
-}
-
-/// All schedules of a cable come to what it comes to without a gate. It answers the sum of the gates' counts.
-fn run_cable<R: Abort + Threads + Sync, G: Counting + Sync + Drop>(
+/// All schedules of a cable, with a gate that is open or not, come to what it comes to without a gate. It answers the sum of
+/// the gates' counts.
+fn run_cable<R: Abort + Threads + Sync>(
     rt: &R,
     alloc: Global,
     cable: &Cable<'_>,
+    open: bool,
 ) -> Result<u64, Fail> {
     let words = ["run", "j", "g"];
     let free = call(rt, alloc, &words, files_of(alloc, cable)?)?;
     have_words(rt, alloc, cable, &free)?;
     let mut sum = 0u64;
     for schedule in 0..SCHEDULES {
-        let gate = G::begin(next_random(schedule));
+        let gate = Holding::new(open, next_random(schedule));
         let held = call_through(rt, alloc, &words, files_of(alloc, cable)?, &gate)?;
         are_the_same(rt, alloc, &free, &held)?;
-        sum = sum.saturating_add(gate.count());
+        sum = sum.saturating_add(gate.count.load(Ordering::SeqCst));
     }
     Ok(sum)
 }
@@ -289,7 +250,7 @@ fn lanes_of(cable: &Cable<'_>) -> u64 {
 #[test]
 fn a_thousand_schedules_write_the_same(rt: HostRuntime) -> Result<(), Fail> {
     for cable in &CABLES {
-        let entries = run_cable::<_, Holding>(&rt, rt.alloc(), cable)?;
+        let entries = run_cable(&rt, rt.alloc(), cable, false)?;
         // each lane goes at least one delay far by itself, and each step of it enters the gate and lasts at most 16 cycles
         let steps = cable.delay.min(cable.cycles) / 16;
         assert!(rt; entries >= lanes_of(cable).saturating_mul(steps));
@@ -300,7 +261,7 @@ fn a_thousand_schedules_write_the_same(rt: HostRuntime) -> Result<(), Fail> {
 #[test]
 fn a_thousand_schedules_of_bursts_write_the_same(rt: HostRuntime) -> Result<(), Fail> {
     for cable in &CABLES {
-        let questions = run_cable::<_, OpenHolding>(&rt, rt.alloc(), cable)?;
+        let questions = run_cable(&rt, rt.alloc(), cable, true)?;
         assert!(rt; questions >= lanes_of(cable));
     }
     Ok(())

@@ -1,9 +1,13 @@
 //! Consoles on a cable whose run goes in segments of 2^24 cycles. What is written is stated by hand, from the cycles of the
 //! programs, the rules of transfers and the formats; the digests are those that `sha256sum` gives for these bytes.
 
-use gba_link_tests::{LoggingSink, call_into, image_of, stored};
-use gba_store::{Gate, MemorySink, NoGate, StoredFile};
-use std::alloc::Global;
+use Content::{Code, Filled, Text};
+use Expected::Is;
+use gba_link_tests::{
+    Content, Expected, LoggingSink, call_into, is_as_expected, stored, stored_all,
+};
+use gba_store::{Gate, MemorySink, NoGate};
+use std::alloc::{AllocError, Global};
 use std::process::Abort;
 use std::sync::atomic::{AtomicBool, AtomicU64, Ordering};
 use std::test::Fail;
@@ -114,22 +118,14 @@ const REPORT: &str =
 console 2 clock 33564434 frames 119 samples 65555 words 8\nconsole 3 clock 33564434 frames 119 samples 65555 words 8\n\
 log 8e0a1bf8d7d05de5f262d6db9b47d386597a97d14168879d61a6db66c1fcec91\n";
 
-/// The images, and a file beside them.
-fn beside_images(alloc: Global, name: &str, bytes: Vec<u8>) -> Result<Vec<StoredFile>, Fail> {
-    let files = vec![in alloc;
-        stored(alloc, name, bytes)?,
-        stored(alloc, "s", image_of(alloc, &STARTS)?)?,
-        stored(alloc, "a", image_of(alloc, &AWAITS)?)?,
-    ]?;
-    Ok(files)
-}
+/// The images of the jobs.
+static IMAGES: [(&str, Content<'static>); 2] = [("s", Code(&STARTS)), ("a", Code(&AWAITS))];
 
-/// The job of four consoles with this delay, and more lines for the first one; and its images.
-fn four(alloc: Global, delay: u64, more: &str) -> Result<Vec<StoredFile>, Fail> {
-    let job = format!(in alloc;
+/// The job of four consoles with this delay, and more lines for the first one.
+fn four(alloc: Global, delay: u64, more: &str) -> Result<String, AllocError> {
+    format!(in alloc;
         "gbalink 1\ncycles 33564432\ndelay {delay}\nconsole 0\nbios s\nout samples\nout words\n{more}console 1\nbios a\nkey 0 002\nout words\nconsole 2\nbios a\nkey 0 004\nout samples\nout words\nconsole 3\nbios a\nkey 0 008\nout words\nout save\nend\n"
-    )?;
-    beside_images(alloc, "j", job.into_bytes())
+    )
 }
 
 /// Where calls are kept, and counted in this number.
@@ -138,22 +134,49 @@ fn sink_of(alloc: Global, made: &AtomicU64) -> LoggingSink<'_> {
     LoggingSink::new(alloc, files, made)
 }
 
-/// A file is so many times this byte.
-fn is_full_of<R: Abort>(rt: &R, out: &LoggingSink<'_>, name: &str, length: usize, byte: u8) {
-    let bytes = out.bytes(name).unwrap_or(b"".as_slice());
-    assert_eq!(rt; bytes.len(), length, "of {name}");
-    assert!(rt; bytes.iter().all(|one| *one == byte), "in {name}");
+/// Runs this job with the images into a sink, and is done.
+fn run<R: Abort + Threads + Sync, G: Gate + Sync>(
+    rt: &R,
+    alloc: Global,
+    job: &[u8],
+    out: &mut LoggingSink<'_>,
+    gate: &G,
+) -> Result<(), Fail> {
+    let job = stored(alloc, "j", Vec::from_slice(alloc, job)?)?;
+    let files = stored_all(alloc, job, &IMAGES)?;
+    let status = call_into(rt, alloc, &["run", "j", "g"], files, out, gate)?;
+    assert_eq!(rt; status, 0);
+    Ok(())
 }
 
 /// All consoles have all words, no sound is heard, and the SRAM is full of FFh.
-fn have_their_files<R: Abort>(rt: &R, out: &LoggingSink<'_>) {
-    for name in ["g.0.words", "g.1.words", "g.2.words", "g.3.words"] {
-        assert_eq!(rt; out.bytes(name), Some(WORDS.as_bytes()), "in {name}");
+static FILES: [(&str, Expected<'static>); 7] = [
+    ("g.0.words", Is(Text(WORDS))),
+    ("g.1.words", Is(Text(WORDS))),
+    ("g.2.words", Is(Text(WORDS))),
+    ("g.3.words", Is(Text(WORDS))),
+    ("g.0.samples", Is(Filled(262_220, 0))),
+    ("g.2.samples", Is(Filled(262_220, 0))),
+    ("g.3.save", Is(Filled(32_768, 0xFF))),
+];
+
+/// The log and the summary of the run with frames.
+static LOGGED: [(&str, Expected<'static>); 2] = [("g.log", Is(Text(LOG))), ("-", Is(Text(REPORT)))];
+
+/// A sink was called so, and has these files.
+fn has_files<R: Abort>(
+    rt: &R,
+    alloc: Global,
+    out: &LoggingSink<'_>,
+    files: &[(&str, Expected<'_>)],
+) -> Result<(), Fail> {
+    for &(name, expected) in files {
+        assert!(rt;
+            is_as_expected(alloc, out.bytes(name), expected)?,
+            "of {name}"
+        );
     }
-    for name in ["g.0.samples", "g.2.samples"] {
-        is_full_of(rt, out, name, 262_220, 0);
-    }
-    is_full_of(rt, out, "g.3.save", 32_768, 0xFF);
+    Ok(())
 }
 
 /// The backdrop's colour in a cycle: how many of the writes, each 2^22 cycles from 4,189,218 on, are before it.
@@ -164,6 +187,16 @@ fn colour_in(clock: u64) -> u16 {
     } else {
         0x1000 + writes.min(0xFF) as u16
     }
+}
+
+/// All dots of a line have this colour.
+fn is_coloured(line: &[u8], colour: &[u8]) -> bool {
+    for dot in line.chunks_exact(2) {
+        if dot != colour {
+            return false;
+        }
+    }
+    true
 }
 
 /// A line is drawn where its HBlank begins, 1,006 cycles after the line, which has 1,232; a frame has 228 of them, of which
@@ -178,7 +211,7 @@ fn are_drawn<R: Abort>(rt: &R, frames: &[u8]) {
             .saturating_add(height * 1_232 + 1_006);
         let colour = colour_in(clock).to_le_bytes();
         assert!(rt;
-            line.chunks_exact(2).all(|dot| dot == colour.as_slice()),
+            is_coloured(line, colour.as_slice()),
             "line {height} of frame {frame}"
         );
     }
@@ -190,14 +223,12 @@ fn four_consoles_in_three_segments(rt: HostRuntime) -> Result<(), Fail> {
     let alloc = rt.alloc();
     let made = AtomicU64::new(0);
     let mut out = sink_of(alloc, &made);
-    let files = four(alloc, 512, "out frames\n")?;
-    let status = call_into(&rt, alloc, &["run", "j", "g"], files, &mut out, &NoGate)?;
-    assert_eq!(rt; status, 0);
+    let job = four(alloc, 512, "out frames\n")?;
+    run(&rt, alloc, job.as_bytes(), &mut out, &NoGate)?;
     assert_eq!(rt; out.calls(), CALLS_WITH_FRAMES);
-    have_their_files(&rt, &out);
+    has_files(&rt, alloc, &out, &FILES)?;
+    has_files(&rt, alloc, &out, &LOGGED)?;
     are_drawn(&rt, out.bytes("g.0.frames").unwrap_or(b"".as_slice()));
-    assert_eq!(rt; out.bytes("g.log"), Some(LOG.as_bytes()));
-    assert_eq!(rt; out.bytes("-"), Some(REPORT.as_bytes()));
     Ok(())
 }
 
@@ -209,26 +240,32 @@ impl Gate for Told {
     fn enter(&self, _player: u32, _clock: u64) {}
 }
 
+/// A job, and this gate: the calls and the files of the run without frames.
+fn is_without_frames<R: Abort + Threads + Sync, G: Gate + Sync>(
+    rt: &R,
+    alloc: Global,
+    job: &[u8],
+    out: &mut LoggingSink<'_>,
+    gate: &G,
+) -> Result<(), Fail> {
+    run(rt, alloc, job, out, gate)?;
+    assert_eq!(rt; out.calls(), CALLS);
+    has_files(rt, alloc, out, &FILES)
+}
+
 /// The same without frames, step by step on threads; and its log, which gives the same again.
 #[test]
 fn single_steps_and_the_log_write_the_same(rt: HostRuntime) -> Result<(), Fail> {
     let alloc = rt.alloc();
     let made = AtomicU64::new(0);
     let mut first = sink_of(alloc, &made);
-    let files = four(alloc, 512, "")?;
-    let status = call_into(&rt, alloc, &["run", "j", "g"], files, &mut first, &Told)?;
-    assert_eq!(rt; status, 0);
-    assert_eq!(rt; first.calls(), CALLS);
-    have_their_files(&rt, &first);
+    let job = four(alloc, 512, "")?;
+    is_without_frames(&rt, alloc, job.as_bytes(), &mut first, &Told)?;
     let mut second = sink_of(alloc, &made);
     let log = first.bytes("g.log").unwrap_or(b"".as_slice());
-    let files = beside_images(alloc, "l", Vec::from_slice(alloc, log)?)?;
-    let status = call_into(&rt, alloc, &["run", "l", "g"], files, &mut second, &NoGate)?;
-    assert_eq!(rt; status, 0);
-    assert_eq!(rt; second.calls(), CALLS);
-    have_their_files(&rt, &second);
+    is_without_frames(&rt, alloc, log, &mut second, &NoGate)?;
     for name in ["g.log", "-"] {
-        assert_eq!(rt; second.bytes(name), first.bytes(name), "in {name}");
+        assert!(rt; second.bytes(name) == first.bytes(name), "in {name}");
     }
     Ok(())
 }
@@ -238,13 +275,14 @@ fn single_steps_and_the_log_write_the_same(rt: HostRuntime) -> Result<(), Fail> 
 fn one_thread_writes_the_same(rt: HostRuntime) -> Result<(), Fail> {
     let alloc = rt.alloc();
     let made = AtomicU64::new(0);
-    let mut out = sink_of(alloc, &made);
-    let files = four(alloc, 255, "")?;
-    let status = call_into(&rt, alloc, &["run", "j", "g"], files, &mut out, &NoGate)?;
-    assert_eq!(rt; status, 0);
-    assert_eq!(rt; out.calls(), CALLS);
-    have_their_files(&rt, &out);
-    Ok(())
+    let job = four(alloc, 255, "")?;
+    is_without_frames(
+        &rt,
+        alloc,
+        job.as_bytes(),
+        &mut sink_of(alloc, &made),
+        &NoGate,
+    )
 }
 
 /// Two consoles over three segments.
@@ -296,9 +334,7 @@ fn a_segment_waits_for_the_pieces(rt: HostRuntime) -> Result<(), Fail> {
         ],
     };
     let mut out = sink_of(alloc, &gate.made);
-    let files = beside_images(alloc, "j", Vec::from_slice(alloc, PAIR.as_bytes())?)?;
-    let status = call_into(&rt, alloc, &["run", "j", "g"], files, &mut out, &gate)?;
-    assert_eq!(rt; status, 0);
+    run(&rt, alloc, PAIR.as_bytes(), &mut out, &gate)?;
     assert!(rt; !gate.early.load(Ordering::SeqCst), "a step comes early");
     for stepped in &gate.stepped {
         assert!(rt; stepped.load(Ordering::SeqCst), "a segment has no step");
