@@ -4,6 +4,7 @@ use gba_bus::{Bus, Width};
 use gba_image::{Bios, ConsoleImages};
 use gba_io::{Board, Counts, MemoryName, Room};
 use gba_ppu_reg::{Position, Reference};
+use gba_psg::Tone;
 use gba_serial::Transfer;
 use gba_timer::Timer;
 use link_node::{Incoming, LinkMode, Signal};
@@ -164,6 +165,22 @@ impl Bench {
     pub(crate) fn timer(&self, rt: &impl Abort, number: u32) -> Timer {
         assert!(rt; number < 4);
         self.board.core.timer(number)
+    }
+
+    /// A tone channel by its number less 1.
+    pub(crate) fn tone(&self, rt: &impl Abort, channel: u32) -> Tone {
+        assert!(rt; channel < 4);
+        self.board.core.tone(channel)
+    }
+
+    pub(crate) fn sequencer(&self) -> u32 {
+        self.board.core.sequencer()
+    }
+
+    /// The bytes of a bank of the wave.
+    pub(crate) fn wave_bank(&self, rt: &impl Abort, bank: u32) -> [u8; 16] {
+        assert!(rt; bank < 2);
+        self.board.core.wave_bank(bank)
     }
 
     /// Does a unit of DMA, and answers how many cycles it takes.

@@ -4,7 +4,7 @@
 use crate::bench::{Bench, Seat};
 use Move::{
     Advance, Begins, Calm, Clock, Halts, Kept, Keys, Left, Lines, Load, Master, Pair, Pending,
-    Place, Price, Queue, Reference, Store, Timer, Unit, Wakes,
+    Place, Price, Queue, Reference, Sequencer, Store, Timer, Tone, Unit, Wakes, Wave,
 };
 use gba_bus::Width;
 use gba_bus::Width::{Byte, Half, Word};
@@ -59,6 +59,12 @@ enum Move {
     Left(u32, u32),
     /// A sound queue holds so many bytes, and this is its current one.
     Queue(u32, usize, u8),
+    /// A tone channel, by its number less 1, is at this place.
+    Tone(u32, u32),
+    /// The cycles since the sound was turned on.
+    Sequencer(u32),
+    /// The first byte of a bank of the wave.
+    Wave(u32, u8),
     /// So many pairs of samples are made, and this is the last.
     Pair(usize, i16, i16),
     /// Move the devices by so many lines.
@@ -120,6 +126,9 @@ fn look_at_devices<R: Abort>(rt: &R, bench: &Bench, one: Move) {
     match one {
         Timer(number, counter, phase) => timer_is(rt, bench, number, counter, phase),
         Queue(queue, held, current) => queue_is(rt, bench, queue, held, current),
+        Tone(channel, place) => assert_eq!(rt; bench.tone(rt, channel).place, place),
+        Sequencer(cycles) => assert_eq!(rt; bench.sequencer(), cycles),
+        Wave(bank, byte) => assert_eq!(rt; bench.wave_bank(rt, bank)[0], byte),
         Pair(count, left, right) => pair_is(rt, bench, count, left, right),
         Place(line, dot) => assert_eq!(rt; bench.place(), Position { line, dot }),
         Reference(background, x, y) => {
@@ -166,7 +175,7 @@ fn play_all<R: Abort>(rt: &R, bench: &mut Bench, moves: &[Move]) {
     }
 }
 
-static MOVES: [&[Move]; 27] = [
+static MOVES: [&[Move]; 34] = [
     // A word over IE and IF: the one stores, ones in the other clear. Timer 0 requests bit 3.
     &[
         Store(0x100, Half, 0xFFFF),
@@ -372,6 +381,136 @@ static MOVES: [&[Move]; 27] = [
         Advance(511),
         Queue(0, 0, 0x03),
         Pair(1, 0, 0),
+    ],
+    // Channel 1 at volume 15 to both sides gives 15 times 8 times 4 times 8 for four periods of 32,768 cycles, which the pair
+    // of clock 131,072 is past. Its place is told before the cycles are paid.
+    &[
+        Store(0x084, Half, 0x0080),
+        Store(0x080, Word, 0x0002_1177),
+        Store(0x062, Half, 0xF080),
+        Store(0x064, Half, 0x8000),
+        Load(0x084, Half, 0x0081),
+        Advance(512),
+        Pair(1, 3840, 3840),
+        Lines(105),
+        Advance(512),
+        Pair(254, 3840, 3840),
+        Advance(512),
+        Advance(175),
+        Tone(0, 3),
+        Pair(255, 3840, 3840),
+        Advance(1),
+        Tone(0, 4),
+        Sequencer(131_072),
+        Pair(256, 0, 0),
+    ],
+    // A pair is the sum of the queues and the tone channels: 7Fh and 80h at full volume, and 3,840.
+    &[
+        Store(0x084, Half, 0x0080),
+        Store(0x080, Word, 0x0306_1177),
+        Store(0x062, Half, 0xF080),
+        Store(0x064, Half, 0x8000),
+        Store(0x0A0, Word, 0x0000_807F),
+        Store(0x100, Word, 0x0080_FFFF),
+        Advance(1),
+        Store(0x102, Half, 0x0000),
+        Advance(511),
+        Pair(1, 11_968, 11_968),
+        Store(0x102, Half, 0x0080),
+        Advance(1),
+        Store(0x102, Half, 0x0000),
+        Advance(511),
+        Pair(2, -4352, -4352),
+    ],
+    // Noise of 15 bits moves every 32 cycles: fourteen times, and once more.
+    &[
+        Store(0x084, Half, 0x0080),
+        Store(0x07C, Half, 0x8000),
+        Tone(3, 0x4000),
+        Advance(448),
+        Tone(3, 0x0001),
+        Advance(31),
+        Tone(3, 0x0001),
+        Advance(1),
+        Tone(3, 0x6000),
+    ],
+    // A byte write keeps the stored other byte, also of bits that don't read, and starts a channel by bit 15. Words are their
+    // halfwords. SOUNDCNT_X keeps its bit by a write of its other byte.
+    &[
+        Store(0x085, Byte, 0x00),
+        Load(0x084, Half, 0x0000),
+        Store(0x084, Byte, 0xFF),
+        Store(0x062, Half, 0x00BF),
+        Store(0x063, Byte, 0xF0),
+        Load(0x062, Half, 0xF080),
+        Kept(0x062, 0xF0BF),
+        Store(0x064, Half, 0x07D0),
+        Store(0x065, Byte, 0xC3),
+        Load(0x064, Word, 0x0000_4000),
+        Kept(0x064, 0x43D0),
+        Load(0x084, Byte, 0x81),
+        Store(0x085, Byte, 0xFF),
+        Load(0x084, Word, 0x0000_0081),
+        Store(0x070, Word, 0x20FF_00FF),
+        Load(0x070, Word, 0x2000_00E0),
+        Kept(0x072, 0x20FF),
+        Store(0x06C, Word, 0xFFFF_8000),
+        Load(0x06C, Word, 0x0000_0000),
+        Load(0x084, Half, 0x0083),
+        Store(0x082, Half, 0xFFFF),
+        Load(0x080, Word, 0x770F_0000),
+        Kept(0x082, 0x770F),
+    ],
+    // A length that is timed runs out by the clock alone: SOUNDCNT_X shows it where it is read and where it is looked at.
+    &[
+        Store(0x084, Half, 0x0080),
+        Store(0x062, Half, 0xF0BF),
+        Store(0x064, Half, 0xC000),
+        Lines(53),
+        Advance(239),
+        Kept(0x084, 0x0081),
+        Load(0x084, Half, 0x0081),
+        Sequencer(65_535),
+        Advance(1),
+        Kept(0x084, 0x0080),
+        Load(0x084, Half, 0x0080),
+        Sequencer(65_536),
+    ],
+    // A sweep by a half makes 1,000 to 1,500, which is stored.
+    &[
+        Store(0x084, Half, 0x0080),
+        Store(0x060, Half, 0x0011),
+        Store(0x064, Half, 0x83E8),
+        Lines(106),
+        Advance(479),
+        Kept(0x064, 0x03E8),
+        Advance(1),
+        Kept(0x064, 0x05DC),
+    ],
+    // The registers of the wave are those of the bank that isn't the first, and are written while the sound is off, too. That
+    // makes the others 0 but SOUNDCNT_H.
+    &[
+        Store(0x090, Word, 0x7654_3210),
+        Wave(1, 0x10),
+        Wave(0, 0x00),
+        Store(0x080, Word, 0x0002_1177),
+        Load(0x080, Word, 0x0002_0000),
+        Store(0x084, Half, 0x0080),
+        Store(0x080, Word, 0x0001_1177),
+        Load(0x080, Word, 0x0001_1177),
+        Store(0x070, Half, 0x00C0),
+        Store(0x091, Byte, 0xAB),
+        Load(0x090, Word, 0x0000_AB00),
+        Store(0x09E, Half, 0x1234),
+        Load(0x09C, Word, 0x1234_0000),
+        Advance(100),
+        Sequencer(100),
+        Store(0x084, Half, 0x0000),
+        Load(0x080, Word, 0x0001_0000),
+        Kept(0x070, 0x0000),
+        Load(0x090, Word, 0x7654_3210),
+        Advance(100),
+        Sequencer(0),
     ],
     // A word fits where 28 bytes are held and not where 29 are; narrower writes are dropped, and nothing reads.
     &[

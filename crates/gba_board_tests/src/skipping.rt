@@ -7,11 +7,20 @@ use std::alloc::Global;
 use std::process::Abort;
 use std::test::Fail;
 
-/// The registers that run, as words: direct sound from timers 0 and 1, four timers of which timer 1 counts timer 0's
-/// overflows, with their interrupts, and the picture's interrupts with line 3 to match.
-static RUNNING: [(u32, u32); 8] = [
+/// The registers that run, as words: direct sound from timers 0 and 1, four tone channels, four timers of which timer 1 counts
+/// timer 0's overflows, with their interrupts, and the picture's interrupts with line 3 to match.
+static RUNNING: [(u32, u32); 17] = [
     (0x084, 0x0000_0080),
-    (0x080, 0x4300_0000),
+    (0x080, 0x4302_FF77),
+    (0x090, 0x7654_3210),
+    (0x060, 0xF080_0000),
+    (0x064, 0x0000_87FE),
+    (0x068, 0x0000_A000),
+    (0x06C, 0x0000_87D0),
+    (0x070, 0x2000_00E0),
+    (0x074, 0x0000_87FF),
+    (0x078, 0x0000_F000),
+    (0x07C, 0x0000_8008),
     (0x0A0, 0x4433_2211),
     (0x100, 0x00C0_FFA0),
     (0x104, 0x00C4_FFFD),
@@ -55,11 +64,19 @@ fn check_timers<R: Abort>(rt: &R, one: &Bench, other: &Bench) {
     }
 }
 
-/// Both boards are the same, as far as their clocks, places, timers, queues, requests and samples tell.
+fn check_tones<R: Abort>(rt: &R, one: &Bench, other: &Bench) {
+    assert_eq!(rt; one.sequencer(), other.sequencer());
+    for channel in 0..4u32 {
+        assert_eq!(rt; one.tone(rt, channel), other.tone(rt, channel));
+    }
+}
+
+/// Both boards are the same, as far as their clocks, places, timers, queues, tones, requests and samples tell.
 fn check<R: Abort>(rt: &R, one: &Bench, other: &Bench) {
     assert_eq!(rt; one.clock(), other.clock());
     assert_eq!(rt; one.place(), other.place());
     check_timers(rt, one, other);
+    check_tones(rt, one, other);
     assert_eq!(rt; one.queue(rt, 0), other.queue(rt, 0));
     assert_eq!(rt; one.queue(rt, 1), other.queue(rt, 1));
     assert_eq!(rt; one.io_half(0x202), other.io_half(0x202));

@@ -3,6 +3,7 @@ use Rattle.std.proofs.Common.{◌≡◌, ℕ, zero, suc, Bool, true, false, List
 use Rattle.std.proofs.Common.{append-nil}
 use Rattle.std.specs.Prelude.{◌&&◌}
 use Rattle.gba_devices.specs.Cycles.{device_cycle, draws_line, makes_pair}
+use Rattle.gba_devices.specs.Samples.{left_sample, right_sample}
 use Rattle.gba_exec_transfers.specs.Done.{Done}
 use Rattle.gba_io.specs.Board.{board_after, board_cycle, board_emptied, made_in_cycle}
 use Rattle.gba_io.specs.Cable.{board_ended, board_taken, core_heard}
@@ -14,7 +15,6 @@ use Rattle.gba_io.specs.declared.board.Board.{Board}
 use Rattle.gba_serial.specs.End.{ending}
 use Rattle.gba_serial.specs.Tell.{outgoing}
 use Rattle.gba_serial.specs.declared.transfer.Transfer.{Transfer}
-use Rattle.gba_sound.specs.Queues.{left_sample, right_sample}
 use Rattle.link_mapped.specs.Mapped.{IsUnseen}
 use Rattle.link_node.specs.declared.signal.Incoming.{Incoming}
 use Rattle.link_node.specs.declared.signal.Signal.{Signal}
@@ -42,12 +42,12 @@ two-in-front false first old one other = refl
 made-in-front : (c : Core) (first m : Made) → made_in_cycle c (made_behind first m) ≡ made_behind first (made_in_cycle c m)
 made-in-front c first m =
     let made = made_in_cycle c m in
-    let sound = (device_cycle c.devices).sound in
+    let sounds = device_cycle c.devices in
     let line = line_bytes c.devices.place.line c in
     let drawn = draws_line c.devices && (ends_frame c.devices.place && m.keeps_frames) in
     let sampled = makes_pair c.devices && m.keeps_samples in
-    let left = sample_bytes (left_sample sound) in
-    let right = sample_bytes (right_sample sound) in
+    let left = sample_bytes (left_sample sounds) in
+    let right = sample_bytes (right_sample sounds) in
     ap (λ (frames : List ℕ). record made {
       frames = frames;
       samples = if sampled then first.samples ++ m.samples ++ left ++ right else first.samples ++ m.samples;

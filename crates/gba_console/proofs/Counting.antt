@@ -4,6 +4,7 @@ use Rattle.std.specs.Prelude.{◌&&◌}
 use Rattle.std.proofs.lemmas.Bool.Decides.{nat_tests}
 use Rattle.std.proofs.lemmas.List.{length-append}
 use Rattle.gba_devices.specs.Cycles.{CyclePasses, device_cycle, draws_at, makes_pair}
+use Rattle.gba_devices.specs.Samples.{left_sample, right_sample}
 use Rattle.gba_devices.specs.State.{Devices}
 use Rattle.gba_io.proofs.Drawing.{line-length, lines-go, place-sound}
 use Rattle.gba_io.specs.Board.{BoardPasses, board_after, board_cycle}
@@ -16,7 +17,6 @@ use Rattle.gba_ppu_reg.specs.Position.{IsPosition, cycle as place_cycle}
 use Rattle.gba_ppu_reg.specs.declared.position.Position.{Position}
 use Rattle.gba_serial.specs.End.{ending}
 use Rattle.gba_serial.specs.declared.transfer.Transfer.{Transfer}
-use Rattle.gba_sound.specs.Queues.{left_sample, right_sample}
 use Rattle.link_node.specs.declared.signal.Incoming.{Incoming}
 use Rattle.gba_console.specs.Counted.{Counts, CountsAlways, CountsEnded, CountsMade, KeepsKinds}
 use Rattle.gba_console.specs.Machine.{Machine, clock_of, is_off}
@@ -64,7 +64,7 @@ module _ (keeps : (d : Devices) → CyclePasses d) where
       let p = d.place in
       let draws = draws_at (place_cycle p) in
       let line = line_bytes p.line b.core in
-      let sound = (device_cycle d).sound in
+      let sounds = device_cycle d in
       let counted : Position → Type 0 = λ q. CountsMade q (board_cycle b).made in
       subst counted (sym (keeps d).place) (record {
         sound = place-sound p counts.sound;
@@ -75,8 +75,8 @@ module _ (keeps : (d : Devices) → CyclePasses d) where
             frames-in draws (ends_frame p) b.made.keeps_frames b.made.frames b.made.drawn line b.made.frame_count
             (lines_drawn p) kept (line-length p.line b.core) counts.drawn (last-line p counts.sound) (counts.frames kept);
         samples = λ kept.
-            samples-in (makes_pair d) b.made.keeps_samples b.made.samples (sample_bytes (left_sample sound))
-            (sample_bytes (right_sample sound)) b.made.pairs kept refl refl (counts.samples kept);
+            samples-in (makes_pair d) b.made.keeps_samples b.made.samples (sample_bytes (left_sample sounds))
+            (sample_bytes (right_sample sounds)) b.made.pairs kept refl refl (counts.samples kept);
       })
 
   after-counts : (cycles : ℕ) (b : Board) → CountsMade b.core.devices.place b.made

@@ -7,7 +7,7 @@ use Rattle.gba_sound.specs.Queues.{after_word}
 use Rattle.gba_devices.specs.Registers.{half_kept, half_written, halves_written, io_stored, is_queue, merged, owner_of, queue_of, with_key_control, word_written, written_of}
 use Rattle.gba_devices.specs.State.{Devices, begun}
 use Rattle.gba_devices.specs.declared.registers.Owner.{Owner}
-use Rattle.gba_devices.specs.declared.registers.Owner.TheVariants.{PictureBlock, SoundBlock, DmaBlock, TimerBlock, KeyBlock, InterruptBlock, WaitControl, PostFlag, Nobody}
+use Rattle.gba_devices.specs.declared.registers.Owner.TheVariants.{PictureBlock, ToneBlock, SoundBlock, DmaBlock, TimerBlock, KeyBlock, InterruptBlock, WaitControl, PostFlag, Nobody}
 
 -- What writes of registers keep.
 
@@ -23,6 +23,7 @@ either-keeps false d one other here there = there
 
 owner-keeps : (owner : Owner) (offset value lanes : ℕ) (d : Devices) → Keeps d (written_of owner offset value lanes d)
 owner-keeps PictureBlock offset value lanes d = record { clock = refl; place = refl; priced = refl }
+owner-keeps ToneBlock offset value lanes d = record { clock = refl; place = refl; priced = refl }
 owner-keeps SoundBlock offset value lanes d = record { clock = refl; place = refl; priced = refl }
 owner-keeps DmaBlock offset value lanes d = record { clock = refl; place = refl; priced = refl }
 owner-keeps TimerBlock offset value lanes d = record { clock = refl; place = refl; priced = refl }

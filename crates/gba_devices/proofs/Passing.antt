@@ -5,6 +5,8 @@ use Rattle.std.proofs.lemmas.Bool.Decides.{nat_tests}
 use Rattle.gba_ppu_reg.specs.Position.{after_cycles as place_after, begins_hblank, begins_line, cycle as place_cycle}
 use Rattle.gba_ppu_reg.specs.Quiet.{QuietPlaces, quiet as quiet_place}
 use Rattle.gba_ppu_reg.specs.declared.position.Position.{Position}
+use Rattle.gba_psg.specs.Tones.{after_cycles as tones_after, cycle as tones_cycle}
+use Rattle.gba_psg.specs.declared.four.FourTones.{FourTones}
 use Rattle.gba_timer.specs.Quiet.{QuietMarks, quiet as quiet_timers}
 use Rattle.gba_timer.specs.Timers.{FourTimers, after_cycles as timers_after, cycle as timer_cycle}
 use Rattle.gba_devices.specs.Cycles.{CyclePasses, CyclesPass, SkipsCycles, after_cycles, at_hblank, at_line, at_place, device_cycle, draws_at, draws_line, is_seen, makes_pair, makes_within, pairless, placed, quiet, rung, skipped, sounded}
@@ -103,8 +105,12 @@ place-next : (count : ℕ) (p : Position) → place_cycle (place_after count p) 
 unfolding place_after
 place-next count p = ap (λ n. place_after n p) (sym (add-one count))
 
+tones-next : (count : ℕ) (ts : FourTones) → tones_cycle (tones_after count ts) ≡ tones_after (count + 1) ts
+unfolding tones_after
+tones-next count ts = ap (λ n. tones_after n ts) (sym (add-one count))
+
 skip-none : (d : Devices) → skipped 0 d ≡ d
-unfolding timers_after place_after
+unfolding timers_after place_after tones_after
 skip-none d = rw add-zero refl
 
 module _ (timers : QuietMarks) (places : QuietPlaces) where
@@ -113,7 +119,7 @@ module _ (timers : QuietMarks) (places : QuietPlaces) where
   unfolding sounded rung
   sounded-skipped count d least near =
       let sum : d.clock + count + 1 ≡ d.clock + (count + 1) = omega arith in
-      rw (timers count d.timers (omega (arith, least)), timers-next count d.timers, place-next count d.place, sum) refl
+      rw (timers count d.timers (omega (arith, least)), timers-next count d.timers, tones-next count d.tones, place-next count d.place, sum) refl
 
   cycle-skipped : (count : ℕ) (d : Devices) → count + 1 ≤ quiet d
       → device_cycle (skipped count d) ≡ skipped (count + 1) d

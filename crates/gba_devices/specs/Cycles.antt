@@ -8,6 +8,7 @@ use Rattle.gba_ppu_reg.specs.Position.{after_cycles as place_after, begins_hblan
 use Rattle.gba_ppu_reg.specs.Quiet.{quiet as quiet_place}
 use Rattle.gba_ppu_reg.specs.Registers.{Picture, after_line, after_reload, picture_kept}
 use Rattle.gba_ppu_reg.specs.declared.position.Position.{Position}
+use Rattle.gba_psg.specs.Tones.{after_cycles as tones_after, cycle as tones_cycle}
 use Rattle.gba_sound.specs.Queues.{after_overflow, asked}
 use Rattle.gba_sound.specs.declared.asked.Asked.{Asked}
 use Rattle.gba_timer.specs.Quiet.{quiet as quiet_timers}
@@ -15,8 +16,8 @@ use Rattle.gba_timer.specs.Timers.{after_cycles as timers_after, cycle as timer_
 use Rattle.gba_devices.specs.State.{Devices}
 
 -- A device cycle: the clock rises by 1; the timers move, from 0 to 3, and request their interrupts in that cycle; then
--- the sound queues of timers 0 and 1 take bytes where these overflowed, and ask for DMA; then the picture's place moves by
--- a dot, with what begins there.
+-- the sound queues of timers 0 and 1 take bytes where these overflowed, and ask for DMA; then the tone channels move; then
+-- the picture's place moves by a dot, with what begins there.
 
 -- the requests of timers that overflow, from bit 3 of IF up
 abbrev pub with_timer_requests : ℕ → Devices → Interrupts
@@ -90,12 +91,17 @@ at_place d =
 abbrev pub placed : Devices → Devices
 placed d = record d { place = place_cycle d.place }
 
--- the timers and the queues
+-- the tone channels move by a cycle
+abbrev pub toned : Devices → Devices
+toned d = record d { tones = tones_cycle d.tones }
+
+-- the timers, the queues and the tone channels
 unfoldable pub sounded : Devices → Devices
 sounded d =
-    rung 1 (bit (overflow_mark d.timers) 1)
+    toned
+    (rung 1 (bit (overflow_mark d.timers) 1)
     (rung 0 (bit (overflow_mark d.timers) 0)
-    (record (moved d) { interrupts = with_timer_requests (overflow_mark d.timers) (moved d) }))
+    (record (moved d) { interrupts = with_timer_requests (overflow_mark d.timers) (moved d) })))
 
 unfoldable pub device_cycle : Devices → Devices
 device_cycle d = at_place (placed (sounded d))
@@ -122,7 +128,7 @@ makes_within zero d = false
 makes_within (suc count) d = makes_within count d || (makes_pair (after_cycles count d) || draws_line (after_cycles count d))
 
 -- Cycles in which no timer overflows and nothing begins at a place can be skipped at once: for so many, 512 at most, that is
--- so. A pair of samples may be made in them.
+-- so. A pair of samples may be made in them, and the tone channels move on in them.
 unfoldable pub quiet : Devices → ℕ
 quiet d = min (quiet_timers d.timers) (quiet_place d.place)
 
@@ -130,6 +136,7 @@ abbrev pub skipped : ℕ → Devices → Devices
 skipped count d = record d {
   clock = d.clock + count;
   timers = timers_after count d.timers;
+  tones = tones_after count d.tones;
   place = place_after count d.place;
 }
 

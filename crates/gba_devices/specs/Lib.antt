@@ -3,4 +3,5 @@ pub mod Fits
 pub mod Keeping
 pub mod Registers
 pub mod Requests
+pub mod Samples
 pub mod State

@@ -8,10 +8,11 @@ use Rattle.gba_irq.specs.Interrupts.{interrupt_kept, interrupt_read, interrupt_w
 use Rattle.gba_irq.specs.Keypad.{becomes_true, keypad_read, with_control, with_pressed}
 use Rattle.gba_irq.specs.declared.interrupts.Interrupts.{Interrupts}
 use Rattle.gba_ppu_reg.specs.Registers.{picture_kept, picture_read_at, picture_written}
+use Rattle.gba_psg.specs.Registers.{tones_kept, tones_read, tones_written}
 use Rattle.gba_sound.specs.Queues.{after_word, sound_read, sound_written}
 use Rattle.gba_timer.specs.Timers.{timer_kept, timer_read, timer_written}
 use Rattle.gba_devices.specs.declared.registers.Owner.{Owner}
-use Rattle.gba_devices.specs.declared.registers.Owner.TheVariants.{PictureBlock, SoundBlock, DmaBlock, TimerBlock, KeyBlock, InterruptBlock, WaitControl, PostFlag, Nobody}
+use Rattle.gba_devices.specs.declared.registers.Owner.TheVariants.{PictureBlock, ToneBlock, SoundBlock, DmaBlock, TimerBlock, KeyBlock, InterruptBlock, WaitControl, PostFlag, Nobody}
 use Rattle.gba_devices.specs.State.{Devices}
 
 -- The I/O registers (GBATEK, GBA I/O Map), by their offsets from 04000000h. Each device has its own rows; here are those
@@ -24,7 +25,9 @@ system_rows = row 0x204 0x5fff 0x5fff ∷ row 0x300 0x0001 0x0001 ∷ []
 unfoldable pub owner_of : ℕ → Owner
 owner_of offset =
     if nat_lt offset 0x056 then PictureBlock
-    else if nat_le 0x080 offset && nat_lt offset 0x08a then SoundBlock
+    else if nat_le 0x060 offset && nat_lt offset 0x082 then ToneBlock
+    else if nat_le 0x082 offset && nat_lt offset 0x08a then SoundBlock
+    else if nat_le 0x090 offset && nat_lt offset 0x0a0 then ToneBlock
     else if nat_le 0x0b0 offset && nat_lt offset 0x0e0 then DmaBlock
     else if nat_le 0x100 offset && nat_lt offset 0x110 then TimerBlock
     else if nat_le 0x130 offset && nat_lt offset 0x134 then KeyBlock
@@ -36,10 +39,11 @@ owner_of offset =
 abbrev pub truth_number : Bool → ℕ
 truth_number set = if set then 1 else 0
 
--- what a halfword reads
+-- What a halfword reads. SOUNDCNT_H and SOUNDCNT_X are of direct sound and of the tone channels, each of which shows its bits.
 abbrev pub read_of : Owner → ℕ → Devices → ℕ
 read_of PictureBlock offset d = picture_read_at offset d.place d.picture
-read_of SoundBlock offset d = sound_read offset d.sound
+read_of ToneBlock offset d = tones_read offset d.tones
+read_of SoundBlock offset d = bit_or (sound_read offset d.sound) (tones_read offset d.tones)
 read_of DmaBlock offset d = dma_read offset d.channels
 read_of TimerBlock offset d = timer_read offset d.timers
 read_of KeyBlock offset d = keypad_read offset d.keys
@@ -57,6 +61,7 @@ half_read offset d = read_of (owner_of offset) offset d % 2 ^ 16
 -- and of SOUNDCNT_H's reset bits nothing, and else what is stored
 abbrev pub kept_of : Owner → ℕ → Devices → ℕ
 kept_of PictureBlock offset d = picture_kept offset d.picture
+kept_of ToneBlock offset d = tones_kept offset d.tones
 kept_of SoundBlock offset d = sound_read offset d.sound
 kept_of DmaBlock offset d = dma_kept offset d.channels
 kept_of TimerBlock offset d = timer_kept offset d.timers
@@ -74,6 +79,7 @@ half_kept offset d = kept_of (owner_of offset) offset d
 abbrev pub stored_of : Owner → ℕ → Devices → ℕ
 stored_of PictureBlock offset d =
     bit_or (picture_kept offset d.picture) (picture_read_at offset d.place d.picture)
+stored_of ToneBlock offset d = tones_kept offset d.tones
 stored_of DmaBlock offset d = dma_kept offset d.channels
 stored_of TimerBlock offset d = timer_kept offset d.timers
 stored_of owner offset d = read_of owner offset d
@@ -105,7 +111,11 @@ with_key_control value d = record d {
 -- A write that covers byte 301h halts (GBATEK, HALTCNT; that Stop is a halt too is this project's profile).
 abbrev pub written_of : Owner → ℕ → ℕ → ℕ → Devices → Devices
 written_of PictureBlock offset value lanes d = record d { picture = picture_written offset value d.picture }
-written_of SoundBlock offset value lanes d = record d { sound = sound_written offset value d.sound }
+written_of ToneBlock offset value lanes d = record d { tones = tones_written offset value d.tones }
+written_of SoundBlock offset value lanes d = record d {
+  sound = sound_written offset value d.sound;
+  tones = tones_written offset value d.tones;
+}
 written_of DmaBlock offset value lanes d = record d { channels = dma_written offset value d.channels }
 written_of TimerBlock offset value lanes d = record d { timers = timer_written offset value d.timers }
 written_of KeyBlock offset value lanes d = if offset == 0x132 then with_key_control value d else d

@@ -6,16 +6,19 @@ use Rattle.gba_irq.specs.Keypad.{Keys}
 use Rattle.gba_irq.specs.declared.interrupts.Interrupts.{Interrupts}
 use Rattle.gba_ppu_reg.specs.Registers.{Picture, picture_at_reset}
 use Rattle.gba_ppu_reg.specs.declared.position.Position.{Position}
+use Rattle.gba_psg.specs.Tones.{tones_at_reset}
+use Rattle.gba_psg.specs.declared.four.FourTones.{FourTones}
 use Rattle.gba_sound.specs.Queues.{DirectSound, sound_at_reset}
 use Rattle.gba_timer.specs.Timers.{FourTimers, timers_at_reset}
 
--- The devices of a board: the clock in cycles since reset, the timers, direct sound, the DMA channels, the picture's place
--- and its registers, the interrupts, the keypad, WAITCNT, the WAITCNT by which the accesses of this step are priced,
--- POSTFLG, and the halt.
+-- The devices of a board: the clock in cycles since reset, the timers, direct sound, the tone channels, the DMA channels, the
+-- picture's place and its registers, the interrupts, the keypad, WAITCNT, the WAITCNT by which the accesses of this step are
+-- priced, POSTFLG, and the halt.
 pub record Devices : Type 0 where
   pub clock : ℕ
   pub timers : FourTimers
   pub sound : DirectSound
+  pub tones : FourTones
   pub channels : FourChannels
   pub place : Position
   pub picture : Picture
@@ -42,6 +45,7 @@ devices_at_reset = record {
   clock = 0;
   timers = timers_at_reset;
   sound = sound_at_reset;
+  tones = tones_at_reset;
   channels = channels_at_reset;
   place = place_at_reset;
   picture = picture_at_reset;

@@ -10,11 +10,12 @@ use crate::set::DeviceSet;
 use gba_bus::Width;
 use gba_dma::{Channel, Unit};
 use gba_ppu_reg::{PictureRegisters, Position, Reference};
+use gba_psg::{Tone, Tones};
 use gba_timer::{Timer, Timers};
 use std::marker::Model;
 
-/// The devices of a board: clock, timers, direct sound, DMA channels, the picture's place and
-/// registers, interrupts, keypad, WAITCNT, POSTFLG and the halt. They owe the cycles of past
+/// The devices of a board: clock, timers, direct sound, tone channels, DMA channels, the picture's
+/// place and registers, interrupts, keypad, WAITCNT, POSTFLG and the halt. They owe the cycles of past
 /// steps, in which nothing happened. Contracts see the devices once these have passed.
 #[derive(Debug, Drop)]
 pub struct Devices {
@@ -42,15 +43,17 @@ impl Model for Devices {
 }
 
 impl Devices {
-    ghost use Rattle.std.specs.Prelude.{◌≡◌, ℕ, ◌+◌, ◌*◌, ◌≤◌, ◌<◌, ◌^◌, length, true, false, IfSome};
+    ghost use Rattle.std.specs.Prelude.{◌≡◌, ℕ, ◌+◌, ◌*◌, ◌≤◌, ◌<◌, ◌^◌, ◌==◌, length, true, false, IfSome, if◌then◌else◌};
     ghost use Rattle.gba_dma.specs.Channels.{channel_at, next_unit};
     ghost use Rattle.gba_irq.specs.Interrupts.{is_pending};
     ghost use Rattle.gba_ppu_reg.specs.Position.{IsPosition};
     ghost use Rattle.gba_ppu_reg.specs.Registers.{picture_mode, reference_of};
-    ghost use Rattle.gba_sound.specs.Queues.{left_sample, queue_at, right_sample};
+    ghost use Rattle.gba_psg.specs.Tones.{tone_at};
+    ghost use Rattle.gba_sound.specs.Queues.{queue_at};
     ghost use Rattle.gba_timer.specs.Timers.{timer_at};
     ghost use Rattle.gba_devices.specs.Cycles.{after_cycles, device_cycle, draws_line, makes_pair, makes_within, quiet, skipped};
     ghost use Rattle.gba_devices.specs.Registers.{half_stored, io_loaded, io_stored, keyed};
+    ghost use Rattle.gba_devices.specs.Samples.{left_sample, right_sample};
     ghost use Rattle.gba_devices.specs.State.{after_dma_unit, begun, devices_at_reset, is_calm, is_idle, rested, woken};
 
     /// The devices at reset.
@@ -212,12 +215,42 @@ impl Devices {
         self.calm = self.set.is_calm();
     }
 
-    /// What the sound queues sound like, left then right, each from -16,384 to 16,256.
-    pub fn sample(&self) -> (i16, i16)
-        ensures left { result.0 ≡ left_sample self.now.sound }
-        ensures right { result.1 ≡ right_sample self.now.sound }
+    fn tones(&self) -> Tones
+        ensures { result ≡ self.now.tones }
     {
-        self.set.sample()
+        self.set.tones_after(self.debt)
+    }
+
+    /// The cycles since the sound was turned on, modulo 262,144, by which the tone channels' lengths, sweep and envelopes tick.
+    pub fn sequencer(&self) -> u32
+        ensures value { result ≡ self.now.tones.sequencer }
+        ensures most { result < 0x40000 }
+    {
+        self.tones().sequencer()
+    }
+
+    /// A tone channel by its number less 1, which is below 4.
+    pub fn tone(&self, channel: u32) -> Tone
+        requires { channel < 4 }
+        ensures { result ≡ tone_at channel self.now.tones }
+    {
+        self.tones().tone(channel)
+    }
+
+    /// The bytes of a bank of tone channel 3's wave, 0 or 1.
+    pub fn wave_bank(&self, bank: u32) -> [u8; 16]
+        requires { bank < 2 }
+        ensures { result ≡ (if bank == 0 then self.now.tones.wave.bank0 else self.now.tones.wave.bank1) }
+    {
+        self.tones().bank(bank)
+    }
+
+    /// What the sound queues and the tone channels sound like, left then right, each from -16,384 to 31,616.
+    pub fn sample(&self) -> (i16, i16)
+        ensures left { result.0 ≡ left_sample self.now }
+        ensures right { result.1 ≡ right_sample self.now }
+    {
+        self.set.sample_after(self.debt)
     }
 
     /// What is stored at the halfword of an offset from 04000000h; of bits that are only read, what they read.
@@ -228,6 +261,8 @@ impl Devices {
         match owner_of(offset) {
             Owner::TimerBlock => self.timers().kept(offset),
             Owner::PictureBlock => self.set.picture_stored(offset, &self.place()),
+            Owner::ToneBlock => self.tones().kept(offset),
+            Owner::SoundBlock => self.set.sound_stored(offset, &self.tones()),
             _ => self.set.half_stored(offset),
         }
     }

@@ -7,6 +7,7 @@ ghost use Rattle.gba_devices.specs.Registers.{merged, owner_of};
 #[derive(Clone, Copy, Debug, PartialEq, Eq)]
 pub(crate) enum Owner {
     PictureBlock,
+    ToneBlock,
     SoundBlock,
     DmaBlock,
     TimerBlock,
@@ -24,8 +25,12 @@ pub(crate) fn owner_of(offset: u32) -> Owner
 {
     if offset < 0x056 {
         Owner::PictureBlock
-    } else if 0x080 <= offset && offset < 0x08A {
+    } else if 0x060 <= offset && offset < 0x082 {
+        Owner::ToneBlock
+    } else if 0x082 <= offset && offset < 0x08A {
         Owner::SoundBlock
+    } else if 0x090 <= offset && offset < 0x0A0 {
+        Owner::ToneBlock
     } else if 0x0B0 <= offset && offset < 0x0E0 {
         Owner::DmaBlock
     } else if 0x100 <= offset && offset < 0x110 {

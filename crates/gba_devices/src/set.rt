@@ -1,6 +1,6 @@
 //! The devices, moved at once.
 
-ghost use Rattle.std.specs.Prelude.{◌≡◌};
+ghost use Rattle.std.specs.Prelude.{◌≡◌, ◌≤ℤ◌, ◌+ℤ◌, pos, negsuc};
 ghost use Rattle.gba_devices.specs.Registers.{system_rows};
 ghost use Rattle.gba_register.specs.Rows.{row_at};
 
@@ -12,6 +12,7 @@ use gba_bus::Width;
 use gba_dma::{Channel, Channels, DmaEvent, Unit};
 use gba_irq::{Halt, Interrupts, Keypad};
 use gba_ppu_reg::{PictureRegisters, Position, Reference};
+use gba_psg::Tones;
 use gba_sound::Queues;
 use gba_timer::{Timer, Timers};
 use gba_word::{bit, bits};
@@ -34,12 +35,24 @@ fn post_bits() -> u16
     0x0001
 }
 
+/// A sample of the queues, and what the tone channels add to it.
+fn louder(sample: i16, more: i32) -> i16
+    requires least { negsuc 16383 ≤ℤ sample }
+    requires most { sample ≤ℤ pos 16256 }
+    requires some { pos 0 ≤ℤ more }
+    requires few { more ≤ℤ pos 15360 }
+    ensures { result ≡ sample +ℤ more }
+{
+    sample + more as i16
+}
+
 /// The devices of a board. Contracts see the record of the same numbers.
 #[derive(Debug, Drop)]
 pub(crate) struct DeviceSet {
     clock: u64,
     timers: Timers,
     queues: Queues,
+    tones: Tones,
     channels: Channels,
     place: Place,
     picture: PictureRegisters,
@@ -60,6 +73,7 @@ impl Model for DeviceSet {
       clock = d.clock;
       timers = d.timers;
       sound = d.queues;
+      tones = d.tones;
       channels = d.channels;
       place = d.place;
       picture = d.picture;
@@ -80,10 +94,13 @@ impl DeviceSet {
     ghost use Rattle.gba_irq.specs.Interrupts.{is_pending};
     ghost use Rattle.gba_ppu_reg.specs.Position.{IsPosition, after_cycles as place_after};
     ghost use Rattle.gba_ppu_reg.specs.Registers.{picture_kept, picture_mode, picture_read_at, reference_of};
-    ghost use Rattle.gba_sound.specs.Queues.{left_sample, queue_at, right_sample};
+    ghost use Rattle.gba_psg.specs.Registers.{tones_read, tones_written};
+    ghost use Rattle.gba_psg.specs.Tones.{after_cycles as tones_after};
+    ghost use Rattle.gba_sound.specs.Queues.{queue_at, sound_read, sound_written};
     ghost use Rattle.gba_timer.specs.Timers.{requests};
     ghost use Rattle.gba_devices.specs.Cycles.{asked_by, at_hblank, at_line, at_place, device_cycle, pairless, placed, quiet, rung, skipped, sounded, status_of, with_bit, with_timer_requests};
     ghost use Rattle.gba_devices.specs.Registers.{half_kept, half_read, half_stored, half_written, halves_written, io_loaded, io_stored, keyed, owner_of as owner_in, read_of, stored_of, with_key_control, with_key_request, word_written};
+    ghost use Rattle.gba_devices.specs.Samples.{left_sample, right_sample};
     ghost use Rattle.gba_devices.specs.State.{after_dma_unit, asks_entry, begun, devices_at_reset, is_calm, is_idle, rested, with_dma_request, woken};
 
     /// The devices at reset.
@@ -94,6 +111,7 @@ impl DeviceSet {
             clock: 0,
             timers: Timers::new(),
             queues: Queues::new(),
+            tones: Tones::new(),
             channels: Channels::new(),
             place: Place::new(),
             picture: PictureRegisters::new(),
@@ -233,12 +251,25 @@ impl DeviceSet {
         self.picture.reference(background)
     }
 
-    /// What the queues sound like, left then right.
-    pub(crate) fn sample(&self) -> (i16, i16)
-        ensures left { result.0 ≡ left_sample self.now.sound }
-        ensures right { result.1 ≡ right_sample self.now.sound }
+    /// The tone channels after so many quiet cycles.
+    pub(crate) fn tones_after(&self, count: u32) -> Tones
+        requires { count ≤ 512 }
+        ensures { result ≡ tones_after count self.now.tones }
     {
-        self.queues.sample()
+        let mut tones = self.tones;
+        tones.advance(count);
+        tones
+    }
+
+    /// What the queues and the tone channels sound like after so many quiet cycles, left then right.
+    pub(crate) fn sample_after(&self, count: u32) -> (i16, i16)
+        requires { count ≤ 512 }
+        ensures left { result.0 ≡ left_sample (skipped count self.now) }
+        ensures right { result.1 ≡ right_sample (skipped count self.now) }
+    {
+        let (left, right) = self.queues.sample();
+        let (more_left, more_right) = self.tones.amount_after(count);
+        (louder(left, more_left), louder(right, more_right))
     }
 
     fn asks_entry(&self) -> bool
@@ -313,7 +344,8 @@ impl DeviceSet {
     {
         match owner_of(offset) {
             Owner::PictureBlock => self.picture.read_at(offset, &self.place.at()),
-            Owner::SoundBlock => self.queues.read(offset),
+            Owner::ToneBlock => self.tones.read(offset),
+            Owner::SoundBlock => self.queues.read(offset) | self.tones.read(offset),
             Owner::DmaBlock => self.channels.read(offset),
             Owner::TimerBlock => self.timers.read(offset),
             Owner::KeyBlock => self.keypad.read(offset),
@@ -331,6 +363,7 @@ impl DeviceSet {
     {
         match owner_of(offset) {
             Owner::PictureBlock => self.picture.kept(offset),
+            Owner::ToneBlock => self.tones.kept(offset),
             Owner::SoundBlock => self.queues.read(offset),
             Owner::DmaBlock => self.channels.kept(offset),
             Owner::TimerBlock => self.timers.kept(offset),
@@ -350,6 +383,13 @@ impl DeviceSet {
         self.picture.kept(offset) | self.picture.read_at(offset, at)
     }
 
+    /// What reads at SOUNDCNT_H, SOUNDCNT_X or SOUNDBIAS while the tone channels are these.
+    pub(crate) fn sound_stored(&self, offset: u32, tones: &Tones) -> u16
+        ensures { result ≡ bit_or (sound_read offset self.now.sound) (tones_read offset tones.now) }
+    {
+        self.queues.read(offset) | tones.read(offset)
+    }
+
     /// What is stored at a halfword, for the state file.
     #[tactic(auto, unfolding(crate::specs::Registers::half_stored, crate::specs::Registers::half_read))]
     pub(crate) fn half_stored(&self, offset: u32) -> u16
@@ -358,7 +398,8 @@ impl DeviceSet {
     {
         match owner_of(offset) {
             Owner::PictureBlock => self.picture_stored(offset, &self.place.at()),
-            Owner::SoundBlock => self.queues.read(offset),
+            Owner::ToneBlock => self.tones.kept(offset),
+            Owner::SoundBlock => self.queues.read(offset) | self.tones.read(offset),
             Owner::DmaBlock => self.channels.kept(offset),
             Owner::TimerBlock => self.timers.kept(offset),
             Owner::KeyBlock => self.keypad.read(offset),
@@ -377,6 +418,14 @@ impl DeviceSet {
         self.halt.halted = self.halt.halted || bit(u32::from(lanes), 8);
     }
 
+    /// Writes SOUNDCNT_H, SOUNDCNT_X or SOUNDBIAS: direct sound and the tone channels take their bits of it.
+    fn write_sound(&mut self, offset: u32, value: u16)
+        ensures { self.new ≡ record self.old { sound = sound_written offset value self.old.sound; tones = tones_written offset value self.old.tones } }
+    {
+        self.queues.write(offset, value);
+        self.tones.write(offset, value);
+    }
+
     /// Writes the bytes of a halfword that `lanes` has.
     #[tactic(auto, unfolding(crate::specs::Registers::half_written))]
     fn half_write(&mut self, offset: u32, value: u16, lanes: u16)
@@ -385,7 +434,8 @@ impl DeviceSet {
         let value = merged(self.half_kept(offset), value, lanes);
         match owner_of(offset) {
             Owner::PictureBlock => self.picture.write(offset, value),
-            Owner::SoundBlock => self.queues.write(offset, value),
+            Owner::ToneBlock => self.tones.write(offset, value),
+            Owner::SoundBlock => self.write_sound(offset, value),
             Owner::DmaBlock => self.channels.write(offset, value),
             Owner::TimerBlock => self.timers.write(offset, value),
             Owner::KeyBlock => {
@@ -496,8 +546,8 @@ impl DeviceSet {
         }
     }
 
-    /// The clock, the timers and the queues move by a cycle.
-    #[tactic(auto, unfolding(crate::specs::Cycles::sounded, crate::specs::Cycles::rung))]
+    /// The clock, the timers, the queues and the tone channels move by a cycle.
+    #[tactic(auto, unfolding(crate::specs::Cycles::sounded, crate::specs::Cycles::rung, gba_psg::specs::Tones::after_cycles))]
     fn sound(&mut self)
         requires { self.old.clock < 2 ^ 63 }
         ensures devices { self.new ≡ sounded self.old }
@@ -508,6 +558,7 @@ impl DeviceSet {
         self.request_timers(mark);
         self.ring(0, bit(u32::from(mark), 0));
         self.ring(1, bit(u32::from(mark), 1));
+        self.tones.advance(1);
     }
 
     /// DISPSTAT as it is stored.
@@ -599,11 +650,13 @@ impl DeviceSet {
     #[tactic(auto, unfolding(crate::specs::Cycles::quiet))]
     pub(crate) fn skip(&mut self, count: u32)
         requires quiet { count ≤ quiet self.old }
+        requires few { count ≤ 512 }
         requires clock { self.old.clock < 2 ^ 63 }
         ensures { self.new ≡ skipped count self.old }
     {
         self.clock += u64::from(count);
         self.timers.skip(count);
+        self.tones.advance(count);
         self.place.skip(count);
     }
 }

@@ -3,10 +3,10 @@ use Rattle.std.specs.Prelude.{◌==◌, ◌||◌, ◌&&◌}
 use Rattle.std.proofs.lemmas.Bool.Decides.{nat_tests}
 use Rattle.std.proofs.lemmas.List.{length-append}
 use Rattle.gba_devices.specs.Cycles.{CyclePasses, after_cycles, device_cycle, draws_at, draws_line, makes_pair, makes_within}
+use Rattle.gba_devices.specs.Samples.{left_sample, right_sample}
 use Rattle.gba_devices.specs.State.{Devices}
 use Rattle.gba_ppu_reg.specs.Position.{IsPosition, cycle as place_cycle}
 use Rattle.gba_ppu_reg.specs.declared.position.Position.{Position}
-use Rattle.gba_sound.specs.Queues.{left_sample, right_sample}
 use Rattle.gba_io.specs.Board.{BoardPasses, HasRoom, IsInStep, QuietBoard, board_after, board_cycle, line_in_cycle, made_in_cycle}
 use Rattle.gba_io.specs.Base.{early_at}
 use Rattle.gba_io.specs.Core.{Core, core_after, core_cycled}
@@ -122,8 +122,8 @@ no-pair true left right m none = cc
 none-in-cycle : (c : Core) (m : Made) → makes_pair c.devices ≡ false → draws_line c.devices ≡ false
     → made_in_cycle c m ≡ m
 none-in-cycle c m no_pair no_line =
-    let sound = (device_cycle c.devices).sound in
-    no-pair (makes_pair c.devices) (left_sample sound) (right_sample sound) (line_in_cycle c m) no_pair
+    let d = device_cycle c.devices in
+    no-pair (makes_pair c.devices) (left_sample d) (right_sample d) (line_in_cycle c m) no_pair
     ∙ no-line (draws_line c.devices) (ends_frame c.devices.place) (line_bytes c.devices.place.line c) m no_line
 
 pub quiet-board : QuietBoard

@@ -1,7 +1,7 @@
 use Rattle.std.specs.Prelude.{◌≡◌, ℕ, zero, suc, false, ◌+◌, ◌*◌, ◌/◌, ◌^◌, ◌≤◌, List, length, Option}
 use Rattle.gba_devices.specs.Cycles.{after_cycles, device_cycle, draws_line, makes_pair, makes_within}
+use Rattle.gba_devices.specs.Samples.{left_sample, right_sample}
 use Rattle.gba_ppu_reg.specs.Position.{IsPosition}
-use Rattle.gba_sound.specs.Queues.{left_sample, right_sample}
 use Rattle.gba_io.specs.Base.{begun_at, early_at}
 use Rattle.gba_io.specs.Core.{Core, core_after, core_at_start, core_cycled}
 use Rattle.gba_io.specs.Drawing.{cycles_early, cycles_in, ends_frame, line_bytes, lines_drawn}
@@ -23,15 +23,15 @@ board_at_start player count round bios cart save room = record {
 }
 
 -- What a cycle makes: where HBlank begins a line of the picture, and where the new clock is a multiple of 512 a pair of
--- samples, once the queues have taken their bytes.
+-- samples, once the queues have taken their bytes and the tone channels have moved.
 abbrev pub line_in_cycle : Core → Made → Made
 line_in_cycle c m =
     with_line (draws_line c.devices) (ends_frame c.devices.place) (line_bytes c.devices.place.line c) m
 
 abbrev pub pair_in_cycle : Core → Made → Made
 pair_in_cycle c m =
-    let sound = (device_cycle c.devices).sound in
-    with_pair (makes_pair c.devices) (left_sample sound) (right_sample sound) m
+    let d = device_cycle c.devices in
+    with_pair (makes_pair c.devices) (left_sample d) (right_sample d) m
 
 abbrev pub made_in_cycle : Core → Made → Made
 made_in_cycle c m = pair_in_cycle c (line_in_cycle c m)

@@ -16,6 +16,7 @@ use gba_mem::Memory;
 use gba_ppu_mix::mix_line;
 use gba_ppu_reg::{Position, Reference};
 use gba_price_table::PriceTable;
+use gba_psg::Tone;
 use gba_serial::Serial;
 use gba_terms::NoMemory;
 use gba_timer::Timer;
@@ -82,15 +83,17 @@ impl Model for Core {
 }
 
 impl Core {
-    ghost use Rattle.std.specs.Prelude.{◌≡◌, ℕ, ◌+◌, ◌*◌, ◌^◌, ◌<◌, ◌≤◌, true, false, IfOk, length, option_map};
+    ghost use Rattle.std.specs.Prelude.{◌≡◌, ℕ, ◌+◌, ◌*◌, ◌^◌, ◌<◌, ◌≤◌, ◌==◌, true, false, IfOk, length, option_map, if◌then◌else◌};
     ghost use Rattle.std.specs.Option.{option_map_or};
     ghost use Rattle.gba_dma.specs.Channels.{channel_at, next_unit};
     ghost use Rattle.gba_devices.specs.Cycles.{after_cycles, draws_line, makes_pair, makes_within};
+    ghost use Rattle.gba_devices.specs.Samples.{left_sample, right_sample};
     ghost use Rattle.gba_devices.specs.State.{is_idle};
     ghost use Rattle.gba_irq.specs.Interrupts.{is_pending};
     ghost use Rattle.gba_ppu_reg.specs.Position.{IsPosition};
     ghost use Rattle.gba_ppu_reg.specs.Registers.{reference_of};
-    ghost use Rattle.gba_sound.specs.Queues.{left_sample, queue_at, right_sample};
+    ghost use Rattle.gba_psg.specs.Tones.{tone_at};
+    ghost use Rattle.gba_sound.specs.Queues.{queue_at};
     ghost use Rattle.gba_timer.specs.Timers.{timer_at};
     ghost use Rattle.gba_io.specs.Core.{core_after, core_at_start, core_begun, core_cycled, core_half_stored, core_is_calm, core_is_idle, core_keyed, core_learned, core_rested, core_woken, length_named, memory_named};
     ghost use Rattle.gba_io.specs.Drawing.{line_colours};
@@ -329,10 +332,10 @@ impl Core {
         self.calm = is_calm(&self.devices, &self.serial);
     }
 
-    /// What the sound queues sound like, left then right.
+    /// What the sound queues and the tone channels sound like, left then right.
     pub(crate) fn sample(&self) -> (i16, i16)
-        ensures left { result.0 ≡ left_sample self.now.devices.sound }
-        ensures right { result.1 ≡ right_sample self.now.devices.sound }
+        ensures left { result.0 ≡ left_sample self.now.devices }
+        ensures right { result.1 ≡ right_sample self.now.devices }
     {
         self.devices.sample()
     }
@@ -377,6 +380,30 @@ impl Core {
         ensures most { length result.now ≤ 32 }
     {
         self.devices.queue(queue)
+    }
+
+    /// The cycles since the sound was turned on, modulo 262,144, by which the tone channels' lengths, sweep and envelopes tick.
+    pub fn sequencer(&self) -> u32
+        ensures value { result ≡ self.now.devices.tones.sequencer }
+        ensures most { result < 0x40000 }
+    {
+        self.devices.sequencer()
+    }
+
+    /// A tone channel by its number less 1, which is below 4.
+    pub fn tone(&self, channel: u32) -> Tone
+        requires { channel < 4 }
+        ensures { result ≡ tone_at channel self.now.devices.tones }
+    {
+        self.devices.tone(channel)
+    }
+
+    /// The bytes of a bank of tone channel 3's wave, 0 or 1.
+    pub fn wave_bank(&self, bank: u32) -> [u8; 16]
+        requires { bank < 2 }
+        ensures { result ≡ (if bank == 0 then self.now.devices.tones.wave.bank0 else self.now.devices.tones.wave.bank1) }
+    {
+        self.devices.wave_bank(bank)
     }
 
     /// A timer by its number, which is below 4.

@@ -10,6 +10,9 @@ use Rattle.gba_io.specs.Core.{Core, core_half_stored}
 use Rattle.gba_ppu_reg.specs.Registers.{reference_of}
 use Rattle.gba_ppu_reg.specs.declared.position.Position.{Position}
 use Rattle.gba_ppu_reg.specs.declared.reference.Reference.{Reference}
+use Rattle.gba_psg.specs.Tones.{tone_at}
+use Rattle.gba_psg.specs.declared.four.FourTones.{FourTones}
+use Rattle.gba_psg.specs.declared.tone.Tone.{Tone}
 use Rattle.gba_sound.specs.Queue.{SoundQueue}
 use Rattle.gba_sound.specs.Queues.{queue_at}
 use Rattle.gba_timer.specs.Timers.{timer_at}
@@ -81,6 +84,29 @@ queue_line name q =
 abbrev pub queue_lines : Devices → List ℕ
 queue_lines d = queue_line (codes "A") (queue_at 0 d.sound) ++ queue_line (codes "B") (queue_at 1 d.sound)
 
+-- The line of the sequencer, by which the tone channels tick; the line of a tone channel: its number, from 1 to 4, whether it
+-- is on, its place, its wait, the length that is left, its volume, the ticks of its envelope and of its sweep that are left,
+-- and the frequency from which the sweep goes on; and the line of a bank of channel 3's wave: its number and its 16 bytes.
+unfoldable pub sequencer_line : ℕ → List ℕ
+sequencer_line cycles = codes "sequencer " ++ decimal cycles ++ codes "\n"
+
+abbrev pub tone_numbers : Tone → List ℕ
+tone_numbers t =
+    (codes " " ++ truth t.on) ++ (codes " " ++ decimal t.place) ++ (codes " " ++ decimal t.wait)
+    ++ (codes " " ++ decimal t.left) ++ (codes " " ++ decimal t.volume) ++ (codes " " ++ decimal t.fade)
+    ++ (codes " " ++ decimal t.sweep) ++ (codes " " ++ decimal t.shadow)
+
+abbrev pub tone_line : ℕ → Tone → List ℕ
+tone_line number t = codes "tone " ++ decimal number ++ tone_numbers t ++ codes "\n"
+
+unfoldable pub wave_line : ℕ → List ℕ → List ℕ
+wave_line number bank = codes "wave " ++ decimal number ++ codes " " ++ hex_bytes bank ++ codes "\n"
+
+unfoldable pub tone_lines : FourTones → List ℕ
+tone_lines ts =
+    sequencer_line ts.sequencer ++ tone_line 1 (tone_at 0 ts) ++ tone_line 2 (tone_at 1 ts) ++ tone_line 3 (tone_at 2 ts)
+    ++ tone_line 4 (tone_at 3 ts) ++ wave_line 0 ts.wave.bank0 ++ wave_line 1 ts.wave.bank1
+
 -- the lines of the picture's place, and of the inner reference points of backgrounds 2 and 3
 unfoldable pub position_line : Position → List ℕ
 position_line p = codes "position " ++ decimal p.line ++ codes " " ++ decimal p.dot ++ codes "\n"
@@ -134,7 +160,7 @@ abbrev pub state_file : Machine → List ℕ
 state_file m =
     heading m.board.core.serial.player (clock_of m) m.board.core.devices.halted ++ register_lines register_names m.registers
     ++ timer_lines m.board.core.devices ++ channel_lines m.board.core.devices ++ queue_lines m.board.core.devices
-    ++ picture_lines m.board.core.devices ++ cable_lines m.board.core.serial ++ lines_of_memories m.board.core
+    ++ tone_lines m.board.core.devices.tones ++ picture_lines m.board.core.devices ++ cable_lines m.board.core.serial ++ lines_of_memories m.board.core
 
 -- its save: the bytes of the SRAM
 abbrev pub save_file : Machine → List ℕ

@@ -4,6 +4,7 @@
 mod cable;
 mod devices;
 mod state;
+mod tones;
 mod words;
 
 pub use state::{SAVE_ROOM, STATE_ROOM, add_state, add_summary, write_save, write_state};

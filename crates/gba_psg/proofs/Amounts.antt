@@ -6,6 +6,7 @@ use Rattle.gba_psg.specs.Amount.{factor, left_amount, right_amount}
 use Rattle.gba_psg.specs.Laws.{IsStill}
 use Rattle.gba_psg.specs.Registers.{cleared}
 use Rattle.gba_psg.specs.Soundness.{AreSound}
+use Rattle.gba_psg.specs.Tones.{after_cycles}
 use Rattle.gba_psg.proofs.Ticking.{still-cycles}
 
 pub at-most : (sum volume ratio : ℕ) → sum ≤ 60 → volume ≤ 7 → ratio ≤ 4 → sum * (volume + 1) * ratio * 8 ≤ 15360
@@ -30,6 +31,12 @@ left-off ts h off = ap left_amount (h.off off) ∙ left-cleared ts
 
 pub right-off : (ts : FourTones) → AreSound ts → ts.is_on ≡ false → right_amount ts ≡ 0
 right-off ts h off = ap right_amount (h.off off) ∙ right-cleared ts
+
+pub left-off-after : (count : ℕ) (ts : FourTones) → AreSound ts → ts.is_on ≡ false → left_amount (after_cycles count ts) ≡ 0
+left-off-after count ts h off = ap left_amount (still-cycles count ts off) ∙ left-off ts h off
+
+pub right-off-after : (count : ℕ) (ts : FourTones) → AreSound ts → ts.is_on ≡ false → right_amount (after_cycles count ts) ≡ 0
+right-off-after count ts h off = ap right_amount (still-cycles count ts off) ∙ right-off ts h off
 
 pub is-still : IsStill
 is-still = record { cycles = still-cycles; left = left-off; right = right-off }

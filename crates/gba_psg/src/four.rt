@@ -268,6 +268,23 @@ impl FourTones {
         (left, right)
     }
 
+    /// The same after 512 cycles at most.
+    pub(crate) fn amount_after(&self, cycles: u32) -> (i32, i32)
+        requires most { cycles ≤ 512 }
+        requires sound { AreSound self.now }
+        ensures left { result.0 ≡ pos (left_amount (after_cycles cycles self.now)) }
+        ensures right { result.1 ≡ pos (right_amount (after_cycles cycles self.now)) }
+        ensures most_left { left_amount (after_cycles cycles self.now) ≤ 15360 }
+        ensures most_right { right_amount (after_cycles cycles self.now) ≤ 15360 }
+    {
+        if !self.is_on {
+            return (0, 0);
+        }
+        let mut later = *self;
+        later.advance(cycles);
+        later.amount()
+    }
+
     /// What is stored at a halfword.
     pub(crate) fn kept(&self, offset: u32) -> u16
         ensures { result ≡ tones_kept offset self.now }

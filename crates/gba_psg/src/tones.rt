@@ -227,4 +227,15 @@ impl Tones {
     {
         self.four.amount()
     }
+
+    /// What they will give after 512 cycles at most, if nothing is written before.
+    pub fn amount_after(&self, cycles: u32) -> (i32, i32)
+        requires { cycles ≤ 512 }
+        ensures left { result.0 ≡ pos (left_amount (after_cycles cycles self.now)) }
+        ensures right { result.1 ≡ pos (right_amount (after_cycles cycles self.now)) }
+        ensures most_left { left_amount (after_cycles cycles self.now) ≤ 15360 }
+        ensures most_right { right_amount (after_cycles cycles self.now) ≤ 15360 }
+    {
+        self.four.amount_after(cycles)
+    }
 }

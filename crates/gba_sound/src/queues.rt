@@ -173,7 +173,9 @@ impl Queues {
 
     /// The sum of the queues that are sent to a side.
     fn side(&self, has_a: bool, has_b: bool) -> i16
-        ensures { result ≡ side has_a has_b self.now }
+        ensures value { result ≡ side has_a has_b self.now }
+        ensures least { negsuc 16383 ≤ℤ result }
+        ensures most { result ≤ℤ pos 16256 }
     {
         if !self.is_on {
             return 0;
@@ -185,6 +187,10 @@ impl Queues {
     pub fn sample(&self) -> (i16, i16)
         ensures left { result.0 ≡ left_sample self.now }
         ensures right { result.1 ≡ right_sample self.now }
+        ensures least_left { negsuc 16383 ≤ℤ result.0 }
+        ensures least_right { negsuc 16383 ≤ℤ result.1 }
+        ensures most_left { result.0 ≤ℤ pos 16256 }
+        ensures most_right { result.1 ≤ℤ pos 16256 }
     {
         let control = u32::from(self.control);
         let left = self.side(bit(control, 9), bit(control, 13));
