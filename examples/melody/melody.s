@@ -9,7 +9,7 @@
         add   r2, r2, #0x77    ; at full volume
         add   r2, r2, #0x20000 ; and full ratio
         str   r2, [r1, #0x80]
-        add   r4, pc, #0x78    ; r4 is the wave, behind which the notes are
+        add   r4, pc, #0x84    ; r4 is the wave, behind which the notes are
         ldmia r4!, {r6-r9}
         add   r3, r1, #0x90
         stmia r3, {r6-r9}
@@ -63,3 +63,4 @@ done:   str   r0, [r1, #0x200]
         .half 0x8721, 0x86f7, 0x8563, 0x8010
         .half 0x8721, 0x86f7, 0x8563, 0x8021
         .half 0x8721, 0x86f7, 0x860b, 0x8028
+        .space 16072

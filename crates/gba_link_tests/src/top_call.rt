@@ -22,15 +22,15 @@ r13_irq 00000000\nr14_irq 00000000\nr13_svc 00000000\nr14_svc 00000000\nr13_abt 
 r13_und 00000000\nr14_und 00000000\ncpsr 000000d3\n\
 spsr_fiq 00000000\nspsr_irq 00000000\nspsr_svc 00000000\nspsr_abt 00000000\nspsr_und 00000000\n\
 timer 0 0 0 0 0\ntimer 1 0 0 0 0\ntimer 2 0 0 0 0\ntimer 3 0 0 0 0\n\
-dma 0 0 0 0 0 0\ndma 1 0 0 0 0 0\ndma 2 0 0 0 0 0\ndma 3 0 0 0 0 0\nqueue A 00 0 -\nqueue B 00 0 -\nposition 0 3\naffine 2 00000000 00000000\naffine 3 00000000 00000000\nserial 3 0 0 0 0 0 0\nknown 3 3 3 3\n\
+dma 0 0 0 0 0 0\ndma 1 0 0 0 0 0\ndma 2 0 0 0 0 0\ndma 3 0 0 0 0 0\nqueue A 00 0 -\nqueue B 00 0 -\nsequencer 0\ntone 1 0 0 0 0 0 0 0 0\ntone 2 0 0 0 0 0 0 0 0\ntone 3 0 0 0 0 0 0 0 0\ntone 4 0 0 0 0 0 0 0 0\nwave 0 00000000000000000000000000000000\nwave 1 00000000000000000000000000000000\nposition 0 3\naffine 2 00000000 00000000\naffine 3 00000000 00000000\nserial 3 0 0 0 0 0 0\nknown 3 3 3 3\n\
 mem io 000000 0000000004000000000000000000000000000000000000000000000000000000\nmem io 000080 0000000000000000000200000000000000000000000000000000000000000000\n\
 mem io 000120 00000000000000000000000000000000ff030000008000000000000000000000\n";
 
 const LOG_OF_BRANCH: &str =
-    "gbalink 2\ncycles 1\nlink 0 1 512\nlink 1 0 512\nconsole 0\nbios b sha256 42bc114dbdbbee2e759ce16f2cb8804ae18fefe935a14951d0e07af2a3401d8b\nout state sha256 8b22e6c757bc745dfb316412fc5f0a19f4c0b18c97be9f158b43d9daf75bd211\nend\n";
+    "gbalink 2\ncycles 1\nlink 0 1 512\nlink 1 0 512\nconsole 0\nbios b sha256 42bc114dbdbbee2e759ce16f2cb8804ae18fefe935a14951d0e07af2a3401d8b\nout state sha256 f5635389d90d8739668892422cd55855e02eebb63ce16ebf1b2d14bf7a5c39a8\nend\n";
 
 const SUMMARY_OF_BRANCH: &str =
-    "console 0 clock 3 frames 0 samples 0 words 0\nlog cc295056ef06c4abdf08a6ab340af618eeccb4c40eab61de3d90e28136538c2e\n";
+    "console 0 clock 3 frames 0 samples 0 words 0\nlog f0f5c63d29f7f0304c4f4e6f373d9202368007cebc84d1f95433d2e8527c53ce\n";
 
 const HALF_OF_STATE: &str =
     "gbalink-state 1\nconsole 0\nclock 3\nhalted 0\nr0 00000000\nr1 00000000\nr2 00000000\nr3 00000000\nr4 00000000\nr5 00000000\nr6 00000000\nr7 00000000\nr8 00000000\nr9 00000000\nr10 00000000\nr11 00000000\nr12 00000000\nr13 00000000\nr14 00000000\nr15 00000000\nr8_fiq 00000000\nr9_fiq 00000000\nr10_fiq 00000000\nr11_fiq 00000000\nr12_fiq 00000000\nr13_fiq 00000000\nr14_fiq 00000000\nr13_irq 00000000\nr14_irq 00000000\nr13_svc 00000000\nr14_svc 00000000\nr13_abt 00000000\nr14_abt 00000000\nr13_und 00000000\nr14_und 00000000\ncpsr 000000d3\nspsr_fiq 00000000\nspsr_irq 00000000\nsps";
@@ -539,7 +539,7 @@ const SUMMARY_OF_SILENCE: &str =
 /// Other spellings of jobs of one branch, their logs and their summaries. The first is the log that an older program wrote.
 static OTHER_SPELLINGS: [Case<'static>; 5] = [
     Case {
-        job: "gbalink 1\ncycles 1\ndelay 512\nconsole 0\nbios b sha256 42bc114dbdbbee2e759ce16f2cb8804ae18fefe935a14951d0e07af2a3401d8b\nout state sha256 8b22e6c757bc745dfb316412fc5f0a19f4c0b18c97be9f158b43d9daf75bd211\nend\n",
+        job: "gbalink 1\ncycles 1\ndelay 512\nconsole 0\nbios b sha256 42bc114dbdbbee2e759ce16f2cb8804ae18fefe935a14951d0e07af2a3401d8b\nout state sha256 f5635389d90d8739668892422cd55855e02eebb63ce16ebf1b2d14bf7a5c39a8\nend\n",
         ..PLAIN
     },
     Case {
@@ -549,14 +549,14 @@ static OTHER_SPELLINGS: [Case<'static>; 5] = [
     Case {
         job: "# one branch\n\n \tgbalink\t1 \ncycles 00000000000000000003\n#\nconsole 0\nout state\nbios b\nend\n\n# done",
         report: Exactly(
-            "console 0 clock 3 frames 0 samples 0 words 0\nlog 1ff0b56fca045507a906ef58828fd66eb1cb1645eef8f95fdc194f0df657b154\n",
+            "console 0 clock 3 frames 0 samples 0 words 0\nlog 28c1000a6f19d12c1d68071d0a6c8d15634d12ac9b1beb6859588e395d4570f6\n",
         ),
         written: &[
             (".0.state", Is(Text(STATE_OF_BRANCH))),
             (
                 ".log",
                 Is(Text(
-                    "gbalink 2\ncycles 3\nlink 0 1 512\nlink 1 0 512\nconsole 0\nbios b sha256 42bc114dbdbbee2e759ce16f2cb8804ae18fefe935a14951d0e07af2a3401d8b\nout state sha256 8b22e6c757bc745dfb316412fc5f0a19f4c0b18c97be9f158b43d9daf75bd211\nend\n",
+                    "gbalink 2\ncycles 3\nlink 0 1 512\nlink 1 0 512\nconsole 0\nbios b sha256 42bc114dbdbbee2e759ce16f2cb8804ae18fefe935a14951d0e07af2a3401d8b\nout state sha256 f5635389d90d8739668892422cd55855e02eebb63ce16ebf1b2d14bf7a5c39a8\nend\n",
                 )),
             ),
         ],
@@ -569,14 +569,14 @@ static OTHER_SPELLINGS: [Case<'static>; 5] = [
     Case {
         job: "gbalink 1\ndelay 0512\ncycles 2\nconsole 00\nbios b\nout state\nend\n",
         report: Exactly(
-            "console 0 clock 3 frames 0 samples 0 words 0\nlog d67c69d6ade7303b999c6266840ecf589637fe728b72e82cb49b2afc53c9d74c\n",
+            "console 0 clock 3 frames 0 samples 0 words 0\nlog feed5dc2b2c15195e7eccfb239a2678cf1f90ef0038e51bde5dd01d914312357\n",
         ),
         written: &[
             (".0.state", Is(Text(STATE_OF_BRANCH))),
             (
                 ".log",
                 Is(Text(
-                    "gbalink 2\ncycles 2\nlink 0 1 512\nlink 1 0 512\nconsole 0\nbios b sha256 42bc114dbdbbee2e759ce16f2cb8804ae18fefe935a14951d0e07af2a3401d8b\nout state sha256 8b22e6c757bc745dfb316412fc5f0a19f4c0b18c97be9f158b43d9daf75bd211\nend\n",
+                    "gbalink 2\ncycles 2\nlink 0 1 512\nlink 1 0 512\nconsole 0\nbios b sha256 42bc114dbdbbee2e759ce16f2cb8804ae18fefe935a14951d0e07af2a3401d8b\nout state sha256 f5635389d90d8739668892422cd55855e02eebb63ce16ebf1b2d14bf7a5c39a8\nend\n",
                 )),
             ),
         ],
@@ -613,7 +613,7 @@ static PROGRAMS: [Case<'static>; 3] = [
             ".0.state",
             Holds {
                 pieces: &["\nclock 7\n", "\nr1 03000000\nr2 00000005\n"],
-                end: "\nspsr_und 00000000\ntimer 0 0 0 0 0\ntimer 1 0 0 0 0\ntimer 2 0 0 0 0\ntimer 3 0 0 0 0\ndma 0 0 0 0 0 0\ndma 1 0 0 0 0 0\ndma 2 0 0 0 0 0\ndma 3 0 0 0 0 0\nqueue A 00 0 -\nqueue B 00 0 -\nposition 0 7\naffine 2 00000000 00000000\naffine 3 00000000 00000000\nserial 3 0 0 0 0 0 0\nknown 3 3 3 3\nmem io 000000 0000000004000000000000000000000000000000000000000000000000000000\nmem io 000080 0000000000000000000200000000000000000000000000000000000000000000\nmem io 000120 00000000000000000000000000000000ff030000008000000000000000000000\nmem iwram 000020 0500000000000000000000000000000000000000000000000000000000000000\n",
+                end: "\nspsr_und 00000000\ntimer 0 0 0 0 0\ntimer 1 0 0 0 0\ntimer 2 0 0 0 0\ntimer 3 0 0 0 0\ndma 0 0 0 0 0 0\ndma 1 0 0 0 0 0\ndma 2 0 0 0 0 0\ndma 3 0 0 0 0 0\nqueue A 00 0 -\nqueue B 00 0 -\nsequencer 0\ntone 1 0 0 0 0 0 0 0 0\ntone 2 0 0 0 0 0 0 0 0\ntone 3 0 0 0 0 0 0 0 0\ntone 4 0 0 0 0 0 0 0 0\nwave 0 00000000000000000000000000000000\nwave 1 00000000000000000000000000000000\nposition 0 7\naffine 2 00000000 00000000\naffine 3 00000000 00000000\nserial 3 0 0 0 0 0 0\nknown 3 3 3 3\nmem io 000000 0000000004000000000000000000000000000000000000000000000000000000\nmem io 000080 0000000000000000000200000000000000000000000000000000000000000000\nmem io 000120 00000000000000000000000000000000ff030000008000000000000000000000\nmem iwram 000020 0500000000000000000000000000000000000000000000000000000000000000\n",
             },
         )],
         ..PLAIN
@@ -627,7 +627,7 @@ static PROGRAMS: [Case<'static>; 3] = [
             ".0.state",
             Holds {
                 pieces: &["\nclock 10\n", "\nr0 00000005\n", "\nr15 00000004\n"],
-                end: "\nspsr_und 00000000\ntimer 0 0 0 0 0\ntimer 1 0 0 0 0\ntimer 2 0 0 0 0\ntimer 3 0 0 0 0\ndma 0 0 0 0 0 0\ndma 1 0 0 0 0 0\ndma 2 0 0 0 0 0\ndma 3 0 0 0 0 0\nqueue A 00 0 -\nqueue B 00 0 -\nposition 0 10\naffine 2 00000000 00000000\naffine 3 00000000 00000000\nserial 3 0 0 0 0 0 0\nknown 3 3 3 3\nmem io 000000 0000000004000000000000000000000000000000000000000000000000000000\nmem io 000080 0000000000000000000200000000000000000000000000000000000000000000\nmem io 000120 00000000000000000000000000000000ff030000008000000000000000000000\n",
+                end: "\nspsr_und 00000000\ntimer 0 0 0 0 0\ntimer 1 0 0 0 0\ntimer 2 0 0 0 0\ntimer 3 0 0 0 0\ndma 0 0 0 0 0 0\ndma 1 0 0 0 0 0\ndma 2 0 0 0 0 0\ndma 3 0 0 0 0 0\nqueue A 00 0 -\nqueue B 00 0 -\nsequencer 0\ntone 1 0 0 0 0 0 0 0 0\ntone 2 0 0 0 0 0 0 0 0\ntone 3 0 0 0 0 0 0 0 0\ntone 4 0 0 0 0 0 0 0 0\nwave 0 00000000000000000000000000000000\nwave 1 00000000000000000000000000000000\nposition 0 10\naffine 2 00000000 00000000\naffine 3 00000000 00000000\nserial 3 0 0 0 0 0 0\nknown 3 3 3 3\nmem io 000000 0000000004000000000000000000000000000000000000000000000000000000\nmem io 000080 0000000000000000000200000000000000000000000000000000000000000000\nmem io 000120 00000000000000000000000000000000ff030000008000000000000000000000\n",
             },
         )],
         ..PLAIN
