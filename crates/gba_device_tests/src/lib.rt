@@ -1,6 +1,6 @@
 #![tactic(auto)]
-//! Tests of the devices: worked cases of timers, DMA channels, direct sound, interrupts, the keypad, and the picture's
-//! registers and position.
+//! Tests of the devices: worked cases of timers, DMA channels, direct sound, tone channels, interrupts, the keypad, and the
+//! picture's registers and position.
 
 #[cfg(test)]
 mod dma;
@@ -16,3 +16,5 @@ mod quiet;
 mod sound;
 #[cfg(test)]
 mod timers;
+#[cfg(test)]
+mod tones;

@@ -5,8 +5,6 @@ mod four;
 pub mod laws;
 mod noise;
 mod square;
-#[cfg(test)]
-mod tests;
 mod tone;
 mod tones;
 mod wave;

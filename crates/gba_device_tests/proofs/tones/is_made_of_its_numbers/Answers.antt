@@ -1,7 +1,7 @@
 use Rattle.std.proofs.Common.{arith}
 use Rattle.gba_psg.specs.Numbers.{tones_of}
 use Rattle.gba_psg.proofs.Sound.{differ, reset-sound}
-use Rattle.gba_psg.proofs.tests.is_made_of_its_numbers.Goals as goal
+use Rattle.gba_device_tests.proofs.tones.is_made_of_its_numbers.Goals as goal
 
 pub of-tones-requires : goal.of-tones-requires
 unfolding tones_of

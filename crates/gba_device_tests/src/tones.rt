@@ -1,6 +1,6 @@
 //! The four channels by their registers: given values, masks, starts, ticks, patterns, and the master enable.
 
-use crate::{Tone, Tones};
+use gba_psg::{Tone, Tones};
 use std::process::Abort;
 
 /// Something done to the tones, or something that must hold of them.
@@ -16,6 +16,8 @@ enum Move {
     Pass(u32),
     /// What both sides give, left then right.
     Gives(i32, i32),
+    /// What they will give after so many cycles, 512 at most.
+    Later(u32, i32, i32),
     /// A channel's place, by the channel's number less 1.
     Place(u32, u32),
     /// Its volume.
@@ -30,7 +32,7 @@ enum Move {
     Sequencer(u32),
 }
 
-use Move::{Frequency, Gives, Keeps, Left, On, Pass, Place, Reads, Sequencer, Volume, Write};
+use Move::{Frequency, Gives, Keeps, Later, Left, On, Pass, Place, Reads, Sequencer, Volume, Write};
 
 fn pass(tones: &mut Tones, cycles: u32) {
     for _ in 0..cycles / 512 {
@@ -44,6 +46,11 @@ fn tone<R: Abort>(rt: &R, tones: &Tones, channel: u32) -> Tone {
     tones.tone(channel)
 }
 
+fn amount_after<R: Abort>(rt: &R, tones: &Tones, cycles: u32) -> (i32, i32) {
+    assert!(rt; cycles <= 512);
+    tones.amount_after(cycles)
+}
+
 fn play<R: Abort>(rt: &R, moves: &[Move]) {
     let mut tones = Tones::new();
     for one in moves {
@@ -53,6 +60,9 @@ fn play<R: Abort>(rt: &R, moves: &[Move]) {
             Keeps(offset, value) => assert_eq!(rt; tones.kept(offset), value, "at {offset}"),
             Pass(cycles) => pass(&mut tones, cycles),
             Gives(left, right) => assert_eq!(rt; tones.amount(), (left, right)),
+            Later(cycles, left, right) => {
+                assert_eq!(rt; amount_after(rt, &tones, cycles), (left, right));
+            }
             Place(channel, place) => assert_eq!(rt; tone(rt, &tones, channel).place, place),
             Volume(channel, volume) => assert_eq!(rt; tone(rt, &tones, channel).volume, volume),
             Left(channel, left) => assert_eq!(rt; tone(rt, &tones, channel).left, left),
@@ -67,7 +77,7 @@ fn play<R: Abort>(rt: &R, moves: &[Move]) {
 }
 
 /// Volume 15 times 8 times 4 times 8 while the place is below 4, which it is for four periods of 32,768 cycles.
-static LOUD: [Move; 10] = [
+static LOUD: [Move; 11] = [
     Write(0x084, 0x0080),
     Write(0x080, 0x1177),
     Write(0x082, 0x0002),
@@ -76,6 +86,7 @@ static LOUD: [Move; 10] = [
     Gives(3840, 3840),
     Pass(131_071),
     Gives(3840, 3840),
+    Later(1, 0, 0),
     Pass(1),
     Gives(0, 0),
 ];
