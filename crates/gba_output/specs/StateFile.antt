@@ -102,10 +102,15 @@ tone_line number t = codes "tone " ++ decimal number ++ tone_numbers t ++ codes 
 unfoldable pub wave_line : ℕ → List ℕ → List ℕ
 wave_line number bank = codes "wave " ++ decimal number ++ codes " " ++ hex_bytes bank ++ codes "\n"
 
+abbrev pub four_lines : FourTones → List ℕ
+four_lines ts =
+    tone_line 1 (tone_at 0 ts) ++ tone_line 2 (tone_at 1 ts) ++ tone_line 3 (tone_at 2 ts) ++ tone_line 4 (tone_at 3 ts)
+
+abbrev pub wave_lines : FourTones → List ℕ
+wave_lines ts = wave_line 0 ts.wave.bank0 ++ wave_line 1 ts.wave.bank1
+
 unfoldable pub tone_lines : FourTones → List ℕ
-tone_lines ts =
-    sequencer_line ts.sequencer ++ tone_line 1 (tone_at 0 ts) ++ tone_line 2 (tone_at 1 ts) ++ tone_line 3 (tone_at 2 ts)
-    ++ tone_line 4 (tone_at 3 ts) ++ wave_line 0 ts.wave.bank0 ++ wave_line 1 ts.wave.bank1
+tone_lines ts = sequencer_line ts.sequencer ++ four_lines ts ++ wave_lines ts
 
 -- the lines of the picture's place, and of the inner reference points of backgrounds 2 and 3
 unfoldable pub position_line : Position → List ℕ

@@ -18,9 +18,9 @@ use gba_word::hexadecimal::{hex_byte, hex_offset, hex_word};
 use itoa::Buffer;
 
 /// The room of a state file in bytes: its heading has at most 96, each of the 37 registers at most 18, each timer at most
-/// 36, each DMA channel at most 45, each queue at most 80, the sequencer 21, each tone channel 86, each bank of a wave 40, the
+/// 36, each DMA channel at most 45, each queue at most 80, the sequencer 21, each tone channel 88, each bank of a wave 42, the
 /// position and the reference points 85, the serial unit 91, and each of the 12,384 lines of registers and memory 84.
-pub const STATE_ROOM: usize = 1_042_123;
+pub const STATE_ROOM: usize = 1_042_135;
 
 /// The bytes of a save.
 pub const SAVE_ROOM: usize = 32_768;
@@ -279,9 +279,9 @@ fn add_memories(into: &mut Vec<u8>, core: &Core)
     add_memory_lines(into, b"oam", core.memory(MemoryName::Oam));
 }
 
-/// Adds the state file of a console at the end of a buffer that has room for it: 1,042,123 bytes are enough for any.
+/// Adds the state file of a console at the end of a buffer that has room for it: 1,042,135 bytes are enough for any.
 pub fn add_state(into: &mut Vec<u8>, console: &Console)
-    requires { vec_len into.old + 1042123 ≤ vec_capacity into.old }
+    requires { vec_len into.old + 1042135 ≤ vec_capacity into.old }
     ensures items { into.new.items ≡ into.old.items ++ state_file console.now }
     ensures room { vec_capacity into.old ≤ vec_capacity into.new }
 {
@@ -297,10 +297,10 @@ pub fn add_state(into: &mut Vec<u8>, console: &Console)
     add_memories(into, core);
 }
 
-/// Writes the state file of a console into an empty buffer with room for it: 1,042,123 bytes are enough for any.
+/// Writes the state file of a console into an empty buffer with room for it: 1,042,135 bytes are enough for any.
 pub fn write_state(into: &mut Vec<u8>, console: &Console)
     requires empty { into.old.items ≡ [] }
-    requires room { 1042123 ≤ vec_capacity into.old }
+    requires room { 1042135 ≤ vec_capacity into.old }
     ensures items { into.new.items ≡ state_file console.now }
     ensures room { vec_capacity into.old ≤ vec_capacity into.new }
 {

@@ -1,7 +1,7 @@
 //! The lines of the tone channels.
 
-ghost use Rattle.std.specs.Prelude.{◌≡◌, ◌+◌, ◌<◌, ◌≤◌, ◌++◌, vec_len, vec_capacity};
-ghost use Rattle.gba_output.specs.StateFile.{sequencer_line, tone_line, tone_lines, tone_numbers, wave_line};
+ghost use Rattle.std.specs.Prelude.{◌≡◌, ◌+◌, ◌≤◌, ◌++◌, vec_len, vec_capacity};
+ghost use Rattle.gba_output.specs.StateFile.{four_lines, sequencer_line, tone_line, tone_lines, tone_numbers, wave_line, wave_lines};
 
 use crate::devices::{add_truth, add_wide_number};
 use crate::state::{add, add_hex_bytes};
@@ -40,12 +40,11 @@ fn add_tone_numbers(into: &mut Vec<u8>, tone: &Tone)
     add_wide_number(into, tone.shadow);
 }
 
-/// Adds the line of a tone channel by its number, which is below 10.
+/// Adds the line of a tone channel by its number.
 fn add_tone_line(into: &mut Vec<u8>, number: u8, tone: &Tone)
-    requires number { number < 10 }
-    requires room { vec_len into.old + 86 ≤ vec_capacity into.old }
+    requires { vec_len into.old + 88 ≤ vec_capacity into.old }
     ensures items { into.new.items ≡ into.old.items ++ tone_line number tone.now }
-    ensures len { vec_len into.new ≤ vec_len into.old + 86 }
+    ensures len { vec_len into.new ≤ vec_len into.old + 88 }
     ensures room { vec_capacity into.old ≤ vec_capacity into.new }
 {
     let mut buffer = Buffer::new();
@@ -55,13 +54,12 @@ fn add_tone_line(into: &mut Vec<u8>, number: u8, tone: &Tone)
     add(into, b"\n");
 }
 
-/// Adds the line of a bank of the wave by its number, which is below 10.
+/// Adds the line of a bank of the wave by its number.
 #[tactic(auto, unfolding(crate::specs::StateFile::wave_line))]
 fn add_wave_line(into: &mut Vec<u8>, number: u8, bank: &[u8; 16])
-    requires number { number < 10 }
-    requires room { vec_len into.old + 40 ≤ vec_capacity into.old }
+    requires { vec_len into.old + 42 ≤ vec_capacity into.old }
     ensures items { into.new.items ≡ into.old.items ++ wave_line number bank.now }
-    ensures len { vec_len into.new ≤ vec_len into.old + 40 }
+    ensures len { vec_len into.new ≤ vec_len into.old + 42 }
     ensures room { vec_capacity into.old ≤ vec_capacity into.new }
 {
     let mut buffer = Buffer::new();
@@ -72,19 +70,39 @@ fn add_wave_line(into: &mut Vec<u8>, number: u8, bank: &[u8; 16])
     add(into, b"\n");
 }
 
-/// Adds the lines of the sequencer, of the four tone channels and of the two banks.
-#[tactic(auto, unfolding(crate::specs::StateFile::tone_lines))]
-pub(crate) fn add_tone_lines(into: &mut Vec<u8>, core: &Core)
-    requires { vec_len into.old + 445 ≤ vec_capacity into.old }
-    ensures items { into.new.items ≡ into.old.items ++ tone_lines core.now.devices.tones }
-    ensures len { vec_len into.new ≤ vec_len into.old + 445 }
+/// Adds the lines of the four tone channels.
+fn add_four_lines(into: &mut Vec<u8>, core: &Core)
+    requires { vec_len into.old + 352 ≤ vec_capacity into.old }
+    ensures items { into.new.items ≡ into.old.items ++ four_lines core.now.devices.tones }
+    ensures len { vec_len into.new ≤ vec_len into.old + 352 }
     ensures room { vec_capacity into.old ≤ vec_capacity into.new }
 {
-    add_sequencer_line(into, core.sequencer());
     add_tone_line(into, 1, &core.tone(0));
     add_tone_line(into, 2, &core.tone(1));
     add_tone_line(into, 3, &core.tone(2));
     add_tone_line(into, 4, &core.tone(3));
+}
+
+/// Adds the lines of the two banks of the wave.
+fn add_wave_lines(into: &mut Vec<u8>, core: &Core)
+    requires { vec_len into.old + 84 ≤ vec_capacity into.old }
+    ensures items { into.new.items ≡ into.old.items ++ wave_lines core.now.devices.tones }
+    ensures len { vec_len into.new ≤ vec_len into.old + 84 }
+    ensures room { vec_capacity into.old ≤ vec_capacity into.new }
+{
     add_wave_line(into, 0, &core.wave_bank(0));
     add_wave_line(into, 1, &core.wave_bank(1));
+}
+
+/// Adds the lines of the sequencer, of the tone channels and of the wave.
+#[tactic(auto, unfolding(crate::specs::StateFile::tone_lines))]
+pub(crate) fn add_tone_lines(into: &mut Vec<u8>, core: &Core)
+    requires { vec_len into.old + 457 ≤ vec_capacity into.old }
+    ensures items { into.new.items ≡ into.old.items ++ tone_lines core.now.devices.tones }
+    ensures len { vec_len into.new ≤ vec_len into.old + 457 }
+    ensures room { vec_capacity into.old ≤ vec_capacity into.new }
+{
+    add_sequencer_line(into, core.sequencer());
+    add_four_lines(into, core);
+    add_wave_lines(into, core);
 }
