@@ -32,7 +32,9 @@ enum Move {
     Sequencer(u32),
 }
 
-use Move::{Frequency, Gives, Keeps, Later, Left, On, Pass, Place, Reads, Sequencer, Volume, Write};
+use Move::{
+    Frequency, Gives, Keeps, Later, Left, On, Pass, Place, Reads, Sequencer, Volume, Write,
+};
 
 fn pass(tones: &mut Tones, cycles: u32) {
     for _ in 0..cycles / 512 {

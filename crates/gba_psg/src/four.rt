@@ -192,7 +192,25 @@ impl FourTones {
         self.sequencer += more;
     }
 
-    /// Moves by 512 cycles at most.
+    /// Moves by 512 cycles at most while the master enable is 1.
+    #[inline(never)]
+    fn advance_on(&mut self, cycles: u32)
+        requires on { self.old.is_on ≡ true }
+        requires most { cycles ≤ 512 }
+        requires sound { AreSound self.old }
+        ensures { self.new ≡ after_cycles cycles self.old }
+    {
+        let before = 0xFFFF - self.sequencer % 0x1_0000;
+        if cycles <= before {
+            self.pass(cycles);
+        } else {
+            self.pass(before);
+            self.pass_tick(cycles - before - 1);
+        }
+    }
+
+    /// Moves by 512 cycles at most. Without the master enable it is one test, where it is called.
+    #[inline]
     pub(crate) fn advance(&mut self, cycles: u32)
         requires most { cycles ≤ 512 }
         requires sound { AreSound self.old }
@@ -201,13 +219,7 @@ impl FourTones {
         if !self.is_on {
             return;
         }
-        let before = 0xFFFF - self.sequencer % 0x1_0000;
-        if cycles <= before {
-            self.pass(cycles);
-        } else {
-            self.pass(before);
-            self.pass_tick(cycles - before - 1);
-        }
+        self.advance_on(cycles);
     }
 
     fn given(&self) -> Given
@@ -268,7 +280,23 @@ impl FourTones {
         (left, right)
     }
 
-    /// The same after 512 cycles at most.
+    /// The same after 512 cycles at most, of a copy.
+    #[inline(never)]
+    fn amount_of_copy(&self, cycles: u32) -> (i32, i32)
+        requires most { cycles ≤ 512 }
+        requires sound { AreSound self.now }
+        ensures left { result.0 ≡ pos (left_amount (after_cycles cycles self.now)) }
+        ensures right { result.1 ≡ pos (right_amount (after_cycles cycles self.now)) }
+        ensures most_left { left_amount (after_cycles cycles self.now) ≤ 15360 }
+        ensures most_right { right_amount (after_cycles cycles self.now) ≤ 15360 }
+    {
+        let mut later = *self;
+        later.advance(cycles);
+        later.amount()
+    }
+
+    /// The same. Without the master enable it is one test, where it is called.
+    #[inline]
     pub(crate) fn amount_after(&self, cycles: u32) -> (i32, i32)
         requires most { cycles ≤ 512 }
         requires sound { AreSound self.now }
@@ -280,9 +308,7 @@ impl FourTones {
         if !self.is_on {
             return (0, 0);
         }
-        let mut later = *self;
-        later.advance(cycles);
-        later.amount()
+        self.amount_of_copy(cycles)
     }
 
     /// What is stored at a halfword.

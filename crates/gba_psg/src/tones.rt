@@ -211,6 +211,7 @@ impl Tones {
     }
 
     /// Moves the channels by 512 cycles at most.
+    #[inline]
     pub fn advance(&mut self, cycles: u32)
         requires { cycles ≤ 512 }
         ensures { self.new ≡ after_cycles cycles self.old }
@@ -229,6 +230,7 @@ impl Tones {
     }
 
     /// What they will give after 512 cycles at most, if nothing is written before.
+    #[inline]
     pub fn amount_after(&self, cycles: u32) -> (i32, i32)
         requires { cycles ≤ 512 }
         ensures left { result.0 ≡ pos (left_amount (after_cycles cycles self.now)) }

@@ -1,8 +1,6 @@
 use Rattle.std.proofs.Common.{◌≤◌, ap, subst, sym, arith}
 use Rattle.std.specs.Prelude.{pos}
-use Rattle.gba_psg.specs.Soundness.{AreSound}
 use Rattle.gba_psg.proofs.Amounts.{left-off-after, right-off-after}
-use Rattle.gba_psg.proofs.Sound.{cycles-sound}
 use Rattle.gba_psg.proofs.four.FourTones.amount_after.Goals as goal
 
 pub returns-then-not-self-clause-left : goal.returns-then-not-self-clause-left
@@ -20,6 +18,3 @@ returns-then-not-self-clause-most_left c =
 pub returns-then-not-self-clause-most_right : goal.returns-then-not-self-clause-most_right
 returns-then-not-self-clause-most_right c =
     subst (λ n. n ≤ 15360) (sym (right-off-after c.args.cycles c.args.self.now c.requires.sound c.if-not-self.true)) (omega arith)
-
-pub amount-requires : goal.amount-requires
-amount-requires c = subst AreSound (sym c.advance.ensures) (cycles-sound c.args.cycles c.args.self.now c.requires.sound)
