@@ -1,4 +1,5 @@
 pub mod Aligned
+pub mod Keeping
 pub mod Telling
 pub mod Loading
 pub mod Storing

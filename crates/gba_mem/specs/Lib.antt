@@ -3,4 +3,5 @@ pub mod Loads
 pub mod Memories
 pub mod Places
 pub mod Stores
+pub mod Video
 pub mod Wide

@@ -6,5 +6,7 @@ mod memory;
 mod numbers;
 mod places;
 mod start;
+mod unchanged;
 
 pub use memory::Memory;
+pub use unchanged::is_in_video;

@@ -7,3 +7,5 @@ mod images;
 mod map;
 #[cfg(test)]
 mod memories;
+#[cfg(test)]
+mod video;

@@ -45,7 +45,7 @@ fn play<R: Abort>(rt: &R, memory: &mut Memory, moves: &[Move]) {
 }
 
 /// A console's memories with a BIOS that begins 11h 22h 33h 44h and ends 55h, and this cartridge and save.
-fn memories<R: Abort>(
+pub(crate) fn memories<R: Abort>(
     rt: &R,
     alloc: Global,
     cart: Option<Cartridge>,

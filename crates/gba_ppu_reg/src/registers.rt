@@ -11,7 +11,7 @@ use std::marker::Model;
 
 /// The picture's registers (GBATEK, LCD I/O Registers), from DISPCNT 000h to BLDY 054h, and the inner reference points of
 /// backgrounds 2 and 3. All numbers are 0 at reset.
-#[derive(Clone, Debug, Drop)]
+#[derive(Clone, Copy, Debug, PartialEq, Eq)]
 pub struct PictureRegisters {
     halves: [u16; 43],
     reference2: Reference,
@@ -24,6 +24,8 @@ impl Model for PictureRegisters {
     ghost Value = { Picture };
 
     ghost view = { λ r. record { halves = r.halves; reference2 = r.reference2; reference3 = r.reference3 } };
+
+    ghost inverse = { λ r. record { halves = r.halves; reference2 = r.reference2; reference3 = r.reference3 } };
 }
 
 /// The bits of a halfword that read.
