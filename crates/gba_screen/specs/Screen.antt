@@ -1,0 +1,27 @@
+use Rattle.std.specs.Prelude.{ℕ, List, [], ◌∷◌, ◌++◌}
+use Rattle.gba_bus.specs.declared.width.Width.{Width}
+use Rattle.gba_mem.specs.Memories.{Memories}
+use Rattle.gba_mem.specs.Stores.{store}
+use Rattle.gba_ppu_reg.specs.Registers.{Picture}
+use Rattle.gba_screen.specs.Lines.{line_bytes}
+
+-- The screen: the memories, and the lines that are drawn of the present frame, each as its bytes, from the top down.
+pub record Screen : Type 0 where
+  pub memory : Memories
+  pub lines : List (List ℕ)
+
+-- no line is drawn
+abbrev pub blank_screen : Memories → Screen
+blank_screen m = record { memory = m; lines = [] }
+
+-- A line is drawn by the registers and the memories as they are. It stays, whatever is written later.
+abbrev pub with_line : Picture → ℕ → Screen → Screen
+with_line r y s = record s { lines = s.lines ++ (line_bytes r s.memory y ∷ []) }
+
+-- a write
+abbrev pub screen_stored : ℕ → ℕ → Width → ℕ → Screen → Screen
+screen_stored mode address width value s = record s { memory = store mode s.memory address width value }
+
+-- the next frame has no line yet
+abbrev pub frame_ended : Screen → Screen
+frame_ended s = record s { lines = [] }
