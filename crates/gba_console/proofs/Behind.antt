@@ -2,13 +2,14 @@
 use Rattle.std.proofs.Common.{◌≡◌, ℕ, zero, suc, Bool, true, false, List, [], ◌∷◌, ◌++◌, Option, None, Some, refl, sym, ◌∙◌, ap, append_assoc, if◌then◌else◌}
 use Rattle.std.proofs.Common.{append-nil}
 use Rattle.std.specs.Prelude.{◌&&◌}
+use Rattle.std.specs.List.{concat}
 use Rattle.gba_devices.specs.Cycles.{device_cycle, draws_line, makes_pair}
 use Rattle.gba_devices.specs.Samples.{left_sample, right_sample}
 use Rattle.gba_exec_transfers.specs.Done.{Done}
-use Rattle.gba_io.specs.Board.{board_after, board_cycle, board_emptied, made_in_cycle}
+use Rattle.gba_io.specs.Board.{board_after, board_cycle, board_emptied, lines_with, made_in_cycle}
 use Rattle.gba_io.specs.Cable.{board_ended, board_taken, core_heard}
 use Rattle.gba_io.specs.Core.{Core}
-use Rattle.gba_io.specs.Drawing.{ends_frame, line_bytes}
+use Rattle.gba_io.specs.Drawing.{ends_frame}
 use Rattle.gba_io.specs.Ended.{Ended, ended_emptied, with_transfer}
 use Rattle.gba_io.specs.Made.{Made, made_emptied, sample_bytes}
 use Rattle.gba_io.specs.declared.board.Board.{Board}
@@ -43,15 +44,14 @@ made-in-front : (c : Core) (first m : Made) → made_in_cycle c (made_behind fir
 made-in-front c first m =
     let made = made_in_cycle c m in
     let sounds = device_cycle c.devices in
-    let line = line_bytes c.devices.place.line c in
-    let drawn = draws_line c.devices && (ends_frame c.devices.place && m.keeps_frames) in
+    let kept = (draws_line c.devices && ends_frame c.devices.place) && m.keeps_frames in
     let sampled = makes_pair c.devices && m.keeps_samples in
     let left = sample_bytes (left_sample sounds) in
     let right = sample_bytes (right_sample sounds) in
     ap (λ (frames : List ℕ). record made {
       frames = frames;
       samples = if sampled then first.samples ++ m.samples ++ left ++ right else first.samples ++ m.samples;
-    }) (in-front drawn first.frames m.frames (m.drawn ++ line))
+    }) (in-front kept first.frames m.frames (concat (lines_with c)))
     ∙ ap (λ (samples : List ℕ). record made { frames = first.frames ++ made.frames; samples = samples })
     (two-in-front sampled first.samples m.samples left right)
 

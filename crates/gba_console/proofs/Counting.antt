@@ -2,14 +2,18 @@
 use Rattle.std.proofs.Common.{◌≡◌, ℕ, zero, suc, Bool, true, false, ◌+◌, ◌*◌, List, [], ◌∷◌, ◌++◌, length, Option, None, Some, refl, sym, ap, ◌∙◌, subst, arith, if◌then◌else◌}
 use Rattle.std.specs.Prelude.{◌&&◌}
 use Rattle.std.proofs.lemmas.Bool.Decides.{nat_tests}
-use Rattle.std.proofs.lemmas.List.{length-append}
+use Rattle.std.specs.List.{concat, flat_map}
+use Rattle.std.proofs.lemmas.List.{append-nil, length-append}
+use Rattle.std.proofs.lemmas.List.Concat.{concat_is, flat_map-append}
 use Rattle.gba_devices.specs.Cycles.{CyclePasses, device_cycle, draws_at, makes_pair}
 use Rattle.gba_devices.specs.Samples.{left_sample, right_sample}
 use Rattle.gba_devices.specs.State.{Devices}
-use Rattle.gba_io.proofs.Drawing.{line-length, lines-go, place-sound}
+use Rattle.gba_io.proofs.Cycling.{drawn-in}
+use Rattle.gba_io.proofs.Drawing.{lines-go, place-sound}
+use Rattle.gba_screen.proofs.Drawing.{line_length}
 use Rattle.gba_io.specs.Board.{BoardPasses, board_after, board_cycle}
 use Rattle.gba_io.specs.Cable.{board_taken}
-use Rattle.gba_io.specs.Drawing.{ends_frame, line_bytes, lines_drawn}
+use Rattle.gba_io.specs.Drawing.{drawn_line, ends_frame, lines_drawn}
 use Rattle.gba_io.specs.Ended.{Ended, with_transfer}
 use Rattle.gba_io.specs.Made.{Made, sample_bytes}
 use Rattle.gba_io.specs.declared.board.Board.{Board}
@@ -21,31 +25,43 @@ use Rattle.link_node.specs.declared.signal.Incoming.{Incoming}
 use Rattle.gba_console.specs.Counted.{Counts, CountsAlways, CountsEnded, CountsMade, KeepsKinds}
 use Rattle.gba_console.specs.Machine.{Machine, clock_of, is_off}
 use Rattle.gba_console.specs.Passing.{ActsPass}
-use Rattle.gba_console.specs.Step.{all_taken, board_begun, done_in, heard, prepared, stepped, stepped_off, stepped_on}
-use Rattle.gba_console.specs.StepLaws.{keys-place, off-time, taken-made, taken-place}
+use Rattle.gba_console.specs.Step.{all_taken, board_begun, done_in, heard, prepared, prepared_off, stepped, stepped_off, stepped_on}
+use Rattle.gba_console.specs.StepLaws.{keys-lines, keys-place, off-time, taken-lines, taken-made, taken-place}
+
+-- a line is one list more at the end
+concat-more : (lines : List (List ℕ)) (line : List ℕ) → concat (lines ++ (line ∷ [])) ≡ concat lines ++ line
+concat-more lines line =
+    concat_is (lines ++ (line ∷ []))
+    ∙ flat_map-append (λ x. x) lines (line ∷ [])
+    ∙ ap (λ (bytes : List ℕ). flat_map (λ x. x) lines ++ bytes) (append-nil line)
+    ∙ ap (λ (bytes : List ℕ). bytes ++ line) (sym (concat_is lines))
+
+length-more : (lines : List (List ℕ)) (line : List ℕ) → length (concat (lines ++ (line ∷ []))) ≡ length (concat lines) + length line
+length-more lines line = ap length (concat-more lines line) ∙ length-append (concat lines) line
 
 -- a cycle
-drawn-in : (draws ends : Bool) (count next : ℕ) (drawn line : List ℕ) → length line ≡ 480 → length drawn ≡ 480 * count
-    → (if draws then (if ends then 0 else count + 1) else count) ≡ next
-    → length (if draws then (if ends then [] else drawn ++ line) else drawn) ≡ 480 * next
-drawn-in true true count next drawn line whole before same = omega (arith, same)
-drawn-in true false count next drawn line whole before same =
-    length-append drawn line ∙ omega (arith, whole, before, same)
-drawn-in false ends count next drawn line whole before same = omega (arith, before, same)
+bytes-in : (draws ends : Bool) (count next : ℕ) (lines : List (List ℕ)) (line : List ℕ) → length line ≡ 480
+    → length (concat lines) ≡ 480 * count → (if draws then (if ends then 0 else count + 1) else count) ≡ next
+    → length (concat (if draws then (if ends then [] else lines ++ (line ∷ [])) else lines)) ≡ 480 * next
+bytes-in true true count next lines line whole before same = omega (arith, same)
+bytes-in true false count next lines line whole before same =
+    length-more lines line ∙ omega (arith, whole, before, same)
+bytes-in false ends count next lines line whole before same = omega (arith, before, same)
 
 last-line : (p : Position) → IsPosition p → draws_at (place_cycle p) ≡ true → ends_frame p ≡ true → lines_drawn p ≡ 159
 last-line p sound draws ends = grind (arith, nat_tests, sound.line, sound.dot, draws, ends)
 
-frames-in : (draws ends keeps : Bool) (frames drawn line : List ℕ) (count lines : ℕ) → keeps ≡ true → length line ≡ 480
-    → length drawn ≡ 480 * lines → (draws ≡ true → ends ≡ true → lines ≡ 159) → length frames ≡ 76800 * count
-    → length (if draws && (ends && keeps) then frames ++ (drawn ++ line) else frames)
+frames-in : (draws ends keeps : Bool) (frames : List ℕ) (lines : List (List ℕ)) (line : List ℕ) (count drawn : ℕ) → keeps ≡ true
+    → length line ≡ 480 → length (concat lines) ≡ 480 * drawn → (draws ≡ true → ends ≡ true → drawn ≡ 159)
+    → length frames ≡ 76800 * count
+    → length (if (draws && ends) && keeps then frames ++ concat (lines ++ (line ∷ [])) else frames)
     ≡ 76800 * (if draws && ends then count + 1 else count)
-frames-in true true true frames drawn line count lines kept whole before last same =
-    length-append frames (drawn ++ line)
-    ∙ omega (arith, length-append drawn line, whole, before, last refl refl, same)
-frames-in true true false frames drawn line count lines kept whole before last same = absurd cc
-frames-in true false keeps frames drawn line count lines kept whole before last same = same
-frames-in false ends keeps frames drawn line count lines kept whole before last same = same
+frames-in true true true frames lines line count drawn kept whole before last same =
+    length-append frames (concat (lines ++ (line ∷ [])))
+    ∙ omega (arith, length-more lines line, whole, before, last refl refl, same)
+frames-in true true false frames lines line count drawn kept whole before last same = absurd cc
+frames-in true false keeps frames lines line count drawn kept whole before last same = same
+frames-in false ends keeps frames lines line count drawn kept whole before last same = same
 
 samples-in : (makes keeps : Bool) (samples left right : List ℕ) (pairs : ℕ) → keeps ≡ true → length left ≡ 2
     → length right ≡ 2 → length samples ≡ 4 * pairs
@@ -56,31 +72,35 @@ samples-in true false samples left right pairs kept two other same = absurd cc
 samples-in false keeps samples left right pairs kept two other same = same
 
 module _ (keeps : (d : Devices) → CyclePasses d) where
-  cycle-counts : (b : Board) → CountsMade b.core.devices.place b.made
-      → CountsMade (board_cycle b).core.devices.place (board_cycle b).made
+  cycle-counts : (b : Board) → CountsMade b.core.lines b.core.devices.place b.made
+      → CountsMade (board_cycle b).core.lines (board_cycle b).core.devices.place (board_cycle b).made
   unfolding board_cycle
   cycle-counts b counts =
       let d = b.core.devices in
       let p = d.place in
       let draws = draws_at (place_cycle p) in
-      let line = line_bytes p.line b.core in
+      let line = drawn_line b.core in
+      let whole = line_length d.picture b.core.memory p.line in
       let sounds = device_cycle d in
-      let counted : Position → Type 0 = λ q. CountsMade q (board_cycle b).made in
+      let counted : Position → Type 0 = λ q. CountsMade (board_cycle b).core.lines q (board_cycle b).made in
       subst counted (sym (keeps d).place) (record {
         sound = place-sound p counts.sound;
         drawn =
-            drawn-in draws (ends_frame p) (lines_drawn p) (lines_drawn (place_cycle p)) b.made.drawn line
-            (line-length p.line b.core) counts.drawn (lines-go p counts.sound);
+            drawn-in draws (ends_frame p) (lines_drawn p) (lines_drawn (place_cycle p)) b.core.lines line counts.drawn
+            (lines-go p counts.sound);
+        bytes =
+            bytes-in draws (ends_frame p) (lines_drawn p) (lines_drawn (place_cycle p)) b.core.lines line whole counts.bytes
+            (lines-go p counts.sound);
         frames = λ kept.
-            frames-in draws (ends_frame p) b.made.keeps_frames b.made.frames b.made.drawn line b.made.frame_count
-            (lines_drawn p) kept (line-length p.line b.core) counts.drawn (last-line p counts.sound) (counts.frames kept);
+            frames-in draws (ends_frame p) b.made.keeps_frames b.made.frames b.core.lines line b.made.frame_count
+            (lines_drawn p) kept whole counts.bytes (last-line p counts.sound) (counts.frames kept);
         samples = λ kept.
             samples-in (makes_pair d) b.made.keeps_samples b.made.samples (sample_bytes (left_sample sounds))
             (sample_bytes (right_sample sounds)) b.made.pairs kept refl refl (counts.samples kept);
       })
 
-  after-counts : (cycles : ℕ) (b : Board) → CountsMade b.core.devices.place b.made
-      → CountsMade (board_after cycles b).core.devices.place (board_after cycles b).made
+  after-counts : (cycles : ℕ) (b : Board) → CountsMade b.core.lines b.core.devices.place b.made
+      → CountsMade (board_after cycles b).core.lines (board_after cycles b).core.devices.place (board_after cycles b).made
   unfolding board_after
   after-counts zero b counts = counts
   after-counts (suc cycles) b counts = cycle-counts (board_after cycles b) (after-counts cycles b counts)
@@ -136,10 +156,14 @@ module _ (keeps : (d : Devices) → CyclePasses d) (acts : ActsPass) (passes : (
       let place : done.bus.devices.place ≡ m.board.core.devices.place
       = (acts.all m.registers (prepared dues m)).course.place ∙ keys-place (clock_of m) m.keys b.core
       ∙ taken-place dues (board_begun m.board) in
-      let here : CountsMade done.bus.devices.place b.made
-      = subst (λ (p : Position). CountsMade p b.made) (sym place)
-      (subst (λ (made : Made). CountsMade m.board.core.devices.place made) (sym (taken-made dues (board_begun m.board)))
-      counts.made) in
+      let lines : done.bus.lines ≡ m.board.core.lines
+      = (acts.all m.registers (prepared dues m)).course.lines ∙ keys-lines (clock_of m) m.keys b.core
+      ∙ taken-lines dues (board_begun m.board) in
+      let here : CountsMade done.bus.lines done.bus.devices.place b.made
+      = subst (λ (some : List (List ℕ)). CountsMade some done.bus.devices.place b.made) (sym lines)
+      (subst (λ (p : Position). CountsMade m.board.core.lines p b.made) (sym place)
+      (subst (λ (made : Made). CountsMade m.board.core.lines m.board.core.devices.place made)
+      (sym (taken-made dues (board_begun m.board))) counts.made)) in
       record {
         made = after-counts keeps done.cycles acted here;
         ended = subst CountsEnded (sym (passes done.cycles acted).ended) (heard-counts dues m counts.ended);
@@ -148,7 +172,10 @@ module _ (keeps : (d : Devices) → CyclePasses d) (acts : ActsPass) (passes : (
   off-counts : (dues : List Incoming) (m : Machine) → Counts m → Counts (stepped_off dues m)
   unfolding stepped_off
   off-counts dues m counts = record {
-    made = subst (λ (p : Position). CountsMade p m.board.made) (sym (off-time dues m).place) counts.made;
+    made =
+        subst (λ (lines : List (List ℕ)). CountsMade lines (prepared_off dues m).devices.place m.board.made)
+        (sym (off-time dues m).lines)
+        (subst (λ (p : Position). CountsMade m.board.core.lines p m.board.made) (sym (off-time dues m).place) counts.made);
     ended = counts.ended;
   }
 
@@ -184,6 +211,7 @@ module _ (keeps : (d : Devices) → CyclePasses d) (acts : ActsPass) (passes : (
       made = record {
         sound = record { line = omega arith; dot = omega arith };
         drawn = refl;
+        bytes = refl;
         frames = λ kept. refl;
         samples = λ kept. refl;
       };

@@ -19,20 +19,20 @@ use Rattle.gba_console.specs.Waiting.{IsSound}
 
 -- a board is in step with another core of the same time, and with what was made in the same time
 pub core-in-step : (b : Board) (core : Core) (ended : Ended) → core.devices.clock ≡ b.core.devices.clock
-    → core.devices.place ≡ b.core.devices.place → IsInStep b → IsInStep (record b { core = core; ended = ended })
-core-in-step b core ended clock place step =
+    → core.devices.place ≡ b.core.devices.place → core.lines ≡ b.core.lines → IsInStep b
+    → IsInStep (record b { core = core; ended = ended })
+core-in-step b core ended clock place lines step =
     let is_position = λ (q : Position). IsPosition q in
     let base = b.made.base in
     let frames = λ (n : ℕ) (q : Position). n + cycles_early q + (280896 * base.frames + base.cycles)
     ≡ 280896 * b.made.frame_count + cycles_in q + (base.clock + early_at base.cycles) in
-    let drawn = λ (q : Position). length b.made.drawn ≡ 480 * lines_drawn q in
     record {
       place = subst is_position (sym place) step.place;
       pairs = step.pairs ∙ ap (λ n. base.pairs + n / 512) (sym clock);
       frames =
           subst (λ (n : ℕ). frames n core.devices.place) (sym clock)
           (subst (frames b.core.devices.clock) (sym place) step.frames);
-      drawn = subst drawn (sym place) step.drawn;
+      drawn = ap length lines ∙ step.drawn ∙ ap lines_drawn (sym place);
     }
 
 -- a board whose lists were emptied is sound
@@ -117,12 +117,13 @@ step-was clock cycles b after e passes same =
 
 -- what is kept from one core is kept from another of the same time and with the same serial unit
 pub keeps-from : (one other core : Core) → other.serial ≡ one.serial → other.devices.clock ≡ one.devices.clock
-    → other.devices.place ≡ one.devices.place → KeepsCourse other core → KeepsCourse one core
-keeps-from one other core unit clock place keeps =
+    → other.devices.place ≡ one.devices.place → other.lines ≡ one.lines → KeepsCourse other core → KeepsCourse one core
+keeps-from one other core unit clock place lines keeps =
     let count = ap (λ (u : SerialUnit). u.count) unit in
     let next = ap next_end unit in
     record {
       place = keeps.place ∙ place;
+      lines = keeps.lines ∙ lines;
       next = λ bound seat soon before.
           keeps.next bound (omega (arith, seat, count)) (omega (arith, soon, clock)) (omega (arith, before, next));
       seat = λ seat. keeps.seat (omega (arith, seat, count));
@@ -141,7 +142,7 @@ pub ready-room : (clock cycles : ℕ) (b : Board) (core : Core) → IsReady cloc
     → KeepsCourse b.core core → cycles ≤ 512 → HasRoom cycles (record b { core = core })
 ready-room clock cycles b core ready same keeps short =
     has-room (record b { core = core }) cycles clock same short
-    (core-in-step b core b.ended (same ∙ sym ready.same) keeps.place ready.step) ready.early ready.few
+    (core-in-step b core b.ended (same ∙ sym ready.same) keeps.place keeps.lines ready.step) ready.early ready.few
 
 pub step-sound : (clock cycles : ℕ) (b after : Board) (core : Core) → IsReady clock b → core.devices.clock ≡ clock
     → KeepsCourse b.core core → cycles ≤ 512 → after ≡ board_after cycles (record b { core = core })

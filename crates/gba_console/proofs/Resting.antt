@@ -25,13 +25,13 @@ use Rattle.gba_console.proofs.Images.{HasImages, keyed-memory}
 
 -- 16 cycles pass
 pub rests-on : (off : ℕ) (b : Board) (core : Core) → IsResting off b → core.devices.clock ≡ b.core.devices.clock + 16
-    → core.devices.place ≡ b.core.devices.place → core.serial.count ≡ b.core.serial.count
+    → core.devices.place ≡ b.core.devices.place → core.lines ≡ b.core.lines → core.serial.count ≡ b.core.serial.count
     → IsResting off (record b { core = core })
-rests-on off b core rest clock place count = record {
+rests-on off b core rest clock place lines count = record {
   begins = rest.begins;
   ends = rest.ends;
   place = place ∙ rest.place;
-  drawn = rest.drawn;
+  drawn = lines ∙ rest.drawn;
   frames = rest.frames;
   samples = rest.samples;
   words = rest.words;
@@ -67,7 +67,7 @@ wakes-sound off was b rest after first clock few same =
         place = subst (λ (p : Position). IsPosition p) (sym rest.place) first-place;
         pairs = omega (arith, begun, pairs, first, rest.pairs);
         frames = omega (arith, begun, frames, cycles, early, passed, early_cycles, first, rest.frame_count);
-        drawn = ap (λ (bytes : List ℕ). length bytes) rest.drawn ∙ sym (ap (λ p. 480 * lines_drawn p) rest.place);
+        drawn = ap length rest.drawn ∙ sym (ap lines_drawn rest.place);
       };
       ends = record {
         apart = record {
@@ -112,9 +112,10 @@ off-kept dues m core kept below early e =
     let rest = kept.rests below in
     let clock = off-clock dues m core e in
     let place = ap (λ (b : Core). b.devices.place) e ∙ (off-time dues m).place in
+    let lines = ap (λ (b : Core). b.lines) e ∙ (off-time dues m).lines in
     let count = ap (λ (b : Core). b.serial.count) e ∙ ap (λ (u : SerialUnit). u.count) (off-serial dues m) in
     let after : Board = record m.board { core = core } in
-    let then : IsResting m.off after = rests-on m.off m.board core rest clock place count in
+    let then : IsResting m.off after = rests-on m.off m.board core rest clock place lines count in
     let began : core.devices.clock ≤ core.devices.clock - 16 + 16 = omega (arith, clock) in
     record {
       most = kept.most;

@@ -17,7 +17,7 @@ use Rattle.gba_console.specs.Passing.{ActsPass, KeepsCourse}
 use Rattle.gba_console.specs.Step.{acted, all_taken, board_begun, done_in, heard, prepared, stepped_on, told_on}
 use Rattle.gba_console.specs.Waiting.{IsSound}
 use Rattle.gba_console.specs.declared.keys.KeyState.{KeyState}
-use Rattle.gba_console.specs.StepLaws.{keys-clock, keys-place, keys-serial}
+use Rattle.gba_console.specs.StepLaws.{keys-clock, keys-lines, keys-place, keys-serial, taken-lines}
 use Rattle.gba_console.specs.StepLaws.{prepared-clock, taken-clock, taken-made, taken-place, taken-until}
 use Rattle.gba_console.proofs.Passing.{IsReady, core-in-step, keeps-from, left-clock, left-ends}
 use Rattle.gba_console.proofs.Taking.{Taken, all-map, takes}
@@ -97,7 +97,7 @@ module _ (stay : EndsStayFit) (dues : List Incoming) (m : Machine) (sound : IsSo
       let in_step : Made → Type 0 = λ made. IsInStep (record kept { made = made }) in
       subst in_step (sym (taken-made dues (board_begun m.board)))
       (core-in-step m.board b.core b.ended (taken-clock dues (board_begun m.board)) (taken-place dues (board_begun m.board))
-      sound.step)
+      (taken-lines dues (board_begun m.board)) sound.step)
 
   pub ready-heard : IsReady (clock_of m) (heard dues m)
   ready-heard =
@@ -122,6 +122,7 @@ acted-ends acts m b clock changes keyed core e bus =
     (ap (λ (c : Core). c.serial) e ∙ keys-serial clock changes b.core)
     (ap (λ (c : Core). c.devices.clock) e ∙ keys-clock clock changes b.core)
     (ap (λ (c : Core). c.devices.place) e ∙ keys-place clock changes b.core)
+    (ap (λ (c : Core). c.lines) e ∙ keys-lines clock changes b.core)
     (left-ends keyed core (acted m.registers keyed) bus (acts.all m.registers keyed))
 
 pub acted-clock : ActsPass → (m : Machine) (b : Board) (clock : ℕ) (changes : List KeyState) (keyed core : Core)

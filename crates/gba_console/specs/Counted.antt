@@ -1,4 +1,5 @@
 use Rattle.std.specs.Prelude.{ℕ, ◌≡◌, ◌*◌, true, List, Option, length}
+use Rattle.std.specs.List.{concat}
 use Rattle.gba_io.specs.Drawing.{lines_drawn}
 use Rattle.gba_io.specs.Ended.{Ended}
 use Rattle.gba_io.specs.Made.{Made}
@@ -12,10 +13,11 @@ use Rattle.gba_console.specs.declared.keys.KeyState.{KeyState}
 
 -- What a console keeps is what it counts (this project's profile): where whole frames are kept, 76,800 bytes for each that it
 -- counts; where pairs of samples are, 4 for each; where transfers are, each of them. Of the present frame it has the lines
--- that are drawn.
-pub record CountsMade (place : Position) (m : Made) : Type 0 where
+-- that are drawn, which have 480 bytes each.
+pub record CountsMade (lines : List (List ℕ)) (place : Position) (m : Made) : Type 0 where
   pub sound : IsPosition place
-  pub drawn : length m.drawn ≡ 480 * lines_drawn place
+  pub drawn : length lines ≡ lines_drawn place
+  pub bytes : length (concat lines) ≡ 480 * lines_drawn place
   pub frames : m.keeps_frames ≡ true → length m.frames ≡ 76800 * m.frame_count
   pub samples : m.keeps_samples ≡ true → length m.samples ≡ 4 * m.pairs
 
@@ -23,7 +25,7 @@ abbrev pub CountsEnded : Ended → Type 0
 CountsEnded e = e.keeps_words ≡ true → length e.words ≡ e.count
 
 pub record Counts (m : Machine) : Type 0 where
-  pub made : CountsMade m.board.core.devices.place m.board.made
+  pub made : CountsMade m.board.core.lines m.board.core.devices.place m.board.made
   pub ended : CountsEnded m.board.ended
 
 -- A console keeps the same kinds of what it makes as another one.

@@ -1,6 +1,10 @@
 use Rattle.std.proofs.Common.{◌≡◌, ℕ, Bool, true, false, List, [], ◌∷◌, refl, ◌+◌, ◌≤◌, ◌∙◌, sym, ap, arith, if◌then◌else◌}
 use Rattle.std.specs.Prelude.{not, nat_eq, nat_le, ◌&&◌, Option, None, Some}
+use Rattle.std.specs.Bool.{Decides}
+use Rattle.std.specs.Cmp.Lexicographic.{pointwise}
+use Rattle.std.specs.Str.{bytes_eq}
 use Rattle.std.proofs.lemmas.Bool.Decides.{nat_tests}
+use Rattle.std.proofs.lemmas.Slice.Eq.{bytes_eq-Decides, slice_eq-Decides}
 use Rattle.gba_bus.specs.declared.width.Width.TheVariants.{Half, Word}
 use Rattle.gba_dma.specs.Channels.{next_unit}
 use Rattle.gba_dma.specs.declared.unit.Unit.{Unit as DmaUnit}
@@ -44,21 +48,25 @@ either-time false b one other here there = there
 
 pub time-then : (a b c : Core) → IsSameTime a b → IsSameTime b c → IsSameTime a c
 time-then a b c first second =
-    record { clock = second.clock ∙ first.clock; place = second.place ∙ first.place }
+    record {
+      clock = second.clock ∙ first.clock;
+      place = second.place ∙ first.place;
+      lines = second.lines ∙ first.lines;
+    }
 
 keyed-time : (keys : ℕ) (b : Core) → IsSameTime b (core_keyed keys b)
 unfolding keyed
-keyed-time keys b = record { clock = refl; place = refl }
+keyed-time keys b = record { clock = refl; place = refl; lines = refl }
 
 -- they leave the clock and the picture's place
 pub keys-time : (clock : ℕ) (changes : List KeyState) (b : Core) → IsSameTime b (after_keys clock changes b)
 unfolding after_keys
-keys-time clock [] b = record { clock = refl; place = refl }
+keys-time clock [] b = record { clock = refl; place = refl; lines = refl }
 keys-time clock (change ∷ changes) b =
     let keyed = core_keyed change.keys b in
     either-time (nat_le change.clock clock) b (after_keys clock changes keyed) b
     (time-then b keyed (after_keys clock changes keyed) (keyed-time change.keys b) (keys-time clock changes keyed))
-    (record { clock = refl; place = refl })
+    (record { clock = refl; place = refl; lines = refl })
 
 pub keys-clock : (clock : ℕ) (changes : List KeyState) (b : Core)
     → (after_keys clock changes b).devices.clock ≡ b.devices.clock
@@ -67,6 +75,9 @@ keys-clock clock changes b = (keys-time clock changes b).clock
 pub keys-place : (clock : ℕ) (changes : List KeyState) (b : Core)
     → (after_keys clock changes b).devices.place ≡ b.devices.place
 keys-place clock changes b = (keys-time clock changes b).place
+
+pub keys-lines : (clock : ℕ) (changes : List KeyState) (b : Core) → (after_keys clock changes b).lines ≡ b.lines
+keys-lines clock changes b = (keys-time clock changes b).lines
 
 -- and the serial unit
 either-serial : (test : Bool) (u : SerialUnit) (one other : Core) → one.serial ≡ u → other.serial ≡ u
@@ -174,6 +185,28 @@ module _ (writes : WritesKeepTime) where
       (keeps (has_place b.devices.place) (loads-stay b.devices.place) (stores-stay b.devices.place) one file b
       (place-is b.devices.place b refl))
 
+-- the test that these lines are drawn
+abbrev has_lines : List (List ℕ) → Core → Bool
+has_lines lines b = pointwise bytes_eq b.lines lines
+
+tells-lines : (lines : List (List ℕ)) (b : Core) → Decides (has_lines lines b) (b.lines ≡ lines)
+tells-lines lines b = slice_eq-Decides bytes_eq-Decides b.lines lines (has_lines lines b) refl
+
+module _ (writes : WritesKeepTime) where
+  stores-show : (lines : List (List ℕ)) → StoresKeep core_store (Passing (has_lines lines))
+  stores-show lines b address width value sequential test =
+      (tells-lines lines (core_store b address width value sequential).after).1
+      ((writes b address width value).lines ∙ (tells-lines lines b).0 test)
+
+  loads-show : (lines : List (List ℕ)) → LoadsKeep core_load (Passing (has_lines lines))
+  loads-show lines b from address width sequential test = test
+
+  kept-lines : (execution : ℕ → List ℕ → Core → Done Core) → KeepsTests execution
+      → (one : ℕ) (file : List ℕ) (b : Core) → (execution one file b).bus.lines ≡ b.lines
+  kept-lines execution keeps one file b =
+      (tells-lines b.lines (execution one file b).bus).0
+      (keeps (has_lines b.lines) (loads-show b.lines) (stores-show b.lines) one file b ((tells-lines b.lines b).1 refl))
+
 -- the test that a board has this clock, some console, and no end below a bound
 abbrev goes_on : ℕ → ℕ → Core → Bool
 goes_on clock bound b = nat_eq b.devices.clock clock && (nat_le 1 b.serial.count && nat_le bound (next_end b.serial))
@@ -233,12 +266,13 @@ module _ (writes : WritesKeepTime) (ends : WritesKeepEnds) where
       → (one : ℕ) (file : List ℕ) (b : Core) → KeepsCourse b (execution one file b).bus
   kept-ends execution keeps one file b = record {
     place = kept-place writes execution keeps one file b;
+    lines = kept-lines writes execution keeps one file b;
     next = λ bound seat soon before. (going execution keeps one file b bound seat soon before).next;
     seat = λ seat. (going execution keeps one file b 0 seat (omega arith) (omega arith)).seat;
   }
 
 pub same-ends : (b : Core) → KeepsCourse b b
-same-ends b = record { place = refl; next = λ bound seat soon before. before; seat = λ seat. seat }
+same-ends b = record { place = refl; lines = refl; next = λ bound seat soon before. before; seat = λ seat. seat }
 
 either-passes : (test : Bool) (b : Core) (one other : Done Core) → Passes b one → Passes b other
     → Passes b (if test then one else other)
@@ -265,11 +299,16 @@ unit-place : (channel : ℕ) (b : Core) → (unit_ended channel b).devices.place
 unfolding after_dma_unit
 unit-place channel b = refl
 
+unit-lines : (channel : ℕ) (b : Core) → (unit_ended channel b).lines ≡ b.lines
+unit-lines channel b = refl
+
 unit-ends : WritesKeepTime → WritesKeepEnds → (unit : DmaUnit) (b : Core) → KeepsCourse b (core_after_unit unit b)
 unfolding core_after_unit
 unit-ends writes ends unit b = record {
   place =
       unit-place unit.channel (unit_stored unit b) ∙ (writes b unit.target unit.width (unit_value unit b)).place;
+  lines =
+      unit-lines unit.channel (unit_stored unit b) ∙ (writes b unit.target unit.width (unit_value unit b)).lines;
   next = λ bound seat soon before. ends.next bound b unit.target unit.width (unit_value unit b) seat soon before;
   seat = λ seat. omega (arith, ends.count b unit.target unit.width (unit_value unit b), seat);
 }
@@ -326,7 +365,12 @@ module _ (writes : WritesKeepTime) (ends : WritesKeepEnds)
       record {
         length = there.length;
         clock = there.clock;
-        course = record { place = there.course.place; next = there.course.next; seat = there.course.seat };
+        course = record {
+          place = there.course.place;
+          lines = there.course.lines;
+          next = there.course.next;
+          seat = there.course.seat;
+        };
       }
 
   undisturbed-passes : (file : List ℕ) (b : Core) → Passes b (undisturbed_done file b)
@@ -354,6 +398,10 @@ taken-clock (due ∷ dues) b = taken-clock dues (board_taken due b)
 pub taken-place : (dues : List Incoming) (b : Board) → (all_taken dues b).core.devices.place ≡ b.core.devices.place
 taken-place [] b = refl
 taken-place (due ∷ dues) b = taken-place dues (board_taken due b)
+
+pub taken-lines : (dues : List Incoming) (b : Board) → (all_taken dues b).core.lines ≡ b.core.lines
+taken-lines [] b = refl
+taken-lines (due ∷ dues) b = taken-lines dues (board_taken due b)
 
 pub taken-made : (dues : List Incoming) (b : Board) → (all_taken dues b).made ≡ b.made
 taken-made [] b = refl
@@ -389,6 +437,10 @@ pub learned-devices : (dues : List Incoming) (b : Core) → (all_learned dues b)
 learned-devices [] b = refl
 learned-devices (due ∷ dues) b = learned-devices dues (core_learned due b)
 
+learned-lines : (dues : List Incoming) (b : Core) → (all_learned dues b).lines ≡ b.lines
+learned-lines [] b = refl
+learned-lines (due ∷ dues) b = learned-lines dues (core_learned due b)
+
 pub off-time : (dues : List Incoming) (m : Machine) → IsSameTime m.board.core (prepared_off dues m)
 off-time dues m =
     let learned = all_learned dues (core_begun m.board.core) in
@@ -397,6 +449,7 @@ off-time dues m =
     record {
       clock = kept.clock ∙ ap (λ (d : Devices). d.clock) same;
       place = kept.place ∙ ap (λ (d : Devices). d.place) same;
+      lines = kept.lines ∙ learned-lines dues (core_begun m.board.core);
     }
 
 pub off-serial : (dues : List Incoming) (m : Machine) → (prepared_off dues m).serial

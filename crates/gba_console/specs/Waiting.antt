@@ -38,7 +38,7 @@ pub record IsResting (off : ℕ) (b : Board) : Type 0 where
   pub begins : b.made.base ≡ begun_at (first_on off) at_reset
   pub ends : b.ended.base ≡ begun_at (first_on off) at_reset
   pub place : b.core.devices.place ≡ place_at_reset
-  pub drawn : b.made.drawn ≡ []
+  pub drawn : b.core.lines ≡ []
   pub frames : b.made.frames ≡ []
   pub samples : b.made.samples ≡ []
   pub words : b.ended.words ≡ []

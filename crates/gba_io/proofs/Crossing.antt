@@ -4,6 +4,7 @@ use Rattle.std.proofs.Crossing.{crosses}
 use Rattle.gba_devices.specs.contracts.devices.Devices as Devices
 use Rattle.gba_mem.specs.contracts.memory.Memory as Memory
 use Rattle.gba_price_table.specs.contracts.table.PriceTable as PriceTable
+use Rattle.gba_screen.specs.contracts.screen.Screen as Screen
 use Rattle.gba_serial.specs.contracts.serial.Serial as Serial
 use Rattle.gba_io.specs.contracts.board.Board as Board
 use Rattle.gba_io.specs.contracts.ended.Ended as Ended
@@ -15,6 +16,12 @@ memory_send = search (sendable, crosses) depth 20
 
 memory_sync : IsSync Memory.the_row
 memory_sync = search (sendable, crosses) depth 20
+
+screen_send : IsSend Screen.the_row
+screen_send = search (sendable, crosses, memory_send) depth 20
+
+screen_sync : IsSync Screen.the_row
+screen_sync = search (sendable, crosses, memory_sync) depth 20
 
 devices_send : IsSend Devices.the_row
 devices_send = search (sendable, crosses) depth 60 fits 100000
@@ -35,10 +42,10 @@ prices_sync : IsSync PriceTable.the_row
 prices_sync = search (sendable, crosses) depth 20
 
 core_send : IsSend Core.the_row
-core_send = search (sendable, crosses, memory_send, devices_send, serial_send, prices_send) depth 20
+core_send = search (sendable, crosses, screen_send, devices_send, serial_send, prices_send) depth 20
 
 core_sync : IsSync Core.the_row
-core_sync = search (sendable, crosses, memory_sync, devices_sync, serial_sync, prices_sync) depth 20
+core_sync = search (sendable, crosses, screen_sync, devices_sync, serial_sync, prices_sync) depth 20
 
 made_send : IsSend Made.the_row
 made_send = search (sendable, crosses) depth 20

@@ -1,19 +1,20 @@
-use Rattle.std.proofs.Common.{◌≡◌, ℕ, ℤ, zero, suc, Bool, true, false, ◌+◌, ◌*◌, ◌/◌, ◌%◌, ◌∙◌, List, [], ◌++◌, length, refl, sym, subst, ap, arith, if◌then◌else◌}
+use Rattle.std.proofs.Common.{◌≡◌, ℕ, ℤ, zero, suc, Bool, true, false, ◌+◌, ◌*◌, ◌/◌, ◌%◌, ◌∙◌, List, [], ◌∷◌, ◌++◌, length, refl, sym, subst, ap, arith, if◌then◌else◌}
 use Rattle.std.specs.Prelude.{◌==◌, ◌||◌, ◌&&◌}
 use Rattle.std.proofs.lemmas.Bool.Decides.{nat_tests}
+use Rattle.std.specs.List.{concat}
 use Rattle.std.proofs.lemmas.List.{length-append}
 use Rattle.gba_devices.specs.Cycles.{CyclePasses, after_cycles, device_cycle, draws_at, draws_line, makes_pair, makes_within}
 use Rattle.gba_devices.specs.Samples.{left_sample, right_sample}
 use Rattle.gba_devices.specs.State.{Devices}
 use Rattle.gba_ppu_reg.specs.Position.{IsPosition, cycle as place_cycle}
 use Rattle.gba_ppu_reg.specs.declared.position.Position.{Position}
-use Rattle.gba_io.specs.Board.{BoardPasses, HasRoom, IsInStep, QuietBoard, board_after, board_cycle, line_in_cycle, made_in_cycle}
+use Rattle.gba_io.specs.Board.{BoardPasses, HasRoom, IsInStep, QuietBoard, board_after, board_cycle, frame_in_cycle, lines_in_cycle, lines_with, made_in_cycle}
 use Rattle.gba_io.specs.Base.{early_at}
 use Rattle.gba_io.specs.Core.{Core, core_after, core_cycled}
-use Rattle.gba_io.specs.Drawing.{cycles_early, cycles_in, ends_frame, line_bytes, lines_drawn}
-use Rattle.gba_io.specs.Made.{Made, with_line, with_pair}
+use Rattle.gba_io.specs.Drawing.{cycles_early, cycles_in, drawn_line, ends_frame, lines_drawn}
+use Rattle.gba_io.specs.Made.{Made, with_frame, with_pair}
 use Rattle.gba_io.specs.declared.board.Board.{Board}
-use Rattle.gba_io.proofs.Drawing.{frames-go, line-length, lines-go, place-sound}
+use Rattle.gba_io.proofs.Drawing.{frames-go, lines-go, place-sound}
 
 -- Cycles of a board, one after another.
 
@@ -40,13 +41,13 @@ pairs-in : (clock pairs begun before : ℕ) → pairs + begun ≡ before + clock
 pairs-in clock pairs begun before same = grind (arith, nat_tests)
 
 -- a line that is drawn is one more, and the last one ends the frame
-drawn-in : (draws ends : Bool) (count next : ℕ) (drawn line : List ℕ) → length line ≡ 480 → length drawn ≡ 480 * count
+pub drawn-in : (draws ends : Bool) (count next : ℕ) (lines : List (List ℕ)) (line : List ℕ) → length lines ≡ count
     → (if draws then (if ends then 0 else count + 1) else count) ≡ next
-    → length (if draws then (if ends then [] else drawn ++ line) else drawn) ≡ 480 * next
-drawn-in true true count next drawn line whole before same = omega (arith, same)
-drawn-in true false count next drawn line whole before same =
-    length-append drawn line ∙ omega (arith, whole, before, same)
-drawn-in false ends count next drawn line whole before same = omega (arith, before, same)
+    → length (if draws then (if ends then [] else lines ++ (line ∷ [])) else lines) ≡ next
+drawn-in true true count next lines line before same = same
+drawn-in true false count next lines line before same =
+    length-append lines (line ∷ []) ∙ omega (arith, before, same)
+drawn-in false ends count next lines line before same = before ∙ same
 
 module _ (keeps : (d : Devices) → CyclePasses d) where
   -- a cycle keeps what is made in step
@@ -63,7 +64,7 @@ module _ (keeps : (d : Devices) → CyclePasses d) where
       let frames = λ (clock : ℕ) (q : Position). clock + cycles_early q + before
       ≡ 280896 * (if draws_at (place_cycle p) && ends_frame p then b.made.frame_count + 1 else b.made.frame_count)
       + cycles_in q + begun in
-      let drawn = λ (q : Position). length (line_in_cycle b.core b.made).drawn ≡ 480 * lines_drawn q in
+      let drawn = λ (q : Position). length (lines_in_cycle b.core) ≡ lines_drawn q in
       record {
         place = subst place (sym kept.place) (place-sound p step.place);
         pairs =
@@ -74,8 +75,8 @@ module _ (keeps : (d : Devices) → CyclePasses d) where
             (subst (frames (d.clock + 1)) (sym kept.place)
             (frames-go d.clock b.made.frame_count before begun p step.place step.frames));
         drawn = subst drawn (sym kept.place)
-            (drawn-in (draws_at (place_cycle p)) (ends_frame p) (lines_drawn p) (lines_drawn (place_cycle p)) b.made.drawn
-            (line_bytes p.line b.core) (line-length p.line b.core) step.drawn (lines-go p step.place));
+            (drawn-in (draws_at (place_cycle p)) (ends_frame p) (lines_drawn p) (lines_drawn (place_cycle p)) b.core.lines
+            (drawn_line b.core) step.drawn (lines-go p step.place));
       }
 
   pub passes : (cycles : ℕ) (b : Board) → BoardPasses cycles b
@@ -111,9 +112,17 @@ nor-other : (one other : Bool) → (one || other) ≡ false → other ≡ false
 nor-other false other none = none
 nor-other true other none = cc
 
-no-line : (draws ends : Bool) (line : List ℕ) (m : Made) → draws ≡ false → with_line draws ends line m ≡ m
-no-line false ends line m none = refl
-no-line true ends line m none = cc
+no-frame : (draws ends : Bool) (frame : List ℕ) (m : Made) → draws ≡ false → with_frame (draws && ends) frame m ≡ m
+no-frame false ends frame m none = refl
+no-frame true ends frame m none = cc
+
+no-line : (draws ends : Bool) (lines more : List (List ℕ)) → draws ≡ false
+    → (if draws then (if ends then [] else more) else lines) ≡ lines
+no-line false ends lines more none = refl
+no-line true ends lines more none = cc
+
+pub same-lines : (c : Core) → draws_line c.devices ≡ false → lines_in_cycle c ≡ c.lines
+same-lines c none = no-line (draws_line c.devices) (ends_frame c.devices.place) c.lines (lines_with c) none
 
 no-pair : (makes : Bool) (left right : ℤ) (m : Made) → makes ≡ false → with_pair makes left right m ≡ m
 no-pair false left right m none = refl
@@ -123,8 +132,8 @@ none-in-cycle : (c : Core) (m : Made) → makes_pair c.devices ≡ false → dra
     → made_in_cycle c m ≡ m
 none-in-cycle c m no_pair no_line =
     let d = device_cycle c.devices in
-    no-pair (makes_pair c.devices) (left_sample d) (right_sample d) (line_in_cycle c m) no_pair
-    ∙ no-line (draws_line c.devices) (ends_frame c.devices.place) (line_bytes c.devices.place.line c) m no_line
+    no-pair (makes_pair c.devices) (left_sample d) (right_sample d) (frame_in_cycle c m) no_pair
+    ∙ no-frame (draws_line c.devices) (ends_frame c.devices.place) (concat (lines_with c)) m no_line
 
 pub quiet-board : QuietBoard
 unfolding board_after after_cycles makes_within board_cycle
@@ -136,6 +145,10 @@ quiet-board (suc count) b none =
     let earlier = none-of (makes_within count d) (pair || line) none in
     let last = nor-other (makes_within count d) (pair || line) none in
     ap board_cycle (quiet-board count b earlier)
+    ∙ ap (λ lines. record b {
+      core = record (core_cycled (core_after count b.core)) { lines = lines };
+      made = made_in_cycle (core_after count b.core) b.made;
+    }) (same-lines (core_after count b.core) (nor-other pair line last))
     ∙ ap (λ (m : Made). record b { core = core_cycled (core_after count b.core); made = m })
     (none-in-cycle (core_after count b.core) b.made (none-of pair line last) (nor-other pair line last))
 

@@ -20,15 +20,15 @@ register-keeps-time : WritesKeep → (offset : ℕ) (width : Width) (value : ℕ
 unfolding register_stored
 register-keeps-time keep offset width value b =
     either-time (is_serial offset) b _ _
-    (record { clock = refl; place = refl })
-    (record { clock = keep.clock offset width value b.devices; place = keep.place offset width value b.devices })
+    (record { clock = refl; place = refl; lines = refl })
+    (record { clock = keep.clock offset width value b.devices; place = keep.place offset width value b.devices; lines = refl })
 
 pub writes-keep-time : WritesKeep → WritesKeepTime
 unfolding core_written
 writes-keep-time keep b address width value =
     either-time (is_io (region_of address)) b _ _
     (register-keeps-time keep (io_offset address) width value b)
-    (record { clock = refl; place = refl })
+    (record { clock = refl; place = refl; lines = refl })
 
 -- the end of a DMA unit keeps the prices of this step and the clock
 pub unit-keeps-priced : (channel : ℕ) (d : Devices) → (after_dma_unit channel d).priced ≡ d.priced

@@ -1,4 +1,3 @@
-pub mod Bytes
 pub mod Cycling
 pub mod Drawing
 pub mod Ending

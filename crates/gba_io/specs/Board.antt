@@ -1,12 +1,13 @@
-use Rattle.std.specs.Prelude.{◌≡◌, ℕ, zero, suc, false, ◌+◌, ◌*◌, ◌/◌, ◌^◌, ◌≤◌, List, length, Option}
+use Rattle.std.specs.Prelude.{◌≡◌, ℕ, zero, suc, false, ◌+◌, ◌*◌, ◌/◌, ◌^◌, ◌≤◌, ◌&&◌, List, [], ◌∷◌, ◌++◌, length, Option, if◌then◌else◌}
+use Rattle.std.specs.List.{concat}
 use Rattle.gba_devices.specs.Cycles.{after_cycles, device_cycle, draws_line, makes_pair, makes_within}
 use Rattle.gba_devices.specs.Samples.{left_sample, right_sample}
 use Rattle.gba_ppu_reg.specs.Position.{IsPosition}
 use Rattle.gba_io.specs.Base.{begun_at, early_at}
 use Rattle.gba_io.specs.Core.{Core, core_after, core_at_start, core_cycled}
-use Rattle.gba_io.specs.Drawing.{cycles_early, cycles_in, ends_frame, line_bytes, lines_drawn}
+use Rattle.gba_io.specs.Drawing.{cycles_early, cycles_in, drawn_line, ends_frame, lines_drawn}
 use Rattle.gba_io.specs.Ended.{ended_emptied, ended_from, none_ended}
-use Rattle.gba_io.specs.Made.{Made, made_emptied, made_from, none_made, with_line, with_pair}
+use Rattle.gba_io.specs.Made.{Made, made_emptied, made_from, none_made, with_frame, with_pair}
 use Rattle.gba_io.specs.declared.base.Base.{Base}
 use Rattle.gba_io.specs.declared.board.Board.{Board}
 use Rattle.gba_io.specs.declared.made.Room.{Room}
@@ -22,11 +23,17 @@ board_at_start player count round bios cart save room = record {
   ended = none_ended room;
 }
 
--- What a cycle makes: where HBlank begins a line of the picture, and where the new clock is a multiple of 512 a pair of
--- samples, once the queues have taken their bytes and the tone channels have moved.
-abbrev pub line_in_cycle : Core → Made → Made
-line_in_cycle c m =
-    with_line (draws_line c.devices) (ends_frame c.devices.place) (line_bytes c.devices.place.line c) m
+-- What a cycle makes: where HBlank begins a line of the picture, with the last line of the screen a whole frame, and where the
+-- new clock is a multiple of 512 a pair of samples, once the queues have taken their bytes and the tone channels have moved.
+abbrev pub lines_with : Core → List (List ℕ)
+lines_with c = c.lines ++ (drawn_line c ∷ [])
+
+abbrev pub lines_in_cycle : Core → List (List ℕ)
+lines_in_cycle c =
+    if draws_line c.devices then (if ends_frame c.devices.place then [] else lines_with c) else c.lines
+
+abbrev pub frame_in_cycle : Core → Made → Made
+frame_in_cycle c m = with_frame (draws_line c.devices && ends_frame c.devices.place) (concat (lines_with c)) m
 
 abbrev pub pair_in_cycle : Core → Made → Made
 pair_in_cycle c m =
@@ -34,25 +41,33 @@ pair_in_cycle c m =
     with_pair (makes_pair c.devices) (left_sample d) (right_sample d) m
 
 abbrev pub made_in_cycle : Core → Made → Made
-made_in_cycle c m = pair_in_cycle c (line_in_cycle c m)
+made_in_cycle c m = pair_in_cycle c (frame_in_cycle c m)
+
+-- a line is drawn where the next cycle draws one
+abbrev pub board_drawn : Board → Board
+board_drawn b = record b { core = record b.core { lines = lines_in_cycle b.core }; made = frame_in_cycle b.core b.made }
+
+-- the core after a cycle
+abbrev pub core_in_cycle : Core → Core
+core_in_cycle c = record (core_cycled c) { lines = lines_in_cycle c }
 
 -- a cycle, and so many of them
 unfoldable pub board_cycle : Board → Board
-board_cycle b = record b { core = core_cycled b.core; made = made_in_cycle b.core b.made }
+board_cycle b = record b { core = core_in_cycle b.core; made = made_in_cycle b.core b.made }
 
 unfoldable pub board_after : ℕ → Board → Board
 board_after zero b = b
 board_after (suc count) b = board_cycle (board_after count b)
 
--- What a board has made since the base is in step with its clock: the pairs, the whole frames, and the bytes of the lines
--- that are drawn of the present one.
+-- What a board has made since the base is in step with its clock: the pairs, the whole frames, and the lines that are drawn
+-- of the present one.
 pub record IsInStep (b : Board) : Type 0 where
   pub place : IsPosition b.core.devices.place
   pub pairs : b.made.pairs + b.made.base.clock / 512 ≡ b.made.base.pairs + b.core.devices.clock / 512
   pub frames : b.core.devices.clock + cycles_early b.core.devices.place + (280896 * b.made.base.frames + b.made.base.cycles)
       ≡ 280896 * b.made.frame_count + cycles_in b.core.devices.place
       + (b.made.base.clock + early_at b.made.base.cycles)
-  pub drawn : length b.made.drawn ≡ 480 * lines_drawn b.core.devices.place
+  pub drawn : length b.core.lines ≡ lines_drawn b.core.devices.place
 
 -- There is room for what so many cycles make: it is in step, and the cycles begin below the end of the room.
 pub record HasRoom (cycles : ℕ) (b : Board) : Type 0 where

@@ -12,11 +12,13 @@ use Rattle.gba_io.specs.declared.parts.MemoryName.{MemoryName}
 use Rattle.gba_io.specs.declared.parts.MemoryName.TheVariants.{Io, Wram, Iwram, Palette, Vram, Oam, Backup}
 use Rattle.link_node.specs.declared.signal.Incoming.{Incoming}
 
--- the core of a board: the memories, the devices and the serial unit
+-- The core of a board: the memories, the devices and the serial unit, and the lines that are drawn of the present frame of the
+-- picture, each as its bytes.
 pub record Core : Type 0 where
   pub memory : Memories
   pub devices : Devices
   pub serial : SerialUnit
+  pub lines : List (List ℕ)
 
 -- a core at reset, from its player number, the number of consoles, the way from player 0 to player 1 and back, a BIOS, a cartridge and a
 -- save
@@ -25,6 +27,7 @@ core_at_start player count round bios cart save = record {
   memory = at_start bios cart save;
   devices = devices_at_reset;
   serial = serial_at_reset player count round;
+  lines = [];
 }
 
 -- What a step asks of it besides its accesses. At its start the prices become those of WAITCNT, and what the last step

@@ -1,27 +1,12 @@
-use Rattle.std.specs.Prelude.{ℕ, Bool, ◌+◌, ◌*◌, ◌==◌, ◌||◌, ◌&&◌, List, map, nat_le, if◌then◌else◌}
-use Rattle.std.specs.Int.{w16, to_le_bytes}
-use Rattle.std.specs.List.{flat_map, range_with_len}
-use Rattle.gba_ppu_mix.specs.Mixing.{mixed_pixel}
+use Rattle.std.specs.Prelude.{ℕ, Bool, ◌+◌, ◌*◌, ◌==◌, ◌||◌, ◌&&◌, List, nat_le, if◌then◌else◌}
 use Rattle.gba_ppu_reg.specs.declared.position.Position.{Position}
+use Rattle.gba_screen.specs.Lines.{line_bytes}
 use Rattle.gba_io.specs.Core.{Core}
 
--- The lines of the picture. One is drawn where HBlank begins in it, with the memories and the registers as they are then:
--- its 240 pixels from left to right. The lines 0 to 159 are a frame, which is whole when line 159 is drawn (this project's
--- profile).
-unfoldable pub line_colours : ℕ → Core → List ℕ
-line_colours line b =
-    map (mixed_pixel b.devices.picture b.memory.palette b.memory.vram b.memory.oam line) (range_with_len 0 240)
-
--- a colour as two bytes, the low one first
-abbrev pub colour_bytes : ℕ → List ℕ
-colour_bytes colour = to_le_bytes w16 colour
-
--- a line as bytes
-abbrev pub colours_bytes : List ℕ → List ℕ
-colours_bytes colours = flat_map colour_bytes colours
-
-abbrev pub line_bytes : ℕ → Core → List ℕ
-line_bytes line b = colours_bytes (line_colours line b)
+-- The lines of the picture. One is drawn where HBlank begins in it, with the memories and the registers as they are then. The
+-- lines 0 to 159 are a frame, which is whole when line 159 is drawn (this project's profile).
+abbrev pub drawn_line : Core → List ℕ
+drawn_line b = line_bytes b.devices.picture b.memory b.devices.place.line
 
 -- whether this is the last line of a frame
 abbrev pub ends_frame : Position → Bool

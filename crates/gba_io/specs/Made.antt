@@ -5,13 +5,12 @@ use Rattle.gba_io.specs.declared.base.Base.{Base}
 use Rattle.gba_io.specs.declared.made.Room.{Room}
 
 -- What a console makes beside its state: whole frames of the picture, and pairs of samples. Their bytes are kept where they
--- are asked for, and both are counted anyway. The lines that are drawn of the present frame are kept always. `until` is the
--- clock up to which there is room, and `base` is where the bytes that are kept begin.
+-- are asked for, and both are counted anyway. `until` is the clock up to which there is room, and `base` is where the bytes
+-- that are kept begin.
 pub record Made : Type 0 where
   pub keeps_frames : Bool
   pub keeps_samples : Bool
   pub until : ℕ
-  pub drawn : List ℕ
   pub frames : List ℕ
   pub frame_count : ℕ
   pub samples : List ℕ
@@ -29,20 +28,11 @@ with_pair makes left right m = record m {
   pairs = if makes then m.pairs + 1 else m.pairs;
 }
 
--- the frame is whole, and the next one has no line yet
-abbrev pub frame_ended : Made → Made
-frame_ended m = record m {
-  drawn = [];
-  frames = if m.keeps_frames then m.frames ++ m.drawn else m.frames;
-  frame_count = m.frame_count + 1;
-}
-
--- A line is drawn, or none. With the last line of the screen the frame is whole.
-abbrev pub with_line : Bool → Bool → List ℕ → Made → Made
-with_line draws ends line m = record m {
-  drawn = if draws then (if ends then [] else m.drawn ++ line) else m.drawn;
-  frames = if draws && (ends && m.keeps_frames) then m.frames ++ (m.drawn ++ line) else m.frames;
-  frame_count = if draws && ends then m.frame_count + 1 else m.frame_count;
+-- a frame is whole, which has these bytes, or none is
+abbrev pub with_frame : Bool → List ℕ → Made → Made
+with_frame ends frame m = record m {
+  frames = if ends && m.keeps_frames then m.frames ++ frame else m.frames;
+  frame_count = if ends then m.frame_count + 1 else m.frame_count;
 }
 
 -- nothing is made yet
@@ -51,7 +41,6 @@ none_made room = record {
   keeps_frames = room.frames;
   keeps_samples = room.samples;
   until = room.until;
-  drawn = [];
   frames = [];
   frame_count = 0;
   samples = [];

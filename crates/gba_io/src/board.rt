@@ -21,8 +21,7 @@ impl Board {
     ghost use Rattle.gba_devices.specs.State.{is_idle};
     ghost use Rattle.gba_io.specs.Base.{IsBase};
     ghost use Rattle.gba_io.specs.Board.{HasRoom, IsInStep, base_of, board_after, board_at_start, board_begun_at, board_cycle, board_emptied};
-    ghost use Rattle.gba_io.specs.Board.{board_from, line_in_cycle};
-    ghost use Rattle.gba_io.specs.Core.{core_cycled};
+    ghost use Rattle.gba_io.specs.Board.{board_drawn, board_from, core_in_cycle};
 
     /// A board at reset, at clock 0, of a player below `count`, on a cable of 1 to 4 consoles whose signals take `round`
     /// cycles, from 1 to 1,024. Its images are dropped on refusal. The room for what it makes in 2^24 cycles and for the
@@ -96,23 +95,24 @@ impl Board {
         self.ended.forget(base, until);
     }
 
-    /// Draws the line in which HBlank is about to begin.
+    /// Draws the line in which HBlank is about to begin. With the last one the frame is whole.
     #[inline(never)]
     fn draw_line(&mut self)
         requires drawn { draws_line self.old.core.devices ≡ true }
         requires room { HasRoom 1 self.old }
-        ensures { self.new ≡ record self.old { made = line_in_cycle self.old.core self.old.made } }
+        ensures { self.new ≡ board_drawn self.old }
     {
         let line = self.core.place().line;
-        let mut colours = [0; 240];
-        self.core.draw(line, &mut colours);
-        self.made.add_line(&colours, line == 159);
+        self.core.draw_line();
+        if line == 159 {
+            self.core.end_frame(&mut self.made);
+        }
     }
 
     /// Draws a line where HBlank is about to begin in one.
     fn draw_due(&mut self)
         requires { HasRoom 1 self.old }
-        ensures { self.new ≡ record self.old { made = line_in_cycle self.old.core self.old.made } }
+        ensures { self.new ≡ board_drawn self.old }
     {
         if self.core.draws_line() {
             self.draw_line();
@@ -122,7 +122,7 @@ impl Board {
     /// A cycle of the devices, and the line that it draws.
     fn cycle_core(&mut self)
         requires { HasRoom 1 self.old }
-        ensures { self.new ≡ record self.old { core = core_cycled self.old.core; made = line_in_cycle self.old.core self.old.made } }
+        ensures { self.new ≡ record (board_drawn self.old) { core = core_in_cycle self.old.core } }
     {
         if self.core.owe_pair() {
             return;

@@ -107,7 +107,7 @@ impl Core {
         if is_in_io(address) {
             self.load_register(offset_of(address), width)
         } else {
-            self.memory.load(from, address, width)
+            self.screen.memory().load(from, address, width)
         }
     }
 
@@ -120,7 +120,7 @@ impl Core {
             self.store_register(offset_of(address), width, value);
         } else {
             let mode = self.devices.mode();
-            self.memory.store(mode, address, width, value);
+            self.screen.store(mode, address, width, value);
         }
     }
 
@@ -169,13 +169,13 @@ impl Core {
         ensures same { self.new ≡ self.old }
     {
         if is_in_bios(address) {
-            return self.memory.code_in_bios(address, width);
+            return self.screen.memory().code_in_bios(address, width);
         }
         if is_in_inner(address) {
-            return self.memory.load_inner(address, width);
+            return self.screen.memory().load_inner(address, width);
         }
         if is_in_rom(address) {
-            return self.memory.code_in_rom(address, width);
+            return self.screen.memory().code_in_rom(address, width);
         }
         self.code_anywhere(address, width)
     }
@@ -225,7 +225,7 @@ impl Bus for Core {
     #[tactic(auto, using(crate::proofs::Telling::told_accesses))]
     fn load(&mut self, from: u32, address: u32, width: Width, sequential: bool) -> (u32, u32) {
         if is_in_inner(address) {
-            return (self.memory.load_inner(address, width), INNER_PRICE);
+            return (self.screen.memory().load_inner(address, width), INNER_PRICE);
         }
         self.load_anywhere(from, address, width, sequential)
     }
@@ -233,7 +233,7 @@ impl Bus for Core {
     #[tactic(auto, using(crate::proofs::Telling::told_accesses))]
     fn store(&mut self, address: u32, width: Width, value: u32, sequential: bool) -> u32 {
         if is_in_inner(address) {
-            self.memory.store_inner(address, width, value);
+            self.screen.store_inner(address, width, value);
             return INNER_PRICE;
         }
         self.store_anywhere(address, width, value, sequential)

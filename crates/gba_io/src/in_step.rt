@@ -69,7 +69,7 @@ impl Board {
         let begun = u128::from(base.clock) + early_at(base.cycles);
         pairs == u128::from(base.pairs) + u128::from(clock / 512)
             && passed + before == frames + begun
-            && self.made.drawn_length() == 480 * lines_drawn(&place) as usize
+            && self.core.lines_drawn() == lines_drawn(&place)
     }
 
     /// Whether the next transfer finds room, where it ends before the end of the room.

@@ -1,10 +1,10 @@
 //! What a board has made.
 
-ghost use Rattle.std.specs.Prelude.{◌≡◌, ◌+◌, ◌*◌, ◌++◌, ◌≤◌, length, vec_len, vec_capacity};
-ghost use Rattle.gba_io.specs.Drawing.{colours_bytes};
+ghost use Rattle.std.specs.Prelude.{◌≡◌, ◌+◌, ◌*◌, ◌++◌, ◌≤◌, vec_len, vec_capacity};
 ghost use Rattle.gba_io.specs.Made.{sample_bytes};
 
 use crate::Base;
+use gba_screen::Screen;
 use gba_terms::NoMemory;
 use std::alloc::Global;
 use std::marker::Model;
@@ -39,8 +39,7 @@ pub struct Made {
     keeps_frames: bool,
     keeps_samples: bool,
     until: u64,
-    // the lines of the present frame, and the frames that are whole
-    drawn: Vec<u8>,
+    // the frames that are whole
     frames: Vec<u8>,
     frame_count: u64,
     samples: Vec<u8>,
@@ -59,7 +58,6 @@ impl Model for Made {
       keeps_frames = m.keeps_frames;
       keeps_samples = m.keeps_samples;
       until = m.until;
-      drawn = m.drawn.items;
       frames = m.frames.items;
       frame_count = m.frame_count;
       samples = m.samples.items;
@@ -71,7 +69,7 @@ impl Model for Made {
         (m.keeps_samples ≡ true → 131076 ≤ vec_capacity m.samples)
         × (vec_len m.samples + 4 * m.base.pairs ≤ 4 * m.pairs)
         × (m.keeps_frames ≡ true → 4608000 ≤ vec_capacity m.frames)
-        × (vec_len m.frames + 76800 * m.base.frames ≤ 76800 * m.frame_count) × (76800 ≤ vec_capacity m.drawn)
+        × (vec_len m.frames + 76800 * m.base.frames ≤ 76800 * m.frame_count)
         × (m.until ≤ m.base.clock + 16777216) × IsBase m.base };
 }
 
@@ -82,59 +80,6 @@ const FRAME: usize = 76_800;
 const SEGMENT_FRAMES: usize = 60;
 
 const SEGMENT_PAIRS: usize = 32_769;
-
-/// Adds bytes, for which there is room.
-fn add_bytes(bytes: &mut Vec<u8>, more: &[u8])
-    requires { vec_len bytes.old + length more.now ≤ vec_capacity bytes.old }
-    ensures items { bytes.new.items ≡ bytes.old.items ++ more.now }
-    ensures len { vec_len bytes.new ≡ vec_len bytes.old + length more.now }
-    ensures room { vec_capacity bytes.old ≤ vec_capacity bytes.new }
-{
-    if bytes.extend_from_slice(more).is_err() {
-        unreachable!()
-    }
-}
-
-/// Eight colours as bytes, the low one of each first.
-#[inline(always)]
-fn bytes_of_eight(colours: &[u16]) -> [u8; 16]
-    requires { length colours.now ≡ 8 }
-    ensures { result ≡ colours_bytes colours.now }
-{
-    let [a, b] = colours[0].to_le_bytes();
-    let [c, d] = colours[1].to_le_bytes();
-    let [e, f] = colours[2].to_le_bytes();
-    let [g, h] = colours[3].to_le_bytes();
-    let [i, j] = colours[4].to_le_bytes();
-    let [k, l] = colours[5].to_le_bytes();
-    let [m, n] = colours[6].to_le_bytes();
-    let [o, p] = colours[7].to_le_bytes();
-    [a, b, c, d, e, f, g, h, i, j, k, l, m, n, o, p]
-}
-
-/// Makes these the bytes of a line's colours, eight colours at a time.
-fn spell_line(colours: &[u16], bytes: &mut [u8; 480])
-    requires { length colours.now ≡ 240 }
-    ensures { bytes.new ≡ colours_bytes colours.now }
-{
-    for part in 0..30 {
-        let eight = bytes_of_eight(&colours[8 * part..8 * part + 8]);
-        bytes[16 * part..16 * part + 16].copy_from_slice(&eight);
-    }
-}
-
-/// Adds the colours of a line, for which there is room. It is asked for once, since that costs more than the bytes.
-fn add_colours(bytes: &mut Vec<u8>, colours: &[u16])
-    requires room { vec_len bytes.old + 480 ≤ vec_capacity bytes.old }
-    requires colours { length colours.now ≡ 240 }
-    ensures items { bytes.new.items ≡ bytes.old.items ++ colours_bytes colours.now }
-    ensures len { vec_len bytes.new ≡ vec_len bytes.old + 480 }
-    ensures room { vec_capacity bytes.old ≤ vec_capacity bytes.new }
-{
-    let mut line = [0; 480];
-    spell_line(colours, &mut line);
-    add_bytes(bytes, &line);
-}
 
 /// Adds a sample, for which there is room.
 fn add_sample(samples: &mut Vec<u8>, sample: i16)
@@ -151,8 +96,8 @@ fn add_sample(samples: &mut Vec<u8>, sample: i16)
 impl Made {
     ghost use Rattle.std.specs.Prelude.{◌≡◌, ◌+◌, ◌<◌, ◌≤◌, length, true, IfOk, ◌^◌};
     ghost use Rattle.gba_io.specs.Base.{IsBase, begun_at, frames_from, pairs_from};
-    ghost use Rattle.gba_io.specs.Drawing.{colours_bytes};
-    ghost use Rattle.gba_io.specs.Made.{frame_ended, made_emptied, made_from, none_made, with_line, with_pair};
+    ghost use Rattle.std.specs.List.{concat};
+    ghost use Rattle.gba_io.specs.Made.{made_emptied, made_from, none_made, with_frame, with_pair};
 
     /// Nothing yet, with room for all that is kept of 2^24 cycles and one step more.
     pub(crate) fn new(alloc: Global, room: Room) -> Result<Made, NoMemory>
@@ -165,7 +110,6 @@ impl Made {
             keeps_frames: room.frames,
             keeps_samples: room.samples,
             until: room.until,
-            drawn: Vec::with_capacity(alloc, FRAME)?,
             frames: Vec::with_capacity(alloc, FRAME * frames)?,
             frame_count: 0,
             samples: Vec::with_capacity(alloc, 4 * pairs)?,
@@ -223,13 +167,6 @@ impl Made {
         self.frames.as_slice()
     }
 
-    /// How many bytes of the present frame are drawn.
-    pub(crate) fn drawn_length(&self) -> usize
-        ensures { result ≡ length self.now.drawn }
-    {
-        self.drawn.len()
-    }
-
     /// The pairs of samples, left then right, 16 bits each in two's complement, low byte first: 32,768 pairs a second.
     /// Empty where they aren't kept.
     pub fn samples(&self) -> &[u8]
@@ -263,29 +200,16 @@ impl Made {
         }
     }
 
-    /// Ends the frame: its lines are all drawn.
-    fn end_frame(&mut self)
-        requires drawn { length self.old.drawn ≤ 76800 }
+    /// Adds a frame, the 160 lines of which are drawn on the screen.
+    pub(crate) fn add_frame(&mut self, screen: &mut Screen)
+        requires whole { length screen.old.lines ≡ 160 }
         requires room { self.old.frame_count < self.old.base.frames + frames_from self.old.base self.old.until }
-        ensures { self.new ≡ frame_ended self.old }
+        ensures made { self.new ≡ with_frame true (concat screen.old.lines) self.old }
+        ensures screen { screen.new ≡ screen.old }
     {
         self.frame_count += 1;
         if self.keeps_frames {
-            add_bytes(&mut self.frames, self.drawn.as_slice());
-        }
-        self.drawn.clear();
-    }
-
-    /// Adds the line of 240 colours that is drawn. With the last one the frame is whole.
-    pub(crate) fn add_line(&mut self, colours: &[u16], ends: bool)
-        requires colours { length colours.now ≡ 240 }
-        requires drawn { length self.old.drawn ≤ 76320 }
-        requires room { ends ≡ true → self.old.frame_count < self.old.base.frames + frames_from self.old.base self.old.until }
-        ensures { self.new ≡ with_line true ends (colours_bytes colours.now) self.old }
-    {
-        add_colours(&mut self.drawn, colours);
-        if ends {
-            self.end_frame();
+            screen.add_frame(&mut self.frames);
         }
     }
 }

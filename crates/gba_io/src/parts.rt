@@ -6,6 +6,7 @@ ghost use Rattle.gba_devices.specs.State.{is_calm as are_calm};
 ghost use Rattle.gba_io.specs.Units.{start_cycles as cycles_at_start};
 ghost use Rattle.gba_serial.specs.Tell.{has_news};
 
+use crate::Made;
 use crate::serial::is_serial;
 use gba_bus::{Bus, WaitControl};
 use gba_devices::Devices;
@@ -13,10 +14,10 @@ use gba_devices::laws::{cycle_keeps, cycles_pass};
 use gba_dma::{Channel, Unit};
 use gba_image::ConsoleImages;
 use gba_mem::Memory;
-use gba_ppu_mix::mix_line;
 use gba_ppu_reg::{Position, Reference};
 use gba_price_table::PriceTable;
 use gba_psg::Tone;
+use gba_screen::Screen;
 use gba_serial::Serial;
 use gba_terms::NoMemory;
 use gba_timer::Timer;
@@ -54,11 +55,11 @@ pub(crate) fn is_calm(devices: &Devices, serial: &Serial) -> bool
     devices.is_calm() && !serial.has_news()
 }
 
-/// The memories, the devices and the serial unit of a console, which its processor sees as a bus. Contracts see the record
-/// of the three.
+/// The memories, the devices and the serial unit of a console, which its processor sees as a bus, and the lines that are drawn
+/// of the present frame. Contracts see the record of the four.
 #[derive(Drop)]
 pub struct Core {
-    pub(crate) memory: Memory,
+    pub(crate) screen: Screen,
     pub(crate) devices: Devices,
     pub(crate) serial: Serial,
     // whether nothing asks for more than an instruction
@@ -75,7 +76,12 @@ impl Model for Core {
 
     ghost Value = { Core };
 
-    ghost view = { λ b. record { memory = b.memory; devices = b.devices; serial = b.serial } };
+    ghost view = { λ b. record {
+      memory = b.screen.memory;
+      devices = b.devices;
+      serial = b.serial;
+      lines = b.screen.lines;
+    } };
 
     ghost invariant = { λ b.
         (b.prices ≡ b.devices.priced) × (b.calm ≡ (is_calm b.devices && not (has_news b.serial)))
@@ -83,7 +89,7 @@ impl Model for Core {
 }
 
 impl Core {
-    ghost use Rattle.std.specs.Prelude.{◌≡◌, ℕ, ◌+◌, ◌*◌, ◌^◌, ◌<◌, ◌≤◌, ◌==◌, true, false, IfOk, length, option_map, if◌then◌else◌};
+    ghost use Rattle.std.specs.Prelude.{◌≡◌, ℕ, ◌+◌, ◌*◌, ◌^◌, ◌<◌, ◌≤◌, ◌==◌, ◌++◌, ◌∷◌, [], true, false, IfOk, length, option_map, if◌then◌else◌};
     ghost use Rattle.std.specs.Option.{option_map_or};
     ghost use Rattle.gba_dma.specs.Channels.{channel_at, next_unit};
     ghost use Rattle.gba_devices.specs.Cycles.{after_cycles, draws_line, makes_pair, makes_within};
@@ -96,7 +102,10 @@ impl Core {
     ghost use Rattle.gba_sound.specs.Queues.{queue_at};
     ghost use Rattle.gba_timer.specs.Timers.{timer_at};
     ghost use Rattle.gba_io.specs.Core.{core_after, core_at_start, core_begun, core_cycled, core_half_stored, core_is_calm, core_is_idle, core_keyed, core_learned, core_rested, core_woken, length_named, memory_named};
-    ghost use Rattle.gba_io.specs.Drawing.{line_colours};
+    ghost use Rattle.gba_io.specs.Base.{frames_from};
+    ghost use Rattle.gba_io.specs.Board.{lines_with};
+    ghost use Rattle.gba_io.specs.Made.{with_frame};
+    ghost use Rattle.std.specs.List.{concat};
     ghost use Rattle.gba_io.specs.Units.{core_after_unit, unit_cycles};
 
     /// A core at reset, at clock 0, from its images, which are dropped on refusal.
@@ -117,7 +126,7 @@ impl Core {
         let devices = Devices::new();
         let serial = Serial::new(player, count, round);
         Ok(Core {
-            memory: Memory::new(alloc, images)?,
+            screen: Screen::new(alloc, Memory::new(alloc, images)?)?,
             calm: is_calm(&devices, &serial),
             devices,
             serial,
@@ -299,20 +308,32 @@ impl Core {
         self.devices.draws_line()
     }
 
-    /// Draws a line from 0 to 159 as memories and registers are now: 240 colours, from left to right.
-    pub(crate) fn draw(&self, line: u32, colours: &mut [u16])
-        requires line { line < 160 }
-        requires colours { length colours.old ≡ 240 }
-        ensures { colours.new ≡ line_colours line self.now }
+    /// Draws the line of the picture's place as memories and registers are now. It is the next one of the frame.
+    pub(crate) fn draw_line(&mut self)
+        requires next { length self.old.lines ≡ self.old.devices.place.line }
+        requires line { self.old.devices.place.line < 160 }
+        ensures { self.new ≡ record self.old { lines = lines_with self.old } }
     {
-        mix_line(
-            self.devices.picture(),
-            self.memory.palette(),
-            self.memory.vram(),
-            self.memory.oam(),
-            line,
-            colours,
-        );
+        let line = self.devices.place().line;
+        self.screen.draw_line(self.devices.picture(), line);
+    }
+
+    /// How many lines of the present frame are drawn, 160 at most.
+    pub(crate) fn lines_drawn(&self) -> u32
+        ensures { result ≡ length self.now.lines }
+    {
+        self.screen.lines_drawn()
+    }
+
+    /// Ends the frame, whose lines are all drawn: it is made, and the next one has no line yet.
+    pub(crate) fn end_frame(&mut self, made: &mut Made)
+        requires whole { length self.old.lines ≡ 160 }
+        requires room { made.old.frame_count < made.old.base.frames + frames_from made.old.base made.old.until }
+        ensures core { self.new ≡ record self.old { lines = [] } }
+        ensures made { made.new ≡ with_frame true (concat self.old.lines) made.old }
+    {
+        made.add_frame(&mut self.screen);
+        self.screen.end_frame();
     }
 
     /// Whether the next cycle makes a pair of samples.
@@ -440,12 +461,12 @@ impl Core {
     {
         match name {
             MemoryName::Io => &[],
-            MemoryName::Wram => self.memory.work(),
-            MemoryName::Iwram => self.memory.inner(),
-            MemoryName::Palette => self.memory.palette(),
-            MemoryName::Vram => self.memory.vram(),
-            MemoryName::Oam => self.memory.oam(),
-            MemoryName::Backup => self.memory.sram(),
+            MemoryName::Wram => self.screen.memory().work(),
+            MemoryName::Iwram => self.screen.memory().inner(),
+            MemoryName::Palette => self.screen.memory().palette(),
+            MemoryName::Vram => self.screen.memory().vram(),
+            MemoryName::Oam => self.screen.memory().oam(),
+            MemoryName::Backup => self.screen.memory().sram(),
         }
     }
 }

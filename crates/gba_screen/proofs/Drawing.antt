@@ -1,11 +1,13 @@
-use Rattle.std.proofs.Common.{◌≡◌, ℕ, ◌∙◌, List, length, map, ap}
-use Rattle.std.specs.List.{range_with_len}
-use Rattle.std.proofs.lemmas.List.FromFn.{fill_by_all}
+use Rattle.std.proofs.Common.{[], ◌∷◌, ◌*◌, refl, ◌≡◌, ℕ, ◌∙◌, List, length, map, ap, arith}
+use Rattle.std.specs.List.{flat_map, range_with_len}
+use Rattle.std.proofs.lemmas.List.{length-append}
+use Rattle.std.proofs.lemmas.List.Concat.{flat_map-cons}
+use Rattle.std.proofs.lemmas.List.FromFn.{fill_by_all, length-map-range_with_len}
 use Rattle.gba_mem.specs.Memories.{Memories}
 use Rattle.gba_mem.specs.Video.{IsSameVideo}
 use Rattle.gba_ppu_mix.specs.Mixing.{IsPixelLine, mixed_pixel}
 use Rattle.gba_ppu_reg.specs.Registers.{Picture}
-use Rattle.gba_screen.specs.Lines.{colours_bytes, line_bytes, line_colours}
+use Rattle.gba_screen.specs.Lines.{colour_bytes, colours_bytes, line_bytes, line_colours}
 
 -- A line is what its registers, its memories and its number give.
 
@@ -36,3 +38,16 @@ drawn_line r m palette vram oam y colours bytes whole drawn same_palette same_vr
     ∙ ap (λ x. pixels r x vram oam y) same_palette
     ∙ ap (λ x. pixels r m.palette x oam y) same_vram
     ∙ ap (λ x. pixels r m.palette m.vram x y) same_oam)
+
+-- a line has 480 bytes
+bytes-of : (colours : List ℕ) → length (colours_bytes colours) ≡ 2 * length colours
+bytes-of [] = refl
+bytes-of (colour ∷ colours) =
+    ap length (flat_map-cons colour_bytes colour colours)
+    ∙ length-append (colour_bytes colour) (flat_map colour_bytes colours) ∙ omega (arith, bytes-of colours)
+
+pub line_length : (r : Picture) (m : Memories) (y : ℕ) → length (line_bytes r m y) ≡ 480
+unfolding line_bytes line_colours
+line_length r m y =
+    bytes-of (line_colours r m y)
+    ∙ ap (λ n. 2 * n) (length-map-range_with_len (mixed_pixel r m.palette m.vram m.oam y) 0 240)
