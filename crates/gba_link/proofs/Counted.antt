@@ -85,6 +85,7 @@ module _ (always : CountsAlways) where
             made = record {
               sound = begins.made.sound;
               drawn = begins.made.drawn;
+              bytes = begins.made.bytes;
               frames = begins.made.frames;
               samples = begins.made.samples;
             };
