@@ -46,7 +46,14 @@ pub(crate) struct Player {
 
 fn memory(alloc: Global) -> Result<Memory, Fail> {
     let bios = Bios::check(vec![in alloc; 0; 16_384]?)?;
-    Ok(Memory::new(alloc, ConsoleImages { bios, cart: None, save: None })?)
+    Ok(Memory::new(
+        alloc,
+        ConsoleImages {
+            bios,
+            cart: None,
+            save: None,
+        },
+    )?)
 }
 
 impl Player {
@@ -84,23 +91,36 @@ impl Player {
     fn store_anywhere(&mut self) {
         let region = 0x0500_0000 + 0x0100_0000 * u32::from(self.random.below(3));
         let address = region + u32::from(self.random.half());
-        let width = if self.random.below(2) == 0 { Half } else { Width::Byte };
+        let width = if self.random.below(2) == 0 {
+            Half
+        } else {
+            Width::Byte
+        };
         let value = u32::from(self.random.half());
-        self.screen.store(u32::from(self.random.below(6)), address, width, value);
+        self.screen
+            .store(u32::from(self.random.below(6)), address, width, value);
     }
 
     pub(crate) fn play(&mut self, what: What, frame: u16, line: u16) {
         match what {
             What::Register(offset, value) => self.registers.write(offset, value),
             What::OfFrame(offset, value, factor) => {
-                self.registers.write(offset, value.wrapping_add(factor.wrapping_mul(frame)));
+                self.registers
+                    .write(offset, value.wrapping_add(factor.wrapping_mul(frame)));
             }
             What::OfLine(offset, value, factor) => {
-                self.registers.write(offset, value.wrapping_add(factor.wrapping_mul(line)));
+                self.registers
+                    .write(offset, value.wrapping_add(factor.wrapping_mul(line)));
             }
-            What::Store(mode, address, width, value) => self.screen.store(mode, address, width, value),
-            What::StoreFrame(address, width) => self.screen.store(0, address, width, u32::from(frame)),
-            What::StoreLine(address, width) => self.screen.store(0, address, width, u32::from(line)),
+            What::Store(mode, address, width, value) => self
+                .screen
+                .store(mode, address, width, value),
+            What::StoreFrame(address, width) => self
+                .screen
+                .store(0, address, width, u32::from(frame)),
+            What::StoreLine(address, width) => self
+                .screen
+                .store(0, address, width, u32::from(line)),
             What::Copy(address, count) => self.copy(address, count),
             What::Random => self.store_anywhere(),
         }
@@ -144,11 +164,20 @@ impl Player {
         self.screen.line(line, &mut bytes);
         let from = 480 * line as usize;
         assert!(rt; from + 480 <= self.wanted.len());
-        assert_eq!(rt; bytes.as_slice(), &self.wanted[from..from + 480], "line {line}");
+        assert_eq!(rt;
+            bytes.as_slice(),
+            &self.wanted[from..from + 480],
+            "line {line}"
+        );
     }
 
     /// Ends the frame, and looks at all of it where it is kept.
-    pub(crate) fn end_frame<R: Abort>(&mut self, rt: &R, alloc: Global, keeps: bool) -> Result<(), Fail> {
+    pub(crate) fn end_frame<R: Abort>(
+        &mut self,
+        rt: &R,
+        alloc: Global,
+        keeps: bool,
+    ) -> Result<(), Fail> {
         if keeps {
             let mut frames = Vec::with_capacity(alloc, FRAME)?;
             assert_eq!(rt; self.screen.lines_drawn(), 160);

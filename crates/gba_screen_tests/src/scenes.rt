@@ -1,12 +1,11 @@
 //! Scenes of several frames.
 
 use crate::player::{Player, What};
+use What::{Copy, OfFrame, OfLine, Random, Register, Store, StoreFrame, StoreLine};
 use gba_bus::Width::{Byte, Half, Word};
 use std::alloc::Global;
 use std::process::Abort;
 use std::test::Fail;
-
-use What::{Copy, OfFrame, OfLine, Random, Register, Store, StoreFrame, StoreLine};
 
 /// What a scene does before some lines of each frame: its number, the first and the last line, and what.
 static CHANGES: [(u32, u16, u16, What); 52] = [
@@ -78,6 +77,7 @@ static CHANGES: [(u32, u16, u16, What); 52] = [
 
 /// How many scenes there are, and how many frames of each are drawn.
 const SCENES: u32 = 17;
+
 const FRAMES: u16 = 5;
 
 /// Which frames are kept, by bits, and whether lines are looked at within them.
@@ -98,7 +98,13 @@ fn change(player: &mut Player, scene: u32, frame: u16, line: u16) {
 }
 
 /// Draws the lines of a frame, and looks at one now and then.
-fn draw<R: Abort>(rt: &R, player: &mut Player, scene: u32, frame: u16, looks: bool) -> Result<(), Fail> {
+fn draw<R: Abort>(
+    rt: &R,
+    player: &mut Player,
+    scene: u32,
+    frame: u16,
+    looks: bool,
+) -> Result<(), Fail> {
     for line in 0..160u16 {
         change(player, scene, frame, line);
         player.draw(rt, u32::from(line))?;
