@@ -9,7 +9,7 @@ use Rattle.gba_psg.specs.Tones.{after_cycles as tones_after, cycle as tones_cycl
 use Rattle.gba_psg.specs.declared.four.FourTones.{FourTones}
 use Rattle.gba_timer.specs.Quiet.{QuietMarks, quiet as quiet_timers}
 use Rattle.gba_timer.specs.Timers.{FourTimers, after_cycles as timers_after, cycle as timer_cycle}
-use Rattle.gba_devices.specs.Cycles.{CyclePasses, CyclesPass, SkipsCycles, after_cycles, at_hblank, at_line, at_place, device_cycle, draws_at, draws_line, is_seen, makes_pair, makes_within, pairless, placed, quiet, rung, skipped, sounded}
+use Rattle.gba_devices.specs.Cycles.{CyclePasses, CyclesPass, SkipsCycles, after_cycles, at_hblank, at_line, at_place, device_cycle, draws_at, draws_line, draws_within, is_seen, makes_pair, makes_within, pairless, placed, quiet, rung, skipped, sounded}
 use Rattle.gba_devices.specs.State.{Devices}
 
 -- Cycles one after another, and cycles at once.
@@ -162,5 +162,20 @@ module _ (timers : QuietMarks) (places : QuietPlaces) where
       (ap makes_pair quietly ∙ no-pair count more d (omega (arith, before)))
       (ap draws_line quietly ∙ draws-none (more + count) d (omega (arith, within))))
 
+  draws-nothing : (count more : ℕ) (d : Devices) → more + count ≤ quiet d → draws_within count (skipped more d) ≡ false
+  unfolding draws_within
+  draws-nothing zero more d within = refl
+  draws-nothing (suc count) more d within =
+      neither (draws_within count (skipped more d)) (draws_line (after_cycles count (skipped more d)))
+      (draws-nothing count more d (omega (arith, within)))
+      (ap draws_line (skips-all count more d (omega (arith, within))) ∙ draws-none (more + count) d (omega (arith, within)))
+
   pub skips : SkipsCycles
-  skips = record { none = skip-none; pass = skips-all; next = cycle-skipped; no_line = draws-none; silent = makes-none }
+  skips = record {
+    none = skip-none;
+    pass = skips-all;
+    next = cycle-skipped;
+    no_line = draws-none;
+    silent = makes-none;
+    lineless = draws-nothing;
+  }

@@ -127,6 +127,11 @@ unfoldable pub makes_within : ℕ → Devices → Bool
 makes_within zero d = false
 makes_within (suc count) d = makes_within count d || (makes_pair (after_cycles count d) || draws_line (after_cycles count d))
 
+-- whether one of so many cycles draws a line
+unfoldable pub draws_within : ℕ → Devices → Bool
+draws_within zero d = false
+draws_within (suc count) d = draws_within count d || draws_line (after_cycles count d)
+
 -- Cycles in which no timer overflows and nothing begins at a place can be skipped at once: for so many, 512 at most, that is
 -- so. A pair of samples may be made in them, and the tone channels move on in them.
 unfoldable pub quiet : Devices → ℕ
@@ -153,6 +158,7 @@ pub record SkipsCycles : Type 0 where
   pub no_line : (more : ℕ) (d : Devices) → more + 1 ≤ quiet d → draws_line (skipped more d) ≡ false
   pub silent : (count more : ℕ) (d : Devices) → more + count ≤ quiet d → count ≤ pairless (skipped more d)
       → makes_within count (skipped more d) ≡ false
+  pub lineless : (count more : ℕ) (d : Devices) → more + count ≤ quiet d → draws_within count (skipped more d) ≡ false
 
 -- what all cycles do: the clock rises by their number, and WAITCNT and the prices stay
 pub record CyclesPass (count : ℕ) (d : Devices) : Type 0 where

@@ -51,7 +51,7 @@ impl Devices {
     ghost use Rattle.gba_psg.specs.Tones.{tone_at};
     ghost use Rattle.gba_sound.specs.Queues.{queue_at};
     ghost use Rattle.gba_timer.specs.Timers.{timer_at};
-    ghost use Rattle.gba_devices.specs.Cycles.{after_cycles, device_cycle, draws_line, makes_pair, makes_within, quiet, skipped};
+    ghost use Rattle.gba_devices.specs.Cycles.{after_cycles, device_cycle, draws_line, draws_within, makes_pair, makes_within, quiet, skipped};
     ghost use Rattle.gba_devices.specs.Registers.{half_stored, io_loaded, io_stored, keyed};
     ghost use Rattle.gba_devices.specs.Samples.{left_sample, right_sample};
     ghost use Rattle.gba_devices.specs.State.{after_dma_unit, begun, devices_at_reset, is_calm, is_idle, rested, woken};
@@ -278,11 +278,12 @@ impl Devices {
         self.silence = self.horizon.min(self.set.pairless());
     }
 
-    /// The same where no more can be owed.
-    fn renew_due(&mut self)
+    /// The same where no more can be owed, or fewer cycles than these only because no more than 512 are looked at at once.
+    fn renew_due(&mut self, cycles: u32)
         ensures { self.new ≡ self.old }
     {
-        if self.debt == self.horizon {
+        let left = self.horizon - self.debt;
+        if left == 0 || (self.horizon == 512 && left < cycles) {
             self.renew();
         }
     }
@@ -388,10 +389,33 @@ impl Devices {
         ensures most { result ≤ most }
     {
         skips_cycles();
-        self.renew_due();
+        self.renew_due(cycles);
         let room = self.silence - self.debt;
         let steps = (room / cycles).min(most);
         self.debt += cycles * steps;
+        steps
+    }
+
+    /// Moves by as many of so many steps of so many cycles as nothing happens in but pairs of samples, and answers how many.
+    pub fn owe_unheard(&mut self, cycles: u32, most: u32) -> u32
+        requires some { 1 ≤ cycles }
+        requires clock { self.old.clock < 2 ^ 61 }
+        ensures devices { self.new ≡ after_cycles (cycles * result) self.old }
+        ensures lineless { draws_within (cycles * result) self.old ≡ false }
+        ensures idle { (steps : ℕ) → steps ≤ result → is_idle (after_cycles (cycles * steps) self.old) ≡ is_idle self.old }
+        ensures calm { is_calm self.new ≡ is_calm self.old }
+        ensures few { cycles * result ≤ 512 }
+        ensures most { result ≤ most }
+    {
+        skips_cycles();
+        self.renew_due(cycles);
+        let room = self.horizon - self.debt;
+        let steps = (room / cycles).min(most);
+        let debt = self.debt + cycles * steps;
+        let clock = self.set.clock() + u64::from(debt);
+        let pairless = 511 - (clock % 512) as u32;
+        self.debt = debt;
+        self.silence = self.horizon.min(debt + pairless);
         steps
     }
 
@@ -404,7 +428,7 @@ impl Devices {
         ensures most { result ≤ most }
     {
         skips_cycles();
-        self.renew_due();
+        self.renew_due(1);
         let count = most.min(self.silence - self.debt);
         self.debt += count;
         count
