@@ -198,6 +198,21 @@ impl Flash {
         self.machine
     }
 
+    /// Lets the flash go on from where a machine has come.
+    pub fn restore(&mut self, machine: FlashMachine)
+        requires { IsSoundMachine self.old.backup machine }
+        ensures { self.new ≡ record self.old { machine = machine } }
+    {
+        self.machine = machine;
+    }
+
+    /// Which flash it is.
+    pub fn backup(&self) -> Backup
+        ensures { result ≡ self.now.backup }
+    {
+        self.backup
+    }
+
     /// Where the byte at an offset stands.
     fn place(&self, offset: u32) -> usize
         requires { offset < 0x10000 }

@@ -1,4 +1,6 @@
-use Rattle.std.specs.Prelude.{◌≡◌, ℕ, ◌+◌, ◌-◌, ◌%◌, ◌==◌, nat_lt, List, length, slice_index, slice_range, sum, Option, Some, None, Result, MatchResult, if◌then◌else◌}
+use Rattle.std.specs.Prelude.{◌≡◌, ℕ, ◌+◌, ◌-◌, ◌%◌, ◌==◌, nat_lt, List, length, slice_index, slice_range, sum, Option, Some, None, IfSome, Result, MatchResult, if◌then◌else◌}
+use Rattle.gba_image.specs.Backups.{backup_length}
+use Rattle.gba_image.specs.declared.backup.Backup.{Backup}
 use Rattle.gba_image.specs.declared.error.ImageError.{ImageError}
 use Rattle.gba_image.specs.declared.error.ImageError.TheVariants.{BiosLength, TooShort, TooLong, FixedByte, HeaderCheck, SaveLength}
 
@@ -26,9 +28,13 @@ cartridge_fault bytes =
     then (if slice_index bytes 0xbd == header_check bytes then None else Some HeaderCheck)
     else Some FixedByte
 
--- a save has the 32 KiB of the SRAM (GBATEK, GBA Cart Backup SRAM)
-unfoldable pub save_fault : List ℕ → Option ImageError
-save_fault bytes = if length bytes == 32768 then None else Some SaveLength
+-- a save has the bytes of its backup (GBATEK, GBA Cart Backup SRAM and GBA Cart Backup Flash ROM)
+unfoldable pub save_fault : List ℕ → Backup → Option ImageError
+save_fault bytes backup = if length bytes == backup_length backup then None else Some SaveLength
+
+-- a save, where there is one, has the bytes of a backup: it is one that was checked for it
+abbrev pub SaveFits : Option (List ℕ) → Backup → Type 0
+SaveFits save backup = IfSome save (λ bytes. length bytes ≡ backup_length backup)
 
 -- a check accepts an image with just these bytes where nothing is wrong with them, and else gives the reason
 abbrev pub Judges : Option ImageError → List ℕ → Result (List ℕ) ImageError → Type 0

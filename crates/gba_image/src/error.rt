@@ -16,7 +16,7 @@ pub enum ImageError {
     FixedByte,
     /// A cartridge whose byte BDh isn't 0 minus the bytes A0h to BCh, minus 19h, modulo 256.
     HeaderCheck,
-    /// A save that doesn't have 32,768 bytes.
+    /// A save that doesn't have the bytes of its backup: 32,768, 65,536 or 131,072.
     SaveLength,
 }
 

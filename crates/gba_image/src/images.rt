@@ -3,7 +3,7 @@
 ghost use Rattle.std.specs.Prelude.{◌≡◌, ◌≤◌, length, sum};
 ghost use Rattle.gba_image.specs.Checks.{header_check};
 
-use crate::ImageError;
+use crate::{Backup, ImageError};
 use std::marker::Model;
 
 /// The length of a BIOS in bytes (GBATEK, GBA Memory Map).
@@ -14,9 +14,6 @@ const HEADER_LENGTH: usize = 192;
 
 /// The longest cartridge in bytes (GBATEK, GBA Memory Map).
 pub const LONGEST_CARTRIDGE: usize = 33_554_432;
-
-/// The length of a save in bytes: that of the SRAM (GBATEK, GBA Cart Backup SRAM).
-const SAVE_LENGTH: usize = 32_768;
 
 /// The sum of a few bytes.
 fn total(bytes: &[u8]) -> u32
@@ -148,42 +145,44 @@ impl Cartridge {
     }
 }
 
-/// A save: the 32,768 bytes of the SRAM. Contracts see its bytes.
+/// A save: the bytes of a backup, 32,768, 65,536 or 131,072 of them. Contracts see its bytes.
 #[derive(Drop)]
 pub struct Save {
     bytes: Vec<u8>,
 }
 
 impl Model for Save {
-    ghost use Rattle.std.specs.Prelude.{◌≡◌, ℕ, List, vec_len};
+    ghost use Rattle.std.specs.Prelude.{◌≡◌, ℕ, List, true, vec_len};
+    ghost use Rattle.gba_image.specs.Backups.{is_backup_length};
 
     ghost Value = { List ℕ };
 
     ghost view = { λ s. s.bytes.items };
 
-    ghost invariant = { λ s. vec_len s.bytes ≡ 32768 };
+    ghost invariant = { λ s. is_backup_length (vec_len s.bytes) ≡ true };
 }
 
 impl Save {
-    ghost use Rattle.std.specs.Prelude.{◌≡◌, ◌≤◌, length, vec_len};
+    ghost use Rattle.std.specs.Prelude.{◌≡◌, ◌≤◌, length, true, vec_len};
+    ghost use Rattle.gba_image.specs.Backups.{is_backup_length};
     ghost use Rattle.gba_image.specs.Checks.{Judges, save_fault};
 
-    /// Takes the bytes as a save. On refusal they are dropped.
+    /// Takes the bytes as a save of this backup. On refusal they are dropped.
     #[tactic(auto, unfolding(crate::specs::Checks::save_fault))]
-    pub fn check(bytes: Vec<u8>) -> Result<Save, ImageError>
-        ensures { Judges (save_fault bytes.items) bytes.items result }
+    pub fn check(bytes: Vec<u8>, backup: Backup) -> Result<Save, ImageError>
+        ensures { Judges (save_fault bytes.items backup) bytes.items result }
     {
-        if bytes.len() == SAVE_LENGTH {
+        if bytes.len() == backup.length() {
             Ok(Save { bytes })
         } else {
             Err(ImageError::SaveLength)
         }
     }
 
-    /// The bytes of the SRAM, from its front up.
+    /// The bytes of the backup, from its front up.
     pub fn bytes(&self) -> &[u8]
         ensures bytes { result.now ≡ self.now }
-        ensures length { length result.now ≡ 32768 }
+        ensures length { is_backup_length (length result.now) ≡ true }
     {
         self.bytes.as_slice()
     }
@@ -191,16 +190,18 @@ impl Save {
     /// The bytes, without copying them.
     pub fn into_bytes(self) -> Vec<u8>
         ensures bytes { result.items ≡ self }
-        ensures length { vec_len result ≡ 32768 }
+        ensures length { is_backup_length (vec_len result) ≡ true }
     {
         self.bytes
     }
 }
 
-/// What one console is made from: its BIOS, its cartridge and the save of the cartridge, where it has them.
+/// What one console is made from: its BIOS, its cartridge and the save of the cartridge, where it has them, and what the
+/// cartridge keeps its saves in.
 #[derive(Drop)]
 pub struct ConsoleImages {
     pub bios: Bios,
     pub cart: Option<Cartridge>,
     pub save: Option<Save>,
+    pub backup: Backup,
 }

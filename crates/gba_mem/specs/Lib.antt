@@ -1,3 +1,4 @@
+pub mod Backups
 pub mod Fits
 pub mod Loads
 pub mod Memories
@@ -5,3 +6,4 @@ pub mod Places
 pub mod Stores
 pub mod Video
 pub mod Wide
+pub mod Views

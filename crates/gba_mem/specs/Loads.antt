@@ -7,8 +7,9 @@ use Rattle.gba_bus.specs.declared.region.Region.{Region}
 use Rattle.gba_bus.specs.declared.region.Region.TheVariants.{Bios, Work, Inner, Io, Palette, Vram, Oam, Rom0, Rom1, Rom2, Sram, Other}
 use Rattle.gba_bus.specs.declared.width.Width.{Width}
 use Rattle.gba_bus.specs.declared.width.Width.TheVariants.{Byte, Half, Word}
+use Rattle.gba_mem.specs.Backups.{backup_byte}
 use Rattle.gba_mem.specs.Memories.{Memories}
-use Rattle.gba_mem.specs.Places.{inner_place, oam_place, palette_place, rom_place, sram_place, vram_place, work_place}
+use Rattle.gba_mem.specs.Places.{inner_place, oam_place, palette_place, rom_place, vram_place, work_place}
 
 -- What is read, one byte at a time.
 
@@ -34,7 +35,7 @@ byte_in Oam in_bios m address = slice_index m.oam (oam_place address)
 byte_in Rom0 in_bios m address = rom_byte m.rom address
 byte_in Rom1 in_bios m address = rom_byte m.rom address
 byte_in Rom2 in_bios m address = rom_byte m.rom address
-byte_in Sram in_bios m address = slice_index m.sram (sram_place address)
+byte_in Sram in_bios m address = backup_byte m.backup address
 byte_in Other in_bios m address = 0
 
 abbrev pub byte_at : Bool → Memories → ℕ → ℕ
@@ -48,7 +49,7 @@ number_of byte Half address = from_le_bytes w16 (byte address ∷ byte (address 
 number_of byte Word address =
     from_le_bytes w32 (byte address ∷ byte (address + 1) ∷ byte (address + 2) ∷ byte (address + 3) ∷ []) % 2 ^ 32
 
--- whether a region is the BIOS, and the SRAM
+-- whether a region is the BIOS, and that of the SRAM or the flash
 abbrev pub is_bios : Region → Bool
 is_bios Bios = true
 is_bios _ = false
@@ -68,8 +69,8 @@ is_rom Rom1 = true
 is_rom Rom2 = true
 is_rom _ = false
 
--- What an access reads at its aligned address. The SRAM has one byte at a time, which a wider access reads in every
--- place (this project's profile).
+-- What an access reads at its aligned address. The SRAM and the flash have one byte at a time, which a wider access
+-- reads in every place (this project's profile).
 unfoldable pub load : Memories → ℕ → ℕ → Width → ℕ
 load m from address width =
     if is_sram (region_of address)

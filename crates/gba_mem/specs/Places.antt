@@ -24,6 +24,10 @@ rom_place address = address % 0x2000000
 abbrev pub sram_place : ℕ → ℕ
 sram_place address = address % 0x8000
 
+-- of a flash one bank of 64 KiB is seen at once
+abbrev pub flash_place : ℕ → ℕ
+flash_place address = address % 0x10000
+
 -- where the part of the VRAM begins that holds the tiles of sprites, by the mode of the picture (GBATEK, LCD VRAM
 -- Overview)
 abbrev pub sprite_part : ℕ → ℕ

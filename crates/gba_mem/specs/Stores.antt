@@ -6,8 +6,9 @@ use Rattle.gba_bus.specs.declared.region.Region.{Region}
 use Rattle.gba_bus.specs.declared.region.Region.TheVariants.{Bios, Work, Inner, Io, Palette, Vram, Oam, Rom0, Rom1, Rom2, Sram, Other}
 use Rattle.gba_bus.specs.declared.width.Width.{Width}
 use Rattle.gba_bus.specs.declared.width.Width.TheVariants.{Byte, Half, Word}
+use Rattle.gba_mem.specs.Backups.{backup_written}
 use Rattle.gba_mem.specs.Memories.{Memories}
-use Rattle.gba_mem.specs.Places.{inner_place, oam_place, palette_place, sprite_part, sram_place, vram_place, work_place}
+use Rattle.gba_mem.specs.Places.{inner_place, oam_place, palette_place, sprite_part, vram_place, work_place}
 
 -- What is written, one byte at a time.
 
@@ -23,7 +24,7 @@ with_byte_in Oam m address byte = record m { oam = slice_set m.oam (oam_place ad
 with_byte_in Rom0 m address byte = m
 with_byte_in Rom1 m address byte = m
 with_byte_in Rom2 m address byte = m
-with_byte_in Sram m address byte = record m { sram = slice_set m.sram (sram_place address) byte }
+with_byte_in Sram m address byte = record m { backup = backup_written m.backup address byte }
 with_byte_in Other m address byte = m
 
 abbrev pub with_byte : Memories → ℕ → ℕ → Memories
@@ -48,7 +49,8 @@ with_both write kept address byte = write (write kept address byte) (address + 1
 
 -- What a write leaves, by the region of its address. A byte goes to both bytes of its halfword in the palette and in
 -- the VRAM below the part of sprites; that part and the OAM drop it (GBATEK, Writing 8bit Data to Video Memory in GBA
--- Unpredictable Things). The SRAM stores the low byte of any write at its aligned address (this project's profile).
+-- Unpredictable Things). The SRAM and the flash take the low byte of any write, once, at its aligned address (this
+-- project's profile).
 abbrev pub stored_in : Region → ℕ → Memories → ℕ → Width → ℕ → Memories
 stored_in Palette mode m address Byte value = with_both with_byte m (aligned Half address) (field value 0 8)
 stored_in Vram mode m address Byte value =

@@ -5,8 +5,9 @@ use Rattle.gba_bus.specs.declared.region.Region.{Region}
 use Rattle.gba_bus.specs.declared.region.Region.TheVariants.{Bios, Work, Inner, Io, Palette, Vram, Oam, Rom0, Rom1, Rom2, Sram, Other}
 use Rattle.gba_bus.specs.declared.width.Width.{Width}
 use Rattle.gba_bus.specs.declared.width.Width.TheVariants.{Byte, Half}
+use Rattle.gba_mem.specs.Backups.{backup_byte, backup_written}
 use Rattle.gba_mem.specs.Memories.{Memories}
-use Rattle.gba_mem.specs.Places.{inner_place, oam_place, palette_place, rom_place, sprite_part, sram_place, vram_place, work_place}
+use Rattle.gba_mem.specs.Places.{inner_place, oam_place, palette_place, rom_place, sprite_part, vram_place, work_place}
 use Rattle.gba_mem.specs.Loads.{number_of, rom_byte}
 use Rattle.gba_mem.specs.Stores.{with_both, with_number}
 
@@ -33,7 +34,7 @@ wide_load Rom0 in_bios m address width = wide_rom m.rom width (aligned width add
 wide_load Rom1 in_bios m address width = wide_rom m.rom width (aligned width address)
 wide_load Rom2 in_bios m address width = wide_rom m.rom width (aligned width address)
 wide_load Sram in_bios m address width =
-    number_of (λ _. slice_index m.sram (sram_place (aligned width address))) width 0
+    number_of (λ _. backup_byte m.backup (aligned width address)) width 0
 wide_load Other in_bios m address width = 0
 
 abbrev pub put_number : Width → List ℕ → ℕ → ℕ → List ℕ
@@ -69,5 +70,5 @@ wide_store Palette mode m address width value = record m { palette = wide_palett
 wide_store Vram mode m address width value = record m { vram = wide_vram mode m.vram address width value }
 wide_store Oam mode m address width value = record m { oam = wide_oam m.oam address width value }
 wide_store Sram mode m address width value =
-    record m { sram = slice_set m.sram (sram_place (aligned width address)) (field value 0 8) }
+    record m { backup = backup_written m.backup (aligned width address) (field value 0 8) }
 wide_store _ mode m address width value = m

@@ -1,6 +1,7 @@
 #![tactic(auto)]
 //! The memories of a console: what is read and written at each address.
 
+mod backup;
 pub mod laws;
 mod memory;
 mod numbers;

@@ -1,21 +1,21 @@
 //! The memories of a console.
 
-ghost use Rattle.std.specs.Prelude.{◌≡◌, ◌≤◌, [], IfOk, replicate, unwrap_or, vec_len};
+ghost use Rattle.std.specs.Prelude.{◌≡◌, ◌≤◌, [], unwrap_or, vec_len};
 ghost use Rattle.gba_bus.specs.Regions.{region_of};
 ghost use Rattle.gba_mem.specs.Loads.{is_bios, is_inner, is_rom};
-ghost use Rattle.gba_mem.specs.Memories.{sram_length};
 
+use crate::backup::{BackupChip, saved};
 use crate::numbers::{length_of, number, put, put_twice, repeated};
 use crate::places;
 use crate::start::{
-    filled, length_of_inner, length_of_oam, length_of_palette, length_of_sram, length_of_vram,
-    length_of_work,
+    filled, length_of_inner, length_of_oam, length_of_palette, length_of_vram, length_of_work,
 };
 use gba_bus::{Region, Width, region_of};
-use gba_image::{Cartridge, ConsoleImages, Save};
+use gba_flash::FlashMachine;
+use gba_image::{Backup, Cartridge, ConsoleImages};
 use gba_terms::NoMemory;
 use gba_word::bits;
-use std::alloc::{AllocError, Global};
+use std::alloc::Global;
 use std::marker::Model;
 
 /// The ROM of a cartridge, or none.
@@ -26,17 +26,6 @@ fn rom_of(alloc: Global, cart: Option<Cartridge>) -> Vec<u8>
     match cart {
         Some(cart) => cart.into_bytes(),
         None => Vec::new(alloc),
-    }
-}
-
-/// The SRAM of a save, or one of FFh bytes.
-fn sram_of(alloc: Global, save: Option<Save>) -> Result<Vec<u8>, AllocError>
-    ensures bytes { IfOk result (λ sram. sram.items ≡ unwrap_or save (replicate sram_length 0xff)) }
-    ensures length { IfOk result (λ sram. vec_len sram ≡ 0x8000) }
-{
-    match save {
-        Some(save) => Ok(save.into_bytes()),
-        None => filled(alloc, length_of_sram(), 0xFF),
     }
 }
 
@@ -82,12 +71,13 @@ pub struct Memory {
     palette: Vec<u8>,
     vram: Vec<u8>,
     oam: Vec<u8>,
-    sram: Vec<u8>,
+    backup: BackupChip,
 }
 
 impl Model for Memory {
     ghost use Rattle.std.specs.Prelude.{◌≡◌, ◌≤◌, vec_len};
     ghost use Rattle.gba_mem.specs.Memories.{Memories};
+    ghost use Rattle.gba_mem.specs.Views.{backup_value};
 
     ghost Value = { Memories };
 
@@ -99,39 +89,50 @@ impl Model for Memory {
       palette = m.palette.items;
       vram = m.vram.items;
       oam = m.oam.items;
-      sram = m.sram.items;
+      backup = backup_value m.backup;
     } };
 
     ghost invariant = { λ m.
         (vec_len m.bios ≡ 0x4000) × (vec_len m.rom ≤ 0x2000000)
         × (vec_len m.work ≡ 0x40000) × (vec_len m.inner ≡ 0x8000)
         × (vec_len m.palette ≡ 0x400) × (vec_len m.vram ≡ 0x18000)
-        × (vec_len m.oam ≡ 0x400) × (vec_len m.sram ≡ 0x8000) };
+        × (vec_len m.oam ≡ 0x400) };
 }
 
 impl Memory {
-    ghost use Rattle.std.specs.Prelude.{◌≡◌, ℕ, ◌+◌, ◌^◌, ◌≤◌, IfOk, true, length};
+    ghost use Rattle.std.specs.Prelude.{◌≡◌, ℕ, ◌+◌, ◌^◌, ◌≤◌, IfOk, IfSome, true, length};
     ghost use Rattle.gba_bus.specs.Regions.{region_of};
     ghost use Rattle.gba_bus.specs.Widths.{aligned, size};
+    ghost use Rattle.gba_flash.specs.Soundness.{IsSoundMachine};
+    ghost use Rattle.gba_image.specs.Backups.{backup_length};
+    ghost use Rattle.gba_image.specs.Checks.{SaveFits};
+    ghost use Rattle.gba_mem.specs.Backups.{backup_bytes as bytes_of_backup, backup_of, flash_machine as machine_of_flash, with_machine};
     ghost use Rattle.gba_mem.specs.Loads.{is_bios, is_inner, is_rom, load, number_of, rom_byte};
     ghost use Rattle.gba_mem.specs.Memories.{at_start};
     ghost use Rattle.gba_mem.specs.Stores.{store};
     ghost use Rattle.gba_mem.specs.Places.{inner_place};
     ghost use Rattle.gba_mem.specs.Wide.{wide_load, wide_number, with_inner, wide_oam, wide_palette, wide_rom, wide_store, wide_vram};
 
-    /// The memories of a console at the start, from its images. RAM is 0, and the SRAM is the save or FFh bytes. The
-    /// images' bytes are moved in, not copied; on refusal they are dropped.
+    /// The memories of a console at the start, from its images, whose save was checked for their backup. RAM is 0, and the
+    /// backup has the save's bytes, or FFh throughout. The images' bytes are moved in, not copied; on refusal they are
+    /// dropped.
     #[tactic(auto, unfolding(crate::specs::Memories::at_start))]
     pub fn new(alloc: Global, images: ConsoleImages) -> Result<Memory, NoMemory>
-        ensures { IfOk result (λ memory. memory ≡ at_start images.bios images.cart images.save) }
+        requires { SaveFits images.save images.backup }
+        ensures { IfOk result (λ memory. memory ≡ at_start images.bios images.cart images.save images.backup) }
     {
-        let ConsoleImages { bios, cart, save } = images;
+        let ConsoleImages {
+            bios,
+            cart,
+            save,
+            backup,
+        } = images;
         let work = filled(alloc, length_of_work(), 0)?;
         let inner = filled(alloc, length_of_inner(), 0)?;
         let palette = filled(alloc, length_of_palette(), 0)?;
         let vram = filled(alloc, length_of_vram(), 0)?;
         let oam = filled(alloc, length_of_oam(), 0)?;
-        let sram = sram_of(alloc, save)?;
+        let saved = saved(alloc, save, backup)?;
         Ok(Memory {
             bios: bios.into_bytes(),
             rom: rom_of(alloc, cart),
@@ -140,7 +141,7 @@ impl Memory {
             palette,
             vram,
             oam,
-            sram,
+            backup: BackupChip::new(saved, backup),
         })
     }
 
@@ -184,12 +185,36 @@ impl Memory {
         self.oam.as_slice()
     }
 
-    /// The 32,768 bytes of the SRAM.
-    pub fn sram(&self) -> &[u8]
-        ensures bytes { result.now ≡ self.now.sram }
-        ensures length { length result.now ≡ 0x8000 }
+    /// What keeps the saves.
+    pub fn backup(&self) -> Backup
+        ensures { result ≡ backup_of self.now.backup }
     {
-        self.sram.as_slice()
+        self.backup.kind()
+    }
+
+    /// The bytes of the SRAM or of the flash, those of all its banks.
+    pub fn backup_bytes(&self) -> &[u8]
+        ensures bytes { result.now ≡ bytes_of_backup self.now.backup }
+        ensures length { length result.now ≡ backup_length (backup_of self.now.backup) }
+    {
+        self.backup.bytes()
+    }
+
+    /// What the flash remembers beside its bytes; nothing where there is none. With the flash of 65,536 bytes its bank is 0
+    /// and it awaits none.
+    pub fn flash_machine(&self) -> Option<FlashMachine>
+        ensures value { result ≡ machine_of_flash self.now.backup }
+        ensures sound { IfSome result (λ machine. IsSoundMachine (backup_of self.now.backup) machine) }
+    {
+        self.backup.machine()
+    }
+
+    /// Lets the flash go on from where a machine has come. Nothing changes where there is none.
+    pub fn restore_flash(&mut self, machine: FlashMachine)
+        requires { IsSoundMachine (backup_of self.old.backup) machine }
+        ensures { self.new ≡ record self.old { backup = with_machine machine self.old.backup } }
+    {
+        self.backup.restore(machine);
     }
 
     /// A byte of ROM, past the image too (GBATEK, GBA Unpredictable Things).
@@ -270,7 +295,7 @@ impl Memory {
                 width,
                 width.align(address),
             ),
-            Region::Sram => repeated(self.sram[places::inner(address, width)], width),
+            Region::Sram => repeated(self.backup.read(width.align(address)), width),
             Region::Io | Region::Other => 0,
         }
     }
@@ -348,7 +373,7 @@ impl Memory {
                 value,
             ),
             Region::Oam => Memory::store_oam(self.oam.as_mut_slice(), address, width, value),
-            Region::Sram => self.sram[places::inner(address, width)] = bits(value, 0, 8) as u8,
+            Region::Sram => self.backup.write(width.align(address), bits(value, 0, 8) as u8),
             Region::Bios
             | Region::Io
             | Region::Rom0

@@ -21,7 +21,6 @@ pub(crate) fn work(address: u32, width: Width) -> usize
     (width.align(address) % 0x40000) as usize
 }
 
-/// In the inner RAM, and in the SRAM, which is as long.
 pub(crate) fn inner(address: u32, width: Width) -> usize
     ensures place { result ≡ inner_place (aligned width address) }
     ensures within { result + size width ≤ 0x8000 }

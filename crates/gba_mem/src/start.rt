@@ -5,7 +5,6 @@ ghost use Rattle.gba_mem.specs.Memories.{
   inner_length,
   oam_length,
   palette_length,
-  sram_length,
   vram_length,
   work_length,
 };
@@ -59,12 +58,4 @@ pub(crate) fn length_of_oam() -> usize
     ensures number { result ≡ 0x400 }
 {
     0x400
-}
-
-#[tactic(auto, unfolding(crate::specs::Memories::sram_length))]
-pub(crate) fn length_of_sram() -> usize
-    ensures length { result ≡ sram_length }
-    ensures number { result ≡ 0x8000 }
-{
-    0x8000
 }
