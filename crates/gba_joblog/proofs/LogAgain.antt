@@ -1,18 +1,20 @@
 -- The log of a job is read as the same job.
-use Rattle.std.proofs.Common.{◌≡◌, ℕ, ◌+◌, ◌<◌, ◌≤◌, ◌^◌, List, [], ◌∷◌, ◌++◌, length, map, Some, None, Ok, refl, ap, sym, subst, ◌∙◌, lit≤, arith}
+use Rattle.std.proofs.Common.{◌≡◌, ℕ, ◌+◌, ◌<◌, ◌≤◌, ◌^◌, true, false, get_or, List, [], ◌∷◌, ◌++◌, length, map, Some, None, Ok, refl, ap, sym, subst, ◌∙◌, lit≤, arith}
 use Rattle.std.specs.Prelude.{codes, decimal, unwrap_or}
 use Rattle.std.specs.List.{All}
 use Rattle.std.proofs.lemmas.List.{append-nil, append_assoc, length-append, length-map, map-append}
 use Rattle.std.proofs.lemmas.List.Elements.{All-head, All-tail}
+use Rattle.std.proofs.lemmas.Bool.{false≢true}
 use Rattle.gba_text.specs.Lines.{lines}
 use Rattle.gba_text.proofs.Languages.{answer_of-lines, leads_none, led}
 use Rattle.gba_text.specs.Languages.{Leads}
+use Rattle.gba_image.specs.declared.backup.Backup.TheVariants.{Sram}
 use Rattle.link_node.specs.declared.delays.Delays.{Delays}
 use Rattle.gba_joblog.specs.Cable.{all_pairs, delays_of, players_for, usual_delay}
 use Rattle.gba_joblog.specs.Draft.{Draft, nothing_said, silent_console}
 use Rattle.gba_joblog.specs.Job.{ConsoleJob, WholeJob}
 use Rattle.gba_joblog.specs.Language.{job_at_end, job_of, jobs, longest_job, words_say}
-use Rattle.gba_joblog.specs.Log.{changes_text, console_text, consoles_text, files_text, line_of, links_text, log_text, off_text, outs_text}
+use Rattle.gba_joblog.specs.Log.{backup_text, changes_text, console_text, consoles_text, files_text, line_of, links_text, log_text, off_text, outs_text}
 use Rattle.gba_joblog.specs.LogLaw.{IsReadAgain, unlined, unlined_console, without_key_file, without_key_files}
 use Rattle.gba_joblog.specs.Soundness.{IsConsole, IsJob}
 use Rattle.gba_joblog.specs.Statements.{Console, Cycles, Delay, End, Version, arguments, keyword_of, most_cycles, plus_statement, refusal_at}
@@ -23,7 +25,7 @@ use Rattle.gba_joblog.proofs.LogLines.{Reads, Top, head, inside, line-reads, num
 use Rattle.gba_joblog.proofs.LogLength.{log-short, old-short, old_text}
 use Rattle.gba_joblog.proofs.LogLinks.{cable-read, linked}
 use Rattle.gba_joblog.proofs.Cables.{delays-again, links_in}
-use Rattle.gba_joblog.proofs.LogParts.{CanStand, as_draft, body-read}
+use Rattle.gba_joblog.proofs.LogParts.{CanStand, as_draft, body-read, has_line, said-again}
 use Rattle.gba_joblog.proofs.Spelling.{IsLine, IsWord, are_more, are_none}
 use Rattle.gba_joblog.proofs.SpelledValues.{number-again, player-again, second-again, version-again}
 
@@ -133,11 +135,12 @@ next-says top whole last few =
 next-plus : (n : ℕ) (top : Top) (player : ℕ) (whole : List ConsoleJob) (last : ConsoleJob)
     → plus_statement n (Console player) (inside top whole (as_draft last)) ≡ inside top (whole ++ last ∷ []) silent_console
 unfolding plus_statement
-next-plus n top player whole last = refl
+next-plus n top player whole last = rw said-again refl
 
 console_text-is : (player : ℕ) (console : ConsoleJob)
     → console_text player console ≡ line_of (codes "console") (decimal player ∷ [])
-    ++ (files_text console ++ (off_text console.off ++ (changes_text console.changes ++ outs_text console)))
+    ++ (files_text console
+    ++ (backup_text console.backup ++ (off_text console.off ++ (changes_text console.changes ++ outs_text console))))
 unfolding console_text
 console_text-is player console = refl
 
@@ -242,7 +245,7 @@ ended top whole = record {
 end-plus : (n : ℕ) (top : Top) (whole : List ConsoleJob) (last : ConsoleJob)
     → plus_statement n End (inside top whole (as_draft last)) ≡ ended top (whole ++ last ∷ [])
 unfolding plus_statement
-end-plus n top whole last = refl
+end-plus n top whole last = rw said-again refl
 
 -- what is said at the end
 abbrev said : Top → List ConsoleJob → WholeJob
@@ -329,7 +332,7 @@ job-again job sound =
     let cycles = cycles-read Two t sound.some_cycles sound.few_cycles (omega (arith, sound.few_cycles)) in
     let cable = cable-read 2 t n job.delays sound.some_consoles sound.few_consoles sound.delays.within in
     let top = linked t (links_in (players_for n) job.delays all_pairs) in
-    let rest = rest-read cable.after top job.consoles sound.each (λ i d lt some. refl) sound.some_consoles sound.few_consoles in
+    let rest = rest-read cable.after top job.consoles sound.each (λ i d lt. record { off = λ some. refl; backup = λ some. refl }) sound.some_consoles sound.few_consoles in
     let reads : Reads 0 nothing_said (log_text job) rest.after (ended top rest.whole) =
     reads-then _ _ _ _ _ _ (line_of (codes "gbalink") (codes "2" ∷ [])) _ second-read
     (reads-then _ _ _ _ _ _ (line_of (codes "cycles") (decimal t ∷ [])) _ cycles
@@ -341,6 +344,16 @@ job-again job sound =
           (delays-again n job.delays sound.some_consoles sound.few_consoles sound.delays);
     }
 
+-- a console of which version 1 can say all
+abbrev pub IsOld : ConsoleJob → Type 0
+IsOld console = (console.off ≡ 0) × (console.backup ≡ Sram)
+
+old-stands : (console : ConsoleJob) → IsOld console → CanStand One console
+old-stands console old = record {
+  off = λ later. absurd (omega (arith, old.0, later));
+  backup = λ has. let none : has_line console.backup ≡ false = rw old.1 refl in absurd (false≢true (sym none ∙ has));
+}
+
 -- a text of version 1 is read as its job, but for the numbers of its lines and its key files
 pub record IsOldAgain (t q : ℕ) (consoles : List ConsoleJob) : Type 0 where
   pub again : WholeJob
@@ -349,10 +362,10 @@ pub record IsOldAgain (t q : ℕ) (consoles : List ConsoleJob) : Type 0 where
       ≡ unlined (without_key_files (job_of_delays t (delays_of q [] (players_for (length consoles))) consoles))
 
 pub old-again : (t q : ℕ) (consoles : List ConsoleJob) → 1 ≤ t → t ≤ 2 ^ 31 → 1 ≤ q → q ≤ 1024 → All IsConsole consoles
-    → All (λ console. console.off ≡ 0) consoles → 1 ≤ length consoles → length consoles ≤ 4 → IsOldAgain t q consoles
-old-again t q consoles low high least most sound on some few =
+    → All IsOld consoles → 1 ≤ length consoles → length consoles ≤ 4 → IsOldAgain t q consoles
+old-again t q consoles low high least most sound old some few =
     let top = delayed t q in
-    let can : All (CanStand One) consoles = λ i d lt after. absurd (omega (arith, on i d lt, after)) in
+    let can : All (CanStand One) consoles = λ i d lt. old-stands (get_or consoles i d) (old i d lt) in
     let rest = rest-read 3 top consoles sound can some few in
     let reads : Reads 0 nothing_said (old_text t q consoles) rest.after (ended top rest.whole) =
     reads-then _ _ _ _ _ _ (line_of (codes "gbalink") (codes "1" ∷ [])) _ first-read

@@ -5,13 +5,15 @@ use Rattle.std.specs.List.{All, flat_map}
 use Rattle.std.proofs.lemmas.List.{length-append}
 use Rattle.std.proofs.lemmas.List.Elements.{All-head, All-tail}
 use Rattle.hex.specs.Hex.{encode_lower}
+use Rattle.gba_image.specs.declared.backup.Backup.{Backup}
+use Rattle.gba_image.specs.declared.backup.Backup.TheVariants.{Sram, Flash64, Flash128}
 use Rattle.link_node.specs.Delays.{hop_of, AreDelays}
 use Rattle.link_node.specs.declared.delays.Delays.{Delays}
 use Rattle.gba_joblog.specs.Cable.{all_pairs, is_joined, players_for}
 use Rattle.gba_joblog.specs.Digests.{IsDigest}
 use Rattle.gba_joblog.specs.Job.{ConsoleJob, NamedFile, WholeJob}
 use Rattle.gba_joblog.specs.Language.{longest_job}
-use Rattle.gba_joblog.specs.Log.{after_words, any_file_text, asked_text, change_text, changes_text, console_text, consoles_text, digest_words, file_text, files_text, keys_word, line_of, link_text, links_text, log_text, off_text, out_text, outs_text}
+use Rattle.gba_joblog.specs.Log.{after_words, any_file_text, asked_text, backup_text, change_text, changes_text, console_text, consoles_text, digest_words, file_text, files_text, keys_word, line_of, link_text, links_text, log_text, off_text, out_text, outs_text}
 use Rattle.gba_joblog.specs.Outputs.{all_kinds, out_name}
 use Rattle.gba_joblog.specs.Soundness.{IsChange, IsConsole, IsFile, IsJob, IsOutput}
 use Rattle.gba_joblog.specs.Statements.{output_of}
@@ -109,21 +111,29 @@ off-short off small = by_test (off == 0) where
   by_test true = omega arith
   by_test false = number-short (codes "off") off (lit≤ tt) small
 
+backup-text_short : (backup : Backup) → length (backup_text backup) ≤ 16
+backup-text_short Sram = lit≤ tt
+backup-text_short Flash64 = lit≤ tt
+backup-text_short Flash128 = lit≤ tt
+
 console-short : (player : ℕ) (console : ConsoleJob) → player < 2 ^ 64 → IsConsole console
-    → length (console_text player console) ≤ 29001326
+    → length (console_text player console) ≤ 29001342
 unfolding console_text
 console-short player console small sound =
     let a = line_of (codes "console") (decimal player ∷ []) in
     let b = files_text console in
+    let k = backup_text console.backup in
     let o = off_text console.off in
     let c = changes_text console.changes in
     let d = outs_text console in
     omega (
       arith,
-      length-append a (b ++ (o ++ (c ++ d))),
-      length-append b (o ++ (c ++ d)),
+      length-append a (b ++ (k ++ (o ++ (c ++ d)))),
+      length-append b (k ++ (o ++ (c ++ d))),
+      length-append k (o ++ (c ++ d)),
       length-append o (c ++ d),
       length-append c d,
+      backup-text_short console.backup,
       off-short console.off (omega (arith, sound.off)),
       number-short (codes "console") player (lit≤ tt) small,
       files-short console sound,
@@ -133,7 +143,7 @@ console-short player console small sound =
     )
 
 consoles-short : (player : ℕ) (consoles : List ConsoleJob) → player + length consoles ≤ 4 → All IsConsole consoles
-    → length (consoles_text player consoles) ≤ 29001326 * length consoles
+    → length (consoles_text player consoles) ≤ 29001342 * length consoles
 unfolding consoles_text
 consoles-short player [] few sound = lit≤ tt
 consoles-short player (console ∷ consoles) few sound =

@@ -20,10 +20,10 @@ use Rattle.gba_joblog.specs.Lines.{is_said}
 use Rattle.gba_joblog.specs.Job.{ConsoleJob, NamedFile, WholeJob}
 use Rattle.gba_joblog.specs.Language.{jobs, line_says, said_with, words_say, words_say_if, keyword_says, statement_of, unless_ended, plus_statement_if, job_at_end, job_at_place, job_with, job_of}
 use Rattle.gba_joblog.specs.Names.{is_name}
-use Rattle.gba_joblog.specs.Operands.{LineWords, word_at, number_at, name_in, name_of, name_at, digest_at, pair_at, player_at, version_at, out_kind_at, end_at}
+use Rattle.gba_joblog.specs.Operands.{LineWords, word_at, number_at, name_in, name_of, name_at, digest_at, pair_at, player_at, version_at, backup_at, out_kind_at, end_at}
 use Rattle.gba_joblog.specs.Outputs.{EachKind, at_kind}
 use Rattle.gba_joblog.specs.Soundness.{AreConsoleLines, IsFile, IsOutput, IsPartOfConsole, IsConsole, IsJob}
-use Rattle.gba_joblog.specs.Statements.{Statement, and_whole, Version, Cycles, Delay, Link, Console, File, Key, Off, Out, End, keyword_in, most_cycles, refusal_at, file_refusal, without_changes, without_file, once, arguments, plus_statement, at_start, in_console, has_image, next_player, whole_consoles, named_file, asked_output, with_file}
+use Rattle.gba_joblog.specs.Statements.{Statement, and_whole, Version, Cycles, Delay, Link, Console, File, Key, KeepsIn, Off, Out, End, keyword_in, most_cycles, refusal_at, file_refusal, without_changes, without_file, once, arguments, plus_statement, at_start, in_console, has_image, next_player, whole_consoles, named_file, asked_output, with_file}
 use Rattle.gba_joblog.specs.declared.cable.Link.{Link as CableLink}
 use Rattle.gba_joblog.specs.declared.draft.JobVersion.{JobVersion}
 use Rattle.gba_joblog.specs.declared.draft.JobVersion.TheVariants.{One, Two}
@@ -300,6 +300,18 @@ keeps n d keyword.Key ws s h place e =
           outs = h.last.lines.outs;
         };
       };
+      each = h.each;
+      count = h.count;
+    })
+keeps n d keyword.Backup ws s h place e =
+    let b = bind-ok (backup_at ws) (λ backup. end_at backup.left >>= (λ _. Ok (KeepsIn backup.value))) s e in
+    let c = bind-ok (end_at b.0.left) (λ _. Ok (KeepsIn b.0.value)) s b.2 in
+    let same : s ≡ KeepsIn b.0.value = sym (ok-is (KeepsIn b.0.value) s c.2) in
+    rw same (record {
+      cycles = h.cycles;
+      delay = h.delay;
+      links = h.links;
+      last = record { bios = h.last.bios; off = h.last.off; lines = h.last.lines };
       each = h.each;
       count = h.count;
     })

@@ -15,10 +15,13 @@ use Rattle.hex.proofs.HexLemmas.{decode_of-encode_lower, decode_sized-twice, len
 use Rattle.gba_text.proofs.Spans.{first_of_all, rest_of_all}
 use Rattle.gba_text.specs.Numbers.{all_digits, hex_number_of, is_number, number_of}
 use Rattle.gba_text.specs.Steps.{taken}
+use Rattle.gba_image.specs.declared.backup.Backup.{Backup}
+use Rattle.gba_image.specs.declared.backup.Backup.TheVariants as backup
+use Rattle.gba_joblog.specs.Backups.{backup_word}
 use Rattle.gba_joblog.specs.Digests.{IsDigest, digest_size}
 use Rattle.gba_joblog.specs.Log.{digest_words, keys_word}
 use Rattle.gba_joblog.specs.Names.{is_name, is_name_byte, longest_name}
-use Rattle.gba_joblog.specs.Operands.{LineWords, digest_at, digest_of, digits_at, keys_at, name_at, number_at, out_kind_at, player_at, version_at}
+use Rattle.gba_joblog.specs.Operands.{LineWords, backup_at, digest_at, digest_of, digits_at, keys_at, name_at, number_at, out_kind_at, player_at, version_at}
 use Rattle.gba_joblog.specs.Outputs.{out_name}
 use Rattle.gba_joblog.specs.declared.draft.JobVersion.TheVariants.{One, Two}
 use Rattle.gba_joblog.specs.declared.outputs.OutKind.{OutKind}
@@ -223,3 +226,20 @@ out-short Samples = lit≤ tt
 out-short output.Words = lit≤ tt
 out-short State = lit≤ tt
 out-short Save = lit≤ tt
+
+-- what keeps the saves
+pub backup-again : (backup : Backup) (ws : LineWords) → backup_at (backup_word backup ∷ ws) ≡ Ok (taken backup ws)
+unfolding backup_at
+backup-again backup.Sram ws = refl
+backup-again backup.Flash64 ws = refl
+backup-again backup.Flash128 ws = refl
+
+pub IsWord-backup : (backup : Backup) → IsWord (backup_word backup)
+IsWord-backup backup.Sram = record { some = omega arith; bytes = refl }
+IsWord-backup backup.Flash64 = record { some = omega arith; bytes = refl }
+IsWord-backup backup.Flash128 = record { some = omega arith; bytes = refl }
+
+pub backup-short : (backup : Backup) → length (backup_word backup) ≤ 8
+backup-short backup.Sram = lit≤ tt
+backup-short backup.Flash64 = lit≤ tt
+backup-short backup.Flash128 = lit≤ tt

@@ -1,4 +1,6 @@
 use Rattle.std.specs.Prelude.{ℕ, List, [], Option, None}
+use Rattle.gba_image.specs.declared.backup.Backup.{Backup}
+use Rattle.gba_joblog.specs.Backups.{backup_or_sram}
 use Rattle.gba_joblog.specs.Job.{ConsoleJob, NamedFile}
 use Rattle.gba_joblog.specs.Outputs.{per_kind}
 use Rattle.gba_joblog.specs.declared.cable.Link.{Link}
@@ -17,6 +19,7 @@ pub record DraftConsole : Type 0 where
   pub save : Option NamedFile
   pub keys : Option NamedFile
   pub changes : List KeyChange
+  pub backup : Option Backup
   -- 0 where it isn't said
   pub off : ℕ
   pub outs : PerKind (Option OutLine)
@@ -41,6 +44,7 @@ silent_console = record {
   save = None;
   keys = None;
   changes = [];
+  backup = None;
   off = 0;
   outs = per_kind (λ _. None);
 }
@@ -53,6 +57,7 @@ with_image console bios = record {
   save = console.save;
   keys = console.keys;
   changes = console.changes;
+  backup = backup_or_sram console.backup;
   off = console.off;
   outs = console.outs;
 }

@@ -1,4 +1,5 @@
 use Rattle.std.specs.Prelude.{ℕ, List, Option}
+use Rattle.gba_image.specs.declared.backup.Backup.{Backup}
 use Rattle.link_node.specs.declared.delays.Delays.{Delays}
 use Rattle.gba_joblog.specs.declared.job.KeyChange.{KeyChange}
 use Rattle.gba_joblog.specs.declared.job.OutLine.{OutLine}
@@ -17,6 +18,8 @@ pub record ConsoleJob : Type 0 where
   pub save : Option NamedFile
   pub keys : Option NamedFile
   pub changes : List KeyChange
+  -- what its cartridge keeps its saves in
+  pub backup : Backup
   -- the clock from which on the console is on
   pub off : ℕ
   pub outs : PerKind (Option OutLine)

@@ -17,3 +17,4 @@ pub mod Log
 pub mod LogLaw
 pub mod Views
 pub mod Answers
+pub mod Backups

@@ -2,8 +2,11 @@
 use Rattle.std.specs.Prelude.{ℕ, ◌+◌, ◌/◌, ◌%◌, ◌==◌, if◌then◌else◌, List, [], ◌∷◌, ◌++◌, length, codes, decimal, slice_index, Option, Some, None}
 use Rattle.std.specs.List.{flat_map}
 use Rattle.hex.specs.Hex.{encode_lower, lower_digits}
+use Rattle.gba_image.specs.declared.backup.Backup.{Backup}
+use Rattle.gba_image.specs.declared.backup.Backup.TheVariants.{Sram, Flash64, Flash128}
 use Rattle.link_node.specs.Delays.{hop_of}
 use Rattle.link_node.specs.declared.delays.Delays.{Delays}
+use Rattle.gba_joblog.specs.Backups.{backup_word}
 use Rattle.gba_joblog.specs.Cable.{all_pairs, is_joined, players_for}
 use Rattle.gba_joblog.specs.Job.{ConsoleJob, NamedFile, WholeJob}
 use Rattle.gba_joblog.specs.Operands.{LineWords}
@@ -67,6 +70,12 @@ files_text console =
     file_text (codes "bios") console.bios
     ++ (any_file_text (codes "cart") console.cart ++ any_file_text (codes "save") console.save)
 
+-- the line of what keeps the saves, where it isn't SRAM
+abbrev pub backup_text : Backup → List ℕ
+backup_text Sram = []
+backup_text Flash64 = line_of (codes "backup") (backup_word Flash64 ∷ [])
+backup_text Flash128 = line_of (codes "backup") (backup_word Flash128 ∷ [])
+
 -- the line of the clock from which on the console is on, where it isn't on from the start
 abbrev pub off_text : ℕ → List ℕ
 off_text off = if off == 0 then [] else line_of (codes "off") (decimal off ∷ [])
@@ -75,7 +84,8 @@ off_text off = if off == 0 then [] else line_of (codes "off") (decimal off ∷ [
 unfoldable pub console_text : ℕ → ConsoleJob → List ℕ
 console_text player console =
     line_of (codes "console") (decimal player ∷ [])
-    ++ (files_text console ++ (off_text console.off ++ (changes_text console.changes ++ outs_text console)))
+    ++ (files_text console
+    ++ (backup_text console.backup ++ (off_text console.off ++ (changes_text console.changes ++ outs_text console))))
 
 unfoldable pub consoles_text : ℕ → List ConsoleJob → List ℕ
 consoles_text player [] = []

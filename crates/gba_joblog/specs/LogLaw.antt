@@ -16,6 +16,7 @@ unlined_console console = record {
   save = option_map unlined_file console.save;
   keys = option_map unlined_file console.keys;
   changes = console.changes;
+  backup = console.backup;
   off = console.off;
   outs = console.outs;
 }

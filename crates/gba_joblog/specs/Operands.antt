@@ -3,8 +3,10 @@ use Rattle.std.specs.Prelude.{ℕ, Bool, true, false, not, nat_lt, ◌==◌, Lis
 use Rattle.std.specs.Str.{bytes_eq}
 use Rattle.std.specs.Result.{result_ok}
 use Rattle.hex.specs.Hex.{decode_sized}
+use Rattle.gba_image.specs.declared.backup.Backup.{Backup}
 use Rattle.gba_text.specs.Numbers.{is_number, number_of, hex_number_of}
 use Rattle.gba_text.specs.Steps.{◌>>=◌, Taken, taken, holds, or_refused, no_more}
+use Rattle.gba_joblog.specs.Backups.{backup_named}
 use Rattle.gba_joblog.specs.Cable.{pair_of}
 use Rattle.gba_joblog.specs.Digests.{digest_size}
 use Rattle.gba_joblog.specs.Names.{is_name}
@@ -67,6 +69,13 @@ version_in t = or_refused Word t.left (version_of t.value)
 -- the word `1` or `2`, the version
 unfoldable pub version_at : LineWords → Result (Taken LineWords JobVersion) JobKind
 version_at words = word_at words >>= version_in
+
+abbrev pub backup_in : Taken LineWords (List ℕ) → Result (Taken LineWords Backup) JobKind
+backup_in t = or_refused Word t.left (backup_named t.value)
+
+-- what a cartridge keeps its saves in
+unfoldable pub backup_at : LineWords → Result (Taken LineWords Backup) JobKind
+backup_at words = word_at words >>= backup_in
 
 abbrev pub out_kind_in : Taken LineWords (List ℕ) → Result (Taken LineWords OutKind) JobKind
 out_kind_in t = or_refused Word t.left (kind_named t.value)

@@ -3,11 +3,12 @@ use Rattle.std.specs.Prelude.{ℕ, ◌+◌, ◌-◌, ◌^◌, ◌==◌, Bool, tr
 use Rattle.std.specs.Str.{bytes_eq}
 use Rattle.gba_text.specs.Steps.{◌>>=◌, holds}
 use Rattle.gba_joblog.specs.Cable.{link_for}
+use Rattle.gba_image.specs.declared.backup.Backup.{Backup}
 use Rattle.gba_joblog.specs.Changes.{change_at}
 use Rattle.gba_joblog.specs.Draft.{Draft, DraftConsole, silent_console, with_image}
 use Rattle.gba_joblog.specs.Job.{ConsoleJob, NamedFile}
 use Rattle.gba_joblog.specs.Outputs.{at_kind, with_kind}
-use Rattle.gba_joblog.specs.Operands.{LineWords, number_at, name_at, digest_at, player_at, version_at, pair_at, out_kind_at, end_at}
+use Rattle.gba_joblog.specs.Operands.{LineWords, number_at, name_at, digest_at, player_at, version_at, pair_at, backup_at, out_kind_at, end_at}
 use Rattle.gba_joblog.specs.declared.cable.Link.{Link as CableLink}
 use Rattle.gba_joblog.specs.declared.draft.JobVersion.{JobVersion}
 use Rattle.gba_joblog.specs.declared.draft.JobVersion.TheVariants.{One, Two}
@@ -36,6 +37,8 @@ pub data Statement : Type 0 where
   -- an input, its name, and the digest stated with it
   File : FileKind → List ℕ → Option (List ℕ) → Statement
   Key : KeyChange → Statement
+  -- the cartridge keeps its saves in this
+  KeepsIn : Backup → Statement
   -- the console is off before this clock
   Off : ℕ → Statement
   -- an output, and the digest stated for it
@@ -55,6 +58,7 @@ keyword_of word =
     else if bytes_eq word (codes "save") then Some (keyword.File file.Save)
     else if bytes_eq word (codes "keys") then Some (keyword.File file.Keys)
     else if bytes_eq word (codes "key") then Some keyword.Key
+    else if bytes_eq word (codes "backup") then Some keyword.Backup
     else if bytes_eq word (codes "off") then Some keyword.Off
     else if bytes_eq word (codes "out") then Some keyword.Out
     else if bytes_eq word (codes "end") then Some keyword.End
@@ -64,7 +68,7 @@ abbrev pub is_two : JobVersion → Bool
 is_two One = false
 is_two Two = true
 
--- whether a version of the language has a keyword: two of them came with version 2
+-- whether a version of the language has a keyword: three of them came with version 2
 abbrev pub has_keyword : JobVersion → Keyword → Bool
 has_keyword version keyword.Version = true
 has_keyword version keyword.Cycles = true
@@ -73,6 +77,7 @@ has_keyword version keyword.Link = is_two version
 has_keyword version keyword.Console = true
 has_keyword version (keyword.File file) = true
 has_keyword version keyword.Key = true
+has_keyword version keyword.Backup = is_two version
 has_keyword version keyword.Off = is_two version
 has_keyword version keyword.Out = true
 has_keyword version keyword.End = true
@@ -157,6 +162,7 @@ refusal_at d keyword.Link = in_head d.place false
 refusal_at d keyword.Console = before_console d.place (is_some d.cycles)
 refusal_at d (keyword.File file) = in_console d.place (file_refusal file d.last)
 refusal_at d keyword.Key = in_console d.place (without_file (is_some d.last.keys))
+refusal_at d keyword.Backup = in_console d.place (once (is_some d.last.backup))
 refusal_at d keyword.Off = in_console d.place (once (not (d.last.off == 0)))
 refusal_at d keyword.Out = in_console d.place None
 refusal_at d keyword.End = in_console d.place None
@@ -227,6 +233,10 @@ arguments d (keyword.File file) words = do
 arguments d keyword.Key words = do
   change ← change_at d.last.changes words
   Ok (Key change)
+arguments d keyword.Backup words = do
+  backup ← backup_at words
+  _ ← end_at backup.left
+  Ok (KeepsIn backup.value)
 arguments d keyword.Off words = do
   off ← number_at 1 (2 ^ 38 - 1) words
   _ ← end_at off.left
@@ -274,6 +284,7 @@ plus_statement line (Console player) d = closed Inside d
 plus_statement line (File file name digest) d =
     record d { last = with_file file (named_file name digest line) d.last }
 plus_statement line (Key change) d = record d { last = record d.last { changes = d.last.changes ++ change ∷ [] } }
+plus_statement line (KeepsIn backup) d = record d { last = record d.last { backup = Some backup } }
 plus_statement line (Off off) d = record d { last = record d.last { off = off } }
 plus_statement line (Out out digest) d = record d { last = with_output out (asked_output digest) d.last }
 plus_statement line End d = closed Ended d

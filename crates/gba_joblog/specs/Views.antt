@@ -1,7 +1,7 @@
 use Rattle.std.specs.Prelude.{map, option_map, string_bytes}
 use Rattle.gba_joblog.specs.Draft.{Draft, DraftConsole}
 use Rattle.gba_joblog.specs.Job.{ConsoleJob, NamedFile, WholeJob}
-use Rattle.gba_joblog.specs.Statements.{Statement, Version, Cycles, Delay, Link, Console, File, Key, Off, Out, End}
+use Rattle.gba_joblog.specs.Statements.{Statement, Version, Cycles, Delay, Link, Console, File, Key, KeepsIn, Off, Out, End}
 use Rattle.gba_joblog.specs.declared.draft.DraftJob.{DraftJob}
 use Rattle.gba_joblog.specs.declared.console.DraftConsole.{DraftConsole as ConsoleText}
 use Rattle.gba_joblog.specs.declared.job.FileLine.{FileLine}
@@ -21,6 +21,7 @@ console_value console = record {
   save = option_map file_value console.save;
   keys = option_map file_value console.keys;
   changes = console.changes.items;
+  backup = console.backup;
   off = console.off;
   outs = console.outs;
 }
@@ -32,6 +33,7 @@ draft_console_value console = record {
   save = option_map file_value console.save;
   keys = option_map file_value console.keys;
   changes = console.changes.items;
+  backup = console.backup;
   off = console.off;
   outs = console.outs;
 }
@@ -58,6 +60,7 @@ statement_value (line.Link link) = Link link
 statement_value (line.Console player) = Console player
 statement_value (line.File file name digest) = File file name.now digest
 statement_value (line.Key change) = Key change
+statement_value (line.Backup backup) = KeepsIn backup
 statement_value (line.Off off) = Off off
 statement_value (line.Out out digest) = Out out digest
 statement_value line.End = End

@@ -8,6 +8,7 @@ ghost use Rattle.gba_joblog.specs.Views.{console_value, draft_console_value, fil
 
 use crate::job::{FileKind, FileLine, JobConsole, KeyChange, OutLine};
 use crate::outputs::{OutKind, PerKind};
+use gba_image::Backup;
 use std::alloc::Global;
 
 /// What the lines of a console have said as far as they are read.
@@ -18,6 +19,8 @@ pub(crate) struct DraftConsole {
     pub(crate) save: Option<FileLine>,
     pub(crate) keys: Option<FileLine>,
     pub(crate) changes: Vec<KeyChange>,
+    /// What the cartridge keeps its saves in, where a line says it.
+    pub(crate) backup: Option<Backup>,
     /// The console is off before this clock; 0 where no line says one.
     pub(crate) off: u64,
     pub(crate) outs: PerKind<Option<OutLine>>,
@@ -34,6 +37,7 @@ impl DraftConsole {
             save: None,
             keys: None,
             changes: Vec::new(alloc),
+            backup: None,
             off: 0,
             outs: PerKind::all(None),
         }
@@ -77,6 +81,7 @@ impl DraftConsole {
             save: self.save,
             keys: self.keys,
             changes: self.changes,
+            backup: self.backup.unwrap_or(Backup::Sram),
             off: self.off,
             outs: self.outs,
         })

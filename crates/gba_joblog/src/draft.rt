@@ -147,6 +147,10 @@ impl DraftJob {
                 self.last.changes.push(change)?;
                 Ok(())
             }
+            Line::Backup(backup) => {
+                self.last.backup = Some(backup);
+                Ok(())
+            }
             Line::Off(off) => {
                 self.last.off = off;
                 Ok(())

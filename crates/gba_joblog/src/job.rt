@@ -6,6 +6,7 @@ ghost use Rattle.gba_joblog.specs.Statements.{asks_for as asks_for_of, output_of
 ghost use Rattle.gba_joblog.specs.Views.{console_value};
 
 use crate::outputs::{OutKind, PerKind};
+use gba_image::Backup;
 use link_node::Delays;
 
 /// From a clock on, these keys are pressed and no others.
@@ -47,6 +48,8 @@ pub struct JobConsole {
     /// The key changes of the job's own lines, in their order, by clocks that don't fall; at most 1,000,000. Those of a
     /// key file may be written in, once the job names it no longer.
     pub changes: Vec<KeyChange>,
+    /// What the cartridge keeps its saves in: SRAM where no line says it.
+    pub backup: Backup,
     /// From this clock on, in cycles of 16,777,216 Hz, the console is on: 0 where no line says one, else from 1 to
     /// 274,877,906,943.
     pub off: u64,

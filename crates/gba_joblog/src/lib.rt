@@ -4,6 +4,7 @@
 //!
 //! Contracts see a [`Job`] as numbers and lists, and a name as its bytes (`specs/Job.antt`).
 
+mod backup;
 mod cable;
 mod changes;
 mod clash;
@@ -21,6 +22,7 @@ mod outputs;
 mod parse;
 mod statement;
 
+pub use backup::backup_word;
 pub use cable::{PAIRS, Pair, players_for};
 pub use digest::{digest_of, digits_of};
 pub use job::{FileLine, Job, JobConsole, KeyChange, OutLine};

@@ -4,13 +4,15 @@ ghost use Rattle.std.specs.Prelude.{◌≡◌, ◌<◌, true};
 ghost use Rattle.gba_text.specs.Numbers.{is_number as is_number_of};
 ghost use Rattle.gba_text.specs.Words.{fault_of};
 ghost use Rattle.gba_text.specs.Answers.{Agrees, Takes};
-ghost use Rattle.gba_joblog.specs.Operands.{digest_at as digest_at_of, digits_at as digits_at_of, end_at as end_at_of, has_words as has_words_of, keys_at as keys_at_of, name_at as name_at_of, number_at as number_at_of, out_kind_at as out_kind_at_of, pair_at as pair_at_of, player_at as player_at_of, version_at as version_at_of, word_at as word_at_of};
+ghost use Rattle.gba_joblog.specs.Operands.{backup_at as backup_at_of, digest_at as digest_at_of, digits_at as digits_at_of, end_at as end_at_of, has_words as has_words_of, keys_at as keys_at_of, name_at as name_at_of, number_at as number_at_of, out_kind_at as out_kind_at_of, pair_at as pair_at_of, player_at as player_at_of, version_at as version_at_of, word_at as word_at_of};
 
+use crate::backup::backup_named;
 use crate::cable::Pair;
 use crate::draft::JobVersion;
 use crate::kinds::JobKind;
 use crate::names::{is_name, name_text};
 use crate::outputs::OutKind;
+use gba_image::Backup;
 use gba_text::{Cursor, are_digits};
 use hex::FromHex;
 
@@ -110,6 +112,20 @@ pub(crate) fn version_at(cursor: &mut Cursor<'_>) -> Result<JobVersion, JobKind>
     } else {
         Err(JobKind::Word)
     }
+}
+
+/// The next word as what a cartridge keeps its saves in.
+#[tactic(auto, unfolding(crate::specs::Operands::backup_at))]
+pub(crate) fn backup_at(cursor: &mut Cursor<'_>) -> Result<Backup, JobKind>
+    requires given { 0 < cursor.old.number }
+    requires sound { fault_of cursor.old.line ≡ None }
+    ensures word { Takes (λ backup. backup) result cursor.new.words (backup_at_of cursor.old.words) }
+    ensures number { cursor.new.number ≡ cursor.old.number }
+    ensures line { cursor.new.line ≡ cursor.old.line }
+    ensures lines { cursor.new.lines ≡ cursor.old.lines }
+{
+    let word = word_at(cursor)?;
+    backup_named(word).ok_or(JobKind::Word)
 }
 
 /// The next word as the kind of an output.

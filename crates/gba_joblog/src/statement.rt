@@ -13,9 +13,10 @@ use crate::draft::{DraftJob, JobVersion, Place};
 use crate::job::{FileKind, KeyChange};
 use crate::kinds::JobKind;
 use crate::operands::{
-    digest_at, end_at, name_at, number_at, out_kind_at, pair_at, player_at, version_at,
+    backup_at, digest_at, end_at, name_at, number_at, out_kind_at, pair_at, player_at, version_at,
 };
 use crate::outputs::OutKind;
+use gba_image::Backup;
 use gba_text::Cursor;
 
 /// The most cycles of a job of version 1.
@@ -40,6 +41,7 @@ pub(crate) enum Keyword {
     Console,
     File(FileKind),
     Key,
+    Backup,
     Off,
     Out,
     End,
@@ -59,6 +61,8 @@ pub(crate) enum Line<'a> {
     /// An input, its name, and the digest stated with it.
     File(FileKind, &'a str, Option<[u8; 32]>),
     Key(KeyChange),
+    /// The cartridge keeps its saves in this.
+    Backup(Backup),
     /// The console is off before this clock.
     Off(u64),
     /// An output, and the digest stated for it.
@@ -91,6 +95,8 @@ fn keyword_of(word: &[u8]) -> Option<Keyword>
         Some(Keyword::File(FileKind::Keys))
     } else if word == b"key".as_slice() {
         Some(Keyword::Key)
+    } else if word == b"backup".as_slice() {
+        Some(Keyword::Backup)
     } else if word == b"off".as_slice() {
         Some(Keyword::Off)
     } else if word == b"out".as_slice() {
@@ -107,7 +113,7 @@ pub(crate) fn keyword_in(version: JobVersion, word: &[u8]) -> Option<Keyword>
     ensures { result ≡ keyword_in_of version word.now }
 {
     match (version, keyword_of(word)) {
-        (JobVersion::One, Some(Keyword::Link | Keyword::Off)) => None,
+        (JobVersion::One, Some(Keyword::Link | Keyword::Backup | Keyword::Off)) => None,
         (_, keyword) => keyword,
     }
 }
@@ -160,6 +166,7 @@ pub(crate) fn refusal_at(draft: &DraftJob, keyword: Keyword) -> Option<JobKind>
         (Keyword::Console, Place::Head) if draft.cycles.is_some() => None,
         (Keyword::File(kind), Place::Inside) => file_refusal(kind, &draft.last),
         (Keyword::Key, Place::Inside) if draft.last.keys.is_some() => Some(JobKind::Order),
+        (Keyword::Backup, Place::Inside) => once(draft.last.backup.is_some()),
         (Keyword::Off, Place::Inside) => once(draft.last.off != 0),
         (Keyword::Key | Keyword::Out | Keyword::End, Place::Inside) => None,
         _ => Some(JobKind::Order),
@@ -232,6 +239,11 @@ pub(crate) fn arguments<'a>(
         Keyword::Key => {
             let change = change_at(&draft.last.changes, cursor)?;
             Ok(Line::Key(change))
+        }
+        Keyword::Backup => {
+            let backup = backup_at(cursor)?;
+            end_at(cursor)?;
+            Ok(Line::Backup(backup))
         }
         Keyword::Off => {
             let off = number_at(cursor, 1, MOST_OFF)?;

@@ -5,8 +5,9 @@ ghost use Rattle.std.specs.List.{All};
 ghost use Rattle.gba_joblog.specs.Digests.{IsDigest};
 ghost use Rattle.gba_joblog.specs.Soundness.{IsConsole, IsFile, IsJob};
 ghost use Rattle.gba_joblog.specs.Views.{console_value, file_value, job_value};
-ghost use Rattle.gba_joblog.specs.Log.{after_words, any_file_text, change_text, changes_text, console_text, consoles_text, digest_words, file_text, files_text, line_of, link_text, links_text, log_text, off_text, out_text, outs_text};
+ghost use Rattle.gba_joblog.specs.Log.{after_words, any_file_text, backup_text, change_text, changes_text, console_text, consoles_text, digest_words, file_text, files_text, line_of, link_text, links_text, log_text, off_text, out_text, outs_text};
 
+use gba_image::Backup;
 use gba_joblog::{FileLine, Job, JobConsole, KINDS, KeyChange, OutKind, PAIRS, Pair, players_for};
 use itoa::Buffer;
 use link_node::Delays;
@@ -62,6 +63,18 @@ fn links_len(players: usize, delays: &Delays) -> u64
         total += link_len(players, delays, pair);
     }
     total
+}
+
+/// The bytes of the line of what a cartridge keeps its saves in.
+fn backup_len(backup: Backup) -> u64
+    ensures value { result ≡ length (backup_text backup) }
+    ensures most { result ≤ 16 }
+{
+    match backup {
+        Backup::Sram => 0,
+        Backup::Flash64 => 15,
+        Backup::Flash128 => 16,
+    }
 }
 
 /// The bytes of the line of the clock from which on a console is on.
@@ -163,12 +176,13 @@ fn outs_len(console: &JobConsole) -> u64
 fn console_len(player: u64, console: &JobConsole) -> u64
     requires { IsConsole (console_value console.now) }
     ensures value { result ≡ length (console_text player (console_value console.now)) }
-    ensures most { result ≤ 29001326 }
+    ensures most { result ≤ 29001342 }
 {
     number_len(b"console", player)
         + file_len(b"bios", &console.bios)
         + any_file_len(b"cart", &console.cart)
         + any_file_len(b"save", &console.save)
+        + backup_len(console.backup)
         + off_len(console.off)
         + changes_len(console.changes.as_slice())
         + outs_len(console)
@@ -179,7 +193,7 @@ fn consoles_len(consoles: &[JobConsole]) -> u64
     requires sound { All IsConsole (map console_value consoles.now) }
     requires few { length consoles.now ≤ 4 }
     ensures value { result ≡ length (consoles_text 0 (map console_value consoles.now)) }
-    ensures most { result ≤ 116005304 }
+    ensures most { result ≤ 116005368 }
 {
     let mut total = 0;
     for (player, console) in consoles.iter().enumerate() {
@@ -193,7 +207,7 @@ fn consoles_len(consoles: &[JobConsole]) -> u64
 pub fn printed_len(job: &Job) -> u64
     requires { IsJob (job_value job.now) }
     ensures value { result ≡ length (log_text (job_value job.now)) }
-    ensures most { result ≤ 116006164 }
+    ensures most { result ≤ 116006228 }
 {
     VERSION_LEN
         + number_len(b"cycles", job.cycles)

@@ -4,9 +4,10 @@ ghost use Rattle.std.specs.Prelude.{◌≡◌, ◌+◌, ◌<◌, ◌≤◌, ◌+
 ghost use Rattle.std.specs.List.{All};
 ghost use Rattle.gba_joblog.specs.Soundness.{IsChange, IsConsole, IsJob};
 ghost use Rattle.gba_joblog.specs.Views.{console_value, file_value, job_value};
-ghost use Rattle.gba_joblog.specs.Log.{after_words, any_file_text, change_text, changes_text, console_text, consoles_text, digest_words, file_text, files_text, keys_word, line_of, link_text, links_text, log_text, off_text, out_text, outs_text};
+ghost use Rattle.gba_joblog.specs.Log.{after_words, any_file_text, backup_text, change_text, changes_text, console_text, consoles_text, digest_words, file_text, files_text, keys_word, line_of, link_text, links_text, log_text, off_text, out_text, outs_text};
 ghost use Rattle.gba_log.specs.Buffers.{Grew, HasRoom};
 
+use gba_image::Backup;
 use gba_joblog::{
     FileLine, Job, JobConsole, KINDS, KeyChange, OutKind, PAIRS, Pair, digits_of, players_for,
 };
@@ -70,6 +71,18 @@ fn add_links(into: &mut Vec<u8>, players: usize, delays: &Delays)
 {
     for pair in PAIRS {
         add_link(into, players, delays, pair);
+    }
+}
+
+/// Adds the line of what a cartridge keeps its saves in, where it isn't SRAM.
+fn add_backup(into: &mut Vec<u8>, backup: Backup)
+    requires { HasRoom into.old (backup_text backup) }
+    ensures { Grew into.old into.new (backup_text backup) }
+{
+    match backup {
+        Backup::Sram => {}
+        Backup::Flash64 => add(into, b"backup flash64\n"),
+        Backup::Flash128 => add(into, b"backup flash128\n"),
     }
 }
 
@@ -195,6 +208,7 @@ fn add_console(into: &mut Vec<u8>, player: u64, console: &JobConsole)
 {
     add_number_line(into, b"console", player);
     add_files(into, console);
+    add_backup(into, console.backup);
     add_off(into, console.off);
     add_changes(into, console.changes.as_slice());
     add_outs(into, console);

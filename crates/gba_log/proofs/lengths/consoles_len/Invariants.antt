@@ -7,4 +7,4 @@ use Rattle.gba_log.proofs.lengths.consoles_len.Given as goal
 abbrev pub invariant-loop-player : goal.invariant-loop-player
 invariant-loop-player l =
     (l.total + length (consoles_text l.player (map console_value (drop l.player l.consoles)))
-    ≡ length (consoles_text 0 (map console_value l.consoles))) × (l.total ≤ 29001326 * l.player)
+    ≡ length (consoles_text 0 (map console_value l.consoles))) × (l.total ≤ 29001342 * l.player)
