@@ -11,6 +11,7 @@ use Rattle.gba_store.specs.Files.{Files}
 use Rattle.gba_command.specs.Cause.{Cause}
 use Rattle.gba_command.specs.Plan.{each, judgement, outcome}
 use Rattle.gba_command.proofs.Comes.{file-ok, file-reads, outcome-done, outcome-parts, outcome-then}
+use Rattle.gba_image.specs.declared.backup.Backup.{Backup}
 use Rattle.gba_text.proofs.Steps.{ok-is, some-is}
 use Rattle.gba_joblog.specs.Cable.{players_for}
 use Rattle.gba_joblog.specs.Job.{ConsoleJob, NamedFile, WholeJob}
@@ -24,7 +25,7 @@ use Rattle.gba_joblog.proofs.LogAgain.{job-again}
 use Rattle.gba_inputs.specs.Filled.{any_with_digest, filled_console, filled_consoles, log_job, with_digest, with_outputs}
 use Rattle.gba_inputs.specs.Inputs.{ConsoleInputs, DigestedImage, digested}
 use Rattle.gba_inputs.specs.InputsPlan.{ImageForm, accepted, after_bios, after_cart, after_keys, after_save, any_cart_plan, any_image_plan, any_keys_plan, any_save_plan, bios_form, bios_plan, cart_form, console_plan, digest_of, found, image_plan, inputs_of, inputs_plan, judged_image, save_form}
-use Rattle.gba_inputs.specs.Law.{AreInputs, AreOutputs, IsKept, IsReplayed, KeepsImages, asked_of, off_of}
+use Rattle.gba_inputs.specs.Law.{AreInputs, AreOutputs, IsKept, IsReplayed, KeepsImages, asked_of, backup_of, off_of}
 use Rattle.gba_inputs.proofs.SoundInputs.{accepted-is, filled_consoles-sound, inputs-sound, zip-long}
 
 -- ---- images
@@ -116,23 +117,27 @@ console-again : (old new : Files) (console later : ConsoleJob) (inputs : Console
 console-again old new console later inputs outs sound kept h said =
     let b = outcome-parts old (bios_plan console.bios) (after_bios console) inputs h in
     let c = outcome-parts old (any_cart_plan console.cart) (after_cart console b.0) inputs b.2 in
-    let s = outcome-parts old (any_save_plan console.save) (after_save console b.0 c.0) inputs c.2 in
-    let k = outcome-parts old (any_keys_plan console.changes console.keys) (after_keys b.0 c.0 s.0) inputs s.2 in
-    let is : inputs_of b.0 c.0 s.0 k.0 ≡ inputs =
-    ok-is (inputs_of b.0 c.0 s.0 k.0) inputs (sym (outcome-done old (inputs_of b.0 c.0 s.0 k.0)) ∙ k.2) in
+    let s = outcome-parts old (any_save_plan console.backup console.save) (after_save console b.0 c.0) inputs c.2 in
+    let k = outcome-parts old (any_keys_plan console.changes console.keys) (after_keys console.backup b.0 c.0 s.0) inputs s.2 in
+    let is : inputs_of console.backup b.0 c.0 s.0 k.0 ≡ inputs =
+    ok-is (inputs_of console.backup b.0 c.0 s.0 k.0) inputs (sym (outcome-done old (inputs_of console.backup b.0 c.0 s.0 k.0)) ∙ k.2) in
     let S : ConsoleInputs → Type 0 = λ i. IsSaid console i outs later in
-    let here : S (inputs_of b.0 c.0 s.0 k.0) = subst S (sym is) said in
+    let here : S (inputs_of console.backup b.0 c.0 s.0 k.0) = subst S (sym is) said in
     let bios = bios-again old new console.bios later.bios b.0 kept.bios b.1 (ap (λ (c : ConsoleJob). c.bios) here) in
     let cart = any-again old new cart_form console.cart later.cart c.0 kept.cart c.1 (ap (λ (c : ConsoleJob). c.cart) here) in
-    let save = any-again old new save_form console.save later.save s.0 kept.save s.1 (ap (λ (c : ConsoleJob). c.save) here) in
+    let backup : later.backup ≡ console.backup = ap (λ (c : ConsoleJob). c.backup) here in
+    let saved = any-again old new (save_form console.backup) console.save later.save s.0 kept.save s.1 (ap (λ (c : ConsoleJob). c.save) here) in
+    let save : outcome new (any_save_plan later.backup later.save) ≡ Ok s.0 =
+    subst (λ (k : Backup). outcome new (any_save_plan k later.save) ≡ Ok s.0) (sym backup) saved in
     let changes : later.changes ≡ k.0 = ap (λ (c : ConsoleJob). c.changes) here in
     let keys = keys-again new later.changes later.keys (ap (λ (c : ConsoleJob). c.keys) here) in
     let read : outcome new (any_keys_plan later.changes later.keys) ≡ Ok k.0 = keys ∙ ap (λ cs. Ok cs) changes in
     outcome-then new (bios_plan later.bios) (after_bios later) b.0 (Ok inputs) bios
     (outcome-then new (any_cart_plan later.cart) (after_cart later b.0) c.0 (Ok inputs) cart
-    (outcome-then new (any_save_plan later.save) (after_save later b.0 c.0) s.0 (Ok inputs) save
-    (outcome-then new (any_keys_plan later.changes later.keys) (after_keys b.0 c.0 s.0) k.0 (Ok inputs) read
-    (outcome-done new (inputs_of b.0 c.0 s.0 k.0) ∙ ap (λ i. Ok i) is))))
+    (outcome-then new (any_save_plan later.backup later.save) (after_save later b.0 c.0) s.0 (Ok inputs) save
+    (outcome-then new (any_keys_plan later.changes later.keys) (after_keys later.backup b.0 c.0 s.0) k.0 (Ok inputs) read
+    (outcome-done new (inputs_of later.backup b.0 c.0 s.0 k.0)
+    ∙ ap (λ i. Ok i) (ap (λ kind. inputs_of kind b.0 c.0 s.0 k.0) backup ∙ is)))))
 
 -- ---- consoles
 
@@ -228,6 +233,21 @@ consoles-on (c ∷ consoles) (l ∷ later) (i ∷ inputs) (o ∷ outs) read long
     let rest = consoles-on consoles later inputs outs (omega (arith, read)) (omega (arith, long)) (tail-is _ _ _ _ said) in
     rw (first, rest) refl
 
+-- and their backups are the same
+consoles-kept : (consoles later : List ConsoleJob) (inputs : List ConsoleInputs) (outs : List (PerKind (Option OutLine)))
+    → length consoles ≡ length inputs → length outs ≡ length consoles → AreSaid consoles inputs outs later
+    → map backup_of later ≡ map backup_of consoles
+unfolding filled_consoles with_outputs
+consoles-kept [] [] inputs outs read long said = refl
+consoles-kept [] (l ∷ later) inputs outs read long said = absurd cc
+consoles-kept (c ∷ consoles) later [] outs read long said = absurd (omega (arith, read))
+consoles-kept (c ∷ consoles) later (i ∷ inputs) [] read long said = absurd (omega (arith, long))
+consoles-kept (c ∷ consoles) [] (i ∷ inputs) (o ∷ outs) read long said = absurd cc
+consoles-kept (c ∷ consoles) (l ∷ later) (i ∷ inputs) (o ∷ outs) read long said =
+    let first : l.backup ≡ c.backup = ap (λ (c : ConsoleJob). c.backup) (head-is _ _ _ _ said) in
+    let rest = consoles-kept consoles later inputs outs (omega (arith, read)) (omega (arith, long)) (tail-is _ _ _ _ said) in
+    rw (first, rest) refl
+
 -- ---- the job of a log is sound
 
 pub with_outputs-sound : (consoles : List ConsoleJob) (outs : List (PerKind (Option OutLine))) → All IsConsole consoles
@@ -309,8 +329,9 @@ console-said console later inputs outs said =
     ap (λ (c : ConsoleJob). with_digest c.bios (Some inputs.digests.bios)) said in
     let cart = stated-again console.cart later.cart inputs.digests.cart (ap (λ (c : ConsoleJob). c.cart) said) in
     let save = stated-again console.save later.save inputs.digests.save (ap (λ (c : ConsoleJob). c.save) said) in
+    let backup : later.backup ≡ console.backup = ap (λ (c : ConsoleJob). c.backup) said in
     let off : later.off ≡ console.off = ap (λ (c : ConsoleJob). c.off) said in
-    rw (bios, cart, save, off) refl
+    rw (bios, cart, save, backup, off) refl
 
 consoles-said : (consoles later : List ConsoleJob) (inputs : List ConsoleInputs) (outs : List (PerKind (Option OutLine)))
     → AreSaid consoles inputs outs later
@@ -375,6 +396,7 @@ replayed old new job inputs outs sound long right h kept =
       cycles = cycles;
       delays = delays;
       offs = consoles-on job.consoles log.again.consoles inputs outs (zip-long job.consoles inputs read) long said;
+      backups = consoles-kept job.consoles log.again.consoles inputs outs (zip-long job.consoles inputs read) long said;
       asked = consoles-asked job.consoles log.again.consoles inputs outs (zip-long job.consoles inputs read) long said;
       passes = gives-each new log.again.consoles [] inputs
           (consoles-again old new job.consoles log.again.consoles inputs outs sound.each long kept has said);

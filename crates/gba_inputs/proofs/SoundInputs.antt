@@ -13,6 +13,7 @@ use Rattle.gba_command.specs.Reading.{GoesTo}
 use Rattle.gba_command.specs.Views.{end_of}
 use Rattle.gba_command.specs.declared.refusal.Refusal.{Refusal}
 use Rattle.gba_store.specs.declared.outside.ReadError.{ReadError}
+use Rattle.gba_image.specs.declared.backup.Backup.{Backup}
 use Rattle.gba_image.specs.declared.error.ImageError.{ImageError}
 use Rattle.gba_joblog.specs.Kinds.{JobError}
 use Rattle.gba_text.proofs.Steps.{ok-is}
@@ -81,10 +82,10 @@ any_cart-sound : (named : Option NamedFile) (image : Option DigestedImage) → C
 any_cart-sound None image h = any-none cart_form image h
 any_cart-sound (Some named) image h = any-found cart_form named image h
 
-any_save-sound : (named : Option NamedFile) (image : Option DigestedImage) → ComesTo (any_save_plan named) image
-    → IsAnyImage save_form named image
-any_save-sound None image h = any-none save_form image h
-any_save-sound (Some named) image h = any-found save_form named image h
+any_save-sound : (backup : Backup) (named : Option NamedFile) (image : Option DigestedImage)
+    → ComesTo (any_save_plan backup named) image → IsAnyImage (save_form backup) named image
+any_save-sound backup None image h = any-none (save_form backup) image h
+any_save-sound backup (Some named) image h = any-found (save_form backup) named image h
 
 judged-keys : (named : NamedFile) (bytes : List ℕ) (r : Result (List KeyChange) JobError) (changes : List KeyChange)
     → keys_or_fault named bytes r ≡ Ok changes → r ≡ Ok changes
@@ -104,16 +105,17 @@ console-sound : (console : ConsoleJob) (inputs : ConsoleInputs) → IsConsole co
 console-sound console inputs sound h =
     let b = comes-bind (bios_plan console.bios) (after_bios console) inputs h in
     let c = comes-bind (any_cart_plan console.cart) (after_cart console b.0) inputs b.2 in
-    let s = comes-bind (any_save_plan console.save) (after_save console b.0 c.0) inputs c.2 in
-    let k = comes-bind (any_keys_plan console.changes console.keys) (after_keys b.0 c.0 s.0) inputs s.2 in
-    let is = comes-done (inputs_of b.0 c.0 s.0 k.0) inputs k.2 in
+    let s = comes-bind (any_save_plan console.backup console.save) (after_save console b.0 c.0) inputs c.2 in
+    let k = comes-bind (any_keys_plan console.changes console.keys) (after_keys console.backup b.0 c.0 s.0) inputs s.2 in
+    let is = comes-done (inputs_of console.backup b.0 c.0 s.0 k.0) inputs k.2 in
     let bios = image-sound bios_form console.bios b.0 b.1 in
     let cart = any_cart-sound console.cart c.0 c.1 in
-    let save = any_save-sound console.save s.0 s.1 in
+    let save = any_save-sound console.backup console.save s.0 s.1 in
     rw (← is) (record {
       bios = bios.passes;
       cart = cart.passes;
       save = save.passes;
+      backup = refl;
       has_cart = cart.has;
       has_save = save.has;
       digests = rw (ap digest_of bios.is, cart.digest, save.digest) refl;

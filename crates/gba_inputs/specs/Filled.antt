@@ -24,6 +24,7 @@ filled_with console digests changes = record {
   save = any_with_digest console.save digests.save;
   keys = None;
   changes = changes;
+  backup = console.backup;
   off = console.off;
   outs = console.outs;
 }

@@ -4,7 +4,9 @@ use Rattle.std.specs.Str.{bytes_eq}
 use Rattle.sha2.specs.Sha256.{sha256}
 use Rattle.gba_command.specs.Cause.{Cause, Job, Image, Digest}
 use Rattle.gba_command.specs.Plan.{Plan, Done, bind, each, file, judgement}
+use Rattle.gba_image.specs.Backups.{backup_length}
 use Rattle.gba_image.specs.Checks.{bios_fault, cartridge_fault, longest_cartridge, save_fault}
+use Rattle.gba_image.specs.declared.backup.Backup.{Backup}
 use Rattle.gba_image.specs.declared.error.ImageError.{ImageError}
 use Rattle.gba_image.specs.declared.error.ImageError.TheVariants.{BiosLength, TooLong, SaveLength}
 use Rattle.gba_joblog.specs.Kinds.{JobError}
@@ -40,8 +42,9 @@ bios_form = record { most = 16384; long = BiosLength; fault = bios_fault }
 abbrev pub cart_form : ImageForm
 cart_form = record { most = longest_cartridge; long = TooLong; fault = cartridge_fault }
 
-abbrev pub save_form : ImageForm
-save_form = record { most = 32768; long = SaveLength; fault = save_fault }
+-- the bytes of a save are as many as its backup has
+abbrev pub save_form : Backup → ImageForm
+save_form backup = record { most = backup_length backup; long = SaveLength; fault = λ bytes. save_fault bytes backup }
 
 -- an image is checked, and then its digest is compared
 abbrev pub unless_fault : NamedFile → List ℕ → Option ImageError → Result DigestedImage Cause
@@ -63,8 +66,8 @@ bios_plan named = image_plan bios_form named
 abbrev pub cart_plan : NamedFile → Plan DigestedImage
 cart_plan named = image_plan cart_form named
 
-abbrev pub save_plan : NamedFile → Plan DigestedImage
-save_plan named = image_plan save_form named
+abbrev pub save_plan : Backup → NamedFile → Plan DigestedImage
+save_plan backup named = image_plan (save_form backup) named
 
 -- a cartridge and a save are there or not
 abbrev pub found : DigestedImage → Plan (Option DigestedImage)
@@ -77,8 +80,8 @@ any_image_plan form (Some named) = bind (image_plan form named) found
 abbrev pub any_cart_plan : Option NamedFile → Plan (Option DigestedImage)
 any_cart_plan named = any_image_plan cart_form named
 
-abbrev pub any_save_plan : Option NamedFile → Plan (Option DigestedImage)
-any_save_plan named = any_image_plan save_form named
+abbrev pub any_save_plan : Backup → Option NamedFile → Plan (Option DigestedImage)
+any_save_plan backup named = any_image_plan (save_form backup) named
 
 -- The changes of a console's keys: those that the job says, or those of its key file, which is read, judged and compared.
 abbrev pub keys_or_fault : NamedFile → List ℕ → Result (List KeyChange) JobError → Result (List KeyChange) Cause
@@ -104,22 +107,28 @@ image_of image = image.image
 abbrev pub digest_of : DigestedImage → List ℕ
 digest_of image = image.digest
 
-abbrev pub inputs_of : DigestedImage → Option DigestedImage → Option DigestedImage → List KeyChange → ConsoleInputs
-inputs_of bios cart save changes = record {
-  images = record { bios = image_of bios; cart = option_map image_of cart; save = option_map image_of save };
+abbrev pub inputs_of : Backup → DigestedImage → Option DigestedImage → Option DigestedImage → List KeyChange → ConsoleInputs
+inputs_of backup bios cart save changes = record {
+  images = record {
+    bios = image_of bios;
+    cart = option_map image_of cart;
+    save = option_map image_of save;
+    backup = backup;
+  };
   digests = record { bios = digest_of bios; cart = option_map digest_of cart; save = option_map digest_of save };
   changes = changes;
 }
 
 -- a console's inputs, in this order: the BIOS, the cartridge, the save, the changes of the keys
-abbrev pub after_keys : DigestedImage → Option DigestedImage → Option DigestedImage → List KeyChange → Plan ConsoleInputs
-after_keys bios cart save changes = Done (inputs_of bios cart save changes)
+abbrev pub after_keys : Backup → DigestedImage → Option DigestedImage → Option DigestedImage → List KeyChange → Plan ConsoleInputs
+after_keys backup bios cart save changes = Done (inputs_of backup bios cart save changes)
 
 abbrev pub after_save : ConsoleJob → DigestedImage → Option DigestedImage → Option DigestedImage → Plan ConsoleInputs
-after_save console bios cart save = bind (any_keys_plan console.changes console.keys) (after_keys bios cart save)
+after_save console bios cart save =
+    bind (any_keys_plan console.changes console.keys) (after_keys console.backup bios cart save)
 
 abbrev pub after_cart : ConsoleJob → DigestedImage → Option DigestedImage → Plan ConsoleInputs
-after_cart console bios cart = bind (any_save_plan console.save) (after_save console bios cart)
+after_cart console bios cart = bind (any_save_plan console.backup console.save) (after_save console bios cart)
 
 abbrev pub after_bios : ConsoleJob → DigestedImage → Plan ConsoleInputs
 after_bios console bios = bind (any_cart_plan console.cart) (after_cart console bios)

@@ -4,6 +4,7 @@ use Rattle.std.specs.List.{All, AllZip}
 use Rattle.sha2.specs.Sha256.{sha256}
 use Rattle.gba_command.specs.Plan.{outcome}
 use Rattle.gba_image.specs.Checks.{bios_fault, cartridge_fault, save_fault}
+use Rattle.gba_image.specs.declared.backup.Backup.{Backup}
 use Rattle.gba_image.specs.declared.error.ImageError.{ImageError}
 use Rattle.gba_image.specs.declared.images.ConsoleImages.{ConsoleImages}
 use Rattle.gba_joblog.specs.Language.{job_of}
@@ -31,11 +32,12 @@ digests_of images = record {
 }
 
 -- The inputs of a console: each image passes its check, and a cartridge and a save are there where the console names
--- them; the digests are those of the images; and the key changes are sound.
+-- them; the save has the bytes of the console's backup; the digests are those of the images; and the key changes are sound.
 pub record AreInputs (console : ConsoleJob) (inputs : ConsoleInputs) : Type 0 where
   pub bios : Passes bios_fault inputs.images.bios
   pub cart : IfSome inputs.images.cart (Passes cartridge_fault)
-  pub save : IfSome inputs.images.save (Passes save_fault)
+  pub save : IfSome inputs.images.save (Passes (λ bytes. save_fault bytes console.backup))
+  pub backup : inputs.images.backup ≡ console.backup
   pub has_cart : is_some inputs.images.cart ≡ is_some console.cart
   pub has_save : is_some inputs.images.save ≡ is_some console.save
   pub digests : inputs.digests ≡ digests_of inputs.images
@@ -75,15 +77,20 @@ asked_of console = console.outs
 abbrev pub off_of : ConsoleJob → ℕ
 off_of console = console.off
 
--- The log of a run is read as a job of as many cycles, the same delays, consoles that are off as long and these outputs. Over
--- these files every input of it passes its check and has the digest that the log states, and is the same; and its own log is
--- this log.
+-- what its cartridge keeps its saves in
+abbrev pub backup_of : ConsoleJob → Backup
+backup_of console = console.backup
+
+-- The log of a run is read as a job of as many cycles, the same delays, consoles that are off as long and keep their saves in the
+-- same, and these outputs. Over these files every input of it passes its check and has the digest that the log states, and is the
+-- same; and its own log is this log.
 pub record IsReplayed (files : Files) (job : WholeJob) (inputs : List ConsoleInputs) (outs : List (PerKind (Option OutLine))) : Type 0 where
   pub again : WholeJob
   pub read : job_of (log_text (log_job job inputs outs)) ≡ Ok again
   pub cycles : again.cycles ≡ job.cycles
   pub delays : again.delays ≡ job.delays
   pub offs : map off_of again.consoles ≡ map off_of job.consoles
+  pub backups : map backup_of again.consoles ≡ map backup_of job.consoles
   pub asked : map asked_of again.consoles ≡ outs
   pub passes : outcome files (inputs_plan again.consoles) ≡ Ok inputs
   pub own : log_text (log_job again inputs outs) ≡ log_text (log_job job inputs outs)

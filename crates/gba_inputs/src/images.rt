@@ -10,15 +10,13 @@ ghost use Rattle.gba_inputs.specs.Views.{digested_value};
 
 use crate::inputs::Digested;
 use gba_command::{Cause, Refusal, name_in_report, read_file};
-use gba_image::{Bios, Cartridge, ImageError, LONGEST_CARTRIDGE, Save};
+use gba_image::{Backup, Bios, Cartridge, ImageError, LONGEST_CARTRIDGE, Save};
 use gba_joblog::{FileLine, digest_of};
 use gba_store::Store;
 use std::alloc::Global;
 
-/// The most bytes of each image.
+/// The most bytes of a BIOS.
 const MOST_OF_BIOS: u64 = 16_384;
-
-const MOST_OF_SAVE: u64 = 32_768;
 
 /// A file's name, which has at most 200 bytes.
 pub(crate) fn name_of(file: &FileLine) -> &str
@@ -74,11 +72,11 @@ fn judge_cartridge(file: &FileLine, bytes: Vec<u8>) -> Result<Digested<Cartridge
     Ok(Digested { image, digest })
 }
 
-fn judge_save(file: &FileLine, bytes: Vec<u8>) -> Result<Digested<Save>, Refusal>
+fn judge_save(file: &FileLine, bytes: Vec<u8>, backup: Backup) -> Result<Digested<Save>, Refusal>
     requires { IsFile (file_value file.now) }
-    ensures { Agrees digested_value (accepted save_form (file_value file.now) bytes.items) result }
+    ensures { Agrees digested_value (accepted (save_form backup) (file_value file.now) bytes.items) result }
 {
-    let image = match Save::check(bytes) {
+    let image = match Save::check(bytes, backup) {
         Ok(image) => image,
         Err(error) => return Err(Refusal::Refused(Cause::Image(
             name_in_report(name_of(file)),
@@ -124,15 +122,16 @@ fn read_save<S: Store>(
     alloc: Global,
     store: &mut S,
     file: &FileLine,
+    backup: Backup,
 ) -> Result<Digested<Save>, Refusal>
     requires { IsFile (file_value file.now) }
-    ensures { GoesTo S.gives (save_plan (file_value file.now)) store.old
+    ensures { GoesTo S.gives (save_plan backup (file_value file.now)) store.old
         store.new (end_of digested_value result) }
 {
     let name = name_of(file);
     let long = Cause::Image(name_in_report(name), ImageError::SaveLength);
-    let bytes = read_file(alloc, store, name, MOST_OF_SAVE, long)?;
-    judge_save(file, bytes)
+    let bytes = read_file(alloc, store, name, backup.length() as u64, long)?;
+    judge_save(file, bytes, backup)
 }
 
 /// Reads the cartridge that a console may have.
@@ -154,19 +153,20 @@ pub(crate) fn read_any_cartridge<S: Store>(
     }
 }
 
-/// Reads the save that a console may have.
+/// Reads the save that a console may have, for what its cartridge keeps it in.
 pub(crate) fn read_any_save<S: Store>(
     alloc: Global,
     store: &mut S,
     file: &Option<FileLine>,
+    backup: Backup,
 ) -> Result<Option<Digested<Save>>, Refusal>
     requires { IfSome (option_map file_value file.now) IsFile }
-    ensures { GoesTo S.gives
-        (any_save_plan (option_map file_value file.now)) store.old store.new (end_of (option_map digested_value) result) }
+    ensures { GoesTo S.gives (any_save_plan backup (option_map file_value file.now)) store.old store.new
+        (end_of (option_map digested_value) result) }
 {
     match file {
         Some(file) => {
-            let save = read_save(alloc, store, file)?;
+            let save = read_save(alloc, store, file, backup)?;
             Ok(Some(save))
         }
         None => Ok(None),

@@ -15,20 +15,21 @@ use crate::images::{read_any_cartridge, read_any_save, read_bios};
 use crate::inputs::{Digested, ImageDigests, Inputs};
 use crate::keys::read_any_keys;
 use gba_command::Refusal;
-use gba_image::{Bios, Cartridge, ConsoleImages, Save};
+use gba_image::{Backup, Bios, Cartridge, ConsoleImages, Save};
 use gba_joblog::{JobConsole, KeyChange};
 use gba_store::Store;
 use std::alloc::Global;
 
 /// What was read for a console, in one.
 fn inputs_of(
+    backup: Backup,
     bios: Digested<Bios>,
     cart: Option<Digested<Cartridge>>,
     save: Option<Digested<Save>>,
     changes: Vec<KeyChange>,
 ) -> Inputs
     ensures { inputs_value result
-        ≡ inputs_of_all (digested_value bios) (option_map digested_value cart) (option_map digested_value save)
+        ≡ inputs_of_all backup (digested_value bios) (option_map digested_value cart) (option_map digested_value save)
         changes.items }
 {
     let bios_digest = bios.digest;
@@ -51,6 +52,7 @@ fn inputs_of(
             bios: bios.image,
             cart,
             save,
+            backup,
         },
         digests: ImageDigests {
             bios: bios_digest,
@@ -73,9 +75,9 @@ fn read_console<S: Store>(
 {
     let bios = read_bios(alloc, store, &console.bios)?;
     let cart = read_any_cartridge(alloc, store, &console.cart)?;
-    let save = read_any_save(alloc, store, &console.save)?;
+    let save = read_any_save(alloc, store, &console.save, console.backup)?;
     let changes = read_any_keys(alloc, store, console.changes.as_slice(), &console.keys)?;
-    Ok(inputs_of(bios, cart, save, changes))
+    Ok(inputs_of(console.backup, bios, cart, save, changes))
 }
 
 fn keep(all: &mut Vec<Inputs>, inputs: Inputs) -> Result<(), Refusal>

@@ -13,14 +13,14 @@ returns-in_err-save-in-Some g c =
     let gives = g.S.Store.gives in
     let p = err_from_is_err_and c.from_residual.result c.from_residual.ensures.1 in
     rw (p.1, p.2, c.in-Some.is)
-    (goes-stop gives (save_plan (file_value c.in-Some.file)) found _ _ _ c.in_err-save-in-Some.ensures)
+    (goes-stop gives (save_plan c.args.backup (file_value c.in-Some.file)) found _ _ _ c.in_err-save-in-Some.ensures)
 
 pub returns-in_ok-save-in-Some : goal.returns-in_ok-save-in-Some
 returns-in_ok-save-in-Some g c =
     let gives = g.S.Store.gives in
     let image = digested_value c.in_ok-save-in-Some.save in
     rw c.in-Some.is
-    (goes-then gives (save_plan (file_value c.in-Some.file)) found _ _ _ image _ c.in_ok-save-in-Some.ensures
+    (goes-then gives (save_plan c.args.backup (file_value c.in-Some.file)) found _ _ _ image _ c.in_ok-save-in-Some.ensures
     (goes-done gives (Some image) _ _ refl))
 
 pub returns-in-None : goal.returns-in-None
