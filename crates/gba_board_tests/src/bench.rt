@@ -1,7 +1,7 @@
 //! A board on a bench: calls on it, with what they need looked at first.
 
 use gba_bus::{Bus, Width};
-use gba_image::{Bios, ConsoleImages};
+use gba_image::{Backup, Bios, ConsoleImages};
 use gba_io::{Board, Counts, MemoryName, Room};
 use gba_ppu_reg::{Position, Reference};
 use gba_psg::Tone;
@@ -41,6 +41,7 @@ impl Bench {
             bios: bios_of(alloc, first)?,
             cart: None,
             save: None,
+            backup: Backup::Sram,
         };
         let Seat {
             player,

@@ -207,7 +207,7 @@ module _ (keeps : (d : Devices) → CyclePasses d) (acts : ActsPass) (passes : (
 
   pub counts-always : CountsAlways
   counts-always = record {
-    begins = λ player count round off bios cart save keys room. record {
+    begins = λ player count round off bios cart save backup keys room. record {
       made = record {
         sound = record { line = omega arith; dot = omega arith };
         drawn = refl;

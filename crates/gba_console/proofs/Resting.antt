@@ -2,6 +2,7 @@
 use Rattle.std.proofs.Common.{◌≡◌, ℕ, ◌+◌, ◌-◌, ◌*◌, ◌/◌, ◌%◌, ◌<◌, ◌≤◌, ◌^◌, List, [], ◌∷◌, refl, sym, ap, ◌∙◌, subst, arith, length}
 use Rattle.std.specs.Prelude.{Option}
 use Rattle.gba_devices.specs.State.{place_at_reset}
+use Rattle.gba_image.specs.declared.backup.Backup.{Backup}
 use Rattle.gba_io.specs.Base.{at_reset, begun_at, early_at}
 use Rattle.gba_io.specs.Board.{board_at_start, board_begun_at, board_emptied, board_from}
 use Rattle.gba_io.specs.Core.{Core, core_begun, core_learned, core_rested}
@@ -171,11 +172,11 @@ rest-forgets off until b rest =
     }) rest.words
 
 -- at reset
-pub reset-kept : (off was until : ℕ) (b : Board) (player count round : ℕ) (bios : List ℕ) (cart save : Option (List ℕ)) (room : Room)
-    → off ≤ 2 ^ 39 → was ≡ 0 → until ≤ 2 ^ 39 → player < count
-    → b ≡ board_begun_at (first_on off) until (board_at_start player count round bios cart save room) → IsKept off was b
-reset-kept off was until b player count round bios cart save room most first few seated e =
-    let start = board_begun_at (first_on off) until (board_at_start player count round bios cart save room) in
+pub reset-kept : (off was until : ℕ) (b : Board) (player count round : ℕ) (bios : List ℕ) (cart save : Option (List ℕ))
+    (backup : Backup) (room : Room) → off ≤ 2 ^ 39 → was ≡ 0 → until ≤ 2 ^ 39 → player < count
+    → b ≡ board_begun_at (first_on off) until (board_at_start player count round bios cart save backup room) → IsKept off was b
+reset-kept off was until b player count round bios cart save backup room most first few seated e =
+    let start = board_begun_at (first_on off) until (board_at_start player count round bios cart save backup room) in
     let rest : IsResting off start = record {
       begins = refl;
       ends = refl;

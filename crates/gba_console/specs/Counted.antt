@@ -1,5 +1,6 @@
 use Rattle.std.specs.Prelude.{ℕ, ◌≡◌, ◌*◌, true, List, Option, length}
 use Rattle.std.specs.List.{concat}
+use Rattle.gba_image.specs.declared.backup.Backup.{Backup}
 use Rattle.gba_io.specs.Drawing.{lines_drawn}
 use Rattle.gba_io.specs.Ended.{Ended}
 use Rattle.gba_io.specs.Made.{Made}
@@ -36,7 +37,7 @@ pub record KeepsKinds (before after : Machine) : Type 0 where
 
 -- So it is at reset, and so it stays in each step.
 pub record CountsAlways : Type 0 where
-  pub begins : (player count round off : ℕ) (bios : List ℕ) (cart save : Option (List ℕ)) (keys : List KeyState) (room : Room)
-      → Counts (reset player count round off bios cart save keys room)
+  pub begins : (player count round off : ℕ) (bios : List ℕ) (cart save : Option (List ℕ)) (backup : Backup)
+      (keys : List KeyState) (room : Room) → Counts (reset player count round off bios cart save backup keys room)
   pub steps : (dues : List Incoming) (m : Machine) → Counts m → Counts (stepped dues m)
   pub kinds : (dues : List Incoming) (m : Machine) → KeepsKinds m (stepped dues m)

@@ -10,6 +10,7 @@ use Rattle.link_node.specs.declared.delays.Delays.{Delays}
 use Rattle.link_node.specs.Delays.{hop_of}
 use Rattle.link_order.specs.Cut.{IsCable, opening}
 use Rattle.gba_console.specs.Alone.{console_kind}
+use Rattle.gba_image.specs.declared.backup.Backup.{Backup}
 use Rattle.gba_console.specs.Machine.{Machine, is_off, reset, without_limit}
 use Rattle.gba_console.specs.Step.{stepped}
 use Rattle.gba_console.specs.declared.keys.KeyState.{KeyState}
@@ -36,9 +37,10 @@ pub record IsAtReset (player count round : ℕ) (m : Machine) : Type 0 where
   pub bios : List ℕ
   pub cart : Option (List ℕ)
   pub save : Option (List ℕ)
+  pub backup : Backup
   pub keys : List KeyState
   pub room : Room
-  pub is : without_limit m ≡ without_limit (reset player count round off bios cart save keys room)
+  pub is : without_limit m ≡ without_limit (reset player count round off bios cart save backup keys room)
 
 -- Consoles at reset, with nothing sent, are a cut from which the laws speak.
 abbrev pub StartsLinked : Type 0

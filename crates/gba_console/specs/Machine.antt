@@ -1,6 +1,7 @@
 use Rattle.std.specs.Prelude.{ℕ, ◌+◌, ◌*◌, ◌/◌, Bool, List, Option, nat_lt}
 use Rattle.gba_psr.specs.RegisterFile.{reset_file}
 use Rattle.gba_io.specs.Base.{at_reset}
+use Rattle.gba_image.specs.declared.backup.Backup.{Backup}
 use Rattle.gba_io.specs.Board.{board_at_start, board_begun_at, board_emptied, board_from}
 use Rattle.gba_io.specs.declared.board.Board.{Board}
 use Rattle.gba_io.specs.declared.made.Room.{Room}
@@ -39,12 +40,12 @@ abbrev pub first_on : ℕ → ℕ
 first_on off = (off + 15) / 16 * 16
 
 -- a console at reset, from its player number, the number of consoles, the way from player 0 to player 1 and back, the clock below which it
--- is off, a BIOS, a cartridge, a save, the changes of its keys and what is to be kept of what it makes, which begins with
+-- is off, a BIOS, a cartridge, a save, what it is kept in, the changes of its keys and what is to be kept of what it makes, which begins with
 -- its first step
-abbrev pub reset : ℕ → ℕ → ℕ → ℕ → List ℕ → Option (List ℕ) → Option (List ℕ) → List KeyState → Room → Machine
-reset player count round off bios cart save keys room = record {
+abbrev pub reset : ℕ → ℕ → ℕ → ℕ → List ℕ → Option (List ℕ) → Option (List ℕ) → Backup → List KeyState → Room → Machine
+reset player count round off bios cart save backup keys room = record {
   registers = reset_file;
-  board = board_begun_at (first_on off) room.until (board_at_start player count round bios cart save room);
+  board = board_begun_at (first_on off) room.until (board_at_start player count round bios cart save backup room);
   keys = keys;
   off = off;
   was = 0;

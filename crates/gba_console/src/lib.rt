@@ -131,13 +131,14 @@ impl Console {
     ghost use Rattle.gba_console.specs.Run.{GoesAlone, news, run_to};
     ghost use Rattle.gba_console.specs.Step.{next, stepped, stepped_off, stepped_on, told, told_on};
     ghost use Rattle.gba_console.specs.Waiting.{IsPlain};
+    ghost use Rattle.gba_image.specs.Checks.{SaveFits};
     ghost use Rattle.gba_io.specs.Core.{core_is_calm, core_is_idle};
     ghost use Rattle.gba_serial.specs.Apart.{next_end};
     ghost use Rattle.link_node.specs.Due.{InOrder, IsDue};
 
     /// A console at reset, at clock 0, of a player below `count`, on a cable of 1 to 4 consoles whose signals take `round`
-    /// cycles from player 0 to player 1 and back, from 2 to 2,048, from its images and the changes of its keys, which are
-    /// dropped on refusal. Below the clock `off` it is off: no device moves, due signals only tell the modes of its peers, key
+    /// cycles from player 0 to player 1 and back, from 2 to 2,048, from its images, whose save was checked for their backup,
+    /// and the changes of its keys; they are dropped on refusal. Below the clock `off` it is off: no device moves, due signals only tell the modes of its peers, key
     /// changes are applied, and each step takes 16 cycles (this project's profile); 0 means from the start on. It takes the
     /// memory of its RAM, of the decoded instructions and of all that it keeps of what it makes in 2^24 cycles, and no more
     /// later: it runs up to `room.until`, at most 2^24, and on after a call of `forget`.
@@ -157,8 +158,9 @@ impl Console {
         requires most_round { round ≤ 2048 }
         requires off { off ≤ 2 ^ 39 }
         requires until { room.until ≤ 16777216 }
+        requires save { SaveFits images.save images.backup }
         ensures { IfOk result (λ console. console
-            ≡ reset player count round off images.bios images.cart images.save keys.items room) }
+            ≡ reset player count round off images.bios images.cart images.save images.backup keys.items room) }
     {
         let mut board = Board::new(alloc, player, count, round, images, room)?;
         board.begin_at(first_on(off), room.until);

@@ -1,8 +1,11 @@
 //! A console as the tests play it: each call is made where it may be made, and what it shows are numbers and lists.
 
+ghost use Rattle.std.specs.Prelude.{IsTrue};
+ghost use Rattle.gba_image.specs.Checks.{SaveFits};
+
 use gba_asm::assemble;
 use gba_console::{Console, KeyState};
-use gba_image::{Bios, Cartridge, ConsoleImages};
+use gba_image::{Backup, Bios, Cartridge, ConsoleImages};
 use gba_io::{Board, Counts, MemoryName, Room};
 use gba_serial::Transfer;
 use link_node::{Incoming, LinkMode, Node, Signal};
@@ -46,6 +49,7 @@ fn images_of(bios: Bios) -> ConsoleImages {
         bios,
         cart: None,
         save: None,
+        backup: Backup::Sram,
     }
 }
 
@@ -71,6 +75,16 @@ pub fn cartridge_of(alloc: Global, words: &[u32]) -> Result<Cartridge, Fail> {
     bytes[0xBD] = 0x51;
     add_words(&mut bytes, words)?;
     Ok(Cartridge::check(bytes).ok().ok_or("no cartridge")?)
+}
+
+/// Whether a save, where there is one, has the bytes of the images' backup.
+fn fits(images: &ConsoleImages) -> bool
+    ensures { IsTrue result → SaveFits images.now.save images.now.backup }
+{
+    match &images.save {
+        Some(save) => save.bytes().len() == images.backup.length(),
+        None => true,
+    }
 }
 
 /// A console that is played.
@@ -99,6 +113,9 @@ impl Play {
         }
         if room.until > 1 << 24 || off > 1 << 38 {
             return Err("a late clock")?;
+        }
+        if !fits(&images) {
+            return Err("another backup's save")?;
         }
         let keys = Vec::from_slice(alloc, keys)?;
         let round = 2 * delay;

@@ -12,7 +12,7 @@ use Rattle.gba_text.proofs.Spans.{first_of_all, rest_of_all}
 use Rattle.gba_command.specs.Words.{IsOut}
 use Rattle.link_node.specs.Delays.{all_delays}
 use Rattle.gba_joblog.proofs.Cables.{IsLink, delays-sound}
-use Rattle.gba_joblog.proofs.LogAgain.{old-again}
+use Rattle.gba_joblog.proofs.LogAgain.{IsOld, old-again}
 use Rattle.gba_joblog.proofs.LogLength.{old-short, old_text}
 use Rattle.gba_joblog.proofs.SoundChanges as changes
 use Rattle.gba_joblog.specs.Job.{ConsoleJob}
@@ -150,19 +150,18 @@ text-is cycles out =
     rw (console-text out 0, console-text out 1, console-text out 2, console-text out 3, append-nil (console_text out 3))
     refl
 
--- they are on from the start
-all-on : (out : List ℕ) → All (λ one. one.off ≡ 0) (consoles out)
-all-on out =
-    let IsOn : ConsoleJob → Type 0 = λ one. one.off ≡ 0 in
+-- they are on from the start, and save in SRAM
+all-old : (out : List ℕ) → All IsOld (consoles out)
+all-old out =
     let fourth : List ConsoleJob = console out 3 ∷ [] in
     let third : List ConsoleJob = console out 2 ∷ fourth in
     let second : List ConsoleJob = console out 1 ∷ third in
-    All-cons IsOn (console out 0) second refl (All-cons IsOn (console out 1) third refl
-    (All-cons IsOn (console out 2) fourth refl (All-cons IsOn (console out 3) [] refl (All-nil IsOn))))
+    All-cons IsOld (console out 0) second (refl, refl) (All-cons IsOld (console out 1) third (refl, refl)
+    (All-cons IsOld (console out 2) fourth (refl, refl) (All-cons IsOld (console out 3) [] (refl, refl) (All-nil IsOld))))
 
 pub job-read : (cycles : ℕ) (out : List ℕ) → 1 ≤ cycles → cycles ≤ 2 ^ 31 → IsOut out → IsReadAs cycles out
 job-read cycles out some few is =
-    let again = old-again cycles 512 (consoles out) some few (lit≤ tt) (lit≤ tt) (all-sound out is) (all-on out) (lit≤ tt) (lit≤ tt) in
+    let again = old-again cycles 512 (consoles out) some few (lit≤ tt) (lit≤ tt) (all-sound out is) (all-old out) (lit≤ tt) (lit≤ tt) in
     record {
       again = again.again;
       read = ap job_of (sym (text-is cycles out)) ∙ again.read;

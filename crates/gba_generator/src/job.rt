@@ -7,6 +7,7 @@ ghost use Rattle.gba_joblog.specs.Views.{console_value, job_value};
 ghost use Rattle.gba_generator.specs.Job.{job as job_of, job_text as job_text_of, console as console_of, console_text};
 
 use crate::names::bios_name;
+use gba_image::Backup;
 use gba_joblog::{FileLine, Job, JobConsole, OutKind, OutLine, PerKind};
 use link_node::Delays;
 use std::alloc::{AllocError, Global};
@@ -41,6 +42,7 @@ fn console(alloc: Global, out: &str, player: u64) -> Result<JobConsole, AllocErr
         save: None,
         keys: None,
         changes: Vec::new(alloc),
+        backup: Backup::Sram,
         off: 0,
         outs,
     })

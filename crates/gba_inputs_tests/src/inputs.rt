@@ -43,6 +43,9 @@ fn store_with(alloc: Global, failing: &[u64]) -> Result<MemoryStore, AllocError>
     files.push(zeros(alloc, "wrong", 192, &[(0xB2, 0x96), (0xBD, 0x52)])?)?;
     files.push(zeros(alloc, "save", 32_768, &[])?)?;
     files.push(zeros(alloc, "long", 32_769, &[])?)?;
+    files.push(zeros(alloc, "half", 65_536, &[])?)?;
+    files.push(zeros(alloc, "whole", 131_072, &[])?)?;
+    files.push(zeros(alloc, "longer", 131_073, &[])?)?;
     files.push(text_file(alloc, "keys", b"5 001\n7 3FF\n")?)?;
     files.push(text_file(alloc, "falls", b"5 001\n4 3FF\n")?)?;
     Ok(MemoryStore::new(files, Vec::from_slice(alloc, failing)?))
@@ -69,7 +72,7 @@ fn told(alloc: Global, end: &Result<Vec<Inputs>, Refusal>) -> Result<Vec<u8>, Al
 
 // How the reading of a job with these lines of consoles ends.
 fn ends(alloc: Global, lines: &[u8], failing: &[u64]) -> Result<Vec<u8>, AllocError> {
-    let mut text = Vec::from_slice(alloc, b"gbalink 1\ncycles 1\n")?;
+    let mut text = Vec::from_slice(alloc, b"gbalink 2\ncycles 1\n")?;
     text.extend_from_slice(lines)?;
     text.extend_from_slice(b"\nend\n")?;
     match Job::parse(alloc, &text) {
@@ -85,7 +88,7 @@ fn ends(alloc: Global, lines: &[u8], failing: &[u64]) -> Result<Vec<u8>, AllocEr
 }
 
 // Lines, the numbers of the reads that fail, and how the reading ends. The digests are those of `sha256sum`.
-static ENDS: [(&[u8], &[u64], &[u8]); 27] = [
+static ENDS: [(&[u8], &[u64], &[u8]); 35] = [
     (b"console 0\nbios bios", &[], b"read"),
     (
         b"console 0\nbios bios\nkeys keys\nsave save\ncart cart",
@@ -105,6 +108,46 @@ static ENDS: [(&[u8], &[u64], &[u8]); 27] = [
         b"console 0\nsave long\nbios bios",
         &[],
         b"image long SaveLength\n",
+    ),
+    (
+        b"console 0\nbios bios\nsave half",
+        &[],
+        b"image half SaveLength\n",
+    ),
+    (
+        b"console 0\nbios bios\nbackup flash64\nsave half",
+        &[],
+        b"read",
+    ),
+    (
+        b"console 0\nbios bios\nsave save\nbackup flash64",
+        &[],
+        b"image save SaveLength\n",
+    ),
+    (
+        b"console 0\nbios bios\nsave whole\nbackup flash64",
+        &[],
+        b"image whole SaveLength\n",
+    ),
+    (
+        b"console 0\nbios bios\nsave whole\nbackup flash128",
+        &[],
+        b"read",
+    ),
+    (
+        b"console 0\nbios bios\nsave half\nbackup flash128",
+        &[],
+        b"image half SaveLength\n",
+    ),
+    (
+        b"console 0\nbios bios\nsave longer\nbackup flash128",
+        &[],
+        b"image longer SaveLength\n",
+    ),
+    (
+        b"console 0\nbios bios\nbackup flash128",
+        &[],
+        b"read",
     ),
     (
         b"console 0\nkeys falls\nbios bios",

@@ -2,7 +2,7 @@
 use denote.Param.Send.{IsSend, IsSync, sendable}
 use Rattle.std.proofs.Crossing.{crosses}
 use Rattle.gba_devices.specs.contracts.devices.Devices as Devices
-use Rattle.gba_mem.specs.contracts.memory.Memory as Memory
+use Rattle.gba_mem.proofs.Crossing.{memory_send, memory_sync}
 use Rattle.gba_price_table.specs.contracts.table.PriceTable as PriceTable
 use Rattle.gba_screen.specs.contracts.screen.Screen as Screen
 use Rattle.gba_serial.specs.contracts.serial.Serial as Serial
@@ -10,12 +10,6 @@ use Rattle.gba_io.specs.contracts.board.Board as Board
 use Rattle.gba_io.specs.contracts.ended.Ended as Ended
 use Rattle.gba_io.specs.contracts.made.Made as Made
 use Rattle.gba_io.specs.contracts.parts.Core as Core
-
-memory_send : IsSend Memory.the_row
-memory_send = search (sendable, crosses) depth 20
-
-memory_sync : IsSync Memory.the_row
-memory_sync = search (sendable, crosses) depth 20
 
 screen_send : IsSend Screen.the_row
 screen_send = search (sendable, crosses, memory_send) depth 20

@@ -2,6 +2,7 @@ use Rattle.std.specs.Prelude.{◌≡◌, ℕ, zero, suc, false, ◌+◌, ◌*◌
 use Rattle.std.specs.List.{concat}
 use Rattle.gba_devices.specs.Cycles.{after_cycles, device_cycle, draws_line, makes_pair, makes_within}
 use Rattle.gba_devices.specs.Samples.{left_sample, right_sample}
+use Rattle.gba_image.specs.declared.backup.Backup.{Backup}
 use Rattle.gba_ppu_reg.specs.Position.{IsPosition}
 use Rattle.gba_io.specs.Base.{begun_at, early_at}
 use Rattle.gba_io.specs.Core.{Core, core_after, core_at_start, core_cycled}
@@ -14,11 +15,11 @@ use Rattle.gba_io.specs.declared.made.Room.{Room}
 
 -- A board: its core, which the processor sees as a bus, what it has made, and the transfers that ended.
 
--- a board at reset, from its player number, the number of consoles, the way from player 0 to player 1 and back, a BIOS, a cartridge and a
--- save
-abbrev pub board_at_start : ℕ → ℕ → ℕ → List ℕ → Option (List ℕ) → Option (List ℕ) → Room → Board
-board_at_start player count round bios cart save room = record {
-  core = core_at_start player count round bios cart save;
+-- a board at reset, from its player number, the number of consoles, the way from player 0 to player 1 and back, a BIOS, a cartridge, a
+-- save and what it is kept in
+abbrev pub board_at_start : ℕ → ℕ → ℕ → List ℕ → Option (List ℕ) → Option (List ℕ) → Backup → Room → Board
+board_at_start player count round bios cart save backup room = record {
+  core = core_at_start player count round bios cart save backup;
   made = none_made room;
   ended = none_ended room;
 }

@@ -2,6 +2,9 @@ use Rattle.std.specs.Prelude.{ℕ, Bool, not, ◌&&◌, List, [], Option, if◌t
 use Rattle.gba_devices.specs.Registers.{half_stored, keyed}
 use Rattle.gba_devices.specs.State.{Devices, begun, devices_at_reset, is_calm, is_idle, rested, woken}
 use Rattle.gba_devices.specs.Cycles.{after_cycles, device_cycle}
+use Rattle.gba_image.specs.Backups.{backup_length}
+use Rattle.gba_image.specs.declared.backup.Backup.{Backup}
+use Rattle.gba_mem.specs.Backups.{backup_bytes, backup_of}
 use Rattle.gba_mem.specs.Memories.{Memories, at_start}
 use Rattle.gba_io.specs.SerialRegisters.{is_serial}
 use Rattle.gba_serial.specs.Registers.{serial_stored}
@@ -9,7 +12,8 @@ use Rattle.gba_serial.specs.SerialUnit.{SerialUnit, serial_at_reset}
 use Rattle.gba_serial.specs.Take.{learned}
 use Rattle.gba_serial.specs.Tell.{has_news, silent}
 use Rattle.gba_io.specs.declared.parts.MemoryName.{MemoryName}
-use Rattle.gba_io.specs.declared.parts.MemoryName.TheVariants.{Io, Wram, Iwram, Palette, Vram, Oam, Backup}
+use Rattle.gba_io.specs.declared.parts.MemoryName.TheVariants.{Io, Wram, Iwram, Palette, Vram, Oam}
+use Rattle.gba_io.specs.declared.parts.MemoryName.TheVariants as named
 use Rattle.link_node.specs.declared.signal.Incoming.{Incoming}
 
 -- The core of a board: the memories, the devices and the serial unit, and the lines that are drawn of the present frame of the
@@ -20,11 +24,11 @@ pub record Core : Type 0 where
   pub serial : SerialUnit
   pub lines : List (List ℕ)
 
--- a core at reset, from its player number, the number of consoles, the way from player 0 to player 1 and back, a BIOS, a cartridge and a
--- save
-abbrev pub core_at_start : ℕ → ℕ → ℕ → List ℕ → Option (List ℕ) → Option (List ℕ) → Core
-core_at_start player count round bios cart save = record {
-  memory = at_start bios cart save;
+-- a core at reset, from its player number, the number of consoles, the way from player 0 to player 1 and back, a BIOS, a cartridge, a
+-- save and what it is kept in
+abbrev pub core_at_start : ℕ → ℕ → ℕ → List ℕ → Option (List ℕ) → Option (List ℕ) → Backup → Core
+core_at_start player count round bios cart save backup = record {
+  memory = at_start bios cart save backup;
   devices = devices_at_reset;
   serial = serial_at_reset player count round;
   lines = [];
@@ -74,14 +78,14 @@ memory_named Iwram m = m.inner
 memory_named Palette m = m.palette
 memory_named Vram m = m.vram
 memory_named Oam m = m.oam
-memory_named Backup m = m.sram
+memory_named named.Backup m = backup_bytes m.backup
 
 -- how many bytes it has
-abbrev pub length_named : MemoryName → ℕ
-length_named Io = 0
-length_named Wram = 0x40000
-length_named Iwram = 0x8000
-length_named Palette = 0x400
-length_named Vram = 0x18000
-length_named Oam = 0x400
-length_named Backup = 0x8000
+abbrev pub length_named : MemoryName → Memories → ℕ
+length_named Io m = 0
+length_named Wram m = 0x40000
+length_named Iwram m = 0x8000
+length_named Palette m = 0x400
+length_named Vram m = 0x18000
+length_named Oam m = 0x400
+length_named named.Backup m = backup_length (backup_of m.backup)

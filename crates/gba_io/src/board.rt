@@ -19,12 +19,13 @@ impl Board {
     ghost use Rattle.std.specs.Prelude.{◌≡◌, ℕ, ◌+◌, ◌*◌, ◌<◌, ◌≤◌, ◌^◌, true, false, IfOk};
     ghost use Rattle.gba_devices.specs.Cycles.{draws_line};
     ghost use Rattle.gba_devices.specs.State.{is_idle};
+    ghost use Rattle.gba_image.specs.Checks.{SaveFits};
     ghost use Rattle.gba_io.specs.Base.{IsBase};
     ghost use Rattle.gba_io.specs.Board.{HasRoom, IsInStep, base_of, board_after, board_at_start, board_begun_at, board_cycle, board_emptied};
     ghost use Rattle.gba_io.specs.Board.{board_drawn, board_from, core_in_cycle};
 
     /// A board at reset, at clock 0, of a player below `count`, on a cable of 1 to 4 consoles whose signals take `round`
-    /// cycles, from 1 to 1,024. Its images are dropped on refusal. The room for what it makes in 2^24 cycles and for the
+    /// cycles, from 1 to 1,024. Its save was checked for its backup; its images are dropped on refusal. The room for what it makes in 2^24 cycles and for the
     /// transfers that end in them is taken now.
     pub fn new(
         alloc: Global,
@@ -39,7 +40,9 @@ impl Board {
         requires least_round { 2 ≤ round }
         requires most_round { round ≤ 2048 }
         requires until { room.until ≤ 16777216 }
-        ensures { IfOk result (λ board. board ≡ board_at_start player count round images.bios images.cart images.save room) }
+        requires save { SaveFits images.save images.backup }
+        ensures { IfOk result (λ board. board
+            ≡ board_at_start player count round images.bios images.cart images.save images.backup room) }
     {
         Ok(Board {
             core: Core::new(alloc, player, count, round, images)?,

@@ -25,7 +25,7 @@ use link_node::Incoming;
 use std::alloc::Global;
 use std::marker::Model;
 
-/// A memory by its name in the state file. `Backup` is the SRAM, and `Io` the I/O registers, which stand in no memory.
+/// A memory by its name in the state file. `Backup` is the SRAM or the flash, and `Io` the I/O registers, which stand in no memory.
 #[derive(Clone, Copy, Debug, PartialEq, Eq)]
 pub enum MemoryName {
     Io,
@@ -95,6 +95,7 @@ impl Core {
     ghost use Rattle.gba_devices.specs.Cycles.{after_cycles, draws_line, makes_pair, makes_within};
     ghost use Rattle.gba_devices.specs.Samples.{left_sample, right_sample};
     ghost use Rattle.gba_devices.specs.State.{is_idle};
+    ghost use Rattle.gba_image.specs.Checks.{SaveFits};
     ghost use Rattle.gba_irq.specs.Interrupts.{is_pending};
     ghost use Rattle.gba_ppu_reg.specs.Position.{IsPosition};
     ghost use Rattle.gba_ppu_reg.specs.Registers.{reference_of};
@@ -120,7 +121,9 @@ impl Core {
         requires count { count ≤ 4 }
         requires least_round { 2 ≤ round }
         requires most_round { round ≤ 2048 }
-        ensures { IfOk result (λ core. core ≡ core_at_start player count round images.bios images.cart images.save) }
+        requires save { SaveFits images.save images.backup }
+        ensures { IfOk result (λ core. core
+            ≡ core_at_start player count round images.bios images.cart images.save images.backup) }
     {
         let waits = WaitControl { value: 0 };
         let devices = Devices::new();
@@ -457,7 +460,7 @@ impl Core {
     /// The bytes of a memory from its front up, and none of the I/O registers.
     pub fn memory(&self, name: MemoryName) -> &[u8]
         ensures bytes { result.now ≡ memory_named name self.now.memory }
-        ensures length { length result.now ≡ length_named name }
+        ensures length { length result.now ≡ length_named name self.now.memory }
     {
         match name {
             MemoryName::Io => &[],
@@ -466,7 +469,7 @@ impl Core {
             MemoryName::Palette => self.screen.memory().palette(),
             MemoryName::Vram => self.screen.memory().vram(),
             MemoryName::Oam => self.screen.memory().oam(),
-            MemoryName::Backup => self.screen.memory().sram(),
+            MemoryName::Backup => self.screen.memory().backup_bytes(),
         }
     }
 }

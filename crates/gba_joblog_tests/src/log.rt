@@ -18,7 +18,7 @@ fn log_of(alloc: Global, text: &[u8]) -> Result<Vec<u8>, AllocError> {
     }
 }
 
-static LOGS: [(&[u8], &[u8]); 8] = [
+static LOGS: [(&[u8], &[u8]); 10] = [
     (
         FIRST,
         b"gbalink 2\ncycles 1\nlink 0 1 512\nlink 1 0 512\nconsole 0\nbios b\nout state\nend\n",
@@ -49,6 +49,15 @@ static LOGS: [(&[u8], &[u8]); 8] = [
     (
         b"gbalink 2\ncycles 4\nlink 2 1 6\nlink 2 0 5\nlink 1 2 4\nlink 1 0 3\nlink 0 2 2\nlink 0 1 1\nconsole 0\nbios b\nconsole 1\nbios b\nconsole 2\ncart c\nbios b\noff 16\nend\n",
         b"gbalink 2\ncycles 4\nlink 0 1 1\nlink 0 2 2\nlink 1 0 3\nlink 1 2 4\nlink 2 0 5\nlink 2 1 6\nconsole 0\nbios b\nconsole 1\nbios b\nconsole 2\nbios b\ncart c\noff 16\nend\n",
+    ),
+    // what saves are kept in, after the save or what stands before it; SRAM has no line
+    (
+        b"gbalink 2\ncycles 4\nconsole 0\nbackup flash128\noff 1\nsave s\nbios b\ncart c\nconsole 1\nkey 1 001\nbios b\nbackup flash64\nend\n",
+        b"gbalink 2\ncycles 4\nlink 0 1 512\nlink 1 0 512\nconsole 0\nbios b\ncart c\nsave s\nbackup flash128\noff 1\nconsole 1\nbios b\nbackup flash64\nkey 1 001\nend\n",
+    ),
+    (
+        b"gbalink 2\ncycles 4\nconsole 0\nbackup sram\nsave s\nbios b\nconsole 1\nbios b\ncart c\nbackup flash64\nout save\nend\n",
+        b"gbalink 2\ncycles 4\nlink 0 1 512\nlink 1 0 512\nconsole 0\nbios b\nsave s\nconsole 1\nbios b\ncart c\nbackup flash64\nout save\nend\n",
     ),
     // a job of version 1 without a line of a delay
     (

@@ -1,9 +1,10 @@
 //! Jobs that are read.
 
 use crate::helpers::{FIRST, HEAD, NOTHING, Named, OF_NOTHING, is_file, is_named, job_of, joined};
+use gba_image::Backup;
 use gba_joblog::{
-    FileLine, Job, JobConsole, OutKind, OutLine, PAIRS, Pair, PerKind, digest_of, digits_of,
-    players_for,
+    FileLine, Job, JobConsole, OutKind, OutLine, PAIRS, Pair, PerKind, backup_word, digest_of,
+    digits_of, players_for,
 };
 use link_node::Delays;
 use std::alloc::{AllocError, Global};
@@ -342,6 +343,42 @@ fn consoles_that_are_off_are_read(rt: HostRuntime) -> Result<(), Fail> {
     let job = job_of(rt.alloc(), text).ok_or("no job")?;
     assert_eq!(rt; job.cycles, 274_877_906_944);
     assert!(rt; are_off(&job, &[1, 274_877_906_943, 0]));
+    Ok(())
+}
+
+/// What the cartridges of a job's consoles keep their saves in.
+fn keep_in(job: &Job, want: &[Backup]) -> bool {
+    job.consoles.len() == want.len()
+        && job
+            .consoles
+            .iter()
+            .zip(want)
+            .all(|(console, backup)| console.backup == *backup)
+}
+
+// Each kind of backup, anywhere among the lines of its console, and SRAM where no line says one.
+#[test]
+fn backups_are_read(rt: HostRuntime) -> Result<(), Fail> {
+    let text: &[u8] =
+        b"gbalink 2\ncycles 1\nconsole 0\nbackup flash64\nbios b\nconsole 1\nbios b\nconsole 2\nbios b\nkey 3 001\nbackup flash128\nconsole 3\nbackup sram\nbios b\nend\n";
+    let job = job_of(rt.alloc(), text).ok_or("no job")?;
+    let want = [
+        Backup::Flash64,
+        Backup::Sram,
+        Backup::Flash128,
+        Backup::Sram,
+    ];
+    assert!(rt; keep_in(&job, &want));
+    let old = b"gbalink 1\ncycles 1\nconsole 0\nbios b\nsave s\nend\n";
+    let job = job_of(rt.alloc(), old).ok_or("no job")?;
+    assert!(rt; keep_in(&job, &[Backup::Sram]));
+    for (backup, word) in [
+        (Backup::Sram, "sram"),
+        (Backup::Flash64, "flash64"),
+        (Backup::Flash128, "flash128"),
+    ] {
+        assert_eq!(rt; backup_word(backup), word);
+    }
     Ok(())
 }
 

@@ -260,9 +260,30 @@ static DELAYS: [(&[u8], u64, JobKind); 15] = [
 ];
 
 // The lines that version 2 added, and its limits; in version 1 they are no lines, and its limits stay.
-static OF_VERSION_2: [(&[u8], u64, JobKind); 39] = [
+static OF_VERSION_2: [(&[u8], u64, JobKind); 52] = [
     (b"link 0 1 1", 1, JobKind::Word),
     (b"off 1", 1, JobKind::Word),
+    (b"backup sram", 1, JobKind::Word),
+    (b"gbalink 1\ncycles 1\nconsole 0\nbackup sram", 4, JobKind::Word),
+    (b"gbalink 2\nbackup flash64", 2, JobKind::Order),
+    (b"gbalink 2\ncycles 1\nbackup eeprom", 3, JobKind::Order),
+    (b"gbalink 2\ncycles 1\nconsole 0\nBackup sram", 4, JobKind::Word),
+    (b"gbalink 2\ncycles 1\nconsole 0\nbackup", 4, JobKind::Missing),
+    (b"gbalink 2\ncycles 1\nconsole 0\nbackup flash", 4, JobKind::Word),
+    (b"gbalink 2\ncycles 1\nconsole 0\nbackup flash512", 4, JobKind::Word),
+    (b"gbalink 2\ncycles 1\nconsole 0\nbackup SRAM", 4, JobKind::Word),
+    (b"gbalink 2\ncycles 1\nconsole 0\nbackup none sram", 4, JobKind::Word),
+    (b"gbalink 2\ncycles 1\nconsole 0\nbackup sram sram", 4, JobKind::Extra),
+    (
+        b"gbalink 2\ncycles 1\nconsole 0\nbackup sram\nbackup x",
+        5,
+        JobKind::Repeated,
+    ),
+    (
+        b"gbalink 2\ncycles 1\nconsole 0\nbackup flash64\nbios b\nbackup flash64",
+        6,
+        JobKind::Repeated,
+    ),
     (b"gbalink 1\nlink 0 1 1", 2, JobKind::Word),
     (b"gbalink 1\ncycles 1\nconsole 0\noff 1", 4, JobKind::Word),
     (

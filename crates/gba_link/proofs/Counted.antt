@@ -79,7 +79,7 @@ module _ (always : CountsAlways) where
   start-keeps job player [] images many = tt
   start-keeps job player (c ∷ consoles) [] many = absurd (omega (arith, many))
   start-keeps job player (c ∷ consoles) (one ∷ images) many =
-      let begins : Counts (console_at job player c one) = always.begins player _ _ c.off one.bios one.cart one.save _ _ in (
+      let begins : Counts (console_at job player c one) = always.begins player _ _ c.off one.bios one.cart one.save one.backup _ _ in (
         record {
           counts = record {
             made = record {

@@ -13,6 +13,7 @@ are-inputs number player out = record {
   bios = bios-fine number player;
   cart = tt;
   save = tt;
+  backup = refl;
   has_cart = refl;
   has_save = refl;
   digests = refl;

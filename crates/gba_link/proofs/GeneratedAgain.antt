@@ -15,10 +15,12 @@ use Rattle.gba_generator.proofs.MadeJob.{job-read, job-sound, text-short}
 use Rattle.gba_generator.specs.Job.{bios_file, console, job, job_file, job_text}
 use Rattle.gba_generator.specs.Law.{IsReadAs}
 use Rattle.gba_generator.specs.Source.{bios}
+use Rattle.gba_image.specs.declared.backup.Backup.{Backup}
+use Rattle.gba_image.specs.declared.backup.Backup.TheVariants.{Sram}
 use Rattle.gba_image.specs.declared.error.ImageError.TheVariants.{BiosLength}
 use Rattle.gba_inputs.proofs.Replay.{Has, gives-each, image-unlined, ok-judged}
 use Rattle.gba_inputs.specs.Inputs.{ConsoleInputs, digested}
-use Rattle.gba_inputs.specs.InputsPlan.{accepted, after_bios, after_cart, after_keys, after_save, any_cart_plan, any_keys_plan, any_save_plan, bios_form, bios_plan, inputs_plan, judged_image}
+use Rattle.gba_inputs.specs.InputsPlan.{accepted, after_bios, after_cart, after_keys, after_save, any_cart_plan, any_keys_plan, any_save_plan, bios_form, bios_plan, inputs_of, inputs_plan, judged_image}
 use Rattle.gba_inputs.specs.Law.{AreInputs}
 use Rattle.gba_joblog.specs.Clash.{clash_of, console_clash, console_writes, inputs_clash, is_output, log_file, output_file, writes, writes_as}
 use Rattle.gba_joblog.specs.Job.{ConsoleJob, NamedFile, WholeJob}
@@ -146,6 +148,9 @@ module _ (made : List ℕ) (player : ℕ) (later : ConsoleJob) (like : IsLike la
   no-keys : later.keys ≡ None
   no-keys = none-named later.keys (ap (λ (c : ConsoleJob). c.keys) like)
 
+  in-sram : later.backup ≡ Sram
+  in-sram = ap (λ (c : ConsoleJob). c.backup) like
+
   no-changes : later.changes ≡ []
   no-changes = ap (λ (c : ConsoleJob). c.changes) like
 
@@ -178,17 +183,19 @@ module _ (made : List ℕ) (player : ℕ) (later : ConsoleJob) (like : IsLike la
       = image-unlined files bios_form later.bios named (ap (λ (c : ConsoleJob). c.bios) like) ∙ read in
       let cart : outcome files (any_cart_plan later.cart) ≡ Ok None
       = ap (λ (n : Option NamedFile). outcome files (any_cart_plan n)) no-cart ∙ outcome-done files None in
-      let save : outcome files (any_save_plan later.save) ≡ Ok None
-      = ap (λ (n : Option NamedFile). outcome files (any_save_plan n)) no-save ∙ outcome-done files None in
+      let save : outcome files (any_save_plan later.backup later.save) ≡ Ok None
+      = ap (λ (n : Option NamedFile). outcome files (any_save_plan later.backup n)) no-save ∙ outcome-done files None in
       let keys : outcome files (any_keys_plan later.changes later.keys) ≡ Ok []
       = ap (λ (n : Option NamedFile). outcome files (any_keys_plan later.changes n)) no-keys
       ∙ outcome-done files later.changes ∙ ap (λ (c : List KeyChange). Ok c) no-changes in
       let inputs : ConsoleInputs = bare_inputs image in
       outcome-then files (bios_plan later.bios) (after_bios later) (digested image) (Ok inputs) first
       (outcome-then files (any_cart_plan later.cart) (after_cart later (digested image)) None (Ok inputs) cart
-      (outcome-then files (any_save_plan later.save) (after_save later (digested image) None) None (Ok inputs) save
-      (outcome-then files (any_keys_plan later.changes later.keys) (after_keys (digested image) None None) [] (Ok inputs) keys
-      (outcome-done files inputs))))
+      (outcome-then files (any_save_plan later.backup later.save) (after_save later (digested image) None) None (Ok inputs) save
+      (outcome-then files (any_keys_plan later.changes later.keys) (after_keys later.backup (digested image) None None) [] (Ok inputs)
+      keys
+      (outcome-done files (inputs_of later.backup (digested image) None None [])
+      ∙ ap (λ (kind : Backup). Ok (inputs_of kind (digested image) None None [])) in-sram))))
 
 -- the same of all consoles
 abbrev Reads : Files → ConsoleJob → ConsoleInputs → Type 0

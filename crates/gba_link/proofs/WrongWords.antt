@@ -9,6 +9,7 @@ use Rattle.gba_command.specs.Reading.{GoesTo}
 use Rattle.gba_command.specs.Words.{Command, FileWords, RunWords, RunJob, Assemble, ListArm, ListThumb, Generate}
 use Rattle.gba_command.specs.Writing.{Run}
 use Rattle.gba_command.proofs.Plans.{Names, refused-named, refuses-alone}
+use Rattle.gba_image.specs.declared.backup.Backup.{Backup}
 use Rattle.gba_image.specs.declared.error.ImageError.{ImageError}
 use Rattle.gba_inputs.specs.Inputs.{ConsoleInputs, DigestedImage, digested}
 use Rattle.gba_inputs.specs.InputsPlan.{ImageForm, accepted, after_bios, after_cart, after_digest, after_keys, after_save, any_cart_plan, any_keys_plan, any_save_plan, bios_form, bios_plan, cart_form, cart_plan, compared_with, console_plan, found, image_plan, key_file_plan, keys_or_fault, keys_or_refusal, save_form, save_plan, unless_fault}
@@ -75,12 +76,12 @@ any-cart-apart (Some file) following rest h =
     image-apart cart_form file (λ x. following (Some x)) (λ x k. rest (Some x) k)
     (names-together (cart_plan file) found following h)
 
-any-save-apart : {Y : Type 0} (file : Option NamedFile) (following : Option DigestedImage → Plan Y)
-    → ((x : Option DigestedImage) → Names NoCommand (following x) → ⊥) → Names NoCommand (bind (any_save_plan file) following) → ⊥
-any-save-apart None following rest h = rest None h
-any-save-apart (Some file) following rest h =
-    image-apart save_form file (λ x. following (Some x)) (λ x k. rest (Some x) k)
-    (names-together (save_plan file) found following h)
+any-save-apart : {Y : Type 0} (backup : Backup) (file : Option NamedFile) (following : Option DigestedImage → Plan Y)
+    → ((x : Option DigestedImage) → Names NoCommand (following x) → ⊥) → Names NoCommand (bind (any_save_plan backup file) following) → ⊥
+any-save-apart backup None following rest h = rest None h
+any-save-apart backup (Some file) following rest h =
+    image-apart (save_form backup) file (λ x. following (Some x)) (λ x k. rest (Some x) k)
+    (names-together (save_plan backup file) found following h)
 
 keys-not-words : (file : NamedFile) (bytes : List ℕ) (said : Result (List KeyChange) JobError)
     → keys_or_fault file bytes said ≡ Err NoCommand → ⊥
@@ -105,13 +106,13 @@ console-apart : {Y : Type 0} (console : ConsoleJob) (following : ConsoleInputs �
 console-apart console following rest h =
     let at-end : (bios : DigestedImage) (cart save : Option DigestedImage)
     → Names NoCommand (bind (after_save console bios cart save) following) → ⊥ = λ bios cart save k.
-    any-keys-apart console.changes console.keys (λ changes. bind (after_keys bios cart save changes) following)
+    any-keys-apart console.changes console.keys (λ changes. bind (after_keys console.backup bios cart save changes) following)
     (λ changes j. rest _ j)
-    (names-together (any_keys_plan console.changes console.keys) (after_keys bios cart save) following k) in
+    (names-together (any_keys_plan console.changes console.keys) (after_keys console.backup bios cart save) following k) in
     let at-save : (bios : DigestedImage) (cart : Option DigestedImage)
     → Names NoCommand (bind (after_cart console bios cart) following) → ⊥ = λ bios cart k.
-    any-save-apart console.save (λ save. bind (after_save console bios cart save) following) (at-end bios cart)
-    (names-together (any_save_plan console.save) (after_save console bios cart) following k) in
+    any-save-apart console.backup console.save (λ save. bind (after_save console bios cart save) following) (at-end bios cart)
+    (names-together (any_save_plan console.backup console.save) (after_save console bios cart) following k) in
     let at-cart : (bios : DigestedImage) → Names NoCommand (bind (after_bios console bios) following) → ⊥ = λ bios k.
     any-cart-apart console.cart (λ cart. bind (after_cart console bios cart) following) (at-save bios)
     (names-together (any_cart_plan console.cart) (after_cart console bios) following k) in

@@ -4,6 +4,7 @@ use Rattle.gba_command.specs.Words.{GenerateWords}
 use Rattle.gba_command.specs.Writing.{Output, Run}
 use Rattle.gba_generator.specs.Job.{bios_file, job, job_file, job_text}
 use Rattle.gba_generator.specs.Source.{bios}
+use Rattle.gba_image.specs.declared.backup.Backup.TheVariants.{Sram}
 use Rattle.gba_image.specs.declared.images.ConsoleImages.{ConsoleImages}
 use Rattle.gba_inputs.specs.Inputs.{ConsoleInputs}
 use Rattle.gba_inputs.specs.Law.{digests_of}
@@ -25,7 +26,7 @@ made_files words =
 
 -- a console has its BIOS alone, and no key is pressed
 abbrev pub bare_images : List ℕ → ConsoleImages
-bare_images image = record { bios = image; cart = None; save = None }
+bare_images image = record { bios = image; cart = None; save = None; backup = Sram }
 
 abbrev pub bare_inputs : List ℕ → ConsoleInputs
 bare_inputs image = record { images = bare_images image; digests = digests_of (bare_images image); changes = [] }

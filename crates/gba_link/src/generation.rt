@@ -15,7 +15,7 @@ use crate::run::prepare_inputs;
 use crate::work::Work;
 use gba_command::{GenerateWords, OutputFile, Refusal};
 use gba_generator::{bios_name, job_name, job_text, make_bios, make_job};
-use gba_image::{Bios, ConsoleImages};
+use gba_image::{Backup, Bios, ConsoleImages};
 use gba_inputs::{ImageDigests, Inputs};
 use gba_joblog::{Job, digest_of};
 use gba_run_files::PreparedRun;
@@ -32,6 +32,7 @@ fn inputs_of(alloc: Global, image: Bios) -> Inputs
             bios: image,
             cart: None,
             save: None,
+            backup: Backup::Sram,
         },
         digests: ImageDigests {
             bios: digest,

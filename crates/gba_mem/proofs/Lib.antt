@@ -3,3 +3,4 @@ pub mod Keeping
 pub mod Telling
 pub mod Loading
 pub mod Storing
+pub mod Crossing

@@ -1,6 +1,6 @@
 //! Which images are accepted.
 
-use gba_image::{Bios, Cartridge, ImageError, Save};
+use gba_image::{Backup, Bios, Cartridge, ImageError, Save};
 use std::alloc::Global;
 use std::process::Abort;
 use std::test::Fail;
@@ -42,16 +42,24 @@ fn a_bios_has_its_length(rt: HostRuntime) -> Result<(), Fail> {
 
 #[test]
 fn a_save_has_its_length(rt: HostRuntime) -> Result<(), Fail> {
-    for &(length, fault) in &[
-        (0, Some(ImageError::SaveLength)),
-        (32_767, Some(ImageError::SaveLength)),
-        (32_768, None),
-        (32_769, Some(ImageError::SaveLength)),
+    for &(backup, length, fault) in &[
+        (Backup::Sram, 0, Some(ImageError::SaveLength)),
+        (Backup::Sram, 32_767, Some(ImageError::SaveLength)),
+        (Backup::Sram, 32_768, None),
+        (Backup::Sram, 32_769, Some(ImageError::SaveLength)),
+        (Backup::Sram, 65_536, Some(ImageError::SaveLength)),
+        (Backup::Flash64, 32_768, Some(ImageError::SaveLength)),
+        (Backup::Flash64, 65_536, None),
+        (Backup::Flash64, 131_072, Some(ImageError::SaveLength)),
+        (Backup::Flash128, 65_536, Some(ImageError::SaveLength)),
+        (Backup::Flash128, 131_071, Some(ImageError::SaveLength)),
+        (Backup::Flash128, 131_072, None),
     ] {
-        let save = Save::check(image(&rt, rt.alloc(), length, &[])?);
+        let save = Save::check(image(&rt, rt.alloc(), length, &[])?, backup);
         assert_eq!(rt; save.err(), fault);
     }
-    let save = Save::check(image(&rt, rt.alloc(), 32_768, &[(32_767, 7)])?)?;
+    let bytes = image(&rt, rt.alloc(), 32_768, &[(32_767, 7)])?;
+    let save = Save::check(bytes, Backup::Sram)?;
     assert_eq!(rt; save.bytes().last().copied(), Some(7));
     assert_eq!(rt; save.into_bytes().last().copied(), Some(7));
     Ok(())

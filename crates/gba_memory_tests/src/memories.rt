@@ -1,8 +1,13 @@
 //! What each address reads and stores.
 
+ghost use Rattle.std.specs.Prelude.{IsTrue};
+ghost use Rattle.gba_flash.specs.Soundness.{IsSoundMachine};
+ghost use Rattle.gba_image.specs.Checks.{SaveFits};
+
 use crate::images::{HEADER, image};
 use gba_bus::Width::{self, Byte, Half, Word};
-use gba_image::{Bios, Cartridge, ConsoleImages, Save};
+use gba_flash::{FlashMachine, FlashState};
+use gba_image::{Backup, Bios, Cartridge, ConsoleImages, Save};
 use gba_mem::Memory;
 use std::alloc::Global;
 use std::process::Abort;
@@ -44,16 +49,44 @@ fn play<R: Abort>(rt: &R, memory: &mut Memory, moves: &[Move]) {
     }
 }
 
+/// Whether a save, where there is one, has the bytes of a backup.
+fn fits(save: &Option<Save>, backup: Backup) -> bool
+    ensures { IsTrue result → SaveFits save.now backup }
+{
+    match save {
+        Some(save) => save.bytes().len() == backup.length(),
+        None => true,
+    }
+}
+
 /// A console's memories with a BIOS that begins 11h 22h 33h 44h and ends 55h, and this cartridge and save.
+fn memories_of<R: Abort>(
+    rt: &R,
+    alloc: Global,
+    cart: Option<Cartridge>,
+    save: Option<Save>,
+    backup: Backup,
+) -> Result<Memory, Fail> {
+    let bytes = [(0, 0x11), (1, 0x22), (2, 0x33), (3, 0x44), (0x3FFF, 0x55)];
+    let bios = Bios::check(image(rt, alloc, 16_384, &bytes)?)?;
+    assert!(rt; fits(&save, backup));
+    let images = ConsoleImages {
+        bios,
+        cart,
+        save,
+        backup,
+    };
+    Ok(Memory::new(alloc, images)?)
+}
+
+/// The same with SRAM.
 pub(crate) fn memories<R: Abort>(
     rt: &R,
     alloc: Global,
     cart: Option<Cartridge>,
     save: Option<Save>,
 ) -> Result<Memory, Fail> {
-    let bytes = [(0, 0x11), (1, 0x22), (2, 0x33), (3, 0x44), (0x3FFF, 0x55)];
-    let bios = Bios::check(image(rt, alloc, 16_384, &bytes)?)?;
-    Ok(Memory::new(alloc, ConsoleImages { bios, cart, save })?)
+    memories_of(rt, alloc, cart, save, Backup::Sram)
 }
 
 /// Each memory that repeats, at both ends of a period and of its region, at each width.
@@ -270,7 +303,7 @@ fn memories_start_as_they_should(rt: HostRuntime) -> Result<(), Fail> {
     all_are(&rt, memory.palette(), 0);
     all_are(&rt, memory.vram(), 0);
     all_are(&rt, memory.oam(), 0);
-    all_are(&rt, memory.sram(), 0xFF);
+    all_are(&rt, memory.backup_bytes(), 0xFF);
     Ok(())
 }
 
@@ -278,7 +311,7 @@ fn memories_start_as_they_should(rt: HostRuntime) -> Result<(), Fail> {
 #[test]
 fn memories_are_lent(rt: HostRuntime) -> Result<(), Fail> {
     let bytes = [(5, 0x5A), (0x7FFF, 0x6B)];
-    let save = Save::check(image(&rt, rt.alloc(), 32_768, &bytes)?)?;
+    let save = Save::check(image(&rt, rt.alloc(), 32_768, &bytes)?, Backup::Sram)?;
     let mut memory = memories(&rt, rt.alloc(), None, Some(save))?;
     play(&rt, &mut memory, &LENT);
     assert_eq!(rt; memory.work().get(3).copied(), Some(0x01));
@@ -286,9 +319,9 @@ fn memories_are_lent(rt: HostRuntime) -> Result<(), Fail> {
     assert_eq!(rt; memory.palette().get(2).copied(), Some(0x03));
     assert_eq!(rt; memory.vram().last().copied(), Some(0x04));
     assert_eq!(rt; memory.oam().get(1).copied(), Some(0x05));
-    assert_eq!(rt; memory.sram().get(6).copied(), Some(0x06));
-    assert_eq!(rt; memory.sram().get(5).copied(), Some(0x5A));
-    assert_eq!(rt; memory.sram().last().copied(), Some(0x6B));
+    assert_eq!(rt; memory.backup_bytes().get(6).copied(), Some(0x06));
+    assert_eq!(rt; memory.backup_bytes().get(5).copied(), Some(0x5A));
+    assert_eq!(rt; memory.backup_bytes().last().copied(), Some(0x6B));
     Ok(())
 }
 
@@ -301,3 +334,151 @@ static LENT: [Move; 6] = [
     Store(0, 0x0700_0000, Half, 0x0500),
     Store(0, 0x0E00_0006, Byte, 0x06),
 ];
+
+/// A flash has one byte at a time, as SRAM has, and a store of any width is one write to it, of its low byte at its aligned
+/// address. This one of 65,536 bytes says what it is, to loads and to code, at all repeats, until F0h is written; programs a
+/// byte, which keeps its zeros; and chooses no bank.
+static FLASH: [Move; 38] = [
+    Reads(0x0E00_0000, Word, 0xFFFF_FFFF),
+    Store(0, 0x0E00_5555, Byte, 0xAA),
+    Store(0, 0x0E00_2AAA, Byte, 0x55),
+    Store(0, 0x0E00_5555, Byte, 0x90),
+    Reads(0x0E00_0000, Byte, 0xC2),
+    Reads(0x0E00_0001, Byte, 0x1C),
+    Reads(0x0E00_0002, Byte, 0xFF),
+    Reads(0x0E00_0001, Half, 0xC2C2),
+    Reads(0x0E00_0003, Word, 0xC2C2_C2C2),
+    Instruction(0x0E00_0000, Word, 0xC2C2_C2C2),
+    Instruction(0x0E00_0002, Half, 0xFFFF),
+    Reads(0x0E01_0001, Byte, 0x1C),
+    Reads(0x0FFF_0001, Byte, 0x1C),
+    Store(0, 0x0E00_0003, Half, 0x12F0),
+    Reads(0x0E00_0000, Byte, 0xFF),
+    Store(0, 0x0E00_5555, Half, 0xAAAA),
+    Store(0, 0x0E00_2AAA, Byte, 0x55),
+    Store(0, 0x0E00_5555, Byte, 0x90),
+    Reads(0x0E00_0000, Byte, 0xFF),
+    Store(0, 0x0F01_5555, Byte, 0xFFAA),
+    Store(0, 0x0E00_2AAB, Half, 0xFF55),
+    Store(0, 0x0E00_5555, Byte, 0xA0),
+    Store(0, 0x0E00_0007, Word, 0x1234_5678),
+    Reads(0x0E00_0004, Byte, 0x78),
+    Reads(0x0E00_0005, Byte, 0xFF),
+    Reads(0x0E00_0007, Word, 0x7878_7878),
+    Store(0, 0x0E00_0004, Byte, 0x00),
+    Reads(0x0E00_0004, Byte, 0x78),
+    Store(0, 0x0E00_5555, Byte, 0xAA),
+    Store(0, 0x0E00_2AAA, Byte, 0x55),
+    Store(0, 0x0E00_5555, Byte, 0xB0),
+    Store(0, 0x0E00_0000, Byte, 0x01),
+    Store(0, 0x0E00_5555, Byte, 0xAA),
+    Store(0, 0x0E00_2AAA, Byte, 0x55),
+    Store(0, 0x0E00_5555, Byte, 0xA0),
+    Store(0, 0x0E00_0004, Byte, 0x0F),
+    Reads(0x0E00_0004, Byte, 0x08),
+    Reads(0x0E00_0000, Byte, 0xFF),
+];
+
+/// The larger flash has another number, and a second bank: a byte that is programmed there isn't the first one's.
+static LARGE_FLASH: [Move; 18] = [
+    Store(0, 0x0E00_5555, Byte, 0xAA),
+    Store(0, 0x0E00_2AAA, Byte, 0x55),
+    Store(0, 0x0E00_5555, Byte, 0x90),
+    Reads(0x0E00_0000, Byte, 0xC2),
+    Reads(0x0E00_0001, Byte, 0x09),
+    Store(0, 0x0E00_5555, Byte, 0xAA),
+    Store(0, 0x0E00_2AAA, Byte, 0x55),
+    Store(0, 0x0E00_5555, Byte, 0xF0),
+    Reads(0x0E00_0001, Byte, 0xFF),
+    Store(0, 0x0E00_5555, Byte, 0xAA),
+    Store(0, 0x0E00_2AAA, Byte, 0x55),
+    Store(0, 0x0E00_5555, Byte, 0xB0),
+    Store(0, 0x0E00_0000, Byte, 0x01),
+    Store(0, 0x0E00_5555, Byte, 0xAA),
+    Store(0, 0x0E00_2AAA, Byte, 0x55),
+    Store(0, 0x0E00_5555, Byte, 0xA0),
+    Store(0, 0x0E00_0003, Byte, 0x5A),
+    Reads(0x0E00_0003, Byte, 0x5A),
+];
+
+/// A row: a backup, what is done to it, and how many of its bytes aren't FFh in the end, with the place and the value of the
+/// last of these.
+static FLASHES: [(Backup, &[Move], (usize, usize, u8)); 2] = [
+    (Backup::Flash64, &FLASH, (1, 4, 0x08)),
+    (Backup::Flash128, &LARGE_FLASH, (1, 0x1_0003, 0x5A)),
+];
+
+#[test]
+fn flashes_take_their_commands(rt: HostRuntime) -> Result<(), Fail> {
+    for &(backup, moves, (many, place, value)) in &FLASHES {
+        let mut memory = memories_of(&rt, rt.alloc(), None, None, backup)?;
+        assert_eq!(rt; memory.backup(), backup);
+        play(&rt, &mut memory, moves);
+        let bytes = memory.backup_bytes();
+        assert_eq!(rt; bytes.len(), backup.length());
+        let programmed = bytes.iter().filter(|byte| **byte != 0xFF).count();
+        assert_eq!(rt; programmed, many);
+        assert_eq!(rt; bytes.get(place).copied(), Some(value));
+    }
+    Ok(())
+}
+
+/// Whether there is such a machine of this backup.
+fn is_machine(backup: Backup, machine: FlashMachine) -> bool
+    ensures { IsTrue result → IsSoundMachine backup machine }
+{
+    match (backup, machine.state) {
+        (Backup::Flash128, _) => machine.bank < 2,
+        (_, FlashState::Bank) => false,
+        _ => machine.bank == 0,
+    }
+}
+
+/// A flash goes on from where another one has come: there the next byte is programmed, in bank 1. SRAM has no machine, and
+/// takes none.
+#[test]
+fn flashes_go_on_from_a_machine(rt: HostRuntime) -> Result<(), Fail> {
+    let mut first = memories_of(&rt, rt.alloc(), None, None, Backup::Flash128)?;
+    play(&rt, &mut first, &LARGE_FLASH[..16]);
+    let machine = first.flash_machine().ok_or("no flash")?;
+    let programs = FlashMachine {
+        state: FlashState::Program,
+        armed: false,
+        identify: false,
+        bank: 1,
+    };
+    assert_eq!(rt; machine, programs);
+    let mut next = memories_of(&rt, rt.alloc(), None, None, Backup::Flash128)?;
+    assert!(rt; is_machine(next.backup(), machine));
+    next.restore_flash(machine);
+    assert_eq!(rt; next.flash_machine(), Some(programs));
+    play(&rt, &mut next, &[Store(0, 0x0E00_0003, Byte, 0x5A)]);
+    assert_eq!(rt; next.backup_bytes().get(0x1_0003).copied(), Some(0x5A));
+    let mut sram = memories(&rt, rt.alloc(), None, None)?;
+    assert_eq!(rt; sram.flash_machine(), None);
+    let at_first = FlashMachine {
+        state: FlashState::Ready,
+        bank: 0,
+        ..programs
+    };
+    assert!(rt; is_machine(sram.backup(), at_first));
+    sram.restore_flash(at_first);
+    assert_eq!(rt; sram.flash_machine(), None);
+    Ok(())
+}
+
+/// A flash starts as its save, which code and loads read.
+#[test]
+fn flashes_start_as_their_save(rt: HostRuntime) -> Result<(), Fail> {
+    let bytes = [(5, 0x5A), (0x1_FFFF, 0x6B)];
+    let save = Save::check(image(&rt, rt.alloc(), 131_072, &bytes)?, Backup::Flash128)?;
+    let mut memory = memories_of(&rt, rt.alloc(), None, Some(save), Backup::Flash128)?;
+    let reads = [
+        Reads(0x0E00_0005, Byte, 0x5A),
+        Reads(0x0E00_0006, Byte, 0),
+        Reads(0x0E00_FFFF, Byte, 0),
+    ];
+    play(&rt, &mut memory, &reads);
+    assert_eq!(rt; memory.backup_bytes().last().copied(), Some(0x6B));
+    Ok(())
+}

@@ -7,6 +7,7 @@ use Rattle.gba_devices.specs.State.{Devices}
 use Rattle.gba_dma.specs.Channels.{channel_at}
 use Rattle.gba_dma.specs.declared.channel.Channel.{Channel}
 use Rattle.gba_io.specs.Core.{Core, core_half_stored}
+use Rattle.gba_mem.specs.Backups.{backup_bytes}
 use Rattle.gba_ppu_reg.specs.Registers.{reference_of}
 use Rattle.gba_ppu_reg.specs.declared.position.Position.{Position}
 use Rattle.gba_ppu_reg.specs.declared.reference.Reference.{Reference}
@@ -167,9 +168,9 @@ state_file m =
     ++ timer_lines m.board.core.devices ++ channel_lines m.board.core.devices ++ queue_lines m.board.core.devices
     ++ tone_lines m.board.core.devices.tones ++ picture_lines m.board.core.devices ++ cable_lines m.board.core.serial ++ lines_of_memories m.board.core
 
--- its save: the bytes of the SRAM
+-- its save: the bytes of the SRAM or of the flash
 abbrev pub save_file : Machine → List ℕ
-save_file m = m.board.core.memory.sram
+save_file m = backup_bytes m.board.core.memory.backup
 
 -- its samples: the pairs that it kept
 abbrev pub samples_file : Machine → List ℕ

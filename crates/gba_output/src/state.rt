@@ -23,7 +23,7 @@ use itoa::Buffer;
 pub const STATE_ROOM: usize = 1_042_135;
 
 /// The bytes of a save.
-pub const SAVE_ROOM: usize = 32_768;
+pub const SAVE_ROOM: usize = 131_072;
 
 /// How many halfwords the I/O registers have.
 const IO_HALVES: u32 = 512;
@@ -307,10 +307,12 @@ pub fn write_state(into: &mut Vec<u8>, console: &Console)
     add_state(into, console);
 }
 
-/// Writes the save of a console, its 32,768 bytes of SRAM, into an empty buffer with room for it.
+/// Writes the save of a console, the bytes of its SRAM or of its flash, into an empty buffer with room for it: 131,072 bytes
+/// are enough for any.
+#[tactic(auto, using(gba_image::proofs::Lengths::longest_backup))]
 pub fn write_save(into: &mut Vec<u8>, console: &Console)
     requires empty { into.old.items ≡ [] }
-    requires room { 32768 ≤ vec_capacity into.old }
+    requires room { 131072 ≤ vec_capacity into.old }
     ensures items { into.new.items ≡ save_file console.now }
     ensures room { vec_capacity into.old ≤ vec_capacity into.new }
 {

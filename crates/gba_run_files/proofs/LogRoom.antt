@@ -17,7 +17,7 @@ use Rattle.gba_joblog.specs.Cable.{all_pairs, is_joined, players_for}
 use Rattle.gba_joblog.specs.Digests.{IsDigest}
 use Rattle.gba_joblog.proofs.Digests.{IsDigest-sha256}
 use Rattle.gba_joblog.specs.Job.{ConsoleJob, WholeJob}
-use Rattle.gba_joblog.specs.Log.{asked_text, changes_text, console_text, consoles_text, files_text, line_of, link_text, links_text, log_text, off_text, out_text, outs_text}
+use Rattle.gba_joblog.specs.Log.{asked_text, backup_text, changes_text, console_text, consoles_text, files_text, line_of, link_text, links_text, log_text, off_text, out_text, outs_text}
 use Rattle.gba_joblog.specs.Soundness.{AreJobDelays, IsJob, IsOutput}
 use Rattle.gba_joblog.specs.Outputs.{all_kinds, at_kind, out_name}
 use Rattle.gba_joblog.specs.Statements.{output_of}
@@ -105,14 +105,17 @@ outs-more console files = kinds-more console files all_kinds
 console-is : (player : ℕ) (console : ConsoleJob)
     → length (console_text player console)
     ≡ length (line_of (codes "console") (decimal player ∷ []))
-    + (length (files_text console) + (length (off_text console.off) + (length (changes_text console.changes) + length (outs_text console))))
+    + (length (files_text console) + (length (backup_text console.backup)
+    + (length (off_text console.off) + (length (changes_text console.changes) + length (outs_text console)))))
 unfolding console_text
 console-is player console =
     let first = line_of (codes "console") (decimal player ∷ []) in
+    let left = off_text console.off ++ (changes_text console.changes ++ outs_text console) in
     omega (
       arith,
-      length-append first (files_text console ++ (off_text console.off ++ (changes_text console.changes ++ outs_text console))),
-      length-append (files_text console) (off_text console.off ++ (changes_text console.changes ++ outs_text console)),
+      length-append first (files_text console ++ (backup_text console.backup ++ left)),
+      length-append (files_text console) (backup_text console.backup ++ left),
+      length-append (backup_text console.backup) left,
       length-append (off_text console.off) (changes_text console.changes ++ outs_text console),
       length-append (changes_text console.changes) (outs_text console),
     )

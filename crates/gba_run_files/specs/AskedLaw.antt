@@ -10,6 +10,7 @@ use Rattle.gba_joblog.specs.Statements.{asks_for, output_of}
 use Rattle.gba_joblog.specs.declared.job.OutLine.{OutLine}
 use Rattle.gba_joblog.specs.declared.outputs.OutKind.{OutKind}
 use Rattle.gba_joblog.specs.declared.outputs.OutKind.TheVariants.{Frames, Samples, Words, State, Save}
+use Rattle.gba_mem.specs.Backups.{backup_bytes}
 use Rattle.gba_output.specs.StateFile.{state_file, summary_line}
 use Rattle.gba_output.specs.TransferWords.{words_line}
 use Rattle.gba_run_files.specs.DigestsLaw.{Place, file_at}
@@ -31,13 +32,13 @@ abbrev pub asked_count : WholeJob → ℕ
 asked_count job = sum_by console_count job.consoles
 
 -- These are the bytes of a console's output of a kind: its whole frames, its pairs of samples, a line for each of its
--- transfers, its state file, its SRAM.
+-- transfers, its state file, the bytes of its SRAM or of its flash.
 abbrev pub IsMade : OutKind → Machine → List ℕ → Type 0
 IsMade Frames m bytes = bytes ≡ m.board.made.frames
 IsMade Samples m bytes = bytes ≡ m.board.made.samples
 IsMade Words m bytes = bytes ≡ flat_map words_line m.board.ended.words
 IsMade State m bytes = bytes ≡ state_file m
-IsMade Save m bytes = bytes ≡ m.board.core.memory.sram
+IsMade Save m bytes = bytes ≡ backup_bytes m.board.core.memory.backup
 
 -- This file is that of an output that the job asks for, with what the console of its player has made.
 pub record IsAskedFile (out : List ℕ) (job : WholeJob) (cut : Cut Machine) (output : Output) : Type 0 where

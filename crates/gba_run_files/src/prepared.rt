@@ -126,10 +126,11 @@ impl PreparedRun {
     ghost use Rattle.gba_joblog.specs.Soundness.{IsJob};
     ghost use Rattle.gba_joblog.specs.Views.{job_value};
     ghost use Rattle.gba_session.specs.Session.{prepared};
+    ghost use Rattle.gba_session.specs.Start.{FitJob};
     ghost use Rattle.gba_run_files.specs.Names.{run_names};
     ghost use Rattle.gba_run_files.specs.Written.{after_files, run_of};
 
-    /// Takes the memory of the run of a job under OUT with these images, one of each console, which writes these files
+    /// Takes the memory of the run of a job under OUT with these images, those of each console for its backup, which writes these files
     /// before its own. The job is as its log says it, but for the digests of its outputs.
     pub fn new(
         alloc: Global,
@@ -140,7 +141,7 @@ impl PreparedRun {
     ) -> Result<PreparedRun, NoMemory>
         requires out { length out.now ≤ 180 }
         requires sound { IsJob (job_value job) }
-        requires images { length images.items ≡ length (job_value job).consoles }
+        requires images { FitJob (job_value job) images.items }
         ensures { IfOk result (λ run. run ≡ after_files (map output_value first.items)
             (run_of (run_names out.now (length (job_value job).consoles)) (job_value job)
             (prepared (job_value job) images.items))) }

@@ -1,5 +1,5 @@
 use Rattle.std.proofs.Common.{◌≡◌, ◌≤◌, ◌<◌, ℕ, ◌+◌, ◌∙◌, Bool, List, [], ◌∷◌, ◌++◌, length, drop, take, get_or, map, refl, sym, ap, subst, arith, append_assoc, take_all}
-use Rattle.std.specs.List.{All}
+use Rattle.std.specs.List.{All, AllZip}
 use Rattle.std.proofs.lemmas.List.{length-map, map-append, take_more}
 use Rattle.std.proofs.lemmas.List.Elements.{All-append}
 use Rattle.link_order.proofs.Lists.{all_cons, all_nil}
@@ -15,7 +15,7 @@ use Rattle.gba_joblog.specs.declared.outputs.PerKind.{PerKind}
 use Rattle.gba_joblog.proofs.OutputNames.{at_item}
 use Rattle.gba_joblog.specs.Job.{ConsoleJob, WholeJob}
 use Rattle.gba_session.specs.Files.{all_files, asks_of}
-use Rattle.gba_session.specs.Start.{console_at, consoles_from}
+use Rattle.gba_session.specs.Start.{FitsConsole, console_at, consoles_from}
 use Rattle.gba_joblog.specs.Views.{console_value}
 use Rattle.gba_joblog.specs.declared.job.JobConsole.{JobConsole}
 use Rattle.gba_session.specs.Held.{IsUnused, asks_in}
@@ -29,6 +29,25 @@ consoles-cons : (job : WholeJob) (player : ℕ) (console : ConsoleJob) (consoles
     ≡ without_limit (console_at job player console one) ∷ consoles_from job (player + 1) consoles rest
 unfolding consoles_from
 consoles-cons job player console consoles left one rest is = rw is refl
+
+-- there are as many images as consoles
+pub fit-long : (consoles : List ConsoleJob) (images : List ConsoleImages) → AllZip FitsConsole consoles images
+    → length images ≡ length consoles
+fit-long [] [] fit = refl
+fit-long [] (one ∷ images) fit = absurd fit
+fit-long (c ∷ consoles) [] fit = absurd fit
+fit-long (c ∷ consoles) (one ∷ images) fit = omega (arith, fit-long consoles images fit.1)
+
+-- the images of the next console fit it, and those that are left the consoles that are left
+pub fit-next : (player : ℕ) (consoles : List ConsoleJob) (said : ConsoleJob) (left rest : List ConsoleImages)
+    (one : ConsoleImages) → player < length consoles → said ≡ get_or consoles player said → left ≡ one ∷ rest
+    → AllZip FitsConsole (drop player consoles) left
+    → FitsConsole said one × AllZip FitsConsole (drop (player + 1) consoles) rest
+fit-next player consoles said left rest one within here split fit =
+    let first : drop player consoles ≡ said ∷ drop (player + 1) consoles = at_item consoles player said within here in
+    let P : List ConsoleJob → List ConsoleImages → Type 0 = λ cs is. AllZip FitsConsole cs is in
+    subst (λ (is : List ConsoleImages). P (said ∷ drop (player + 1) consoles) is) split
+    (subst (λ (cs : List ConsoleJob). P cs left) first fit)
 
 -- the consoles so far and those that are left
 pub consoles-more : (job : WholeJob) (player : ℕ) (said : ConsoleJob) (made : List Machine) (console : Machine)

@@ -18,7 +18,7 @@ use Rattle.sha2.specs.Hashers.{Holds256}
 pub record HasRoom (p : Player) : Type 0 where
   pub words : p.asks.words ≡ true → 49 * 32770 ≤ vec_capacity p.words
   pub state : p.asks.state ≡ true → 1042135 ≤ vec_capacity p.state
-  pub save : p.asks.save ≡ true → 32768 ≤ vec_capacity p.save
+  pub save : p.asks.save ≡ true → 131072 ≤ vec_capacity p.save
 
 -- the words are those of a console's lists; and once the run is over, state and save are its own
 pub record HasPieces (over : Bool) (p : Player) (m : Machine) : Type 0 where

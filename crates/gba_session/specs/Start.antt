@@ -1,7 +1,9 @@
-use Rattle.std.specs.Prelude.{ℕ, ◌+◌, List, [], ◌∷◌, length, map}
+use Rattle.std.specs.Prelude.{◌≡◌, ℕ, ◌+◌, List, [], ◌∷◌, length, map}
+use Rattle.std.specs.List.{AllZip}
 use Rattle.gba_console.specs.Alone.{console_kind}
 use Rattle.gba_console.specs.Machine.{Machine, reset, without_limit}
 use Rattle.gba_console.specs.declared.keys.KeyState.{KeyState}
+use Rattle.gba_image.specs.Checks.{SaveFits}
 use Rattle.gba_image.specs.declared.images.ConsoleImages.{ConsoleImages}
 use Rattle.gba_io.specs.declared.made.Room.{Room}
 use Rattle.gba_joblog.specs.Job.{ConsoleJob, WholeJob}
@@ -35,10 +37,19 @@ room_of job console = record {
 abbrev pub round_of : WholeJob → ℕ
 round_of job = hop_of job.delays 0 1 + hop_of job.delays 1 0
 
+-- The images of a console are for what its cartridge keeps its saves in, and the save, where there is one, was checked for it.
+pub record FitsConsole (console : ConsoleJob) (images : ConsoleImages) : Type 0 where
+  pub backup : images.backup ≡ console.backup
+  pub save : SaveFits images.save images.backup
+
+-- so it is with each console of a job, and there are as many of the one as of the other
+abbrev pub FitJob : WholeJob → List ConsoleImages → Type 0
+FitJob job images = AllZip FitsConsole job.consoles images
+
 -- the console of a player at reset, with these images
 abbrev pub console_at : WholeJob → ℕ → ConsoleJob → ConsoleImages → Machine
 console_at job player console images =
-    reset player (length job.consoles) (round_of job) console.off images.bios images.cart images.save
+    reset player (length job.consoles) (round_of job) console.off images.bios images.cart images.save images.backup
     (key_states console.changes) (room_of job console)
 
 -- the consoles of the players from this one on. No step depends on the end of a console's room, so it is no part of the

@@ -52,7 +52,7 @@ fn put_state(asked: bool, into: &mut Vec<u8>, console: &Console)
 
 /// Writes the save in place of what the buffer has, where it is asked for.
 fn put_save(asked: bool, into: &mut Vec<u8>, console: &Console)
-    requires { asked ≡ true → 32768 ≤ vec_capacity into.old }
+    requires { asked ≡ true → 131072 ≤ vec_capacity into.old }
     ensures items { asked ≡ true → into.new.items ≡ save_file console.now }
     ensures room { vec_capacity into.old ≤ vec_capacity into.new }
 {

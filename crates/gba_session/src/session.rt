@@ -77,9 +77,11 @@ impl Session {
     ghost use Rattle.gba_session.specs.Files.{grows, output_bytes};
     ghost use Rattle.gba_session.specs.Session.{advanced, is_over, later_end as end_after, prepared};
     ghost use Rattle.gba_session.specs.Session.{segment_cut, whole_cut};
+    ghost use Rattle.gba_session.specs.Start.{FitJob};
     ghost use Rattle.sha2.specs.Sha256.{sha256};
 
-    /// The consoles of a job at reset, with these images, one of the other. The changes of their keys stand in the job,
+    /// The consoles of a job at reset, with these images, one of the other: each for its console's backup, with a save that
+    /// was checked for it. The changes of their keys stand in the job,
     /// those of key files too. All the memory is taken that the steps and the outputs of a segment need.
     pub fn prepare(
         alloc: Global,
@@ -87,7 +89,7 @@ impl Session {
         images: Vec<ConsoleImages>,
     ) -> Result<Session, NoMemory>
         requires sound { IsJob (job_value job.now) }
-        requires images { length images.items ≡ length (job_value job.now).consoles }
+        requires images { FitJob (job_value job.now) images.items }
         ensures { IfOk result (λ session. session ≡ prepared (job_value job.now) images.items) }
     {
         let players = players_of(alloc, job)?;

@@ -8,7 +8,7 @@ ghost use Rattle.gba_joblog.specs.Views.{console_value, job_value};
 ghost use Rattle.gba_session.specs.Files.{asks_of};
 ghost use Rattle.gba_session.specs.Held.{IsUnused, asks_in};
 ghost use Rattle.gba_session.specs.Session.{later_end as end_after};
-ghost use Rattle.gba_session.specs.Start.{console_at, consoles_from, key_states};
+ghost use Rattle.gba_session.specs.Start.{FitJob, FitsConsole, console_at, consoles_from, key_states};
 ghost use Rattle.gba_session.specs.Start.{room_of as room_said, round_of as round_said};
 
 use crate::player::Player;
@@ -69,6 +69,7 @@ fn console_of(
     requires sound { IsJob (job_value job.now) }
     requires player { player < length (job_value job.now).consoles }
     requires console { IsConsole (console_value console.now) }
+    requires images { FitsConsole (console_value console.now) images }
     ensures console { IfOk result (λ made. without_limit made
         ≡ without_limit (console_at (job_value job.now) player (console_value console.now) images)) }
     ensures limit { IfOk result (λ made. limit_of made ≡ end_after job.now.cycles 0) }
@@ -104,7 +105,7 @@ pub(crate) fn consoles_of(
     images: Vec<ConsoleImages>,
 ) -> Result<Vec<Console>, NoMemory>
     requires sound { IsJob (job_value job.now) }
-    requires images { length images.items ≡ length (job_value job.now).consoles }
+    requires images { FitJob (job_value job.now) images.items }
     ensures consoles { IfOk result (λ consoles. map without_limit consoles.items
         ≡ consoles_from (job_value job.now) 0 (job_value job.now).consoles images.items) }
     ensures limits { IfOk result (λ consoles. All (λ limit. limit ≡ end_after job.now.cycles 0)

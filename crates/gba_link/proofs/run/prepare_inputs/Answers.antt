@@ -1,44 +1,35 @@
-use Rattle.std.proofs.Common.{◌≡◌, List, length, map, ap, ◌∙◌, arith, rules}
+use Rattle.std.proofs.Common.{◌≡◌, List, map, ap, sym, subst, ◌∙◌, rules}
 use Rattle.std.specs.Vec.{with_items}
-use Rattle.std.proofs.lemmas.List.{length-map, places, with_items_is}
+use Rattle.std.proofs.lemmas.List.{places, with_items_is}
 use Rattle.gba_command.specs.Views.{output_value}
 use Rattle.gba_image.specs.declared.images.ConsoleImages.{ConsoleImages}
 use Rattle.gba_inputs.specs.Filled.{filled}
 use Rattle.gba_inputs.specs.Views.{images_of, inputs_value}
 use Rattle.gba_inputs.specs.declared.inputs.Inputs.{Inputs}
-use Rattle.gba_inputs.proofs.SoundInputs.{filled_consoles-sound, zip-long}
 use Rattle.gba_joblog.specs.Job.{WholeJob}
 use Rattle.gba_joblog.specs.Views.{job_value}
 use Rattle.gba_link.specs.RunPlan.{images_in, run_under}
 use Rattle.gba_run_files.specs.Written.{after_files}
-use Rattle.gba_link.proofs.Runs.{images-are}
+use Rattle.gba_session.specs.Start.{FitJob}
+use Rattle.gba_link.proofs.Runs.{images-are, inputs-fit}
 use Rattle.gba_link.proofs.run.prepare_inputs.Goals as goal
 
 pub new-requires-clause-images : goal.new-requires-clause-images
 new-requires-clause-images c =
     let job = job_value c.args.job in
     let inputs = map inputs_value c.args.inputs.items in
+    let images = c.in_ok-images.images.items in
     let old = c.args.inputs in
     let new = c.fill_job.new.inputs in
     let items : (with_items old new).items ≡ new = with_items_is old new (search (rules, places)) in
-    let read : length job.consoles ≡ length inputs = zip-long job.consoles inputs c.requires.inputs in
+    let kept : images ≡ map images_in inputs =
+    c.in_ok-images.ensures ∙ ap (map images_of) items ∙ c.fill_job.ensures.images
+    ∙ ap (map images_of) c.as_mut_slice.ensures.value ∙ images-are old.items in
     let filled_is : job_value c.fill_job.new.job ≡ filled job inputs =
     c.fill_job.ensures.filled ∙ ap (λ (xs : List Inputs). filled job (map inputs_value xs)) c.as_mut_slice.ensures.value in
-    let all = filled_consoles-sound job.consoles inputs c.requires.sound.each c.requires.inputs in
-    omega (
-      arith,
-      read,
-      all.long,
-      ap (λ (j : WholeJob). length j.consoles) filled_is,
-      ap length c.in_ok-images.ensures,
-      length-map (with_items old new).items images_of,
-      ap length items,
-      ap length c.fill_job.ensures.images,
-      length-map new images_of,
-      length-map c.as_mut_slice.result.now images_of,
-      ap length c.as_mut_slice.ensures.value,
-      length-map c.args.inputs.items inputs_value,
-    )
+    subst (λ (j : WholeJob). FitJob j images) (sym filled_is)
+    (subst (λ (ones : List ConsoleImages). FitJob (filled job inputs) ones) (sym kept)
+    (inputs-fit job.consoles inputs c.requires.inputs))
 
 pub returns : goal.returns
 returns c =

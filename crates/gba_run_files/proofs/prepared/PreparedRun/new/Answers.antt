@@ -1,7 +1,7 @@
 use Rattle.std.proofs.Common.{◌∙◌, length, ap, arith}
 use Rattle.std.proofs.lemmas.List.{length-map}
 use Rattle.gba_joblog.specs.Views.{console_value, job_value}
-use Rattle.gba_session.proofs.Consoles.{consoles-length}
+use Rattle.gba_session.proofs.Consoles.{consoles-length, fit-long}
 use Rattle.gba_session.specs.Session.{Consoles}
 use Rattle.gba_run_files.specs.Views.{names_value}
 use Rattle.gba_run_files.proofs.FileNames.{names-long}
@@ -16,7 +16,8 @@ invariant_of-result c =
         until = ap (λ (s : Consoles). s.until) c.in_ok-session.ensures;
         begun = ap (λ (s : Consoles). s.to) c.in_ok-session.ensures;
         many = ap (λ (s : Consoles). length s.start.consoles) c.in_ok-session.ensures
-            ∙ consoles-length (job_value c.args.job) 0 (job_value c.args.job).consoles c.args.images.items c.requires.images;
+            ∙ consoles-length (job_value c.args.job) 0 (job_value c.args.job).consoles c.args.images.items
+            (fit-long (job_value c.args.job).consoles c.args.images.items c.requires.images);
       },
       omega (
         arith,
