@@ -58,6 +58,8 @@ class Maker:
         for kind in ('cart', 'save'):
             if self.often(0.3):
                 lines.append(f'{kind} {names[kind]}{self.digest(names[kind])}')
+        if version == 2 and self.often(0.2):
+            lines.append(f'backup {self.pick("sram", "flash64", "flash128")}')
         if version == 2 and self.often(0.3):
             lines.append(f'off {self.pick("1", "777", "5000", "40000", "274877906943")}')
         for kind in reading.KINDS:

@@ -17,7 +17,8 @@ KINDS = ('frames', 'samples', 'words', 'state', 'save')
 INPUTS = ('bios', 'cart', 'save', 'keys')
 HEAD = ('gbalink', 'cycles', 'delay', 'link')
 WORDS = {1: {'gbalink', 'cycles', 'delay', 'console', 'end', 'key', 'out', *INPUTS}}
-WORDS[2] = WORDS[1] | {'link', 'off'}
+WORDS[2] = WORDS[1] | {'link', 'backup', 'off'}
+BACKUPS = {'sram': 32_768, 'flash64': 65_536, 'flash128': 131_072}
 
 
 class Refused(Exception):
@@ -41,6 +42,7 @@ class Console:
     inputs: dict = field(default_factory=dict)
     changes: list = field(default_factory=list)
     outputs: dict = field(default_factory=dict)
+    backup: str | None = None
     off: int = 0
 
 
@@ -168,6 +170,8 @@ def stood_before(job, word):
         return job.version is not None
     if word in ('cycles', 'delay'):
         return getattr(job, word) is not None
+    if word == 'backup':
+        return job.consoles[-1].backup is not None
     if word == 'off':
         return job.consoles[-1].off > 0
     return word in INPUTS and word in job.consoles[-1].inputs
@@ -221,6 +225,14 @@ def read_end(job, words, _):
     job.is_ended = True
 
 
+def read_backup(job, words, _):
+    kind = words.take()
+    if kind not in BACKUPS:
+        raise Refused('Word')
+    words.finish()
+    job.consoles[-1].backup = kind
+
+
 def read_off(job, words, _):
     job.consoles[-1].off = number_of(words.take(), 1, 274_877_906_943)
     words.finish()
@@ -250,7 +262,7 @@ def read_input(kind):
 
 READ = {
     'gbalink': read_version, 'cycles': read_cycles, 'delay': read_delay, 'link': read_link, 'console': read_console,
-    'off': read_off, 'out': read_out, 'end': read_end, 'key': lambda job, words, _: read_change(words, job.consoles[-1].changes),
+    'backup': read_backup, 'off': read_off, 'out': read_out, 'end': read_end, 'key': lambda job, words, _: read_change(words, job.consoles[-1].changes),
     **{kind: read_input(kind) for kind in INPUTS},
 }
 
@@ -305,12 +317,12 @@ def refuse_clash(job, name, out):
 
 # ---- Images ----------------------------------------------------------------------------------------------------------------
 
-def image_kind(kind, data):
-    """Why the image is refused, or None."""
+def image_kind(kind, data, backup):
+    """Why the image is refused, or None, where the console saves in this."""
     if kind == 'bios':
         return None if len(data) == 16_384 else 'BiosLength'
     if kind == 'save':
-        return None if len(data) == 32_768 else 'SaveLength'
+        return None if len(data) == BACKUPS[backup or 'sram'] else 'SaveLength'
     if len(data) < 192:
         return 'TooShort'
     if len(data) > IMAGE_BYTES:
@@ -375,8 +387,8 @@ def run_of(words, read):
             data = read_or_answer(entry.name, read)
             if kind == 'keys':
                 console.changes = parsed(entry.name, changes_of, data)
-            elif image_kind(kind, data):
-                raise Answer(6, f'image {entry.name} {image_kind(kind, data)}')
+            elif image_kind(kind, data, console.backup):
+                raise Answer(6, f'image {entry.name} {image_kind(kind, data, console.backup)}')
             got = hashlib.sha256(data).hexdigest()
             if entry.digest not in (None, got):
                 raise Answer(7, f'digest {entry.name} stated {entry.digest} got {got}')
@@ -391,6 +403,8 @@ def console_lines(job, k, inputs, outputs, out):
         if kind in console.inputs:
             name = console.inputs[kind].name
             yield f'{kind} {name} sha256 {inputs[name]}'
+    if console.backup not in (None, 'sram'):
+        yield f'backup {console.backup}'
     if console.off:
         yield f'off {console.off}'
     for clock, keys in console.changes:

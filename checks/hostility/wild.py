@@ -55,6 +55,7 @@ def job(source, carts, cycles):
               if a != b and source.random() < 0.7]
     for k, cart in enumerate(carts):
         lines += [f'console {k}', f'bios {source.choice(["start", "returns"])}', f'cart {cart}']
+        lines += [f'backup {source.choice(["sram", "flash64", "flash128"])}'] if source.random() < 0.5 else []
         lines += [f'off {source.randint(1, cycles)}'] if source.random() < 0.3 else []
         lines += [f'key {source.randint(0, cycles)} {source.getrandbits(10):03x}'] if source.random() < 0.5 else []
         lines += [f'out {kind}' for kind in ('frames', 'samples', 'words', 'state', 'save')]
