@@ -767,7 +767,7 @@ fn images_are_checked_in_their_order(rt: HostRuntime) -> Result<(), Fail> {
 }
 
 /// The images are right.
-static SAVED: Case<'static> = Case {
+const WITH_SAVE: Case<'static> = Case {
     beside: &[BIOS, CART, SAVE],
     status: 0,
     report: Lines("console 0 clock 12 frames 0 samples 0 words 0\n"),
@@ -775,10 +775,52 @@ static SAVED: Case<'static> = Case {
     ..WITH_IMAGES
 };
 
-/// With all its images a console runs; its state file and its save are written, the save as it was read.
+/// A job of a console whose cartridge has a flash of 65,536 bytes.
+const WITH_FLASH: Case<'static> = Case {
+    job: "gbalink 2\ncycles 10\nconsole 0\nsave s\ncart c\nbackup flash64\nbios b\nout save\nend\n",
+    ..WITH_SAVE
+};
+
+/// A save for each kind of backup, and none with the larger flash; a save for another kind, which is refused.
+static SAVED: [Case<'static>; 6] = [
+    WITH_SAVE,
+    Case {
+        beside: &[BIOS, CART, ("s", Filled(65_536, 0xA5))],
+        written: &[(".0.save", Is(Filled(65_536, 0xA5)))],
+        ..WITH_FLASH
+    },
+    Case {
+        job: "gbalink 2\ncycles 10\nconsole 0\nsave s\nbackup flash128\nbios b\nout save\nend\n",
+        beside: &[BIOS, ("s", Filled(131_072, 0x5A))],
+        written: &[(".0.save", Is(Filled(131_072, 0x5A)))],
+        ..WITH_FLASH
+    },
+    Case {
+        job: "gbalink 2\ncycles 10\nconsole 0\nbackup flash128\nbios b\nout save\nend\n",
+        beside: &[BIOS],
+        written: &[(".0.save", Is(Filled(131_072, 0xFF)))],
+        ..WITH_FLASH
+    },
+    Case {
+        status: 6,
+        report: Exactly("image s SaveLength\n"),
+        written: &[(".0.save", Absent), (".log", Absent)],
+        ..WITH_FLASH
+    },
+    Case {
+        beside: &[BIOS, CART, ("s", Filled(131_072, 0xA5))],
+        status: 6,
+        report: Exactly("image s SaveLength\n"),
+        written: &[(".0.save", Absent), (".log", Absent)],
+        ..WITH_FLASH
+    },
+];
+
+/// With all its images a console runs; its state file and its save are written, the save as it was read, and as FFh where
+/// none was.
 #[test]
 fn a_save_is_written_as_it_was_read(rt: HostRuntime) -> Result<(), Fail> {
-    play(&rt, rt.alloc(), &SAVED)
+    play_all(&rt, rt.alloc(), &SAVED)
 }
 
 /// A job with a key file.

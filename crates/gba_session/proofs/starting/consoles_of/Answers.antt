@@ -1,4 +1,5 @@
-use Rattle.std.proofs.Common.{◌≡◌, ◌<◌, ◌++◌, ◌∙◌, List, [], length, map, drop, get_or, sym, ap, arith, append-nil}
+use Rattle.std.proofs.Common.{◌≡◌, ◌<◌, ◌++◌, ◌∙◌, List, [], length, map, drop, get_or, sym, ap, subst, arith, rules, append-nil}
+use Rattle.std.specs.List.{AllZip}
 use Rattle.std.proofs.lemmas.List.{get_or-map, length-map, nil_from_length}
 use Rattle.gba_console.specs.Machine.{without_limit}
 use Rattle.gba_image.specs.declared.images.ConsoleImages.{ConsoleImages}
@@ -6,9 +7,17 @@ use Rattle.gba_joblog.specs.Soundness.{IsConsole}
 use Rattle.gba_joblog.specs.Views.{console_value, job_value}
 use Rattle.gba_joblog.proofs.OutputNames.{holds_at}
 use Rattle.gba_session.specs.Session.{later_end}
-use Rattle.gba_session.specs.Start.{consoles_from}
-use Rattle.gba_session.proofs.Consoles.{consoles-none, fit-next, kept-consoles, kept-limits}
+use Rattle.gba_session.specs.Start.{FitsConsole, consoles_from}
+use Rattle.gba_session.proofs.Consoles.{consoles-none, fit-long, fit-next, kept-consoles, kept-limits}
 use Rattle.gba_session.proofs.starting.consoles_of.Goals as goal
+
+pub loop-player-init : goal.loop-player-init
+loop-player-init c =
+    let job = job_value c.args.job.now in
+    let rest = c.into_iter-images.ensures.rest in
+    let fit : AllZip FitsConsole job.consoles c.into_iter-images.result.rest.items =
+    subst (λ (left : List ConsoleImages). AllZip FitsConsole job.consoles left) (sym rest) c.requires.images in
+    (search rules, search rules, fit, omega (arith, ap length rest, fit-long job.consoles c.args.images.items c.requires.images))
 
 pub console_of-requires-clause-console : goal.console_of-requires-clause-console
 console_of-requires-clause-console c =
