@@ -99,3 +99,16 @@ sound-in Bank offset value f in_it sound = record {
 pub stays-sound : StaysSound
 unfolding flash_written
 stays-sound offset value f sound = sound-in f.machine.state offset value f refl sound
+
+-- ---- its kind
+
+kind-in : (state : FlashState) (offset value : ℕ) (f : FlashMemory) → (written_in state offset value f).backup ≡ f.backup
+kind-in Ready offset value f = refl
+kind-in First offset value f = refl
+kind-in Second offset value f = refl
+kind-in Program offset value f = refl
+kind-in Bank offset value f = refl
+
+pub keeps-kind : (offset value : ℕ) (f : FlashMemory) → (flash_written offset value f).backup ≡ f.backup
+unfolding flash_written
+keeps-kind offset value f = kind-in f.machine.state offset value f

@@ -4,3 +4,4 @@ pub mod Telling
 pub mod Loading
 pub mod Storing
 pub mod Crossing
+pub mod Saving

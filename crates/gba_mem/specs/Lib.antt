@@ -7,3 +7,4 @@ pub mod Stores
 pub mod Video
 pub mod Wide
 pub mod Views
+pub mod BackupLaw

@@ -1,5 +1,6 @@
 //! Laws over the definitions. Each is the contract of a function that takes no value.
 
+ghost use Rattle.gba_mem.specs.BackupLaw.{BackupsStaySound};
 ghost use Rattle.gba_mem.specs.Fits.{CutsNothing};
 ghost use Rattle.gba_mem.specs.Video.{StoresKeepVideo};
 
@@ -12,4 +13,10 @@ pub fn cuts_nothing()
 /// A write outside video memory leaves it.
 pub fn stores_keep_video()
     ensures { StoresKeepVideo }
+{}
+
+/// Whatever is stored, the SRAM or the flash keeps its kind and the number of its bytes, and a flash of 65,536 bytes sees its one
+/// bank and awaits no other.
+pub fn backups_stay_sound()
+    ensures { BackupsStaySound }
 {}

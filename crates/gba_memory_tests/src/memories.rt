@@ -401,16 +401,16 @@ static LARGE_FLASH: [Move; 18] = [
     Reads(0x0E00_0003, Byte, 0x5A),
 ];
 
-/// A row: a backup, what is done to it, and how many of its bytes aren't FFh in the end, with the place and the value of the
-/// last of these.
-static FLASHES: [(Backup, &[Move], (usize, usize, u8)); 2] = [
-    (Backup::Flash64, &FLASH, (1, 4, 0x08)),
-    (Backup::Flash128, &LARGE_FLASH, (1, 0x1_0003, 0x5A)),
-];
+/// What is done to a flash, how many of its bytes aren't FFh in the end, and the place and the value of one of these.
+type Done<'a> = (Backup, &'a [Move], (usize, usize, u8));
 
 #[test]
 fn flashes_take_their_commands(rt: HostRuntime) -> Result<(), Fail> {
-    for &(backup, moves, (many, place, value)) in &FLASHES {
+    let rows: [Done; 2] = [
+        (Backup::Flash64, &FLASH, (1, 4, 0x08)),
+        (Backup::Flash128, &LARGE_FLASH, (1, 0x1_0003, 0x5A)),
+    ];
+    for (backup, moves, (many, place, value)) in rows {
         let mut memory = memories_of(&rt, rt.alloc(), None, None, backup)?;
         assert_eq!(rt; memory.backup(), backup);
         play(&rt, &mut memory, moves);
