@@ -1,7 +1,7 @@
 #![tactic(auto)]
 //! What each ARM instruction does to registers and memory, over any bus, and what it costs.
 
-ghost use Rattle.std.specs.Prelude.{◌≡◌, ◌<◌, IfSome, length};
+ghost use Rattle.std.specs.Prelude.{◌≡◌, ◌<◌, IfSome, Some, length, option_map, slice_get};
 ghost use Rattle.gba_arm_exec.specs.Execution.{execution};
 ghost use Rattle.gba_arm_table.specs.Limits.{Fits};
 ghost use Rattle.gba_arm_table.specs.Table.{operation};
@@ -66,8 +66,9 @@ pub fn execute_first<B: Bus>(
     word: u32,
 ) -> u32
     requires { place < length table.old }
-    ensures { Leaves (execution B.code_price_of B.load_of B.store_of word registers.old (B.state bus.old))
+    ensures left { Leaves (execution B.code_price_of B.load_of B.store_of word registers.old (B.state bus.old))
         registers.new (B.state bus.new) result }
+    ensures kept { option_map (λ one. one.word) (slice_get table.new place) ≡ Some word }
 {
     let op = decode(word);
     table[place] = make_decoded(word, op);

@@ -8,7 +8,7 @@ use Rattle.gba_devices.specs.Samples.{left_sample, right_sample}
 use Rattle.gba_exec_transfers.specs.Done.{Done}
 use Rattle.gba_io.specs.Board.{board_after, board_cycle, board_emptied, lines_with, made_in_cycle}
 use Rattle.gba_io.specs.Cable.{board_ended, board_taken, core_heard}
-use Rattle.gba_io.specs.Core.{Core}
+use Rattle.gba_io.specs.Core.{Core, core_woken}
 use Rattle.gba_io.specs.Drawing.{ends_frame}
 use Rattle.gba_io.specs.Ended.{Ended, ended_emptied, with_transfer}
 use Rattle.gba_io.specs.Made.{Made, made_emptied, sample_bytes}
@@ -21,10 +21,16 @@ use Rattle.link_node.specs.declared.signal.Incoming.{Incoming}
 use Rattle.link_node.specs.declared.signal.Signal.{Signal}
 use Rattle.gba_console.specs.Alone.{console_kind}
 use Rattle.gba_console.specs.Keys.{after_keys}
-use Rattle.gba_console.specs.Machine.{Machine, clock_of, forgotten, is_off}
-use Rattle.gba_console.specs.Segments.{behind, behind_if, board_behind, ended_behind, made_behind}
-use Rattle.gba_console.specs.Step.{acted, all_taken, board_begun, done_in, heard, moved, stepped, stepped_off, stepped_on, told, told_on}
+use Rattle.gba_console.specs.Machine.{Machine, clock_of, forgotten, is_off, left_of}
+use Rattle.gba_console.specs.Segments.{behind, behind_if, board_behind, ended_behind, last_behind, made_behind}
+use Rattle.gba_console.specs.Step.{acted, all_taken, board_begun, done_in, heard, idles, in_thumb, instruction, enters, moved, prepared, stepped, stepped_off, stepped_on, told, told_on, what_acted, what_awake, what_for, what_in, what_instructed}
 use Rattle.gba_console.proofs.On.{both}
+use Rattle.gba_console.specs.declared.doing.What.{What}
+use Rattle.gba_console.specs.declared.doing.What.TheVariants.{Idle, Irq, Arm, Thumb}
+use Rattle.gba_psr.specs.RegisterFile.{register}
+use Rattle.gba_bus.specs.declared.width.Width.TheVariants.{Half, Word}
+use Rattle.gba_dma.specs.Channels.{next_unit}
+use Rattle.gba_dma.specs.declared.unit.Unit.{Unit as DmaUnit}
 
 -- what is added goes to the end, or nothing does
 in-front : {X : Type 0} (test : Bool) (first old more : List X)
@@ -101,17 +107,51 @@ heard-in-front dues first m =
 
 done-in-front : (dues : List Incoming) (first m : Machine) → done_in dues (behind first m) ≡ done_in dues m
 done-in-front dues first m =
-    ap (λ (b : Board). acted m.registers (after_keys (clock_of m) m.keys b.core)) (heard-in-front dues first m)
+    ap (λ (b : Board). acted m.registers (after_keys (clock_of m) (left_of m) b.core)) (heard-in-front dues first m)
+
+what-in-front : (dues : List Incoming) (first m : Machine) → what_in dues (behind first m) ≡ what_in dues m
+what-in-front dues first m =
+    ap (λ (b : Board). what_acted m.registers (after_keys (clock_of m) (left_of m) b.core)) (heard-in-front dues first m)
+
+-- a step tells what it did, whatever was told before it
+one-told : (first : What) (test : Bool) (one other : What) → last_behind first one ≡ one → last_behind first other ≡ other
+    → last_behind first (if test then one else other) ≡ (if test then one else other)
+one-told first true one other here there = here
+one-told first false one other here there = there
+
+instructed-told : (first : What) (file : List ℕ) (b : Core) → last_behind first (what_instructed file b) ≡ what_instructed file b
+instructed-told first file b =
+    one-told first (in_thumb file) (Thumb (register file 15) (instruction Half file b))
+    (Arm (register file 15) (instruction Word file b)) refl refl
+
+awake-told : (first : What) (file : List ℕ) (b : Core) → last_behind first (what_awake file b) ≡ what_awake file b
+awake-told first file b =
+    one-told first (enters file b) Irq (what_instructed file b) refl (instructed-told first file b)
+
+for-told : (first : What) (unit : Option DmaUnit) (file : List ℕ) (b : Core)
+    → last_behind first (what_for unit file b) ≡ what_for unit file b
+for-told first (Some unit) file b = refl
+for-told first None file b =
+    one-told first (idles b) Idle (what_awake file (core_woken b)) refl (awake-told first file (core_woken b))
+
+acted-told : (first : What) (file : List ℕ) (b : Core) → last_behind first (what_acted file b) ≡ what_acted file b
+unfolding what_acted
+acted-told first file b = for-told first (next_unit b.devices.channels) file b
 
 on-in-front : (dues : List Incoming) (first m : Machine) → stepped_on dues (behind first m) ≡ behind first (stepped_on dues m)
 unfolding stepped_on
 on-in-front dues first m =
     let changed = behind first m in
     let done = done_in dues m in
-    ap (λ (b : Board). moved b changed (done_in dues changed)) (heard-in-front dues first m)
-    ∙ ap (moved (board_behind first.board (heard dues m)) changed) (done-in-front dues first m)
-    ∙ ap (λ (b : Board). record (moved (heard dues m) m done) { board = b })
+    let what = what_in dues m in
+    let front = board_behind first.board (heard dues m) in
+    ap (λ (b : Board). moved b changed (what_in dues changed) (done_in dues changed)) (heard-in-front dues first m)
+    ∙ ap (λ (told : What). moved front changed told (done_in dues changed)) (what-in-front dues first m)
+    ∙ ap (moved front changed what) (done-in-front dues first m)
+    ∙ ap (λ (b : Board). record (moved (heard dues m) m what done) { board = b })
     (after-in-front done.cycles first.board (record (heard dues m) { core = done.bus }))
+    ∙ ap (λ (told : What). record (behind first (moved (heard dues m) m what done)) { last = told })
+    (sym (acted-told first.last m.registers (prepared dues m)))
 
 off-in-front : (dues : List Incoming) (first m : Machine)
     → stepped_off dues (behind first m) ≡ behind first (stepped_off dues m)

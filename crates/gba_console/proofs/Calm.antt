@@ -1,5 +1,5 @@
 -- Where nothing asks for more, a step is an instruction.
-use Rattle.std.proofs.Common.{◌≡◌, ℕ, ◌<◌, ◌≤◌, Bool, true, false, List, [], refl, ◌∙◌, ap, sym, if◌then◌else◌}
+use Rattle.std.proofs.Common.{◌≡◌, ℕ, ◌+◌, ◌<◌, ◌≤◌, Bool, true, false, List, [], refl, ◌∙◌, ap, sym, if◌then◌else◌, arith}
 use Rattle.std.specs.Prelude.{not, ◌&&◌, ◌||◌, ◌==◌, Option, None, Some, option_map}
 use Rattle.gba_terms.specs.Bits.{bit}
 use Rattle.gba_psr.specs.RegisterFile.{status}
@@ -20,12 +20,13 @@ use Rattle.gba_serial.specs.End.{ended}
 use Rattle.gba_serial.specs.SerialUnit.{SerialUnit}
 use Rattle.gba_serial.specs.Tell.{has_news, silent}
 use Rattle.gba_serial.specs.declared.transfer.Transfer.{Transfer}
-use Rattle.gba_console.specs.Keys.{after_keys, due_of, keys_left}
-use Rattle.gba_console.specs.declared.keys.KeyState.{KeyState}
-use Rattle.gba_console.specs.Machine.{Machine, clock_of}
-use Rattle.gba_console.specs.Step.{acted, acted_for, awake_done, enters, entry_done, idle_done, heard, idles, instruction_done, next, stepped_on}
+use Rattle.gba_console.specs.Keys.{after_keys, due_of}
+use Rattle.gba_console.specs.declared.doing.What.{What}
+use Rattle.gba_console.specs.declared.doing.What.TheVariants.{Idle, Irq}
+use Rattle.gba_console.specs.Machine.{Machine, clock_of, left_of}
+use Rattle.gba_console.specs.Step.{acted, acted_for, applied_in, awake_done, enters, entry_done, idle_done, heard, idles, instruction_done, next, stepped_on, what_acted, what_awake, what_for, what_instructed}
 use Rattle.gba_console.specs.Waiting.{IsPlain}
-use Rattle.gba_console.proofs.Keying.{keys-early, left-early}
+use Rattle.gba_console.proofs.Keying.{count-early, keys-early}
 use Rattle.gba_console.proofs.On.{stepped-is-on}
 
 -- what calm devices don't ask for
@@ -81,6 +82,18 @@ calm-acts file b calm =
     ∙ if-false (enters file b) (entry_done file b) (instruction_done file b)
     (ap (λ (e : Bool). not (bit (status file) 7) && e) parts.none ∙ and-false (not (bit (status file) 7)))
 
+calm-tells : (file : List ℕ) (b : Core) → is_calm b.devices ≡ true → what_acted file b ≡ what_instructed file b
+unfolding what_acted
+calm-tells file b calm =
+    let d = b.devices in
+    let parts = calm-parts d.halted (asks_entry d) (is_moving d.channels) (d.waits == d.priced) calm in
+    ap (λ (unit : Option DmaUnit). what_for unit file b) (no-unit d.channels parts.moving)
+    ∙ if-false (idles b) Idle (what_awake file (core_woken b))
+    (ap (λ (h : Bool). h && not (is_pending d.interrupts)) parts.halted)
+    ∙ ap (what_awake file) (woken-same b parts.halted)
+    ∙ if-false (enters file b) Irq (what_instructed file b)
+    (ap (λ (e : Bool). not (bit (status file) 7) && e) parts.none ∙ and-false (not (bit (status file) 7)))
+
 -- what idle devices don't ask for
 record IsIdle (halt pending move : Bool) : Type 0 where
   halted : halt ≡ true
@@ -110,6 +123,15 @@ idle-acts file b idle =
     let parts = idle-parts d.halted (is_pending d.interrupts) (is_moving d.channels) (d.waits == d.priced) idle in
     ap (λ (unit : Option DmaUnit). acted_for unit file b) (no-unit d.channels parts.moving)
     ∙ if-true (idles b) (idle_done file b) (awake_done file (core_woken b))
+    (idles-by d.halted (is_pending d.interrupts) parts.halted parts.none)
+
+idle-tells : (file : List ℕ) (b : Core) → is_idle b.devices ≡ true → what_acted file b ≡ Idle
+unfolding what_acted
+idle-tells file b idle =
+    let d = b.devices in
+    let parts = idle-parts d.halted (is_pending d.interrupts) (is_moving d.channels) (d.waits == d.priced) idle in
+    ap (λ (unit : Option DmaUnit). what_for unit file b) (no-unit d.channels parts.moving)
+    ∙ if-true (idles b) Idle (what_awake file (core_woken b))
     (idles-by d.halted (is_pending d.interrupts) parts.halted parts.none)
 
 -- A step that begins where no transfer ends, and after a step that told nothing, hears nothing.
@@ -145,40 +167,47 @@ not-second true true both = sym both
 not-second false other both = cc
 
 -- what such a step leaves
-step-is : (m : Machine) (done : Done Core) → heard [] m ≡ m.board → clock_of m < due_of m.keys
-    → acted m.registers m.board.core ≡ done
+none-applied : (m : Machine) → clock_of m < due_of (left_of m) → applied_in m ≡ m.applied
+none-applied m early = let none = count-early (clock_of m) (left_of m) early in omega (arith, none)
+
+step-is : (m : Machine) (what : What) (done : Done Core) → heard [] m ≡ m.board → clock_of m < due_of (left_of m)
+    → what_acted m.registers m.board.core ≡ what → acted m.registers m.board.core ≡ done
     → stepped_on [] m ≡ record m {
       registers = done.registers;
       board = board_after done.cycles (record m.board { core = done.bus });
       was = clock_of m;
+      last = what;
     }
 unfolding stepped_on
-step-is m done here early acts =
-    let left = keys_left (clock_of m) m.keys in
-    let put = λ (b : Board) (some : Done Core) (keys : List KeyState).
+step-is m what done here early tells acts =
+    let count = applied_in m in
+    let put = λ (b : Board) (told : What) (some : Done Core) (applied : ℕ).
     let after : Machine = record m {
       registers = some.registers;
       board = board_after some.cycles (record b { core = some.bus });
-      keys = keys;
+      applied = applied;
       was = clock_of m;
+      last = told;
     } in after in
-    ap (λ (b : Board). put b (acted m.registers (after_keys (clock_of m) m.keys b.core)) left) here
-    ∙ ap (λ (core : Core). put m.board (acted m.registers core) left)
-    (keys-early (clock_of m) m.keys m.board.core early)
-    ∙ ap (λ (some : Done Core). put m.board some left) acts
-    ∙ ap (put m.board done) (left-early (clock_of m) m.keys early)
+    let keyed = λ (b : Board). after_keys (clock_of m) (left_of m) b.core in
+    ap (λ (b : Board). put b (what_acted m.registers (keyed b)) (acted m.registers (keyed b)) count) here
+    ∙ ap (λ (core : Core). put m.board (what_acted m.registers core) (acted m.registers core) count)
+    (keys-early (clock_of m) (left_of m) m.board.core early)
+    ∙ ap (λ (told : What). put m.board told (acted m.registers m.board.core) count) tells
+    ∙ ap (λ (some : Done Core). put m.board what some count) acts
+    ∙ ap (put m.board what done) (none-applied m early)
 
 -- where nothing asks for more than idling, a step is 16 cycles
 pub idle-next : CalmHasBegun → StaysQuiet → (m : Machine) → core_is_idle m.board.core ≡ true → m.off ≤ clock_of m
-    → clock_of m < due_of m.keys → clock_of m < next_end m.board.core.serial
-    → next m ≡ record m { board = board_after 16 m.board; was = clock_of m }
+    → clock_of m < due_of (left_of m) → clock_of m < next_end m.board.core.serial
+    → next m ≡ record m { board = board_after 16 m.board; was = clock_of m; last = Idle }
 idle-next begins quiet m idle on early before =
     let core = m.board.core in
     let devices = and-first (is_idle core.devices) (not (has_news core.serial)) idle in
     let told = not-second (is_idle core.devices) (has_news core.serial) idle in
     stepped-is-on [] m on
-    ∙ step-is m (idle_done m.registers core) (heard-none quiet m (begins.idle core.devices devices) told before) early
-    (idle-acts m.registers core devices)
+    ∙ step-is m Idle (idle_done m.registers core) (heard-none quiet m (begins.idle core.devices devices) told before) early
+    (idle-tells m.registers core devices) (idle-acts m.registers core devices)
 
 pub plain-next : CalmHasBegun → StaysQuiet → (m : Machine) → IsPlain m
     → next m ≡ record m {
@@ -187,22 +216,26 @@ pub plain-next : CalmHasBegun → StaysQuiet → (m : Machine) → IsPlain m
           board_after (instruction_done m.registers m.board.core).cycles
           (record m.board { core = (instruction_done m.registers m.board.core).bus });
       was = clock_of m;
+      last = what_instructed m.registers m.board.core;
     }
 plain-next begins quiet m plain =
     let core = m.board.core in
     let devices = and-first (is_calm core.devices) (not (has_news core.serial)) plain.calm in
     let told = not-second (is_calm core.devices) (has_news core.serial) plain.calm in
     stepped-is-on [] m plain.on
-    ∙ step-is m (instruction_done m.registers core) (heard-none quiet m (begins.calm core.devices devices) told plain.ends)
-    plain.keys (calm-acts m.registers core devices)
+    ∙ step-is m (what_instructed m.registers core) (instruction_done m.registers core)
+    (heard-none quiet m (begins.calm core.devices devices) told plain.ends)
+    plain.keys (calm-tells m.registers core devices) (calm-acts m.registers core devices)
 
 -- what an instruction leaves, put together
-pub put-together : (done : Done Core) (file : List ℕ) (mid : Core) (after : Board) (cycles was clock : ℕ) (m : Machine)
-    → file ≡ done.registers → mid ≡ done.bus → cycles ≡ done.cycles
-    → after ≡ board_after cycles (record m.board { core = mid }) → was ≡ clock
-    → (record m { registers = file; board = after; was = was }) ≡ (record m {
+pub put-together : (done : Done Core) (file : List ℕ) (mid : Core) (after : Board) (cycles was clock : ℕ) (what told : What)
+    (m : Machine) → file ≡ done.registers → mid ≡ done.bus → cycles ≡ done.cycles
+    → after ≡ board_after cycles (record m.board { core = mid }) → was ≡ clock → what ≡ told
+    → (record m { registers = file; board = after; was = was; last = what }) ≡ (record m {
       registers = done.registers;
       board = board_after done.cycles (record m.board { core = done.bus });
       was = clock;
+      last = told;
     })
-put-together done file mid after cycles was clock m one two three four five = rw (four, one, two, three, five) refl
+put-together done file mid after cycles was clock what told m one two three four five six =
+    rw (four, one, two, three, five, six) refl

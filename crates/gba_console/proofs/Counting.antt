@@ -23,7 +23,7 @@ use Rattle.gba_serial.specs.End.{ending}
 use Rattle.gba_serial.specs.declared.transfer.Transfer.{Transfer}
 use Rattle.link_node.specs.declared.signal.Incoming.{Incoming}
 use Rattle.gba_console.specs.Counted.{Counts, CountsAlways, CountsEnded, CountsMade, KeepsKinds}
-use Rattle.gba_console.specs.Machine.{Machine, clock_of, is_off}
+use Rattle.gba_console.specs.Machine.{Machine, clock_of, is_off, left_of}
 use Rattle.gba_console.specs.Passing.{ActsPass}
 use Rattle.gba_console.specs.Step.{all_taken, board_begun, done_in, heard, prepared, prepared_off, stepped, stepped_off, stepped_on}
 use Rattle.gba_console.specs.StepLaws.{keys-lines, keys-place, off-time, taken-lines, taken-made, taken-place}
@@ -154,7 +154,7 @@ module _ (keeps : (d : Devices) → CyclePasses d) (acts : ActsPass) (passes : (
       let done = done_in dues m in
       let acted : Board = record b { core = done.bus } in
       let place : done.bus.devices.place ≡ m.board.core.devices.place
-      = (acts.all m.registers (prepared dues m)).course.place ∙ keys-place (clock_of m) m.keys b.core
+      = (acts.all m.registers (prepared dues m)).course.place ∙ keys-place (clock_of m) (left_of m) b.core
       ∙ taken-place dues (board_begun m.board) in
       let lines : done.bus.lines ≡ m.board.core.lines
       = (acts.all m.registers (prepared dues m)).course.lines ∙ keys-lines (clock_of m) m.keys b.core

@@ -15,20 +15,22 @@ use Rattle.gba_io.specs.Core.{core_is_idle}
 use Rattle.gba_io.specs.declared.board.Board.{Board}
 use Rattle.gba_serial.specs.Apart.{StaysQuiet, next_end}
 use Rattle.gba_console.specs.Keys.{due_of}
-use Rattle.gba_console.specs.Machine.{Machine, clock_of}
+use Rattle.gba_console.specs.Machine.{Machine, clock_of, left_of}
 use Rattle.gba_console.specs.Step.{next}
 use Rattle.gba_console.specs.StepLaws.{same-ends}
 use Rattle.gba_console.specs.Waiting.{IsSound}
 use Rattle.gba_console.proofs.Calm.{idle-next}
 use Rattle.gba_console.proofs.Passing.{has-room, sound-ready, step-sound, step-was}
+use Rattle.gba_console.specs.declared.doing.What.TheVariants.{Idle}
+use Rattle.gba_console.specs.declared.keys.KeyState.{KeyState}
 
 module _ (passes : (cycles : ℕ) (b : Board) → BoardPasses cycles b) where
   pub idle-is : CalmHasBegun → StaysQuiet → (m : Machine) (after : Board) → core_is_idle m.board.core ≡ true
-      → m.off ≤ clock_of m → clock_of m < due_of m.keys → clock_of m < next_end m.board.core.serial → after ≡ board_after 16 m.board
-      → (record m { board = after; was = after.core.devices.clock - 16 }) ≡ next m
+      → m.off ≤ clock_of m → clock_of m < due_of (left_of m) → clock_of m < next_end m.board.core.serial → after ≡ board_after 16 m.board
+      → (record m { board = after; was = after.core.devices.clock - 16; last = Idle }) ≡ next m
   idle-is begun quiet m after idle on early before e =
-      ap (λ (b : Board). record m { board = b; was = b.core.devices.clock - 16 }) e
-      ∙ ap (λ (was : ℕ). record m { board = board_after 16 m.board; was = was })
+      ap (λ (b : Board). record m { board = b; was = b.core.devices.clock - 16; last = Idle }) e
+      ∙ ap (λ (was : ℕ). record m { board = board_after 16 m.board; was = was; last = Idle })
       (step-was (clock_of m) 16 m.board (board_after 16 m.board) refl (passes 16 m.board) refl)
       ∙ sym (idle-next begun quiet m idle on early before)
 
@@ -49,18 +51,19 @@ idle-room was b sound early =
 pub machine_at : Machine → ℕ → Machine
 machine_at m zero = m
 machine_at m (suc steps) =
-    let after = board_after (16 * suc steps) m.board in record m { board = after; was = after.core.devices.clock - 16 }
+    let after = board_after (16 * suc steps) m.board in
+    record m { board = after; was = after.core.devices.clock - 16; last = Idle }
 
 module _ (passes : (cycles : ℕ) (b : Board) → BoardPasses cycles b) (begun : CalmHasBegun) (quiet : StaysQuiet)
     (steps_pass : (m : Machine) → StepPasses [] m) (m : Machine) (stop : ℕ)
-    (idle : core_is_idle m.board.core ≡ true) (on : m.off ≤ clock_of m) (early : stop ≤ due_of m.keys) (before : stop ≤ next_end m.board.core.serial) where
+    (idle : core_is_idle m.board.core ≡ true) (on : m.off ≤ clock_of m) (early : stop ≤ due_of (left_of m)) (before : stop ≤ next_end m.board.core.serial) where
   -- after some of them, its board
   board-at : (steps : ℕ) → (machine_at m steps).board ≡ board_after (16 * steps) m.board
   unfolding machine_at board_after
   board-at zero = refl
   board-at (suc steps) = refl
 
-  keys-at : (steps : ℕ) → (machine_at m steps).keys ≡ m.keys
+  keys-at : (steps : ℕ) → left_of (machine_at m steps) ≡ left_of m
   unfolding machine_at
   keys-at zero = refl
   keys-at (suc steps) = refl
@@ -92,6 +95,7 @@ module _ (passes : (cycles : ℕ) (b : Board) → BoardPasses cycles b) (begun :
   next-at : (steps : ℕ) → (record (machine_at m steps) {
     board = board_after (16 * suc steps) m.board;
     was = (board_after (16 * suc steps) m.board).core.devices.clock - 16;
+    last = Idle;
   }) ≡ machine_at m (suc steps)
   unfolding machine_at
   next-at zero = refl
@@ -143,11 +147,11 @@ module _ (passes : (cycles : ℕ) (b : Board) → BoardPasses cycles b) (begun :
 
   -- what a console is that has made them
   pub made-at : (count : ℕ) → 0 < count → (after : Board) → after ≡ board_after (16 * count) m.board
-      → (record m { board = after; was = after.core.devices.clock - 16 }) ≡ machine_at m count
+      → (record m { board = after; was = after.core.devices.clock - 16; last = Idle }) ≡ machine_at m count
   unfolding machine_at
   made-at zero some after e = absurd (omega (arith, some))
   made-at (suc steps) some after e =
-      ap (λ (b : Board). record m { board = b; was = b.core.devices.clock - 16 }) e
+      ap (λ (b : Board). record m { board = b; was = b.core.devices.clock - 16; last = Idle }) e
 
   pub many-sound : (count : ℕ) → 0 < count → (after : Board) → after ≡ board_after (16 * count) m.board
       → IsSound m.was m.board → m.was ≤ clock_of m → stop ≤ m.board.made.until → clock_of m + 16 * count < stop + 16
@@ -159,7 +163,7 @@ module _ (passes : (cycles : ℕ) (b : Board) → BoardPasses cycles b) (begun :
   pub many-alone : (count : ℕ) → 0 < count → (after : Board) → after ≡ board_after (16 * count) m.board
       → ((steps : ℕ) → steps ≤ count → is_idle (board_after (16 * steps) m.board).core.devices ≡ is_idle m.board.core.devices)
       → clock_of m + 16 * count < stop + 16
-      → GoesAlone stop m (record m { board = after; was = after.core.devices.clock - 16 }) None
+      → GoesAlone stop m (record m { board = after; was = after.core.devices.clock - 16; last = Idle }) None
   many-alone count some after e same below =
       let none : Option Signal = None in
       subst (λ (z : Machine). GoesAlone stop m z none) (sym (made-at count some after e)) (idle-row count same below)

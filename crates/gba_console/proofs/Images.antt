@@ -247,7 +247,7 @@ acted-images m file clock changes before keyed core same keys e =
     (record { bios = refl; rom = refl })))
 
 -- a table that was lent out as a slice of the same length
-pub whole-again : (lent old : List KeptHalf) (count : ℕ) → length lent ≡ count
+pub whole-again : {A : Type 0} (lent old : List A) (count : ℕ) → length lent ≡ count
     → take count (lent ++ drop (length lent) old) ≡ lent
 whole-again lent old count same =
     rw (← same) (take-append_seam lent (drop (length lent) old))

@@ -16,13 +16,14 @@ use Rattle.gba_ppu_reg.specs.declared.position.Position.{Position}
 use Rattle.gba_serial.specs.SerialUnit.{SerialUnit}
 use Rattle.gba_serial.specs.declared.transfer.Transfer.{Transfer}
 use Rattle.link_node.specs.declared.signal.Incoming.{Incoming}
-use Rattle.gba_console.specs.Keys.{after_keys, keys_left}
-use Rattle.gba_console.specs.Machine.{Machine, clock_of, first_on}
-use Rattle.gba_console.specs.Step.{all_learned, prepared_off, stepped_off}
+use Rattle.gba_console.specs.Keys.{after_keys}
+use Rattle.gba_console.specs.Machine.{Machine, clock_of, first_on, left_of}
+use Rattle.gba_console.specs.Step.{all_learned, prepared_off, stepped_off, applied_in}
 use Rattle.gba_console.specs.declared.keys.KeyState.{KeyState}
 use Rattle.gba_console.specs.StepLaws.{off-serial, off-time}
 use Rattle.gba_console.specs.Waiting.{IsKept, IsResting, IsSound}
 use Rattle.gba_console.proofs.Images.{HasImages, keyed-memory}
+use Rattle.gba_console.specs.declared.doing.What.TheVariants.{Off}
 
 -- 16 cycles pass
 pub rests-on : (off : ℕ) (b : Board) (core : Core) → IsResting off b → core.devices.clock ≡ b.core.devices.clock + 16
@@ -96,7 +97,7 @@ pub off-images : (dues : List Incoming) (m : Machine) (core : Core) → core ≡
     → HasImages m.board.core.memory.bios m.board.core.memory.rom core.memory
 off-images dues m core e =
     let same : core.memory ≡ m.board.core.memory
-    = ap (λ (b : Core). b.memory) e ∙ keyed-memory (clock_of m) m.keys (all_learned dues (core_begun m.board.core))
+    = ap (λ (b : Core). b.memory) e ∙ keyed-memory (clock_of m) (left_of m) (all_learned dues (core_begun m.board.core))
     ∙ learned-memory dues (core_begun m.board.core) in
     record { bios = ap (λ (n : Memories). n.bios) same; rom = ap (λ (n : Memories). n.rom) same }
 
@@ -203,27 +204,34 @@ reset-kept off was until b player count round bios cart save backup room most fi
 
 -- what the code has is what the step says
 pub prepares-off : (m : Machine) (dues : List Incoming) (begun learned keyed : Core) (clock : ℕ) (changes : List KeyState)
-    → begun ≡ core_begun m.board.core → learned ≡ all_learned dues begun → clock ≡ clock_of m → changes ≡ m.keys
+    → begun ≡ core_begun m.board.core → learned ≡ all_learned dues begun → clock ≡ clock_of m → changes ≡ left_of m
     → keyed ≡ after_keys clock changes learned → keyed ≡ prepared_off dues m
 prepares-off m dues begun learned keyed clock changes start heard same list e =
     e ∙ ap (λ (n : ℕ). after_keys n changes learned) same
     ∙ ap (λ (list : List KeyState). after_keys (clock_of m) list learned) list
-    ∙ ap (after_keys (clock_of m) m.keys) (heard ∙ ap (all_learned dues) start)
+    ∙ ap (after_keys (clock_of m) (left_of m)) (heard ∙ ap (all_learned dues) start)
 
 pub left-off : (m : Machine) (dues : List Incoming) (core : Core) → core ≡ prepared_off dues m
     → core.devices.clock ≡ clock_of m
 left-off m dues core e = ap (λ (b : Core). b.devices.clock) e ∙ (off-time dues m).clock
 
-pub off-made : (m : Machine) (dues : List Incoming) (core : Core) (keys : List KeyState)
-    → core ≡ core_rested 16 (prepared_off dues m) → keys ≡ keys_left (clock_of m) m.keys
-    → (record m { board = record m.board { core = core }; keys = keys; was = core.devices.clock - 16 }) ≡ stepped_off dues m
+pub off-made : (m : Machine) (dues : List Incoming) (core : Core) (applied : ℕ)
+    → core ≡ core_rested 16 (prepared_off dues m) → applied ≡ applied_in m
+    → (record m { board = record m.board { core = core }; applied = applied; was = core.devices.clock - 16; last = Off })
+    ≡ stepped_off dues m
 unfolding stepped_off
-off-made m dues core keys e left =
+off-made m dues core applied e left =
     let was : core.devices.clock - 16 ≡ clock_of m = omega (arith, off-clock dues m core e) in
-    ap (λ (n : ℕ). record m { board = record m.board { core = core }; keys = keys; was = n }) was
-    ∙ ap (λ (b : Core). record m { board = record m.board { core = b }; keys = keys; was = clock_of m }) e
-    ∙ ap (λ (list : List KeyState). record m {
-      board = record m.board { core = core_rested 16 (prepared_off dues m) };
-      keys = list;
+    ap (λ (n : ℕ). record m { board = record m.board { core = core }; applied = applied; was = n; last = Off }) was
+    ∙ ap (λ (b : Core). record m {
+      board = record m.board { core = b };
+      applied = applied;
       was = clock_of m;
+      last = Off;
+    }) e
+    ∙ ap (λ (n : ℕ). record m {
+      board = record m.board { core = core_rested 16 (prepared_off dues m) };
+      applied = n;
+      was = clock_of m;
+      last = Off;
     }) left

@@ -1,5 +1,5 @@
 -- A step, put together from what its parts do.
-use Rattle.std.proofs.Common.{◌≡◌, ℕ, ◌<◌, ◌≤◌, List, Option, refl, ◌∙◌, sym, ap, subst, arith}
+use Rattle.std.proofs.Common.{◌≡◌, ℕ, ◌+◌, ◌<◌, ◌≤◌, List, Option, refl, ◌∙◌, sym, ap, subst, arith}
 use Rattle.std.specs.Prelude.{All}
 use Rattle.gba_exec_transfers.specs.Done.{Leaves}
 use Rattle.gba_io.specs.Board.{IsInStep, board_after}
@@ -11,16 +11,17 @@ use Rattle.gba_serial.specs.Tell.{outgoing}
 use Rattle.link_node.specs.Due.{InOrder, IsDue}
 use Rattle.link_node.specs.declared.signal.Incoming.{Incoming}
 use Rattle.link_node.specs.declared.signal.Signal.{Signal}
-use Rattle.gba_console.specs.Keys.{after_keys, keys_left}
-use Rattle.gba_console.specs.Machine.{Machine, clock_of}
+use Rattle.gba_console.specs.Keys.{after_keys, due_count}
+use Rattle.gba_console.specs.Machine.{Machine, clock_of, left_of}
 use Rattle.gba_console.specs.Passing.{ActsPass, KeepsCourse}
-use Rattle.gba_console.specs.Step.{acted, all_taken, board_begun, done_in, heard, prepared, stepped_on, told_on}
+use Rattle.gba_console.specs.Step.{acted, all_taken, board_begun, done_in, heard, prepared, stepped_on, told_on, applied_in, what_acted, what_in}
 use Rattle.gba_console.specs.Waiting.{IsSound}
 use Rattle.gba_console.specs.declared.keys.KeyState.{KeyState}
 use Rattle.gba_console.specs.StepLaws.{keys-clock, keys-lines, keys-place, keys-serial, taken-lines}
 use Rattle.gba_console.specs.StepLaws.{prepared-clock, taken-clock, taken-made, taken-place, taken-until}
 use Rattle.gba_console.proofs.Passing.{IsReady, core-in-step, keeps-from, left-clock, left-ends}
 use Rattle.gba_console.proofs.Taking.{Taken, all-map, takes}
+use Rattle.gba_console.specs.declared.doing.What.{What}
 
 -- what the code has is what the step says
 pub begins-is : (m : Machine) (dues : List Incoming) (begun : Core) (mid : Board) → begun ≡ core_begun m.board.core
@@ -34,7 +35,7 @@ hears-is m dues mid after taken e =
     ∙ ap (λ n. board_ended n (all_taken dues (board_begun m.board))) (taken-clock dues (board_begun m.board))
 
 pub keyed-is : (m : Machine) (dues : List Incoming) (after : Board) (clock : ℕ) (changes : List KeyState) (keyed : Core)
-    → after ≡ heard dues m → clock ≡ clock_of m → changes ≡ m.keys → keyed ≡ after_keys clock changes after.core
+    → after ≡ heard dues m → clock ≡ clock_of m → changes ≡ left_of m → keyed ≡ after_keys clock changes after.core
     → keyed ≡ prepared dues m
 keyed-is m dues after clock changes keyed here same list e =
     e ∙ ap (λ (b : Board). after_keys clock changes b.core) here
@@ -47,16 +48,27 @@ pub acts-is : (m : Machine) (dues : List Incoming) (keyed : Core) (file : List �
 acts-is m dues keyed file core cycles same leaves =
     subst (λ (b : Core). Leaves (acted m.registers b) file core cycles) same leaves
 
-pub step-is-made : (m : Machine) (dues : List Incoming) (b after : Board) (file : List ℕ) (core : Core) (cycles was : ℕ)
-    (keys : List KeyState) → b ≡ heard dues m → Leaves (done_in dues m) file core cycles
-    → after ≡ board_after cycles (record b { core = core }) → keys ≡ keys_left (clock_of m) m.keys → was ≡ clock_of m
-    → (record m { registers = file; board = after; keys = keys; was = was }) ≡ stepped_on dues m
+pub what-is : (m : Machine) (dues : List Incoming) (keyed : Core) (what : What) → keyed ≡ prepared dues m
+    → what ≡ what_acted m.registers keyed → what ≡ what_in dues m
+what-is m dues keyed what same e = e ∙ ap (what_acted m.registers) same
+
+pub applied-is : (m : Machine) (clock applied : ℕ) (changes : List KeyState) → clock ≡ clock_of m → changes ≡ left_of m
+    → applied ≡ m.applied + due_count clock changes → applied ≡ applied_in m
+applied-is m clock applied changes same list e =
+    e ∙ ap (λ (n : ℕ). m.applied + due_count n changes) same
+    ∙ ap (λ (list : List KeyState). m.applied + due_count (clock_of m) list) list
+
+pub step-is-made : (m : Machine) (dues : List Incoming) (b after : Board) (file : List ℕ) (core : Core) (cycles was applied : ℕ)
+    (what : What) → b ≡ heard dues m → Leaves (done_in dues m) file core cycles
+    → after ≡ board_after cycles (record b { core = core }) → applied ≡ applied_in m → was ≡ clock_of m
+    → what ≡ what_in dues m
+    → (record m { registers = file; board = after; applied = applied; was = was; last = what }) ≡ stepped_on dues m
 unfolding stepped_on
-step-is-made m dues b after file core cycles was keys here leaves moved left same =
+step-is-made m dues b after file core cycles was applied what here leaves moved left same told =
     let registers = leaves.registers_left in
     let bus = leaves.bus_left in
     let taken = leaves.cycles_taken in
-    rw (moved, here, registers, bus, taken, left, same) refl
+    rw (moved, here, registers, bus, taken, left, same, told) refl
 
 pub told-is : ActsPass → (m : Machine) (dues : List Incoming) (file : List ℕ) (core : Core) (cycles : ℕ) (signal : Option Signal)
     → Leaves (done_in dues m) file core cycles → signal ≡ outgoing core.devices.clock core.serial → signal ≡ told_on dues m

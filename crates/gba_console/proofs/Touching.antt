@@ -31,7 +31,7 @@ use Rattle.link_node.specs.declared.signal.Incoming.{Incoming}
 use Rattle.gba_agreement.specs.UnitView.{HasUnit, Rests, Touches}
 use Rattle.gba_console.specs.Alone.{console_kind}
 use Rattle.gba_console.specs.Linked.{console_view}
-use Rattle.gba_console.specs.Machine.{Machine, clock_of}
+use Rattle.gba_console.specs.Machine.{Machine, clock_of, left_of}
 use Rattle.gba_console.specs.Run.{StepPasses}
 use Rattle.gba_console.specs.Step.{acted, acted_for, all_taken, awake_done, board_begun, done_in, enters, entry_done, half_done, heard, idle_done, idles, in_thumb, instruction_done, prepared, stepped, stepped_off, stepped_on, told_on, word_done}
 use Rattle.gba_console.specs.StepLaws.{keys-serial, known_after, off-serial, prepared-clock}
@@ -179,7 +179,7 @@ prepared-is : (dues : List Incoming) (m : Machine)
 prepared-is dues m = record {
   clock_is = prepared-clock dues m;
   writes = [];
-  serial_is = keys-serial (clock_of m) m.keys (heard dues m).core ∙ heard-serial dues m;
+  serial_is = keys-serial (clock_of m) (left_of m) (heard dues m).core ∙ heard-serial dues m;
 }
 
 module _ (cycles : (count : ℕ) (b : Board) → BoardPasses count b)

@@ -13,9 +13,10 @@ use Rattle.gba_serial.specs.Tell.{outgoing}
 use Rattle.link_node.specs.declared.signal.Incoming.{Incoming}
 use Rattle.link_node.specs.declared.signal.Signal.{Signal}
 use Rattle.gba_console.specs.Keys.{after_keys}
-use Rattle.gba_console.specs.Machine.{Machine, board_without_limit, clock_of, is_off, without_limit}
-use Rattle.gba_console.specs.Step.{acted, all_taken, board_begun, done_in, heard, moved, stepped, stepped_off, stepped_on, told, told_on}
+use Rattle.gba_console.specs.Machine.{Machine, board_without_limit, clock_of, is_off, without_limit, left_of}
+use Rattle.gba_console.specs.Step.{acted, all_taken, board_begun, done_in, heard, moved, stepped, stepped_off, stepped_on, told, told_on, what_acted, what_in}
 use Rattle.gba_console.proofs.On.{both}
+use Rattle.gba_console.specs.declared.doing.What.{What}
 
 cycle-unlimited : (b : Board) → board_cycle (board_without_limit b) ≡ board_without_limit (board_cycle b)
 unfolding board_cycle
@@ -56,16 +57,23 @@ heard-unlimited dues m =
 
 done-unlimited : (dues : List Incoming) (m : Machine) → done_in dues (without_limit m) ≡ done_in dues m
 done-unlimited dues m =
-    ap (λ (b : Board). acted m.registers (after_keys (clock_of m) m.keys b.core)) (heard-unlimited dues m)
+    ap (λ (b : Board). acted m.registers (after_keys (clock_of m) (left_of m) b.core)) (heard-unlimited dues m)
+
+what-unlimited : (dues : List Incoming) (m : Machine) → what_in dues (without_limit m) ≡ what_in dues m
+what-unlimited dues m =
+    ap (λ (b : Board). what_acted m.registers (after_keys (clock_of m) (left_of m) b.core)) (heard-unlimited dues m)
 
 on-unlimited : (dues : List Incoming) (m : Machine) → stepped_on dues (without_limit m) ≡ without_limit (stepped_on dues m)
 unfolding stepped_on
 on-unlimited dues m =
     let plain = without_limit m in
     let done = done_in dues m in
-    ap (λ (b : Board). moved b plain (done_in dues plain)) (heard-unlimited dues m)
-    ∙ ap (moved (board_without_limit (heard dues m)) plain) (done-unlimited dues m)
-    ∙ ap (λ (b : Board). record (moved (heard dues m) m done) { board = b })
+    let what = what_in dues m in
+    let heard_plain = board_without_limit (heard dues m) in
+    ap (λ (b : Board). moved b plain (what_in dues plain) (done_in dues plain)) (heard-unlimited dues m)
+    ∙ ap (λ (told : What). moved heard_plain plain told (done_in dues plain)) (what-unlimited dues m)
+    ∙ ap (moved heard_plain plain what) (done-unlimited dues m)
+    ∙ ap (λ (b : Board). record (moved (heard dues m) m what done) { board = b })
     (after-unlimited done.cycles (record (heard dues m) { core = done.bus }))
 
 off-unlimited : (dues : List Incoming) (m : Machine) → stepped_off dues (without_limit m) ≡ without_limit (stepped_off dues m)

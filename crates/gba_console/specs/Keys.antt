@@ -1,4 +1,4 @@
-use Rattle.std.specs.Prelude.{ℕ, ◌-◌, ◌^◌, List, [], ◌∷◌, nat_le, nat_lt, if◌then◌else◌}
+use Rattle.std.specs.Prelude.{ℕ, ◌+◌, ◌-◌, ◌^◌, List, [], ◌∷◌, nat_le, nat_lt, if◌then◌else◌}
 use Rattle.gba_io.specs.Core.{Core, core_keyed}
 use Rattle.gba_console.specs.declared.keys.KeyState.{KeyState}
 
@@ -12,11 +12,10 @@ after_keys clock [] b = b
 after_keys clock (change ∷ changes) b =
     if nat_le change.clock clock then after_keys clock changes (core_keyed change.keys b) else b
 
--- the changes that are left
-unfoldable pub keys_left : ℕ → List KeyState → List KeyState
-keys_left clock [] = []
-keys_left clock (change ∷ changes) =
-    if nat_le change.clock clock then keys_left clock changes else change ∷ changes
+-- how many of them that are
+unfoldable pub due_count : ℕ → List KeyState → ℕ
+due_count clock [] = 0
+due_count clock (change ∷ changes) = if nat_le change.clock clock then 1 + due_count clock changes else 0
 
 -- the clock of the first change, or one that no run reaches
 abbrev pub due_of : List KeyState → ℕ

@@ -1,5 +1,6 @@
 pub mod Alone
 pub mod Counted
+pub mod Doing
 pub mod Fixed
 pub mod Keys
 pub mod Linked

@@ -1,20 +1,29 @@
-use Rattle.std.specs.Prelude.{ℕ, ◌+◌, ◌*◌, ◌/◌, Bool, List, Option, nat_lt}
+use Rattle.std.specs.Prelude.{ℕ, ◌+◌, ◌*◌, ◌/◌, Bool, List, Option, drop, nat_lt}
 use Rattle.gba_psr.specs.RegisterFile.{reset_file}
 use Rattle.gba_io.specs.Base.{at_reset}
 use Rattle.gba_image.specs.declared.backup.Backup.{Backup}
 use Rattle.gba_io.specs.Board.{board_at_start, board_begun_at, board_emptied, board_from}
 use Rattle.gba_io.specs.declared.board.Board.{Board}
 use Rattle.gba_io.specs.declared.made.Room.{Room}
+use Rattle.gba_console.specs.declared.doing.What.{What}
+use Rattle.gba_console.specs.declared.doing.What.TheVariants.{Nothing}
 use Rattle.gba_console.specs.declared.keys.KeyState.{KeyState}
 
--- a console: its 37 registers in the order of the register names, its board, the key changes that aren't applied yet, in
--- their order, the clock below which it is off, and the clock at which the last step began, 0 before the first
+-- a console: its 37 registers in the order of the register names, its board, all changes of its keys in their order and how
+-- many of them are applied, the clock below which it is off, the clock at which the last step began, 0 before the first,
+-- and what that step did
 pub record Machine : Type 0 where
   pub registers : List ℕ
   pub board : Board
   pub keys : List KeyState
+  pub applied : ℕ
   pub off : ℕ
   pub was : ℕ
+  pub last : What
+
+-- the key changes that aren't applied yet
+abbrev pub left_of : Machine → List KeyState
+left_of m = drop m.applied m.keys
 
 -- its clock in cycles since reset
 abbrev pub clock_of : Machine → ℕ
@@ -47,10 +56,12 @@ reset player count round off bios cart save backup keys room = record {
   registers = reset_file;
   board = board_begun_at (first_on off) room.until (board_at_start player count round bios cart save backup room);
   keys = keys;
+  applied = 0;
   off = off;
   was = 0;
+  last = Nothing;
 }
 
--- its three lists are emptied, and what they had stays counted
+-- its three lists are emptied, what they had stays counted, and what its last step did isn't told any more
 abbrev pub forgotten : Machine → Machine
-forgotten m = record m { board = board_emptied m.board }
+forgotten m = record m { board = board_emptied m.board; last = Nothing }

@@ -8,8 +8,20 @@ use Rattle.link_order.specs.GlobalOrder.{run}
 use Rattle.link_order.specs.declared.sent.Sent.{Sent}
 use Rattle.gba_console.specs.Alone.{console_kind}
 use Rattle.gba_console.specs.Machine.{Machine, forgotten}
+use Rattle.gba_console.specs.declared.doing.What.{What}
+use Rattle.gba_console.specs.declared.doing.What.TheVariants.{Nothing, Dma, Idle, Irq, Off, Arm, Thumb}
 
 -- Runs in segments: between two of them the lists of the consoles are emptied (this project's profile).
+
+-- what the last step did, or where there is none, what the last one before did
+abbrev pub last_behind : What → What → What
+last_behind first Nothing = first
+last_behind first (Dma channel) = Dma channel
+last_behind first Idle = Idle
+last_behind first Irq = Irq
+last_behind first Off = Off
+last_behind first (Arm address word) = Arm address word
+last_behind first (Thumb address half) = Thumb address half
 
 -- a console with the lists of another one in front of its own
 abbrev pub made_behind : Made → Made → Made
@@ -22,7 +34,7 @@ abbrev pub board_behind : Board → Board → Board
 board_behind first b = record b { made = made_behind first.made b.made; ended = ended_behind first.ended b.ended }
 
 abbrev pub behind : Machine → Machine → Machine
-behind first m = record m { board = board_behind first.board m.board }
+behind first m = record m { board = board_behind first.board m.board; last = last_behind first.last m.last }
 
 -- the same where there is one
 abbrev pub behind_if : Option Machine → Machine → Machine

@@ -1,6 +1,7 @@
 use Rattle.gba_io.specs.Board.{board_emptied}
 use Rattle.gba_io.specs.declared.board.Board.{Board}
 use Rattle.gba_console.specs.Machine.{Machine, board_without_limit}
+use Rattle.gba_console.specs.declared.doing.What.TheVariants.{Nothing}
 use Rattle.gba_console.specs.Step.{board_begun}
 
 -- A console but for what no step looks at (this project's profile).
@@ -9,9 +10,10 @@ use Rattle.gba_console.specs.Step.{board_begun}
 abbrev pub rested : Machine → Machine
 rested m = record m { board = board_begun m.board }
 
--- and the three lists are empty, where they begin is as at reset, and the end of their room is 0
+-- and the three lists are empty, where they begin is as at reset, the end of their room is 0, and what the last step did
+-- isn't told
 abbrev pub shorn_board : Board → Board
 shorn_board b = board_without_limit (board_emptied b)
 
 abbrev pub shorn : Machine → Machine
-shorn m = rested (record m { board = shorn_board m.board })
+shorn m = rested (record m { board = shorn_board m.board; last = Nothing })

@@ -23,8 +23,10 @@ use Rattle.gba_io.specs.Units.{core_after_unit, unit_cycles}
 use Rattle.gba_serial.specs.Tell.{outgoing}
 use Rattle.link_node.specs.declared.signal.Incoming.{Incoming}
 use Rattle.link_node.specs.declared.signal.Signal.{Signal}
-use Rattle.gba_console.specs.Keys.{after_keys, keys_left}
-use Rattle.gba_console.specs.Machine.{Machine, clock_of, is_off}
+use Rattle.gba_console.specs.Keys.{after_keys, due_count}
+use Rattle.gba_console.specs.Machine.{Machine, clock_of, is_off, left_of}
+use Rattle.gba_console.specs.declared.doing.What.{What}
+use Rattle.gba_console.specs.declared.doing.What.TheVariants.{Dma, Idle, Irq, Off, Arm, Thumb}
 
 -- what the instruction at r15 is read as: a word, or a halfword
 abbrev pub instruction : Width → List ℕ → Core → ℕ
@@ -97,6 +99,25 @@ acted_for None file b = undisturbed_done file b
 unfoldable pub acted : List ℕ → Core → Done Core
 acted file b = acted_for (next_unit b.devices.channels) file b
 
+-- What that is, in the words of a list of steps: the instruction is told as it was read.
+abbrev pub what_instructed : List ℕ → Core → What
+what_instructed file b =
+    if in_thumb file then Thumb (register file 15) (instruction Half file b)
+    else Arm (register file 15) (instruction Word file b)
+
+abbrev pub what_awake : List ℕ → Core → What
+what_awake file b = if enters file b then Irq else what_instructed file b
+
+abbrev pub what_undisturbed : List ℕ → Core → What
+what_undisturbed file b = if idles b then Idle else what_awake file (core_woken b)
+
+abbrev pub what_for : Option DmaUnit → List ℕ → Core → What
+what_for (Some unit) file b = Dma unit.channel
+what_for None file b = what_undisturbed file b
+
+unfoldable pub what_acted : List ℕ → Core → What
+what_acted file b = what_for (next_unit b.devices.channels) file b
+
 -- the board once the signals that are due are taken, one after another
 abbrev pub all_taken : List Incoming → Board → Board
 all_taken [] b = b
@@ -112,23 +133,31 @@ heard dues m = board_ended (clock_of m) (all_taken dues (board_begun m.board))
 
 -- its core once the keys that are due changed
 abbrev pub prepared : List Incoming → Machine → Core
-prepared dues m = after_keys (clock_of m) m.keys (heard dues m).core
+prepared dues m = after_keys (clock_of m) (left_of m) (heard dues m).core
 
 abbrev pub done_in : List Incoming → Machine → Done Core
 done_in dues m = acted m.registers (prepared dues m)
 
+abbrev pub what_in : List Incoming → Machine → What
+what_in dues m = what_acted m.registers (prepared dues m)
+
+-- how many of its key changes are applied once those are that are due
+abbrev pub applied_in : Machine → ℕ
+applied_in m = m.applied + due_count (clock_of m) (left_of m)
+
 -- a console after what a step did: the devices move by its cycles, and make what they make
-abbrev pub moved : Board → Machine → Done Core → Machine
-moved b m done = record m {
+abbrev pub moved : Board → Machine → What → Done Core → Machine
+moved b m what done = record m {
   registers = done.registers;
   board = board_after done.cycles (record b { core = done.bus });
-  keys = keys_left (clock_of m) m.keys;
+  applied = applied_in m;
   was = clock_of m;
+  last = what;
 }
 
 -- A step of a console that is on, which takes these signals, and what it tells: that is known before the devices move.
 unfoldable pub stepped_on : List Incoming → Machine → Machine
-stepped_on dues m = moved (heard dues m) m (done_in dues m)
+stepped_on dues m = moved (heard dues m) m (what_in dues m) (done_in dues m)
 
 unfoldable pub told_on : List Incoming → Machine → Option Signal
 told_on dues m = outgoing (clock_of m) (done_in dues m).bus.serial
@@ -140,15 +169,16 @@ all_learned [] b = b
 all_learned (due ∷ dues) b = all_learned dues (core_learned due b)
 
 abbrev pub prepared_off : List Incoming → Machine → Core
-prepared_off dues m = after_keys (clock_of m) m.keys (all_learned dues (core_begun m.board.core))
+prepared_off dues m = after_keys (clock_of m) (left_of m) (all_learned dues (core_begun m.board.core))
 
 -- A step of a console that is off: the modes of due peers are known and the keys that are due change, and then 16 cycles
 -- pass in which no device moves.
 unfoldable pub stepped_off : List Incoming → Machine → Machine
 stepped_off dues m = record m {
   board = record m.board { core = core_rested 16 (prepared_off dues m) };
-  keys = keys_left (clock_of m) m.keys;
+  applied = applied_in m;
   was = clock_of m;
+  last = Off;
 }
 
 -- A step of either, and what it tells: a console that is off tells nothing.

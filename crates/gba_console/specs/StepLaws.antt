@@ -29,7 +29,7 @@ use Rattle.gba_serial.specs.Tell.{outgoing, silent}
 use Rattle.link_node.specs.declared.signal.LinkMode.{LinkMode}
 use Rattle.link_node.specs.declared.signal.Signal.{Signal}
 use Rattle.link_node.specs.declared.signal.Incoming.{Incoming}
-use Rattle.gba_console.specs.Machine.{Machine, clock_of, is_off}
+use Rattle.gba_console.specs.Machine.{Machine, clock_of, is_off, left_of}
 use Rattle.gba_console.specs.Passing.{ActsPass, KeepsCourse, Passes}
 use Rattle.gba_console.specs.Run.{Follows, StepPasses}
 use Rattle.gba_console.specs.Step.{acted, acted_for, all_learned, all_taken, awake_done, board_begun, done_in, enters, entry_done, execution_of_half, execution_of_word, half_done, heard, idle_done, idles, in_thumb, instruction, instruction_done, next_site, prepared, prepared_off, stepped, stepped_off, stepped_on, told, told_on, undisturbed_done, unit_done, word_done}
@@ -412,7 +412,7 @@ taken-until [] b = refl
 taken-until (due ∷ dues) b = taken-until dues (board_taken due b)
 
 pub prepared-clock : (dues : List Incoming) (m : Machine) → (prepared dues m).devices.clock ≡ clock_of m
-prepared-clock dues m = keys-clock (clock_of m) m.keys (heard dues m).core ∙ taken-clock dues (board_begun m.board)
+prepared-clock dues m = keys-clock (clock_of m) (left_of m) (heard dues m).core ∙ taken-clock dues (board_begun m.board)
 
 -- what a console that is off learns: modes of its peers
 pub known_after : List Incoming → SerialUnit → List LinkMode
@@ -444,7 +444,7 @@ learned-lines (due ∷ dues) b = learned-lines dues (core_learned due b)
 pub off-time : (dues : List Incoming) (m : Machine) → IsSameTime m.board.core (prepared_off dues m)
 off-time dues m =
     let learned = all_learned dues (core_begun m.board.core) in
-    let kept = keys-time (clock_of m) m.keys learned in
+    let kept = keys-time (clock_of m) (left_of m) learned in
     let same = learned-devices dues (core_begun m.board.core) in
     record {
       clock = kept.clock ∙ ap (λ (d : Devices). d.clock) same;
@@ -455,7 +455,7 @@ off-time dues m =
 pub off-serial : (dues : List Incoming) (m : Machine) → (prepared_off dues m).serial
     ≡ record (silent m.board.core.serial) { known = known_after dues (silent m.board.core.serial) }
 off-serial dues m =
-    keys-serial (clock_of m) m.keys (all_learned dues (core_begun m.board.core)) ∙ learned-serial dues (core_begun m.board.core)
+    keys-serial (clock_of m) (left_of m) (all_learned dues (core_begun m.board.core)) ∙ learned-serial dues (core_begun m.board.core)
 
 either-follows : (test : Bool) (m one other : Machine) (first second : Option Signal) → Follows m one first
     → Follows m other second → Follows m (if test then one else other) (if test then first else second)

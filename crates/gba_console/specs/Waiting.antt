@@ -8,7 +8,7 @@ use Rattle.gba_io.specs.declared.board.Board.{Board}
 use Rattle.gba_serial.specs.Apart.{next_end}
 use Rattle.link_node.specs.declared.signal.Incoming.{Incoming}
 use Rattle.gba_console.specs.Keys.{due_of}
-use Rattle.gba_console.specs.Machine.{Machine, clock_of, first_on}
+use Rattle.gba_console.specs.Machine.{Machine, clock_of, first_on, left_of}
 
 -- what the taking of one signal needs: it was sent before it arrives, and there is room for a transfer that ends before it
 pub record CanTake (due : Incoming) (b : Board) : Type 0 where
@@ -62,5 +62,5 @@ pub record IsKept (off was : ℕ) (b : Board) : Type 0 where
 pub record IsPlain (m : Machine) : Type 0 where
   pub on : m.off ≤ clock_of m
   pub calm : core_is_calm m.board.core ≡ true
-  pub keys : clock_of m < due_of m.keys
+  pub keys : clock_of m < due_of (left_of m)
   pub ends : clock_of m < next_end m.board.core.serial

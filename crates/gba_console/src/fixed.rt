@@ -55,7 +55,8 @@ pub(crate) fn half_at(core: &mut Core, address: u32) -> u16
 /// A halfword that is read at an address, decoded.
 pub(crate) fn kept_at(core: &Core, address: u32, half: u16) -> KeptHalf
     requires { half ≡ core_read core.now address address Half }
-    ensures { Stands core.now.memory.bios core.now.memory.rom result }
+    ensures stands { Stands core.now.memory.bios core.now.memory.rom result }
+    ensures half { result.decoded.half ≡ half }
 {
     KeptHalf {
         fixed: if is_fixed(address) {

@@ -1,7 +1,7 @@
 //! Changes of the keys.
 
 ghost use Rattle.std.specs.Prelude.{◌≡◌, ◌+◌, ◌≤◌, drop, length, vec_len};
-ghost use Rattle.gba_console.specs.Keys.{after_keys, keys_left};
+ghost use Rattle.gba_console.specs.Keys.{after_keys, due_count};
 
 use gba_io::Core;
 
@@ -18,7 +18,7 @@ pub struct KeyState {
 pub(crate) fn apply(clock: u64, changes: &[KeyState], applied: usize, core: &mut Core) -> usize
     requires { applied ≤ length changes.now }
     ensures core { core.new ≡ after_keys clock (drop applied changes.now) core.old }
-    ensures left { drop result changes.now ≡ keys_left clock (drop applied changes.now) }
+    ensures count { result ≡ applied + due_count clock (drop applied changes.now) }
     ensures most { result ≤ length changes.now }
 {
     let mut next = applied;

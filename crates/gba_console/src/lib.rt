@@ -7,13 +7,16 @@ ghost use Rattle.gba_console.specs.Keys.{due_of, next_due};
 ghost use Rattle.gba_console.specs.Machine.{first_on};
 
 mod acting;
+mod doing;
 mod fixed;
 mod hearing;
 mod keys;
 pub mod laws;
 mod node;
 
-use acting::{DECODED, IDLE_CYCLES, OFF_CYCLES, act, execute};
+use acting::{DECODED, IDLE_CYCLES, OFF_CYCLES, act, execute, place_of_half, place_of_word};
+use doing::Told;
+pub use doing::What;
 use fixed::{KeptHalf, first_kept};
 use gba_arm_exec::{Decoded as DecodedWord, decode_word};
 use gba_devices::laws::calm_has_begun;
@@ -92,8 +95,12 @@ pub struct Console {
     due: u64,
     // The clock below which it is off.
     off: u64,
-    // The cycles of the last step.
-    last: u32,
+    // The cycles of the last step, and where it stands what it did: an instruction by its address and by the entry there in
+    // the table of decoded words or halfwords.
+    cycles: u32,
+    told: Told,
+    at: u32,
+    aside: What,
     // Words and halfwords that were decoded at their addresses. An entry counts only where it is the one that is read, or
     // stands where nothing is written.
     words: Vec<DecodedWord>,
@@ -101,6 +108,7 @@ pub struct Console {
 }
 
 impl Model for Console {
+    ghost use Rattle.gba_console.specs.Doing.{told_by};
     ghost use Rattle.gba_console.specs.Keys.{next_due};
     ghost use Rattle.gba_console.specs.Machine.{Machine};
     ghost use Rattle.gba_console.specs.Fixed.{Stands};
@@ -112,22 +120,24 @@ impl Model for Console {
     ghost view = { λ c. record {
       registers = c.registers;
       board = c.board;
-      keys = drop c.applied c.keys.items;
+      keys = c.keys.items;
+      applied = c.applied;
       off = c.off;
-      was = c.board.core.devices.clock - c.last;
+      was = c.board.core.devices.clock - c.cycles;
+      last = told_by c.told c.at c.aside c.words.items c.halves.items;
     } };
 
     ghost invariant = { λ c.
         (vec_len c.words ≡ 4096) × (vec_len c.halves ≡ 4096) × (c.applied ≤ vec_len c.keys)
         × (c.due ≡ next_due c.off c.board.core.devices.clock (drop c.applied c.keys.items))
-        × (c.last ≤ c.board.core.devices.clock) × IsKept c.off (c.board.core.devices.clock - c.last) c.board
+        × (c.cycles ≤ c.board.core.devices.clock) × IsKept c.off (c.board.core.devices.clock - c.cycles) c.board
         × All (Stands c.board.core.memory.bios c.board.core.memory.rom) c.halves.items };
 }
 
 impl Console {
     ghost use Rattle.std.specs.Prelude.{ℕ, ◌≡◌, ◌+◌, ◌*◌, ◌≤◌, ◌<◌, ◌^◌, IfOk, IsTrue, All, [], None, length, true, false};
     ghost use Rattle.gba_console.specs.Keys.{due_of};
-    ghost use Rattle.gba_console.specs.Machine.{clock_of, forgotten, limit_of, reset, without_limit};
+    ghost use Rattle.gba_console.specs.Machine.{clock_of, forgotten, left_of, limit_of, reset, without_limit};
     ghost use Rattle.gba_console.specs.Run.{GoesAlone, news, run_to};
     ghost use Rattle.gba_console.specs.Step.{next, stepped, stepped_off, stepped_on, told, told_on};
     ghost use Rattle.gba_console.specs.Waiting.{IsPlain};
@@ -171,7 +181,10 @@ impl Console {
             off,
             keys,
             applied: 0,
-            last: 0,
+            cycles: 0,
+            told: Told::Aside,
+            at: 0,
+            aside: What::Nothing,
             words: words_of(alloc, DECODED)?,
             halves: halves_of(alloc, DECODED)?,
         })
@@ -189,7 +202,7 @@ impl Console {
     pub fn was(&self) -> u64
         ensures { result ≡ self.now.was }
     {
-        self.board.core.clock() - u64::from(self.last)
+        self.board.core.clock() - u64::from(self.cycles)
     }
 
     /// The end of its room: the last step begins below this clock.
@@ -198,6 +211,37 @@ impl Console {
         ensures small { result ≤ 2 ^ 39 }
     {
         self.board.made.until()
+    }
+
+    /// What the last step did: Nothing before the first one, and after a call of `forget`.
+    pub fn last(&self) -> What
+        ensures { result ≡ self.now.last }
+    {
+        match self.told {
+            Told::Word => What::Arm {
+                address: self.at,
+                word: self.words[place_of_word(self.at)].word,
+            },
+            Told::Half => What::Thumb {
+                address: self.at,
+                half: self.halves[place_of_half(self.at)].decoded.half,
+            },
+            Told::Aside => self.aside,
+        }
+    }
+
+    /// The changes of its keys that it was made with, in their order.
+    pub fn keys(&self) -> &[KeyState]
+        ensures { result.now ≡ self.now.keys }
+    {
+        self.keys.as_slice()
+    }
+
+    /// The clock below which it is off, 0 where it is on from the start.
+    pub fn off(&self) -> u64
+        ensures { result ≡ self.now.off }
+    {
+        self.off
     }
 
     /// The 37 registers in the order of the state file.
@@ -248,9 +292,9 @@ impl Console {
         self.board.counts()
     }
 
-    /// Empties the lists of whole frames, pairs of samples and ended transfers, all of which stay counted, and makes `until`
-    /// the end of its room: the clock below which the last step begins, no earlier than the former one, and at most 2^24
-    /// cycles on.
+    /// Empties the lists of whole frames, pairs of samples and ended transfers, all of which stay counted, forgets what the
+    /// last step did, and makes `until` the end of its room: the clock below which the last step begins, no earlier than the
+    /// former one, and at most 2^24 cycles on.
     pub fn forget(&mut self, until: u64)
         requires most { until ≤ 2 ^ 39 }
         requires later { limit_of self.old ≤ until }
@@ -263,6 +307,8 @@ impl Console {
         } else {
             self.board.forget(until);
         }
+        self.told = Told::Aside;
+        self.aside = What::Nothing;
     }
 
     /// Makes a step, of 1 to 512 cycles, which begins below the end of the room. Nothing is due in it.
@@ -394,7 +440,9 @@ impl Console {
             self.applied,
             &mut self.board.core,
         );
-        self.last = OFF_CYCLES;
+        self.cycles = OFF_CYCLES;
+        self.told = Told::Aside;
+        self.aside = What::Off;
         self.board.core.rest(OFF_CYCLES);
         self.due = due_at(
             self.off,
@@ -428,10 +476,12 @@ impl Console {
             &mut self.board.core,
         );
         self.due = due_after(self.keys.as_slice(), self.applied);
-        let cycles = act(&mut self.registers, &mut self.board.core);
+        let acted = act(&mut self.registers, &mut self.board.core);
         let signal = self.board.outgoing();
-        self.last = cycles;
-        self.board.advance(cycles);
+        self.cycles = acted.cycles;
+        self.told = Told::Aside;
+        self.aside = acted.what;
+        self.board.advance(acted.cycles);
         signal
     }
 
@@ -441,7 +491,7 @@ impl Console {
         requires clock { clock_of self.old < self.old.board.made.until }
         requires plain { IsPlain self.old }
         ensures step { self.new ≡ next self.old }
-        ensures keys { self.new.keys ≡ self.old.keys }
+        ensures keys { left_of self.new ≡ left_of self.old }
         ensures off { self.new.off ≡ self.old.off }
         ensures ends { (bound : ℕ) → bound ≤ clock_of self.old + 512 → bound ≤ next_end self.old.board.core.serial
             → bound ≤ next_end self.new.board.core.serial }
@@ -453,13 +503,15 @@ impl Console {
         calm_has_begun();
         stays_quiet();
         board_passes();
+        self.at = self.registers.get(15);
         let cycles = execute(
             &mut self.registers,
             &mut self.board.core,
             self.words.as_mut_slice(),
             self.halves.as_mut_slice(),
+            &mut self.told,
         );
-        self.last = cycles;
+        self.cycles = cycles;
         self.board.advance(cycles);
         cycles
     }
@@ -475,7 +527,7 @@ impl Console {
     /// The clock of the next change of the keys, or one that no run reaches; 0 while the console is off.
     fn due(&self) -> u64
         ensures on { clock_of self.now < result → self.now.off ≤ clock_of self.now }
-        ensures early { result ≤ due_of self.now.keys }
+        ensures early { result ≤ due_of (left_of self.now) }
     {
         self.due
     }
@@ -501,7 +553,7 @@ impl Console {
         requires some { 1 ≤ most }
         requires few { most ≤ 512 }
         requires until { clock_of self.old + most ≤ self.old.board.made.until }
-        requires keys { clock_of self.old + most ≤ due_of self.old.keys }
+        requires keys { clock_of self.old + most ≤ due_of (left_of self.old) }
         requires ends { clock_of self.old + most ≤ next_end self.old.board.core.serial }
         requires calm { core_is_calm self.old.board.core ≡ true }
         requires on { self.old.off ≤ clock_of self.old }
@@ -550,11 +602,11 @@ impl Console {
         requires clock { clock_of self.old < self.old.board.made.until }
         requires idle { core_is_idle self.old.board.core ≡ true }
         requires on { self.old.off ≤ clock_of self.old }
-        requires early { clock_of self.old < due_of self.old.keys }
+        requires early { clock_of self.old < due_of (left_of self.old) }
         requires ends { clock_of self.old < next_end self.old.board.core.serial }
         ensures step { self.new ≡ next self.old }
         ensures clock { clock_of self.new ≡ clock_of self.old + 16 }
-        ensures keys { self.new.keys ≡ self.old.keys }
+        ensures keys { left_of self.new ≡ left_of self.old }
         ensures off { self.new.off ≡ self.old.off }
         ensures serial { self.new.board.core.serial ≡ self.old.board.core.serial }
         ensures idle { result ≡ core_is_idle self.new.board.core }
@@ -565,7 +617,9 @@ impl Console {
         board_passes();
         let idled = IDLE_CYCLES;
         self.board.advance(idled);
-        self.last = idled;
+        self.cycles = idled;
+        self.told = Told::Aside;
+        self.aside = What::Idle;
         self.board.core.is_idle()
     }
 
@@ -583,11 +637,11 @@ impl Console {
         requires until { stop ≤ self.old.board.made.until }
         requires idle { core_is_idle self.old.board.core ≡ true }
         requires on { self.old.off ≤ clock_of self.old }
-        requires keys { stop ≤ due_of self.old.keys }
+        requires keys { stop ≤ due_of (left_of self.old) }
         requires ends { stop ≤ next_end self.old.board.core.serial }
         ensures alone { GoesAlone stop self.old self.new None }
         ensures clock { clock_of self.new ≡ clock_of self.old + 16 * result }
-        ensures keys { self.new.keys ≡ self.old.keys }
+        ensures keys { left_of self.new ≡ left_of self.old }
         ensures off { self.new.off ≡ self.old.off }
         ensures serial { self.new.board.core.serial ≡ self.old.board.core.serial }
         ensures idle { core_is_idle self.new.board.core ≡ true }
@@ -601,7 +655,9 @@ impl Console {
         if steps == 0 {
             return 0;
         }
-        self.last = IDLE_CYCLES;
+        self.cycles = IDLE_CYCLES;
+        self.told = Told::Aside;
+        self.aside = What::Idle;
         steps
     }
 
@@ -613,11 +669,11 @@ impl Console {
         requires until { stop ≤ self.old.board.made.until }
         requires idle { core_is_idle self.old.board.core ≡ true }
         requires on { self.old.off ≤ clock_of self.old }
-        requires keys { stop ≤ due_of self.old.keys }
+        requires keys { stop ≤ due_of (left_of self.old) }
         requires ends { stop ≤ next_end self.old.board.core.serial }
         ensures alone { GoesAlone stop self.old self.new None }
         ensures rises { clock_of self.old < clock_of self.new }
-        ensures keys { self.new.keys ≡ self.old.keys }
+        ensures keys { left_of self.new ≡ left_of self.old }
         ensures off { self.new.off ≡ self.old.off }
         ensures serial { self.new.board.core.serial ≡ self.old.board.core.serial }
         ensures idle { result ≡ core_is_idle self.new.board.core }

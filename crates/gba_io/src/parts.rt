@@ -245,6 +245,13 @@ impl Core {
         read + written + start_cycles(unit.first)
     }
 
+    /// The unit that DMA does next: that of the lowest active channel. None exactly where no channel is active.
+    pub fn next_unit(&self) -> Option<Unit>
+        ensures { result ≡ next_unit self.now.devices.channels }
+    {
+        self.devices.next_unit()
+    }
+
     /// Does one DMA unit of the lowest active channel, and answers its cycles. None exactly where no channel is active.
     pub fn dma_unit(&mut self) -> Option<u32>
         ensures cycles { result ≡ option_map (λ unit. unit_cycles unit self.old) (next_unit self.old.devices.channels) }

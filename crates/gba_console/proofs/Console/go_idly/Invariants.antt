@@ -1,6 +1,6 @@
 use Rattle.std.proofs.Common.{◌≡◌, ◌-◌, ◌<◌, ◌≤◌, true, None}
 use Rattle.gba_console.specs.Keys.{due_of}
-use Rattle.gba_console.specs.Machine.{clock_of}
+use Rattle.gba_console.specs.Machine.{clock_of, left_of}
 use Rattle.gba_console.specs.Run.{GoesAlone}
 use Rattle.gba_io.specs.Core.{core_is_idle}
 use Rattle.gba_serial.specs.Apart.{next_end}
@@ -13,7 +13,7 @@ invariant-loop-self l = record {
   later : clock_of l.fn.self ≤ clock_of l.self;
   within : l.stop ≤ l.end;
   on : clock_of l.self < l.stop → l.self.off ≤ clock_of l.self;
-  keys : l.stop ≤ due_of l.self.keys;
+  keys : l.stop ≤ due_of (left_of l.self);
   idle : core_is_idle l.self.board.core ≡ true;
   until : l.self.board.made.until ≡ l.fn.self.board.made.until;
   ends : l.stop ≤ next_end l.self.board.core.serial;

@@ -12,6 +12,7 @@ use Rattle.gba_console.proofs.On.{due-kept, kept-on}
 use Rattle.gba_console.proofs.Idling.{board-none, many-alone, many-idle, many-sound}
 use Rattle.gba_console.proofs.Images.{moved-images, still-stand}
 use Rattle.gba_console.proofs.Console.idle_quietly.Goals as goal
+use Rattle.gba_console.specs.Doing.{told_by}
 
 pub returns-then-steps-eq0-clause-alone : goal.returns-then-steps-eq0-clause-alone
 returns-then-steps-eq0-clause-alone c =
@@ -19,11 +20,13 @@ returns-then-steps-eq0-clause-alone c =
     let m : Machine = record {
       registers = inside.registers;
       board = inside.board;
-      keys = drop inside.applied inside.keys.items;
+      keys = inside.keys.items;
+      applied = inside.applied;
       off = inside.off;
-      was = inside.board.core.devices.clock - inside.last;
+      was = inside.board.core.devices.clock - inside.cycles;
+      last = told_by inside.told inside.at inside.aside inside.words.items inside.halves.items;
     } in
-    let last = inside.last in
+    let last = inside.cycles in
     let none : Option Signal = None in
     rw (← c.self.view_is)
     (subst (λ (b : Board). GoesAlone c.args.stop m (record m { board = b; was = b.core.devices.clock - last }) none)
@@ -36,9 +39,11 @@ returns-clause-alone c =
     let m : Machine = record {
       registers = inside.registers;
       board = inside.board;
-      keys = drop inside.applied inside.keys.items;
+      keys = inside.keys.items;
+      applied = inside.applied;
       off = inside.off;
-      was = inside.board.core.devices.clock - inside.last;
+      was = inside.board.core.devices.clock - inside.cycles;
+      last = told_by inside.told inside.at inside.aside inside.words.items inside.halves.items;
     } in
     let steps = c.owe_steps-steps.result in
     let some : 0 < steps = omega (arith, c.if-steps-eq0.false) in
@@ -52,7 +57,7 @@ returns-clause-alone c =
 pub invariant_of-self : goal.invariant_of-self
 invariant_of-self c =
     let inside = c.self.inside in
-    let last = inside.last in
+    let last = inside.cycles in
     let due = inside.due in
     let off = inside.off in
     let keys = drop inside.applied inside.keys.items in
@@ -74,9 +79,11 @@ invariant_of-self-2 c =
     let m : Machine = record {
       registers = inside.registers;
       board = inside.board;
-      keys = drop inside.applied inside.keys.items;
+      keys = inside.keys.items;
+      applied = inside.applied;
       off = inside.off;
-      was = inside.board.core.devices.clock - inside.last;
+      was = inside.board.core.devices.clock - inside.cycles;
+      last = told_by inside.told inside.at inside.aside inside.words.items inside.halves.items;
     } in
     let b = inside.board in
     let steps = c.owe_steps-steps.result in
@@ -110,9 +117,11 @@ returns-clause-idle c =
     let m : Machine = record {
       registers = inside.registers;
       board = inside.board;
-      keys = drop inside.applied inside.keys.items;
+      keys = inside.keys.items;
+      applied = inside.applied;
       off = inside.off;
-      was = inside.board.core.devices.clock - inside.last;
+      was = inside.board.core.devices.clock - inside.cycles;
+      last = told_by inside.told inside.at inside.aside inside.words.items inside.halves.items;
     } in
     many-idle c.board_passes.ensures.all c.calm_has_begun.ensures c.stays_quiet.ensures (c.steps_pass.ensures []) m
     c.args.stop (rw (← c.self.view_is) at c.requires.idle) (rw (← c.self.view_is) at c.requires.on) (rw (← c.self.view_is) at c.requires.keys)

@@ -2,7 +2,7 @@ use Rattle.std.proofs.Common.{◌≡◌, ◌+◌, ◌≤◌, true, None}
 use Rattle.gba_io.specs.Core.{core_is_calm}
 use Rattle.gba_serial.specs.Apart.{next_end}
 use Rattle.gba_console.specs.Keys.{due_of}
-use Rattle.gba_console.specs.Machine.{clock_of}
+use Rattle.gba_console.specs.Machine.{clock_of, left_of}
 use Rattle.gba_console.specs.Run.{GoesAlone}
 use Rattle.gba_console.proofs.Console.make_steps.Given as goal
 
@@ -12,7 +12,7 @@ invariant-loop-left l = record {
   alone : GoesAlone (clock_of l.fn.self + l.most) l.fn.self l.self None;
   later : clock_of l.fn.self ≤ clock_of l.self;
   within : clock_of l.self + l.left ≤ clock_of l.fn.self + l.most;
-  keys : clock_of l.fn.self + l.most ≤ due_of l.self.keys;
+  keys : clock_of l.fn.self + l.most ≤ due_of (left_of l.self);
   ends : clock_of l.fn.self + l.most ≤ next_end l.self.board.core.serial;
   some : 1 ≤ l.left;
   calm : core_is_calm l.self.board.core ≡ true;

@@ -5,11 +5,12 @@ use Rattle.gba_console.proofs.Idling.{idle-clock, idle-is, idle-room, idle-sound
 use Rattle.gba_console.proofs.On.{due-kept, kept-on}
 use Rattle.gba_console.proofs.Images.{moved-images, still-stand}
 use Rattle.gba_console.proofs.Console.step_idly.Goals as goal
+use Rattle.gba_console.specs.Doing.{told_by}
 
 pub advance-requires-clause-room : goal.advance-requires-clause-room
 advance-requires-clause-room c =
     let b = c.self.inside.board in
-    idle-room (b.core.devices.clock - c.self.inside.last) b
+    idle-room (b.core.devices.clock - c.self.inside.cycles) b
     (c.self.invariant.5.on (rw (← c.self.view_is) at c.requires.on)) (rw (← c.self.view_is) at c.requires.clock)
 
 pub returns-clause-step : goal.returns-clause-step
@@ -18,9 +19,11 @@ returns-clause-step c =
     let m : Machine = record {
       registers = inside.registers;
       board = inside.board;
-      keys = drop inside.applied inside.keys.items;
+      keys = inside.keys.items;
+      applied = inside.applied;
       off = inside.off;
-      was = inside.board.core.devices.clock - inside.last;
+      was = inside.board.core.devices.clock - inside.cycles;
+      last = told_by inside.told inside.at inside.aside inside.words.items inside.halves.items;
     } in
     rw (← c.self.view_is)
     (idle-is c.board_passes.ensures.all c.calm_has_begun.ensures c.stays_quiet.ensures m c.advance.new.self
@@ -45,7 +48,7 @@ invariant_of-self c =
           (omega (arith, passed)) c.self.invariant.3,
       omega (arith, passed),
       kept-on inside.off (later - 16) after c.self.invariant.5.most (omega (arith, on, passed))
-          (idle-sound c.board_passes.ensures.all (b.core.devices.clock - inside.last) b after (c.self.invariant.5.on on)
+          (idle-sound c.board_passes.ensures.all (b.core.devices.clock - inside.cycles) b after (c.self.invariant.5.on on)
           (omega arith) early moved),
       still-stand b.core.memory after.core.memory inside.halves.items
           (moved-images b.core.memory.bios b.core.memory.rom 16 b after (record { bios = refl; rom = refl }) moved

@@ -3,13 +3,14 @@ use Rattle.std.specs.Prelude.{drop}
 use Rattle.gba_io.specs.Core.{Core, core_begun, core_rested}
 use Rattle.gba_io.specs.declared.board.Board.{Board}
 use Rattle.link_node.specs.declared.signal.Incoming.{Incoming}
-use Rattle.gba_console.specs.Keys.{after_keys, keys_left, next_due}
+use Rattle.gba_console.specs.Keys.{after_keys, due_count, next_due}
 use Rattle.gba_console.specs.Machine.{Machine, clock_of}
 use Rattle.gba_console.specs.Step.{all_learned, prepared_off, stepped_off}
 use Rattle.gba_console.specs.declared.keys.KeyState.{KeyState}
 use Rattle.gba_console.proofs.Images.{still-stand}
 use Rattle.gba_console.proofs.Resting.{left-off, off-clock, off-images, off-kept, off-made, prepares-off}
 use Rattle.gba_console.proofs.Console.step_off.Goals as goal
+use Rattle.gba_console.specs.Doing.{told_by}
 
 pub rest-requires : goal.rest-requires
 rest-requires c =
@@ -17,9 +18,11 @@ rest-requires c =
     let m : Machine = record {
       registers = inside.registers;
       board = inside.board;
-      keys = drop inside.applied inside.keys.items;
+      keys = inside.keys.items;
+      applied = inside.applied;
       off = inside.off;
-      was = inside.board.core.devices.clock - inside.last;
+      was = inside.board.core.devices.clock - inside.cycles;
+      last = told_by inside.told inside.at inside.aside inside.words.items inside.halves.items;
     } in
     let early : clock_of m < m.board.made.until = rw (← c.self.view_is) at c.requires.below in
     let core = c.apply-self-inside.new.core in
@@ -35,9 +38,11 @@ invariant_of-self c =
     let m : Machine = record {
       registers = inside.registers;
       board = inside.board;
-      keys = drop inside.applied inside.keys.items;
+      keys = inside.keys.items;
+      applied = inside.applied;
       off = inside.off;
-      was = inside.board.core.devices.clock - inside.last;
+      was = inside.board.core.devices.clock - inside.cycles;
+      last = told_by inside.told inside.at inside.aside inside.words.items inside.halves.items;
     } in
     let early : clock_of m < m.board.made.until = rw (← c.self.view_is) at c.requires.below in
     let below : clock_of m < m.off = rw (← c.self.view_is) at c.requires.off in
@@ -69,18 +74,19 @@ returns c =
     let m : Machine = record {
       registers = inside.registers;
       board = inside.board;
-      keys = drop inside.applied inside.keys.items;
+      keys = inside.keys.items;
+      applied = inside.applied;
       off = inside.off;
-      was = inside.board.core.devices.clock - inside.last;
+      was = inside.board.core.devices.clock - inside.cycles;
+      last = told_by inside.told inside.at inside.aside inside.words.items inside.halves.items;
     } in
     let changes = drop inside.applied c.as_slice.result.now in
     let list = ap (drop inside.applied) c.as_slice.ensures.value in
     let same = prepares-off m dues c.begin.new.self c.learn_all.new.core c.apply-self-inside.new.core c.clock-clock.result
     changes c.begin.ensures c.learn_all.ensures c.clock-clock.ensures.value list c.apply-self-inside.ensures.core in
-    let left =
-    sym (ap (drop c.apply-self-inside.result) c.as_slice.ensures.value) ∙ c.apply-self-inside.ensures.left
-    ∙ ap (λ (n : ℕ). keys_left n changes) c.clock-clock.ensures.value
-    ∙ ap (keys_left (clock_of m)) list in
+    let count =
+    c.apply-self-inside.ensures.count
+    ∙ ap (λ (n : ℕ). inside.applied + due_count n changes) c.clock-clock.ensures.value
+    ∙ ap (λ (some : List KeyState). inside.applied + due_count (clock_of m) some) list in
     rw (← c.self.view_is)
-    (off-made m dues c.rest.new.self (drop c.apply-self-inside.result inside.keys.items)
-    (c.rest.ensures ∙ ap (core_rested 16) same) left)
+    (off-made m dues c.rest.new.self c.apply-self-inside.result (c.rest.ensures ∙ ap (core_rested 16) same) count)

@@ -1,7 +1,7 @@
 use Rattle.std.proofs.Common.{ℕ, ◌∙◌, ◌-◌, ◌<◌, ◌≤◌, ap, sym, subst, arith}
 use Rattle.std.specs.Prelude.{List, drop}
 use Rattle.gba_io.specs.declared.board.Board.{Board}
-use Rattle.gba_console.specs.Keys.{due_of, keys_left}
+use Rattle.gba_console.specs.Keys.{due_of}
 use Rattle.gba_console.specs.Machine.{Machine, clock_of}
 use Rattle.gba_console.specs.Step.{all_taken, board_begun}
 use Rattle.gba_console.specs.Waiting.{CanTakeAll}
@@ -12,8 +12,9 @@ use Rattle.gba_console.specs.StepLaws.{taken-clock}
 use Rattle.gba_console.proofs.Images.{acted-images, moved-images, still-stand, taken-memory}
 use Rattle.gba_console.proofs.On.{due-on, kept-on}
 use Rattle.gba_console.proofs.Passing.{IsReady, ready-room, step-sound, step-was}
-use Rattle.gba_console.proofs.Stepping.{acted-clock, acted-ends, acts-is, begins-is, can-hear, hears-is, keyed-is, ready-heard, step-is-made, still-early, told-is}
+use Rattle.gba_console.proofs.Stepping.{acted-clock, acted-ends, acts-is, applied-is, begins-is, can-hear, hears-is, keyed-is, ready-heard, step-is-made, still-early, told-is, what-is}
 use Rattle.gba_console.proofs.Console.step_on.Goals as goal
+use Rattle.gba_console.specs.Doing.{told_by}
 
 pub take_all-requires : goal.take_all-requires
 take_all-requires c =
@@ -21,9 +22,11 @@ take_all-requires c =
     let m : Machine = record {
       registers = inside.registers;
       board = inside.board;
-      keys = drop inside.applied inside.keys.items;
+      keys = inside.keys.items;
+      applied = inside.applied;
       off = inside.off;
-      was = inside.board.core.devices.clock - inside.last;
+      was = inside.board.core.devices.clock - inside.cycles;
+      last = told_by inside.told inside.at inside.aside inside.words.items inside.halves.items;
     } in
     let on = rw (← c.self.view_is) at c.requires.on in
     let can = can-hear c.ends_stay_fit.ensures c.args.due.now m (c.self.invariant.5.on on) (omega arith)
@@ -37,9 +40,11 @@ end_due-requires c =
     let m : Machine = record {
       registers = inside.registers;
       board = inside.board;
-      keys = drop inside.applied inside.keys.items;
+      keys = inside.keys.items;
+      applied = inside.applied;
       off = inside.off;
-      was = inside.board.core.devices.clock - inside.last;
+      was = inside.board.core.devices.clock - inside.cycles;
+      last = told_by inside.told inside.at inside.aside inside.words.items inside.halves.items;
     } in
     let early = rw (← c.self.view_is) at c.requires.below in
     let on : m.off ≤ clock_of m = rw (← c.self.view_is) at c.requires.on in
@@ -64,9 +69,11 @@ advance-requires-clause-room c =
     let m : Machine = record {
       registers = inside.registers;
       board = inside.board;
-      keys = drop inside.applied inside.keys.items;
+      keys = inside.keys.items;
+      applied = inside.applied;
       off = inside.off;
-      was = inside.board.core.devices.clock - inside.last;
+      was = inside.board.core.devices.clock - inside.cycles;
+      last = told_by inside.told inside.at inside.aside inside.words.items inside.halves.items;
     } in
     let early = rw (← c.self.view_is) at c.requires.below in
     let on : m.off ≤ clock_of m = rw (← c.self.view_is) at c.requires.on in
@@ -80,9 +87,9 @@ advance-requires-clause-room c =
     let clock = c.clock-clock.result in
     let changes = drop inside.applied c.as_slice.result.now in
     let keyed = c.apply-self-inside.new.core in
-    let core = c.act-cycles.new.core in
-    let cycles = c.act-cycles.result in
-    let done = c.act-cycles.ensures in
+    let core = c.act-acted.new.core in
+    let cycles = c.act-acted.result.cycles in
+    let done = c.act-acted.ensures.left in
     let ready = subst (λ (b : Board). IsReady (clock_of m) b) (sym here)
     (ready-heard c.ends_stay_fit.ensures dues m sound (omega arith) early c.requires.ordered due) in
     let same = acted-clock acts m b clock changes keyed core c.apply-self-inside.ensures.core done.bus_left ready.same in
@@ -97,9 +104,11 @@ returns-clause-step c =
     let m : Machine = record {
       registers = inside.registers;
       board = inside.board;
-      keys = drop inside.applied inside.keys.items;
+      keys = inside.keys.items;
+      applied = inside.applied;
       off = inside.off;
-      was = inside.board.core.devices.clock - inside.last;
+      was = inside.board.core.devices.clock - inside.cycles;
+      last = told_by inside.told inside.at inside.aside inside.words.items inside.halves.items;
     } in
     let early = rw (← c.self.view_is) at c.requires.below in
     let on : m.off ≤ clock_of m = rw (← c.self.view_is) at c.requires.on in
@@ -113,26 +122,27 @@ returns-clause-step c =
     let clock = c.clock-clock.result in
     let changes = drop inside.applied c.as_slice.result.now in
     let keyed = c.apply-self-inside.new.core in
-    let core = c.act-cycles.new.core in
-    let cycles = c.act-cycles.result in
-    let done = c.act-cycles.ensures in
+    let core = c.act-acted.new.core in
+    let cycles = c.act-acted.result.cycles in
+    let done = c.act-acted.ensures.left in
     let ready = subst (λ (b : Board). IsReady (clock_of m) b) (sym here)
     (ready-heard c.ends_stay_fit.ensures dues m sound (omega arith) early c.requires.ordered due) in
     let same = acted-clock acts m b clock changes keyed core c.apply-self-inside.ensures.core done.bus_left ready.same in
     let short : cycles ≤ 512 = omega (arith, done.cycles_taken, (acts.all m.registers keyed).length.most) in
     let list = ap (drop inside.applied) c.as_slice.ensures.value in
-    let leaves = acts-is m dues keyed c.act-cycles.new.registers core cycles
+    let leaves = acts-is m dues keyed c.act-acted.new.registers core cycles
     (keyed-is m dues b clock changes keyed here c.clock-clock.ensures.value list c.apply-self-inside.ensures.core) done in
-    let left =
-    sym (ap (drop c.apply-self-inside.result) c.as_slice.ensures.value) ∙ c.apply-self-inside.ensures.left
-    ∙ ap (λ (n : ℕ). keys_left n changes) c.clock-clock.ensures.value
-    ∙ ap (keys_left (clock_of m)) list in
+    let count = applied-is m clock c.apply-self-inside.result changes c.clock-clock.ensures.value list
+    c.apply-self-inside.ensures.count in
+    let what = what-is m dues keyed c.act-acted.result.what
+    (keyed-is m dues b clock changes keyed here c.clock-clock.ensures.value list c.apply-self-inside.ensures.core)
+    c.act-acted.ensures.what in
     let passes = c.board_passes.ensures.all cycles (record b { core = core }) in
     rw (← c.self.view_is)
-    (step-is-made m dues b c.advance.new.self c.act-cycles.new.registers core cycles
-    (c.advance.new.self.core.devices.clock - cycles) (drop c.apply-self-inside.result inside.keys.items) here leaves
-    c.advance.ensures left
-    (step-was (clock_of m) cycles (record b { core = core }) c.advance.new.self c.advance.ensures passes same))
+    (step-is-made m dues b c.advance.new.self c.act-acted.new.registers core cycles
+    (c.advance.new.self.core.devices.clock - cycles) c.apply-self-inside.result c.act-acted.result.what here leaves
+    c.advance.ensures count
+    (step-was (clock_of m) cycles (record b { core = core }) c.advance.new.self c.advance.ensures passes same) what)
 
 pub returns-clause-signal : goal.returns-clause-signal
 returns-clause-signal c =
@@ -141,9 +151,11 @@ returns-clause-signal c =
     let m : Machine = record {
       registers = inside.registers;
       board = inside.board;
-      keys = drop inside.applied inside.keys.items;
+      keys = inside.keys.items;
+      applied = inside.applied;
       off = inside.off;
-      was = inside.board.core.devices.clock - inside.last;
+      was = inside.board.core.devices.clock - inside.cycles;
+      last = told_by inside.told inside.at inside.aside inside.words.items inside.halves.items;
     } in
     let early = rw (← c.self.view_is) at c.requires.below in
     let on : m.off ≤ clock_of m = rw (← c.self.view_is) at c.requires.on in
@@ -157,14 +169,14 @@ returns-clause-signal c =
     let clock = c.clock-clock.result in
     let changes = drop inside.applied c.as_slice.result.now in
     let keyed = c.apply-self-inside.new.core in
-    let core = c.act-cycles.new.core in
-    let cycles = c.act-cycles.result in
-    let done = c.act-cycles.ensures in
+    let core = c.act-acted.new.core in
+    let cycles = c.act-acted.result.cycles in
+    let done = c.act-acted.ensures.left in
     let list = ap (drop inside.applied) c.as_slice.ensures.value in
-    let leaves = acts-is m dues keyed c.act-cycles.new.registers core cycles
+    let leaves = acts-is m dues keyed c.act-acted.new.registers core cycles
     (keyed-is m dues b clock changes keyed here c.clock-clock.ensures.value list c.apply-self-inside.ensures.core) done in
     rw (← c.self.view_is)
-    (told-is acts m dues c.act-cycles.new.registers core cycles c.outgoing-signal.result leaves c.outgoing-signal.ensures)
+    (told-is acts m dues c.act-acted.new.registers core cycles c.outgoing-signal.result leaves c.outgoing-signal.ensures)
 
 pub invariant_of-self : goal.invariant_of-self
 invariant_of-self c =
@@ -173,9 +185,11 @@ invariant_of-self c =
     let m : Machine = record {
       registers = inside.registers;
       board = inside.board;
-      keys = drop inside.applied inside.keys.items;
+      keys = inside.keys.items;
+      applied = inside.applied;
       off = inside.off;
-      was = inside.board.core.devices.clock - inside.last;
+      was = inside.board.core.devices.clock - inside.cycles;
+      last = told_by inside.told inside.at inside.aside inside.words.items inside.halves.items;
     } in
     let early = rw (← c.self.view_is) at c.requires.below in
     let on : m.off ≤ clock_of m = rw (← c.self.view_is) at c.requires.on in
@@ -189,9 +203,9 @@ invariant_of-self c =
     let clock = c.clock-clock.result in
     let changes = drop inside.applied c.as_slice.result.now in
     let keyed = c.apply-self-inside.new.core in
-    let core = c.act-cycles.new.core in
-    let cycles = c.act-cycles.result in
-    let done = c.act-cycles.ensures in
+    let core = c.act-acted.new.core in
+    let cycles = c.act-acted.result.cycles in
+    let done = c.act-acted.ensures.left in
     let ready = subst (λ (b : Board). IsReady (clock_of m) b) (sym here)
     (ready-heard c.ends_stay_fit.ensures dues m sound (omega arith) early c.requires.ordered due) in
     let same = acted-clock acts m b clock changes keyed core c.apply-self-inside.ensures.core done.bus_left ready.same in

@@ -5,8 +5,8 @@ use Rattle.gba_console.proofs.Images.{fixed-read}
 use Rattle.gba_console.proofs.fixed.kept_at.Goals as goal
 use Rattle.gba_console.proofs.fixed.kept_at.Goals.{then-is_fixed, else-is_fixed}
 
-pub returns : goal.returns
-returns c = λ below b bios rom.
+pub returns-clause-stands : goal.returns-clause-stands
+returns-clause-stands c = λ below b bios rom.
     let half = c.decode_half.result.half in
     elim c.if-is_fixed.branch [
       | then-is_fixed w ↦
