@@ -3,4 +3,5 @@ pub mod Arm
 pub mod Thumb
 pub mod Units
 pub mod Listing
+pub mod Lone
 pub mod Law

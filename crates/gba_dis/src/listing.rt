@@ -16,7 +16,7 @@ use gba_terms::NoMemory;
 use std::alloc::{AllocError, Global};
 
 /// The statement of a unit at this address, nothing where it has none.
-fn add_statement(line: &mut Vec<u8>, at: u32, unit: Unit) -> Result<(), AllocError>
+pub(crate) fn add_statement(line: &mut Vec<u8>, at: u32, unit: Unit) -> Result<(), AllocError>
     ensures { OnOk result (line.new.items ≡ line.old.items ++ text_of (statement at unit)) }
 {
     match unit {
@@ -38,7 +38,7 @@ fn add_two_halves(line: &mut Vec<u8>, first: u16, second: u16) -> Result<(), All
 }
 
 /// A unit as data.
-fn add_data(line: &mut Vec<u8>, unit: Unit) -> Result<(), AllocError>
+pub(crate) fn add_data(line: &mut Vec<u8>, unit: Unit) -> Result<(), AllocError>
     ensures { OnOk result (line.new.items ≡ line.old.items ++ text_of (data_pieces unit)) }
 {
     match unit {
@@ -75,7 +75,7 @@ fn has_bytes(unit: Unit, bytes: &[u8]) -> bool
 }
 
 /// Whether a line at this address is assembled to a unit. The image is a buffer of which nothing is kept.
-fn comes_back(
+pub(crate) fn comes_back(
     alloc: Global,
     set: Set,
     at: u32,
