@@ -29,6 +29,10 @@ left_of m = drop m.applied m.keys
 abbrev pub clock_of : Machine → ℕ
 clock_of m = m.board.core.devices.clock
 
+-- its player, from 0
+abbrev pub player_of : Machine → ℕ
+player_of m = m.board.core.serial.player
+
 -- whether it is off: below a clock, from which on it is on
 abbrev pub is_off : Machine → Bool
 is_off m = nat_lt (clock_of m) m.off

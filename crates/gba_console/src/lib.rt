@@ -137,7 +137,7 @@ impl Model for Console {
 impl Console {
     ghost use Rattle.std.specs.Prelude.{ℕ, ◌≡◌, ◌+◌, ◌*◌, ◌≤◌, ◌<◌, ◌^◌, IfOk, IsTrue, All, [], None, length, true, false};
     ghost use Rattle.gba_console.specs.Keys.{due_of};
-    ghost use Rattle.gba_console.specs.Machine.{clock_of, forgotten, left_of, limit_of, reset, without_limit};
+    ghost use Rattle.gba_console.specs.Machine.{clock_of, forgotten, left_of, limit_of, player_of, reset, without_limit};
     ghost use Rattle.gba_console.specs.Run.{GoesAlone, news, run_to};
     ghost use Rattle.gba_console.specs.Step.{next, stepped, stepped_off, stepped_on, told, told_on};
     ghost use Rattle.gba_console.specs.Waiting.{IsPlain};
@@ -242,6 +242,20 @@ impl Console {
         ensures { result ≡ self.now.off }
     {
         self.off
+    }
+
+    /// The registers of the processor.
+    pub fn registers(&self) -> &Registers
+        ensures { result.now ≡ self.now.registers }
+    {
+        &self.registers
+    }
+
+    /// The player of this console, from 0.
+    pub fn player(&self) -> u32
+        ensures { result ≡ player_of self.now }
+    {
+        self.board.core.serial().player()
     }
 
     /// The 37 registers in the order of the state file.
