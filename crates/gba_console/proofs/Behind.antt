@@ -134,7 +134,7 @@ for-told first (Some unit) file b = refl
 for-told first None file b =
     one-told first (idles b) Idle (what_awake file (core_woken b)) refl (awake-told first file (core_woken b))
 
-acted-told : (first : What) (file : List ℕ) (b : Core) → last_behind first (what_acted file b) ≡ what_acted file b
+pub acted-told : (first : What) (file : List ℕ) (b : Core) → last_behind first (what_acted file b) ≡ what_acted file b
 unfolding what_acted
 acted-told first file b = for-told first (next_unit b.devices.channels) file b
 

@@ -11,7 +11,7 @@ ghost use Rattle.gba_console.specs.Machine.{Machine, forgotten};
 ghost use Rattle.gba_console.specs.Passing.{ActsPass};
 ghost use Rattle.gba_console.specs.Run.{IsEnough, Reaches, StepPasses};
 ghost use Rattle.gba_console.specs.Segments.{ForgetsSoundly, LiveSegments, Segments, behind, behind_if};
-ghost use Rattle.gba_console.specs.Shorn.{shorn};
+ghost use Rattle.gba_console.specs.Shorn.{TellsAlike, shorn};
 ghost use Rattle.link_mapped.specs.Mapped.{IsUnseen};
 ghost use Rattle.link_order.specs.Cut.{Cut};
 
@@ -129,11 +129,12 @@ pub fn forgets()
     alike::<Console>();
 }
 
-/// No step sees the lists that a console keeps, where they begin, the end of their room, nor what a step resets at its
-/// start: consoles that differ in nothing else have the same clock and began their last step at the same one, and those that
-/// take the same signals tell the same, and differ in nothing else again.
+/// No step sees the lists that a console keeps, where they begin, the end of their room, what the last step did, nor what a
+/// step resets at its start: consoles that differ in nothing else have the same clock and began their last step at the same one, and those that
+/// take the same signals tell the same, and differ in nothing else again; and their steps do the same.
 pub fn shorn_unseen()
-    ensures { IsUnseen console_kind (λ i. shorn) (λ i. shorn) }
+    ensures unseen { IsUnseen console_kind (λ i. shorn) (λ i. shorn) }
+    ensures tells { TellsAlike }
 {}
 
 /// A run in two segments, between which the lists are emptied, is the whole run: but for the lists, and each list of the
