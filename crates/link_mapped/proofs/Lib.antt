@@ -1,4 +1,5 @@
 pub mod Matching
 pub mod InCommon
 pub mod Running
+pub mod OneStep
 pub mod Soundness

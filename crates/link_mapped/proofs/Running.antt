@@ -48,7 +48,7 @@ module _ {C : Type 0} (kind : NodeKind C) (f g : ℕ → C → C) (unseen : IsUn
       turns-alike players (step_of kind cut i) (step_of kind other i) (step-alike cut other i alike)
 
   -- and so of the one whose turn it is
-  next-alike : (cut other : Cut C) → Alike f g cut other → Alike f g (step kind cut) (step kind other)
+  pub next-alike : (cut other : Cut C) → Alike f g cut other → Alike f g (step kind cut) (step kind other)
   next-alike cut other alike =
       subst (λ (i : ℕ). Alike f g (step kind cut) (step_of kind other i))
       (least-same kind f g unseen.clocks cut other alike) (step-alike cut other (least kind cut) alike)

@@ -1,6 +1,7 @@
-use Rattle.std.specs.Prelude.{ℕ, ◌≡◌, ◌<◌, ◌≤◌}
-use Rattle.link_order.specs.Cut.{Cut, HasDelays, IsInTime, IsSound, count, is_live, live}
-use Rattle.link_order.specs.GlobalOrder.{run}
+use Rattle.std.specs.Prelude.{ℕ, ◌≡◌, ◌<◌, ◌≤◌, List, option_map, slice_get}
+use Rattle.link_node.specs.declared.signal.Incoming.{Incoming}
+use Rattle.link_order.specs.Cut.{Cut, HasDelays, IsInTime, IsSound, clock_at, count, is_live, live}
+use Rattle.link_order.specs.GlobalOrder.{least, run, step}
 use Rattle.link_order.specs.NodeKind.{NodeKind}
 use Rattle.link_order.specs.declared.sent.Sent.{Sent}
 use Rattle.link_mapped.specs.Mapped.{IsUnseen, KeepsClocks, mapped}
@@ -46,3 +47,18 @@ abbrev pub RunsLiveInParts : {C : Type 0} → NodeKind C → Type 0
 RunsLiveInParts {C} kind =
     (cut : Cut C) (first until : ℕ) → 0 < count cut → HasDelays cut → IsSound kind cut → first ≤ until
     → live kind (run kind (live kind (run kind cut first)) until) ≡ live kind (run kind cut until)
+
+-- One step of the global order of alike cuts: it begins at the same clock, leaves alike cuts, of which only the signals are kept
+-- that can still be taken, and what can be told of an alike console's step is told the same of the console that stepped.
+pub record StepAlike {C : Type 0} (kind : NodeKind C) (f g : ℕ → C → C) (cut other : Cut C) : Type 0 where
+  pub clock : clock_at kind cut (least kind cut) ≡ clock_at kind other (least kind other)
+  pub next : mapped f (live kind (step kind cut)) ≡ mapped g (live kind (step kind other))
+  pub told : (h : C → List ℕ)
+      → ((i : ℕ) (x y : C) (due : List Incoming) → f i x ≡ g i y → h (kind.next x due).0 ≡ h (kind.next y due).0)
+      → option_map h (slice_get (step kind cut).consoles (least kind cut))
+      ≡ option_map h (slice_get (step kind other).consoles (least kind other))
+
+abbrev pub StepsAlike : {C : Type 0} → NodeKind C → Type 0
+StepsAlike {C} kind =
+    (f g : ℕ → C → C) (cut other : Cut C) → IsUnseen kind f g → mapped f cut ≡ mapped g other
+    → StepAlike kind f g cut other

@@ -3,7 +3,7 @@
 //! its contract is its law. The laws stand in `specs/Law.antt`, in the words of the definitions of `link_order`.
 
 ghost use Rattle.link_order.specs.NodeKind.{kind_of};
-ghost use Rattle.link_mapped.specs.Law.{AreAlike, MapsRuns, RunsAlike, RunsLiveAlike, RunsLiveInParts};
+ghost use Rattle.link_mapped.specs.Law.{AreAlike, MapsRuns, RunsAlike, RunsLiveAlike, RunsLiveInParts, StepsAlike};
 
 use link_node::Node;
 
@@ -27,4 +27,9 @@ pub fn parts<N: Node>()
 /// Cuts of consoles with the same clocks are sound together, and have the same live signals.
 pub fn alike<N: Node>()
     ensures { AreAlike (kind_of N.clock N.was N.next) }
+{}
+
+/// Cuts of consoles that differ in what no step looks at make alike steps, one by one.
+pub fn steps<N: Node>()
+    ensures { StepsAlike (kind_of N.clock N.was N.next) }
 {}
