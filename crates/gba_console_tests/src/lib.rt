@@ -16,4 +16,6 @@ mod play;
 #[cfg(test)]
 mod segments;
 #[cfg(test)]
+mod told;
+#[cfg(test)]
 mod transfers;

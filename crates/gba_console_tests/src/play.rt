@@ -4,7 +4,8 @@ ghost use Rattle.std.specs.Prelude.{IsTrue};
 ghost use Rattle.gba_image.specs.Checks.{SaveFits};
 
 use gba_asm::assemble;
-use gba_console::{Console, KeyState};
+use gba_console::{Console, KeyState, What};
+use gba_freeze::step_line;
 use gba_image::{Backup, Bios, Cartridge, ConsoleImages};
 use gba_io::{Board, Counts, MemoryName, Room};
 use gba_serial::Transfer;
@@ -142,6 +143,28 @@ impl Play {
         let registers = self.console.all();
         assert!(rt; place < 37);
         registers[place]
+    }
+
+    /// What the last step did.
+    pub fn last(&self) -> What {
+        self.console.last()
+    }
+
+    /// The changes of its keys, those that are applied too.
+    pub fn keys(&self) -> &[KeyState] {
+        self.console.keys()
+    }
+
+    /// The clock below which it is off.
+    pub fn off(&self) -> u64 {
+        self.console.off()
+    }
+
+    /// The line of the last step.
+    pub fn line(&self, alloc: Global) -> Result<Vec<u8>, Fail> {
+        let mut line = Vec::new(alloc);
+        step_line(alloc, &self.console, &mut line)?;
+        Ok(line)
     }
 
     pub fn counts(&self) -> Counts {

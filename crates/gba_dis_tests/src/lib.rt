@@ -8,4 +8,6 @@ mod listed;
 #[cfg(test)]
 mod listings;
 #[cfg(test)]
+mod lone;
+#[cfg(test)]
 mod thumb;
