@@ -1,18 +1,18 @@
-use Rattle.std.proofs.Common.{◌≡◌, ℕ, ℤ, zero, suc, Bool, true, false, ◌+◌, ◌*◌, ◌/◌, ◌%◌, ◌∙◌, List, [], ◌∷◌, ◌++◌, length, refl, sym, subst, ap, arith, if◌then◌else◌}
+use Rattle.std.proofs.Common.{◌≡◌, ℕ, ℤ, zero, suc, Bool, true, false, ◌+◌, ◌-◌, ◌*◌, ◌/◌, ◌%◌, ◌∙◌, List, [], ◌∷◌, ◌++◌, length, refl, sym, subst, ap, arith, if◌then◌else◌}
 use Rattle.std.specs.Prelude.{◌==◌, ◌||◌, ◌&&◌}
 use Rattle.std.proofs.lemmas.Bool.Decides.{nat_tests}
 use Rattle.std.specs.List.{concat}
 use Rattle.std.proofs.lemmas.List.{length-append}
-use Rattle.gba_devices.specs.Cycles.{CyclePasses, after_cycles, device_cycle, draws_at, draws_line, makes_pair, makes_within}
+use Rattle.gba_devices.specs.Cycles.{CyclePasses, after_cycles, device_cycle, draws_at, draws_line, draws_within, makes_pair, makes_within}
 use Rattle.gba_devices.specs.Samples.{left_sample, right_sample}
 use Rattle.gba_devices.specs.State.{Devices}
 use Rattle.gba_ppu_reg.specs.Position.{IsPosition, cycle as place_cycle}
 use Rattle.gba_ppu_reg.specs.declared.position.Position.{Position}
-use Rattle.gba_io.specs.Board.{BoardPasses, HasRoom, IsInStep, QuietBoard, board_after, board_cycle, frame_in_cycle, lines_in_cycle, lines_with, made_in_cycle}
+use Rattle.gba_io.specs.Board.{BoardPasses, HasRoom, IsInStep, QuietBoard, UnheardBoard, board_after, board_cycle, frame_in_cycle, lines_in_cycle, lines_with, made_in_cycle, pairs_within, unheard}
 use Rattle.gba_io.specs.Base.{early_at}
 use Rattle.gba_io.specs.Core.{Core, core_after, core_cycled}
 use Rattle.gba_io.specs.Drawing.{cycles_early, cycles_in, drawn_line, ends_frame, lines_drawn}
-use Rattle.gba_io.specs.Made.{Made, with_frame, with_pair}
+use Rattle.gba_io.specs.Made.{Made, sample_bytes, with_frame, with_pair}
 use Rattle.gba_io.specs.declared.board.Board.{Board}
 use Rattle.gba_io.proofs.Drawing.{frames-go, lines-go, place-sound}
 
@@ -151,6 +151,56 @@ quiet-board (suc count) b none =
     }) (same-lines (core_after count b.core) (nor-other pair line last))
     ∙ ap (λ (m : Made). record b { core = core_cycled (core_after count b.core); made = m })
     (none-in-cycle (core_after count b.core) b.made (none-of pair line last) (nor-other pair line last))
+
+-- where samples aren't kept a pair is only counted
+count-pair : (makes keeps : Bool) (left right : ℤ) (m : Made) → m.keeps_samples ≡ keeps → keeps ≡ false
+    → with_pair makes left right m ≡ record m { pairs = if makes then m.pairs + 1 else m.pairs }
+count-pair true keeps left right m e none =
+    ap (λ (kept : Bool). record m {
+      samples = if kept then m.samples ++ sample_bytes left ++ sample_bytes right else m.samples;
+      pairs = m.pairs + 1;
+    }) (e ∙ none)
+count-pair false keeps left right m e none = refl
+
+pairs-next : (pairs clock count now : ℕ) → now ≡ clock + count
+    → (if (now + 1) % 512 == 0 then pairs + pairs_within count clock + 1 else pairs + pairs_within count clock)
+    ≡ pairs + pairs_within (suc count) clock
+pairs-next pairs clock count now e = grind (arith, nat_tests)
+
+pairs-none : (pairs clock : ℕ) → pairs ≡ pairs + pairs_within 0 clock
+pairs-none pairs clock = omega arith
+
+module _ (keeps : (d : Devices) → CyclePasses d) where
+  clock-after : (count : ℕ) (d : Devices) → (after_cycles count d).clock ≡ d.clock + count
+  unfolding after_cycles
+  clock-after zero d = omega arith
+  clock-after (suc count) d = omega (arith, (keeps (after_cycles count d)).clock, clock-after count d)
+
+  unheard-cycle : (count : ℕ) (b : Board) → b.made.keeps_samples ≡ false
+      → draws_line (after_cycles count b.core.devices) ≡ false → board_cycle (unheard count b) ≡ unheard (suc count) b
+  unfolding board_cycle after_cycles
+  unheard-cycle count b none no_line =
+      let c = core_after count b.core in
+      let m = (unheard count b).made in
+      let d = c.devices in
+      let sounds = device_cycle d in
+      ap (λ lines. record b { core = record (core_cycled c) { lines = lines }; made = made_in_cycle c m }) (same-lines c no_line)
+      ∙ ap (λ (made : Made). record b { core = core_cycled c; made = made })
+      (ap (λ (made : Made). with_pair (makes_pair d) (left_sample sounds) (right_sample sounds) made)
+      (no-frame (draws_line d) (ends_frame d.place) (concat (lines_with c)) m no_line)
+      ∙ count-pair (makes_pair d) b.made.keeps_samples (left_sample sounds) (right_sample sounds) m refl none
+      ∙ ap (λ pairs. record b.made { pairs = pairs })
+      (pairs-next b.made.pairs b.core.devices.clock count d.clock (clock-after count b.core.devices)))
+
+  pub unheard-board : UnheardBoard
+  unfolding board_after after_cycles draws_within
+  unheard-board zero b kept none =
+      ap (λ pairs. record b { made = record b.made { pairs = pairs } }) (pairs-none b.made.pairs b.core.devices.clock)
+  unheard-board (suc count) b kept none =
+      let line = draws_line (after_cycles count b.core.devices) in
+      let before = draws_within count b.core.devices in
+      ap board_cycle (unheard-board count b kept (none-of before line none))
+      ∙ unheard-cycle count b kept (nor-other before line none)
 
 -- the room that is left after some of the cycles
 pub room-left : (some rest cycles : ℕ) (b after : Board) → rest + some ≡ cycles → after ≡ board_after some b

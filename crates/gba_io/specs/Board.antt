@@ -1,6 +1,6 @@
-use Rattle.std.specs.Prelude.{◌≡◌, ℕ, zero, suc, false, ◌+◌, ◌*◌, ◌/◌, ◌^◌, ◌≤◌, ◌&&◌, List, [], ◌∷◌, ◌++◌, length, Option, if◌then◌else◌}
+use Rattle.std.specs.Prelude.{◌≡◌, ℕ, zero, suc, false, ◌+◌, ◌-◌, ◌*◌, ◌/◌, ◌^◌, ◌≤◌, ◌&&◌, List, [], ◌∷◌, ◌++◌, length, Option, if◌then◌else◌}
 use Rattle.std.specs.List.{concat}
-use Rattle.gba_devices.specs.Cycles.{after_cycles, device_cycle, draws_line, makes_pair, makes_within}
+use Rattle.gba_devices.specs.Cycles.{after_cycles, device_cycle, draws_line, draws_within, makes_pair, makes_within}
 use Rattle.gba_devices.specs.Samples.{left_sample, right_sample}
 use Rattle.gba_image.specs.declared.backup.Backup.{Backup}
 use Rattle.gba_ppu_reg.specs.Position.{IsPosition}
@@ -91,6 +91,21 @@ abbrev pub QuietBoard : Type 0
 QuietBoard =
     (cycles : ℕ) (b : Board) → makes_within cycles b.core.devices ≡ false
     → board_after cycles b ≡ record b { core = core_after cycles b.core }
+
+-- Of cycles that draw no line, where samples aren't kept, only the pairs are counted.
+abbrev pub pairs_within : ℕ → ℕ → ℕ
+pairs_within cycles clock = (clock + cycles) / 512 - clock / 512
+
+abbrev pub unheard : ℕ → Board → Board
+unheard cycles b = record b {
+  core = core_after cycles b.core;
+  made = record b.made { pairs = b.made.pairs + pairs_within cycles b.core.devices.clock };
+}
+
+abbrev pub UnheardBoard : Type 0
+UnheardBoard =
+    (cycles : ℕ) (b : Board) → b.made.keeps_samples ≡ false → draws_within cycles b.core.devices ≡ false
+    → board_after cycles b ≡ unheard cycles b
 
 -- where the lists begin of what a board makes from here on
 abbrev pub base_of : Board → Base

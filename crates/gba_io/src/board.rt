@@ -178,16 +178,40 @@ impl Board {
         }
     }
 
-    /// Moves by as many of so many steps of so many cycles as nothing happens in, and answers how many.
-    #[inline]
-    pub fn owe_steps(&mut self, cycles: u32, most: u32) -> u32
+    /// The same where samples aren't kept, so that pairs are only counted.
+    fn owe_unheard(&mut self, cycles: u32, most: u32) -> u32
         requires some { 1 ≤ cycles }
         requires clock { self.old.core.devices.clock + 512 < 2 ^ 40 }
+        requires step { IsInStep self.old }
+        requires unheard { self.old.made.keeps_samples ≡ false }
         ensures owed { self.new ≡ board_after (cycles * result) self.old }
         ensures idle { (steps : ℕ) → steps ≤ result → is_idle (board_after (cycles * steps) self.old).core.devices ≡ is_idle self.old.core.devices }
         ensures most { result ≤ most }
     {
         board_passes();
+        // The base bounds the pairs.
+        let _ = self.made.base();
+        let before = self.core.clock() / 512;
+        let steps = self.core.owe_unheard(cycles, most);
+        self.made.count_pairs(self.core.clock() / 512 - before);
+        steps
+    }
+
+    /// Moves by as many of so many steps of so many cycles as nothing happens in but pairs of samples that aren't kept, and
+    /// answers how many.
+    #[inline]
+    pub fn owe_steps(&mut self, cycles: u32, most: u32) -> u32
+        requires some { 1 ≤ cycles }
+        requires clock { self.old.core.devices.clock + 512 < 2 ^ 40 }
+        requires step { IsInStep self.old }
+        ensures owed { self.new ≡ board_after (cycles * result) self.old }
+        ensures idle { (steps : ℕ) → steps ≤ result → is_idle (board_after (cycles * steps) self.old).core.devices ≡ is_idle self.old.core.devices }
+        ensures most { result ≤ most }
+    {
+        board_passes();
+        if !self.made.keeps_samples() {
+            return self.owe_unheard(cycles, most);
+        }
         self.core.owe_steps(cycles, most)
     }
 

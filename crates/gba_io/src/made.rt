@@ -94,7 +94,7 @@ fn add_sample(samples: &mut Vec<u8>, sample: i16)
 }
 
 impl Made {
-    ghost use Rattle.std.specs.Prelude.{◌≡◌, ◌+◌, ◌<◌, ◌≤◌, length, true, IfOk, ◌^◌};
+    ghost use Rattle.std.specs.Prelude.{◌≡◌, ◌+◌, ◌<◌, ◌≤◌, length, true, false, IfOk, ◌^◌};
     ghost use Rattle.gba_io.specs.Base.{IsBase, begun_at, frames_from, pairs_from};
     ghost use Rattle.std.specs.List.{concat};
     ghost use Rattle.gba_io.specs.Made.{made_emptied, made_from, none_made, with_frame, with_pair};
@@ -198,6 +198,22 @@ impl Made {
             add_sample(&mut self.samples, left);
             add_sample(&mut self.samples, right);
         }
+    }
+
+    /// Whether the pairs of samples are kept.
+    pub(crate) fn keeps_samples(&self) -> bool
+        ensures { result ≡ self.now.keeps_samples }
+    {
+        self.keeps_samples
+    }
+
+    /// Counts so many pairs of samples, where they aren't kept.
+    pub(crate) fn count_pairs(&mut self, more: u64)
+        requires unheard { self.old.keeps_samples ≡ false }
+        requires few { self.old.pairs + more < 2 ^ 64 }
+        ensures { self.new ≡ record self.old { pairs = self.old.pairs + more } }
+    {
+        self.pairs += more;
     }
 
     /// Adds a frame, the 160 lines of which are drawn on the screen.

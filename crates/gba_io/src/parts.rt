@@ -92,7 +92,7 @@ impl Core {
     ghost use Rattle.std.specs.Prelude.{◌≡◌, ℕ, ◌+◌, ◌*◌, ◌^◌, ◌<◌, ◌≤◌, ◌==◌, ◌++◌, ◌∷◌, [], true, false, IfOk, length, option_map, if◌then◌else◌};
     ghost use Rattle.std.specs.Option.{option_map_or};
     ghost use Rattle.gba_dma.specs.Channels.{channel_at, next_unit};
-    ghost use Rattle.gba_devices.specs.Cycles.{after_cycles, draws_line, makes_pair, makes_within};
+    ghost use Rattle.gba_devices.specs.Cycles.{after_cycles, draws_line, draws_within, makes_pair, makes_within};
     ghost use Rattle.gba_devices.specs.Samples.{left_sample, right_sample};
     ghost use Rattle.gba_devices.specs.State.{is_idle};
     ghost use Rattle.gba_image.specs.Checks.{SaveFits};
@@ -288,6 +288,22 @@ impl Core {
     {
         cycles_pass();
         self.devices.owe_steps(cycles, most)
+    }
+
+    /// Moves the devices by as many of so many steps of so many cycles as nothing happens in but pairs of samples, and answers
+    /// how many.
+    pub(crate) fn owe_unheard(&mut self, cycles: u32, most: u32) -> u32
+        requires some { 1 ≤ cycles }
+        requires clock { self.old.devices.clock + 512 < 2 ^ 40 }
+        ensures core { self.new ≡ core_after (cycles * result) self.old }
+        ensures clock { self.new.devices.clock ≡ self.old.devices.clock + cycles * result }
+        ensures lineless { draws_within (cycles * result) self.old.devices ≡ false }
+        ensures idle { (steps : ℕ) → steps ≤ result → is_idle (after_cycles (cycles * steps) self.old.devices) ≡ is_idle self.old.devices }
+        ensures few { cycles * result ≤ 512 }
+        ensures most { result ≤ most }
+    {
+        cycles_pass();
+        self.devices.owe_unheard(cycles, most)
     }
 
     /// A device cycle where nothing happens in it but a pair of samples, and whether it passed.

@@ -14,6 +14,9 @@ use Rattle.gba_console.proofs.Images.{moved-images, still-stand}
 use Rattle.gba_console.proofs.Console.idle_quietly.Goals as goal
 use Rattle.gba_console.specs.Doing.{told_by}
 
+pub owe_steps-steps-requires-clause-step : goal.owe_steps-steps-requires-clause-step
+owe_steps-steps-requires-clause-step c = (c.self.invariant.5.on (rw (← c.self.view_is) at c.requires.on)).step
+
 pub returns-then-steps-eq0-clause-alone : goal.returns-then-steps-eq0-clause-alone
 returns-then-steps-eq0-clause-alone c =
     let inside = c.self.inside in
