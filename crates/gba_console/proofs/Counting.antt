@@ -157,7 +157,7 @@ module _ (keeps : (d : Devices) → CyclePasses d) (acts : ActsPass) (passes : (
       = (acts.all m.registers (prepared dues m)).course.place ∙ keys-place (clock_of m) (left_of m) b.core
       ∙ taken-place dues (board_begun m.board) in
       let lines : done.bus.lines ≡ m.board.core.lines
-      = (acts.all m.registers (prepared dues m)).course.lines ∙ keys-lines (clock_of m) m.keys b.core
+      = (acts.all m.registers (prepared dues m)).course.lines ∙ keys-lines (clock_of m) (left_of m) b.core
       ∙ taken-lines dues (board_begun m.board) in
       let here : CountsMade done.bus.lines done.bus.devices.place b.made
       = subst (λ (some : List (List ℕ)). CountsMade some done.bus.devices.place b.made) (sym lines)
