@@ -20,6 +20,12 @@ pub record GenerateWords : Type 0 where
   pub cycles : ℕ
   pub out : List ℕ
 
+-- `trace JOB FIRST COUNT OUT`
+pub record TraceWords : Type 0 where
+  pub run : RunWords
+  pub first : ℕ
+  pub count : ℕ
+
 pub data Command : Type 0 where
   -- `run JOB OUT`: a job is run
   RunJob : RunWords → Command
@@ -31,6 +37,8 @@ pub data Command : Type 0 where
   ListThumb : FileWords → Command
   -- `gen NUMBER CYCLES OUT`: a run of four consoles is made of a number
   Generate : GenerateWords → Command
+  -- `trace JOB FIRST COUNT OUT`: steps of a job are listed
+  Trace : TraceWords → Command
 
 -- OUT may have 180 bytes, so that the names of the written files are names too
 abbrev pub longest_out : ℕ
@@ -57,6 +65,17 @@ abbrev pub generate_words : List ℕ → List ℕ → List ℕ → Option Genera
 generate_words number cycles out =
     if is_out out then generation (number_of 0 4294967295 number) (number_of 1 2147483648 cycles) out else None
 
+abbrev pub tracing : Option ℕ → Option ℕ → Option RunWords → Option TraceWords
+tracing None count run = None
+tracing (Some first) None run = None
+tracing (Some first) (Some count) None = None
+tracing (Some first) (Some count) (Some run) = Some (record { run = run; first = first; count = count })
+
+-- FIRST is below 2^40 and COUNT from 1 to 1,000,000, each of 1 to 20 decimal digits
+abbrev pub trace_words : List ℕ → List ℕ → List ℕ → List ℕ → Option TraceWords
+trace_words job first count out =
+    tracing (number_of 0 1099511627775 first) (number_of 1 1000000 count) (run_words job out)
+
 -- a command of three words
 abbrev pub command_of_three : List ℕ → List ℕ → List ℕ → Option Command
 command_of_three name from to =
@@ -71,6 +90,11 @@ abbrev pub command_of_four : List ℕ → List ℕ → List ℕ → List ℕ →
 command_of_four name number cycles out =
     if bytes_eq name (codes "gen") then option_map Generate (generate_words number cycles out) else None
 
+-- a command of five words
+abbrev pub command_of_five : List ℕ → List ℕ → List ℕ → List ℕ → List ℕ → Option Command
+command_of_five name job first count out =
+    if bytes_eq name (codes "trace") then option_map Trace (trace_words job first count out) else None
+
 -- the command that the words after the program's name say, if they say one
 abbrev pub command_of : List (List ℕ) → Option Command
 command_of [] = None
@@ -78,7 +102,8 @@ command_of (_ ∷ []) = None
 command_of (_ ∷ _ ∷ []) = None
 command_of (name ∷ from ∷ to ∷ []) = command_of_three name from to
 command_of (name ∷ number ∷ cycles ∷ out ∷ []) = command_of_four name number cycles out
-command_of (_ ∷ _ ∷ _ ∷ _ ∷ _ ∷ _) = None
+command_of (name ∷ job ∷ first ∷ count ∷ out ∷ []) = command_of_five name job first count out
+command_of (_ ∷ _ ∷ _ ∷ _ ∷ _ ∷ _ ∷ _) = None
 
 -- What holds of the words of every command.
 abbrev pub IsOut : List ℕ → Type 0
@@ -98,9 +123,16 @@ pub record AreGenerateWords (words : GenerateWords) : Type 0 where
   pub few_cycles : words.cycles ≤ 2 ^ 31
   pub out : IsOut words.out
 
+pub record AreTraceWords (words : TraceWords) : Type 0 where
+  pub run : AreRunWords words.run
+  pub first : words.first < 2 ^ 40
+  pub some_steps : 1 ≤ words.count
+  pub few_steps : words.count ≤ 1000000
+
 abbrev pub IsCommand : Command → Type 0
 IsCommand (RunJob words) = AreRunWords words
 IsCommand (Assemble words) = AreFileWords words
 IsCommand (ListArm words) = AreFileWords words
 IsCommand (ListThumb words) = AreFileWords words
 IsCommand (Generate words) = AreGenerateWords words
+IsCommand (Trace words) = AreTraceWords words

@@ -3,8 +3,8 @@
 ghost use Rattle.std.specs.Prelude.{◌≡◌, ◌≤◌, IfSome, length, map, option_map, string_bytes};
 ghost use Rattle.std.specs.Bool.{OnTrue};
 ghost use Rattle.gba_joblog.specs.Names.{is_name as is_name_said};
-ghost use Rattle.gba_command.specs.Views.{command_value, file_words_value, generate_words_value, run_words_value};
-ghost use Rattle.gba_command.specs.Words.{AreFileWords, AreGenerateWords, AreRunWords, IsCommand, IsOut, command_of as command_said, command_of_four, command_of_three, file_words as file_words_said, generate_words as generate_words_said, is_out as is_out_said, run_words as run_words_said};
+ghost use Rattle.gba_command.specs.Views.{command_value, file_words_value, generate_words_value, run_words_value, trace_words_value};
+ghost use Rattle.gba_command.specs.Words.{AreFileWords, AreGenerateWords, AreRunWords, AreTraceWords, IsCommand, IsOut, command_of as command_said, command_of_five, command_of_four, command_of_three, file_words as file_words_said, generate_words as generate_words_said, is_out as is_out_said, run_words as run_words_said, trace_words as trace_words_said};
 
 use gba_joblog::is_name;
 use gba_text::number_in;
@@ -17,6 +17,12 @@ const LAST_NUMBER: u64 = 4_294_967_295;
 
 /// The most CYCLES.
 const MOST_CYCLES: u64 = 2_147_483_648;
+
+/// The greatest FIRST.
+const LAST_STEP: u64 = 1_099_511_627_775;
+
+/// The most steps of a trace.
+const MOST_STEPS: u64 = 1_000_000;
 
 /// The words JOB and OUT.
 #[derive(Clone, Copy, Debug, PartialEq, Eq)]
@@ -41,6 +47,16 @@ pub struct GenerateWords<'a> {
     pub out: &'a str,
 }
 
+/// The words JOB and OUT beside FIRST and COUNT.
+#[derive(Clone, Copy, Debug, PartialEq, Eq)]
+pub struct TraceWords<'a> {
+    pub run: RunWords<'a>,
+    /// The number of the first step, counted from 0, below 2^40.
+    pub first: u64,
+    /// How many steps, from 1 to 1,000,000.
+    pub count: u64,
+}
+
 /// A command of the program. Names are those of the job language, and that of what is written has at most 180 bytes.
 /// This project's profile.
 #[derive(Clone, Copy, Debug, PartialEq, Eq)]
@@ -55,6 +71,8 @@ pub enum Command<'a> {
     ListThumb(FileWords<'a>),
     /// `gen NUMBER CYCLES OUT`: a run of four consoles is made of a number.
     Generate(GenerateWords<'a>),
+    /// `trace JOB FIRST COUNT OUT`: steps of a job are listed.
+    Trace(TraceWords<'a>),
 }
 
 fn is_out(name: &str) -> bool
@@ -110,6 +128,21 @@ fn generate_words<'a>(number: &str, cycles: &str, out: &'a str) -> Option<Genera
     })
 }
 
+fn trace_words<'a>(
+    job: &'a str,
+    first: &str,
+    count: &str,
+    out: &'a str,
+) -> Option<TraceWords<'a>>
+    ensures words { option_map trace_words_value result ≡ trace_words_said job.now first.now count.now out.now }
+    ensures sound { IfSome result (λ words. AreTraceWords (trace_words_value words)) }
+{
+    let first = number_in(first.as_bytes(), 0, LAST_STEP)?;
+    let count = number_in(count.as_bytes(), 1, MOST_STEPS)?;
+    let run = run_words(job, out)?;
+    Some(TraceWords { run, first, count })
+}
+
 fn command_of_words<'a>(name: &str, from: &'a str, to: &'a str) -> Option<Command<'a>>
     ensures command { option_map command_value result ≡ command_of_three name.now from.now to.now }
     ensures sound { IfSome result (λ command. IsCommand (command_value command)) }
@@ -138,6 +171,22 @@ fn command_of_numbers<'a>(
     }
 }
 
+fn command_of_steps<'a>(
+    name: &str,
+    job: &'a str,
+    first: &str,
+    count: &str,
+    out: &'a str,
+) -> Option<Command<'a>>
+    ensures command { option_map command_value result ≡ command_of_five name.now job.now first.now count.now out.now }
+    ensures sound { IfSome result (λ command. IsCommand (command_value command)) }
+{
+    match name {
+        "trace" => trace_words(job, first, count, out).map(Command::Trace),
+        _ => None,
+    }
+}
+
 /// The command that the words after the program's name say, if they say one.
 pub fn command_of(words: &[String]) -> Option<Command<'_>>
     ensures command { option_map command_value result ≡ command_said (map string_bytes words.now) }
@@ -149,6 +198,13 @@ pub fn command_of(words: &[String]) -> Option<Command<'_>>
             name.as_str(),
             number.as_str(),
             cycles.as_str(),
+            out.as_str(),
+        ),
+        [name, job, first, count, out] => command_of_steps(
+            name.as_str(),
+            job.as_str(),
+            first.as_str(),
+            count.as_str(),
             out.as_str(),
         ),
         _ => None,

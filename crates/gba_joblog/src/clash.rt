@@ -2,7 +2,7 @@
 
 ghost use Rattle.std.specs.Prelude.{◌≡◌, ◌<◌, ◌^◌, decimal, map, option_map};
 ghost use Rattle.std.specs.Str.{bytes_eq};
-ghost use Rattle.gba_joblog.specs.Clash.{after_text, any_line_of as any_line_of_of, asks_as as asks_as_of, clash_of, console_clash as console_clash_of, console_writes as console_writes_of, ends_as as ends_as_of, inputs_clash as inputs_clash_of, is_output as is_output_of, least as least_of, line_of as line_of_of, log_file, tail_after as tail_after_of, writes as writes_of};
+ghost use Rattle.gba_joblog.specs.Clash.{after_text, any_line_of as any_line_of_of, asks_as as asks_as_of, clash_with, console_clash as console_clash_of, console_writes as console_writes_of, ends_as as ends_as_of, inputs_clash as inputs_clash_of, is_output as is_output_of, is_written as is_written_of, least as least_of, line_of as line_of_of, log_file, tail_after as tail_after_of, writes as writes_of};
 ghost use Rattle.gba_joblog.specs.Views.{console_value, file_value, job_value};
 
 use crate::job::{FileLine, Job, JobConsole};
@@ -87,6 +87,17 @@ fn is_output(out: &[u8], consoles: &[JobConsole], name: &[u8]) -> bool
     is_log(out, name) || writes(out, consoles, name)
 }
 
+/// Whether this is the name of the one file more that is written, or of one that a run of the consoles writes.
+fn is_written(out: &[u8], consoles: &[JobConsole], more: Option<&str>, name: &[u8]) -> bool
+    ensures { result
+        ≡ is_written_of (option_map (λ one. one.now) more.entry) out.now (map console_value consoles.now) name.now }
+{
+    match more {
+        Some(more) => name == more.as_bytes() || is_output(out, consoles, name),
+        None => is_output(out, consoles, name),
+    }
+}
+
 /// The lesser of two lines, where both are there.
 fn least(a: Option<u64>, b: Option<u64>) -> Option<u64>
     ensures { result ≡ least_of a b }
@@ -99,10 +110,15 @@ fn least(a: Option<u64>, b: Option<u64>) -> Option<u64>
 }
 
 /// The line of an input that an output would be.
-fn line_of(out: &[u8], consoles: &[JobConsole], file: &FileLine) -> Option<u64>
-    ensures { result ≡ line_of_of (is_output_of out.now (map console_value consoles.now)) (file_value file.now) }
+fn line_of(
+    out: &[u8],
+    consoles: &[JobConsole],
+    more: Option<&str>,
+    file: &FileLine,
+) -> Option<u64>
+    ensures { result ≡ line_of_of (is_written_of (option_map (λ one. one.now) more.entry) out.now (map console_value consoles.now)) (file_value file.now) }
 {
-    if is_output(out, consoles, file.name.as_bytes()) {
+    if is_written(out, consoles, more, file.name.as_bytes()) {
         Some(file.line)
     } else {
         None
@@ -110,52 +126,63 @@ fn line_of(out: &[u8], consoles: &[JobConsole], file: &FileLine) -> Option<u64>
 }
 
 /// The line of an input that may be there, and that an output would be.
-fn any_line_of(out: &[u8], consoles: &[JobConsole], file: &Option<FileLine>) -> Option<u64>
+fn any_line_of(
+    out: &[u8],
+    consoles: &[JobConsole],
+    more: Option<&str>,
+    file: &Option<FileLine>,
+) -> Option<u64>
     ensures { result
-        ≡ any_line_of_of (is_output_of out.now (map console_value consoles.now)) (option_map file_value file.now) }
+        ≡ any_line_of_of (is_written_of (option_map (λ one. one.now) more.entry) out.now (map console_value consoles.now)) (option_map file_value file.now) }
 {
     match file {
-        Some(file) => line_of(out, consoles, file),
+        Some(file) => line_of(out, consoles, more, file),
         None => None,
     }
 }
 
 /// The least line of a console's inputs that an output would be.
 #[tactic(auto, unfolding(crate::specs::Clash::console_clash))]
-fn console_clash(out: &[u8], consoles: &[JobConsole], console: &JobConsole) -> Option<u64>
+fn console_clash(
+    out: &[u8],
+    consoles: &[JobConsole],
+    more: Option<&str>,
+    console: &JobConsole,
+) -> Option<u64>
     ensures { result
-        ≡ console_clash_of (is_output_of out.now (map console_value consoles.now)) (console_value console.now) }
+        ≡ console_clash_of (is_written_of (option_map (λ one. one.now) more.entry) out.now (map console_value consoles.now)) (console_value console.now) }
 {
-    let bios = line_of(out, consoles, &console.bios);
-    let cart = any_line_of(out, consoles, &console.cart);
-    let save = any_line_of(out, consoles, &console.save);
-    let keys = any_line_of(out, consoles, &console.keys);
+    let bios = line_of(out, consoles, more, &console.bios);
+    let cart = any_line_of(out, consoles, more, &console.cart);
+    let save = any_line_of(out, consoles, more, &console.save);
+    let keys = any_line_of(out, consoles, more, &console.keys);
     least(bios, least(cart, least(save, keys)))
 }
 
 /// The least line of an input that an output would be.
-fn inputs_clash(out: &[u8], consoles: &[JobConsole]) -> Option<u64>
+fn inputs_clash(out: &[u8], consoles: &[JobConsole], more: Option<&str>) -> Option<u64>
     ensures { result
-        ≡ inputs_clash_of (is_output_of out.now (map console_value consoles.now)) (map console_value consoles.now) }
+        ≡ inputs_clash_of (is_written_of (option_map (λ one. one.now) more.entry) out.now (map console_value consoles.now)) (map console_value consoles.now) }
 {
     let mut found = None;
     for console in consoles {
-        found = least(found, console_clash(out, consoles, console));
+        found = least(found, console_clash(out, consoles, more, console));
     }
     found
 }
 
 impl Job {
-    /// Where an output file or the log of a run with this OUT would be the file of the job, line 0, or one of its inputs:
-    /// then the least line of such an input.
-    #[tactic(auto, unfolding(crate::specs::Clash::clash_of))]
-    pub fn clash(&self, job_name: &str, out: &str) -> Option<u64>
-        ensures { result ≡ clash_of (job_value self.now) job_name.now out.now }
+    /// Where an output file or the log of a run with this OUT, or the one file more that a command writes, would be the file of
+    /// the job, line 0, or one of its inputs: then the least line of such an input.
+    #[tactic(auto, unfolding(crate::specs::Clash::clash_with))]
+    pub fn clash(&self, job_name: &str, out: &str, more: Option<&str>) -> Option<u64>
+        ensures { result
+            ≡ clash_with (job_value self.now) job_name.now out.now (option_map (λ one. one.now) more.entry) }
     {
         let consoles = self.consoles.as_slice();
-        if is_output(out.as_bytes(), consoles, job_name.as_bytes()) {
+        if is_written(out.as_bytes(), consoles, more, job_name.as_bytes()) {
             return Some(0);
         }
-        inputs_clash(out.as_bytes(), consoles)
+        inputs_clash(out.as_bytes(), consoles, more)
     }
 }

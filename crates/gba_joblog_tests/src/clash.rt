@@ -85,7 +85,7 @@ static CLASHES: [(&[u8], &str, &str, Option<u64>); 20] = [
 /// Whether the text is a job that clashes so.
 fn clashes(alloc: Global, text: &[u8], name: &str, out: &str, want: Option<u64>) -> bool {
     match job_of(alloc, text) {
-        Some(job) => job.clash(name, out) == want,
+        Some(job) => job.clash(name, out, None) == want,
         None => false,
     }
 }

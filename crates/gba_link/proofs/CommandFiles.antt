@@ -1,17 +1,17 @@
 -- The files of the runs of commands.
-use Rattle.std.proofs.Common.{◌≡◌, ℕ, ◌+◌, ◌<◌, ◌∙◌, true, false, List, [], ◌∷◌, ◌++◌, length, map, Ok, refl, sym, ap, subst, inl, arith}
+use Rattle.std.proofs.Common.{◌≡◌, ℕ, ◌+◌, ◌<◌, ◌∙◌, true, false, List, [], ◌∷◌, ◌++◌, length, map, Some, Ok, refl, sym, ap, subst, inl, arith}
 use Rattle.std.specs.Prelude.{codes}
 use Rattle.std.specs.List.{All, AllZip}
 use Rattle.std.specs.Str.{bytes_eq}
 use Rattle.std.proofs.lemmas.Fmt.{decimal_digit}
-use Rattle.std.proofs.lemmas.List.{append-nil, length-map, map-append}
+use Rattle.std.proofs.lemmas.List.{append-nil, length-append, length-map, map-append}
 use Rattle.std.proofs.lemmas.List.Elements.{All-cons, All-nil}
 use Rattle.gba_command.proofs.Comes.{outcome-done, outcome-parts}
 use Rattle.gba_command.proofs.LeftFiles.{has-own-files, names-apart}
 use Rattle.gba_command.proofs.Parts.{ArePart, all_differ, all_long, has_name, part-append, part-differ}
 use Rattle.gba_command.specs.LeftFiles.{NamesDiffer, is_among, standard_output}
 use Rattle.gba_command.specs.Plan.{outcome}
-use Rattle.gba_command.specs.Words.{Command, GenerateWords, RunJob, Assemble, ListArm, ListThumb, Generate, IsCommand, IsOut}
+use Rattle.gba_command.specs.Words.{Command, GenerateWords, RunJob, Assemble, ListArm, ListThumb, Generate, Trace, IsCommand, IsOut}
 use Rattle.gba_command.specs.Writing.{Output, Run}
 use Rattle.gba_dis.specs.declared.units.Set.TheVariants.{Arm, Thumb}
 use Rattle.gba_generator.proofs.MadeJob.{job-sound}
@@ -20,6 +20,7 @@ use Rattle.gba_generator.specs.Source.{bios}
 use Rattle.gba_inputs.proofs.SoundInputs.{filled-sound, filled_consoles-sound, inputs-sound, zip-long}
 use Rattle.gba_inputs.specs.Filled.{filled}
 use Rattle.gba_inputs.specs.Inputs.{ConsoleInputs}
+use Rattle.gba_inputs.specs.InputsPlan.{inputs_plan}
 use Rattle.gba_inputs.specs.Law.{AreInputs}
 use Rattle.gba_joblog.proofs.Sound.{sound}
 use Rattle.gba_joblog.specs.Job.{WholeJob}
@@ -30,7 +31,8 @@ use Rattle.gba_link.proofs.RunsAgain.{done}
 use Rattle.gba_link.specs.CommandPlan.{plan_of_command}
 use Rattle.gba_link.specs.FilesLaw.{HasFilesUnder, IsUnder, out_of}
 use Rattle.gba_link.specs.GeneratedRun.{generated_run, made_files, made_inputs}
-use Rattle.gba_link.specs.RunPlan.{images_in, result_of_run}
+use Rattle.gba_link.specs.RunPlan.{images_in, job_plan_with, result_of_run}
+use Rattle.gba_link.specs.TracePlan.{after_inputs_traced, result_of_trace, trace_file, traced, traced_plan}
 use Rattle.gba_run_files.proofs.OutputNames.{apart-under, differ-under, player_names, run_file_names, written-differ, written-part}
 use Rattle.gba_run_files.proofs.OwnFiles.{own-after}
 use Rattle.gba_run_files.proofs.RunAgain.{written-under}
@@ -67,6 +69,25 @@ file-under name word bytes is =
       differ = differ;
       own = has-own-files (file ∷ []) (one_file name word bytes).end differ apart;
       under = All-cons (IsUnder name) file [] (record { rest = []; named = sym (append-nil name) }) (All-nil (IsUnder name));
+    }
+
+-- the trace
+trace-apart : (out : List ℕ) → bytes_eq (trace_file out) standard_output ≡ false
+trace-apart out =
+    names-apart (trace_file out) standard_output (λ same.
+    let long : length (trace_file out) ≡ 1 = ap (λ (name : List ℕ). length name) same in
+    absurd (omega (arith, long, length-append out (codes ".trace"))))
+
+trace-under : (out text : List ℕ) (lines : ℕ) → HasFilesUnder out (traced out text lines)
+unfolding NamesDiffer is_among
+trace-under out text lines =
+    let file : Output = record { name = trace_file out; bytes = text } in
+    let differ : NamesDiffer (file ∷ []) = (refl, tt) in
+    let apart : is_among standard_output (file ∷ []) ≡ false = rw (trace-apart out) refl in
+    record {
+      differ = differ;
+      own = has-own-files (file ∷ []) (traced out text lines).end differ apart;
+      under = All-cons (IsUnder out) file [] (record { rest = codes ".trace"; named = refl }) (All-nil (IsUnder out));
     }
 
 -- ---- a job
@@ -203,3 +224,10 @@ module _ (law : RunsHaveOwnFiles) where
   commands-under files (Generate words) run fine h =
       subst (HasFilesUnder words.out) (ok-is (generated_run words) run (sym (outcome-done files (generated_run words)) ∙ h))
       (made-under words fine)
+  commands-under files (Trace words) run fine h =
+      let parts = outcome-parts files (job_plan_with (Some (trace_file words.run.out)) words.run) (traced_plan words) run h in
+      let job = parts.0 in
+      let read = outcome-parts files (inputs_plan job.consoles) (after_inputs_traced words job) run parts.2 in
+      let made = result_of_trace words job read.0 in
+      subst (HasFilesUnder words.run.out) (ok-is made run (sym (outcome-done files made) ∙ read.2))
+      (trace-under words.run.out _ _)

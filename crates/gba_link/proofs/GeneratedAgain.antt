@@ -22,7 +22,7 @@ use Rattle.gba_inputs.proofs.Replay.{Has, gives-each, image-unlined, ok-judged}
 use Rattle.gba_inputs.specs.Inputs.{ConsoleInputs, digested}
 use Rattle.gba_inputs.specs.InputsPlan.{accepted, after_bios, after_cart, after_keys, after_save, any_cart_plan, any_keys_plan, any_save_plan, bios_form, bios_plan, inputs_of, inputs_plan, judged_image}
 use Rattle.gba_inputs.specs.Law.{AreInputs}
-use Rattle.gba_joblog.specs.Clash.{clash_of, console_clash, console_writes, inputs_clash, is_output, log_file, output_file, writes, writes_as}
+use Rattle.gba_joblog.specs.Clash.{clash_of, clash_with, console_clash, console_writes, inputs_clash, is_output, log_file, output_file, writes, writes_as}
 use Rattle.gba_joblog.specs.Job.{ConsoleJob, NamedFile, WholeJob}
 use Rattle.gba_joblog.specs.Language.{longest_job}
 use Rattle.gba_joblog.specs.LogLaw.{unlined_console, unlined_file}
@@ -224,7 +224,7 @@ all-free is_written (l ∷ later) (c ∷ consoles) like free =
 
 no-clash : (cycles : ℕ) (made out : List ℕ) (again : WholeJob) → AllZip IsLike again.consoles (job cycles made).consoles
     → clash_of again (job_file made) out ≡ None
-unfolding clash_of
+unfolding clash_with
 no-clash cycles made out again like =
     let is_written : List ℕ → Bool = is_output out again.consoles in
     let whole : is_written (job_file made) ≡ false

@@ -13,7 +13,7 @@ use Rattle.gba_command.specs.Writing.{Run}
 use Rattle.gba_inputs.proofs.Replay.{judged-ok}
 use Rattle.gba_inputs.specs.Filled.{filled, filled_console, filled_consoles}
 use Rattle.gba_inputs.specs.Inputs.{ConsoleInputs}
-use Rattle.gba_joblog.specs.Clash.{any_line_of, clash_of, console_clash, console_writes, inputs_clash, is_output, least, line_of, log_file, writes}
+use Rattle.gba_joblog.specs.Clash.{any_line_of, clash_of, clash_with, console_clash, console_writes, inputs_clash, is_output, least, line_of, log_file, writes}
 use Rattle.gba_joblog.specs.Job.{ConsoleJob, NamedFile, WholeJob}
 use Rattle.gba_joblog.specs.Language.{job_of, longest_job}
 use Rattle.gba_joblog.specs.declared.kinds.JobKind.TheVariants.{Long}
@@ -136,7 +136,7 @@ module _ (is_written : List ℕ → Bool) (run : Run) (free : (name : List ℕ) 
 
 pub spared : (files : Files) (words : RunWords) (job : WholeJob) (run : Run) → outcome files (whole_run_plan words) ≡ Ok run
     → SaysJob files words.job job → Spares run words.job × All (SparesConsole run) job.consoles
-unfolding clash_of
+unfolding clash_with
 spared files words job run comes says =
     let d = done files words run comes in
     let same : d.job ≡ job = said-once files words.job d.job job d.says says in

@@ -6,7 +6,7 @@ use Rattle.gba_store.specs.declared.outside.ReadError.{ReadError}
 use Rattle.gba_command.specs.Cause.{Cause, NoCommand, Digest, Stop, Refused, LacksMemory}
 use Rattle.gba_command.specs.Plan.{Plan, Done, Refuse, Read, bind, each, judgement}
 use Rattle.gba_command.specs.Reading.{GoesTo}
-use Rattle.gba_command.specs.Words.{Command, FileWords, RunWords, RunJob, Assemble, ListArm, ListThumb, Generate}
+use Rattle.gba_command.specs.Words.{Command, FileWords, RunWords, TraceWords, RunJob, Assemble, ListArm, ListThumb, Generate, Trace}
 use Rattle.gba_command.specs.Writing.{Run}
 use Rattle.gba_command.proofs.Plans.{Names, refused-named, refuses-alone}
 use Rattle.gba_image.specs.declared.backup.Backup.{Backup}
@@ -14,7 +14,7 @@ use Rattle.gba_image.specs.declared.error.ImageError.{ImageError}
 use Rattle.gba_inputs.specs.Inputs.{ConsoleInputs, DigestedImage, digested}
 use Rattle.gba_inputs.specs.InputsPlan.{ImageForm, accepted, after_bios, after_cart, after_digest, after_keys, after_save, any_cart_plan, any_keys_plan, any_save_plan, bios_form, bios_plan, cart_form, cart_plan, compared_with, console_plan, found, image_plan, key_file_plan, keys_or_fault, keys_or_refusal, save_form, save_plan, unless_fault}
 use Rattle.gba_joblog.specs.Kinds.{JobError}
-use Rattle.gba_joblog.specs.Clash.{clash_of}
+use Rattle.gba_joblog.specs.Clash.{clash_with}
 use Rattle.gba_joblog.specs.Job.{ConsoleJob, NamedFile, WholeJob}
 use Rattle.gba_joblog.specs.KeyFile.{keys_of}
 use Rattle.gba_joblog.specs.declared.job.KeyChange.{KeyChange}
@@ -24,7 +24,8 @@ use Rattle.gba_asm_words.specs.Kinds.{AsmError}
 use Rattle.gba_dis.specs.declared.units.Set.{Set}
 use Rattle.gba_dis.specs.declared.units.Set.TheVariants.{Arm, Thumb}
 use Rattle.gba_link.specs.CommandPlan.{command_plan, plan_of_command}
-use Rattle.gba_link.specs.RunPlan.{after_inputs, job_or_refusal, run_plan, unless_clash, whole_run_plan, without_clash}
+use Rattle.gba_link.specs.RunPlan.{after_inputs, job_or_refusal_with, job_plan_with, run_plan, unless_clash, without_clash_with}
+use Rattle.gba_link.specs.TracePlan.{after_inputs_traced, trace_file, traced_plan}
 use Rattle.gba_translate.specs.Translation.{assembled, assembly_plan, listing_plan, after_assembly, unless_refused}
 
 abbrev refused_as : (X : Type 0) → Cause → Result X Cause
@@ -133,22 +134,25 @@ run-named : (words : RunWords) (job : WholeJob) → Names NoCommand (run_plan wo
 unfolding Names
 run-named words job h = consoles-apart [] job.consoles (after_inputs words job) (λ inputs none. none) h
 
-judged-named : (words : RunWords) (result : Result WholeJob Cause) → (result ≡ Err NoCommand → ⊥)
-    → Names NoCommand (bind (judgement result) (run_plan words)) → ⊥
-judged-named words result apart h = judgement-apart result (run_plan words) apart (run-named words) h
+traced-named : (words : TraceWords) (job : WholeJob) → Names NoCommand (traced_plan words job) → ⊥
+unfolding Names
+traced-named words job h = consoles-apart [] job.consoles (after_inputs_traced words job) (λ inputs none. none) h
 
 unclashing : (words : RunWords) (job : WholeJob) (clash : Option ℕ) → unless_clash words job clash ≡ Err NoCommand → ⊥
 unclashing words job None h = cc
 unclashing words job (Some line) h = cc
 
-not-words : (words : RunWords) (said : Result WholeJob JobError) → without_clash words said ≡ Err NoCommand → ⊥
-not-words words (Ok job) h = unclashing words job (clash_of job words.job words.out) h
-not-words words (Err error) h = cc
+not-words : (more : Option (List ℕ)) (words : RunWords) (said : Result WholeJob JobError)
+    → without_clash_with more words said ≡ Err NoCommand → ⊥
+not-words more words (Ok job) h = unclashing words job (clash_with job words.job words.out more) h
+not-words more words (Err error) h = cc
 
-job-named : (words : RunWords) → Names NoCommand (whole_run_plan words) → ⊥
+job-named : (more : Option (List ℕ)) (words : RunWords) (following : WholeJob → Plan Run)
+    → ((job : WholeJob) → Names NoCommand (following job) → ⊥) → Names NoCommand (bind (job_plan_with more words) following) → ⊥
 unfolding Names
-job-named words (inl h) = cc
-job-named words (inr h) = judged-named words (job_or_refusal words h.0) (not-words words (job_of h.0)) h.1
+job-named more words following rest (inl h) = cc
+job-named more words following rest (inr h) =
+    judgement-apart (job_or_refusal_with more words h.0) following (not-words more words (job_of h.0)) rest h.1
 
 -- nor does a source or an image
 source-apart : (name : List ℕ) (made : Result (List ℕ) AsmError) → unless_refused name made ≡ Err NoCommand → ⊥
@@ -169,11 +173,13 @@ listing-named set words (inr h) = h.1
 
 read-named : (command : Command) → Names NoCommand (plan_of_command command) → ⊥
 unfolding Names
-read-named (RunJob words) h = job-named words h
+read-named (RunJob words) h = job-named None words (run_plan words) (run-named words) h
 read-named (Assemble words) h = assembly-named words h
 read-named (ListArm words) h = listing-named Arm words h
 read-named (ListThumb words) h = listing-named Thumb words h
 read-named (Generate words) h = h
+read-named (Trace words) h =
+    job-named (Some (trace_file words.run.out)) words.run (traced_plan words) (traced-named words) h
 
 module _ {Store : Type 0} (gives : List ℕ → ℕ → Result (List ℕ) ReadError → Store → Store → Type 0) where
   pub refused-words : (command : Option Command) (old new : Store) (end : Result Run Stop)

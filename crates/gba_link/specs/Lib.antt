@@ -1,4 +1,5 @@
 pub mod RunPlan
+pub mod TracePlan
 pub mod GeneratedRun
 pub mod CommandPlan
 pub mod Law

@@ -11,7 +11,7 @@ use Rattle.gba_inputs.specs.Inputs.{ConsoleInputs}
 use Rattle.gba_inputs.specs.InputsPlan.{inputs_plan}
 use Rattle.gba_joblog.specs.Kinds.{JobError}
 use Rattle.gba_text.specs.Languages.{error_at}
-use Rattle.gba_joblog.specs.Clash.{clash_of}
+use Rattle.gba_joblog.specs.Clash.{clash_with}
 use Rattle.gba_joblog.specs.Job.{WholeJob}
 use Rattle.gba_joblog.specs.Language.{job_of, longest_job}
 use Rattle.gba_joblog.specs.declared.kinds.JobKind.TheVariants.{Long, Clash}
@@ -25,25 +25,39 @@ use Rattle.link_order.specs.Cut.{Cut}
 abbrev pub job_refusal : RunWords → JobError → Cause
 job_refusal words error = Job words.job error
 
--- an output file may not be JOB or one of the job's inputs
+-- an output file, or the one file more that a command writes, may not be JOB or one of the job's inputs
 abbrev pub unless_clash : RunWords → WholeJob → Option ℕ → Result WholeJob Cause
 unless_clash words job None = Ok job
 unless_clash words job (Some line) = Err (job_refusal words (error_at line Clash))
 
-abbrev pub without_clash : RunWords → Result WholeJob JobError → Result WholeJob Cause
-without_clash words (Ok job) = unless_clash words job (clash_of job words.job words.out)
-without_clash words (Err error) = Err (job_refusal words error)
+abbrev pub without_clash_with : Option (List ℕ) → RunWords → Result WholeJob JobError → Result WholeJob Cause
+without_clash_with more words (Ok job) = unless_clash words job (clash_with job words.job words.out more)
+without_clash_with more words (Err error) = Err (job_refusal words error)
 
 -- the job that the bytes of JOB say, or why it is refused
-abbrev pub job_or_refusal : RunWords → List ℕ → Result WholeJob Cause
-job_or_refusal words bytes = without_clash words (job_of bytes)
+abbrev pub job_or_refusal_with : Option (List ℕ) → RunWords → List ℕ → Result WholeJob Cause
+job_or_refusal_with more words bytes = without_clash_with more words (job_of bytes)
 
 -- What follows the bytes of JOB.
+abbrev pub after_job_with : Option (List ℕ) → RunWords → List ℕ → Plan WholeJob
+after_job_with more words bytes = judgement (job_or_refusal_with more words bytes)
+
+abbrev pub job_plan_with : Option (List ℕ) → RunWords → Plan WholeJob
+job_plan_with more words =
+    bind (file words.job longest_job (job_refusal words (error_at 0 Long))) (after_job_with more words)
+
+-- the same of `run`, which writes no file more
+abbrev pub without_clash : RunWords → Result WholeJob JobError → Result WholeJob Cause
+without_clash words = without_clash_with None words
+
+abbrev pub job_or_refusal : RunWords → List ℕ → Result WholeJob Cause
+job_or_refusal words bytes = job_or_refusal_with None words bytes
+
 abbrev pub after_job : RunWords → List ℕ → Plan WholeJob
-after_job words bytes = judgement (job_or_refusal words bytes)
+after_job words bytes = after_job_with None words bytes
 
 abbrev pub job_plan : RunWords → Plan WholeJob
-job_plan words = bind (file words.job longest_job (job_refusal words (error_at 0 Long))) (after_job words)
+job_plan words = job_plan_with None words
 
 -- The run of a job with its inputs: the consoles go from their reset, in the global order, until the clock of each is at
 -- least the job's cycles. The files that they are asked for are written under OUT, then the log, and the summary has a line

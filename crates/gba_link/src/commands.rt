@@ -9,6 +9,7 @@ ghost use Rattle.gba_link.specs.Work.{work_value};
 
 use crate::generation::generate;
 use crate::run::prepare_command;
+use crate::tracing::trace_command;
 use crate::work::{Work, made};
 use gba_command::{Cause, Command, Refusal, command_of};
 use gba_dis::Set;
@@ -32,6 +33,7 @@ fn do_command<S: Store>(
         Command::ListArm(words) => made(list_image(alloc, store, words, Set::Arm)),
         Command::ListThumb(words) => made(list_image(alloc, store, words, Set::Thumb)),
         Command::Generate(words) => generate(alloc, words),
+        Command::Trace(words) => made(trace_command(alloc, store, words)),
     }
 }
 

@@ -14,6 +14,7 @@ mod commands;
 mod generation;
 pub mod laws;
 mod run;
+mod tracing;
 mod work;
 
 use crate::commands::do_words;

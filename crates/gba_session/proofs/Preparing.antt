@@ -80,6 +80,17 @@ start-long job images sound whole =
     let made : List Machine = consoles_from job 0 job.consoles images in
     made-length job images made sound whole (plain-from job 0 job.consoles images)
 
+-- a cut whose consoles are those of a job at reset has nothing on its way
+pub plain-consoles : (job : WholeJob) (images : List ConsoleImages) (cut : Cut Machine)
+    → plain_cut without_limit cut ≡ start_of job images
+    → map without_limit cut.consoles ≡ consoles_from job 0 job.consoles images
+plain-consoles job images cut is = ap (λ (c : Cut Machine). c.consoles) is
+
+pub opened : (job : WholeJob) (images : List ConsoleImages) (cut : Cut Machine)
+    → plain_cut without_limit cut ≡ start_of job images → cut ≡ opening cut.consoles job.delays
+opened job images cut is =
+    ap (λ (c : Cut Machine). let whole : Cut Machine = record c { consoles = cut.consoles } in whole) is
+
 not-over : (until : ℕ) → 1 ≤ until → not (nat_lt 0 until) ≡ true → ⊥
 not-over until some over = grind (arith, some, over)
 

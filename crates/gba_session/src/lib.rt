@@ -6,4 +6,6 @@ mod running;
 mod session;
 mod starting;
 
+pub use running::{forget_all, later_end};
 pub use session::Session;
+pub use starting::start_cut;

@@ -21,8 +21,8 @@ use std::thread::Threads;
 /// The most cycles of a segment.
 const SEGMENT: u64 = 16_777_216;
 
-/// The end of the segment that begins at a clock.
-pub(crate) fn later_end(until: u64, clock: u64) -> u64
+/// The end of the segment that begins at a clock: the next multiple of 2^24 cycles, or `until` where that comes first.
+pub fn later_end(until: u64, clock: u64) -> u64
     requires most { until ≤ 2 ^ 39 }
     requires within { clock ≤ until }
     ensures { result ≡ end_after until clock }
@@ -44,7 +44,7 @@ fn forget_each(consoles: &mut Vec<Console>, until: u64)
 }
 
 /// Empties the lists of the consoles of a cut, which have room up to `until` from then on.
-fn forget_all(cut: Cut<Console>, until: u64) -> Cut<Console>
+pub fn forget_all(cut: Cut<Console>, until: u64) -> Cut<Console>
     requires most { until ≤ 2 ^ 39 }
     requires limits { All (λ limit. limit ≤ until) (map limit_of cut.consoles) }
     requires near { All (λ (m : Machine). until ≤ clock_of m + 16777216) cut.consoles }

@@ -8,7 +8,7 @@ ghost use Rattle.gba_output.specs.StateFile.{summary_line};
 
 use crate::player::{Player, digest_in};
 use crate::running::{later_end, run_segment, take_pieces};
-use crate::starting::{consoles_of, players_of};
+use crate::starting::{players_of, start_cut};
 use gba_console::Console;
 use gba_console::laws::segments;
 use gba_image::ConsoleImages;
@@ -93,10 +93,7 @@ impl Session {
         ensures { IfOk result (λ session. session ≡ prepared (job_value job.now) images.items) }
     {
         let players = players_of(alloc, job)?;
-        let consoles = consoles_of(alloc, job, images)?;
-        let Ok(cut) = Cut::new(alloc, consoles, job.delays) else {
-            return Err(NoMemory);
-        };
+        let cut = start_cut(alloc, job, images)?;
         Ok(Session {
             start: Snapshot::of(&cut),
             cut,

@@ -8,8 +8,9 @@ ghost use Rattle.gba_joblog.specs.Views.{console_value, job_value};
 ghost use Rattle.gba_session.specs.Files.{asks_of};
 ghost use Rattle.gba_session.specs.Held.{IsUnused, asks_in};
 ghost use Rattle.gba_session.specs.Session.{later_end as end_after};
-ghost use Rattle.gba_session.specs.Start.{FitJob, FitsConsole, console_at, consoles_from, key_states};
+ghost use Rattle.gba_session.specs.Start.{FitJob, FitsConsole, console_at, consoles_from, key_states, start_of};
 ghost use Rattle.gba_session.specs.Start.{room_of as room_said, round_of as round_said};
+ghost use Rattle.link_order.specs.Cut.{plain_cut};
 
 use crate::player::Player;
 use crate::running::later_end;
@@ -18,6 +19,7 @@ use gba_image::ConsoleImages;
 use gba_io::Room;
 use gba_joblog::{Job, JobConsole, KeyChange, OutKind};
 use gba_terms::NoMemory;
+use link_core::Cut;
 use std::alloc::{AllocError, Global};
 
 /// The changes of the keys as a console takes them.
@@ -99,7 +101,7 @@ fn keep<T: Drop>(all: &mut Vec<T>, one: T) -> Result<(), AllocError>
 }
 
 /// The consoles of all players at reset.
-pub(crate) fn consoles_of(
+fn consoles_of(
     alloc: Global,
     job: &Job,
     images: Vec<ConsoleImages>,
@@ -121,6 +123,26 @@ pub(crate) fn consoles_of(
         keep(&mut consoles, console)?;
     }
     Ok(consoles)
+}
+
+/// The consoles of a job at reset on their cable, with these images, one of the other: each for its console's backup, with a
+/// save that was checked for it. Each has room for what it makes up to the end of the first segment.
+pub fn start_cut(
+    alloc: Global,
+    job: &Job,
+    images: Vec<ConsoleImages>,
+) -> Result<Cut<Console>, NoMemory>
+    requires sound { IsJob (job_value job.now) }
+    requires images { FitJob (job_value job.now) images.items }
+    ensures start { IfOk result (λ cut. plain_cut without_limit cut ≡ start_of (job_value job.now) images.items) }
+    ensures limits { IfOk result (λ cut. All (λ limit. limit ≡ end_after job.now.cycles 0)
+        (map limit_of cut.consoles)) }
+{
+    let consoles = consoles_of(alloc, job, images)?;
+    let Ok(cut) = Cut::new(alloc, consoles, job.delays) else {
+        return Err(NoMemory);
+    };
+    Ok(cut)
 }
 
 /// What is kept of each player, with nothing written.

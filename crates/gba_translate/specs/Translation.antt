@@ -13,7 +13,7 @@ use Rattle.gba_dis.specs.Listing.{listing}
 use Rattle.gba_image.specs.Checks.{longest_cartridge}
 use Rattle.gba_image.specs.declared.error.ImageError.TheVariants.{TooLong}
 
--- a line of a word and a number of bytes, as `asm 8`
+-- a line of a word and a number, as `asm 8`
 abbrev pub count_line : List ℕ → ℕ → List ℕ
 count_line word count = word ++ (codes " " ++ (decimal count ++ codes "\n"))
 

@@ -1,8 +1,9 @@
 //! The one file that is written.
 
-ghost use Rattle.std.specs.Prelude.{◌≡◌, ◌≤◌, ◌++◌, IfOk, codes, decimal, length};
+ghost use Rattle.std.specs.Prelude.{◌≡◌, ◌≤◌, ◌++◌, ◌∷◌, [], IfOk, Ok, codes, decimal, length, string_bytes, string_len};
 ghost use Rattle.arrayvec.specs.ArrayVec.{array_vec_len};
 ghost use Rattle.gba_command.specs.Views.{run_value};
+ghost use Rattle.gba_command.specs.Writing.{at_once};
 ghost use Rattle.gba_translate.specs.Translation.{count_line as count_line_of, one_file};
 
 use gba_command::{OutputFile, Outputs};
@@ -10,8 +11,8 @@ use gba_text::{Line, add_text};
 use itoa::Buffer;
 use std::alloc::{AllocError, Global};
 
-/// A line of a word and a number of bytes.
-fn count_line(word: &[u8], count: u64) -> Line
+/// A line of a word of at most 8 bytes and a number.
+pub fn count_line(word: &[u8], count: u64) -> Line
     requires { length word.now ≤ 8 }
     ensures { result.items ≡ count_line_of word.now count }
 {
@@ -22,6 +23,25 @@ fn count_line(word: &[u8], count: u64) -> Line
     add_text(&mut line, buffer.format(count).as_bytes());
     add_text(&mut line, b"\n");
     line
+}
+
+/// One file of this name with these bytes, and this summary.
+pub fn write_file(
+    alloc: Global,
+    name: String,
+    bytes: Vec<u8>,
+    summary: Line,
+) -> Result<Outputs, AllocError>
+    requires { string_len name ≤ 200 }
+    ensures { IfOk result (λ outputs. run_value outputs
+        ≡ at_once (record { name = string_bytes name; bytes = bytes.items } ∷ []) (Ok summary.items)) }
+{
+    let mut files = Vec::with_capacity(alloc, 1)?;
+    files.push(OutputFile { name, bytes })?;
+    Ok(Outputs {
+        files,
+        end: Ok(summary),
+    })
 }
 
 /// One file of these bytes, and the summary with their number after this word.
@@ -37,10 +57,5 @@ pub(crate) fn write_one(
 {
     let summary = count_line(word, bytes.len() as u64);
     let name = String::from_str(alloc, name)?;
-    let mut files = Vec::with_capacity(alloc, 1)?;
-    files.push(OutputFile { name, bytes })?;
-    Ok(Outputs {
-        files,
-        end: Ok(summary),
-    })
+    write_file(alloc, name, bytes, summary)
 }

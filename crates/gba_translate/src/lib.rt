@@ -5,5 +5,6 @@ mod files;
 mod listing;
 mod source;
 
+pub use files::{count_line, write_file};
 pub use listing::list_image;
 pub use source::assemble_source;
