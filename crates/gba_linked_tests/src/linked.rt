@@ -623,7 +623,7 @@ static STATED: [Stated<'static>; 5] = [
     Stated {
         image: "",
         state: "",
-        words: " sha256 A50F5527E7B6F788864FBFDA5AC5F82F716BFD2620DD719E104C66AB7DDA1F44",
+        words: " sha256 93161088378DA68B56390D9FF786DCB5F00451272328744BEF0538D2A1C3A3A3",
         status: 7,
         report: "digest g.1.words stated 93161088378da68b56390d9ff786dcb5f00451272328744bef0538d2a1c3a3a3 got 4cee999209fc00d1e7484c00cd09baa8f06250c103e845adfe296696a21d373d\n",
         written: TWO_FILES,
