@@ -11,7 +11,7 @@ const LONG: &str =
     "ooooooooooooooooooooooooooooooooooooooooooooooooooooooooooooooooooooooooooooooooooooooooooooooooooooooooooooooooooooooooooooooooooooooooooooooooooooooooooooooooooooooooooooooooooooo";
 
 /// Words that are no command.
-static WRONG: [&[&str]; 30] = [
+static WRONG: [&[&str]; 40] = [
     &["asm"],
     &["asm", "s"],
     &["asm", "s", "o", "o"],
@@ -42,6 +42,16 @@ static WRONG: [&[&str]; 30] = [
     &["gen", "1", "0x1", "g"],
     &["gen", "1", "1", "-"],
     &["gen", "1", "1", LONG],
+    &["trace"],
+    &["trace", "s", "0", "1"],
+    &["trace", "s", "0", "1", "o", "o"],
+    &["trace", "s", "1099511627776", "1", "o"],
+    &["trace", "s", "0", "0", "o"],
+    &["trace", "s", "0", "1000001", "o"],
+    &["trace", "s", "", "1", "o"],
+    &["trace", "-", "0", "1", "o"],
+    &["trace", "s", "0", "1", LONG],
+    &["Trace", "s", "0", "1", "o"],
 ];
 
 #[test]

@@ -82,10 +82,29 @@ static CLASHES: [(&[u8], &str, &str, Option<u64>); 20] = [
     ),
 ];
 
+/// The same with OUT `g`, where `g.trace` is written too.
+static CLASHES_BESIDE: [(&[u8], &str, Option<u64>); 4] = [
+    (FIRST, "g.trace", Some(0)),
+    (FIRST, "g.0.state", Some(0)),
+    (FIRST, "g.0.trace", None),
+    (
+        b"gbalink 1\ncycles 1\nconsole 0\nbios b\ncart g.trace\nend\n",
+        "j",
+        Some(5),
+    ),
+];
+
 /// Whether the text is a job that clashes so.
-fn clashes(alloc: Global, text: &[u8], name: &str, out: &str, want: Option<u64>) -> bool {
+fn clashes(
+    alloc: Global,
+    text: &[u8],
+    name: &str,
+    out: &str,
+    more: Option<&str>,
+    want: Option<u64>,
+) -> bool {
     match job_of(alloc, text) {
-        Some(job) => job.clash(name, out, None) == want,
+        Some(job) => job.clash(name, out, more) == want,
         None => false,
     }
 }
@@ -94,7 +113,13 @@ fn clashes(alloc: Global, text: &[u8], name: &str, out: &str, want: Option<u64>)
 fn a_job_clashes_with_its_outputs(rt: HostRuntime) {
     for &(text, name, out, want) in &CLASHES {
         assert!(rt;
-            clashes(rt.alloc(), text, name, out, want),
+            clashes(rt.alloc(), text, name, out, None, want),
+            "of {text:?} as {name}"
+        );
+    }
+    for &(text, name, want) in &CLASHES_BESIDE {
+        assert!(rt;
+            clashes(rt.alloc(), text, name, "g", Some("g.trace"), want),
             "of {text:?} as {name}"
         );
     }

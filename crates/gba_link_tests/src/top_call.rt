@@ -149,6 +149,87 @@ const NO_COMMAND: Case<'static> = Case {
     ..REFUSED
 };
 
+const LINE_OF_BRANCH: &str =
+    "0 0 arm 00000000 eafffffe 00000000 00000000 00000000 00000000 00000000 00000000 00000000 00000000 00000000 00000000 00000000 00000000 00000000 00000000 00000000 00000000 000000d3 ; b 0x00000000\n";
+
+const LINES_OF_FOUR: &str =
+    "3 0 arm 00000000 eafffffe 00000000 00000000 00000000 00000000 00000000 00000000 00000000 00000000 00000000 00000000 00000000 00000000 00000000 00000000 00000000 00000000 000000d3 ; b 0x00000000\n0 3 arm 00000000 eafffffe 00000000 00000000 00000000 00000000 00000000 00000000 00000000 00000000 00000000 00000000 00000000 00000000 00000000 00000000 00000000 00000000 000000d3 ; b 0x00000000\n1 3 arm 00000000 eafffffe 00000000 00000000 00000000 00000000 00000000 00000000 00000000 00000000 00000000 00000000 00000000 00000000 00000000 00000000 00000000 00000000 000000d3 ; b 0x00000000\n";
+
+const LINES_WITH_OFF: &str =
+    "0 0 arm 00000000 eafffffe 00000000 00000000 00000000 00000000 00000000 00000000 00000000 00000000 00000000 00000000 00000000 00000000 00000000 00000000 00000000 00000000 000000d3 ; b 0x00000000\n1 0 off 00000000 00000000 00000000 00000000 00000000 00000000 00000000 00000000 00000000 00000000 00000000 00000000 00000000 00000000 00000000 00000000 000000d3\n0 3 arm 00000000 eafffffe 00000000 00000000 00000000 00000000 00000000 00000000 00000000 00000000 00000000 00000000 00000000 00000000 00000000 00000000 00000000 00000000 000000d3 ; b 0x00000000\n";
+
+/// The steps of the branch's job as lines: it writes the trace alone.
+const TRACED: Case<'static> = Case {
+    words: &["trace", "j", "0", "5", "g"],
+    report: Exactly("trace 1\n"),
+    written: &[
+        (".trace", Is(Text(LINE_OF_BRANCH))),
+        (".0.state", Absent),
+        (".log", Absent),
+    ],
+    ..PLAIN
+};
+
+/// A trace that is refused writes nothing.
+const NO_TRACE: Case<'static> = Case {
+    status: 5,
+    written: &[(".trace", Absent), (".0.state", Absent), (".log", Absent)],
+    ..TRACED
+};
+
+/// All steps, none behind the end, some of four consoles whose clocks are equal, and those of a console that is off; traces that
+/// would be JOB or an input, as would an output of its run; and a run for which that name is free.
+static TRACES: [Case<'static>; 8] = [
+    TRACED,
+    Case {
+        words: &["trace", "j", "1", "1000000", "g"],
+        report: Exactly("trace 0\n"),
+        written: &[(".trace", Is(Text("")))],
+        ..TRACED
+    },
+    Case {
+        words: &["trace", "j", "3", "3", "g"],
+        job: "gbalink 1\ncycles 4\nconsole 0\nbios b\nout words\nconsole 1\nbios b\nout words\nconsole 2\nbios b\nout words\nconsole 3\nbios b\nout words\nend\n",
+        report: Exactly("trace 3\n"),
+        written: &[(".trace", Is(Text(LINES_OF_FOUR))), (".0.words", Absent)],
+        ..TRACED
+    },
+    Case {
+        words: &["trace", "j", "0", "9", "g"],
+        job: "gbalink 2\ncycles 4\nconsole 0\nbios b\nconsole 1\nbios b\noff 16\nend\n",
+        report: Exactly("trace 3\n"),
+        written: &[(".trace", Is(Text(LINES_WITH_OFF)))],
+        ..TRACED
+    },
+    Case {
+        words: &["trace", "g.trace", "0", "1", "g"],
+        job_name: "g.trace",
+        report: Exactly("job g.trace line 0 Clash\n"),
+        written: &[(".0.state", Absent), (".log", Absent)],
+        ..NO_TRACE
+    },
+    Case {
+        job: "gbalink 1\ncycles 1\nconsole 0\nbios g.trace\nend\n",
+        report: Exactly("job j line 4 Clash\n"),
+        ..NO_TRACE
+    },
+    Case {
+        job: "gbalink 1\ncycles 1\nconsole 0\nbios g.0.state\nout state\nend\n",
+        report: Exactly("job j line 4 Clash\n"),
+        ..NO_TRACE
+    },
+    Case {
+        words: &["run", "g.trace", "g"],
+        job_name: "g.trace",
+        ..PLAIN
+    },
+];
+
+#[test]
+fn steps_are_traced(rt: HostRuntime) -> Result<(), Fail> {
+    play_all(&rt, rt.alloc(), &TRACES)
+}
+
 static WRONG_WORDS: [Case<'static>; 12] = [
     Case {
         words: &[],
