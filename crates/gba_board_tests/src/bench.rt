@@ -70,6 +70,8 @@ impl Bench {
     pub(crate) fn owe_steps(&mut self, rt: &impl Abort, cycles: u32, most: u32) -> u32 {
         assert!(rt; 1 <= cycles);
         assert!(rt; self.board.core.clock() < 1_000_000);
+        let in_step = self.board.is_in_step();
+        assert!(rt; in_step);
         self.board.owe_steps(cycles, most)
     }
 

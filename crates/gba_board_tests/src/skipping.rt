@@ -32,8 +32,8 @@ static RUNNING: [(u32, u32); 17] = [
 /// Lengths of moves.
 static MOVES: [u32; 8] = [16, 1, 3, 512, 16, 225, 47, 16];
 
-/// A board of one console, with room for a million cycles.
-fn bench_of(alloc: Global) -> Result<Bench, Fail> {
+/// A board of one console, with room for a million cycles, whose samples are kept or not.
+fn bench_of(alloc: Global, samples: bool) -> Result<Bench, Fail> {
     let seat = Seat {
         player: 0,
         count: 1,
@@ -42,15 +42,15 @@ fn bench_of(alloc: Global) -> Result<Bench, Fail> {
     let room = Room {
         until: 1_000_000,
         frames: false,
-        samples: true,
+        samples,
         words: false,
     };
     Bench::of(alloc, 0, seat, room)
 }
 
 /// A board whose registers run.
-fn running(rt: &impl Abort, alloc: Global) -> Result<Bench, Fail> {
-    let mut bench = bench_of(alloc)?;
+fn running(rt: &impl Abort, alloc: Global, samples: bool) -> Result<Bench, Fail> {
+    let mut bench = bench_of(alloc, samples)?;
     for (offset, value) in &RUNNING {
         let price = bench.store(0x0400_0000 | *offset, Word, *value);
         assert_eq!(rt; price, 1);
@@ -100,24 +100,31 @@ fn step_both<R: Abort>(rt: &R, one: &mut Bench, other: &mut Bench, cycles: u32) 
     check(rt, one, other);
 }
 
-/// Eight lines, with all events of the devices but DMA.
-#[test]
-fn boards_skip_as_they_step(rt: HostRuntime) -> Result<(), Fail> {
-    let mut one = running(&rt, rt.alloc())?;
-    let mut other = running(&rt, rt.alloc())?;
+fn skip_and_step<R: Abort>(rt: &R, alloc: Global, samples: bool) -> Result<(), Fail> {
+    let mut one = running(rt, alloc, samples)?;
+    let mut other = running(rt, alloc, samples)?;
     for _ in 0..12 {
         for cycles in &MOVES {
-            step_both(&rt, &mut one, &mut other, *cycles);
+            step_both(rt, &mut one, &mut other, *cycles);
         }
     }
     assert_eq!(rt; one.counts().samples, one.clock() / 512);
     Ok(())
 }
 
+/// Eight lines, with all events of the devices but DMA, with samples kept and not.
+#[test]
+fn boards_skip_as_they_step(rt: HostRuntime) -> Result<(), Fail> {
+    for samples in [true, false] {
+        skip_and_step(&rt, rt.alloc(), samples)?;
+    }
+    Ok(())
+}
+
 /// With nothing that runs, the steps go to the pair of samples at clock 512, to the limit of the quiet cycles, and to HBlank.
 #[test]
 fn steps_are_owed_up_to_what_happens(rt: HostRuntime) -> Result<(), Fail> {
-    let mut one = bench_of(rt.alloc())?;
+    let mut one = bench_of(rt.alloc(), true)?;
     for steps in [20, 11, 0] {
         assert_eq!(rt; one.owe_steps(&rt, 16, 20), steps);
     }
@@ -126,5 +133,17 @@ fn steps_are_owed_up_to_what_happens(rt: HostRuntime) -> Result<(), Fail> {
     assert_eq!(rt; one.counts().samples, 1);
     assert_eq!(rt; one.owe_steps(&rt, 1, 511), 493);
     assert_eq!(rt; one.clock(), 1005);
+    Ok(())
+}
+
+/// Where samples aren't kept the steps go on past the pair, and past the 512 cycles of a look, to HBlank.
+#[test]
+fn steps_are_owed_past_pairs_that_nobody_hears(rt: HostRuntime) -> Result<(), Fail> {
+    let mut one = bench_of(rt.alloc(), false)?;
+    for (steps, pairs) in [(20, 0), (12, 1), (20, 1), (10, 1), (0, 1)] {
+        assert_eq!(rt; one.owe_steps(&rt, 16, 20), steps);
+        assert_eq!(rt; one.counts().samples, pairs);
+    }
+    assert_eq!(rt; one.clock(), 992);
     Ok(())
 }

@@ -675,7 +675,7 @@ impl Console {
         steps
     }
 
-    /// Makes an idle step or more, and answers whether nothing asks for more than idling after them. All of them begin below
+    /// Makes idle steps, up to the first one in which something happens and that one too, and answers whether nothing asks for more than idling after them. All of them begin below
     /// `stop`, and they tell nothing.
     #[inline(always)]
     fn idle_on(&mut self, stop: u64) -> bool
@@ -697,7 +697,8 @@ impl Console {
         steps_pass();
         let left = (stop - self.clock()).min(512) as u32;
         let most = (left + IDLE_CYCLES - 1) / IDLE_CYCLES;
-        if self.idle_quietly(stop, most) > 0 {
+        let steps = self.idle_quietly(stop, most);
+        if most <= steps {
             return true;
         }
         self.step_idly()

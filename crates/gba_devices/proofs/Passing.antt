@@ -1,6 +1,7 @@
-use Rattle.std.proofs.Common.{◌≡◌, ℕ, zero, suc, Bool, true, false, ◌+◌, ◌-◌, ◌*◌, ◌/◌, ◌%◌, ◌≤◌, ◌∙◌, refl, ap, sym, arith, add-one, add-zero, if◌then◌else◌}
+use Rattle.std.proofs.Common.{◌≡◌, ℕ, zero, suc, Bool, true, false, ◌+◌, ◌-◌, ◌*◌, ◌/◌, ◌%◌, ◌<◌, ◌≤◌, ◌∙◌, ⊎_elim, refl, ap, sym, arith, add-one, add-zero, if◌then◌else◌}
 use Rattle.std.specs.Prelude.{◌==◌, ◌||◌, ◌&&◌, min}
 use Rattle.std.proofs.Math.Nat.{le_trans, mul-div-le, mul-le-mul_left}
+use Rattle.std.proofs.lemmas.Bool.{cases_lt, or_parts}
 use Rattle.std.proofs.lemmas.Bool.Decides.{nat_tests}
 use Rattle.gba_ppu_reg.specs.Position.{after_cycles as place_after, begins_hblank, begins_line, cycle as place_cycle}
 use Rattle.gba_ppu_reg.specs.Quiet.{QuietPlaces, quiet as quiet_place}
@@ -10,7 +11,7 @@ use Rattle.gba_psg.specs.declared.four.FourTones.{FourTones}
 use Rattle.gba_timer.specs.Quiet.{QuietMarks, quiet as quiet_timers}
 use Rattle.gba_timer.specs.Timers.{FourTimers, after_cycles as timers_after, cycle as timer_cycle}
 use Rattle.gba_devices.specs.Cycles.{CyclePasses, CyclesPass, SkipsCycles, after_cycles, at_hblank, at_line, at_place, device_cycle, draws_at, draws_line, draws_within, is_seen, makes_pair, makes_within, pairless, placed, quiet, rung, skipped, sounded}
-use Rattle.gba_devices.specs.State.{Devices}
+use Rattle.gba_devices.specs.State.{Devices, is_idle}
 
 -- Cycles one after another, and cycles at once.
 
@@ -179,3 +180,56 @@ module _ (timers : QuietMarks) (places : QuietPlaces) where
     silent = makes-none;
     lineless = draws-nothing;
   }
+
+-- steps one after another
+pub draws-sum : (count more : ℕ) (d : Devices) → draws_within more d ≡ false → draws_within count (after_cycles more d) ≡ false
+    → draws_within (count + more) d ≡ false
+unfolding draws_within
+draws-sum zero more d before after = let sum : 0 + more ≡ more = omega arith in ap (λ n. draws_within n d) sum ∙ before
+draws-sum (suc count) more d before after =
+    let sum : suc count + more ≡ suc (count + more) = omega arith in
+    let here = after_cycles count (after_cycles more d) in
+    let parts = or_parts (draws_within count (after_cycles more d)) (draws_line here) after in
+    ap (λ n. draws_within n d) sum
+    ∙ neither (draws_within (count + more) d) (draws_line (after_cycles (count + more) d))
+    (draws-sum count more d before parts.0)
+    (ap draws_line (sym (after-sum count more d)) ∙ parts.1)
+
+-- so many steps after so many others
+pub steps_after : (cycles first more : ℕ) (d middle after : Devices) → middle ≡ after_cycles (cycles * first) d
+    → after ≡ after_cycles (cycles * more) middle → after ≡ after_cycles (cycles * (first + more)) d
+steps_after cycles first more d middle after e f =
+    let sum : cycles * more + cycles * first ≡ cycles * (first + more) = omega arith in
+    f ∙ ap (after_cycles (cycles * more)) e ∙ after-sum (cycles * more) (cycles * first) d ∙ ap (λ n. after_cycles n d) sum
+
+pub steps_lineless : (cycles first more : ℕ) (d middle : Devices) → middle ≡ after_cycles (cycles * first) d
+    → draws_within (cycles * first) d ≡ false → draws_within (cycles * more) middle ≡ false
+    → draws_within (cycles * (first + more)) d ≡ false
+steps_lineless cycles first more d middle e before after =
+    let sum : cycles * (first + more) ≡ cycles * more + cycles * first = omega arith in
+    ap (λ n. draws_within n d) sum
+    ∙ draws-sum (cycles * more) (cycles * first) d before (ap (draws_within (cycles * more)) (sym e) ∙ after)
+
+pub steps_idle : (cycles first more : ℕ) (d middle : Devices) → middle ≡ after_cycles (cycles * first) d
+    → ((steps : ℕ) → steps ≤ first → is_idle (after_cycles (cycles * steps) d) ≡ is_idle d)
+    → ((steps : ℕ) → steps ≤ more → is_idle (after_cycles (cycles * steps) middle) ≡ is_idle middle)
+    → (steps : ℕ) → steps ≤ first + more → is_idle (after_cycles (cycles * steps) d) ≡ is_idle d
+steps_idle cycles first more d middle e before after steps within =
+    ⊎_elim
+    (λ (late : first < steps).
+    let rest : steps - first ≤ more = omega (arith, within) in
+    let sum : first + (steps - first) ≡ steps = omega (arith, late) in
+    let there : is_idle middle ≡ is_idle d = ap is_idle e ∙ before first (omega arith) in
+    ap (λ n. is_idle (after_cycles (cycles * n) d)) (sym sum)
+    ∙ ap is_idle (sym (steps_after cycles first (steps - first) d middle (after_cycles (cycles * (steps - first)) middle) e refl))
+    ∙ after (steps - first) rest
+    ∙ there)
+    (λ (early : steps ≤ first). before steps early)
+    (cases_lt first steps)
+
+pub steps_few : (cycles first more rest most : ℕ) → cycles * first ≤ 512 → rest ≡ min ((512 - cycles * first) / cycles) most
+    → more ≤ rest → cycles * (first + more) ≤ 512
+steps_few cycles first more rest most few e within =
+    let whole = whole_steps cycles rest most (512 - cycles * first) e in
+    let less = mul-le-mul_left cycles within in
+    omega (arith, few, whole, less)

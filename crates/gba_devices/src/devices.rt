@@ -4,7 +4,7 @@ ghost use Rattle.std.specs.Prelude.{◌≡◌, ◌+◌, ◌≤◌, ◌<◌, ◌^
 
 mod requests;
 
-use crate::laws::{cycle_keeps, skips_cycles, writes_keep};
+use crate::laws::{cycle_keeps, cycles_pass, skips_cycles, writes_keep};
 use crate::registers::{Owner, owner_of};
 use crate::set::DeviceSet;
 use gba_bus::Width;
@@ -396,8 +396,9 @@ impl Devices {
         steps
     }
 
-    /// Moves by as many of so many steps of so many cycles as nothing happens in but pairs of samples, and answers how many.
-    pub fn owe_unheard(&mut self, cycles: u32, most: u32) -> u32
+    /// Moves by as many of so many steps of so many cycles as one look tells that nothing happens in but pairs of samples, and
+    /// answers how many.
+    fn owe_looked(&mut self, cycles: u32, most: u32) -> u32
         requires some { 1 ≤ cycles }
         requires clock { self.old.clock < 2 ^ 61 }
         ensures devices { self.new ≡ after_cycles (cycles * result) self.old }
@@ -417,6 +418,30 @@ impl Devices {
         self.debt = debt;
         self.silence = self.horizon.min(debt + pairless);
         steps
+    }
+
+    /// Moves by as many of so many steps of so many cycles as nothing happens in but pairs of samples, and answers how many. All
+    /// of them take no more than 512 cycles.
+    pub fn owe_unheard(&mut self, cycles: u32, most: u32) -> u32
+        requires some { 1 ≤ cycles }
+        requires clock { self.old.clock + 512 < 2 ^ 61 }
+        ensures devices { self.new ≡ after_cycles (cycles * result) self.old }
+        ensures lineless { draws_within (cycles * result) self.old ≡ false }
+        ensures idle { (steps : ℕ) → steps ≤ result → is_idle (after_cycles (cycles * steps) self.old) ≡ is_idle self.old }
+        ensures calm { is_calm self.new ≡ is_calm self.old }
+        ensures few { cycles * result ≤ 512 }
+        ensures most { result ≤ most }
+    {
+        cycles_pass();
+        let first = self.owe_looked(cycles, most);
+        if first == most {
+            return first;
+        }
+        if self.horizon < 512 {
+            return first;
+        }
+        let rest = ((512 - cycles * first) / cycles).min(most - first);
+        first + self.owe_looked(cycles, rest)
     }
 
     /// Moves by as many of so many cycles as nothing happens in, and answers how many.

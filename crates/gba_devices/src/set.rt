@@ -87,7 +87,7 @@ impl Model for DeviceSet {
 }
 
 impl DeviceSet {
-    ghost use Rattle.std.specs.Prelude.{◌≡◌, ◌+◌, ◌*◌, ◌^◌, ◌≤◌, ◌<◌, ◌||◌, bit_or, length, IfSome};
+    ghost use Rattle.std.specs.Prelude.{◌≡◌, ◌+◌, ◌*◌, ◌^◌, ◌≤◌, ◌<◌, true, ◌||◌, bit_or, length, IfSome};
     ghost use Rattle.gba_terms.specs.Bits.{bit};
     ghost use Rattle.gba_bus.specs.declared.width.Width.TheVariants.{Byte};
     ghost use Rattle.gba_dma.specs.Channels.{channel_at, next_unit};
@@ -531,18 +531,27 @@ impl DeviceSet {
 
     /// The queues of a timer that overflows take bytes, and ask for DMA.
     #[tactic(auto, unfolding(crate::specs::Cycles::rung, crate::specs::Cycles::asked_by))]
-    fn ring(&mut self, timer: u32, rings: bool)
-        ensures { self.new ≡ rung timer rings self.old }
+    #[inline(never)]
+    fn ring_out(&mut self, timer: u32)
+        ensures { self.new ≡ rung timer true self.old }
     {
-        if !rings {
-            return;
-        }
         let asked = self.queues.overflow(timer);
         if asked.a {
             self.channels.trigger(DmaEvent::QueueA);
         }
         if asked.b {
             self.channels.trigger(DmaEvent::QueueB);
+        }
+    }
+
+    /// The same where the timer overflows, and else nothing.
+    #[tactic(auto, unfolding(crate::specs::Cycles::rung))]
+    #[inline]
+    fn ring(&mut self, timer: u32, rings: bool)
+        ensures { self.new ≡ rung timer rings self.old }
+    {
+        if rings {
+            self.ring_out(timer);
         }
     }
 

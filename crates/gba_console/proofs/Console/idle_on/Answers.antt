@@ -1,17 +1,50 @@
-use Rattle.std.proofs.Common.{◌<◌, [], Option, subst, arith}
+use Rattle.std.proofs.Common.{◌≡◌, ℕ, ◌+◌, ◌-◌, ◌*◌, ◌/◌, ◌<◌, [], Option, subst, ap, arith}
+use Rattle.std.specs.Prelude.{min}
+use Rattle.gba_serial.specs.Apart.{next_end}
 use Rattle.link_node.specs.declared.signal.Signal.{Signal}
+use Rattle.gba_console.specs.Keys.{due_of}
 use Rattle.gba_console.specs.Machine.{clock_of}
 use Rattle.gba_console.specs.Run.{GoesAlone}
 use Rattle.gba_console.proofs.Rows.{one-more, serial-silent}
 use Rattle.gba_console.proofs.Console.idle_on.Goals as goal
 
+-- after fewer steps than begin below the stop another one does
+still-below : (clock stop left steps after : ℕ) → left ≡ min (stop - clock) 512 → steps < (left + 16 - 1) / 16 → clock < stop
+    → after ≡ clock + 16 * steps → after < stop
+still-below clock stop left steps after e fewer below moved = omega (arith, e, fewer, below, moved)
+
+pub step_idly-requires-clause-clock : goal.step_idly-requires-clause-clock
+step_idly-requires-clause-clock c =
+    let first = c.idle_quietly-steps in
+    let left = rw c.clock.ensures.value at c.min-left.ensures in
+    let early = still-below (clock_of c.args.self.now) c.args.stop c.min-left.result first.result
+    (clock_of first.new.self) left c.if-most-steps.false c.requires.below first.ensures.clock in
+    omega (arith, early, c.requires.until, first.ensures.until)
+
+pub step_idly-requires-clause-early : goal.step_idly-requires-clause-early
+step_idly-requires-clause-early c =
+    let first = c.idle_quietly-steps in
+    let left = rw c.clock.ensures.value at c.min-left.ensures in
+    let early = still-below (clock_of c.args.self.now) c.args.stop c.min-left.result first.result
+    (clock_of first.new.self) left c.if-most-steps.false c.requires.below first.ensures.clock in
+    omega (arith, early, c.requires.keys, ap due_of first.ensures.keys)
+
+pub step_idly-requires-clause-ends : goal.step_idly-requires-clause-ends
+step_idly-requires-clause-ends c =
+    let first = c.idle_quietly-steps in
+    let left = rw c.clock.ensures.value at c.min-left.ensures in
+    let early = still-below (clock_of c.args.self.now) c.args.stop c.min-left.result first.result
+    (clock_of first.new.self) left c.if-most-steps.false c.requires.below first.ensures.clock in
+    omega (arith, early, c.requires.ends, ap next_end first.ensures.serial)
+
 pub returns-clause-alone : goal.returns-clause-alone
 returns-clause-alone c =
-    let before = c.idle_quietly.new.self in
+    let first = c.idle_quietly-steps in
+    let left = rw c.clock.ensures.value at c.min-left.ensures in
+    let early = still-below (clock_of c.args.self.now) c.args.stop c.min-left.result first.result
+    (clock_of first.new.self) left c.if-most-steps.false c.requires.below first.ensures.clock in
     let after = c.step_idly.new.self in
-    let step = c.step_idly.ensures in
-    let first = c.idle_quietly.ensures in
-    let early : clock_of before < c.args.stop = omega (arith, first.clock, c.if-idle_quietly-gt0.false, c.requires.below) in
     subst (λ (o : Option Signal). GoesAlone c.args.stop c.args.self.now after o)
-    (serial-silent c.stays_quiet.ensures before after first.idle step.serial)
-    (one-more (c.steps_pass.ensures []) c.args.stop c.args.self.now before after first.alone early step.step)
+    (serial-silent c.stays_quiet.ensures first.new.self after first.ensures.idle c.step_idly.ensures.serial)
+    (one-more (c.steps_pass.ensures []) c.args.stop c.args.self.now first.new.self after first.ensures.alone early
+    c.step_idly.ensures.step)
