@@ -63,7 +63,11 @@ fn dma_reads_and_writes_a_flash(rt: HostRuntime) -> Result<(), Fail> {
         has_bytes(&rt, inner, &[(0, 0xC2), (1, 0xC2), (3, 0xC2), (4, 0)]);
         let bytes = console.memory(MemoryName::Backup);
         assert_eq!(rt; bytes.len(), backup.length());
-        has_bytes(&rt, bytes, &[(0x0F, 0xFF), (0x10, 0xC2), (0x11, 0xFF), (0x12, 0xFF)]);
+        has_bytes(
+            &rt,
+            bytes,
+            &[(0x0F, 0xFF), (0x10, 0xC2), (0x11, 0xFF), (0x12, 0xFF)],
+        );
         assert_eq!(rt; console.register(&rt, 10), 0xC2);
     }
     Ok(())

@@ -144,11 +144,7 @@ static ENDS: [(&[u8], &[u64], &[u8]); 35] = [
         &[],
         b"image longer SaveLength\n",
     ),
-    (
-        b"console 0\nbios bios\nbackup flash128",
-        &[],
-        b"read",
-    ),
+    (b"console 0\nbios bios\nbackup flash128", &[], b"read"),
     (
         b"console 0\nkeys falls\nbios bios",
         &[],

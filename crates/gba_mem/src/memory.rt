@@ -373,7 +373,9 @@ impl Memory {
                 value,
             ),
             Region::Oam => Memory::store_oam(self.oam.as_mut_slice(), address, width, value),
-            Region::Sram => self.backup.write(width.align(address), bits(value, 0, 8) as u8),
+            Region::Sram => self
+                .backup
+                .write(width.align(address), bits(value, 0, 8) as u8),
             Region::Bios
             | Region::Io
             | Region::Rom0
