@@ -148,10 +148,10 @@ impl Console {
 
     /// A console at reset, at clock 0, of a player below `count`, on a cable of 1 to 4 consoles whose signals take `round`
     /// cycles from player 0 to player 1 and back, from 2 to 2,048, from its images, whose save was checked for their backup,
-    /// and the changes of its keys; they are dropped on refusal. Below the clock `off` it is off: no device moves, due signals only tell the modes of its peers, key
-    /// changes are applied, and each step takes 16 cycles (this project's profile); 0 means from the start on. It takes the
-    /// memory of its RAM, of the decoded instructions and of all that it keeps of what it makes in 2^24 cycles, and no more
-    /// later: it runs up to `room.until`, at most 2^24, and on after a call of `forget`.
+    /// and the changes of its keys; they are dropped on refusal. Below the clock `off` it is off: no device moves, due signals
+    /// only tell the modes of its peers, key changes are applied, and each step takes 16 cycles (this project's profile); 0
+    /// means from the start on. It takes the memory of its RAM, of the decoded instructions and of all that it keeps of what
+    /// it makes in 2^24 cycles, and no more later: it runs up to `room.until`, at most 2^24, and on after a call of `forget`.
     pub fn new(
         alloc: Global,
         player: u32,

@@ -25,8 +25,8 @@ impl Board {
     ghost use Rattle.gba_io.specs.Board.{board_drawn, board_from, core_in_cycle};
 
     /// A board at reset, at clock 0, of a player below `count`, on a cable of 1 to 4 consoles whose signals take `round`
-    /// cycles, from 1 to 1,024. Its save was checked for its backup; its images are dropped on refusal. The room for what it makes in 2^24 cycles and for the
-    /// transfers that end in them is taken now.
+    /// cycles, from 1 to 1,024. Its save was checked for its backup; its images are dropped on refusal. The room for what it
+    /// makes in 2^24 cycles and for the transfers that end in them is taken now.
     pub fn new(
         alloc: Global,
         player: u32,

@@ -1,9 +1,9 @@
 -- The delays of a cable are in range, and those that a log says are the same again.
-use Rattle.std.proofs.Common.{◌≡◌, ◌<◌, ◌≤◌, ℕ, zero, suc, Bool, true, false, cond, List, [], ◌∷◌, Option, Some, None, refl, ap, sym, subst, ◌∙◌, lit<, lit≤, arith}
+use Rattle.std.proofs.Common.{◌≡◌, ◌<◌, ◌≤◌, ℕ, zero, suc, Bool, true, false, cond, List, [], ◌∷◌, Option, Some, None, refl, ◌∙◌, lit<, arith}
 use Rattle.std.specs.List.{All, find, flat_map}
-use Rattle.std.specs.Prelude.{IfSome, slice_index, slice_index_or}
+use Rattle.std.specs.Prelude.{IfSome, slice_index}
 use Rattle.std.proofs.lemmas.List.Elements.{All-head, All-tail}
-use Rattle.link_node.specs.Delays.{hop_of, AreDelays}
+use Rattle.link_node.specs.Delays.{hop_of}
 use Rattle.link_node.specs.declared.delays.Delays.{Delays}
 use Rattle.gba_joblog.specs.Cable.{all_pairs, delay_of, delays_of, is_joined, is_link_of, link_for, linked_delay, pair_of, players_for, row_of, table_of, usual_delay}
 use Rattle.gba_joblog.specs.Soundness.{AreJobDelays}

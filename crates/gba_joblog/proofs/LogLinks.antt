@@ -1,5 +1,5 @@
 -- The lines of a log that say the delays of its cable.
-use Rattle.std.proofs.Common.{◌≡◌, ℕ, zero, suc, ◌+◌, ◌<◌, ◌≤◌, Bool, true, false, cond, not, ◌&&◌, ◌==◌, nat_lt, List, [], ◌∷◌, ◌++◌, length, Some, None, Ok, refl, ap, lit≤, arith}
+use Rattle.std.proofs.Common.{◌≡◌, ℕ, zero, suc, ◌+◌, ◌<◌, ◌≤◌, Bool, true, false, cond, not, ◌&&◌, ◌==◌, nat_lt, List, [], ◌∷◌, ◌++◌, Some, None, Ok, refl, lit≤, arith}
 use Rattle.std.specs.Prelude.{codes, decimal, is_some}
 use Rattle.std.specs.List.{flat_map}
 use Rattle.std.proofs.lemmas.Bool.Decides.{nat_tests}
@@ -8,7 +8,6 @@ use Rattle.gba_text.proofs.Spans.{first_of_all, rest_of_all}
 use Rattle.link_node.specs.Delays.{hop_of, AreDelays}
 use Rattle.link_node.specs.declared.delays.Delays.{Delays}
 use Rattle.gba_joblog.specs.Cable.{all_pairs, is_joined, link_for, pair_of, players_for}
-use Rattle.gba_joblog.specs.Draft.{Draft}
 use Rattle.gba_joblog.specs.Language.{words_say}
 use Rattle.gba_joblog.specs.Log.{line_of, link_text, links_text}
 use Rattle.gba_joblog.specs.Operands.{pair_at}

@@ -2,7 +2,7 @@ use Rattle.std.proofs.Common.{◌+◌, drop, get_or, length, ap, arith}
 use Rattle.std.proofs.lemmas.List.{length-append}
 use Rattle.std.specs.List.{flat_map}
 use Rattle.gba_joblog.specs.Cable.{all_pairs, pair_of}
-use Rattle.gba_joblog.specs.Log.{link_text, links_text}
+use Rattle.gba_joblog.specs.Log.{link_text}
 use Rattle.gba_log.proofs.Printed.{pairs-at}
 use Rattle.gba_log.proofs.lengths.links_len.Goals as goal
 
