@@ -128,12 +128,7 @@ fn generate_words<'a>(number: &str, cycles: &str, out: &'a str) -> Option<Genera
     })
 }
 
-fn trace_words<'a>(
-    job: &'a str,
-    first: &str,
-    count: &str,
-    out: &'a str,
-) -> Option<TraceWords<'a>>
+fn trace_words<'a>(job: &'a str, first: &str, count: &str, out: &'a str) -> Option<TraceWords<'a>>
     ensures words { option_map trace_words_value result ≡ trace_words_said job.now first.now count.now out.now }
     ensures sound { IfSome result (λ words. AreTraceWords (trace_words_value words)) }
 {

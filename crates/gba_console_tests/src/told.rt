@@ -77,7 +77,12 @@ static COURSES: [Course; 15] = [
     course(&LOOPS, 0, Nothing, 0),
     course(&LOOPS, 1, at_word(0, 0xEAFF_FFFE), 0),
     course(&LOOPS, 999, at_word(0, 0xEAFF_FFFE), 996),
-    course(&[0xEB00_0000, 0, 0x0A00_0000], 4, at_word(8, 0x0A00_0000), 3),
+    course(
+        &[0xEB00_0000, 0, 0x0A00_0000],
+        4,
+        at_word(8, 0x0A00_0000),
+        3,
+    ),
     course(&BOTH_STATES, 4, at_word(4, 0xE12F_FF10), 1),
     course(&BOTH_STATES, 5, at_half(8, 0x2105), 4),
     course(&BOTH_STATES, 9, at_half(0xC, 0x4778), 6),

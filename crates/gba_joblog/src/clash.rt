@@ -110,12 +110,7 @@ fn least(a: Option<u64>, b: Option<u64>) -> Option<u64>
 }
 
 /// The line of an input that an output would be.
-fn line_of(
-    out: &[u8],
-    consoles: &[JobConsole],
-    more: Option<&str>,
-    file: &FileLine,
-) -> Option<u64>
+fn line_of(out: &[u8], consoles: &[JobConsole], more: Option<&str>, file: &FileLine) -> Option<u64>
     ensures { result ≡ line_of_of (is_written_of (option_map (λ one. one.now) more.entry) out.now (map console_value consoles.now)) (file_value file.now) }
 {
     if is_written(out, consoles, more, file.name.as_bytes()) {

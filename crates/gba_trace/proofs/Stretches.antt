@@ -36,10 +36,11 @@ module _ (until : ℕ) (cut : Cut Machine) where
   one-step n m is on =
       ap (λ (k : ℕ). after_steps k until cut) is'
       ∙ if-true (goes_on until at) (stepped_cut at) at on where
-    at : Cut Machine
-    at = after_steps n until cut
-    is' : m ≡ suc n
-    is' = omega (arith, is)
+        at : Cut Machine
+        at = after_steps n until cut
+
+        is' : m ≡ suc n
+        is' = omega (arith, is)
 
   pub one-line : (n m : ℕ) → m ≡ n + 1 → goes_on until (after_steps n until cut) ≡ true
       → lines_from m until cut ≡ lines_from n until cut ++ next_line (after_steps n until cut)
@@ -47,10 +48,11 @@ module _ (until : ℕ) (cut : Cut Machine) where
   one-line n m is on =
       ap (λ (k : ℕ). lines_from k until cut) is'
       ∙ ap (λ (line : List ℕ). lines_from n until cut ++ line) (if-true (goes_on until at) (next_line at) [] on) where
-    at : Cut Machine
-    at = after_steps n until cut
-    is' : m ≡ suc n
-    is' = omega (arith, is)
+        at : Cut Machine
+        at = after_steps n until cut
+
+        is' : m ≡ suc n
+        is' = omega (arith, is)
 
   pub one-count : (n m : ℕ) → m ≡ n + 1 → goes_on until (after_steps n until cut) ≡ true
       → count_from m until cut ≡ count_from n until cut + 1
@@ -58,10 +60,11 @@ module _ (until : ℕ) (cut : Cut Machine) where
   one-count n m is on =
       ap (λ (k : ℕ). count_from k until cut) is'
       ∙ ap (λ (some : ℕ). count_from n until cut + some) (if-true (goes_on until at) 1 0 on) where
-    at : Cut Machine
-    at = after_steps n until cut
-    is' : m ≡ suc n
-    is' = omega (arith, is)
+        at : Cut Machine
+        at = after_steps n until cut
+
+        is' : m ≡ suc n
+        is' = omega (arith, is)
 
   -- none is left
   stays-by : (n k : ℕ) → goes_on until (after_steps n until cut) ≡ false → after_steps (k + n) until cut ≡ after_steps n until cut
@@ -73,8 +76,8 @@ module _ (until : ℕ) (cut : Cut Machine) where
       ap (λ (m : ℕ). after_steps m until cut) next
       ∙ if-false (goes_on until at) (stepped_cut at) at (ap (goes_on until) before ∙ over)
       ∙ before where
-    next : suc k + n ≡ suc (k + n)
-    next = omega arith
+        next : suc k + n ≡ suc (k + n)
+        next = omega arith
 
   pub stays : (n count : ℕ) → n ≤ count → goes_on until (after_steps n until cut) ≡ false
       → after_steps count until cut ≡ after_steps n until cut
@@ -92,8 +95,8 @@ module _ (until : ℕ) (cut : Cut Machine) where
       (if-false (goes_on until at) (next_line at) [] (ap (goes_on until) (stays-by n k over) ∙ over))
       ∙ append-nil (lines_from (k + n) until cut)
       ∙ no-lines-by n k over where
-    next : suc k + n ≡ suc (k + n)
-    next = omega arith
+        next : suc k + n ≡ suc (k + n)
+        next = omega arith
 
   pub no-lines : (n count : ℕ) → n ≤ count → goes_on until (after_steps n until cut) ≡ false
       → lines_from count until cut ≡ lines_from n until cut
@@ -111,10 +114,11 @@ module _ (until : ℕ) (cut : Cut Machine) where
       (if-false (goes_on until at) 1 0 (ap (goes_on until) (stays-by n k over) ∙ over))
       ∙ none (count_from (k + n) until cut)
       ∙ no-count-by n k over where
-    next : suc k + n ≡ suc (k + n)
-    next = omega arith
-    none : (m : ℕ) → m + 0 ≡ m
-    none m = omega arith
+        next : suc k + n ≡ suc (k + n)
+        next = omega arith
+
+        none : (m : ℕ) → m + 0 ≡ m
+        none m = omega arith
 
   pub no-count : (n count : ℕ) → n ≤ count → goes_on until (after_steps n until cut) ≡ false
       → count_from count until cut ≡ count_from n until cut

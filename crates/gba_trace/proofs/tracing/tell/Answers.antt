@@ -39,6 +39,7 @@ row-preserved c = record {
 } where
   cut : Machines
   cut = c.row.way.cut
+
   on : (plain : Machines) → Shows plain c.args.way.cut → goes_on c.args.until (after_steps c.row.counter c.args.until plain) ≡ true
   on plain shows =
       let at = after_steps c.row.counter c.args.until plain in
