@@ -45,7 +45,7 @@ _gbalink_view() {
   1:* | *:--against:*) _gbalink_runs ;;
   *:--sound:*) _gbalink_words 0 1 2 3 mixed ;;
   2:*) _gbalink_words --frame --frames --video --sound --transfers --page --against ;;
-  *:*:-*) _gbalink_words --columns --every --hashes --sound --against --from --to ;;
+  *:*:-*) _gbalink_words --columns --every --hashes --sound --against --from --to --trace ;;
   *:--from:* | *:--to:*) ;;
   *) _gbalink_files '*.png' '*.mp4' '*.wav' '*.svg' '*.html' '*.bios' '*.gba' '*.txt' ;;
   esac
