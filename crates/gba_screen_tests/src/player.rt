@@ -3,7 +3,7 @@
 ghost use Rattle.std.specs.Prelude.{◌<◌};
 
 use gba_bus::Width::{self, Half};
-use gba_image::{Bios, ConsoleImages};
+use gba_image::{Backup, Bios, ConsoleImages};
 use gba_mem::Memory;
 use gba_mixing_tests::Random;
 use gba_ppu_mix::mix_line;
@@ -52,6 +52,7 @@ fn memory(alloc: Global) -> Result<Memory, Fail> {
             bios,
             cart: None,
             save: None,
+            backup: Backup::Sram,
         },
     )?)
 }
