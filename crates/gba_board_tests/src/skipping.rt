@@ -136,11 +136,12 @@ fn steps_are_owed_up_to_what_happens(rt: HostRuntime) -> Result<(), Fail> {
     Ok(())
 }
 
-/// Where samples aren't kept the steps go on past the pair, and past the 512 cycles of a look, to HBlank.
+/// Where samples aren't kept the steps go on past the pair, and past the 512 cycles of a look, to HBlank: the second twenty are
+/// twelve up to the end of the first look at 512 and eight of the next.
 #[test]
 fn steps_are_owed_past_pairs_that_nobody_hears(rt: HostRuntime) -> Result<(), Fail> {
     let mut one = bench_of(rt.alloc(), false)?;
-    for (steps, pairs) in [(20, 0), (12, 1), (20, 1), (10, 1), (0, 1)] {
+    for (steps, pairs) in [(20, 0), (20, 1), (20, 1), (2, 1), (0, 1)] {
         assert_eq!(rt; one.owe_steps(&rt, 16, 20), steps);
         assert_eq!(rt; one.counts().samples, pairs);
     }
