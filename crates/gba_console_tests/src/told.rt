@@ -16,13 +16,16 @@ const ROOM: Room = Room {
 };
 
 /// Branches to itself.
-static LOOPS: [u32; 1] = [0xEAFF_FFFE];
+const LOOPS: &[u32] = &[0xEAFF_FFFE];
+
+/// BL to 8, where BEQ isn't executed.
+const SKIPS: &[u32] = &[0xEB00_0000, 0, 0x0A00_0000];
 
 /// MOV r1, #04000000h; ADD r1, r1, #300h; STRB r0, [r1, #1]: halts for ever.
-static HALTS: [u32; 3] = [0xE3A0_1301, 0xE281_1C03, 0xE5C1_0001];
+const HALTS: &[u32] = &[0xE3A0_1301, 0xE281_1C03, 0xE5C1_0001];
 
 /// Goes into Thumb state and back, and adds 1 to what stands in r1.
-static BOTH_STATES: [u32; 6] = [
+const BOTH_STATES: &[u32] = &[
     0xE3A0_0009, // 00 MOV r0, #9
     0xE12F_FF10, // 04 BX r0
     0x3903_2105, // 08 MOV r1, #5; 0A SUB r1, #3
@@ -32,7 +35,7 @@ static BOTH_STATES: [u32; 6] = [
 ];
 
 /// Has button A interrupt a loop of 3 cycles, whose first step begins at 15.
-static AWAITS_A: [u32; 13] = [
+const AWAITS_A: &[u32] = &[
     0xE3A0_1301, // 00 MOV r1, #04000000h
     0xE281_1E13, // 04 ADD r1, r1, #130h
     0xE3A0_2901, // 08 MOV r2, #4000h
@@ -49,7 +52,7 @@ static AWAITS_A: [u32; 13] = [
 ];
 
 /// DMA3 moves 65,536 words from the work RAM to the inner RAM.
-static MOVES_WORDS: [u32; 9] = [
+const MOVES_WORDS: &[u32] = &[
     0xE3A0_0301, // 00 MOV r0, #04000000h
     0xE280_00D4, // 04 ADD r0, r0, #D4h
     0xE3A0_1402, // 08 MOV r1, #02000000h
@@ -61,64 +64,98 @@ static MOVES_WORDS: [u32; 9] = [
     0xEAFF_FFFE, // 20 B to itself
 ];
 
-/// A program of the BIOS, the clock below which its console is off, the clock that it runs to, and what its last step did,
-/// which began at another clock.
-#[derive(Clone, Copy)]
-struct Course {
-    words: &'static [u32],
-    off: u64,
-    until: u64,
-    what: What,
-    was: u64,
-}
-
-/// Steps one by one, many of the same at once, and those in which no instruction is executed. BEQ at 8 isn't, but is told.
-static COURSES: [Course; 15] = [
-    course(&LOOPS, 0, Nothing, 0),
-    course(&LOOPS, 1, at_word(0, 0xEAFF_FFFE), 0),
-    course(&LOOPS, 999, at_word(0, 0xEAFF_FFFE), 996),
-    course(
-        &[0xEB00_0000, 0, 0x0A00_0000],
+/// Of a program of the BIOS, the clock below which its console is off, the clock that it runs to, what its last step did, and
+/// the clock at which that step began: steps one by one, many of the same at once, and those in which no instruction is executed.
+/// BEQ at 8 isn't, but is told.
+static COURSES: [(&[u32], u64, u64, What, u64); 15] = [
+    (LOOPS, 0, 0, Nothing, 0),
+    (
+        LOOPS,
+        0,
+        1,
+        Arm {
+            address: 0,
+            word: 0xEAFF_FFFE,
+        },
+        0,
+    ),
+    (
+        LOOPS,
+        0,
+        999,
+        Arm {
+            address: 0,
+            word: 0xEAFF_FFFE,
+        },
+        996,
+    ),
+    (
+        SKIPS,
+        0,
         4,
-        at_word(8, 0x0A00_0000),
+        Arm {
+            address: 8,
+            word: 0x0A00_0000,
+        },
         3,
     ),
-    course(&BOTH_STATES, 4, at_word(4, 0xE12F_FF10), 1),
-    course(&BOTH_STATES, 5, at_half(8, 0x2105), 4),
-    course(&BOTH_STATES, 9, at_half(0xC, 0x4778), 6),
-    course(&BOTH_STATES, 10, at_word(0x10, 0xE281_1001), 9),
-    course(&HALTS, 4, at_word(8, 0xE5C1_0001), 2),
-    course(&HALTS, 20, Idle, 4),
-    course(&HALTS, 2000, Idle, 1988),
-    course(&AWAITS_A, 19, Irq, 18),
-    course(&MOVES_WORDS, 20, Dma { channel: 3 }, 11),
-    course(&MOVES_WORDS, 27, Dma { channel: 3 }, 20),
-    Course {
-        words: &LOOPS,
-        off: 100,
-        until: 100,
-        what: Off,
-        was: 96,
-    },
+    (
+        BOTH_STATES,
+        0,
+        4,
+        Arm {
+            address: 4,
+            word: 0xE12F_FF10,
+        },
+        1,
+    ),
+    (
+        BOTH_STATES,
+        0,
+        5,
+        Thumb {
+            address: 8,
+            half: 0x2105,
+        },
+        4,
+    ),
+    (
+        BOTH_STATES,
+        0,
+        9,
+        Thumb {
+            address: 0xC,
+            half: 0x4778,
+        },
+        6,
+    ),
+    (
+        BOTH_STATES,
+        0,
+        10,
+        Arm {
+            address: 0x10,
+            word: 0xE281_1001,
+        },
+        9,
+    ),
+    (
+        HALTS,
+        0,
+        4,
+        Arm {
+            address: 8,
+            word: 0xE5C1_0001,
+        },
+        2,
+    ),
+    (HALTS, 0, 20, Idle, 4),
+    (HALTS, 0, 2000, Idle, 1988),
+    (AWAITS_A, 0, 19, Irq, 18),
+    (MOVES_WORDS, 0, 20, Dma { channel: 3 }, 11),
+    (MOVES_WORDS, 0, 27, Dma { channel: 3 }, 20),
+    (LOOPS, 100, 100, Off, 96),
 ];
-
-const fn course(words: &'static [u32], until: u64, what: What, was: u64) -> Course {
-    Course {
-        words,
-        off: 0,
-        until,
-        what,
-        was,
-    }
-}
-
-const fn at_word(address: u32, word: u32) -> What {
-    Arm { address, word }
-}
-
-const fn at_half(address: u32, half: u16) -> What {
-    Thumb { address, half }
-}
 
 /// Button A is pressed at 16, and another one at a clock that no course comes to.
 static KEYS: [KeyState; 2] = [
@@ -129,19 +166,19 @@ static KEYS: [KeyState; 2] = [
     },
 ];
 
-fn play_of(alloc: Global, course: Course) -> Result<Play, Fail> {
-    let images = images_of_words(alloc, course.words)?;
-    Play::new(alloc, ALONE, course.off, images, &KEYS, ROOM)
+fn play_of(alloc: Global, words: &[u32], off: u64) -> Result<Play, Fail> {
+    let images = images_of_words(alloc, words)?;
+    Play::new(alloc, ALONE, off, images, &KEYS, ROOM)
 }
 
 #[test]
 fn steps_tell_what_they_did(rt: HostRuntime) -> Result<(), Fail> {
-    for &course in &COURSES {
-        let mut console = play_of(rt.alloc(), course)?;
-        console.run(&rt, course.until);
-        assert_eq!(rt; console.last(), course.what, "until {}", course.until);
-        assert_eq!(rt; console.was(), course.was, "until {}", course.until);
-        assert_eq!(rt; console.off(), course.off);
+    for &(words, off, until, what, was) in &COURSES {
+        let mut console = play_of(rt.alloc(), words, off)?;
+        console.run(&rt, until);
+        assert_eq!(rt; console.last(), what, "until {until}");
+        assert_eq!(rt; console.was(), was, "until {until}");
+        assert_eq!(rt; console.off(), off);
         assert_eq!(rt; console.keys(), KEYS.as_slice());
         console.forget(&rt, ROOM.until);
         assert_eq!(rt; console.last(), Nothing);
@@ -149,50 +186,58 @@ fn steps_tell_what_they_did(rt: HostRuntime) -> Result<(), Fail> {
     Ok(())
 }
 
-/// The lines of some steps: those of a branch, of a Thumb instruction, of a halt, of an interrupt, of a unit of DMA, and of a
-/// console that is off.
-static LINES: [(Course, &[u8]); 7] = [
+/// Of a program, the clock below which its console is off and the clock that it runs to, the line of its last step: none yet, a
+/// branch, a Thumb instruction, a halt, an interrupt, a unit of DMA, and a console that is off.
+static LINES: [(&[u32], u64, u64, &[u8]); 7] = [
     (
-        course(&LOOPS, 0, Nothing, 0),
+        LOOPS,
+        0,
+        0,
         b"0 0 nothing 00000000 00000000 00000000 00000000 00000000 00000000 00000000 00000000 00000000 00000000 00000000 00000000 00000000 00000000 00000000 00000000 000000d3\n",
     ),
     (
-        course(&LOOPS, 1, Nothing, 0),
+        LOOPS,
+        0,
+        1,
         b"0 0 arm 00000000 eafffffe 00000000 00000000 00000000 00000000 00000000 00000000 00000000 00000000 00000000 00000000 00000000 00000000 00000000 00000000 00000000 00000000 000000d3 ; b 0x00000000\n",
     ),
     (
-        course(&BOTH_STATES, 5, Nothing, 0),
+        BOTH_STATES,
+        0,
+        5,
         b"0 4 thumb 00000008 2105 00000009 00000005 00000000 00000000 00000000 00000000 00000000 00000000 00000000 00000000 00000000 00000000 00000000 00000000 00000000 0000000a 000000f3 ; mov r1, #0x5\n",
     ),
     (
-        course(&HALTS, 20, Nothing, 0),
+        HALTS,
+        0,
+        20,
         b"0 4 idle 00000000 04000300 00000000 00000000 00000000 00000000 00000000 00000000 00000000 00000000 00000000 00000000 00000000 00000000 00000000 0000000c 000000d3\n",
     ),
     (
-        course(&AWAITS_A, 19, Nothing, 0),
+        AWAITS_A,
+        0,
+        19,
         b"0 18 irq 00000000 04000130 00000001 04000200 00000000 00000000 00000000 00000000 00000000 00000000 00000000 00000000 00000000 00000000 00000034 00000018 000000d2\n",
     ),
     (
-        course(&MOVES_WORDS, 20, Nothing, 0),
+        MOVES_WORDS,
+        0,
+        20,
         b"0 11 dma 3 040000d4 02000000 03000000 84000000 00000000 00000000 00000000 00000000 00000000 00000000 00000000 00000000 00000000 00000000 00000000 00000020 000000d3\n",
     ),
     (
-        Course {
-            words: &LOOPS,
-            off: 100,
-            until: 16,
-            what: Off,
-            was: 0,
-        },
+        LOOPS,
+        100,
+        16,
         b"0 0 off 00000000 00000000 00000000 00000000 00000000 00000000 00000000 00000000 00000000 00000000 00000000 00000000 00000000 00000000 00000000 00000000 000000d3\n",
     ),
 ];
 
 #[test]
 fn steps_have_their_lines(rt: HostRuntime) -> Result<(), Fail> {
-    for &(course, line) in &LINES {
-        let mut console = play_of(rt.alloc(), course)?;
-        console.run(&rt, course.until);
+    for &(words, off, until, line) in &LINES {
+        let mut console = play_of(rt.alloc(), words, off)?;
+        console.run(&rt, until);
         assert_eq!(rt; console.line(rt.alloc())?.as_slice(), line);
     }
     Ok(())
