@@ -12,7 +12,7 @@ pub returns : goal.returns
 returns c =
     let out = c.args.out.now in
     let first = map output_value c.args.first.items in
-    let made = c.in_ok-filled_job in
+    let made = c.in_ok-job in
     c.in_ok-run.ensures
     ∙ ap (λ (ones : List ConsoleImages). after_files first (run_under out (job_value made.job) ones)) made.ensures.images
     ∙ ap (λ (j : WholeJob). after_files first (run_under out j (map images_in (map inputs_value c.args.inputs.items))))
