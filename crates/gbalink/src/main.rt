@@ -4,6 +4,7 @@
 use gba_link::gba_link;
 use gba_store::{FileStore, NoGate, StdSink};
 use std::env;
+use std::fs::File;
 use std::io::{self, ErrorKind};
 use std::process::ExitCode;
 
@@ -21,6 +22,18 @@ fn refusal(error: &io::Error) -> ExitCode {
     }
 }
 
+/// Takes the numbers of standard input, output and error where the program was called without them, so that no file of a
+/// run gets one of them, and with it what is meant for standard output. What is written there fails then, since this file
+/// is for reading alone. A file takes the lowest number that is free, so three are enough; they are held as long as the
+/// program runs.
+fn hold_standard_numbers(rt: HostRuntime) -> [Option<File>; 3] {
+    [
+        File::open(&rt, "/dev/null").ok(),
+        File::open(&rt, "/dev/null").ok(),
+        File::open(&rt, "/dev/null").ok(),
+    ]
+}
+
 /// Runs the top call on the words after the program's name, and ends with its answer.
 fn main(rt: HostRuntime) -> ExitCode {
     let mut args = match env::args(&rt) {
@@ -28,6 +41,7 @@ fn main(rt: HostRuntime) -> ExitCode {
         Err(error) => return refusal(&error),
     };
     let _name = args.next();
+    let _held = hold_standard_numbers(rt);
     let Ok(words) = args.collect::<Vec<String>>(rt.alloc()) else {
         return ExitCode::from(NO_MEMORY);
     };
