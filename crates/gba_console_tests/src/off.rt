@@ -97,6 +97,7 @@ fn made(console: &Play) -> (u64, u64, u64, usize, usize) {
 #[test]
 fn makes_begin_with_the_first_step(rt: HostRuntime) -> Result<(), Fail> {
     for &(off, first, pairs) in &MAKES {
+        assert!(rt; first <= 1 << 20);
         let mut console = console_of(rt.alloc(), LOOPS, off, &[], 1 << 20)?;
         comes_to(&rt, &mut console, first + 196_893, first + 196_893);
         let (_, frames, _, bytes, _) = made(&console);
