@@ -1,7 +1,9 @@
 #![tactic(auto)]
 //! Tests of consoles on a cable by the top call: whole runs with all their files, lanes that meet, a thousand schedules,
-//! and runs in segments.
+//! runs in segments, and reads and calls that fail.
 
+#[cfg(test)]
+mod failing;
 #[cfg(test)]
 mod linked;
 #[cfg(test)]
