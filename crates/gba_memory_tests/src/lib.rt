@@ -1,6 +1,10 @@
 #![tactic(auto)]
 //! Tests of the memory map: the regions and their prices, the image checks, what each address reads and stores.
 
+mod saves;
+
+pub use saves::fits;
+
 #[cfg(test)]
 mod images;
 #[cfg(test)]

@@ -2,8 +2,8 @@
 
 ghost use Rattle.std.specs.Prelude.{IsTrue};
 ghost use Rattle.gba_flash.specs.Soundness.{IsSoundMachine};
-ghost use Rattle.gba_image.specs.Checks.{SaveFits};
 
+use crate::fits;
 use crate::images::{HEADER, image};
 use gba_bus::Width::{self, Byte, Half, Word};
 use gba_flash::{FlashMachine, FlashState};
@@ -46,16 +46,6 @@ fn play<R: Abort>(rt: &R, memory: &mut Memory, moves: &[Move]) {
                 assert_eq!(rt; memory.code(address, width), value, "at {address}");
             }
         }
-    }
-}
-
-/// Whether a save, where there is one, has the bytes of a backup.
-fn fits(save: &Option<Save>, backup: Backup) -> bool
-    ensures { IsTrue result → SaveFits save.now backup }
-{
-    match save {
-        Some(save) => save.bytes().len() == backup.length(),
-        None => true,
     }
 }
 
