@@ -6,6 +6,7 @@ pub mod Steps
 pub mod SoundChanges
 pub mod Cables
 pub mod Sound
+pub mod AskingNothing
 pub mod Spelling
 pub mod SpelledValues
 pub mod LogLines

@@ -12,6 +12,7 @@ pub mod Lines
 pub mod Language
 pub mod KeyFile
 pub mod Soundness
+pub mod Unasked
 pub mod Clash
 pub mod Log
 pub mod LogLaw

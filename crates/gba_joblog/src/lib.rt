@@ -21,6 +21,7 @@ mod operands;
 mod outputs;
 mod parse;
 mod statement;
+mod unasked;
 
 pub use backup::backup_word;
 pub use cable::{PAIRS, Pair, players_for};

@@ -466,6 +466,30 @@ fn are_wanted(consoles: &[JobConsole], want: &[Wanted]) -> bool {
     true
 }
 
+/// The same files, and no output.
+fn files_of(want: &Wanted) -> Wanted {
+    Wanted {
+        bios: want.bios,
+        cart: want.cart,
+        save: want.save,
+        keys: want.keys,
+        asked: [false; 5],
+    }
+}
+
+/// Whether each console has its files still, and is asked for nothing.
+fn are_asked_for_nothing(consoles: &[JobConsole], want: &[Wanted]) -> bool {
+    if consoles.len() != want.len() {
+        return false;
+    }
+    for (console, want) in consoles.iter().zip(want) {
+        if !is_wanted(console, &files_of(want)) {
+            return false;
+        }
+    }
+    true
+}
+
 #[test]
 fn four_consoles_are_read(rt: HostRuntime) -> Result<(), Fail> {
     let text: &[u8] =
@@ -473,6 +497,9 @@ fn four_consoles_are_read(rt: HostRuntime) -> Result<(), Fail> {
     let job = job_of(rt.alloc(), text).ok_or("no job")?;
     assert!(rt; are_wanted(&job.consoles, &OF_FOUR_CONSOLES));
     assert!(rt; ask_for_words_and_frames(&job.consoles));
+    let job = job.without_outputs();
+    assert!(rt; job.cycles == 9);
+    assert!(rt; are_asked_for_nothing(&job.consoles, &OF_FOUR_CONSOLES));
     Ok(())
 }
 

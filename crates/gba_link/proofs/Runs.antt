@@ -6,12 +6,14 @@ use Rattle.gba_image.proofs.Lengths.{passed_length}
 use Rattle.gba_image.specs.Backups.{backup_length}
 use Rattle.gba_image.specs.Checks.{SaveFits, save_fault}
 use Rattle.gba_image.specs.declared.backup.Backup.{Backup}
+use Rattle.gba_image.specs.declared.images.ConsoleImages.{ConsoleImages}
 use Rattle.gba_inputs.specs.Filled.{filled_consoles}
 use Rattle.gba_inputs.specs.Inputs.{ConsoleInputs}
 use Rattle.gba_inputs.specs.Law.{AreInputs, Passes}
 use Rattle.gba_inputs.specs.Views.{images_of, inputs_value}
 use Rattle.gba_inputs.specs.declared.inputs.Inputs.{Inputs}
 use Rattle.gba_joblog.specs.Job.{ConsoleJob}
+use Rattle.gba_joblog.specs.Unasked.{console_unasked}
 use Rattle.gba_link.specs.RunPlan.{images_in}
 use Rattle.gba_session.specs.Start.{FitsConsole}
 
@@ -39,3 +41,12 @@ inputs-fit (c ∷ consoles) (i ∷ inputs) read = (
   },
   inputs-fit consoles inputs read.1,
 )
+
+-- they fit them as well where nothing is asked for
+pub unasked-fit : (consoles : List ConsoleJob) (images : List ConsoleImages) → AllZip FitsConsole consoles images
+    → AllZip FitsConsole (map console_unasked consoles) images
+unasked-fit [] [] fit = tt
+unasked-fit [] (one ∷ images) fit = absurd fit
+unasked-fit (c ∷ consoles) [] fit = absurd fit
+unasked-fit (c ∷ consoles) (one ∷ images) fit =
+    (record { backup = fit.0.backup; save = fit.0.save }, unasked-fit consoles images fit.1)

@@ -8,6 +8,7 @@ use Rattle.gba_inputs.specs.Filled.{filled}
 use Rattle.gba_inputs.specs.Inputs.{ConsoleInputs}
 use Rattle.gba_inputs.specs.InputsPlan.{inputs_plan}
 use Rattle.gba_joblog.specs.Job.{WholeJob}
+use Rattle.gba_joblog.specs.Unasked.{unasked}
 use Rattle.gba_session.specs.Start.{start_of}
 use Rattle.gba_trace.specs.Trace.{trace_count, trace_text}
 use Rattle.gba_translate.specs.Translation.{count_line}
@@ -20,9 +21,9 @@ trace_file out = out ++ codes ".trace"
 
 -- The trace of a job with its inputs: the consoles go from their reset, in the global order, and of COUNT steps from step
 -- FIRST on, counted from 0, or of all from there that begin below the job's cycles, a line each is written. The summary is a
--- word and the number of lines.
+-- word and the number of lines. Nothing is kept of what the consoles make, whatever the job asks for.
 abbrev pub start_with : WholeJob → List ConsoleInputs → Cut Machine
-start_with job inputs = start_of (filled job inputs) (map images_in inputs)
+start_with job inputs = start_of (unasked (filled job inputs)) (map images_in inputs)
 
 abbrev pub traced : List ℕ → List ℕ → ℕ → Run
 traced out text lines =

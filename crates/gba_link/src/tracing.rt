@@ -5,15 +5,20 @@ ghost use Rattle.std.specs.List.{AllZip};
 ghost use Rattle.gba_command.specs.Reading.{GoesTo};
 ghost use Rattle.gba_command.specs.Views.{end_of, run_value, trace_words_value};
 ghost use Rattle.gba_command.specs.Words.{AreTraceWords};
+ghost use Rattle.gba_inputs.specs.Filled.{filled};
 ghost use Rattle.gba_inputs.specs.Law.{AreInputs};
 ghost use Rattle.gba_inputs.specs.Views.{inputs_value};
 ghost use Rattle.gba_joblog.specs.Soundness.{IsJob};
+ghost use Rattle.gba_joblog.specs.Unasked.{unasked};
 ghost use Rattle.gba_joblog.specs.Views.{job_value};
+ghost use Rattle.gba_link.specs.RunPlan.{images_in};
 ghost use Rattle.gba_link.specs.TracePlan.{result_of_trace, start_with, trace_file, trace_plan, traced};
+ghost use Rattle.gba_session.specs.Start.{FitJob};
 ghost use Rattle.gba_trace.specs.Trace.{trace_count, trace_text};
 
 use crate::run::{filled_job, read_job};
 use gba_command::{Outputs, Refusal, TraceWords};
+use gba_image::ConsoleImages;
 use gba_inputs::{Inputs, read_inputs};
 use gba_joblog::Job;
 use gba_session::{later_end, start_cut};
@@ -33,6 +38,25 @@ fn trace_name(alloc: Global, out: &str) -> Result<String, AllocError>
     Ok(name)
 }
 
+/// The job with what was read for it written in and no output asked for, and its images.
+fn unasked_job(
+    alloc: Global,
+    job: Job,
+    inputs: Vec<Inputs>,
+) -> Result<(Job, Vec<ConsoleImages>), AllocError>
+    requires sound { IsJob (job_value job) }
+    requires inputs { AllZip AreInputs (job_value job).consoles (map inputs_value inputs.items) }
+    ensures filled { IfOk result (λ made. job_value made.0
+        ≡ unasked (filled (job_value job) (map inputs_value inputs.items))) }
+    ensures images { IfOk result (λ made. made.1.items ≡ map images_in (map inputs_value inputs.items)) }
+    ensures sound { IfOk result (λ made. IsJob (job_value made.0)) }
+    ensures fit { IfOk result (λ made. FitJob (job_value made.0) made.1.items) }
+{
+    let (job, images) = filled_job(alloc, job, inputs)?;
+    let job = job.without_outputs();
+    Ok((job, images))
+}
+
 /// The lines of the steps that the words ask for.
 fn trace_job(
     alloc: Global,
@@ -49,7 +73,7 @@ fn trace_job(
     ensures lines { IfOk result (λ made. made.lines ≡ trace_count first count (job_value job).cycles
         (start_with (job_value job) (map inputs_value inputs.items))) }
 {
-    let (job, images) = filled_job(alloc, job, inputs)?;
+    let (job, images) = unasked_job(alloc, job, inputs)?;
     let cut = start_cut(alloc, &job, images)?;
     let end = later_end(job.cycles, 0);
     trace(alloc, cut, end, first, count, job.cycles)
