@@ -695,7 +695,7 @@ impl Console {
     {
         stays_quiet();
         steps_pass();
-        let left = (stop - self.clock()).min(512) as u32;
+        let left = (stop - self.clock()).min(1024) as u32;
         let most = (left + IDLE_CYCLES - 1) / IDLE_CYCLES;
         let steps = self.idle_quietly(stop, most);
         if most <= steps {

@@ -4,13 +4,13 @@ use Rattle.std.proofs.Math.Nat.{le_trans, mul-div-le, mul-le-mul_left}
 use Rattle.std.proofs.lemmas.Bool.{cases_lt, or_parts}
 use Rattle.std.proofs.lemmas.Bool.Decides.{nat_tests}
 use Rattle.gba_ppu_reg.specs.Position.{after_cycles as place_after, begins_hblank, begins_line, cycle as place_cycle}
-use Rattle.gba_ppu_reg.specs.Quiet.{QuietPlaces, quiet as quiet_place}
+use Rattle.gba_ppu_reg.specs.Quiet.{QuietPlaces, quiet_within as quiet_place}
 use Rattle.gba_ppu_reg.specs.declared.position.Position.{Position}
 use Rattle.gba_psg.specs.Tones.{after_cycles as tones_after, cycle as tones_cycle}
 use Rattle.gba_psg.specs.declared.four.FourTones.{FourTones}
-use Rattle.gba_timer.specs.Quiet.{QuietMarks, quiet as quiet_timers}
+use Rattle.gba_timer.specs.Quiet.{QuietMarks, quiet_within as quiet_timers}
 use Rattle.gba_timer.specs.Timers.{FourTimers, after_cycles as timers_after, cycle as timer_cycle}
-use Rattle.gba_devices.specs.Cycles.{CyclePasses, CyclesPass, SkipsCycles, after_cycles, at_hblank, at_line, at_place, device_cycle, draws_at, draws_line, draws_within, is_seen, makes_pair, makes_within, pairless, placed, quiet, rung, skipped, sounded}
+use Rattle.gba_devices.specs.Cycles.{CyclePasses, CyclesPass, SkipsCycles, after_cycles, at_hblank, at_line, at_place, device_cycle, draws_at, draws_line, draws_within, farthest, is_seen, makes_pair, makes_within, pairless, placed, quiet, rung, skipped, sounded}
 use Rattle.gba_devices.specs.State.{Devices, is_idle}
 
 -- Cycles one after another, and cycles at once.
@@ -115,22 +115,22 @@ unfolding timers_after place_after tones_after
 skip-none d = rw add-zero refl
 
 module _ (timers : QuietMarks) (places : QuietPlaces) where
-  sounded-skipped : (count : ℕ) (d : Devices) → count + 1 ≤ quiet_timers d.timers → count + 1 ≤ quiet_place d.place
+  sounded-skipped : (count : ℕ) (d : Devices) → count + 1 ≤ quiet_timers farthest d.timers → count + 1 ≤ quiet_place farthest d.place
       → placed (sounded (skipped count d)) ≡ skipped (count + 1) d
   unfolding sounded rung
   sounded-skipped count d least near =
       let sum : d.clock + count + 1 ≡ d.clock + (count + 1) = omega arith in
-      rw (timers count d.timers (omega (arith, least)), timers-next count d.timers, tones-next count d.tones, place-next count d.place, sum) refl
+      rw (timers.none farthest count d.timers (omega (arith, least)), timers-next count d.timers, tones-next count d.tones, place-next count d.place, sum) refl
 
   cycle-skipped : (count : ℕ) (d : Devices) → count + 1 ≤ quiet d
       → device_cycle (skipped count d) ≡ skipped (count + 1) d
   unfolding device_cycle quiet
   cycle-skipped count d within =
-      let least : count + 1 ≤ quiet_timers d.timers = omega (arith, within) in
-      let near : count + 1 ≤ quiet_place d.place = omega (arith, within) in
+      let least : count + 1 ≤ quiet_timers farthest d.timers = omega (arith, within) in
+      let near : count + 1 ≤ quiet_place farthest d.place = omega (arith, within) in
       ap at_place (sounded-skipped count d least near)
-      ∙ nothing-begins (skipped (count + 1) d) (places.no_hblank count d.place (omega (arith, near)))
-      (places.no_line count d.place (omega (arith, near)))
+      ∙ nothing-begins (skipped (count + 1) d) (places.no_hblank farthest count d.place (omega (arith, near)))
+      (places.no_line farthest count d.place (omega (arith, near)))
 
   skips-all : (count more : ℕ) (d : Devices) → more + count ≤ quiet d
       → after_cycles count (skipped more d) ≡ skipped (more + count) d
@@ -145,10 +145,10 @@ module _ (timers : QuietMarks) (places : QuietPlaces) where
   draws-none : (count : ℕ) (d : Devices) → count + 1 ≤ quiet d → draws_line (skipped count d) ≡ false
   unfolding quiet
   draws-none count d within =
-      let near : count + 1 ≤ quiet_place d.place = omega (arith, within) in
+      let near : count + 1 ≤ quiet_place farthest d.place = omega (arith, within) in
       ap draws_at (place-next count d.place)
       ∙ not-there (begins_hblank (place_after (count + 1) d.place)) (is_seen (place_after (count + 1) d.place))
-      (places.no_hblank count d.place (omega (arith, near)))
+      (places.no_hblank farthest count d.place (omega (arith, near)))
 
   makes-none : (count more : ℕ) (d : Devices) → more + count ≤ quiet d → count ≤ pairless (skipped more d)
       → makes_within count (skipped more d) ≡ false
@@ -171,8 +171,18 @@ module _ (timers : QuietMarks) (places : QuietPlaces) where
       (draws-nothing count more d (omega (arith, within)))
       (ap draws_line (skips-all count more d (omega (arith, within))) ∙ draws-none (more + count) d (omega (arith, within)))
 
+  timers-still : (count : ℕ) (d : Devices) → count ≤ quiet d → quiet_timers count d.timers ≡ count
+  unfolding quiet
+  timers-still count d within = timers.fewer farthest count d.timers (omega (arith, within))
+
+  place-still : (count : ℕ) (d : Devices) → count ≤ quiet d → quiet_place count d.place ≡ count
+  unfolding quiet
+  place-still count d within = places.fewer farthest count d.place (omega (arith, within))
+
   pub skips : SkipsCycles
   skips = record {
+    timers = timers-still;
+    places = place-still;
     none = skip-none;
     pass = skips-all;
     next = cycle-skipped;
@@ -227,9 +237,9 @@ steps_idle cycles first more d middle e before after steps within =
     (λ (early : steps ≤ first). before steps early)
     (cases_lt first steps)
 
-pub steps_few : (cycles first more rest most : ℕ) → cycles * first ≤ 512 → rest ≡ min ((512 - cycles * first) / cycles) most
-    → more ≤ rest → cycles * (first + more) ≤ 512
+pub steps_few : (cycles first more rest most : ℕ) → cycles * first ≤ 1024 → rest ≡ min ((1024 - cycles * first) / cycles) most
+    → more ≤ rest → cycles * (first + more) ≤ 1024
 steps_few cycles first more rest most few e within =
-    let whole = whole_steps cycles rest most (512 - cycles * first) e in
+    let whole = whole_steps cycles rest most (1024 - cycles * first) e in
     let less = mul-le-mul_left cycles within in
     omega (arith, few, whole, less)

@@ -5,13 +5,13 @@ use Rattle.gba_dma.specs.declared.event.DmaEvent.{DmaEvent}
 use Rattle.gba_dma.specs.declared.event.DmaEvent.TheVariants.{VBlank, HBlank, QueueA, QueueB}
 use Rattle.gba_irq.specs.declared.interrupts.Interrupts.{Interrupts}
 use Rattle.gba_ppu_reg.specs.Position.{after_cycles as place_after, begins_hblank, begins_line, cycle as place_cycle, is_matched}
-use Rattle.gba_ppu_reg.specs.Quiet.{quiet as quiet_place}
+use Rattle.gba_ppu_reg.specs.Quiet.{quiet_within as quiet_place}
 use Rattle.gba_ppu_reg.specs.Registers.{Picture, after_line, after_reload, picture_kept}
 use Rattle.gba_ppu_reg.specs.declared.position.Position.{Position}
 use Rattle.gba_psg.specs.Tones.{after_cycles as tones_after, cycle as tones_cycle}
 use Rattle.gba_sound.specs.Queues.{after_overflow, asked}
 use Rattle.gba_sound.specs.declared.asked.Asked.{Asked}
-use Rattle.gba_timer.specs.Quiet.{quiet as quiet_timers}
+use Rattle.gba_timer.specs.Quiet.{quiet_within as quiet_timers}
 use Rattle.gba_timer.specs.Timers.{after_cycles as timers_after, cycle as timer_cycle, overflow_mark, requests}
 use Rattle.gba_devices.specs.State.{Devices}
 
@@ -132,10 +132,14 @@ unfoldable pub draws_within : ℕ → Devices → Bool
 draws_within zero d = false
 draws_within (suc count) d = draws_within count d || draws_line (after_cycles count d)
 
--- Cycles in which no timer overflows and nothing begins at a place can be skipped at once: for so many, 512 at most, that is
--- so. A pair of samples may be made in them, and the tone channels move on in them.
+-- Cycles in which no timer overflows and nothing begins at a place can be skipped at once: for so many that is so, of those
+-- that are looked at, which are more than a line has before its HBlank. A pair of samples may be made in them, and the tone
+-- channels move on in them.
+abbrev pub farthest : ℕ
+farthest = 1024
+
 unfoldable pub quiet : Devices → ℕ
-quiet d = min (quiet_timers d.timers) (quiet_place d.place)
+quiet d = min (quiet_timers farthest d.timers) (quiet_place farthest d.place)
 
 abbrev pub skipped : ℕ → Devices → Devices
 skipped count d = record d {
@@ -159,6 +163,8 @@ pub record SkipsCycles : Type 0 where
   pub silent : (count more : ℕ) (d : Devices) → more + count ≤ quiet d → count ≤ pairless (skipped more d)
       → makes_within count (skipped more d) ≡ false
   pub lineless : (count more : ℕ) (d : Devices) → more + count ≤ quiet d → draws_within count (skipped more d) ≡ false
+  pub timers : (count : ℕ) (d : Devices) → count ≤ quiet d → quiet_timers count d.timers ≡ count
+  pub places : (count : ℕ) (d : Devices) → count ≤ quiet d → quiet_place count d.place ≡ count
 
 -- what all cycles do: the clock rises by their number, and WAITCNT and the prices stay
 pub record CyclesPass (count : ℕ) (d : Devices) : Type 0 where

@@ -5,6 +5,7 @@ ghost use Rattle.std.specs.Prelude.{◌≡◌, ◌+◌, ◌≤◌, ◌<◌, ◌^
 mod requests;
 
 use crate::laws::{cycle_keeps, cycles_pass, skips_cycles, writes_keep};
+use crate::place::FARTHEST;
 use crate::registers::{Owner, owner_of};
 use crate::set::DeviceSet;
 use gba_bus::Width;
@@ -37,7 +38,7 @@ impl Model for Devices {
     ghost view = { λ d. skipped d.debt d.set };
 
     ghost invariant = { λ d.
-        (d.debt ≤ d.silence) × (d.silence ≤ d.horizon) × (d.horizon ≤ quiet d.set) × (d.horizon ≤ 512)
+        (d.debt ≤ d.silence) × (d.silence ≤ d.horizon) × (d.horizon ≤ quiet d.set) × (d.horizon ≤ 1024)
         × (d.silence - d.debt ≤ pairless (skipped d.debt d.set)) × (d.calm ≡ is_calm d.set)
         × (d.set.clock + d.debt < 2 ^ 63) };
 }
@@ -135,6 +136,7 @@ impl Devices {
     fn timers(&self) -> Timers
         ensures { result ≡ self.now.timers }
     {
+        skips_cycles();
         let mut timers = self.set.timers();
         timers.skip(self.debt);
         timers
@@ -278,12 +280,12 @@ impl Devices {
         self.silence = self.horizon.min(self.set.pairless());
     }
 
-    /// The same where no more can be owed, or fewer cycles than these only because no more than 512 are looked at at once.
+    /// The same where no more can be owed, or fewer cycles than these only because no more than 1,024 are looked at at once.
     fn renew_due(&mut self, cycles: u32)
         ensures { self.new ≡ self.old }
     {
         let left = self.horizon - self.debt;
-        if left == 0 || (self.horizon == 512 && left < cycles) {
+        if left == 0 || (self.horizon == FARTHEST && left < cycles) {
             self.renew();
         }
     }
@@ -385,7 +387,7 @@ impl Devices {
         ensures silent { makes_within (cycles * result) self.old ≡ false }
         ensures idle { (steps : ℕ) → steps ≤ result → is_idle (after_cycles (cycles * steps) self.old) ≡ is_idle self.old }
         ensures calm { is_calm self.new ≡ is_calm self.old }
-        ensures few { cycles * result ≤ 512 }
+        ensures few { cycles * result ≤ 1024 }
         ensures most { result ≤ most }
     {
         skips_cycles();
@@ -405,7 +407,7 @@ impl Devices {
         ensures lineless { draws_within (cycles * result) self.old ≡ false }
         ensures idle { (steps : ℕ) → steps ≤ result → is_idle (after_cycles (cycles * steps) self.old) ≡ is_idle self.old }
         ensures calm { is_calm self.new ≡ is_calm self.old }
-        ensures few { cycles * result ≤ 512 }
+        ensures few { cycles * result ≤ 1024 }
         ensures most { result ≤ most }
     {
         skips_cycles();
@@ -421,15 +423,15 @@ impl Devices {
     }
 
     /// Moves by as many of so many steps of so many cycles as nothing happens in but pairs of samples, and answers how many. All
-    /// of them take no more than 512 cycles.
+    /// of them take no more than 1,024 cycles.
     pub fn owe_unheard(&mut self, cycles: u32, most: u32) -> u32
         requires some { 1 ≤ cycles }
-        requires clock { self.old.clock + 512 < 2 ^ 61 }
+        requires clock { self.old.clock + 1024 < 2 ^ 61 }
         ensures devices { self.new ≡ after_cycles (cycles * result) self.old }
         ensures lineless { draws_within (cycles * result) self.old ≡ false }
         ensures idle { (steps : ℕ) → steps ≤ result → is_idle (after_cycles (cycles * steps) self.old) ≡ is_idle self.old }
         ensures calm { is_calm self.new ≡ is_calm self.old }
-        ensures few { cycles * result ≤ 512 }
+        ensures few { cycles * result ≤ 1024 }
         ensures most { result ≤ most }
     {
         cycles_pass();
@@ -437,10 +439,10 @@ impl Devices {
         if first == most {
             return first;
         }
-        if self.horizon < 512 {
+        if self.horizon < FARTHEST {
             return first;
         }
-        let rest = ((512 - cycles * first) / cycles).min(most - first);
+        let rest = ((FARTHEST - cycles * first) / cycles).min(most - first);
         first + self.owe_looked(cycles, rest)
     }
 

@@ -3,6 +3,9 @@
 use gba_ppu_reg::Position;
 use std::marker::Model;
 
+/// How many cycles are looked at ahead: more than a line has before its HBlank.
+pub(crate) const FARTHEST: u32 = 1024;
+
 /// A place of the picture, whose line and dot are always those of one. Contracts see the position.
 #[derive(Debug, Drop)]
 pub(crate) struct Place {
@@ -23,7 +26,8 @@ impl Model for Place {
 impl Place {
     ghost use Rattle.std.specs.Prelude.{◌≡◌, ◌≤◌};
     ghost use Rattle.gba_ppu_reg.specs.Position.{IsPosition, after_cycles, cycle};
-    ghost use Rattle.gba_ppu_reg.specs.Quiet.{quiet};
+    ghost use Rattle.gba_ppu_reg.specs.Quiet.{quiet_within};
+    ghost use Rattle.gba_devices.specs.Cycles.{farthest};
     ghost use Rattle.gba_devices.specs.State.{place_at_reset};
 
     pub(crate) fn new() -> Place
@@ -48,17 +52,17 @@ impl Place {
         self.at.cycle();
     }
 
-    /// For how many cycles, 512 at most, nothing begins.
+    /// For how many cycles, 1,024 at most, nothing begins.
     pub(crate) fn quiet(&self) -> u32
-        ensures value { result ≡ quiet self.now }
-        ensures most { result ≤ 512 }
+        ensures value { result ≡ quiet_within farthest self.now }
+        ensures most { result ≤ 1024 }
     {
-        self.at.quiet()
+        self.at.quiet_within(FARTHEST)
     }
 
     /// The position after so many quiet cycles.
     pub(crate) fn after(&self, count: u32) -> Position
-        requires { count ≤ quiet self.now }
+        requires { quiet_within count self.now ≡ count }
         ensures place { result ≡ after_cycles count self.now }
         ensures sound { IsPosition result }
     {
@@ -69,7 +73,7 @@ impl Place {
 
     /// So many quiet cycles at once.
     pub(crate) fn skip(&mut self, count: u32)
-        requires { count ≤ quiet self.old }
+        requires { quiet_within count self.old ≡ count }
         ensures { self.new ≡ after_cycles count self.old }
     {
         self.at.skip(count);

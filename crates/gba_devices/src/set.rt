@@ -6,7 +6,8 @@ ghost use Rattle.gba_register.specs.Rows.{row_at};
 
 mod requests;
 
-use crate::place::Place;
+use crate::laws::skips_cycles;
+use crate::place::{FARTHEST, Place};
 use crate::registers::{Owner, merged, owner_of};
 use gba_bus::Width;
 use gba_dma::{Channel, Channels, DmaEvent, Unit};
@@ -225,6 +226,7 @@ impl DeviceSet {
         ensures place { result ≡ place_after count self.now.place }
         ensures sound { IsPosition result }
     {
+        skips_cycles();
         self.place.after(count)
     }
 
@@ -253,7 +255,7 @@ impl DeviceSet {
 
     /// The tone channels after so many quiet cycles.
     pub(crate) fn tones_after(&self, count: u32) -> Tones
-        requires { count ≤ 512 }
+        requires { count ≤ 1024 }
         ensures { result ≡ tones_after count self.now.tones }
     {
         let mut tones = self.tones;
@@ -263,7 +265,7 @@ impl DeviceSet {
 
     /// What the queues and the tone channels sound like after so many quiet cycles, left then right.
     pub(crate) fn sample_after(&self, count: u32) -> (i16, i16)
-        requires { count ≤ 512 }
+        requires { count ≤ 1024 }
         ensures left { result.0 ≡ left_sample (skipped count self.now) }
         ensures right { result.1 ≡ right_sample (skipped count self.now) }
     {
@@ -638,13 +640,13 @@ impl DeviceSet {
         self.move_place();
     }
 
-    /// For how many cycles, 512 at most, no timer overflows and nothing begins at a place.
+    /// For how many cycles, 1,024 at most, no timer overflows and nothing begins at a place.
     #[tactic(auto, unfolding(crate::specs::Cycles::quiet))]
     pub(crate) fn quiet(&self) -> u32
         ensures value { result ≡ quiet self.now }
-        ensures most { result ≤ 512 }
+        ensures most { result ≤ 1024 }
     {
-        self.timers.quiet().min(self.place.quiet())
+        self.timers.quiet_within(FARTHEST).min(self.place.quiet())
     }
 
     /// How many cycles are left before one that makes a pair of samples.
@@ -659,10 +661,11 @@ impl DeviceSet {
     #[tactic(auto, unfolding(crate::specs::Cycles::quiet))]
     pub(crate) fn skip(&mut self, count: u32)
         requires quiet { count ≤ quiet self.old }
-        requires few { count ≤ 512 }
+        requires few { count ≤ 1024 }
         requires clock { self.old.clock < 2 ^ 63 }
         ensures { self.new ≡ skipped count self.old }
     {
+        skips_cycles();
         self.clock += u64::from(count);
         self.timers.skip(count);
         self.tones.advance(count);

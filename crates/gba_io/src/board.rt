@@ -181,7 +181,7 @@ impl Board {
     /// The same where samples aren't kept, so that pairs are only counted.
     fn owe_unheard(&mut self, cycles: u32, most: u32) -> u32
         requires some { 1 ≤ cycles }
-        requires clock { self.old.core.devices.clock + 512 < 2 ^ 40 }
+        requires clock { self.old.core.devices.clock + 1024 < 2 ^ 40 }
         requires step { IsInStep self.old }
         requires unheard { self.old.made.keeps_samples ≡ false }
         ensures owed { self.new ≡ board_after (cycles * result) self.old }
@@ -202,7 +202,7 @@ impl Board {
     #[inline]
     pub fn owe_steps(&mut self, cycles: u32, most: u32) -> u32
         requires some { 1 ≤ cycles }
-        requires clock { self.old.core.devices.clock + 512 < 2 ^ 40 }
+        requires clock { self.old.core.devices.clock + 1024 < 2 ^ 40 }
         requires step { IsInStep self.old }
         ensures owed { self.new ≡ board_after (cycles * result) self.old }
         ensures idle { (steps : ℕ) → steps ≤ result → is_idle (board_after (cycles * steps) self.old).core.devices ≡ is_idle self.old.core.devices }

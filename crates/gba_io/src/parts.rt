@@ -280,7 +280,7 @@ impl Core {
     /// Moves the devices by as many of so many steps of so many cycles as nothing happens in, and answers how many.
     pub(crate) fn owe_steps(&mut self, cycles: u32, most: u32) -> u32
         requires some { 1 ≤ cycles }
-        requires clock { self.old.devices.clock + 512 < 2 ^ 40 }
+        requires clock { self.old.devices.clock + 1024 < 2 ^ 40 }
         ensures core { self.new ≡ core_after (cycles * result) self.old }
         ensures silent { makes_within (cycles * result) self.old.devices ≡ false }
         ensures idle { (steps : ℕ) → steps ≤ result → is_idle (after_cycles (cycles * steps) self.old.devices) ≡ is_idle self.old.devices }
@@ -294,12 +294,12 @@ impl Core {
     /// how many.
     pub(crate) fn owe_unheard(&mut self, cycles: u32, most: u32) -> u32
         requires some { 1 ≤ cycles }
-        requires clock { self.old.devices.clock + 512 < 2 ^ 40 }
+        requires clock { self.old.devices.clock + 1024 < 2 ^ 40 }
         ensures core { self.new ≡ core_after (cycles * result) self.old }
         ensures clock { self.new.devices.clock ≡ self.old.devices.clock + cycles * result }
         ensures lineless { draws_within (cycles * result) self.old.devices ≡ false }
         ensures idle { (steps : ℕ) → steps ≤ result → is_idle (after_cycles (cycles * steps) self.old.devices) ≡ is_idle self.old.devices }
-        ensures few { cycles * result ≤ 512 }
+        ensures few { cycles * result ≤ 1024 }
         ensures most { result ≤ most }
     {
         cycles_pass();

@@ -3,7 +3,7 @@ use Rattle.std.proofs.Common.{◌≡◌, ℕ, zero, suc, ◌+◌, ◌-◌, ◌<�
 use Rattle.std.specs.Prelude.{◌==◌, ◌||◌, min, nat_eq, nat_lt, if◌then◌else◌}
 use Rattle.gba_ppu_reg.specs.declared.position.Position.{Position}
 use Rattle.gba_ppu_reg.specs.Position.{IsPosition, after_cycles, begins_hblank, begins_line, cycle, distance}
-use Rattle.gba_ppu_reg.specs.Quiet.{QuietPlaces, comes, quiet}
+use Rattle.gba_ppu_reg.specs.Quiet.{QuietPlaces, comes, quiet_within}
 use Rattle.gba_register.proofs.Before as steps
 use Rattle.gba_ppu_reg.proofs.Moving.{comes_at}
 
@@ -28,24 +28,31 @@ one-more : (count : ℕ) (p : Position) → after_cycles (count + 1) p ≡ cycle
 unfolding after_cycles
 one-more count p = ap (λ n. after_cycles n p) (add-one count)
 
-no-hblank : (count : ℕ) (p : Position) → count < quiet p → begins_hblank (after_cycles (count + 1) p) ≡ false
-unfolding quiet
-no-hblank count p h =
+no-hblank : (most count : ℕ) (p : Position) → count < quiet_within most p → begins_hblank (after_cycles (count + 1) p) ≡ false
+unfolding quiet_within
+no-hblank most count p h =
     ap begins_hblank (one-more count p)
-    ∙ none-of _ (begins_line (cycle (after_cycles count p))) (steps.before-silent cycle after_cycles is_after comes 512 count p h)
+    ∙ none-of _ (begins_line (cycle (after_cycles count p))) (steps.before-silent cycle after_cycles is_after comes most count p h)
 
-no-line : (count : ℕ) (p : Position) → count < quiet p → begins_line (after_cycles (count + 1) p) ≡ false
-unfolding quiet
-no-line count p h =
+no-line : (most count : ℕ) (p : Position) → count < quiet_within most p → begins_line (after_cycles (count + 1) p) ≡ false
+unfolding quiet_within
+no-line most count p h =
     ap begins_line (one-more count p)
-    ∙ nor-other (begins_hblank (cycle (after_cycles count p))) _ (steps.before-silent cycle after_cycles is_after comes 512 count p h)
+    ∙ nor-other (begins_hblank (cycle (after_cycles count p))) _ (steps.before-silent cycle after_cycles is_after comes most count p h)
 
-then-comes : (p : Position) → quiet p < 512 → comes (after_cycles (quiet p) p) ≡ true
-unfolding quiet
-then-comes p h = steps.before-next cycle after_cycles is_after comes 512 p h
+then-comes : (most : ℕ) (p : Position) → quiet_within most p < most → comes (after_cycles (quiet_within most p) p) ≡ true
+unfolding quiet_within
+then-comes most p h = steps.before-next cycle after_cycles is_after comes most p h
+
+pub fewer-quiet : (most count : ℕ) (p : Position) → count ≤ quiet_within most p → quiet_within count p ≡ count
+unfolding quiet_within
+fewer-quiet most count p h =
+    steps.before-is cycle after_cycles is_after comes count count p (omega arith)
+    (λ k small. steps.before-silent cycle after_cycles is_after comes most k p (omega (arith, small, h)))
+    (λ small. absurd (omega (arith, small)))
 
 pub quiet-places : QuietPlaces
-quiet-places = record { no_hblank = no-hblank; no_line = no-line; next = then-comes }
+quiet-places = record { no_hblank = no-hblank; no_line = no-line; next = then-comes; fewer = fewer-quiet }
 
 -- the nearest event is as many cycles away as its dot
 away : Position → ℕ
@@ -68,19 +75,24 @@ just-now a b k p q h = grind arith
 some-way : (dot : ℕ) (p : Position) → p.dot < 1232 → 1 ≤ distance dot p
 some-way dot p h = grind arith
 
-pub quiet-is : (p : Position) → IsPosition p → min (min (distance 1006 p) (distance 0 p) - 1) 512 ≡ quiet p
-unfolding quiet
-quiet-is p sound =
+nearest-within : (p : Position) → p.dot < 1232 → min (distance 1006 p) (distance 0 p) < 1232
+nearest-within p h = grind arith
+
+pub quiet-is : (most : ℕ) (p : Position) → IsPosition p
+    → min (min (distance 1006 p) (distance 0 p) - 1) most ≡ quiet_within most p
+unfolding quiet_within
+quiet-is most p sound =
     let a = distance 1006 p in
     let b = distance 0 p in
-    sym (steps.before-is cycle after_cycles is_after comes 512 (min (min a b - 1) 512) p (omega arith)
-    (λ k small. comes-is k p sound.dot (omega (arith, small)) ∙ not-yet a b k (omega (arith, small)))
-    (λ small. comes-is (min (min a b - 1) 512) p sound.dot (omega (arith, small))
-    ∙ just-now a b (min (min a b - 1) 512) (some-way 1006 p sound.dot) (some-way 0 p sound.dot) (omega (arith, small))))
+    let near = nearest-within p sound.dot in
+    sym (steps.before-is cycle after_cycles is_after comes most (min (min a b - 1) most) p (omega arith)
+    (λ k small. comes-is k p sound.dot (omega (arith, small, near)) ∙ not-yet a b k (omega (arith, small)))
+    (λ small. comes-is (min (min a b - 1) most) p sound.dot (omega (arith, small, near))
+    ∙ just-now a b (min (min a b - 1) most) (some-way 1006 p sound.dot) (some-way 0 p sound.dot) (omega (arith, small))))
 
-pub skip-within : (count : ℕ) (p : Position) → IsPosition p → count ≤ quiet p → p.dot + count < 1232
+pub skip-within : (count : ℕ) (p : Position) → IsPosition p → quiet_within count p ≡ count → p.dot + count < 1232
 skip-within count p sound h =
-    let whole = quiet-is p sound in
+    let whole = quiet-is count p sound in
     ends p.dot count (omega (arith, h, whole)) sound.dot where
       ends : (dot count : ℕ) → count ≤ (if nat_lt dot 0 then 0 - dot else 0 + 1232 - dot) - 1 → dot < 1232 → dot + count < 1232
       ends dot count h k = grind arith

@@ -28,9 +28,9 @@ fn weight(place: u16, set: bool) -> u16
 }
 
 impl Position {
-    ghost use Rattle.std.specs.Prelude.{◌≡◌, ◌<◌, ◌≤◌};
+    ghost use Rattle.std.specs.Prelude.{◌≡◌, ◌<◌, ◌≤◌, ℕ};
     ghost use Rattle.gba_ppu_reg.specs.Position.{IsPosition, after_cycles, cycle, distance, events, first_cycle, flags, following_line};
-    ghost use Rattle.gba_ppu_reg.specs.Quiet.{quiet};
+    ghost use Rattle.gba_ppu_reg.specs.Quiet.{quiet, quiet_within};
 
     fn following_line(&self) -> u32
         requires { IsPosition self.now }
@@ -112,20 +112,31 @@ impl Position {
         PictureEvents { hblank, line_start }
     }
 
-    /// The greatest number of cycles from now on, 512 at most, in none of which HBlank or a line begins.
+    /// The greatest number of cycles from now on, so many at most, in none of which HBlank or a line begins.
+    pub fn quiet_within(&self, most: u32) -> u32
+        requires { IsPosition self.now }
+        ensures value { result ≡ quiet_within most self.now }
+        ensures most { result ≤ most }
+        ensures all { (count : ℕ) → count ≤ result → quiet_within count self.now ≡ count }
+    {
+        let nearest = self.distance(1006).min(self.distance(0));
+        (nearest - 1).min(most)
+    }
+
+    /// The same of 512 cycles.
     pub fn quiet(&self) -> u32
         requires { IsPosition self.now }
         ensures value { result ≡ quiet self.now }
         ensures most { result ≤ 512 }
+        ensures all { (count : ℕ) → count ≤ result → quiet_within count self.now ≡ count }
     {
-        let nearest = self.distance(1006).min(self.distance(0));
-        (nearest - 1).min(512)
+        self.quiet_within(512)
     }
 
     /// Moves by so many cycles at once, in which nothing comes.
     pub fn skip(&mut self, cycles: u32)
         requires sound { IsPosition self.old }
-        requires quiet { cycles ≤ quiet self.old }
+        requires quiet { quiet_within cycles self.old ≡ cycles }
         ensures position { self.new ≡ after_cycles cycles self.old }
         ensures sound { IsPosition self.new }
     {

@@ -71,7 +71,7 @@ run-on-from more ts on h before low =
 starts-again : (s : ℕ) → s % 0x10000 ≡ 0xffff → (s + 1) % 0x40000 % 0x10000 ≡ 0
 starts-again s e = grind (arith, e)
 
-pub passes-tick : (more : ℕ) (ts : FourTones) → ts.is_on ≡ true → AreSound ts → ts.sequencer % 0x10000 ≡ 0xffff → more < 512
+pub passes-tick : (more : ℕ) (ts : FourTones) → ts.is_on ≡ true → AreSound ts → ts.sequencer % 0x10000 ≡ 0xffff → more < 1024
     → record (run (more + 1) (ticked (counted ts))) { sequencer = (run (more + 1) (ticked (counted ts))).sequencer + more }
     ≡ after_cycles (more + 1) ts
 unfolding after_cycles

@@ -114,10 +114,10 @@ impl FourTones {
             + weight(8, self.noise.tone.on)
     }
 
-    /// Moves each channel by 512 cycles at most, in which nothing ticks.
+    /// Moves each channel by 1,024 cycles at most, in which nothing ticks.
     #[tactic(auto, unfolding(crate::specs::Running::run))]
     fn run(&mut self, cycles: u32)
-        requires most { cycles ≤ 512 }
+        requires most { cycles ≤ 1024 }
         requires sound { AreSound self.old }
         ensures { self.new ≡ run cycles self.old }
     {
@@ -169,7 +169,7 @@ impl FourTones {
     /// Moves by so many cycles while the master enable is 1, in which nothing ticks.
     fn pass(&mut self, cycles: u32)
         requires on { self.old.is_on ≡ true }
-        requires most { cycles ≤ 512 }
+        requires most { cycles ≤ 1024 }
         requires before { self.old.sequencer % 0x10000 + cycles < 0x10000 }
         requires sound { AreSound self.old }
         ensures { self.new ≡ after_cycles cycles self.old }
@@ -181,7 +181,7 @@ impl FourTones {
     /// Moves by a cycle in which something may tick, and by so many more, in which nothing does.
     fn pass_tick(&mut self, more: u32)
         requires on { self.old.is_on ≡ true }
-        requires most { more < 512 }
+        requires most { more < 1024 }
         requires before { self.old.sequencer % 0x10000 ≡ 0xffff }
         requires sound { AreSound self.old }
         ensures { self.new ≡ after_cycles (more + 1) self.old }
@@ -192,11 +192,11 @@ impl FourTones {
         self.sequencer += more;
     }
 
-    /// Moves by 512 cycles at most while the master enable is 1.
+    /// Moves by 1,024 cycles at most while the master enable is 1.
     #[inline(never)]
     fn advance_on(&mut self, cycles: u32)
         requires on { self.old.is_on ≡ true }
-        requires most { cycles ≤ 512 }
+        requires most { cycles ≤ 1024 }
         requires sound { AreSound self.old }
         ensures { self.new ≡ after_cycles cycles self.old }
     {
@@ -209,10 +209,10 @@ impl FourTones {
         }
     }
 
-    /// Moves by 512 cycles at most. Without the master enable it is one test, where it is called.
+    /// Moves by 1,024 cycles at most. Without the master enable it is one test, where it is called.
     #[inline]
     pub(crate) fn advance(&mut self, cycles: u32)
-        requires most { cycles ≤ 512 }
+        requires most { cycles ≤ 1024 }
         requires sound { AreSound self.old }
         ensures { self.new ≡ after_cycles cycles self.old }
     {
@@ -280,10 +280,10 @@ impl FourTones {
         (left, right)
     }
 
-    /// The same after 512 cycles at most, of a copy.
+    /// The same after 1,024 cycles at most, of a copy.
     #[inline(never)]
     fn amount_of_copy(&self, cycles: u32) -> (i32, i32)
-        requires most { cycles ≤ 512 }
+        requires most { cycles ≤ 1024 }
         requires sound { AreSound self.now }
         ensures left { result.0 ≡ pos (left_amount (after_cycles cycles self.now)) }
         ensures right { result.1 ≡ pos (right_amount (after_cycles cycles self.now)) }
@@ -298,7 +298,7 @@ impl FourTones {
     /// The same. Without the master enable it is one test, where it is called.
     #[inline]
     pub(crate) fn amount_after(&self, cycles: u32) -> (i32, i32)
-        requires most { cycles ≤ 512 }
+        requires most { cycles ≤ 1024 }
         requires sound { AreSound self.now }
         ensures left { result.0 ≡ pos (left_amount (after_cycles cycles self.now)) }
         ensures right { result.1 ≡ pos (right_amount (after_cycles cycles self.now)) }

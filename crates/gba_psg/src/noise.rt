@@ -107,9 +107,9 @@ impl Noise {
         }
     }
 
-    /// Moves it by 512 cycles at most, in which nothing ticks.
+    /// Moves it by 1,024 cycles at most, in which nothing ticks.
     pub(crate) fn run(&mut self, cycles: u32)
-        requires { cycles ≤ 512 }
+        requires { cycles ≤ 1024 }
         ensures { self.new ≡ noise_run cycles self.old }
     {
         if !self.tone.on {

@@ -89,9 +89,9 @@ impl Square {
         }
     }
 
-    /// Moves it by 512 cycles at most, in which nothing ticks.
+    /// Moves it by 1,024 cycles at most, in which nothing ticks.
     pub(crate) fn run(&mut self, cycles: u32)
-        requires most { cycles ≤ 512 }
+        requires most { cycles ≤ 1024 }
         requires sound { IsSoundTone 8 self.old.tone }
         ensures { self.new ≡ square_run cycles self.old }
     {

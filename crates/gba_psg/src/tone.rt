@@ -84,11 +84,11 @@ impl Tone {
     /// Lets so many cycles go by of a channel that is on, and answers how often its place moves in them.
     pub(crate) fn pass(&mut self, cycles: u32, period: u32) -> u32
         requires on { self.old.on ≡ true }
-        requires most { cycles ≤ 512 }
+        requires most { cycles ≤ 1024 }
         requires some { 0 < period }
         ensures tone { self.new ≡ record self.old { wait = wait_of period cycles self.old } }
         ensures moves { result ≡ moves_of period cycles self.old }
-        ensures few { result ≤ 513 }
+        ensures few { result ≤ 1025 }
     {
         if cycles < self.wait {
             self.wait -= cycles;

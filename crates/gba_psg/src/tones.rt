@@ -210,10 +210,10 @@ impl Tones {
         self.four.set(offset, value & write_mask(offset), starts);
     }
 
-    /// Moves the channels by 512 cycles at most.
+    /// Moves the channels by 1,024 cycles at most.
     #[inline]
     pub fn advance(&mut self, cycles: u32)
-        requires { cycles ≤ 512 }
+        requires { cycles ≤ 1024 }
         ensures { self.new ≡ after_cycles cycles self.old }
     {
         self.four.advance(cycles);
@@ -229,10 +229,10 @@ impl Tones {
         self.four.amount()
     }
 
-    /// What they will give after 512 cycles at most, if nothing is written before.
+    /// What they will give after 1,024 cycles at most, if nothing is written before.
     #[inline]
     pub fn amount_after(&self, cycles: u32) -> (i32, i32)
-        requires { cycles ≤ 512 }
+        requires { cycles ≤ 1024 }
         ensures left { result.0 ≡ pos (left_amount (after_cycles cycles self.now)) }
         ensures right { result.1 ≡ pos (right_amount (after_cycles cycles self.now)) }
         ensures most_left { left_amount (after_cycles cycles self.now) ≤ 15360 }

@@ -119,9 +119,9 @@ impl Wave {
         }
     }
 
-    /// Moves it by 512 cycles at most, in which nothing ticks.
+    /// Moves it by 1,024 cycles at most, in which nothing ticks.
     pub(crate) fn run(&mut self, cycles: u32)
-        requires most { cycles ≤ 512 }
+        requires most { cycles ≤ 1024 }
         requires sound { IsSoundTone 64 self.old.tone }
         ensures { self.new ≡ wave_run cycles self.old }
     {

@@ -99,68 +99,69 @@ above counter e = grind arith
 below_is : (counter : ℕ) → nat_le counter 0xffff ≡ true → counter ≤ 0xffff
 below_is counter e = grind arith
 
--- a timer that counts cycles, after so many that it is quiet
-next-count : (count : ℕ) (t : Timer) (low : Bool) → is_running t ≡ true → is_cascade t ≡ false → nat_le t.counter 0xffff ≡ low
-    → count + 1 ≤ own_quiet t → NextCount (prescaler t) t.counter t.reload t.phase count
-next-count count t true r k l h =
-    let within = rw (r, k, l) at h in
-    count-next (prescaler t) (is_prescaler (field t.control 0 2)) t.counter t.reload t.phase count (omega (arith, within))
-next-count count t false r k l h =
-    count-beyond (prescaler t) (is_prescaler (field t.control 0 2)) t.counter t.reload t.phase count (above t.counter l)
+module _ (most : ℕ) where
+  -- a timer that counts cycles, after so many that it is quiet
+  next-count : (count : ℕ) (t : Timer) (low : Bool) → is_running t ≡ true → is_cascade t ≡ false → nat_le t.counter 0xffff ≡ low
+      → count + 1 ≤ own_quiet most t → NextCount (prescaler t) t.counter t.reload t.phase count
+  next-count count t true r k l h =
+      let within = rw (r, k, l) at h in
+      count-next (prescaler t) (is_prescaler (field t.control 0 2)) t.counter t.reload t.phase count (omega (arith, within))
+  next-count count t false r k l h =
+      count-beyond (prescaler t) (is_prescaler (field t.control 0 2)) t.counter t.reload t.phase count (above t.counter l)
 
-next-end : (count : ℕ) (t : Timer) (low : Bool) → is_running t ≡ true → is_cascade t ≡ false → nat_le t.counter 0xffff ≡ low
-    → count + 1 ≤ own_quiet t → ends_at (prescaler t) t.counter t.phase count ≡ false
-next-end count t true r k l h =
-    let within = rw (r, k, l) at h in
-    no-overflow (prescaler t) (is_prescaler (field t.control 0 2)) t.counter t.phase count (omega (arith, within))
-next-end count t false r k l h =
-    no-overflow-beyond (prescaler t) (is_prescaler (field t.control 0 2)) t.counter t.phase count (above t.counter l)
+  next-end : (count : ℕ) (t : Timer) (low : Bool) → is_running t ≡ true → is_cascade t ≡ false → nat_le t.counter 0xffff ≡ low
+      → count + 1 ≤ own_quiet most t → ends_at (prescaler t) t.counter t.phase count ≡ false
+  next-end count t true r k l h =
+      let within = rw (r, k, l) at h in
+      no-overflow (prescaler t) (is_prescaler (field t.control 0 2)) t.counter t.phase count (omega (arith, within))
+  next-end count t false r k l h =
+      no-overflow-beyond (prescaler t) (is_prescaler (field t.control 0 2)) t.counter t.phase count (above t.counter l)
 
-cycle-skipped_by : (count : ℕ) (t : Timer) (running cascade : Bool) → is_running t ≡ running → is_cascade t ≡ cascade → count + 1 ≤ own_quiet t
-    → timer_after false (skipped_timer count t) ≡ skipped_timer (count + 1) t
-cycle-skipped_by count t false cascade r k h = rw r refl
-cycle-skipped_by count t true true r k h = rw (r, k) refl
-cycle-skipped_by count t true false r k h =
-    let p = prescaler t in
-    let pre = is_prescaler (field t.control 0 2) in
-    let counter = next-count count t (nat_le t.counter 0xffff) r k refl h in
-    let phase = phase-next p pre t.phase count in
-    rw (r, k, apart count) (λ i. record t { counter = counter i; phase = phase i })
+  cycle-skipped_by : (count : ℕ) (t : Timer) (running cascade : Bool) → is_running t ≡ running → is_cascade t ≡ cascade → count + 1 ≤ own_quiet most t
+      → timer_after false (skipped_timer count t) ≡ skipped_timer (count + 1) t
+  cycle-skipped_by count t false cascade r k h = rw r refl
+  cycle-skipped_by count t true true r k h = rw (r, k) refl
+  cycle-skipped_by count t true false r k h =
+      let p = prescaler t in
+      let pre = is_prescaler (field t.control 0 2) in
+      let counter = next-count count t (nat_le t.counter 0xffff) r k refl h in
+      let phase = phase-next p pre t.phase count in
+      rw (r, k, apart count) (λ i. record t { counter = counter i; phase = phase i })
 
-pub cycle-skipped : (count : ℕ) (t : Timer) → count + 1 ≤ own_quiet t → timer_after false (skipped_timer count t) ≡ skipped_timer (count + 1) t
-cycle-skipped count t h = cycle-skipped_by count t (is_running t) (is_cascade t) refl refl h
+  pub cycle-skipped : (count : ℕ) (t : Timer) → count + 1 ≤ own_quiet most t → timer_after false (skipped_timer count t) ≡ skipped_timer (count + 1) t
+  cycle-skipped count t h = cycle-skipped_by count t (is_running t) (is_cascade t) refl refl h
 
-overflows-skipped_by : (count : ℕ) (t : Timer) (running cascade : Bool) → is_running t ≡ running → is_cascade t ≡ cascade → count + 1 ≤ own_quiet t
-    → overflows false (skipped_timer count t) ≡ false
-overflows-skipped_by count t false cascade r k h = rw r refl
-overflows-skipped_by count t true true r k h = rw (r, k) refl
-overflows-skipped_by count t true false r k h = rw (r, k) (next-end count t (nat_le t.counter 0xffff) r k refl h)
+  overflows-skipped_by : (count : ℕ) (t : Timer) (running cascade : Bool) → is_running t ≡ running → is_cascade t ≡ cascade → count + 1 ≤ own_quiet most t
+      → overflows false (skipped_timer count t) ≡ false
+  overflows-skipped_by count t false cascade r k h = rw r refl
+  overflows-skipped_by count t true true r k h = rw (r, k) refl
+  overflows-skipped_by count t true false r k h = rw (r, k) (next-end count t (nat_le t.counter 0xffff) r k refl h)
 
-pub overflows-skipped : (count : ℕ) (t : Timer) → count + 1 ≤ own_quiet t → overflows false (skipped_timer count t) ≡ false
-overflows-skipped count t h = overflows-skipped_by count t (is_running t) (is_cascade t) refl refl h
+  pub overflows-skipped : (count : ℕ) (t : Timer) → count + 1 ≤ own_quiet most t → overflows false (skipped_timer count t) ≡ false
+  overflows-skipped count t h = overflows-skipped_by count t (is_running t) (is_cascade t) refl refl h
 
--- where it is quiet for fewer cycles than are looked at, it overflows in the next, whatever the timer below does
-few : (n : ℕ) → n ≡ 512 → n < 512 → ⊥
-few n e h = omega (arith, e, h)
+  -- where it is quiet for fewer cycles than are looked at, it overflows in the next, whatever the timer below does
+  few : (n : ℕ) → n ≡ most → n < most → ⊥
+  few n e h = omega (arith, e, h)
 
-overflows-next_by : (below : Bool) (t : Timer) (running cascade low : Bool) → is_running t ≡ running → is_cascade t ≡ cascade
-    → nat_le t.counter 0xffff ≡ low → own_quiet t < 512 → overflows below (skipped_timer (own_quiet t) t) ≡ true
-overflows-next_by below t false cascade low r k l h = absurd (few (own_quiet t) (rw r refl) h)
-overflows-next_by below t true true low r k l h = absurd (few (own_quiet t) (rw (r, k) refl) h)
-overflows-next_by below t true false false r k l h = absurd (few (own_quiet t) (rw (r, k, l) refl) h)
-overflows-next_by below t true false true r k l h =
-    let p = prescaler t in
-    let whole : own_quiet t ≡ min (left_of p t.counter t.phase) 512 = rw (r, k, l) refl in
-    let count : own_quiet t ≡ left_of p t.counter t.phase = omega (arith, whole, h) in
-    let ends = an-overflow p (is_prescaler (field t.control 0 2)) t.counter t.phase (own_quiet t) (below_is t.counter l) count in
-    let counts : overflows below (skipped_timer (own_quiet t) t) ≡ ends_at p t.counter t.phase (own_quiet t) = rw (r, k) refl in
-    counts ∙ ends
+  overflows-next_by : (below : Bool) (t : Timer) (running cascade low : Bool) → is_running t ≡ running → is_cascade t ≡ cascade
+      → nat_le t.counter 0xffff ≡ low → own_quiet most t < most → overflows below (skipped_timer (own_quiet most t) t) ≡ true
+  overflows-next_by below t false cascade low r k l h = absurd (few (own_quiet most t) (rw r refl) h)
+  overflows-next_by below t true true low r k l h = absurd (few (own_quiet most t) (rw (r, k) refl) h)
+  overflows-next_by below t true false false r k l h = absurd (few (own_quiet most t) (rw (r, k, l) refl) h)
+  overflows-next_by below t true false true r k l h =
+      let p = prescaler t in
+      let whole : own_quiet most t ≡ min (left_of p t.counter t.phase) most = rw (r, k, l) refl in
+      let count : own_quiet most t ≡ left_of p t.counter t.phase = omega (arith, whole, h) in
+      let ends = an-overflow p (is_prescaler (field t.control 0 2)) t.counter t.phase (own_quiet most t) (below_is t.counter l) count in
+      let counts : overflows below (skipped_timer (own_quiet most t) t) ≡ ends_at p t.counter t.phase (own_quiet most t) = rw (r, k) refl in
+      counts ∙ ends
 
-pub overflows-next : (below : Bool) (t : Timer) → own_quiet t < 512 → overflows below (skipped_timer (own_quiet t) t) ≡ true
-overflows-next below t h = overflows-next_by below t (is_running t) (is_cascade t) (nat_le t.counter 0xffff) refl refl refl h
+  pub overflows-next : (below : Bool) (t : Timer) → own_quiet most t < most → overflows below (skipped_timer (own_quiet most t) t) ≡ true
+  overflows-next below t h = overflows-next_by below t (is_running t) (is_cascade t) (nat_le t.counter 0xffff) refl refl refl h
 
-pub own-most : (t : Timer) → own_quiet t ≤ 512
-own-most t = grind arith
+  pub own-most : (t : Timer) → own_quiet most t ≤ most
+  own-most t = grind arith
 
 skipped-none_by : (t : Timer) (moves : Bool) → has_phase t ≡ moves → skipped_timer 0 t ≡ t
 skipped-none_by t true m = rw m refl
@@ -178,73 +179,74 @@ none-skipped ts =
     let d = skipped-none ts.timer3 in
     λ i. record { timer0 = a i; timer1 = b i; timer2 = c i; timer3 = d i }
 
--- each timer is quiet where all are
-pub record IsQuietEach (count : ℕ) (ts : FourTimers) : Type 0 where
-  pub timer0 : count ≤ own_quiet ts.timer0
-  pub timer1 : count ≤ own_quiet ts.timer1
-  pub timer2 : count ≤ own_quiet ts.timer2
-  pub timer3 : count ≤ own_quiet ts.timer3
+module _ (most : ℕ) where
+  -- each timer is quiet where all are
+  pub record IsQuietEach (count : ℕ) (ts : FourTimers) : Type 0 where
+    pub timer0 : count ≤ own_quiet most ts.timer0
+    pub timer1 : count ≤ own_quiet most ts.timer1
+    pub timer2 : count ≤ own_quiet most ts.timer2
+    pub timer3 : count ≤ own_quiet most ts.timer3
 
-pub quiet-each : (count : ℕ) (ts : FourTimers) → count ≤ own_quiets ts → IsQuietEach count ts
-quiet-each count ts h =
-    let a = own_quiet ts.timer0 in
-    let b = own_quiet ts.timer1 in
-    let c = own_quiet ts.timer2 in
-    let d = own_quiet ts.timer3 in
-    record {
-      timer0 = first count a b c d h;
-      timer1 = second count a b c d h;
-      timer2 = third count a b c d h;
-      timer3 = fourth count a b c d h;
-    } where
-      first : (n a b c d : ℕ) → n ≤ min (min a b) (min c d) → n ≤ a
-      first n a b c d h = omega arith
+  pub quiet-each : (count : ℕ) (ts : FourTimers) → count ≤ own_quiets most ts → IsQuietEach count ts
+  quiet-each count ts h =
+      let a = own_quiet most ts.timer0 in
+      let b = own_quiet most ts.timer1 in
+      let c = own_quiet most ts.timer2 in
+      let d = own_quiet most ts.timer3 in
+      record {
+        timer0 = first count a b c d h;
+        timer1 = second count a b c d h;
+        timer2 = third count a b c d h;
+        timer3 = fourth count a b c d h;
+      } where
+        first : (n a b c d : ℕ) → n ≤ min (min a b) (min c d) → n ≤ a
+        first n a b c d h = omega arith
 
-      second : (n a b c d : ℕ) → n ≤ min (min a b) (min c d) → n ≤ b
-      second n a b c d h = omega arith
+        second : (n a b c d : ℕ) → n ≤ min (min a b) (min c d) → n ≤ b
+        second n a b c d h = omega arith
 
-      third : (n a b c d : ℕ) → n ≤ min (min a b) (min c d) → n ≤ c
-      third n a b c d h = omega arith
+        third : (n a b c d : ℕ) → n ≤ min (min a b) (min c d) → n ≤ c
+        third n a b c d h = omega arith
 
-      fourth : (n a b c d : ℕ) → n ≤ min (min a b) (min c d) → n ≤ d
-      fourth n a b c d h = omega arith
+        fourth : (n a b c d : ℕ) → n ≤ min (min a b) (min c d) → n ≤ d
+        fourth n a b c d h = omega arith
 
--- in a quiet cycle no timer overflows
-pub record IsSilent (count : ℕ) (ts : FourTimers) : Type 0 where
-  pub timer0 : overflow0 (after_skip count ts) ≡ false
-  pub timer1 : overflow1 (after_skip count ts) ≡ false
-  pub timer2 : overflow2 (after_skip count ts) ≡ false
-  pub timer3 : overflow3 (after_skip count ts) ≡ false
+  -- in a quiet cycle no timer overflows
+  pub record IsSilent (count : ℕ) (ts : FourTimers) : Type 0 where
+    pub timer0 : overflow0 (after_skip count ts) ≡ false
+    pub timer1 : overflow1 (after_skip count ts) ≡ false
+    pub timer2 : overflow2 (after_skip count ts) ≡ false
+    pub timer3 : overflow3 (after_skip count ts) ≡ false
 
-pub silent-cycle : (count : ℕ) (ts : FourTimers) → count + 1 ≤ own_quiets ts → IsSilent count ts
-unfolding after_skip
-silent-cycle count ts h =
-    let each = quiet-each (count + 1) ts h in
-    let a = overflows-skipped count ts.timer0 each.timer0 in
-    let b = ap (λ below. overflows below (skipped_timer count ts.timer1)) a ∙ overflows-skipped count ts.timer1 each.timer1 in
-    let c = ap (λ below. overflows below (skipped_timer count ts.timer2)) b ∙ overflows-skipped count ts.timer2 each.timer2 in
-    let d = ap (λ below. overflows below (skipped_timer count ts.timer3)) c ∙ overflows-skipped count ts.timer3 each.timer3 in
-    record { timer0 = a; timer1 = b; timer2 = c; timer3 = d }
+  pub silent-cycle : (count : ℕ) (ts : FourTimers) → count + 1 ≤ own_quiets most ts → IsSilent count ts
+  unfolding after_skip
+  silent-cycle count ts h =
+      let each = quiet-each (count + 1) ts h in
+      let a = overflows-skipped most count ts.timer0 each.timer0 in
+      let b = ap (λ below. overflows below (skipped_timer count ts.timer1)) a ∙ overflows-skipped most count ts.timer1 each.timer1 in
+      let c = ap (λ below. overflows below (skipped_timer count ts.timer2)) b ∙ overflows-skipped most count ts.timer2 each.timer2 in
+      let d = ap (λ below. overflows below (skipped_timer count ts.timer3)) c ∙ overflows-skipped most count ts.timer3 each.timer3 in
+      record { timer0 = a; timer1 = b; timer2 = c; timer3 = d }
 
-next-skipped : (count : ℕ) (ts : FourTimers) → count + 1 ≤ own_quiets ts → cycle (after_skip count ts) ≡ after_skip (count + 1) ts
-unfolding after_skip cycle
-next-skipped count ts h =
-    let each = quiet-each (count + 1) ts h in
-    let silent = silent-cycle count ts h in
-    let a = cycle-skipped count ts.timer0 each.timer0 in
-    let b = ap (λ below. timer_after below (skipped_timer count ts.timer1)) silent.timer0 ∙ cycle-skipped count ts.timer1 each.timer1 in
-    let c = ap (λ below. timer_after below (skipped_timer count ts.timer2)) silent.timer1 ∙ cycle-skipped count ts.timer2 each.timer2 in
-    let d = ap (λ below. timer_after below (skipped_timer count ts.timer3)) silent.timer2 ∙ cycle-skipped count ts.timer3 each.timer3 in
-    λ i. record { timer0 = a i; timer1 = b i; timer2 = c i; timer3 = d i }
+  next-skipped : (count : ℕ) (ts : FourTimers) → count + 1 ≤ own_quiets most ts → cycle (after_skip count ts) ≡ after_skip (count + 1) ts
+  unfolding after_skip cycle
+  next-skipped count ts h =
+      let each = quiet-each (count + 1) ts h in
+      let silent = silent-cycle count ts h in
+      let a = cycle-skipped most count ts.timer0 each.timer0 in
+      let b = ap (λ below. timer_after below (skipped_timer count ts.timer1)) silent.timer0 ∙ cycle-skipped most count ts.timer1 each.timer1 in
+      let c = ap (λ below. timer_after below (skipped_timer count ts.timer2)) silent.timer1 ∙ cycle-skipped most count ts.timer2 each.timer2 in
+      let d = ap (λ below. timer_after below (skipped_timer count ts.timer3)) silent.timer2 ∙ cycle-skipped most count ts.timer3 each.timer3 in
+      λ i. record { timer0 = a i; timer1 = b i; timer2 = c i; timer3 = d i }
 
--- so a skip is so many cycles
-pub skip-is : (count : ℕ) (ts : FourTimers) → count ≤ own_quiets ts → after_skip count ts ≡ after_cycles count ts
-unfolding after_cycles
-skip-is zero ts h = none-skipped ts
-skip-is (suc count) ts h =
-    ap (λ n. after_skip n ts) (sym (add-one count))
-    ∙ sym (next-skipped count ts (omega (arith, h)))
-    ∙ ap cycle (skip-is count ts (omega (arith, h)))
+  -- so a skip is so many cycles
+  pub skip-is : (count : ℕ) (ts : FourTimers) → count ≤ own_quiets most ts → after_skip count ts ≡ after_cycles count ts
+  unfolding after_cycles
+  skip-is zero ts h = none-skipped ts
+  skip-is (suc count) ts h =
+      ap (λ n. after_skip n ts) (sym (add-one count))
+      ∙ sym (next-skipped count ts (omega (arith, h)))
+      ∙ ap cycle (skip-is count ts (omega (arith, h)))
 
 -- one cycle more
 pub after_cycles-more : (n : ℕ) (ts : FourTimers) → after_cycles (n + 1) ts ≡ cycle (after_cycles n ts)

@@ -19,9 +19,13 @@ overflow_at number ts =
 abbrev pub any_overflow : FourTimers → Bool
 any_overflow ts = (overflow0 ts || overflow1 ts) || (overflow2 ts || overflow3 ts)
 
--- the greatest number of cycles up to 512 in none of which any timer overflows, and in none of which a timer does
-unfoldable pub quiet : FourTimers → ℕ
-quiet ts = cycles_before any_overflow 512 ts
+-- the greatest number of cycles up to so many in none of which any timer overflows; up to 512; and those in none of which a
+-- timer does
+unfoldable pub quiet_within : ℕ → FourTimers → ℕ
+quiet_within most ts = cycles_before any_overflow most ts
+
+abbrev pub quiet : FourTimers → ℕ
+quiet ts = quiet_within 512 ts
 
 unfoldable pub quiet_of : ℕ → FourTimers → ℕ
 quiet_of number ts = cycles_before (overflow_at number) 512 ts
@@ -37,6 +41,7 @@ pub record CountsBefore : Type 0 where
   pub either : (one other : FourTimers → Bool) (most : ℕ) (ts : FourTimers)
       → cycles_before (λ t. one t || other t) most ts ≡ min (cycles_before one most ts) (cycles_before other most ts)
 
--- in the quiet cycles the marks are 0
-abbrev pub QuietMarks : Type 0
-QuietMarks = (count : ℕ) (ts : FourTimers) → count < quiet ts → overflow_mark (after_cycles count ts) ≡ 0
+-- In the quiet cycles the marks are 0, however many are looked at; and of fewer cycles than are quiet all are.
+pub record QuietMarks : Type 0 where
+  pub none : (most count : ℕ) (ts : FourTimers) → count < quiet_within most ts → overflow_mark (after_cycles count ts) ≡ 0
+  pub fewer : (most count : ℕ) (ts : FourTimers) → count ≤ quiet_within most ts → quiet_within count ts ≡ count

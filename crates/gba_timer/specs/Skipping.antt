@@ -9,12 +9,12 @@ use Rattle.gba_timer.specs.Timers.{FourTimers}
 abbrev pub phase_within : Timer → ℕ
 phase_within t = min t.phase (prescaler t - 1)
 
--- for how many cycles, 512 at most, a timer doesn't overflow where the timer below doesn't
-abbrev pub own_quiet : Timer → ℕ
-own_quiet t =
+-- for how many cycles, so many at most, a timer doesn't overflow where the timer below doesn't
+abbrev pub own_quiet : ℕ → Timer → ℕ
+own_quiet most t =
     if has_phase t && nat_le t.counter 0xffff
-    then min ((0xffff - t.counter) * prescaler t + (prescaler t - phase_within t - 1)) 512
-    else 512
+    then min ((0xffff - t.counter) * prescaler t + (prescaler t - phase_within t - 1)) most
+    else most
 
 -- whether a timer counts the overflows of the timer below
 abbrev pub follows : Timer → Bool
@@ -34,9 +34,9 @@ skipped_timer count t = record t {
 }
 
 -- the same of the four timers
-abbrev pub own_quiets : FourTimers → ℕ
-own_quiets ts =
-    min (min (own_quiet ts.timer0) (own_quiet ts.timer1)) (min (own_quiet ts.timer2) (own_quiet ts.timer3))
+abbrev pub own_quiets : ℕ → FourTimers → ℕ
+own_quiets most ts =
+    min (min (own_quiet most ts.timer0) (own_quiet most ts.timer1)) (min (own_quiet most ts.timer2) (own_quiet most ts.timer3))
 
 unfoldable pub after_skip : ℕ → FourTimers → FourTimers
 after_skip count ts = record {

@@ -122,23 +122,24 @@ impl Timer {
         self.is_running() && self.is_cascade()
     }
 
-    /// For how many cycles, 512 at most, it doesn't overflow where the timer below doesn't.
-    pub(crate) fn quiet(&self) -> u32
-        ensures value { result ≡ own_quiet self.now }
-        ensures most { result ≤ 512 }
+    /// For how many cycles, so many at most, it doesn't overflow where the timer below doesn't.
+    pub(crate) fn quiet_within(&self, most: u32) -> u32
+        ensures value { result ≡ own_quiet most self.now }
+        ensures most { result ≤ most }
     {
         if !self.is_running() || self.is_cascade() {
-            return 512;
+            return most;
         }
         let prescaler = u32::from(self.prescaler());
         let within = u32::from(self.phase).min(prescaler - 1);
         let left = (0xFFFF - u32::from(self.counter)) * prescaler + (prescaler - within - 1);
-        left.min(512)
+        left.min(most)
     }
 
     /// Moves the timer by so many cycles at once, in which it doesn't overflow.
     pub(crate) fn skip(&mut self, count: u32)
-        requires { count ≤ own_quiet self.old }
+        requires quiet { count ≤ own_quiet count self.old }
+        requires few { count ≤ 1024 }
         ensures { self.new ≡ skipped_timer count self.old }
     {
         if count == 0 || !self.is_running() || self.is_cascade() {

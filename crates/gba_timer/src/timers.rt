@@ -49,9 +49,9 @@ fn weight(place: u8, set: bool) -> u8
 }
 
 impl Timers {
-    ghost use Rattle.std.specs.Prelude.{◌≡◌, ◌≤◌, ◌<◌, length};
+    ghost use Rattle.std.specs.Prelude.{◌≡◌, ◌≤◌, ◌<◌, ℕ, length};
     ghost use Rattle.gba_timer.specs.Timers.{after_cycles, cycle, overflow_mark, requests, timer_at, timer_kept, timer_read, timer_shown, timer_written, timers_at_reset, with_marks};
-    ghost use Rattle.gba_timer.specs.Quiet.{quiet, quiet_of};
+    ghost use Rattle.gba_timer.specs.Quiet.{quiet, quiet_of, quiet_within};
 
     /// The timers at reset.
     pub fn new() -> Timers
@@ -170,14 +170,24 @@ impl Timers {
             + weight(8, bit(mark, 3) && self.timer3.asks_interrupt())
     }
 
-    /// The greatest number of cycles from now on, 512 at most, in none of which a timer overflows.
+    /// The greatest number of cycles from now on, so many at most, in none of which a timer overflows.
+    pub fn quiet_within(&self, most: u32) -> u32
+        ensures value { result ≡ quiet_within most self.now }
+        ensures most { result ≤ most }
+        ensures all { (count : ℕ) → count ≤ result → quiet_within count self.now ≡ count }
+    {
+        let lower = self.timer0.quiet_within(most).min(self.timer1.quiet_within(most));
+        let upper = self.timer2.quiet_within(most).min(self.timer3.quiet_within(most));
+        lower.min(upper)
+    }
+
+    /// The same of 512 cycles.
     pub fn quiet(&self) -> u32
         ensures value { result ≡ quiet self.now }
         ensures most { result ≤ 512 }
+        ensures all { (count : ℕ) → count ≤ result → quiet_within count self.now ≡ count }
     {
-        let lower = self.timer0.quiet().min(self.timer1.quiet());
-        let upper = self.timer2.quiet().min(self.timer3.quiet());
-        lower.min(upper)
+        self.quiet_within(512)
     }
 
     /// The same for the overflows of a timer that counts those of another: from overflow to overflow.
@@ -213,14 +223,15 @@ impl Timers {
         if one.follows() {
             self.quiet_of_follower(timer)
         } else {
-            one.quiet()
+            one.quiet_within(512)
         }
     }
 
-    /// Moves the timers by so many cycles at once, in which none overflows.
+    /// Moves the timers by so many cycles at once, 1,024 at most, in which none overflows.
     #[tactic(auto, unfolding(crate::specs::Skipping::after_skip))]
     pub fn skip(&mut self, cycles: u32)
-        requires { cycles ≤ quiet self.old }
+        requires quiet { quiet_within cycles self.old ≡ cycles }
+        requires few { cycles ≤ 1024 }
         ensures { self.new ≡ after_cycles cycles self.old }
     {
         self.timer0.skip(cycles);

@@ -7,4 +7,4 @@ pub returns-else-follows-clause-value : goal.returns-else-follows-clause-value
 returns-else-follows-clause-value c =
     let one = c.timer-one.ensures in
     let alone = ap follows (sym one) ∙ sym c.follows.ensures ∙ c.if-follows.false in
-    c.quiet.ensures.value ∙ ap own_quiet one ∙ quiet_of-is c.args.timer c.args.self.now alone
+    c.quiet_within.ensures.value ∙ ap (own_quiet 512) one ∙ quiet_of-is c.args.timer c.args.self.now alone
