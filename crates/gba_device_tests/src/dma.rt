@@ -368,3 +368,75 @@ fn a_count_of_0_is_the_longest_run(rt: HostRuntime) -> Result<(), Fail> {
     assert_eq!(rt; length_of_run(&rt, 3, 1), 1);
     Ok(())
 }
+
+/// A channel at rest that was never written.
+const IDLE: Channel = Channel {
+    source: 0,
+    target: 0,
+    count: 0,
+    control: 0,
+    active: false,
+    first: false,
+    inner_source: 0,
+    inner_target: 0,
+    left: 0,
+};
+
+/// One that feeds queue A, in the middle of four words, whose inner source isn't aligned.
+const FEEDS: Channel = Channel {
+    source: 0x0800_1234,
+    target: 0x0400_00A0,
+    count: 0x3FFF,
+    control: 0xB600,
+    active: true,
+    first: false,
+    inner_source: 0x0200_0002,
+    inner_target: 0x0400_00A0,
+    left: 2,
+};
+
+/// One that is disabled, with a first unit to come and a count that is left.
+const STOPPED: Channel = Channel {
+    first: true,
+    left: 0x1_0000,
+    ..IDLE
+};
+
+/// One that waits for VBlank.
+const WAITS: Channel = Channel {
+    control: 0x9000,
+    inner_source: 0xFFFF_FFFE,
+    inner_target: 0x0300_0000,
+    left: 1,
+    ..IDLE
+};
+
+#[test]
+fn channels_are_made_of_their_numbers(rt: HostRuntime) -> Result<(), Fail> {
+    let mut channels = Channels::of(IDLE, FEEDS, STOPPED, WAITS);
+    for (number, made) in [(0, IDLE), (1, FEEDS), (2, STOPPED), (3, WAITS)] {
+        assert_eq!(rt; channel_of(&rt, &channels, number), made);
+    }
+    // Channel 1's source, count and control as they are stored, and its control as it reads.
+    for (offset, kept) in [
+        (0x0BC, 0x1234),
+        (0x0BE, 0x0800),
+        (0x0C4, 0x3FFF),
+        (0x0C6, 0xB600),
+    ] {
+        assert_eq!(rt; channels.kept(offset), kept);
+    }
+    assert_eq!(rt; channels.read(0x0C6), 0xB600);
+    let unit = Unit {
+        channel: 1,
+        source: 0x0200_0000,
+        target: 0x0400_00A0,
+        width: Word,
+        first: false,
+    };
+    assert_eq!(rt; channels.next_unit(), Some(unit));
+    channels.trigger(VBlank);
+    assert!(rt; channel_of(&rt, &channels, 3).active);
+    assert!(rt; !channel_of(&rt, &channels, 2).active);
+    Ok(())
+}

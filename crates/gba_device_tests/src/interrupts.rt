@@ -107,3 +107,28 @@ fn keypad_asks_at_each_edge(rt: HostRuntime) -> Result<(), Fail> {
     assert_eq!(rt; keypad.read(0x134), 0);
     Ok(())
 }
+
+/// The pressed keys and KEYCNT that a keypad is made of, what KEYINPUT then reads, and whether letting the keys go and pressing
+/// them again makes the condition true.
+static MADE: [(u16, u16, u16, bool); 4] = [
+    (0x000, 0x0000, 0x3FF, false),
+    (0x201, 0x4001, 0x1FE, true),
+    (0x3FF, 0xC3FF, 0x000, true),
+    (0x201, 0xC003, 0x1FE, false),
+];
+
+#[test]
+fn keypads_are_made_of_their_numbers(rt: HostRuntime) -> Result<(), Fail> {
+    for (pressed, control, input, raised) in MADE {
+        let mut keypad = Keypad::of(pressed, control);
+        assert_eq!(rt; keypad.pressed(), pressed);
+        assert_eq!(rt; keypad.chosen(), control);
+        assert_eq!(rt; keypad.read(0x130), input);
+        assert_eq!(rt; keypad.read(0x132), control);
+        // The same keys raise nothing: the condition was what they made it.
+        assert!(rt; !keypad.set(pressed));
+        assert!(rt; !keypad.set(0));
+        assert_eq!(rt; keypad.set(pressed), raised);
+    }
+    Ok(())
+}

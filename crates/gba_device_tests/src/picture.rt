@@ -250,3 +250,38 @@ fn reference_points_grow_and_return(rt: HostRuntime) -> Result<(), Fail> {
     );
     Ok(())
 }
+
+/// Halfwords as they are stored: DISPCNT, PB and PD of background 2, its reference point's x, and BLDY.
+const STORED: [(usize, u16); 6] = [
+    (0x000, 0x0403),
+    (0x022, 0x0100),
+    (0x026, 0xFFFF),
+    (0x028, 0x0010),
+    (0x02A, 0x0001),
+    (0x054, 0x001F),
+];
+
+/// The inner points needn't be the written ones.
+#[test]
+fn picture_registers_are_made_of_their_numbers(rt: HostRuntime) -> Result<(), Fail> {
+    let mut halves = [0u16; 43];
+    for (offset, value) in STORED {
+        halves[offset / 2] = value;
+    }
+    let mut registers = PictureRegisters::of(&halves, point(5, 0), point(7, 0xFFFF_FFFF));
+    for (offset, value) in STORED {
+        assert_eq!(rt; registers.kept(offset as u32), value);
+    }
+    assert_eq!(rt; registers.kept(0x024), 0);
+    assert_eq!(rt; registers.read(0x000), 0x0403);
+    assert_eq!(rt; registers.mode(), 3);
+    assert_eq!(rt; points(&registers), (point(5, 0), point(7, 0xFFFF_FFFF)));
+    registers.next_line();
+    assert_eq!(rt;
+        points(&registers),
+        (point(0x105, 0xFFFF_FFFF), point(7, 0xFFFF_FFFF))
+    );
+    registers.reload();
+    assert_eq!(rt; points(&registers), (point(0x0001_0010, 0), point(0, 0)));
+    Ok(())
+}

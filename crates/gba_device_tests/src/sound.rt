@@ -1,6 +1,6 @@
 //! Direct sound: words pushed, overflows of timers, samples and registers.
 
-use gba_sound::{Asked, Queues};
+use gba_sound::{Asked, Queue, Queues};
 use std::process::Abort;
 use std::test::Fail;
 
@@ -213,5 +213,40 @@ fn queues_tell_their_bytes(rt: HostRuntime) -> Result<(), Fail> {
     let held = [0x22u8, 0x33, 0x44, 0x55, 0x66, 0x77, 0x88];
     assert_eq!(rt; queues.held(A), held.as_slice());
     assert_eq!(rt; queues.held(B).len(), 0);
+    Ok(())
+}
+
+/// What a queue is made of: its bytes, oldest first, and its current byte.
+static HELD: [(&[u8], u8); 4] = [
+    (&[], 0),
+    (&[1, 2, 3, 0xFF], 0x80),
+    (&[], 5),
+    (&[7; 32], 0xFE),
+];
+
+#[test]
+fn queues_are_made_of_their_numbers(rt: HostRuntime) -> Result<(), Fail> {
+    for (bytes, current) in HELD {
+        let other = Queue::of(&[9], 1);
+        let queues = Queues::of(other, Queue::of(bytes, current), 0x770F, true, 0xC3FE);
+        assert_eq!(rt; queues.held(B), bytes);
+        assert_eq!(rt; queues.current(B), current);
+        assert_eq!(rt; queues.held(A), [9].as_slice());
+        assert_eq!(rt; queues.current(A), 1);
+    }
+    let mut queues = Queues::of(
+        Queue::of(HELD[1].0, HELD[1].1),
+        Queue::of(HELD[2].0, HELD[2].1),
+        0x770F,
+        true,
+        0xC3FE,
+    );
+    for (offset, value) in [(0x082, 0x770F), (0x084, 0x0080), (0x088, 0xC3FE)] {
+        assert_eq!(rt; queues.read(offset), value);
+    }
+    // At full volume on both sides: -128 and 5, each times 64.
+    assert_eq!(rt; queues.sample(), (-7872, -7872));
+    assert_eq!(rt; queues.overflow(1), Asked { a: true, b: true });
+    assert_eq!(rt; queues.held(A), [2, 3, 0xFF].as_slice());
     Ok(())
 }

@@ -278,3 +278,44 @@ fn timers_tell_their_numbers(rt: HostRuntime) -> Result<(), Fail> {
     assert_eq!(rt; timers.timer(3).control, 0);
     Ok(())
 }
+
+/// A timer's counter, reload, control and phase.
+type Numbers = (u16, u16, u16, u16);
+
+fn timer((counter, reload, control, phase): Numbers) -> Timer {
+    Timer {
+        counter,
+        reload,
+        control,
+        phase,
+    }
+}
+
+/// What timers are made of, and what they are after a cycle: one at its last count, a cascade timer above it, one at the last
+/// cycle of 64, and one whose phase is past its 256 cycles, as after a change of its prescaler.
+static MADE: [(Numbers, Numbers); 4] = [
+    ((0xFFFF, 0x1234, 0x0080, 0), (0x1234, 0x1234, 0x0080, 0)),
+    ((5, 9, 0x0084, 40), (6, 9, 0x0084, 40)),
+    ((0x0010, 0, 0x00C1, 63), (0x0011, 0, 0x00C1, 0)),
+    ((7, 0xFFFE, 0x0082, 1023), (8, 0xFFFE, 0x0082, 0)),
+];
+
+#[test]
+fn timers_are_made_of_their_numbers(rt: HostRuntime) -> Result<(), Fail> {
+    let mut timers = Timers::of(
+        timer(MADE[0].0),
+        timer(MADE[1].0),
+        timer(MADE[2].0),
+        timer(MADE[3].0),
+    );
+    for number in 0..4u32 {
+        assert_eq!(rt; timers.timer(number), timer(MADE[number as usize].0));
+    }
+    assert_eq!(rt; timers.read(0x104), 5);
+    assert_eq!(rt; timers.kept(0x10C), 0xFFFE);
+    assert_eq!(rt; timers.cycle(), 1);
+    for number in 0..4u32 {
+        assert_eq!(rt; timers.timer(number), timer(MADE[number as usize].1));
+    }
+    Ok(())
+}

@@ -62,7 +62,7 @@ fn read_mask(offset: u32) -> u16
 impl Channels {
     ghost use Rattle.std.specs.Prelude.{◌≡◌, ◌<◌, IfSome};
     ghost use Rattle.gba_dma.specs.Channels.{after_lowest_unit, after_trigger, after_unit_at, channel_at, channels_at_reset, dma_kept, dma_read, dma_written, interrupt_at, is_moving, lowest_active, lowest_interrupt, next_unit};
-    ghost use Rattle.gba_dma.specs.Consistency.{HasRun};
+    ghost use Rattle.gba_dma.specs.Consistency.{AreConsistent, HasRun};
 
     /// The channels at reset.
     pub fn new() -> Channels
@@ -73,6 +73,24 @@ impl Channels {
             channel1: IDLE,
             channel2: IDLE,
             channel3: IDLE,
+        }
+    }
+
+    /// The channels with these numbers: an active one has to be enabled, and an enabled one to have units left.
+    pub fn of(
+        channel0: Channel,
+        channel1: Channel,
+        channel2: Channel,
+        channel3: Channel,
+    ) -> Channels
+        requires { AreConsistent (record { channel0 = channel0; channel1 = channel1; channel2 = channel2; channel3 = channel3 }) }
+        ensures { result ≡ record { channel0 = channel0; channel1 = channel1; channel2 = channel2; channel3 = channel3 } }
+    {
+        Channels {
+            channel0,
+            channel1,
+            channel2,
+            channel3,
         }
     }
 

@@ -1,3 +1,4 @@
 pub mod Flash
 pub mod Soundness
 pub mod Laws
+pub mod Replacing

@@ -156,6 +156,7 @@ impl Model for Flash {
 impl Flash {
     ghost use Rattle.std.specs.Prelude.{true, vec_len};
     ghost use Rattle.gba_flash.specs.Flash.{bytes_after, flash_at_first, flash_read, flash_written, is_flash, place_in, programmed};
+    ghost use Rattle.gba_flash.specs.Replacing.{with_bytes};
     ghost use Rattle.gba_flash.specs.Soundness.{IsSoundMachine};
     ghost use Rattle.gba_image.specs.Backups.{backup_length};
 
@@ -204,6 +205,14 @@ impl Flash {
         ensures { self.new ≡ record self.old { machine = machine } }
     {
         self.machine = machine;
+    }
+
+    /// Replaces bytes from a place on, as no program can: they are no command.
+    pub fn set_bytes(&mut self, place: usize, bytes: &[u8])
+        requires { place + length bytes.now ≤ backup_length self.old.backup }
+        ensures { self.new ≡ record self.old { bytes = with_bytes place bytes.now self.old.bytes } }
+    {
+        self.bytes.as_mut_slice()[place..place + bytes.len()].copy_from_slice(bytes);
     }
 
     /// Which flash it is.

@@ -58,6 +58,13 @@ impl Keypad {
         }
     }
 
+    /// The keypad with these keys pressed, 1 for pressed, and this KEYCNT.
+    pub fn of(pressed: u16, control: u16) -> Keypad
+        ensures { result ≡ record { pressed = pressed; control = control } }
+    {
+        Keypad { pressed, control }
+    }
+
     /// The pressed keys, 1 for pressed.
     pub fn pressed(&self) -> u16
         ensures { result ≡ self.now.pressed }

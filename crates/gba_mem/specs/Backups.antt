@@ -1,5 +1,6 @@
 use Rattle.std.specs.Prelude.{ℕ, List, Option, Some, None, slice_index, slice_set}
 use Rattle.gba_flash.specs.Flash.{FlashMemory, flash_at_first, flash_read, flash_written}
+use Rattle.gba_flash.specs.Replacing.{with_bytes}
 use Rattle.gba_flash.specs.declared.machine.FlashMachine.{FlashMachine}
 use Rattle.gba_image.specs.declared.backup.Backup.{Backup}
 use Rattle.gba_image.specs.declared.backup.Backup.TheVariants.{Sram, Flash64, Flash128}
@@ -44,3 +45,8 @@ flash_machine (InFlash flash) = Some flash.machine
 abbrev pub with_machine : FlashMachine → BackupMemory → BackupMemory
 with_machine machine (InSram bytes) = InSram bytes
 with_machine machine (InFlash flash) = InFlash (record flash { machine = machine })
+
+-- the same, where bytes are replaced from a place on
+abbrev pub with_backup_bytes : ℕ → List ℕ → BackupMemory → BackupMemory
+with_backup_bytes place new (InSram bytes) = InSram (with_bytes place new bytes)
+with_backup_bytes place new (InFlash flash) = InFlash (record flash { bytes = with_bytes place new flash.bytes })

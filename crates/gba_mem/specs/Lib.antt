@@ -8,3 +8,4 @@ pub mod Video
 pub mod Wide
 pub mod Views
 pub mod BackupLaw
+pub mod Replacing

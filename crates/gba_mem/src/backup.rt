@@ -44,7 +44,8 @@ impl Model for Sram {
 }
 
 impl Sram {
-    ghost use Rattle.std.specs.Prelude.{◌≡◌, length, slice_index, slice_set, vec_len};
+    ghost use Rattle.std.specs.Prelude.{◌≡◌, ◌+◌, ◌≤◌, length, slice_index, slice_set, vec_len};
+    ghost use Rattle.gba_flash.specs.Replacing.{with_bytes};
     ghost use Rattle.gba_mem.specs.Places.{sram_place};
 
     fn new(bytes: Vec<u8>) -> Sram
@@ -59,6 +60,13 @@ impl Sram {
         ensures length { length result.now ≡ 0x8000 }
     {
         self.bytes.as_slice()
+    }
+
+    fn set_bytes(&mut self, place: usize, bytes: &[u8])
+        requires { place + length bytes.now ≤ 0x8000 }
+        ensures { self.new ≡ with_bytes place bytes.now self.old }
+    {
+        self.bytes.as_mut_slice()[place..place + bytes.len()].copy_from_slice(bytes);
     }
 
     fn read(&self, address: u32) -> u8
@@ -82,10 +90,10 @@ pub(crate) enum BackupChip {
 }
 
 impl BackupChip {
-    ghost use Rattle.std.specs.Prelude.{◌≡◌, IfSome, length, vec_len};
+    ghost use Rattle.std.specs.Prelude.{◌≡◌, ◌+◌, ◌≤◌, IfSome, length, vec_len};
     ghost use Rattle.gba_flash.specs.Soundness.{IsSoundMachine};
     ghost use Rattle.gba_image.specs.Backups.{backup_length};
-    ghost use Rattle.gba_mem.specs.Backups.{backup_at_start, backup_byte, backup_bytes, backup_of, backup_written, flash_machine, with_machine};
+    ghost use Rattle.gba_mem.specs.Backups.{backup_at_start, backup_byte, backup_bytes, backup_of, backup_written, flash_machine, with_backup_bytes, with_machine};
     ghost use Rattle.gba_mem.specs.Views.{backup_value};
 
     /// A chip with these bytes, as many as it has.
@@ -146,6 +154,17 @@ impl BackupChip {
         match self {
             BackupChip::Sram(_) => None,
             BackupChip::Flash(flash) => Some(flash.machine()),
+        }
+    }
+
+    /// Replaces bytes from a place on.
+    pub(crate) fn set_bytes(&mut self, place: usize, bytes: &[u8])
+        requires { place + length bytes.now ≤ backup_length (backup_of (backup_value self.old)) }
+        ensures { backup_value self.new ≡ with_backup_bytes place bytes.now (backup_value self.old) }
+    {
+        match self {
+            BackupChip::Sram(sram) => sram.set_bytes(place, bytes),
+            BackupChip::Flash(flash) => flash.set_bytes(place, bytes),
         }
     }
 

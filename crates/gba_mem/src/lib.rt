@@ -5,9 +5,11 @@ mod backup;
 pub mod laws;
 mod memory;
 mod numbers;
+mod part;
 mod places;
 mod start;
 mod unchanged;
 
 pub use memory::Memory;
+pub use part::MemoryPart;
 pub use unchanged::is_in_video;

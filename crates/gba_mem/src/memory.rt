@@ -4,6 +4,8 @@ ghost use Rattle.std.specs.Prelude.{◌≡◌, ◌≤◌, [], unwrap_or, vec_len
 ghost use Rattle.gba_bus.specs.Regions.{region_of};
 ghost use Rattle.gba_mem.specs.Loads.{is_bios, is_inner, is_rom};
 
+mod replacing;
+
 use crate::backup::{BackupChip, saved};
 use crate::numbers::{length_of, number, put, put_twice, repeated};
 use crate::places;

@@ -1,14 +1,15 @@
 //! What each address reads and stores.
 
-ghost use Rattle.std.specs.Prelude.{IsTrue};
+ghost use Rattle.std.specs.Prelude.{◌≡◌, IsTrue, length};
 ghost use Rattle.gba_flash.specs.Soundness.{IsSoundMachine};
+ghost use Rattle.gba_mem.specs.Replacing.{part_length};
 
 use crate::fits;
 use crate::images::{HEADER, image};
 use gba_bus::Width::{self, Byte, Half, Word};
 use gba_flash::{FlashMachine, FlashState};
 use gba_image::{Backup, Bios, Cartridge, ConsoleImages, Save};
-use gba_mem::Memory;
+use gba_mem::{Memory, MemoryPart};
 use std::alloc::Global;
 use std::process::Abort;
 use std::test::Fail;
@@ -470,5 +471,92 @@ fn flashes_start_as_their_save(rt: HostRuntime) -> Result<(), Fail> {
     ];
     play(&rt, &mut memory, &reads);
     assert_eq!(rt; memory.backup_bytes().last().copied(), Some(0x6B));
+    Ok(())
+}
+
+fn bytes_of(memory: &Memory, part: MemoryPart) -> &[u8]
+    ensures { length result.now ≡ part_length part memory.now }
+{
+    match part {
+        MemoryPart::Work => memory.work(),
+        MemoryPart::Inner => memory.inner(),
+        MemoryPart::Palette => memory.palette(),
+        MemoryPart::Vram => memory.vram(),
+        MemoryPart::Oam => memory.oam(),
+        MemoryPart::Backup => memory.backup_bytes(),
+    }
+}
+
+/// Replaces bytes that are within a memory.
+fn replace<R: Abort>(rt: &R, memory: &mut Memory, part: MemoryPart, place: usize, bytes: &[u8; 4]) {
+    let length = bytes_of(memory, part).len();
+    assert!(rt; place < length && length - place >= 4);
+    memory.set_bytes(part, place, bytes);
+}
+
+/// Two places of each memory that take four bytes, mostly the first and the last, and what a byte that was never written is.
+static REPLACED: [(MemoryPart, usize, usize, u8); 7] = [
+    (MemoryPart::Work, 0, 0x3_FFFC, 0),
+    (MemoryPart::Inner, 0, 0x7FFC, 0),
+    (MemoryPart::Palette, 0, 0x3FC, 0),
+    (MemoryPart::Vram, 0, 0x1_7FFC, 0),
+    (MemoryPart::Oam, 0, 0x3FC, 0),
+    (MemoryPart::Backup, 0, 0x7FFC, 0xFF),
+    (MemoryPart::Backup, 0x1234, 0x5678, 0xFF),
+];
+
+/// Bytes are replaced where they are asked for, and their neighbours stay.
+#[test]
+fn bytes_are_replaced(rt: HostRuntime) -> Result<(), Fail> {
+    for &(part, first, last, other) in &REPLACED {
+        let mut memory = memories(&rt, rt.alloc(), None, None)?;
+        replace(&rt, &mut memory, part, first, &[0x11, 0x22, 0x33, 0x44]);
+        replace(&rt, &mut memory, part, last, &[0x55, 0x66, 0x77, 0x88]);
+        let bytes = bytes_of(&memory, part);
+        let wanted = [
+            (first, 0x11),
+            (first.saturating_add(3), 0x44),
+            (first.saturating_add(4), other),
+            (last.saturating_sub(1), other),
+            (last, 0x55),
+            (last.saturating_add(3), 0x88),
+        ];
+        for (place, byte) in wanted {
+            assert_eq!(rt; bytes.get(place).copied(), Some(byte), "at {place}");
+        }
+    }
+    Ok(())
+}
+
+/// Loads see them, also where a program's write of a byte would be dropped or doubled.
+#[test]
+fn replaced_bytes_are_read(rt: HostRuntime) -> Result<(), Fail> {
+    let mut memory = memories(&rt, rt.alloc(), None, None)?;
+    let bytes = [0x11, 0x22, 0x33, 0x44];
+    replace(&rt, &mut memory, MemoryPart::Work, 0x3_FFFC, &bytes);
+    replace(&rt, &mut memory, MemoryPart::Oam, 4, &bytes);
+    replace(&rt, &mut memory, MemoryPart::Palette, 1, &bytes);
+    let reads = [
+        Reads(0x0203_FFFC, Word, 0x4433_2211),
+        Reads(0x0700_0004, Half, 0x2211),
+        Reads(0x0500_0000, Word, 0x3322_1100),
+        Reads(0x0500_0004, Byte, 0x44),
+    ];
+    play(&rt, &mut memory, &reads);
+    Ok(())
+}
+
+/// The bytes of a flash are replaced in both banks, and no command is begun or ended by them.
+#[test]
+fn bytes_of_a_flash_are_no_command(rt: HostRuntime) -> Result<(), Fail> {
+    let mut memory = memories_of(&rt, rt.alloc(), None, None, Backup::Flash128)?;
+    play(&rt, &mut memory, &[Store(0, 0x0E00_5555, Byte, 0xAA)]);
+    let machine = memory.flash_machine();
+    let bytes = [0x55, 0x66, 0x77, 0x88];
+    replace(&rt, &mut memory, MemoryPart::Backup, 0x2AAA, &bytes);
+    replace(&rt, &mut memory, MemoryPart::Backup, 0x1_FFFC, &bytes);
+    assert_eq!(rt; memory.flash_machine(), machine);
+    assert_eq!(rt; memory.backup_bytes().last().copied(), Some(0x88));
+    play(&rt, &mut memory, &[Reads(0x0E00_2AAA, Byte, 0x55)]);
     Ok(())
 }

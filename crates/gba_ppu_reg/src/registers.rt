@@ -85,6 +85,18 @@ impl PictureRegisters {
         }
     }
 
+    /// The registers with these halfwords, from DISPCNT 000h to BLDY 054h in the order of their offsets, also where there is no
+    /// register, and these inner reference points of backgrounds 2 and 3, which needn't be the written ones.
+    pub fn of(halves: &[u16; 43], reference2: Reference, reference3: Reference) -> PictureRegisters
+        ensures { result ≡ record { halves = halves.now; reference2 = reference2; reference3 = reference3 } }
+    {
+        PictureRegisters {
+            halves: *halves,
+            reference2,
+            reference3,
+        }
+    }
+
     /// What is stored in the halfword at an offset from 04000000h, which is also what a byte write keeps of the other byte.
     /// 0 where there is no register.
     pub fn kept(&self, offset: u32) -> u16

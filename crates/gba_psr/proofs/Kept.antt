@@ -53,3 +53,18 @@ arrangement-set numbers kept place value count within apart here =
     ∙ get_or-arrangement numbers q below
     ∙ sym (get_or-set_other numbers kept (seat mode q) value 0 elsewhere))
     (cases_eq q place)))
+
+-- The numbers of a file are kept once the mode's own have been exchanged with the user's.
+pub status-exchanged : (file kept : List ℕ) → ((place : ℕ) → place < 37 → get_or kept place 0 ≡ get_or file (seat (kept_mode file) place) 0)
+    → get_or kept 31 0 ≡ get_or file 31 0
+status-exchanged file kept exchanged = exchanged 31 (omega arith) ∙ ap (λ (p : ℕ). get_or file p 0) (seat-status (kept_mode file))
+
+pub arrangement-exchanged : (file kept : List ℕ) → length file ≡ 37
+    → ((place : ℕ) → place < 37 → get_or kept place 0 ≡ get_or file (seat (kept_mode file) place) 0) → arrangement kept ≡ file
+arrangement-exchanged file kept count exchanged =
+    let mode = kept_mode file in
+    let same : kept_mode kept ≡ mode = ap mode_of (status-exchanged file kept exchanged) in
+    arranged_is kept file count
+    (λ place within.
+    rw same
+    (sym (exchanged (seat mode place) (seat_within mode place within) ∙ ap (λ (p : ℕ). get_or file p 0) (seat-seat mode place))))

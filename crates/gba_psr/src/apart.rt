@@ -1,8 +1,9 @@
 //! The register file with its flags kept apart, so that an operation with S packs none.
 
-ghost use Rattle.std.specs.Prelude.{◌≡◌, ◌<◌, ◌==◌};
+ghost use Rattle.std.specs.Prelude.{◌≡◌, ◌<◌, ◌==◌, slice_index};
 ghost use Rattle.gba_terms.specs.Bits.{bit};
 ghost use Rattle.gba_psr.specs.Entry.{after_entry, after_leave};
+ghost use Rattle.gba_psr.specs.Status.{IsStatus};
 ghost use Rattle.gba_psr.specs.RegisterFile.{
   IsRegisterFile,
   flags,
@@ -47,6 +48,15 @@ impl RegisterFile {
         ensures { result ≡ reset_file }
     {
         part(Registers::reset())
+    }
+
+    /// The registers of these numbers, in the order of [`RegisterFile::all`]. CPSR has to have no bits but the stored ones, and
+    /// one of the seven modes.
+    pub fn of(numbers: &[u32; 37]) -> RegisterFile
+        requires { IsStatus (slice_index numbers.now 31) }
+        ensures { result ≡ numbers.now }
+    {
+        part(Registers::of(numbers))
     }
 
     /// Register `number` in the present mode.

@@ -53,6 +53,16 @@ impl Registers {
         Registers { numbers }
     }
 
+    /// The registers of these numbers, in the order of [`Registers::all`].
+    pub fn of(numbers: &[u32; 37]) -> Registers
+        requires { IsStatus (slice_index numbers.now 31) }
+        ensures { result ≡ numbers.now }
+    {
+        let mut kept = *numbers;
+        exchange(&mut kept, bits(numbers[CPSR], 0, 5));
+        Registers { numbers: kept }
+    }
+
     /// Register `number` in the present mode.
     pub fn get(&self, number: u32) -> u32
         requires { number < 16 }

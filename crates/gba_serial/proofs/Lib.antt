@@ -4,3 +4,4 @@ pub mod Seats
 pub mod Lengths
 pub mod Going
 pub mod Apart
+pub mod Making

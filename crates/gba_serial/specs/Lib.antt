@@ -9,3 +9,4 @@ pub mod Numbers
 pub mod Steps
 pub mod Law
 pub mod Apart
+pub mod Making

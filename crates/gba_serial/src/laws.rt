@@ -2,6 +2,7 @@
 
 ghost use Rattle.gba_serial.specs.Apart.{EndsApart, StaysQuiet};
 ghost use Rattle.gba_serial.specs.Law.{StartsInTime, StaysSeated, TellsOnce, TransfersGoOn, WritesKeepTransfers};
+ghost use Rattle.gba_serial.specs.Making.{MadeAgain};
 
 /// A signal bears the clock at which its step began, and its parts fit their widths. Nothing is told twice.
 pub fn tells_once()
@@ -37,4 +38,9 @@ pub fn ends_apart()
 /// Nothing ends before the next end, and nothing falls silent that has nothing to tell.
 pub fn stays_quiet()
     ensures { StaysQuiet }
+{}
+
+/// What a unit has makes it again, but for what it had to tell.
+pub fn made_again()
+    ensures { MadeAgain }
 {}

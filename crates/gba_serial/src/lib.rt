@@ -7,5 +7,5 @@ mod serial;
 mod timing;
 mod transfer;
 
-pub use serial::Serial;
-pub use transfer::Transfer;
+pub use serial::{Seat, Serial, SerialRegisters, players_of_mask};
+pub use transfer::{Running, Transfer};

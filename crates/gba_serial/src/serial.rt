@@ -1,6 +1,7 @@
 //! One console's serial unit.
 
 mod ending;
+mod making;
 mod numbers;
 mod registers;
 mod taking;
@@ -11,6 +12,7 @@ use crate::timing::{is_multi, mode_by};
 use crate::transfer::Running;
 use gba_word::bits;
 use link_node::{LinkMode, Start};
+pub use making::{Seat, SerialRegisters, players_of_mask};
 use std::marker::Model;
 
 /// One console's serial unit (GBATEK, GBA Communication Ports): the modes Normal (8 and 32 bits) and Multi, over a cable

@@ -1,6 +1,6 @@
 //! The serial unit: one unit by moves, and units that are joined by hand.
 
-use gba_serial::{Serial, Transfer};
+use gba_serial::{Running, Seat, Serial, SerialRegisters, Transfer, players_of_mask};
 use link_node::LinkMode::{self, Multi, Normal8, Normal32, Other};
 use link_node::{Incoming, Signal, Start};
 use std::process::Abort;
@@ -944,6 +944,181 @@ fn four_consoles_exchange_words(rt: HostRuntime) -> Result<(), Fail> {
                 interrupt: false,
             },
         );
+    }
+    Ok(())
+}
+
+/// A unit's registers in Multi with the interrupt, at speed 3, in a transfer, after an error.
+const IN_MULTI: SerialRegisters = SerialRegisters {
+    control: 0x6083,
+    error: true,
+    select: 0,
+    send: 0x5678,
+    words: [0x1234, 0xFFFF, 0xFFFF, 0xFFFF],
+};
+
+/// A transfer that player 0 started, and for which it has its own word alone.
+const OWN_WORD: Running = Running {
+    starter: true,
+    end: 6220,
+    sent: 0x1234,
+    word: 0,
+    got: [true, false, false, false],
+};
+
+/// Registers in Normal with 32 bits and the outside clock.
+const IN_NORMAL: SerialRegisters = SerialRegisters {
+    control: 0x1088,
+    error: false,
+    select: 0x4000,
+    send: 0xA5A5,
+    words: [0x2211, 0x4433, 0x6655, 0x8877],
+};
+
+/// A transfer that player 0 started and player 1 answers. Its end needn't be one that its speed gives.
+const ANSWERING: Running = Running {
+    starter: false,
+    end: 7,
+    sent: 0x4433_2211,
+    word: 0xDDCC_BBAA,
+    got: [true, false, false, false],
+};
+
+/// A unit's seat, registers, known modes and transfer, and what holds of it.
+type Made = (
+    Seat,
+    SerialRegisters,
+    [LinkMode; 4],
+    Option<Running>,
+    &'static [Move],
+);
+
+static MADE: [Made; 4] = [
+    (
+        Seat {
+            player: 0,
+            count: 2,
+            round: 1024,
+        },
+        IN_MULTI,
+        [Other, Multi, Other, Other],
+        Some(OWN_WORD),
+        &[
+            Reads(SIODATA0, 0x1234),
+            Reads(SIODATA3, 0xFFFF),
+            Reads(SIOCNT, 0x60CB),
+            Stored(0x60C3),
+            Reads(SEND, 0x5678),
+            Runs(true, 6220, 1, 0x1234, 0),
+            Silent(1003),
+            Reply(2000, 1, Multi, 0xABCD),
+            Runs(true, 6220, 3, 0x1234, 0),
+            Ends(Transfer {
+                end: 6220,
+                mode: Multi,
+                words: [0x1234, 0xABCD, 0xFFFF, 0xFFFF],
+                sent: 0x1234,
+                got: 0,
+                error: false,
+                interrupt: true,
+            }),
+            Reads(SIOCNT, 0x600B),
+        ],
+    ),
+    (
+        Seat {
+            player: 1,
+            count: 3,
+            round: 2,
+        },
+        IN_NORMAL,
+        [Normal32, Other, Multi, Other],
+        Some(ANSWERING),
+        &[
+            Reads(SIODATA0, 0x2211),
+            Reads(SIODATA1, 0x4433),
+            Reads(RCNT, 0x4000),
+            Reads(SIOCNT, 0x1088),
+            Stored(0x1088),
+            Runs(false, 7, 1, 0x4433_2211, 0xDDCC_BBAA),
+            Silent(6),
+            Ends(Transfer {
+                end: 7,
+                mode: Normal32,
+                words: [0; 4],
+                sent: 0x4433_2211,
+                got: 0xDDCC_BBAA,
+                error: false,
+                interrupt: false,
+            }),
+            Reads(SIODATA0, 0xBBAA),
+            Reads(SIODATA1, 0xDDCC),
+            Idle,
+        ],
+    ),
+    (
+        Seat {
+            player: 3,
+            count: 4,
+            round: 2048,
+        },
+        SerialRegisters {
+            control: 0x2000,
+            error: true,
+            select: 0x8000,
+            send: 0,
+            words: [1, 2, 3, 4],
+        },
+        [Multi, Multi, Multi, Other],
+        None,
+        &[Idle, Silent(0), Stored(0x2040), Reads(RCNT, 0x8000)],
+    ),
+    (
+        Seat {
+            player: 2,
+            count: 4,
+            round: 2048,
+        },
+        SerialRegisters {
+            control: 0x2000,
+            error: false,
+            select: 0,
+            send: 0,
+            words: [1, 2, 3, 4],
+        },
+        [Multi, Multi, Other, Multi],
+        None,
+        &[Idle, Silent(0), Reads(SIOCNT, 0x202C), Reads(SIODATA2, 3)],
+    ),
+];
+
+fn made<R: Abort>(
+    rt: &R,
+    seat: Seat,
+    registers: SerialRegisters,
+    known: [LinkMode; 4],
+    run: Option<Running>,
+) -> Serial {
+    assert!(rt; seat.player < seat.count && seat.count <= 4 && seat.round <= 2048);
+    Serial::of(seat, registers, known, run)
+}
+
+#[test]
+fn units_are_made_of_their_numbers(rt: HostRuntime) -> Result<(), Fail> {
+    for &(seat, registers, known, run, moves) in &MADE {
+        let mut unit = made(&rt, seat, registers, known, run);
+        assert_eq!(rt; unit.seat(), seat);
+        assert_eq!(rt; unit.player(), seat.player);
+        for player in 0..4u32 {
+            assert_eq!(rt; unit.known(player), known[player as usize]);
+        }
+        play(&rt, &mut unit, moves);
+    }
+    for mask in 0..16u32 {
+        let got = players_of_mask(mask);
+        let run = Running { got, ..OWN_WORD };
+        let unit = made(&rt, MADE[0].0, IN_MULTI, MADE[0].2, Some(run));
+        assert_eq!(rt; unit.got(), mask);
     }
     Ok(())
 }

@@ -6,4 +6,5 @@ mod queue;
 mod queues;
 
 pub use asked::Asked;
+pub use queue::Queue;
 pub use queues::Queues;

@@ -9,7 +9,7 @@ use std::marker::Model;
 /// A queue of direct sound (GBATEK, GBA Sound Channel A and B): 32 bytes at most, which are signed samples, oldest first,
 /// and the current byte.
 #[derive(Debug, Drop)]
-pub(crate) struct Queue {
+pub struct Queue {
     bytes: ArrayVec<u8, 32>,
     current: u8,
 }
@@ -33,6 +33,21 @@ impl Queue {
         Queue {
             bytes: ArrayVec::new(),
             current: 0,
+        }
+    }
+
+    /// A queue that holds these bytes, oldest first, and has this current byte.
+    pub fn of(bytes: &[u8], current: u8) -> Queue
+        requires { length bytes.now ≤ 32 }
+        ensures { result ≡ record { bytes = bytes.now; current = current } }
+    {
+        let mut held = ArrayVec::new();
+        match held.try_extend_from_slice(bytes) {
+            Ok(()) => Queue {
+                bytes: held,
+                current,
+            },
+            Err(_) => unreachable!(),
         }
     }
 

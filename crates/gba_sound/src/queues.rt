@@ -72,6 +72,19 @@ impl Queues {
         }
     }
 
+    /// Direct sound with these queues, whatever SOUNDCNT_H is as it is stored, the master enable, and SOUNDBIAS.
+    pub fn of(queue_a: Queue, queue_b: Queue, control: u16, is_on: bool, bias: u16) -> Queues
+        ensures { result ≡ record { queue_a = queue_a; queue_b = queue_b; control = control; is_on = is_on; bias = bias } }
+    {
+        Queues {
+            queue_a,
+            queue_b,
+            control,
+            is_on,
+            bias,
+        }
+    }
+
     /// The current byte of a queue, a signed sample.
     pub fn current(&self, queue: u32) -> u8
         requires { queue < 2 }

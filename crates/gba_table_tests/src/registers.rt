@@ -1,6 +1,9 @@
 //! Registers, their banks and status registers by hand.
 
+ghost use Rattle.std.specs.Prelude.{◌≡◌, slice_index};
+
 use gba_psr::*;
+use std::process::Abort;
 
 static MODES: [u32; 7] = [0x10, 0x11, 0x12, 0x13, 0x17, 0x1b, 0x1f];
 
@@ -190,4 +193,48 @@ fn exceptions_enter_and_leave(rt: HostRuntime) {
         registers.leave();
         assert_eq!(rt; registers.cpsr(), before, "{kind:?}");
     }
+}
+
+// Numbers that tell their places, but for this CPSR.
+fn numbers(status: u32) -> [u32; 37]
+    ensures { slice_index result 31 ≡ status }
+{
+    [
+        0, 1, 2, 3, 4, 5, 6, 7, 8, 9, 10, 11, 12, 13, 14, 15, 16, 17, 18, 19, 20, 21, 22, 23, 24,
+        25, 26, 27, 28, 29, 30, status, 32, 33, 34, 35, 36,
+    ]
+}
+
+// What stands in r8, r13, r14 and SPSR, and in r8 once FIQ is entered.
+fn sees<R: Abort>(rt: &R, mut registers: Registers, status: u32, seen: [u32; 4]) {
+    assert_eq!(rt; registers.cpsr(), status);
+    assert_eq!(rt; registers.all(), numbers(status));
+    for (number, want) in [(8, seen[0]), (13, seen[1]), (14, seen[2])] {
+        assert_eq!(rt; registers.get(number), want, "r{number} in {status:x}");
+    }
+    assert_eq!(rt; registers.spsr(), seen[3], "in {status:x}");
+    assert_eq!(rt; registers.get(15), 15);
+    assert_eq!(rt; registers.user_get(13), 13);
+    assert_eq!(rt; registers.flags().negative, status >= 0x8000_0000);
+    registers.set_cpsr(0x11);
+    assert_eq!(rt; registers.get(8), 16);
+    assert_eq!(rt; registers.user_get(8), 8);
+}
+
+#[test]
+fn registers_are_made_of_their_numbers(rt: HostRuntime) {
+    let user = Registers::of(&numbers(0x1000_0010));
+    sees(&rt, user, 0x1000_0010, [8, 13, 14, 0x1000_0010]);
+    let fiq = Registers::of(&numbers(0x2000_0011));
+    sees(&rt, fiq, 0x2000_0011, [16, 21, 22, 32]);
+    let irq = Registers::of(&numbers(0x4000_0092));
+    sees(&rt, irq, 0x4000_0092, [8, 23, 24, 33]);
+    let svc = Registers::of(&numbers(0x8000_00d3));
+    sees(&rt, svc, 0x8000_00d3, [8, 25, 26, 34]);
+    let abt = Registers::of(&numbers(0xf000_00f7));
+    sees(&rt, abt, 0xf000_00f7, [8, 27, 28, 35]);
+    let und = Registers::of(&numbers(0x0000_003b));
+    sees(&rt, und, 0x0000_003b, [8, 29, 30, 36]);
+    let system = Registers::of(&numbers(0x6000_001f));
+    sees(&rt, system, 0x6000_001f, [8, 13, 14, 0x6000_001f]);
 }

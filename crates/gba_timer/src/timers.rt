@@ -65,6 +65,18 @@ impl Timers {
         }
     }
 
+    /// The timers with these numbers, whatever they are.
+    pub fn of(timer0: Timer, timer1: Timer, timer2: Timer, timer3: Timer) -> Timers
+        ensures { result ≡ record { timer0 = timer0; timer1 = timer1; timer2 = timer2; timer3 = timer3 } }
+    {
+        Timers {
+            timer0,
+            timer1,
+            timer2,
+            timer3,
+        }
+    }
+
     /// A timer by its number, which is below 4.
     pub fn timer(&self, number: u32) -> Timer
         requires { number < 4 }

@@ -1,0 +1,5 @@
+use Rattle.std.specs.Prelude.{ℕ, ◌+◌, List, ◌++◌, take, drop, length}
+
+-- bytes that are replaced by others, as many as there are, from a place on
+abbrev pub with_bytes : ℕ → List ℕ → List ℕ → List ℕ
+with_bytes place new bytes = take place bytes ++ new ++ drop (place + length new) bytes
