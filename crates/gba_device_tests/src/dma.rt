@@ -440,3 +440,22 @@ fn channels_are_made_of_their_numbers(rt: HostRuntime) -> Result<(), Fail> {
     assert!(rt; !channel_of(&rt, &channels, 2).active);
     Ok(())
 }
+
+/// One that waits for HBlank with no unit left, as no program leaves it: its run is one unit long.
+const EMPTY: Channel = Channel {
+    control: 0xA000,
+    ..IDLE
+};
+
+#[test]
+fn a_run_without_units_is_one_unit_long(rt: HostRuntime) -> Result<(), Fail> {
+    let mut channels = Channels::of(EMPTY, IDLE, IDLE, IDLE);
+    assert!(rt; !channels.is_moving());
+    channels.trigger(HBlank);
+    assert!(rt; channels.is_moving());
+    assert_eq!(rt; channel_of(&rt, &channels, 0).left, 0);
+    assert_eq!(rt; channels.unit_done(), None);
+    assert!(rt; !channels.is_moving());
+    assert_eq!(rt; channel_of(&rt, &channels, 0).control, 0x2000);
+    Ok(())
+}

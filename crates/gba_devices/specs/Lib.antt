@@ -5,3 +5,4 @@ pub mod Registers
 pub mod Requests
 pub mod Samples
 pub mod State
+pub mod Parts

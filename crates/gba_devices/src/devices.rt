@@ -5,6 +5,7 @@ ghost use Rattle.std.specs.Prelude.{◌≡◌, ◌+◌, ◌≤◌, ◌<◌, ◌^
 mod requests;
 
 use crate::laws::{cycle_keeps, cycles_pass, skips_cycles, writes_keep};
+use crate::parts::DeviceParts;
 use crate::place::FARTHEST;
 use crate::registers::{Owner, owner_of};
 use crate::set::DeviceSet;
@@ -53,6 +54,7 @@ impl Devices {
     ghost use Rattle.gba_sound.specs.Queues.{queue_at};
     ghost use Rattle.gba_timer.specs.Timers.{timer_at};
     ghost use Rattle.gba_devices.specs.Cycles.{after_cycles, device_cycle, draws_line, draws_within, makes_pair, makes_within, quiet, skipped};
+    ghost use Rattle.gba_devices.specs.Parts.{devices_of};
     ghost use Rattle.gba_devices.specs.Registers.{half_stored, io_loaded, io_stored, keyed};
     ghost use Rattle.gba_devices.specs.Samples.{left_sample, right_sample};
     ghost use Rattle.gba_devices.specs.State.{after_dma_unit, begun, devices_at_reset, is_calm, is_idle, rested, woken};
@@ -63,6 +65,24 @@ impl Devices {
     {
         skips_cycles();
         let set = DeviceSet::new();
+        let horizon = set.quiet();
+        Devices {
+            debt: 0,
+            silence: horizon.min(set.pairless()),
+            horizon,
+            calm: set.is_calm(),
+            set,
+        }
+    }
+
+    /// The devices of these parts, which owe nothing.
+    pub fn of(parts: DeviceParts) -> Devices
+        requires place { IsPosition parts.place }
+        requires clock { parts.clock < 2 ^ 63 }
+        ensures { result ≡ devices_of parts }
+    {
+        skips_cycles();
+        let set = DeviceSet::of(parts);
         let horizon = set.quiet();
         Devices {
             debt: 0,

@@ -5,8 +5,10 @@
 
 mod devices;
 pub mod laws;
+mod parts;
 mod place;
 mod registers;
 mod set;
 
 pub use devices::Devices;
+pub use parts::DeviceParts;

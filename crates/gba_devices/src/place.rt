@@ -38,6 +38,13 @@ impl Place {
         }
     }
 
+    pub(crate) fn of(at: Position) -> Place
+        requires { IsPosition at }
+        ensures { result ≡ at }
+    {
+        Place { at }
+    }
+
     pub(crate) fn at(&self) -> Position
         ensures place { result ≡ self.now }
         ensures sound { IsPosition result }

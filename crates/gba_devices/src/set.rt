@@ -7,6 +7,7 @@ ghost use Rattle.gba_register.specs.Rows.{row_at};
 mod requests;
 
 use crate::laws::skips_cycles;
+use crate::parts::DeviceParts;
 use crate::place::{FARTHEST, Place};
 use crate::registers::{Owner, merged, owner_of};
 use gba_bus::Width;
@@ -100,6 +101,7 @@ impl DeviceSet {
     ghost use Rattle.gba_sound.specs.Queues.{queue_at, sound_read, sound_written};
     ghost use Rattle.gba_timer.specs.Timers.{requests};
     ghost use Rattle.gba_devices.specs.Cycles.{asked_by, at_hblank, at_line, at_place, device_cycle, pairless, placed, quiet, rung, skipped, sounded, status_of, with_bit, with_timer_requests};
+    ghost use Rattle.gba_devices.specs.Parts.{devices_of};
     ghost use Rattle.gba_devices.specs.Registers.{half_kept, half_read, half_stored, half_written, halves_written, io_loaded, io_stored, keyed, owner_of as owner_in, read_of, stored_of, with_key_control, with_key_request, word_written};
     ghost use Rattle.gba_devices.specs.Samples.{left_sample, right_sample};
     ghost use Rattle.gba_devices.specs.State.{after_dma_unit, asks_entry, begun, devices_at_reset, is_calm, is_idle, rested, with_dma_request, woken};
@@ -122,6 +124,30 @@ impl DeviceSet {
             priced: 0,
             posted: false,
             halt: Halt { halted: false },
+        }
+    }
+
+    /// The devices of these parts.
+    pub(crate) fn of(parts: DeviceParts) -> DeviceSet
+        requires { IsPosition parts.place }
+        ensures { result ≡ devices_of parts }
+    {
+        DeviceSet {
+            clock: parts.clock,
+            timers: parts.timers,
+            queues: parts.queues,
+            tones: parts.tones,
+            channels: parts.channels,
+            place: Place::of(parts.place),
+            picture: parts.picture,
+            interrupts: parts.interrupts,
+            keypad: parts.keypad,
+            waits: parts.waits,
+            priced: parts.waits,
+            posted: parts.posted,
+            halt: Halt {
+                halted: parts.halted,
+            },
         }
     }
 

@@ -15,6 +15,17 @@ pub record AreConsistent (cs : FourChannels) : Type 0 where
   pub channel2 : IsConsistent cs.channel2
   pub channel3 : IsConsistent cs.channel3
 
+-- Of channels with any numbers, also with such as no program comes to, the first of these holds alone: an enabled channel that
+-- waits may have no unit left. A run that then begins is one unit long.
+abbrev pub IsEnabledRun : Channel → Type 0
+IsEnabledRun c = c.active ≡ true → is_enabled c ≡ true
+
+pub record RunsAreEnabled (cs : FourChannels) : Type 0 where
+  pub channel0 : IsEnabledRun cs.channel0
+  pub channel1 : IsEnabledRun cs.channel1
+  pub channel2 : IsEnabledRun cs.channel2
+  pub channel3 : IsEnabledRun cs.channel3
+
 -- So they are at reset, and so they stay at each write, event and end of a unit.
 pub record StaysConsistent : Type 0 where
   pub reset : AreConsistent channels_at_reset

@@ -9,7 +9,7 @@ use crate::{DmaEvent, Unit};
 use std::marker::Model;
 
 /// The four channels (GBATEK, GBA DMA Transfers). All numbers are 0 at reset. Whatever is called, an active channel is
-/// enabled, and an enabled one has units left.
+/// enabled; from reset on an enabled one has units left, too.
 #[derive(Clone, Copy, Debug)]
 pub struct Channels {
     channel0: Channel,
@@ -20,7 +20,7 @@ pub struct Channels {
 
 impl Model for Channels {
     ghost use Rattle.gba_dma.specs.Channels.{FourChannels};
-    ghost use Rattle.gba_dma.specs.Consistency.{AreConsistent};
+    ghost use Rattle.gba_dma.specs.Consistency.{RunsAreEnabled};
 
     ghost Value = { FourChannels };
 
@@ -28,7 +28,7 @@ impl Model for Channels {
 
     ghost inverse = { λ cs. record { channel0 = cs.channel0; channel1 = cs.channel1; channel2 = cs.channel2; channel3 = cs.channel3 } };
 
-    ghost invariant = { λ cs. AreConsistent (record { channel0 = cs.channel0; channel1 = cs.channel1; channel2 = cs.channel2; channel3 = cs.channel3 }) };
+    ghost invariant = { λ cs. RunsAreEnabled (record { channel0 = cs.channel0; channel1 = cs.channel1; channel2 = cs.channel2; channel3 = cs.channel3 }) };
 }
 
 /// The bits of a halfword that a write stores.
@@ -62,7 +62,7 @@ fn read_mask(offset: u32) -> u16
 impl Channels {
     ghost use Rattle.std.specs.Prelude.{◌≡◌, ◌<◌, IfSome};
     ghost use Rattle.gba_dma.specs.Channels.{after_lowest_unit, after_trigger, after_unit_at, channel_at, channels_at_reset, dma_kept, dma_read, dma_written, interrupt_at, is_moving, lowest_active, lowest_interrupt, next_unit};
-    ghost use Rattle.gba_dma.specs.Consistency.{AreConsistent, HasRun};
+    ghost use Rattle.gba_dma.specs.Consistency.{AreConsistent, HasRun, RunsAreEnabled};
 
     /// The channels at reset.
     pub fn new() -> Channels
@@ -76,14 +76,14 @@ impl Channels {
         }
     }
 
-    /// The channels with these numbers: an active one has to be enabled, and an enabled one to have units left.
+    /// The channels with these numbers: an active one has to be enabled.
     pub fn of(
         channel0: Channel,
         channel1: Channel,
         channel2: Channel,
         channel3: Channel,
     ) -> Channels
-        requires { AreConsistent (record { channel0 = channel0; channel1 = channel1; channel2 = channel2; channel3 = channel3 }) }
+        requires { RunsAreEnabled (record { channel0 = channel0; channel1 = channel1; channel2 = channel2; channel3 = channel3 }) }
         ensures { result ≡ record { channel0 = channel0; channel1 = channel1; channel2 = channel2; channel3 = channel3 } }
     {
         Channels {
@@ -144,7 +144,7 @@ impl Channels {
     }
 
     /// Makes those channels active that wait for the event.
-    #[tactic(auto, using(crate::proofs::Consistent::event_keeps))]
+    #[tactic(auto, using(crate::proofs::Enabled::event_enables))]
     pub fn trigger(&mut self, event: DmaEvent)
         ensures { self.new ≡ after_trigger event self.old }
     {
@@ -181,7 +181,7 @@ impl Channels {
     pub fn next_unit(&self) -> Option<Unit>
         ensures unit { result ≡ next_unit self.now }
         ensures channel { IfSome result (λ unit. unit.channel < 4) }
-        ensures run { IfSome result (λ unit. HasRun (channel_at unit.channel self.now)) }
+        ensures run { AreConsistent self.now → IfSome result (λ unit. HasRun (channel_at unit.channel self.now)) }
     {
         match self.lowest_active() {
             None => None,
