@@ -1,7 +1,9 @@
 #![tactic(auto)]
-//! Tests of the devices: worked cases of timers, DMA channels, direct sound, tone channels, interrupts, the keypad, and the
-//! picture's registers and position.
+//! Tests of the devices: worked cases of timers, DMA channels, direct sound, tone channels, interrupts, the keypad, the
+//! picture's registers and position, and all of them together.
 
+#[cfg(test)]
+mod devices;
 #[cfg(test)]
 mod dma;
 #[cfg(test)]

@@ -97,6 +97,28 @@ static QUIET: [(u32, u32); 9] = [
     (900, 105),
 ];
 
+/// Dots, how many cycles are looked at, and for how many of them nothing comes: HBlank comes 1,006 cycles after a line began.
+static FAR: [(u32, u32, u32); 5] = [
+    (0, 1024, 1005),
+    (0, 7, 7),
+    (300, 1024, 705),
+    (1006, 1024, 225),
+    (1231, 1024, 0),
+];
+
+fn skip_far<R: Abort>(rt: &R, dot: u32, most: u32, quiet: u32) {
+    let mut position = position_at(rt, 7, dot);
+    assert!(rt; position.line < 228);
+    assert!(rt; position.dot < 1232);
+    let cycles = position.quiet_within(most);
+    assert_eq!(rt; cycles, quiet);
+    position.skip(cycles);
+    assert_eq!(rt;
+        (position.line, position.dot),
+        (7, dot.saturating_add(quiet))
+    );
+}
+
 fn skip<R: Abort>(rt: &R, dot: u32, quiet: u32) {
     let mut position = position_at(rt, 7, dot);
     assert!(rt; position.line < 228);
@@ -113,6 +135,9 @@ fn skip<R: Abort>(rt: &R, dot: u32, quiet: u32) {
 fn positions_skip_where_nothing_comes(rt: HostRuntime) -> Result<(), Fail> {
     for (dot, quiet) in &QUIET {
         skip(&rt, *dot, *quiet);
+    }
+    for (dot, most, quiet) in &FAR {
+        skip_far(&rt, *dot, *most, *quiet);
     }
     Ok(())
 }

@@ -15,13 +15,15 @@ enum Move {
     Reads(u32, u16),
     /// So many cycles are quiet.
     Quiet(u32),
+    /// Of so many cycles, so many are.
+    QuietWithin(u32, u32),
     /// So many are for the overflows of one timer.
     QuietOf(u32, u32),
     /// Skip so many cycles.
     Skip(u32),
 }
 
-use Move::{Cycles, Quiet, QuietOf, Reads, Skip, Write};
+use Move::{Cycles, Quiet, QuietOf, QuietWithin, Reads, Skip, Write};
 
 /// Advances, and answers how many cycles had a mark, and the last mark that wasn't 0. The entry behind them must stay.
 fn marks<R: Abort>(rt: &R, timers: &mut Timers, cycles: u32) -> (u32, u8) {
@@ -50,12 +52,13 @@ fn play<R: Abort>(rt: &R, moves: &[Move]) {
             }
             Reads(offset, value) => assert_eq!(rt; timers.read(offset), value),
             Quiet(cycles) => assert_eq!(rt; timers.quiet(), cycles),
+            QuietWithin(most, cycles) => assert_eq!(rt; timers.quiet_within(most), cycles),
             QuietOf(timer, cycles) => {
                 assert!(rt; timer < 4);
                 assert_eq!(rt; timers.quiet_of(timer), cycles);
             }
             Skip(cycles) => {
-                assert!(rt; cycles <= timers.quiet());
+                assert!(rt; cycles <= timers.quiet_within(1024));
                 timers.skip(cycles);
             }
         }
@@ -165,6 +168,20 @@ static SKIPPED: [Move; 8] = [
     Cycles(1, 1, 1),
 ];
 
+/// A counter at FC00h overflows in the 1,024th cycle, which 1,024 cycles ahead show and 512 don't.
+static FAR: [Move; 10] = [
+    Write(0x100, 0xFC00),
+    Write(0x102, 0x0080),
+    Quiet(512),
+    QuietWithin(1024, 1023),
+    QuietWithin(7, 7),
+    Skip(1000),
+    Reads(0x100, 0xFFE8),
+    Quiet(23),
+    Skip(23),
+    Cycles(1, 1, 1),
+];
+
 /// Timer 0 at FFFFh with prescaler 64 and phase 60, the others stopped. Then the prescaler 256, and the prescaler 1, for
 /// which the phase is past its end.
 static PHASE_60: [Move; 10] = [
@@ -245,6 +262,7 @@ fn timers_count_as_worked_out(rt: HostRuntime) -> Result<(), Fail> {
         &RELOAD_WHILE_RUNNING,
         &TWO_OVERFLOWS,
         &SKIPPED,
+        &FAR,
         &PHASE_60,
         &LAST_COUNTS,
         &QUIET_CASCADES,
