@@ -14,5 +14,5 @@ mod ranges;
 pub use fields::{BoardField, Field};
 pub use names::{MemoryName, register_name};
 pub use numbers::Numbers;
-pub use places::{NUMBERS, place};
+pub use places::{NUMBERS, is_field, place};
 pub use ranges::fits;

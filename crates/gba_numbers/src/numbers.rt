@@ -105,6 +105,24 @@ impl Numbers {
         let _length = self.queue_b.len();
     }
 
+    /// Whether a number is there: a byte of a queue has to be one of those that the queue holds.
+    #[tactic(auto, unfolding(crate::specs::Numbers::is_there))]
+    pub fn has(&self, field: Field) -> bool
+        requires { is_field field ≡ true }
+        ensures { result ≡ is_there (place_of field) self.now }
+    {
+        let place = place(field);
+        if place < QUEUE_A {
+            true
+        } else if place < QUEUE_B {
+            place - QUEUE_A < self.queue_a.len()
+        } else if place < WAVE_0 {
+            place - QUEUE_B < self.queue_b.len()
+        } else {
+            true
+        }
+    }
+
     /// A number. A byte of a queue has to be one of those that the queue holds.
     #[tactic(auto, unfolding(crate::specs::Numbers::is_there, crate::specs::Numbers::value_at))]
     pub fn value(&self, field: Field) -> u64

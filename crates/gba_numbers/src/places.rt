@@ -1,7 +1,7 @@
 //! The places of the numbers in the order of a frozen file.
 
 ghost use Rattle.std.specs.Prelude.{◌≡◌, ◌<◌, true};
-ghost use Rattle.gba_numbers.specs.Fields.{board_place as board_place_of, is_board_field, is_field, place_of};
+ghost use Rattle.gba_numbers.specs.Fields.{board_place as board_place_of, is_board_field as is_board_field_of, is_field as is_field_of, place_of};
 
 use crate::fields::{BoardField, Field};
 
@@ -10,7 +10,7 @@ pub const NUMBERS: usize = 138;
 
 #[tactic(auto, unfolding(crate::specs::Fields::is_board_field, crate::specs::Fields::board_place))]
 fn board_place(field: BoardField) -> usize
-    requires { is_board_field field ≡ true }
+    requires { is_board_field_of field ≡ true }
     ensures place { result ≡ board_place_of field }
     ensures within { result < 234 }
 {
@@ -46,11 +46,49 @@ fn board_place(field: BoardField) -> usize
     place as usize
 }
 
+#[tactic(auto, unfolding(crate::specs::Fields::is_board_field))]
+fn is_board_field(field: BoardField) -> bool
+    ensures { result ≡ is_board_field_of field }
+{
+    match field {
+        BoardField::TimerCounter(timer) => timer < 4,
+        BoardField::TimerReload(timer) => timer < 4,
+        BoardField::TimerControl(timer) => timer < 4,
+        BoardField::TimerPhase(timer) => timer < 4,
+        BoardField::DmaActive(channel) => channel < 4,
+        BoardField::DmaFirst(channel) => channel < 4,
+        BoardField::DmaSource(channel) => channel < 4,
+        BoardField::DmaTarget(channel) => channel < 4,
+        BoardField::DmaLeft(channel) => channel < 4,
+        BoardField::QueueCurrent(queue) => queue < 2,
+        BoardField::QueueLength(queue) => queue < 2,
+        BoardField::Tone { tone, part } => 1 <= tone && tone <= 4 && part < 8,
+        BoardField::WaveByte { bank, place } => bank < 2 && place < 16,
+        BoardField::ReferenceX(background) => 2 <= background && background <= 3,
+        BoardField::ReferenceY(background) => 2 <= background && background <= 3,
+        BoardField::Known(player) => player < 4,
+        _ => true,
+    }
+}
+
+/// Whether what stands in a field is the number of a register, a timer, a channel and so on.
+#[tactic(auto, unfolding(crate::specs::Fields::is_field))]
+pub fn is_field(field: Field) -> bool
+    ensures { result ≡ is_field_of field }
+{
+    match field {
+        Field::Register(register) => register < 37,
+        Field::Board(field) => is_board_field(field),
+        Field::QueueByte { queue, place } => queue < 2 && place < 32,
+        _ => true,
+    }
+}
+
 /// The place of a number in the order of a frozen file's lines: below 138 for one that stands by itself. Behind these stand the
 /// bytes of the two queues, 32 places for each, and the bytes of the wave's two banks, 16 for each.
 #[tactic(auto, unfolding(crate::specs::Fields::is_field, crate::specs::Fields::place_of))]
 pub fn place(field: Field) -> usize
-    requires { is_field field ≡ true }
+    requires { is_field_of field ≡ true }
     ensures place { result ≡ place_of field }
     ensures within { result < 234 }
 {
