@@ -5,6 +5,4 @@ pub mod Words
 pub mod Places
 pub mod Lines
 pub mod Views
-pub mod Printed
 pub mod Reading
-pub mod Laws

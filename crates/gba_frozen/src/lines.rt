@@ -158,7 +158,7 @@ fn row_line(mut words: Words<'_>, until: u64, row: Row) -> Result<FrozenLine, Th
 }
 
 /// The letter of a sound queue.
-pub(crate) fn queue_name(queue: u32) -> &'static [u8]
+pub fn queue_name(queue: u32) -> &'static [u8]
     ensures value { result.now ≡ queue_name_of queue }
     ensures short { length result.now ≡ 1 }
 {

@@ -58,7 +58,7 @@ pub const MOST_NUMBERS: u32 = 8;
 
 /// How the numbers of a row are written.
 #[tactic(auto, unfolding(crate::specs::Rows::spelling_of))]
-pub(crate) fn row_spelling(row: Row) -> Spelling
+pub fn row_spelling(row: Row) -> Spelling
     ensures { result ≡ spelling_of row }
 {
     match row {
@@ -90,7 +90,7 @@ pub fn count(row: Row) -> u32
 
 /// The first word of a row.
 #[tactic(auto, unfolding(crate::specs::Rows::is_row, crate::specs::Rows::keyword_of))]
-pub(crate) fn keyword(row: Row) -> &'static [u8]
+pub fn keyword(row: Row) -> &'static [u8]
     requires { is_row_of row ≡ true }
     ensures word { result.now ≡ keyword_of row }
     ensures short { length result.now ≤ 13 }
@@ -118,7 +118,7 @@ pub(crate) fn keyword(row: Row) -> &'static [u8]
 
 /// The number that follows the first word, where a row has one.
 #[tactic(auto, unfolding(crate::specs::Rows::number_of_row))]
-pub(crate) fn row_number(row: Row) -> Option<u32>
+pub fn row_number(row: Row) -> Option<u32>
     ensures { result ≡ number_of_row row }
 {
     match row {

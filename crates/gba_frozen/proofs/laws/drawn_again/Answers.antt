@@ -1,5 +1,0 @@
-use Rattle.gba_frozen.proofs.LinesAgain.{drawn-again}
-use Rattle.gba_frozen.proofs.laws.drawn_again.Goals as goal
-
-pub returns : goal.returns
-returns c = drawn-again

@@ -1,5 +1,0 @@
-use Rattle.gba_frozen.proofs.LinesAgain.{queues-again}
-use Rattle.gba_frozen.proofs.laws.queues_again.Goals as goal
-
-pub returns : goal.returns
-returns c = queues-again
