@@ -6,3 +6,4 @@ pub mod Places
 pub mod Lines
 pub mod Views
 pub mod Reading
+pub mod Answered

@@ -5,6 +5,7 @@
 //! Words are parted by one space, and a line is right where it is spelled as it would be printed.
 
 mod kinds;
+pub mod laws;
 mod lines;
 mod pieces;
 mod places;
