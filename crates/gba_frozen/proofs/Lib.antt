@@ -1,0 +1,4 @@
+pub mod LinePieces
+pub mod Digits
+pub mod Loops
+pub mod RowCounts

@@ -1,0 +1,5 @@
+pub mod SpelledAgain
+pub mod LinesAgain
+pub mod RowsAgain
+pub mod HexSound
+pub mod RowsSound

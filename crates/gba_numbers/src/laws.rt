@@ -1,0 +1,8 @@
+//! Laws of the numbers.
+
+ghost use Rattle.gba_numbers.specs.Laws.{SetsOne};
+
+/// A number that is set is the number that is read there, and every other stays.
+pub fn sets_one()
+    ensures { SetsOne }
+{}
