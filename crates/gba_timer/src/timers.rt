@@ -188,8 +188,14 @@ impl Timers {
         ensures most { result ≤ most }
         ensures all { (count : ℕ) → count ≤ result → quiet_within count self.now ≡ count }
     {
-        let lower = self.timer0.quiet_within(most).min(self.timer1.quiet_within(most));
-        let upper = self.timer2.quiet_within(most).min(self.timer3.quiet_within(most));
+        let lower = self
+            .timer0
+            .quiet_within(most)
+            .min(self.timer1.quiet_within(most));
+        let upper = self
+            .timer2
+            .quiet_within(most)
+            .min(self.timer3.quiet_within(most));
         lower.min(upper)
     }
 
