@@ -253,7 +253,7 @@ static REGISTERS: [Move; 10] = [
 
 #[test]
 fn timers_count_as_worked_out(rt: HostRuntime) -> Result<(), Fail> {
-    let cases: [&[Move]; 12] = [
+    let cases: [&[Move]; 13] = [
         &CASCADE,
         &PRESCALERS,
         &CHANGED_PRESCALER,
