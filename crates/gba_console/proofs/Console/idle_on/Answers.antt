@@ -9,7 +9,7 @@ use Rattle.gba_console.proofs.Rows.{one-more, serial-silent}
 use Rattle.gba_console.proofs.Console.idle_on.Goals as goal
 
 -- after fewer steps than begin below the stop another one does
-still-below : (clock stop left steps after : ℕ) → left ≡ min (stop - clock) 512 → steps < (left + 16 - 1) / 16 → clock < stop
+still-below : (clock stop left steps after : ℕ) → left ≡ min (stop - clock) 1024 → steps < (left + 16 - 1) / 16 → clock < stop
     → after ≡ clock + 16 * steps → after < stop
 still-below clock stop left steps after e fewer below moved = omega (arith, e, fewer, below, moved)
 
