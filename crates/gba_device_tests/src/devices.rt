@@ -7,6 +7,7 @@ use gba_ppu_reg::{PictureRegisters, Position};
 use gba_psg::Tones;
 use gba_sound::Queues;
 use gba_timer::{Timer, Timers};
+use std::process::Abort;
 use std::test::Fail;
 
 /// A timer that counts each cycle, 20 cycles before it overflows.
@@ -43,6 +44,18 @@ fn made() -> Devices {
     })
 }
 
+/// Whether so many cycles are owed.
+fn owes<R: Abort>(rt: &R, devices: &mut Devices, cycles: u32) -> bool {
+    assert!(rt; cycles <= 512);
+    assert!(rt; devices.clock() < 2_000_000);
+    devices.owe(cycles)
+}
+
+fn cycle<R: Abort>(rt: &R, devices: &mut Devices) {
+    assert!(rt; devices.clock() < 2_000_000);
+    devices.cycle();
+}
+
 /// HBlank comes in the sixth cycle and the overflow in the twentieth, so that five cycles and then thirteen are owed at once, and
 /// no more.
 #[test]
@@ -52,14 +65,14 @@ fn devices_are_made_of_their_parts(rt: HostRuntime) -> Result<(), Fail> {
     assert_eq!(rt; (devices.waits(), devices.priced()), (0x4317, 0x4317));
     assert!(rt; devices.halted());
     assert_eq!(rt; devices.half_stored(0x300), 1);
-    assert!(rt; !devices.owe(6));
-    assert!(rt; devices.owe(5));
-    assert!(rt; !devices.owe(1));
-    devices.cycle();
+    assert!(rt; !owes(&rt, &mut devices, 6));
+    assert!(rt; owes(&rt, &mut devices, 5));
+    assert!(rt; !owes(&rt, &mut devices, 1));
+    cycle(&rt, &mut devices);
     assert_eq!(rt; devices.place(), Position { line: 3, dot: 1006 });
-    assert!(rt; !devices.owe(14));
-    assert!(rt; devices.owe(13));
-    devices.cycle();
+    assert!(rt; !owes(&rt, &mut devices, 14));
+    assert!(rt; owes(&rt, &mut devices, 13));
+    cycle(&rt, &mut devices);
     assert_eq!(rt; devices.timer(0).counter, 0x1234);
     assert_eq!(rt; devices.clock(), 1020);
     Ok(())

@@ -8,10 +8,10 @@ use Rattle.gba_link.proofs.Runs.{unasked-fit}
 use Rattle.gba_link.proofs.tracing.unasked_job.Goals as goal
 
 pub returns-clause-filled : goal.returns-clause-filled
-returns-clause-filled c = c.without_outputs.ensures.value ∙ ap unasked c.in_ok-job.ensures.filled
+returns-clause-filled c = c.without_outputs-job.ensures.value ∙ ap unasked c.in_ok-job.ensures.filled
 
 pub returns-clause-fit : goal.returns-clause-fit
 returns-clause-fit c =
     let made = c.in_ok-job in
-    subst (λ (job : WholeJob). FitJob job made.images.items) (sym c.without_outputs.ensures.value)
+    subst (λ (job : WholeJob). FitJob job made.images.items) (sym c.without_outputs-job.ensures.value)
     (unasked-fit (job_value made.job).consoles made.images.items made.ensures.fit)
