@@ -68,10 +68,9 @@ def call(program, words, folder, seconds=SECONDS, **more):
 
 
 def limited(**limits):
-    """A call before the program starts that sets limits: limited(AS=bytes) is `ulimit -v`. A signal leaves no core file."""
+    """A call before the program starts that sets limits: limited(AS=bytes) is `ulimit -v`."""
     def start():
         signal.signal(signal.SIGXFSZ, signal.SIG_DFL)
-        resource.setrlimit(resource.RLIMIT_CORE, (0, 0))
         for name, most in limits.items():
             resource.setrlimit(getattr(resource, 'RLIMIT_' + name), (most, most))
     return start
