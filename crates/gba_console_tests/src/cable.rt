@@ -1,7 +1,6 @@
 //! A cable of two consoles, joined by hand: the one with the least clock makes the next step.
 
-use crate::play::{Play, images_of_source};
-use crate::seats::Seat;
+use crate::play::{Play, Seat, images_of_source};
 use gba_io::Room;
 use link_node::{Incoming, Signal};
 use std::alloc::Global;

@@ -1,7 +1,6 @@
 //! A console by itself: programs of a few words in its BIOS, and what they leave.
 
-use crate::play::{Play, cartridge_of, comes_to, has, has_bytes, images_of_words};
-use crate::seats::ALONE;
+use crate::play::{ALONE, Play, cartridge_of, comes_to, has, has_bytes, images_of_words};
 use gba_console::KeyState;
 use gba_io::{MemoryName, Room};
 use std::alloc::Global;

@@ -1,7 +1,6 @@
 //! A console whose cartridge has a flash: its program and DMA read and write it.
 
-use crate::play::{Play, has_bytes, images_of_source};
-use crate::seats::ALONE;
+use crate::play::{ALONE, Play, has_bytes, images_of_source};
 use gba_image::Backup;
 use gba_io::{MemoryName, Room};
 use std::test::Fail;

@@ -1,10 +1,6 @@
 #![tactic(auto)]
 //! Tests of whole consoles: by themselves, and on a cable, joined by hand.
 
-mod seats;
-
-pub use seats::{ALONE, Seat, is_seat};
-
 #[cfg(test)]
 mod cable;
 #[cfg(test)]

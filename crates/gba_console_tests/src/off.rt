@@ -1,8 +1,7 @@
 //! Consoles that are off below a clock, alone and on a cable.
 
 use crate::cable::Cable;
-use crate::play::{Play, comes_to, has, images_of_source};
-use crate::seats::ALONE;
+use crate::play::{ALONE, Play, comes_to, has, images_of_source};
 use crate::transfers::{AWAITS_MULTI, STARTS_ALONE, STARTS_MULTI};
 use gba_console::KeyState;
 use gba_io::Room;

@@ -1,18 +1,34 @@
 //! A console as the tests play it: each call is made where it may be made, and what it shows are numbers and lists.
 
-use crate::seats::{Seat, is_seat};
+ghost use Rattle.std.specs.Prelude.{IsTrue};
+ghost use Rattle.gba_image.specs.Checks.{SaveFits};
+
 use gba_asm::assemble;
 use gba_console::{Console, KeyState, What};
 use gba_freeze::step_line;
 use gba_image::{Backup, Bios, Cartridge, ConsoleImages};
 use gba_io::{Board, Counts, MemoryName, Room};
-use gba_memory_tests::fits;
 use gba_serial::Transfer;
 use link_node::{Incoming, LinkMode, Node, Signal};
 use link_trials::may_take;
 use std::alloc::Global;
 use std::process::Abort;
 use std::test::Fail;
+
+/// A place on a cable with one delay, in cycles.
+#[derive(Clone, Copy)]
+pub struct Seat {
+    pub player: u32,
+    pub count: u32,
+    pub delay: u64,
+}
+
+/// The only console of a cable.
+pub const ALONE: Seat = Seat {
+    player: 0,
+    count: 1,
+    delay: 512,
+};
 
 /// A BIOS that begins with these bytes and is 0 behind them.
 fn bios_of(mut bytes: Vec<u8>) -> Result<Bios, Fail> {
@@ -62,6 +78,16 @@ pub fn cartridge_of(alloc: Global, words: &[u32]) -> Result<Cartridge, Fail> {
     Ok(Cartridge::check(bytes).ok().ok_or("no cartridge")?)
 }
 
+/// Whether a save, where there is one, has the bytes of the images' backup.
+fn fits(images: &ConsoleImages) -> bool
+    ensures { IsTrue result → SaveFits images.now.save images.now.backup }
+{
+    match &images.save {
+        Some(save) => save.bytes().len() == images.backup.length(),
+        None => true,
+    }
+}
+
 /// A console that is played.
 #[derive(Drop)]
 pub struct Play {
@@ -78,21 +104,21 @@ impl Play {
         keys: &[KeyState],
         room: Room,
     ) -> Result<Play, Fail> {
-        if !is_seat(seat) {
-            return Err("no seat")?;
-        }
-        if room.until > 1 << 24 || off > 1 << 38 {
-            return Err("a late clock")?;
-        }
-        if !fits(&images.save, images.backup) {
-            return Err("another backup's save")?;
-        }
-        let keys = Vec::from_slice(alloc, keys)?;
         let Seat {
             player,
             count,
             delay,
         } = seat;
+        if player >= count || count > 4 || delay == 0 || delay > 1024 {
+            return Err("no seat")?;
+        }
+        if room.until > 1 << 24 || off > 1 << 38 {
+            return Err("a late clock")?;
+        }
+        if !fits(&images) {
+            return Err("another backup's save")?;
+        }
+        let keys = Vec::from_slice(alloc, keys)?;
         let round = 2 * delay;
         Ok(Play {
             console: Console::new(alloc, player, count, round, off, images, keys, room)?,

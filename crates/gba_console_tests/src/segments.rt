@@ -1,8 +1,7 @@
 //! A console that runs in segments, between which its lists are emptied: the lists of the segments, one behind the other,
 //! are those of one run.
 
-use crate::play::{Play, comes_to, images_of_source};
-use crate::seats::ALONE;
+use crate::play::{ALONE, Play, comes_to, images_of_source};
 use gba_io::Room;
 use gba_serial::Transfer;
 use std::alloc::Global;

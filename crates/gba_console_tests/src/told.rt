@@ -1,7 +1,6 @@
 //! What a step tells of itself, and its line.
 
-use crate::play::{Play, images_of_words};
-use crate::seats::ALONE;
+use crate::play::{ALONE, Play, images_of_words};
 use gba_console::What::{Arm, Dma, Idle, Irq, Nothing, Off, Thumb};
 use gba_console::{KeyState, What};
 use gba_io::Room;

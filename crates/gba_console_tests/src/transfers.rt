@@ -1,8 +1,7 @@
 //! Transfers over whole consoles, whose programs start and await them.
 
 use crate::cable::{Cable, console_of};
-use crate::play::Play;
-use crate::seats::{ALONE, Seat};
+use crate::play::{ALONE, Play, Seat};
 use gba_serial::Transfer;
 use link_node::LinkMode::{self, Multi, Normal8, Normal32, Other};
 use link_node::{Incoming, Signal};
