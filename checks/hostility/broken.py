@@ -12,13 +12,14 @@ import shutil
 
 from . import reading, room
 
-LIMITS = [0, 1, 2, 3, 4, 5, 7, 511, 512, 1023, 1024, 1025, 2**31 - 1, 2**31, 2**31 + 1, 2**32 - 1, 2**32, 2**38 - 2, 2**38 - 1,
-          2**38, 2**38 + 1, 2**63, 2**64 - 1, 2**64, 10**19, 10**20 - 1, 10**20]
+LIMITS = [0, 1, 2, 3, 4, 5, 7, 511, 512, 1023, 1024, 1025, 10**6, 10**6 + 1, 2**31 - 1, 2**31, 2**31 + 1, 2**32 - 1, 2**32, 2**38 - 2,
+          2**38 - 1, 2**38, 2**38 + 1, 2**40 - 1, 2**40, 2**63, 2**64 - 1, 2**64, 10**19, 10**20 - 1, 10**20]
 BYTES = [0, 9, 10, 11, 12, 13, 31, 32, 33, 35, 45, 46, 47, 48, 57, 58, 59, 64, 65, 90, 95, 96, 97, 122, 123, 126, 127, 128, 255]
 KEYS = ['000', '001', '009', '3ff', '3FF', '2aB', '400', '3fg', '00', '0000', '-01', 'fff', '0x1', '+01']
 LONGEST = 300_000  # console cycles of a run that is made here
 OUT = 'g'
-OLD = {'g.0.state': b'old state', 'g.1.words': b'old words', 'g.3.save': b'old save', 'g.log': b'old log', 'o': b'old bytes'}
+OLD = {'g.0.state': b'old state', 'g.1.words': b'old words', 'g.3.save': b'old save', 'g.log': b'old log', 'o': b'old bytes',
+       'g.trace': b'old trace'}
 
 
 class Maker:
@@ -181,6 +182,30 @@ class Maker:
 VOCABULARY = sorted(reading.WORDS[2]) + list(reading.KINDS) + ['1', '2', '0', '3', 'sha256', 'b', 'none']
 
 
+def reader(folder):
+    """What the second reading asks for the bytes of a file of the folder."""
+    def data(entry):
+        try:
+            return room.read(os.path.join(folder, entry))
+        except FileNotFoundError:
+            return None
+        except OSError:  # a folder, or a name that goes by a file as by a folder
+            return False
+    return data
+
+
+WORD = '[0-9a-f]{8}'
+STEP = re.compile(rf'([0-3]) ([0-9]+) (arm {WORD} {WORD}|thumb {WORD} [0-9a-f]{{4}}|dma [0-3]|idle|irq|off)((?: {WORD}){{17}})( ; [ -~]+)?')
+
+
+def is_step(line, job):
+    """Whether this is a line of a trace of the job."""
+    found = STEP.fullmatch(line)
+    if not found or int(found[1]) >= len(job.consoles) or int(found[2]) >= job.cycles:
+        return False
+    return (found[5] is not None) == found[3].startswith(('arm', 'thumb'))
+
+
 class Broken:
     """The calls of one worker, in folders of its own."""
 
@@ -222,21 +247,21 @@ class Broken:
             is_well = self.tally.holds(name, room.marks(folder) == before, f'a refused call touched files: {got}')
         return got, is_well
 
-    def call_run(self, name, folder, job='j'):
-        """A call of `run` beside what the second reading says of it."""
-        def data(entry):
-            try:
-                return room.read(os.path.join(folder, entry))
-            except FileNotFoundError:
-                return None
-            except OSError:  # a folder, or a name that goes by a file as by a folder
-                return False
-        words = ['run', job, OUT]
+    def said(self, name, words, folder):
+        """The job of a call and its inputs, as the second reading has them; or of a refused call None, None and whether the program
+        answers the same."""
         try:
-            said, inputs = reading.run_of(words, data)
+            return *reading.run_of(words, reader(folder)), True
         except reading.Answer as answer:
             got, is_well = self.call(name, words, folder)
-            return is_well and self.tally.agrees(name, got.pair, answer.pair)
+            return None, None, is_well and self.tally.agrees(name, got.pair, answer.pair)
+
+    def call_run(self, name, folder, job='j'):
+        """A call of `run` beside what the second reading says of it."""
+        words = ['run', job, OUT]
+        said, inputs, is_well = self.said(name, words, folder)
+        if said is None:
+            return is_well
         if said.cycles * len(said.consoles) > LONGEST:
             self.ended['left out, a long run'] += 1
             return True
@@ -261,16 +286,36 @@ class Broken:
         is_well = self.tally.agrees(name, got.pair, wanted)
         return self.tally.agrees(name, room.read(os.path.join(folder, OUT + '.log')), log) and is_well
 
+    def call_trace(self, name, folder):
+        """A call of `trace` of the job, which writes its lines and touches nothing else."""
+        words = ['trace', 'j', str(self.make.pick(0, 0, 1, self.make.random.randrange(30_000), 2**40 - 1)),
+                 str(self.make.pick(1, 2, self.make.random.randrange(1, 2_000))), OUT]
+        said, _, is_well = self.said(name, words, folder)
+        if said is None:
+            return is_well
+        if said.cycles * len(said.consoles) > LONGEST:
+            return True
+        before = room.marks(folder)
+        got, is_well = self.call(name, words, folder, writes=True)
+        lines = room.read(os.path.join(folder, OUT + '.trace')).decode('latin-1').split('\n')
+        is_well = is_well and self.tally.agrees(name, got.pair, (0, f'trace {len(lines) - 1}\n'))
+        wrong = [line for line in lines[:-1] if not is_step(line, said)] + ([lines] if lines[-1] or len(lines) > int(words[3]) + 1 else [])
+        is_well = self.tally.holds(name, not wrong, f'no steps: {wrong[:3]}') and is_well
+        is_well = self.tally.agrees(name, {**room.marks(folder), f'{OUT}.trace': 0}, {**before, f'{OUT}.trace': 0}) and is_well
+        self.restore()
+        return is_well
+
     # ---- The kinds of input
 
     def job(self, name):
         """A changed job, whose run or whose first absent file shows that it was accepted."""
-        is_full = self.make.often(0.12)
+        is_trace = self.make.often(0.1)
+        is_full = self.make.often(0.5 if is_trace else 0.12)
         names = {'bios': 'b', 'cart': 'c', 'save': 's', 'keys': 'k'}
         folder = self.full if is_full else self.bare
         data = self.make.changed(self.make.job(names, 20_000 if is_full else 2**38), VOCABULARY)
         room.write(os.path.join(folder, 'j'), data)
-        return self.call_run(name, folder), data
+        return (self.call_trace if is_trace else self.call_run)(name, folder), data
 
     def log_line(self, name):
         data = self.make.changed(self.log, VOCABULARY)
@@ -327,7 +372,8 @@ class Broken:
 
     def words(self, name):
         """Words that are changed, in a folder without inputs."""
-        words = self.make.pick(['run', 'j', 'g'], ['asm', 'a', 'o'], ['dis', 'i', 'o'], ['tdis', 'i', 'o'], ['gen', '7', '90', 'g'])
+        words = self.make.pick(['run', 'j', 'g'], ['asm', 'a', 'o'], ['dis', 'i', 'o'], ['tdis', 'i', 'o'], ['gen', '7', '90', 'g'],
+                               ['trace', 'j', '0', '1', 'g'])
         for _ in range(self.make.pick(1, 1, 2, 3)):
             place = self.make.random.randrange(len(words) + 1)
             words[place:place + self.make.pick(0, 1, 1)] = [self.make.word(VOCABULARY).decode() for _ in range(self.make.pick(0, 1, 1, 1))]
@@ -358,7 +404,7 @@ REPORTS = {
     5: r'job \S{1,200} line [0-9]+ (Long|Byte|Word|Order|Repeated|Number|Name|Missing|Extra|Digest|Clash)',
     7: r'digest \S{1,200} stated [0-9a-f]{64} got [0-9a-f]{64}', 8: r'source \S{1,200} line [0-9]+ (Size|Unknown|Operand|Repeated|Label|Range)',
     9: r'sink \S{1,200}', 10: r'memory', 13: r'',
-    0: r'(console [0-3] clock [0-9]+ frames [0-9]+ samples [0-9]+ words [0-9]+\n){1,4}log [0-9a-f]{64}|(asm|dis) [0-9]+',
+    0: r'trace [0-9]+|(console [0-3] clock [0-9]+ frames [0-9]+ samples [0-9]+ words [0-9]+\n){1,4}log [0-9a-f]{64}|(asm|dis) [0-9]+',
 }
 
 

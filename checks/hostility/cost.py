@@ -7,13 +7,20 @@ from . import broken, room
 
 JOB = 134_217_728
 KEYS = 33_554_432
-SOURCE = 268_435_456
+SOURCE = 1_073_741_824
+IMAGE_WORDS = 8_388_608  # of the greatest image
 END = 'end\n'
 HEAD = 'gbalink 2\ncycles 1\nconsole 0\nbios b\n'
 
 
 def filled(line, size):
+    """So many of a line, of text or bytes, as fit."""
     return line * (size // len(line))
+
+
+def statements(count, length):
+    """Lines of a statement and a comment, of this length with their ends."""
+    return ('mov r0, #1'.ljust(length - 1, ' ' if length < 15 else ';') + '\n').encode() * count
 
 
 def consoles(changes):
@@ -29,7 +36,8 @@ def label_words(count):
     return labels(count) + ''.join('.word ' + 'x' * 25 + f'{number:07}\n' for number in range(count)) * 4
 
 
-# Of each kind of file: a name, the status, and what makes the text. The first row of a kind is the plain file.
+# Of each kind of file: a name, the status, and what makes the text. The first row of a kind is the plain file; of a source the
+# second is too.
 INPUTS = {
     'job': (
         ('plain: comments of 99 bytes', 5, lambda: HEAD + filled('#' + 'x' * 98 + '\n', JOB - 100)),
@@ -47,12 +55,17 @@ INPUTS = {
         ('1,000,000 clocks of 20 digits', 0, lambda: '00000000137438953472 3ff\n' * 1_000_000),
     ),
     'source': (
-        ('plain: 3,000,000 statements', 0, lambda: 'mov r0, #1\n' * 3_000_000),
-        ('comments of 99 bytes', 0, lambda: filled(';' + 'x' * 98 + '\n', SOURCE)),
-        ('empty lines', 0, lambda: filled('\n', SOURCE // 4)),
+        ('plain: comments of 99 bytes', 0, lambda: filled(b';' + b'x' * 98 + b'\n', SOURCE)),
+        ('plain: 8,388,608 statements, each with a comment, of 34 bytes', 0, lambda: statements(IMAGE_WORDS, 34)),
+        ('8,388,608 statements of 11 bytes', 0, lambda: statements(IMAGE_WORDS, 11)),
+        ('one statement more', 8, lambda: statements(IMAGE_WORDS + 1, 11)),
+        ('empty lines', 0, lambda: filled(b'\n', SOURCE)),
+        ('a byte more than the most', 8, lambda: b'\n' * (SOURCE + 1)),
         ('500,000 labels that share 25 letters', 0, lambda: labels(500_000)),
         ('1,000,000 labels that share 25 letters', 0, lambda: labels(1_000_000)),
         ('2,000,000 labels that share 25 letters', 0, lambda: labels(2_000_000)),
+        ('1,000,000 times the label x', 8, lambda: 'x:\n' * 1_000_000),
+        ('as many labels that share 25 letters as fit', 0, lambda: labels(SOURCE // 34)),
         ('1,000,000 labels, the last one twice', 8, lambda: labels(1_000_000) + 'x' * 25 + '0999999:\n'),
         ('1,000,000 labels, 4,000,000 words of them', 0, lambda: label_words(1_000_000)),
         ('the same, and a last one without a label', 8, lambda: label_words(1_000_000) + '.word y\n'),
@@ -76,18 +89,26 @@ def measured(program, words, folder):
     return child.returncode, used.ru_utime + used.ru_stime, used.ru_maxrss * 1_024
 
 
+def lines_in(path):
+    with open(path, 'rb') as file:
+        return sum(part.count(b'\n') for part in iter(lambda: file.read(1 << 24), b''))
+
+
 def show(program, top):
     """Prints the table, a row for each input."""
     folder = room.fresh(os.path.join(top, 'cost'), b=broken.bios_image())
-    print('| Input | bytes | seconds of a processor | memory, MB | a byte, beside plain | status |\n|---|---|---|---|---|---|')
+    heads = ['Input', 'bytes', 'seconds of a processor', 'memory, MB', 'ns a line', 'a byte, beside plain', 'status']
+    print(f'| {" | ".join(heads)} |\n{"|---" * len(heads)}|')
     for kind, rows in INPUTS.items():
-        plain = None
+        plain = []
         for place, (name, wanted, _) in enumerate(rows):
             writer = multiprocessing.Process(target=write_input, args=(kind, place, folder))
             writer.start()
             writer.join()
             size = os.path.getsize(os.path.join(folder, 'i'))
             status, seconds, memory = measured(program, WORDS[kind], folder)
-            plain = plain or seconds / size
+            plain += [seconds / size] if name.startswith('plain') else []
+            beside = ' and '.join(f'{seconds / size / one:.1f}' for one in plain)
             note = '' if status == wanted else f', wanted {wanted}'
-            print(f'| {kind}, {name} | {size:,} | {seconds:.2f} | {memory / 1e6:,.0f} | {seconds / size / plain:.1f} | {status}{note} |', flush=True)
+            line = 1e9 * seconds / max(1, lines_in(os.path.join(folder, 'i')))
+            print(f'| {kind}, {name} | {size:,} | {seconds:.2f} | {memory / 1e6:,.0f} | {line:,.0f} | {beside} | {status}{note} |', flush=True)

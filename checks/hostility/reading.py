@@ -11,6 +11,7 @@ KEY_FILE_BYTES = 33_554_432
 IMAGE_BYTES = 33_554_432
 LINE_BYTES = 400
 CHANGES = 1_000_000
+STEPS = 1_000_000
 CLOCKS = 2**38
 CYCLES = {1: 2_147_483_648, 2: 274_877_906_944}
 KINDS = ('frames', 'samples', 'words', 'state', 'save')
@@ -157,7 +158,7 @@ def stands_right(job, word):
     if word in HEAD:
         return not job.consoles
     if word == 'console':
-        return job.cycles is not None and len(job.consoles) < 4
+        return job.cycles is not None
     if word == 'end':
         return bool(job.consoles)
     if not job.consoles:
@@ -212,7 +213,7 @@ def end_console(job):
 
 
 def read_console(job, words, _):
-    if number_of(words.take(), 0, 10**20) != len(job.consoles):
+    if number_of(words.take(), 0, 10**20) != len(job.consoles) or len(job.consoles) == 4:
         raise Refused('Order')
     end_console(job)
     words.finish()
@@ -307,8 +308,8 @@ def outputs_of(job, out):
     return named + [(f'{out}.log', None)]
 
 
-def refuse_clash(job, name, out):
-    written = {output for output, _ in outputs_of(job, out)}
+def refuse_clash(job, name, out, *more):
+    written = {*more, *(output for output, _ in outputs_of(job, out))}
     clashing = [0] if name in written else []
     clashing += [entry.line for console in job.consoles for entry in console.inputs.values() if entry.name in written]
     if clashing:
@@ -353,6 +354,10 @@ def command_of(words):
         if all(re.fullmatch(r'[0-9]{1,20}', word) for word in words[1:3]):
             if int(words[1]) < 2**32 and 1 <= int(words[2]) <= CYCLES[1]:
                 return words
+    if len(words) == 5 and words[0] == 'trace' and is_name(words[1]) and is_name(words[4], 180):
+        if all(re.fullmatch(r'[0-9]{1,20}', word) for word in words[2:4]):
+            if int(words[2]) < 2**40 and 1 <= int(words[3]) <= STEPS:
+                return words
     raise Answer(2, 'words')
 
 
@@ -374,10 +379,10 @@ def parsed(name, parse, *arguments):
 
 
 def run_of(words, read):
-    """The job of a call that comes to a run, with its key changes, and the bytes of its inputs; or its answer."""
-    _, name, out = command_of(words)
+    """The job of a call that comes to a run or a trace, with its key changes, and its inputs' digests; or its answer."""
+    kind, name, *_, out = command_of(words)
     job = parsed(name, job_of, read_or_answer(name, read))
-    parsed(name, refuse_clash, job, name, out)
+    parsed(name, refuse_clash, job, name, out, *([f'{out}.trace'] if kind == 'trace' else []))
     files = {}
     for console in job.consoles:
         for kind in INPUTS:

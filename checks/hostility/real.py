@@ -19,10 +19,24 @@ from . import reading, room
 SECOND = 16_777_216
 CYCLES = 34_000_000  # three segments
 NOBODY = 65_534
+NO_USER = 'since root may not become another user who can call the program'
 JOB = f'gbalink 2\ncycles {CYCLES}\ndelay 100\n' + ''.join(
     f'console {k}\nbios b\nout frames\nout samples\nout state\nout save\n' for k in (0, 1)) + 'end\n'
 BIOS = room.bios(0xEAFFFFFE)  # a branch to itself
 FILES = [f'g.{k}.{kind}' for k in (0, 1) for kind in ('frames', 'samples', 'state', 'save')] + ['g.log']
+
+
+def other_user(program):
+    """By which words of a call a user makes it whom the modes of files bind; None where root can't become one, who can call
+    the program."""
+    if os.getuid() != 0:
+        return {}
+    user = {'user': NOBODY, 'group': NOBODY, 'extra_groups': []}
+    try:
+        subprocess.run([program], stdin=subprocess.DEVNULL, stdout=subprocess.DEVNULL, stderr=subprocess.DEVNULL, check=False, **user)
+    except (OSError, subprocess.SubprocessError):
+        return None
+    return user
 
 
 def frames_by(clock):
@@ -48,7 +62,7 @@ class Real:
         shutil.copy(program, self.program)
         os.chmod(self.program, 0o755)
         os.chmod(top, 0o755)
-        self.user = {'user': NOBODY, 'group': NOBODY, 'extra_groups': []} if os.getuid() == 0 else {}
+        self.user = other_user(self.program)
         self.count = 0
         folder = self.folder()
         before = time.monotonic()
@@ -136,12 +150,15 @@ cp -r . ../result2
 
 
 def unshare():
-    """The words that give a call its own mounts, or None where the system doesn't allow it."""
-    words = ['unshare', '--mount'] if os.getuid() == 0 else ['unshare', '--user', '--map-root-user', '--mount']
+    """The words that give a call its own mounts, which nobody else sees, or None where the system doesn't allow it."""
+    words = ['unshare', '--mount', '--propagation', 'private']
+    if os.getuid() != 0:
+        words[1:1] = ['--user', '--map-root-user']
+    mount = 'mount -t tmpfs -o size=40k,nr_inodes=9 hostile /mnt && mount -o remount,size=80k,nr_inodes=99 hostile /mnt'
     try:
-        tried = subprocess.run([*words, 'sh', '-c', 'mount -t tmpfs -o size=4k hostile /mnt'], stdout=subprocess.DEVNULL,
-                               stderr=subprocess.DEVNULL, check=False)
-    except FileNotFoundError:
+        tried = subprocess.run([*words, 'sh', '-c', mount], stdin=subprocess.DEVNULL, stdout=subprocess.DEVNULL,
+                               stderr=subprocess.DEVNULL, timeout=room.SECONDS, check=False)
+    except (OSError, subprocess.TimeoutExpired):
         return None
     return words if tried.returncode == 0 else None
 
@@ -183,6 +200,9 @@ def full_disk(real, words, name, case):
 def refused_folder(real):
     """A folder in which nothing can be made, and inputs that can't be read, for a user who isn't root."""
     name = 'a folder that refuses'
+    if real.user is None:
+        real.tally.leave_out(f'{name}, {NO_USER}')
+        return
     folder = real.folder()
     os.chmod(folder, 0o555)
     got = real.call(folder, **real.user)
@@ -199,6 +219,9 @@ def refused_folder(real):
 
 def refused_files(real):
     """One file that can't be made empty: those before it are empty, it and those behind it as they were."""
+    if real.user is None:
+        real.tally.leave_out(f'files that refuse, {NO_USER}')
+        return
     for place, entry in enumerate(FILES):
         for kind in ('read only', 'a folder'):
             name = f'{entry} is {kind}'
@@ -391,10 +414,14 @@ def memory_limits(real):
     least = 1 << 20
     while real.call(real.top, [], preexec_fn=room.limited(AS=least)).pair != (2, 'words\n'):
         least += 1 << 16
+        if least > 1 << 30:
+            real.tally.holds('limits on memory', False, '1 GiB is not enough for a start')
+            return
     keys = 'gbalink 2\ncycles 300000\n' + ''.join(f'console {k}\nbios b\nkeys k\nout state\n' for k in (0, 1)) + 'end\n'
     uses = {
         'run': (['run', 'j', 'g'], {'job': JOB.replace(str(CYCLES), '300000')}), 'keys': (['run', 'j', 'g'], {'job': keys, 'k': '5 3ff\n' * 150_000}),
-        'gen': (['gen', '7', '300000', 'g'], {}), 'asm': (['asm', 's', 'g.out'], {'s': 'label: mov r0, #1\nldr r0, label\n' + 'mov r0, #1\n' * 300_000}),
+        'gen': (['gen', '7', '300000', 'g'], {}), 'trace': (['trace', 'j', '0', '20000', 'g'], {'job': JOB.replace(str(CYCLES), '300000')}),
+        'asm': (['asm', 's', 'g.out'], {'s': 'label: mov r0, #1\nldr r0, label\n' + 'mov r0, #1\n' * 300_000}),
         'dis': (['dis', 's', 'g.out'], {'s': bytes(range(256)) * 2_000}),
     }
     for use, (words, files) in uses.items():

@@ -68,9 +68,10 @@ def call(program, words, folder, seconds=SECONDS, **more):
 
 
 def limited(**limits):
-    """A call before the program starts that sets limits: limited(AS=bytes) is `ulimit -v`."""
+    """A call before the program starts that sets limits: limited(AS=bytes) is `ulimit -v`. A signal leaves no core file."""
     def start():
         signal.signal(signal.SIGXFSZ, signal.SIG_DFL)
+        resource.setrlimit(resource.RLIMIT_CORE, (0, 0))
         for name, most in limits.items():
             resource.setrlimit(getattr(resource, 'RLIMIT_' + name), (most, most))
     return start

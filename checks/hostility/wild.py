@@ -2,9 +2,13 @@
 
 Each run ends with status 0, and its log, run again, gives the same bytes: one of both runs on one processor, the other on all.
 """
+import contextlib
+import hashlib
 import os
 import random
 import shutil
+import subprocess
+import sys
 
 from . import room
 
@@ -90,6 +94,21 @@ class Wild:
         for out in 'gh':
             for entry in first:
                 os.remove(os.path.join(self.folder, out + entry))
+        self.traces(name)
+
+    def traces(self, name):
+        """The steps of the job, and the same in two parts; each machine's clock never falls, and the least one steps."""
+        count, part = 20_000, self.random.randrange(1, 20_000)
+        got = self.call(['trace', 'j', '0', str(count), 't'], False)
+        whole = room.read(os.path.join(self.folder, 't.trace')).splitlines(keepends=True)
+        self.tally.agrees(f'{name}, the trace', got.pair, (0, f'trace {len(whole)}\n'))
+        parts = b''
+        for first, length in ((0, part), (part, count - part)):
+            self.call(['trace', 'j', str(first), str(length), 't'], True)
+            parts += room.read(os.path.join(self.folder, 't.trace'))
+        self.tally.holds(f'{name}, the trace in parts from step {part}', parts == b''.join(whole), f'other lines:\n{name}')
+        clocks = [int(line.split(b' ', 2)[1]) for line in whole]
+        self.tally.holds(f'{name}, the clocks of the trace', clocks == sorted(clocks), 'they fall')
 
 
 def check(program, top, seed, count):
@@ -105,4 +124,57 @@ def check(program, top, seed, count):
             room.write(os.path.join(wild.folder, name), random_cartridge(wild.random))
         wild.runs(f'seed {seed} case {case}', job(wild.random, names, wild.random.randint(50_000, 300_000)))
     wild.tally.holds('random code makes transfers', wild.words > count // 4, f'only {wild.words} words')
+    return wild.tally
+
+
+# ---- Many cartridges, which aren't run ever --------------------------------------------------------------------------------
+
+# It ends by itself too, where nobody is left to end it.
+TURN = 'import time\nwhile time.process_time() < 600:\n    pass'
+
+
+@contextlib.contextmanager
+def load(is_wanted):
+    """A process on each processor that does nothing but take time."""
+    others = [subprocess.Popen([sys.executable, '-c', TURN]) for _ in os.sched_getaffinity(0)] if is_wanted else []
+    try:
+        yield
+    finally:
+        for other in others:
+            other.kill()
+            other.wait()
+
+
+def came_to(wild, words, is_alone):
+    """What a call comes to: its status, its summary, and a digest of all that it wrote, which is removed."""
+    got = wild.call(words, is_alone)
+    files = room.contents(wild.folder, words[2])
+    told = hashlib.sha256(repr(sorted(files.items())).encode()).hexdigest()
+    for entry in files:
+        os.remove(os.path.join(wild.folder, words[2] + entry))
+    return got.pair, told, files.get('.log', b'')
+
+
+def check_many(program, top, seed, count):
+    """Each of so many random cartridges alone, and on a cable with the three behind it: a run on one processor, and runs of
+    its log on all, on one beside load, and on all beside load."""
+    wild = Wild(program, top, seed)
+    names = [f'r{case}' for case in range(count)]
+    for name in names:
+        room.write(os.path.join(wild.folder, name), random_cartridge(wild.random))
+    groups = [group for case in range(count) for group in ([names[case]], [names[(case + k) % count] for k in range(4)])]
+    for begin in range(0, len(groups), 100):
+        first = []
+        for place, group in enumerate(groups[begin:begin + 100], begin):
+            text = job(wild.random, group, wild.random.randint(20_000, 150_000))
+            room.write(os.path.join(wild.folder, 'j'), text)
+            got = came_to(wild, ['run', 'j', 'g'], True)
+            wild.tally.holds(f'seed {seed} run {place}', got[0][0] == 0, f'{got[0]}\n{text}')
+            first.append((place, got))
+        for is_loaded, is_alone in ((False, False), (True, True), (True, False)):
+            with load(is_loaded):
+                for place, got in first:
+                    room.write(os.path.join(wild.folder, 'k'), got[2])
+                    wild.tally.agrees(f'seed {seed} run {place}, loaded {is_loaded}, one processor {is_alone}',
+                                      came_to(wild, ['run', 'k', 'h'], is_alone), got)
     return wild.tally
