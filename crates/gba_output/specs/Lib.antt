@@ -1,3 +1,4 @@
+pub mod Rows
 pub mod CableLines
 pub mod StateFile
 pub mod Truths

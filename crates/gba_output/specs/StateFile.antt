@@ -1,13 +1,16 @@
 use Rattle.std.specs.Prelude.{ℕ, zero, suc, ◌+◌, ◌*◌, ◌/◌, ◌%◌, ◌==◌, Bool, List, [], ◌∷◌, ◌++◌, length, take, drop, codes, decimal, if◌then◌else◌}
 use Rattle.std.specs.List.{list_all}
-use Rattle.gba_terms.specs.Hexadecimal.{hex}
-use Rattle.gba_terms.specs.RegisterNames.{register_names}
 use Rattle.gba_console.specs.Machine.{Machine, clock_of}
+use Rattle.gba_devices.specs.Registers.{truth_number}
 use Rattle.gba_devices.specs.State.{Devices}
 use Rattle.gba_dma.specs.Channels.{channel_at}
 use Rattle.gba_dma.specs.declared.channel.Channel.{Channel}
+use Rattle.gba_frozen.specs.declared.rows.Row.TheVariants as row
+use Rattle.gba_frozen_print.specs.Printed.{ended, memory_text, queue_text, wave_text}
 use Rattle.gba_io.specs.Core.{Core, core_half_stored}
 use Rattle.gba_mem.specs.Backups.{backup_bytes}
+use Rattle.gba_numbers.specs.declared.names.MemoryName.{MemoryName}
+use Rattle.gba_numbers.specs.declared.names.MemoryName.TheVariants as memory
 use Rattle.gba_ppu_reg.specs.Registers.{reference_of}
 use Rattle.gba_ppu_reg.specs.declared.position.Position.{Position}
 use Rattle.gba_ppu_reg.specs.declared.reference.Reference.{Reference}
@@ -19,34 +22,22 @@ use Rattle.gba_sound.specs.Queues.{queue_at}
 use Rattle.gba_timer.specs.Timers.{timer_at}
 use Rattle.gba_timer.specs.declared.timer.Timer.{Timer}
 use Rattle.gba_output.specs.CableLines.{cable_lines}
-use Rattle.gba_output.specs.Truths.{truth}
+use Rattle.gba_output.specs.Rows.{line}
 
--- the line of a register: its name, and its value as eight digits
-abbrev pub register_line : List ℕ → ℕ → List ℕ
-register_line name value = name ++ codes " " ++ hex 8 value ++ codes "\n"
-
--- a line for each register that has a name and a value
-unfoldable pub register_lines : List (List ℕ) → List ℕ → List ℕ
-register_lines [] values = []
-register_lines (name ∷ names) [] = []
-register_lines (name ∷ names) (value ∷ values) = register_line name value ++ register_lines names values
-
--- the lines before the registers; the last says whether the console is halted
-unfoldable pub title : ℕ → List ℕ
-title player = codes "gbalink-state 1\nconsole " ++ decimal player ++ codes "\n"
-
+-- the lines before the registers: the version, the player, the clock, and whether the console is halted
 abbrev pub heading : ℕ → ℕ → Bool → List ℕ
 heading player clock halted =
-    title player ++ (codes "clock " ++ decimal clock ++ codes "\nhalted " ++ truth halted ++ codes "\n")
+    line row.Heading [] ++ line (row.Console player) [] ++ line row.Clock (clock ∷ [])
+    ++ line row.Halted (truth_number halted ∷ [])
+
+-- the lines of registers, of which this is the first one's number
+unfoldable pub register_lines : ℕ → List ℕ → List ℕ
+register_lines register [] = []
+register_lines register (value ∷ values) = line (row.Register register) (value ∷ []) ++ register_lines (register + 1) values
 
 -- the line of a timer: its number, its counter, its reload, its control and its phase
-abbrev pub timer_numbers : Timer → List ℕ
-timer_numbers t =
-    (codes " " ++ decimal t.counter) ++ (codes " " ++ decimal t.reload) ++ (codes " " ++ decimal t.control)
-    ++ (codes " " ++ decimal t.phase)
-
 abbrev pub timer_line : ℕ → Timer → List ℕ
-timer_line number t = codes "timer " ++ decimal number ++ timer_numbers t ++ codes "\n"
+timer_line number t = line (row.Timer number) (t.counter ∷ t.reload ∷ t.control ∷ t.phase ∷ [])
 
 abbrev pub timer_lines : Devices → List ℕ
 timer_lines d =
@@ -55,95 +46,71 @@ timer_lines d =
 
 -- the line of a DMA channel: its number, whether a run goes on, whether the run's first unit is still to come, the inner
 -- source, the inner destination, and the units that are left
-abbrev pub channel_numbers : Channel → List ℕ
-channel_numbers c =
-    (codes " " ++ truth c.active) ++ (codes " " ++ truth c.first) ++ (codes " " ++ decimal c.inner_source)
-    ++ (codes " " ++ decimal c.inner_target) ++ (codes " " ++ decimal c.left)
-
 abbrev pub channel_line : ℕ → Channel → List ℕ
-channel_line number c = codes "dma " ++ decimal number ++ channel_numbers c ++ codes "\n"
+channel_line number c =
+    line (row.Dma number) (truth_number c.active ∷ truth_number c.first ∷ c.inner_source ∷ c.inner_target ∷ c.left ∷ [])
 
 abbrev pub channel_lines : Devices → List ℕ
 channel_lines d =
     channel_line 0 (channel_at 0 d.channels) ++ channel_line 1 (channel_at 1 d.channels)
     ++ channel_line 2 (channel_at 2 d.channels) ++ channel_line 3 (channel_at 3 d.channels)
 
--- bytes as two digits each
-abbrev pub hex_bytes : List ℕ → List ℕ
-hex_bytes [] = []
-hex_bytes (byte ∷ bytes) = hex 2 byte ++ hex_bytes bytes
-
--- the line of a sound queue: its letter, its current byte, how many bytes it holds, and these, oldest first, or a dash
-abbrev pub queue_bytes : List ℕ → List ℕ
-queue_bytes bytes = if length bytes == 0 then codes "-" else hex_bytes bytes
-
-unfoldable pub queue_line : List ℕ → SoundQueue → List ℕ
-queue_line name q =
-    codes "queue " ++ name ++ codes " " ++ hex 2 q.current ++ codes " " ++ decimal (length q.bytes) ++ codes " "
-    ++ queue_bytes q.bytes ++ codes "\n"
+-- the line of a sound queue, 0 for A and 1 for B: its letter, its current byte, how many bytes it holds, and these, oldest first,
+-- or a dash
+unfoldable pub queue_line : ℕ → SoundQueue → List ℕ
+queue_line queue q = ended (queue_text queue q.current q.bytes)
 
 abbrev pub queue_lines : Devices → List ℕ
-queue_lines d = queue_line (codes "A") (queue_at 0 d.sound) ++ queue_line (codes "B") (queue_at 1 d.sound)
+queue_lines d = queue_line 0 (queue_at 0 d.sound) ++ queue_line 1 (queue_at 1 d.sound)
 
 -- The line of the sequencer, by which the tone channels tick; the line of a tone channel: its number, from 1 to 4, whether it
 -- is on, its place, its wait, the length that is left, its volume, the ticks of its envelope and of its sweep that are left,
 -- and the frequency from which the sweep goes on; and the line of a bank of channel 3's wave: its number and its 16 bytes.
-unfoldable pub sequencer_line : ℕ → List ℕ
-sequencer_line cycles = codes "sequencer " ++ decimal cycles ++ codes "\n"
-
-abbrev pub tone_numbers : Tone → List ℕ
-tone_numbers t =
-    (codes " " ++ truth t.on) ++ (codes " " ++ decimal t.place) ++ (codes " " ++ decimal t.wait)
-    ++ (codes " " ++ decimal t.left) ++ (codes " " ++ decimal t.volume) ++ (codes " " ++ decimal t.fade)
-    ++ (codes " " ++ decimal t.sweep) ++ (codes " " ++ decimal t.shadow)
-
 abbrev pub tone_line : ℕ → Tone → List ℕ
-tone_line number t = codes "tone " ++ decimal number ++ tone_numbers t ++ codes "\n"
-
-unfoldable pub wave_line : ℕ → List ℕ → List ℕ
-wave_line number bank = codes "wave " ++ decimal number ++ codes " " ++ hex_bytes bank ++ codes "\n"
+tone_line number t =
+    line (row.Tone number)
+    (truth_number t.on ∷ t.place ∷ t.wait ∷ t.left ∷ t.volume ∷ t.fade ∷ t.sweep ∷ t.shadow ∷ [])
 
 abbrev pub four_lines : FourTones → List ℕ
 four_lines ts =
     tone_line 1 (tone_at 0 ts) ++ tone_line 2 (tone_at 1 ts) ++ tone_line 3 (tone_at 2 ts) ++ tone_line 4 (tone_at 3 ts)
 
+unfoldable pub wave_line : ℕ → List ℕ → List ℕ
+wave_line number bank = ended (wave_text number bank)
+
 abbrev pub wave_lines : FourTones → List ℕ
 wave_lines ts = wave_line 0 ts.wave.bank0 ++ wave_line 1 ts.wave.bank1
 
 unfoldable pub tone_lines : FourTones → List ℕ
-tone_lines ts = sequencer_line ts.sequencer ++ four_lines ts ++ wave_lines ts
+tone_lines ts = line row.Sequencer (ts.sequencer ∷ []) ++ four_lines ts ++ wave_lines ts
 
 -- the lines of the picture's place, and of the inner reference points of backgrounds 2 and 3
-unfoldable pub position_line : Position → List ℕ
-position_line p = codes "position " ++ decimal p.line ++ codes " " ++ decimal p.dot ++ codes "\n"
+abbrev pub position_line : Position → List ℕ
+position_line p = line row.Position (p.line ∷ p.dot ∷ [])
 
-unfoldable pub affine_line : List ℕ → Reference → List ℕ
-affine_line name point = codes "affine " ++ name ++ codes " " ++ hex 8 point.x ++ codes " " ++ hex 8 point.y ++ codes "\n"
+abbrev pub affine_line : ℕ → Reference → List ℕ
+affine_line background point = line (row.Affine background) (point.x ∷ point.y ∷ [])
 
 unfoldable pub picture_lines : Devices → List ℕ
 picture_lines d =
-    position_line d.place ++ affine_line (codes "2") (reference_of 2 d.picture)
-    ++ affine_line (codes "3") (reference_of 3 d.picture)
+    position_line d.place ++ affine_line 2 (reference_of 2 d.picture) ++ affine_line 3 (reference_of 3 d.picture)
 
--- the line of 32 bytes of a memory: its name, their offset as six digits, and the bytes
-abbrev pub memory_place : List ℕ → ℕ → List ℕ
-memory_place name offset = codes "mem " ++ name ++ codes " " ++ hex 6 offset ++ codes " "
+-- The line of 32 bytes of a memory: its name, their offset as six digits, and the bytes. Where all the bytes are 0, there is no
+-- line.
+unfoldable pub memory_row : MemoryName → ℕ → List ℕ → List ℕ
+memory_row name offset bytes = ended (memory_text (record { name = name; offset = offset }) bytes)
 
-abbrev pub memory_row : List ℕ → ℕ → List ℕ → List ℕ
-memory_row name offset bytes = memory_place name offset ++ hex_bytes bytes ++ codes "\n"
-
--- where all the bytes are 0, there is no line
-abbrev pub memory_line : List ℕ → ℕ → List ℕ → List ℕ
+abbrev pub memory_line : MemoryName → ℕ → List ℕ → List ℕ
 memory_line name offset bytes = if list_all (λ byte. byte == 0) bytes then [] else memory_row name offset bytes
 
 -- so many of these lines, from an offset on
-unfoldable pub memory_lines : List ℕ → ℕ → ℕ → List ℕ → List ℕ
+unfoldable pub memory_lines : MemoryName → ℕ → ℕ → List ℕ → List ℕ
 memory_lines name zero offset bytes = []
 memory_lines name (suc count) offset bytes =
     memory_line name offset (take 32 (drop offset bytes)) ++ memory_lines name count (offset + 32) bytes
 
 -- the lines of a whole memory
-abbrev pub lines_of : List ℕ → List ℕ → List ℕ
+abbrev pub lines_of : MemoryName → List ℕ → List ℕ
 lines_of name bytes = memory_lines name (length bytes / 32) 0 bytes
 
 -- the bytes of so many of the I/O registers' halfwords, from 04000000h up: what is stored there, and of bits that are
@@ -156,15 +123,15 @@ io_bytes (suc halves) b =
 -- the lines of the memories that a state file has, the I/O registers first
 abbrev pub lines_of_memories : Core → List ℕ
 lines_of_memories b =
-    lines_of (codes "io") (io_bytes 512 b)
-    ++ lines_of (codes "wram") b.memory.work ++ lines_of (codes "iwram") b.memory.inner
-    ++ lines_of (codes "palette") b.memory.palette ++ lines_of (codes "vram") b.memory.vram
-    ++ lines_of (codes "oam") b.memory.oam
+    lines_of memory.Io (io_bytes 512 b)
+    ++ lines_of memory.Wram b.memory.work ++ lines_of memory.Iwram b.memory.inner
+    ++ lines_of memory.Palette b.memory.palette ++ lines_of memory.Vram b.memory.vram
+    ++ lines_of memory.Oam b.memory.oam
 
 -- the state file of a console
 abbrev pub state_file : Machine → List ℕ
 state_file m =
-    heading m.board.core.serial.player (clock_of m) m.board.core.devices.halted ++ register_lines register_names m.registers
+    heading m.board.core.serial.player (clock_of m) m.board.core.devices.halted ++ register_lines 0 m.registers
     ++ timer_lines m.board.core.devices ++ channel_lines m.board.core.devices ++ queue_lines m.board.core.devices
     ++ tone_lines m.board.core.devices.tones ++ picture_lines m.board.core.devices ++ cable_lines m.board.core.serial ++ lines_of_memories m.board.core
 

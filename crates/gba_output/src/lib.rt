@@ -3,6 +3,7 @@
 
 mod cable;
 mod devices;
+mod rows;
 mod state;
 mod tones;
 mod words;

@@ -1,26 +1,29 @@
 //! The state file, the save and the summary.
 
-ghost use Rattle.std.specs.Prelude.{◌≡◌, ◌+◌, ◌*◌, ◌/◌, ◌%◌, ◌≤◌, ◌<◌, ◌==◌, ◌++◌, [], ◌∷◌, codes, decimal, length, drop, vec_len, vec_capacity, slice_index_or};
+ghost use Rattle.std.specs.Prelude.{◌≡◌, ◌+◌, ◌*◌, ◌/◌, ◌%◌, ◌≤◌, ◌<◌, ◌==◌, ◌++◌, [], ◌∷◌, decimal, length, drop, vec_len, vec_capacity};
 ghost use Rattle.std.specs.List.{list_all};
-ghost use Rattle.gba_terms.specs.RegisterNames.{register_names};
 ghost use Rattle.arrayvec.specs.ArrayVec.{array_vec_len};
-ghost use Rattle.gba_output.specs.StateFile.{heading, hex_bytes, io_bytes as io_bytes_of, lines_of, lines_of_memories, memory_line, memory_place, memory_row, register_line, register_lines, save_file, state_file, summary_line, title};
-ghost use Rattle.gba_output.specs.Truths.{truth as truth_of};
+ghost use Rattle.gba_numbers.specs.declared.names.MemoryName.TheVariants as memory;
+ghost use Rattle.gba_frozen.specs.declared.rows.Row.TheVariants as row;
+ghost use Rattle.gba_output.specs.Rows.{line};
+ghost use Rattle.gba_output.specs.StateFile.{heading, io_bytes as io_bytes_of, lines_of, lines_of_memories, memory_line, memory_row, register_lines, save_file, state_file, summary_line};
 
 use crate::cable::add_cable_lines;
 use crate::devices::{add_channel_lines, add_picture_lines, add_queue_lines, add_timer_lines};
+use crate::rows::{add_line, truth_number};
 use crate::tones::add_tone_lines;
 use arrayvec::ArrayVec;
 use gba_console::Console;
-use gba_io::{Core, MemoryName};
+use gba_frozen::{MemoryPlace, Row};
+use gba_frozen_print::add_memory;
+use gba_io::{Core, MemoryName as Part};
+use gba_numbers::MemoryName;
 use gba_text::{Line, add_text};
-use gba_word::hexadecimal::{hex_byte, hex_offset, hex_word};
 use itoa::Buffer;
 
-/// The room of a state file in bytes: its heading has at most 96, each of the 37 registers at most 18, each timer at most
-/// 36, each DMA channel at most 45, each queue at most 80, the sequencer 21, each tone channel 88, each bank of a wave 42, the
-/// position and the reference points 85, the serial unit 91, and each of the 12,384 lines of registers and memory 84.
-pub const STATE_ROOM: usize = 1_042_135;
+/// The room of a state file in bytes: each of its rows has at most 193, each of the two queues 98, each bank of the wave 49, and
+/// each of the 12,384 lines of registers and memory 84.
+pub const STATE_ROOM: usize = 1_051_937;
 
 /// The bytes of a save.
 pub const SAVE_ROOM: usize = 131_072;
@@ -43,127 +46,43 @@ pub(crate) fn add(into: &mut Vec<u8>, bytes: &[u8])
     }
 }
 
-/// The name of a register, by its place among the 37.
-#[tactic(auto, unfolding(gba_terms::specs::RegisterNames::register_names))]
-fn register_name(place: usize) -> &'static [u8]
-    requires { place < 37 }
-    ensures name { result.now ≡ slice_index_or register_names place [] }
-    ensures short { length result.now ≤ 8 }
-{
-    match place {
-        0 => b"r0",
-        1 => b"r1",
-        2 => b"r2",
-        3 => b"r3",
-        4 => b"r4",
-        5 => b"r5",
-        6 => b"r6",
-        7 => b"r7",
-        8 => b"r8",
-        9 => b"r9",
-        10 => b"r10",
-        11 => b"r11",
-        12 => b"r12",
-        13 => b"r13",
-        14 => b"r14",
-        15 => b"r15",
-        16 => b"r8_fiq",
-        17 => b"r9_fiq",
-        18 => b"r10_fiq",
-        19 => b"r11_fiq",
-        20 => b"r12_fiq",
-        21 => b"r13_fiq",
-        22 => b"r14_fiq",
-        23 => b"r13_irq",
-        24 => b"r14_irq",
-        25 => b"r13_svc",
-        26 => b"r14_svc",
-        27 => b"r13_abt",
-        28 => b"r14_abt",
-        29 => b"r13_und",
-        30 => b"r14_und",
-        31 => b"cpsr",
-        32 => b"spsr_fiq",
-        33 => b"spsr_irq",
-        34 => b"spsr_svc",
-        35 => b"spsr_abt",
-        _ => b"spsr_und",
-    }
-}
-
-/// Adds the line of one register.
-fn add_register_line(into: &mut Vec<u8>, name: &[u8], value: u32)
-    requires { vec_len into.old + length name.now + 10 ≤ vec_capacity into.old }
-    ensures items { into.new.items ≡ into.old.items ++ register_line name.now value }
-    ensures len { vec_len into.new ≡ vec_len into.old + length name.now + 10 }
+/// Adds the line of a register.
+#[tactic(auto, unfolding(gba_frozen::specs::Rows::is_row, gba_frozen::specs::Rows::count_of, gba_frozen::specs::Rows::spelling_of))]
+fn add_register_line(into: &mut Vec<u8>, register: u32, value: u32)
+    requires register { register < 37 }
+    requires room { vec_len into.old + 193 ≤ vec_capacity into.old }
+    ensures items { into.new.items ≡ into.old.items ++ line (row.Register register) (value ∷ []) }
+    ensures len { vec_len into.new ≤ vec_len into.old + 193 }
     ensures room { vec_capacity into.old ≤ vec_capacity into.new }
 {
-    add(into, name);
-    add(into, b" ");
-    add(into, &hex_word(value));
-    add(into, b"\n");
+    add_line(into, Row::Register(register), &[u64::from(value)]);
 }
 
 /// Adds the lines of the 37 registers.
 fn add_register_lines(into: &mut Vec<u8>, registers: &[u32; 37])
-    requires { vec_len into.old + 666 ≤ vec_capacity into.old }
-    ensures items { into.new.items ≡ into.old.items ++ register_lines register_names registers.now }
-    ensures len { vec_len into.new ≤ vec_len into.old + 666 }
+    requires { vec_len into.old + 7141 ≤ vec_capacity into.old }
+    ensures items { into.new.items ≡ into.old.items ++ register_lines 0 registers.now }
+    ensures len { vec_len into.new ≤ vec_len into.old + 7141 }
     ensures room { vec_capacity into.old ≤ vec_capacity into.new }
 {
-    for place in 0..37 {
-        add_register_line(into, register_name(place), registers[place]);
+    for register in 0..37 {
+        add_register_line(into, register, registers[register as usize]);
     }
-}
-
-/// A truth as a digit.
-pub(crate) fn truth(set: bool) -> &'static [u8]
-    ensures value { result.now ≡ truth_of set }
-    ensures short { length result.now ≡ 1 }
-{
-    if set { b"1" } else { b"0" }
-}
-
-/// Adds the lines that say which console it is.
-#[tactic(auto, unfolding(crate::specs::StateFile::title))]
-fn add_title(into: &mut Vec<u8>, player: u32)
-    requires { vec_len into.old + 35 ≤ vec_capacity into.old }
-    ensures items { into.new.items ≡ into.old.items ++ title player }
-    ensures len { vec_len into.new ≤ vec_len into.old + 35 }
-    ensures room { vec_capacity into.old ≤ vec_capacity into.new }
-{
-    let mut buffer = Buffer::new();
-    add(into, b"gbalink-state 1\nconsole ");
-    add(into, buffer.format(player).as_bytes());
-    add(into, b"\n");
 }
 
 /// Adds the lines before the registers.
+#[tactic(auto, unfolding(gba_frozen::specs::Rows::is_row, gba_frozen::specs::Rows::count_of, gba_frozen::specs::Rows::spelling_of))]
 fn add_heading(into: &mut Vec<u8>, player: u32, clock: u64, halted: bool)
-    requires { vec_len into.old + 96 ≤ vec_capacity into.old }
+    requires player { player < 4 }
+    requires room { vec_len into.old + 772 ≤ vec_capacity into.old }
     ensures items { into.new.items ≡ into.old.items ++ heading player clock halted }
-    ensures len { vec_len into.new ≤ vec_len into.old + 96 }
+    ensures len { vec_len into.new ≤ vec_len into.old + 772 }
     ensures room { vec_capacity into.old ≤ vec_capacity into.new }
 {
-    let mut buffer = Buffer::new();
-    add_title(into, player);
-    add(into, b"clock ");
-    add(into, buffer.format(clock).as_bytes());
-    add(into, b"\nhalted ");
-    add(into, truth(halted));
-    add(into, b"\n");
-}
-
-/// Adds bytes as two digits each.
-pub(crate) fn add_hex_bytes(into: &mut Vec<u8>, bytes: &[u8])
-    requires { vec_len into.old + 2 * length bytes.now ≤ vec_capacity into.old }
-    ensures items { into.new.items ≡ into.old.items ++ hex_bytes bytes.now }
-    ensures len { vec_len into.new ≡ vec_len into.old + 2 * length bytes.now }
-    ensures room { vec_capacity into.old ≤ vec_capacity into.new }
-{
-    for byte in bytes {
-        add(into, &hex_byte(*byte));
-    }
+    add_line(into, Row::Heading, &[]);
+    add_line(into, Row::Console(player), &[]);
+    add_line(into, Row::Clock, &[clock]);
+    add_line(into, Row::Halted, &[truth_number(halted)]);
 }
 
 fn is_zero(bytes: &[u8]) -> bool
@@ -172,41 +91,23 @@ fn is_zero(bytes: &[u8]) -> bool
     bytes.iter().all(|byte| *byte == 0)
 }
 
-/// Adds the name of a memory and the offset of its line.
-fn add_memory_place(into: &mut Vec<u8>, name: &[u8], offset: u32)
-    requires short { length name.now ≤ 7 }
-    requires room { vec_len into.old + 19 ≤ vec_capacity into.old }
-    ensures items { into.new.items ≡ into.old.items ++ memory_place name.now offset }
-    ensures len { vec_len into.new ≤ vec_len into.old + 19 }
-    ensures room { vec_capacity into.old ≤ vec_capacity into.new }
-{
-    add(into, b"mem ");
-    add(into, name);
-    add(into, b" ");
-    add(into, &hex_offset(offset));
-    add(into, b" ");
-}
-
 /// Adds the line of 32 bytes of memory.
-fn add_memory_row(into: &mut Vec<u8>, name: &[u8], offset: u32, bytes: &[u8])
-    requires short { length name.now ≤ 7 }
+#[tactic(auto, unfolding(crate::specs::StateFile::memory_row))]
+fn add_memory_row(into: &mut Vec<u8>, name: MemoryName, offset: u32, bytes: &[u8])
     requires whole { length bytes.now ≡ 32 }
     requires room { vec_len into.old + 84 ≤ vec_capacity into.old }
-    ensures items { into.new.items ≡ into.old.items ++ memory_row name.now offset bytes.now }
+    ensures items { into.new.items ≡ into.old.items ++ memory_row name offset bytes.now }
     ensures len { vec_len into.new ≤ vec_len into.old + 84 }
     ensures room { vec_capacity into.old ≤ vec_capacity into.new }
 {
-    add_memory_place(into, name, offset);
-    add_hex_bytes(into, bytes);
-    add(into, b"\n");
+    add_memory(into, MemoryPlace { name, offset }, bytes);
 }
 
 /// Adds the line of 32 bytes of memory, where they aren't all 0.
-fn add_memory_line(into: &mut Vec<u8>, name: &[u8], offset: u32, bytes: &[u8])
-    requires short { length name.now ≤ 7 }
+fn add_memory_line(into: &mut Vec<u8>, name: MemoryName, offset: u32, bytes: &[u8])
     requires whole { length bytes.now ≡ 32 }
     requires room { vec_len into.old + 84 ≤ vec_capacity into.old }
-    ensures items { into.new.items ≡ into.old.items ++ memory_line name.now offset bytes.now }
+    ensures items { into.new.items ≡ into.old.items ++ memory_line name offset bytes.now }
     ensures len { vec_len into.new ≤ vec_len into.old + 84 }
     ensures room { vec_capacity into.old ≤ vec_capacity into.new }
 {
@@ -216,11 +117,10 @@ fn add_memory_line(into: &mut Vec<u8>, name: &[u8], offset: u32, bytes: &[u8])
 }
 
 /// Adds the lines of a memory of at most 262,144 bytes.
-fn add_memory_lines(into: &mut Vec<u8>, name: &[u8], bytes: &[u8])
-    requires short { length name.now ≤ 7 }
+fn add_memory_lines(into: &mut Vec<u8>, name: MemoryName, bytes: &[u8])
     requires most { length bytes.now ≤ 262144 }
     requires room { vec_len into.old + 84 * (length bytes.now / 32) ≤ vec_capacity into.old }
-    ensures items { into.new.items ≡ into.old.items ++ lines_of name.now bytes.now }
+    ensures items { into.new.items ≡ into.old.items ++ lines_of name bytes.now }
     ensures len { vec_len into.new ≤ vec_len into.old + 84 * (length bytes.now / 32) }
     ensures room { vec_capacity into.old ≤ vec_capacity into.new }
 {
@@ -257,12 +157,12 @@ fn io_bytes(core: &Core) -> ArrayVec<u8, 1024>
 /// Adds the lines of the I/O registers.
 fn add_io_lines(into: &mut Vec<u8>, core: &Core)
     requires { vec_len into.old + 2688 ≤ vec_capacity into.old }
-    ensures items { into.new.items ≡ into.old.items ++ lines_of (codes "io") (io_bytes_of 512 core.now) }
+    ensures items { into.new.items ≡ into.old.items ++ lines_of memory.Io (io_bytes_of 512 core.now) }
     ensures len { vec_len into.new ≤ vec_len into.old + 2688 }
     ensures room { vec_capacity into.old ≤ vec_capacity into.new }
 {
     let bytes = io_bytes(core);
-    add_memory_lines(into, b"io", bytes.as_slice());
+    add_memory_lines(into, MemoryName::Io, bytes.as_slice());
 }
 
 /// Adds the lines of the memories.
@@ -272,16 +172,16 @@ fn add_memories(into: &mut Vec<u8>, core: &Core)
     ensures room { vec_capacity into.old ≤ vec_capacity into.new }
 {
     add_io_lines(into, core);
-    add_memory_lines(into, b"wram", core.memory(MemoryName::Wram));
-    add_memory_lines(into, b"iwram", core.memory(MemoryName::Iwram));
-    add_memory_lines(into, b"palette", core.memory(MemoryName::Palette));
-    add_memory_lines(into, b"vram", core.memory(MemoryName::Vram));
-    add_memory_lines(into, b"oam", core.memory(MemoryName::Oam));
+    add_memory_lines(into, MemoryName::Wram, core.memory(Part::Wram));
+    add_memory_lines(into, MemoryName::Iwram, core.memory(Part::Iwram));
+    add_memory_lines(into, MemoryName::Palette, core.memory(Part::Palette));
+    add_memory_lines(into, MemoryName::Vram, core.memory(Part::Vram));
+    add_memory_lines(into, MemoryName::Oam, core.memory(Part::Oam));
 }
 
-/// Adds the state file of a console at the end of a buffer that has room for it: 1,042,135 bytes are enough for any.
+/// Adds the state file of a console at the end of a buffer that has room for it: 1,051,937 bytes are enough for any.
 pub fn add_state(into: &mut Vec<u8>, console: &Console)
-    requires { vec_len into.old + 1042135 ≤ vec_capacity into.old }
+    requires { vec_len into.old + 1051937 ≤ vec_capacity into.old }
     ensures items { into.new.items ≡ into.old.items ++ state_file console.now }
     ensures room { vec_capacity into.old ≤ vec_capacity into.new }
 {
@@ -297,10 +197,10 @@ pub fn add_state(into: &mut Vec<u8>, console: &Console)
     add_memories(into, core);
 }
 
-/// Writes the state file of a console into an empty buffer with room for it: 1,042,135 bytes are enough for any.
+/// Writes the state file of a console into an empty buffer with room for it: 1,051,937 bytes are enough for any.
 pub fn write_state(into: &mut Vec<u8>, console: &Console)
     requires empty { into.old.items ≡ [] }
-    requires room { 1042135 ≤ vec_capacity into.old }
+    requires room { 1051937 ≤ vec_capacity into.old }
     ensures items { into.new.items ≡ state_file console.now }
     ensures room { vec_capacity into.old ≤ vec_capacity into.new }
 {
@@ -316,7 +216,7 @@ pub fn write_save(into: &mut Vec<u8>, console: &Console)
     ensures items { into.new.items ≡ save_file console.now }
     ensures room { vec_capacity into.old ≤ vec_capacity into.new }
 {
-    add(into, console.board().core.memory(MemoryName::Backup));
+    add(into, console.board().core.memory(Part::Backup));
 }
 
 /// Adds a number between texts to a summary.

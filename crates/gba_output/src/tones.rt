@@ -1,80 +1,42 @@
 //! The lines of the tone channels.
 
 ghost use Rattle.std.specs.Prelude.{◌≡◌, ◌+◌, ◌≤◌, ◌++◌, vec_len, vec_capacity};
-ghost use Rattle.gba_output.specs.StateFile.{four_lines, sequencer_line, tone_line, tone_lines, tone_numbers, wave_line, wave_lines};
+ghost use Rattle.gba_output.specs.StateFile.{four_lines, tone_line, tone_lines, wave_line, wave_lines};
 
-use crate::devices::{add_truth, add_wide_number};
-use crate::state::{add, add_hex_bytes};
+use crate::rows::{add_line, truth_number};
+use gba_frozen::Row;
+use gba_frozen_print::add_wave;
 use gba_io::Core;
 use gba_psg::Tone;
-use itoa::Buffer;
 
-/// Adds the line of the sequencer.
-#[tactic(auto, unfolding(crate::specs::StateFile::sequencer_line))]
-fn add_sequencer_line(into: &mut Vec<u8>, cycles: u32)
-    requires { vec_len into.old + 21 ≤ vec_capacity into.old }
-    ensures items { into.new.items ≡ into.old.items ++ sequencer_line cycles }
-    ensures len { vec_len into.new ≤ vec_len into.old + 21 }
-    ensures room { vec_capacity into.old ≤ vec_capacity into.new }
-{
-    let mut buffer = Buffer::new();
-    add(into, b"sequencer ");
-    add(into, buffer.format(cycles).as_bytes());
-    add(into, b"\n");
-}
-
-/// Adds the numbers of a tone channel.
-fn add_tone_numbers(into: &mut Vec<u8>, tone: &Tone)
-    requires { vec_len into.old + 79 ≤ vec_capacity into.old }
-    ensures items { into.new.items ≡ into.old.items ++ tone_numbers tone.now }
-    ensures len { vec_len into.new ≤ vec_len into.old + 79 }
-    ensures room { vec_capacity into.old ≤ vec_capacity into.new }
-{
-    add_truth(into, tone.on);
-    add_wide_number(into, tone.place);
-    add_wide_number(into, tone.wait);
-    add_wide_number(into, tone.left);
-    add_wide_number(into, tone.volume);
-    add_wide_number(into, tone.fade);
-    add_wide_number(into, tone.sweep);
-    add_wide_number(into, tone.shadow);
-}
-
-/// Adds the line of a tone channel by its number.
-fn add_tone_line(into: &mut Vec<u8>, number: u8, tone: &Tone)
-    requires { vec_len into.old + 88 ≤ vec_capacity into.old }
+/// Adds the line of a tone channel by its number, from 1 to 4.
+#[tactic(auto, unfolding(gba_frozen::specs::Rows::is_row, gba_frozen::specs::Rows::count_of, gba_frozen::specs::Rows::spelling_of))]
+fn add_tone_line(into: &mut Vec<u8>, number: u32, tone: &Tone)
+    requires least { 1 ≤ number }
+    requires most { number ≤ 4 }
+    requires room { vec_len into.old + 193 ≤ vec_capacity into.old }
     ensures items { into.new.items ≡ into.old.items ++ tone_line number tone.now }
-    ensures len { vec_len into.new ≤ vec_len into.old + 88 }
+    ensures len { vec_len into.new ≤ vec_len into.old + 193 }
     ensures room { vec_capacity into.old ≤ vec_capacity into.new }
 {
-    let mut buffer = Buffer::new();
-    add(into, b"tone ");
-    add(into, buffer.format(number).as_bytes());
-    add_tone_numbers(into, tone);
-    add(into, b"\n");
-}
-
-/// Adds the line of a bank of the wave by its number.
-#[tactic(auto, unfolding(crate::specs::StateFile::wave_line))]
-fn add_wave_line(into: &mut Vec<u8>, number: u8, bank: &[u8; 16])
-    requires { vec_len into.old + 42 ≤ vec_capacity into.old }
-    ensures items { into.new.items ≡ into.old.items ++ wave_line number bank.now }
-    ensures len { vec_len into.new ≤ vec_len into.old + 42 }
-    ensures room { vec_capacity into.old ≤ vec_capacity into.new }
-{
-    let mut buffer = Buffer::new();
-    add(into, b"wave ");
-    add(into, buffer.format(number).as_bytes());
-    add(into, b" ");
-    add_hex_bytes(into, bank);
-    add(into, b"\n");
+    let numbers = [
+        truth_number(tone.on),
+        u64::from(tone.place),
+        u64::from(tone.wait),
+        u64::from(tone.left),
+        u64::from(tone.volume),
+        u64::from(tone.fade),
+        u64::from(tone.sweep),
+        u64::from(tone.shadow),
+    ];
+    add_line(into, Row::Tone(number), &numbers);
 }
 
 /// Adds the lines of the four tone channels.
 fn add_four_lines(into: &mut Vec<u8>, core: &Core)
-    requires { vec_len into.old + 352 ≤ vec_capacity into.old }
+    requires { vec_len into.old + 772 ≤ vec_capacity into.old }
     ensures items { into.new.items ≡ into.old.items ++ four_lines core.now.devices.tones }
-    ensures len { vec_len into.new ≤ vec_len into.old + 352 }
+    ensures len { vec_len into.new ≤ vec_len into.old + 772 }
     ensures room { vec_capacity into.old ≤ vec_capacity into.new }
 {
     add_tone_line(into, 1, &core.tone(0));
@@ -83,11 +45,22 @@ fn add_four_lines(into: &mut Vec<u8>, core: &Core)
     add_tone_line(into, 4, &core.tone(3));
 }
 
+/// Adds the line of a bank of the wave by its number.
+#[tactic(auto, unfolding(crate::specs::StateFile::wave_line))]
+fn add_wave_line(into: &mut Vec<u8>, number: u32, bank: &[u8; 16])
+    requires { vec_len into.old + 49 ≤ vec_capacity into.old }
+    ensures items { into.new.items ≡ into.old.items ++ wave_line number bank.now }
+    ensures len { vec_len into.new ≤ vec_len into.old + 49 }
+    ensures room { vec_capacity into.old ≤ vec_capacity into.new }
+{
+    add_wave(into, number, bank);
+}
+
 /// Adds the lines of the two banks of the wave.
 fn add_wave_lines(into: &mut Vec<u8>, core: &Core)
-    requires { vec_len into.old + 84 ≤ vec_capacity into.old }
+    requires { vec_len into.old + 98 ≤ vec_capacity into.old }
     ensures items { into.new.items ≡ into.old.items ++ wave_lines core.now.devices.tones }
-    ensures len { vec_len into.new ≤ vec_len into.old + 84 }
+    ensures len { vec_len into.new ≤ vec_len into.old + 98 }
     ensures room { vec_capacity into.old ≤ vec_capacity into.new }
 {
     add_wave_line(into, 0, &core.wave_bank(0));
@@ -95,14 +68,14 @@ fn add_wave_lines(into: &mut Vec<u8>, core: &Core)
 }
 
 /// Adds the lines of the sequencer, of the tone channels and of the wave.
-#[tactic(auto, unfolding(crate::specs::StateFile::tone_lines))]
+#[tactic(auto, unfolding(crate::specs::StateFile::tone_lines, gba_frozen::specs::Rows::is_row, gba_frozen::specs::Rows::count_of, gba_frozen::specs::Rows::spelling_of))]
 pub(crate) fn add_tone_lines(into: &mut Vec<u8>, core: &Core)
-    requires { vec_len into.old + 457 ≤ vec_capacity into.old }
+    requires { vec_len into.old + 1063 ≤ vec_capacity into.old }
     ensures items { into.new.items ≡ into.old.items ++ tone_lines core.now.devices.tones }
-    ensures len { vec_len into.new ≤ vec_len into.old + 457 }
+    ensures len { vec_len into.new ≤ vec_len into.old + 1063 }
     ensures room { vec_capacity into.old ≤ vec_capacity into.new }
 {
-    add_sequencer_line(into, core.sequencer());
+    add_line(into, Row::Sequencer, &[u64::from(core.sequencer())]);
     add_four_lines(into, core);
     add_wave_lines(into, core);
 }

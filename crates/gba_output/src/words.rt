@@ -1,9 +1,10 @@
 //! The words of transfers.
 
 ghost use Rattle.std.specs.Prelude.{◌≡◌, ◌+◌, ◌*◌, ◌≤◌, ◌++◌, [], codes, length, vec_len, vec_capacity};
+ghost use Rattle.gba_output.specs.Truths.{truth as truth_of};
 ghost use Rattle.gba_output.specs.TransferWords.{half_text, multi_words, words_in, words_line, words_text};
 
-use crate::state::{add, truth};
+use crate::state::add;
 use gba_serial::Transfer;
 use gba_word::hexadecimal::{hex_half, hex_low_byte, hex_word};
 use itoa::Buffer;
@@ -11,6 +12,14 @@ use link_node::LinkMode;
 
 /// The room of a transfer's line in bytes.
 pub const WORDS_ROOM: usize = 49;
+
+/// A truth as a digit.
+fn truth(set: bool) -> &'static [u8]
+    ensures value { result.now ≡ truth_of set }
+    ensures short { length result.now ≡ 1 }
+{
+    if set { b"1" } else { b"0" }
+}
 
 /// Adds four digits and a blank.
 #[tactic(auto, unfolding(crate::specs::TransferWords::half_text))]

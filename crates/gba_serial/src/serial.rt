@@ -107,7 +107,8 @@ impl Serial {
 
     /// The player number, from 0 to 3.
     pub fn player(&self) -> u32
-        ensures { result ≡ self.now.player }
+        ensures value { result ≡ self.now.player }
+        ensures few { result < 4 }
     {
         self.player
     }

@@ -17,7 +17,7 @@ use Rattle.sha2.specs.Hashers.{Holds256}
 -- the buffers of what a player is asked for have room for it: for the words of a segment's transfers, a state and a save
 pub record HasRoom (p : Player) : Type 0 where
   pub words : p.asks.words ≡ true → 49 * 32770 ≤ vec_capacity p.words
-  pub state : p.asks.state ≡ true → 1042135 ≤ vec_capacity p.state
+  pub state : p.asks.state ≡ true → 1051937 ≤ vec_capacity p.state
   pub save : p.asks.save ≡ true → 131072 ≤ vec_capacity p.save
 
 -- the words are those of a console's lists; and once the run is over, state and save are its own

@@ -40,7 +40,7 @@ fn put_words(asked: bool, into: &mut Vec<u8>, transfers: &[Transfer])
 
 /// Writes the state file in place of what the buffer has, where it is asked for.
 fn put_state(asked: bool, into: &mut Vec<u8>, console: &Console)
-    requires { asked ≡ true → 1042135 ≤ vec_capacity into.old }
+    requires { asked ≡ true → 1051937 ≤ vec_capacity into.old }
     ensures items { asked ≡ true → into.new.items ≡ state_file console.now }
     ensures room { vec_capacity into.old ≤ vec_capacity into.new }
 {

@@ -7,7 +7,7 @@ use Rattle.gba_output.proofs.state.add_memory_lines.Goals as goal
 pub loop-line-preserved : goal.loop-line-preserved
 loop-line-preserved c =
     let bytes = c.args.bytes.now in
-    let name = c.args.name.now in
+    let name = c.args.name in
     let offset : ℕ = c.loop-line.line * 32 in
     let left : ℕ = length bytes / 32 - (c.loop-line.line + 1) in
     let more : length bytes / 32 - c.loop-line.line ≡ suc left = omega arith in
@@ -23,7 +23,7 @@ loop-line-preserved c =
 pub returns : goal.returns
 returns c =
     let bytes = c.args.bytes.now in
-    let name = c.args.name.now in
+    let name = c.args.name in
     let none : length bytes / 32 - c.loop-line.line ≡ 0 = omega arith in
     let gone = memory_lines-none name (length bytes / 32 - c.loop-line.line) (c.loop-line.line * 32) bytes none in
     record {
