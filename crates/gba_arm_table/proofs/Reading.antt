@@ -1,8 +1,8 @@
 use Rattle.std.proofs.Common.{ℕ, ◌+◌, ◌*◌, ◌-◌, ◌^◌, ◌<◌, arith, rules, Bool, true, false}
 use Rattle.std.specs.Prelude.{IfSome, if◌then◌else◌, nat_lt, pos, negsuc}
 use Rattle.gba_terms.specs.Bits.{field}
-use Rattle.gba_arm_table.specs.declared.form.Form.{Form}
-use Rattle.gba_arm_table.specs.declared.form.Form.TheVariants as form
+use Rattle.gba_arm_table.specs.declared.format.Format.{Format}
+use Rattle.gba_arm_table.specs.declared.format.Format.TheVariants as format
 use Rattle.gba_arm_table.specs.declared.operation.HalfKind.{HalfKind}
 use Rattle.gba_arm_table.specs.declared.operation.HalfOffset.TheVariants as half_offset
 use Rattle.gba_arm_table.specs.declared.operation.Operand.{Operand}
@@ -37,15 +37,15 @@ distance-signed : (n : ℕ) → n < 2 ^ 24 → distance (if nat_lt n (2 ^ 23) th
 distance-signed n small = grind arith
 
 -- the fields of a word fit their bits
-pub operation_of-fits : (f : Form) (word : ℕ) → IfSome (operation_of f (field word)) Fits
-operation_of-fits form.HalfTransfer word = half-fits _ word
-operation_of-fits form.SignedByteLoad word = half-fits _ word
-operation_of-fits form.SignedHalfLoad word = half-fits _ word
-operation_of-fits form.ProcessingByRegister word = processing-fits _ (search rules) tt word
-operation_of-fits form.ProcessingFixed word = processing-fits _ (search rules) (search rules) word
-operation_of-fits form.ProcessingImmediate word = processing-fits _ tt (search rules) word
-operation_of-fits form.Branch word = record { registers = tt; immediates = tt; offsets = (distance-signed (field word 0 24) (omega arith), tt) }
-operation_of-fits form.Undefined word = tt
+pub operation_of-fits : (f : Format) (word : ℕ) → IfSome (operation_of f (field word)) Fits
+operation_of-fits format.HalfTransfer word = half-fits _ word
+operation_of-fits format.SignedByteLoad word = half-fits _ word
+operation_of-fits format.SignedHalfLoad word = half-fits _ word
+operation_of-fits format.ProcessingByRegister word = processing-fits _ (search rules) tt word
+operation_of-fits format.ProcessingFixed word = processing-fits _ (search rules) (search rules) word
+operation_of-fits format.ProcessingImmediate word = processing-fits _ tt (search rules) word
+operation_of-fits format.Branch word = record { registers = tt; immediates = tt; offsets = (distance-signed (field word 0 24) (omega arith), tt) }
+operation_of-fits format.Undefined word = tt
 operation_of-fits _ word = record { registers = search rules; immediates = search rules; offsets = search rules }
 
 pub operation-Fits : (word : ℕ) → IfSome (operation word) Fits

@@ -31,13 +31,13 @@ use Rattle.std.specs.Prelude.{ℤ, pos, negsuc}
 use Rattle.gba_word.specs.Sums.{flag_number}
 use Rattle.gba_arm_table.specs.Numbers.{condition_of, condition_number, compute_of, compute_number, compare_of, compare_number, shift_of, shift_number, signed_of}
 use Rattle.gba_arm_table.specs.Table.{operation, operation_of}
-use Rattle.gba_arm_table.specs.Branches.{branch_form}
+use Rattle.gba_arm_table.specs.Branches.{branch_format}
 use Rattle.gba_arm_table.specs.Diagrams.{pack, diagram, has_manual_bits}
 use Rattle.gba_arm_table.specs.Encoding.{encoding}
 use Rattle.gba_arm_table.specs.declared.encoding.EncodeError.{EncodeError}
 use Rattle.gba_arm_table.proofs.Reading.{operation-Fits}
 use Rattle.std.proofs.lemmas.Option.{IfSome_then}
-use Rattle.gba_arm_table.proofs.Branching.{form_in-rows}
+use Rattle.gba_arm_table.proofs.Branching.{format_in-rows}
 use Rattle.gba_arm_table.proofs.Packing.{read, field-pack}
 
 -- ---- numbers and back
@@ -68,11 +68,11 @@ field-read : (parts : List Part) → field (pack parts) ≡ read parts
 field-read parts = fun_ext (λ low. fun_ext (λ width. field-pack parts low width))
 
 -- the operation of a word is computed from its parts
-operation-pack : (parts : List Part) → operation (pack parts) ≡ operation_of (branch_form (read parts)) (read parts)
+operation-pack : (parts : List Part) → operation (pack parts) ≡ operation_of (branch_format (read parts)) (read parts)
 unfolding operation
 operation-pack parts =
-    ap (λ form. operation_of form (field (pack parts))) (form_in-rows (pack parts))
-    ∙ ap (λ bits. operation_of (branch_form bits) bits) (field-read parts)
+    ap (λ format. operation_of format (field (pack parts))) (format_in-rows (pack parts))
+    ∙ ap (λ bits. operation_of (branch_format bits) bits) (field-read parts)
 
 compute-apart : (o : ComputeOp) → (compute_number o % 16 / 4 == 2) ≡ false
 compute-apart And = refl
@@ -133,7 +133,7 @@ halves-back n small = omega arith
 
 -- what the parts of a diagram say is the operation that was drawn
 abbrev Back : ArmOp → Type 0
-Back o = operation_of (branch_form (read (diagram o))) (read (diagram o)) ≡ Some o
+Back o = operation_of (branch_format (read (diagram o))) (read (diagram o)) ≡ Some o
 
 exchange-back : (cond : Condition) (rm : ℕ) → rm < 16 → Back (op.Exchange cond rm)
 exchange-back cond rm h1 = simp (condition-back, mod-eq_of_lt)

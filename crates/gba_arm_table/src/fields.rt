@@ -1,4 +1,4 @@
-//! What the fields of a word mean, form by form.
+//! What the fields of a word mean, format by format.
 
 ghost use Rattle.std.specs.Prelude.{◌≡◌, ◌<◌, ◌^◌};
 ghost use Rattle.gba_terms.specs.Bits.{field};

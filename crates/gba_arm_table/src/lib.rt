@@ -9,14 +9,14 @@ ghost use Rattle.gba_arm_table.specs.Table.{operation, operation_of};
 
 mod encoding;
 mod fields;
-mod form;
+mod format;
 pub mod laws;
 mod limits;
 mod operation;
 mod parts;
 
 pub use encoding::{EncodeError, encode};
-use form::{Form, form_of};
+use format::{Format, format_of};
 pub use operation::{
     ArmOp, CompareOp, ComputeOp, Condition, HalfKind, HalfOffset, Operand, Source, TransferOffset,
 };
@@ -30,7 +30,7 @@ pub fn decode(word: u32) -> Option<ArmOp>
     ensures operation { result ≡ operation word }
     ensures fits { IfSome result Fits }
 {
-    of_form(form_of(word), word)
+    of_format(format_of(word), word)
 }
 
 /// The condition of a word, bits 31 to 28.
@@ -40,32 +40,32 @@ pub fn condition_of(word: u32) -> Condition
     fields::condition(word)
 }
 
-/// The operation of a word of this form.
-fn of_form(form: Form, word: u32) -> Option<ArmOp>
-    ensures { result ≡ operation_of form (field word) }
+/// The operation of a word of this format.
+fn of_format(format: Format, word: u32) -> Option<ArmOp>
+    ensures { result ≡ operation_of format (field word) }
 {
-    match form {
-        Form::Exchange => Some(fields::exchange(word)),
-        Form::Multiply => Some(fields::multiply(word)),
-        Form::MultiplyLong => Some(fields::multiply_long(word)),
-        Form::Swap => Some(fields::swap(word)),
-        Form::HalfTransfer => Some(fields::half(fields::unsigned_half_kind(word), word)),
-        Form::SignedByteLoad => Some(fields::half(HalfKind::LoadSignedByte, word)),
-        Form::SignedHalfLoad => Some(fields::half(HalfKind::LoadSignedHalf, word)),
-        Form::StatusRead => Some(fields::read_status(word)),
-        Form::StatusWriteRegister => Some(fields::write_status(fields::plain_source(word), word)),
-        Form::StatusWriteImmediate => Some(fields::write_status(
+    match format {
+        Format::Exchange => Some(fields::exchange(word)),
+        Format::Multiply => Some(fields::multiply(word)),
+        Format::MultiplyLong => Some(fields::multiply_long(word)),
+        Format::Swap => Some(fields::swap(word)),
+        Format::HalfTransfer => Some(fields::half(fields::unsigned_half_kind(word), word)),
+        Format::SignedByteLoad => Some(fields::half(HalfKind::LoadSignedByte, word)),
+        Format::SignedHalfLoad => Some(fields::half(HalfKind::LoadSignedHalf, word)),
+        Format::StatusRead => Some(fields::read_status(word)),
+        Format::StatusWriteRegister => Some(fields::write_status(fields::plain_source(word), word)),
+        Format::StatusWriteImmediate => Some(fields::write_status(
             fields::immediate_source(word),
             word,
         )),
-        Form::ProcessingByRegister => Some(fields::processing(fields::by_register(word), word)),
-        Form::ProcessingFixed => Some(fields::processing(fields::fixed(word), word)),
-        Form::ProcessingImmediate => Some(fields::processing(fields::immediate(word), word)),
-        Form::TransferNumber => Some(fields::transfer(fields::number_offset(word), word)),
-        Form::TransferShifted => Some(fields::transfer(fields::shifted_offset(word), word)),
-        Form::Block => Some(fields::block(word)),
-        Form::Branch => Some(fields::branch(word)),
-        Form::Interrupt => Some(fields::interrupt(word)),
-        Form::Undefined => None,
+        Format::ProcessingByRegister => Some(fields::processing(fields::by_register(word), word)),
+        Format::ProcessingFixed => Some(fields::processing(fields::fixed(word), word)),
+        Format::ProcessingImmediate => Some(fields::processing(fields::immediate(word), word)),
+        Format::TransferNumber => Some(fields::transfer(fields::number_offset(word), word)),
+        Format::TransferShifted => Some(fields::transfer(fields::shifted_offset(word), word)),
+        Format::Block => Some(fields::block(word)),
+        Format::Branch => Some(fields::branch(word)),
+        Format::Interrupt => Some(fields::interrupt(word)),
+        Format::Undefined => None,
     }
 }

@@ -28,9 +28,12 @@ use Rattle.gba_exec_registers.specs.declared.site.Site.{Site}
 use Rattle.gba_exec_transfers.specs.Done.{Done}
 use Rattle.gba_exec_transfers.specs.Effects.{effect, effect_of_word, internal}
 use Rattle.gba_psr.specs.RegisterFile.{flags}
-use Rattle.gba_thumb_exec.specs.Effects.{after_short_branch, conditional_branch, effect_of_half, short_branch, thumb_effect}
-use Rattle.gba_thumb_exec.specs.Forms.{FormFits, branch_by, branch_distance, branch_form, branch_if, branch_under, effect_of_form, form_of, form_of_half, narrowed, quickly}
+use Rattle.gba_thumb_exec.specs.Effects.{after_short_branch, conditional_branch, effect_of_half, effect_of_meaning, short_branch, thumb_effect}
+use Rattle.gba_thumb_exec.specs.Forms.{FormFits, branch_distance, branch_form, branch_under, effect_of_form, form_of, form_of_half, narrowed, quickly}
+use Rattle.gba_thumb_exec.specs.Meanings.{MeaningFits, meaning_of}
 use Rattle.gba_thumb_exec.specs.Operations.{shift_by_constant, add_or_subtract, process_number, process_register, full_register, process_full_register, transfer_by_register, half_by_register, transfer_by_number, half_by_number, stack_transfer, stack_address, stack_move, push_or_pop, block, software_interrupt, comparison, half_transfer, plain, processing, quiet_processing, shift_by_register, small_number, transfer, words_number}
+use Rattle.gba_thumb_exec.specs.declared.meaning.Meaning.{Meaning}
+use Rattle.gba_thumb_exec.specs.declared.meaning.Meaning.TheVariants.{Arm, NearLoad, NearAddress, BranchIf, Branch, LinkHigh, LinkLow}
 use Rattle.gba_thumb_table.specs.Limits as thumb
 use Rattle.gba_thumb_table.specs.Table.{operation}
 use Rattle.gba_thumb_table.specs.declared.operation.ThumbOp.{ThumbOp}
@@ -93,7 +96,7 @@ module _ {State : Type 0} (price : Price State) (load : Load State) (store : Sto
       (wrapped (counter site) (2 * halfwords))
 
   branch-is : (halfwords : ℕ) (site : Site) (file : List ℕ) (bus : State)
-      → effect_of_form price load store (branch_by halfwords) site file bus
+      → effect_of_form price load store (form_of (Branch halfwords)) site file bus
       ≡ short_branch price load store halfwords site file bus
   unfolding effect_of_form effect_of_quick
   branch-is halfwords site file bus = jumped halfwords site file bus
@@ -113,50 +116,35 @@ module _ {State : Type 0} (price : Price State) (load : Load State) (store : Sto
   branch_form-is CarryClear distance site file bus = refl
   branch_form-is _ distance site file bus = refl
 
-  conditional-is : (cond n8 : ℕ) (site : Site) (file : List ℕ) (bus : State)
-      → effect_of_form price load store (branch_if cond (sign_extension n8 8)) site file bus
-      ≡ conditional_branch price load store cond n8 site file bus
+  conditional-is : (condition : Condition) (halfwords : ℕ) (site : Site) (file : List ℕ) (bus : State)
+      → effect_of_form price load store (form_of (BranchIf condition halfwords)) site file bus
+      ≡ conditional_branch price load store condition halfwords site file bus
   unfolding effect_of_form
-  conditional-is cond n8 site file bus =
-      branch_form-is (condition_of cond) (branch_distance (sign_extension n8 8)) site file bus
-      ∙ same-branch (holds (condition_of cond) (flags file)) _
-      (short_branch price load store (sign_extension n8 8) site file bus)
+  conditional-is condition halfwords site file bus =
+      branch_form-is condition (branch_distance halfwords) site file bus
+      ∙ same-branch (holds condition (flags file)) _
+      (short_branch price load store halfwords site file bus)
       (internal price load store bus file (code_cost price bus site true))
-      (jumped (sign_extension n8 8) site file bus)
+      (jumped halfwords site file bus)
 
-  form-is : (one : ThumbOp) (site : Site) (file : List ℕ) (bus : State)
+  form-is : (one : Meaning) (site : Site) (file : List ℕ) (bus : State)
       → effect_of_form price load store (form_of one) site file bus
-      ≡ thumb_effect price load store one site file bus
-  unfolding thumb_effect effect_of_form
-  form-is (op.Format1 op o5 rs rd) site file bus = arm-is (shift_by_constant op o5 rs rd) site file bus
-  form-is (op.Format2 i op x3 rs rd) site file bus = arm-is (add_or_subtract i op x3 rs rd) site file bus
-  form-is (op.Format3 op rd n8) site file bus = arm-is (process_number op rd n8) site file bus
-  form-is (op.Format4 op rs rd) site file bus = arm-is (process_register op rs rd) site file bus
-  form-is (op.Format5 op h1 h2 rs rd) site file bus =
-      arm-is (process_full_register op (full_register h2 rs) (full_register h1 rd)) site file bus
-  form-is (op.Format6 rd n8) site file bus = refl
-  form-is (op.Format7 l b ro rb rd) site file bus = arm-is (transfer_by_register l b ro rb rd) site file bus
-  form-is (op.Format8 h s ro rb rd) site file bus = arm-is (half_by_register h s ro rb rd) site file bus
-  form-is (op.Format9 b l o5 rb rd) site file bus = arm-is (transfer_by_number b l o5 rb rd) site file bus
-  form-is (op.Format10 l o5 rb rd) site file bus = arm-is (half_by_number l o5 rb rd) site file bus
-  form-is (op.Format11 l rd n8) site file bus = arm-is (stack_transfer l rd n8) site file bus
-  form-is (op.Format12 false rd n8) site file bus = refl
-  form-is (op.Format12 true rd n8) site file bus = arm-is (stack_address rd n8) site file bus
-  form-is (op.Format13 s n7) site file bus = arm-is (stack_move s n7) site file bus
-  form-is (op.Format14 l r list8) site file bus = arm-is (push_or_pop l r list8) site file bus
-  form-is (op.Format15 l rb list8) site file bus = arm-is (block l rb list8) site file bus
-  form-is (op.Format16 cond n8) site file bus = conditional-is cond n8 site file bus
-  form-is (op.Format17 n8) site file bus = arm-is (software_interrupt n8) site file bus
-  form-is (op.Format18 n11) site file bus = branch-is (sign_extension n11 11) site file bus
-  form-is (op.Format19 false n11) site file bus = refl
-  form-is (op.Format19 true n11) site file bus = refl
+      ≡ effect_of_meaning price load store one site file bus
+  unfolding effect_of_form
+  form-is (Arm operation) site file bus = arm-is operation site file bus
+  form-is (NearLoad rd words) site file bus = refl
+  form-is (NearAddress rd words) site file bus = refl
+  form-is (BranchIf condition halfwords) site file bus = conditional-is condition halfwords site file bus
+  form-is (Branch halfwords) site file bus = branch-is halfwords site file bus
+  form-is (LinkHigh n11) site file bus = refl
+  form-is (LinkLow n11) site file bus = refl
 
   pub half-is : (one : Option ThumbOp) (site : Site) (file : List ℕ) (bus : State)
       → effect_of_form price load store (form_of_half one) site file bus
       ≡ effect_of_half price load store one site file bus
-  unfolding effect_of_half effect_of_form
+  unfolding effect_of_half effect_of_form thumb_effect
   half-is None site file bus = quick-is None site file bus
-  half-is (Some one) site file bus = form-is one site file bus
+  half-is (Some one) site file bus = form-is (meaning_of one) site file bus
 
 -- ---- fields
 
@@ -301,6 +289,61 @@ narrowed-fits (quick.StoreByte rn rd offset) fits = fits
 narrowed-fits (quick.Branch distance) fits = fits
 narrowed-fits _ fits = fits
 
+meaning-fits : (one : ThumbOp) → thumb.Fits one → MeaningFits (meaning_of one)
+meaning-fits (op.Format1 op o5 rs rd) fits =
+    let zero : 0 < 16 = omega arith in
+    (record {
+      registers = (zero, (wide rd fits.registers.1.0, (wide rs fits.registers.0, tt)));
+      immediates = (fits.immediates.1.0, tt);
+      offsets = tt;
+    })
+meaning-fits (op.Format2 i op x3 rs rd) fits =
+    (add_or_subtract-fits i op x3 rs rd fits)
+meaning-fits (op.Format3 op rd n8) fits =
+    (process_number-fits op rd n8 (wide rd fits.registers.0) fits.immediates.1.0)
+meaning-fits (op.Format4 op rs rd) fits =
+    (process_register-fits op rs rd (wide rs fits.registers.0) (wide rd fits.registers.1.0))
+meaning-fits (op.Format5 op h1 h2 rs rd) fits =
+    (process_full-fits op (full_register h2 rs) (full_register h1 rd) (full-fits h2 rs fits.registers.0)
+    (full-fits h1 rd fits.registers.1.0))
+meaning-fits (op.Format6 rd n8) fits = (fits.registers.0, fits.offsets.0)
+meaning-fits (op.Format7 l b ro rb rd) fits =
+    (transfer-fits l b rb rd (transfer_offset.Shifted ro Lsl 0) (wide rb fits.registers.1.0)
+    (wide rd fits.registers.1.1.0) (wide ro fits.registers.0, tt) (omega arith, tt) tt)
+meaning-fits (op.Format8 h s ro rb rd) fits =
+    (half-fits _ rb rd (half_offset.Plain ro) (wide rb fits.registers.1.0) (wide rd fits.registers.1.1.0)
+    (wide ro fits.registers.0, tt) tt)
+meaning-fits (op.Format9 b l o5 rb rd) fits =
+    (transfer-fits l b rb rd (transfer_offset.Number (if b then o5 else 4 * o5)) (wide rb fits.registers.0)
+    (wide rd fits.registers.1.0) tt tt (scaled-fits b o5 fits.offsets.0, tt))
+meaning-fits (op.Format10 l o5 rb rd) fits =
+    (half-fits _ rb rd (half_offset.Number (2 * o5)) (wide rb fits.registers.0) (wide rd fits.registers.1.0) tt
+    (omega (arith, fits.offsets.0), tt))
+meaning-fits (op.Format11 l rd n8) fits =
+    (transfer-fits l false 13 rd (transfer_offset.Number (4 * n8)) (omega arith) (wide rd fits.registers.0) tt tt
+    (omega (arith, fits.offsets.0), tt))
+meaning-fits (op.Format12 false rd n8) fits = (fits.registers.0, fits.immediates.0)
+meaning-fits (op.Format12 true rd n8) fits =
+    (quiet-fits Add 13 rd (words_number n8) (omega arith) (wide rd fits.registers.0) tt
+    (words-immediates n8 fits.immediates.0))
+meaning-fits (op.Format13 s n7) fits =
+    (quiet-fits (if s then Sub else Add) 13 13 (words_number n7) (omega arith) (omega arith) tt
+    (words-immediates n7 (omega (arith, fits.immediates.0))))
+meaning-fits (op.Format14 l r list8) fits =
+    (push_or_pop-fits l r list8 fits.immediates.0)
+meaning-fits (op.Format15 l rb list8) fits =
+    (record {
+      registers = (wide rb fits.registers.0, tt);
+      immediates = (omega (arith, fits.immediates.0), tt);
+      offsets = tt;
+    })
+meaning-fits (op.Format16 cond n8) fits = tt
+meaning-fits (op.Format17 n8) fits =
+    (record { registers = tt; immediates = (omega (arith, fits.immediates.0), tt); offsets = tt })
+meaning-fits (op.Format18 n11) fits = tt
+meaning-fits (op.Format19 false n11) fits = fits.offsets.0
+meaning-fits (op.Format19 true n11) fits = fits.offsets.0
+
 branch_form-fits : (condition : Condition) (distance : ℕ) → FormFits (branch_form condition distance)
 branch_form-fits Equal distance = tt
 branch_form-fits NotEqual distance = tt
@@ -309,79 +352,18 @@ branch_form-fits CarryClear distance = tt
 branch_form-fits _ distance = tt
 
 module _ (quick-fits : (one : Option ArmOp) → IfSome one arm.Fits → QuickFits (quick_of_word one)) where
-  quickly-fits : (one : ArmOp) → arm.Fits one → FormFits (quickly one)
-  quickly-fits one fits = narrowed-fits (quick_of_word (Some one)) (quick-fits (Some one) fits)
-
-  form-fits : (one : ThumbOp) → thumb.Fits one → FormFits (form_of one)
-  form-fits (op.Format1 op o5 rs rd) fits =
-      let zero : 0 < 16 = omega arith in
-      quickly-fits (shift_by_constant op o5 rs rd)
-      (record {
-        registers = (zero, (wide rd fits.registers.1.0, (wide rs fits.registers.0, tt)));
-        immediates = (fits.immediates.1.0, tt);
-        offsets = tt;
-      })
-  form-fits (op.Format2 i op x3 rs rd) fits =
-      quickly-fits (add_or_subtract i op x3 rs rd) (add_or_subtract-fits i op x3 rs rd fits)
-  form-fits (op.Format3 op rd n8) fits =
-      quickly-fits (process_number op rd n8) (process_number-fits op rd n8 (wide rd fits.registers.0) fits.immediates.1.0)
-  form-fits (op.Format4 op rs rd) fits =
-      quickly-fits (process_register op rs rd)
-      (process_register-fits op rs rd (wide rs fits.registers.0) (wide rd fits.registers.1.0))
-  form-fits (op.Format5 op h1 h2 rs rd) fits =
-      quickly-fits (process_full_register op (full_register h2 rs) (full_register h1 rd))
-      (process_full-fits op (full_register h2 rs) (full_register h1 rd) (full-fits h2 rs fits.registers.0)
-      (full-fits h1 rd fits.registers.1.0))
-  form-fits (op.Format6 rd n8) fits = (fits.registers.0, fits.offsets.0)
-  form-fits (op.Format7 l b ro rb rd) fits =
-      quickly-fits (transfer_by_register l b ro rb rd)
-      (transfer-fits l b rb rd (transfer_offset.Shifted ro Lsl 0) (wide rb fits.registers.1.0)
-      (wide rd fits.registers.1.1.0) (wide ro fits.registers.0, tt) (omega arith, tt) tt)
-  form-fits (op.Format8 h s ro rb rd) fits =
-      quickly-fits (half_by_register h s ro rb rd)
-      (half-fits _ rb rd (half_offset.Plain ro) (wide rb fits.registers.1.0) (wide rd fits.registers.1.1.0)
-      (wide ro fits.registers.0, tt) tt)
-  form-fits (op.Format9 b l o5 rb rd) fits =
-      quickly-fits (transfer_by_number b l o5 rb rd)
-      (transfer-fits l b rb rd (transfer_offset.Number (if b then o5 else 4 * o5)) (wide rb fits.registers.0)
-      (wide rd fits.registers.1.0) tt tt (scaled-fits b o5 fits.offsets.0, tt))
-  form-fits (op.Format10 l o5 rb rd) fits =
-      quickly-fits (half_by_number l o5 rb rd)
-      (half-fits _ rb rd (half_offset.Number (2 * o5)) (wide rb fits.registers.0) (wide rd fits.registers.1.0) tt
-      (omega (arith, fits.offsets.0), tt))
-  form-fits (op.Format11 l rd n8) fits =
-      quickly-fits (stack_transfer l rd n8)
-      (transfer-fits l false 13 rd (transfer_offset.Number (4 * n8)) (omega arith) (wide rd fits.registers.0) tt tt
-      (omega (arith, fits.offsets.0), tt))
-  form-fits (op.Format12 false rd n8) fits = (fits.registers.0, fits.immediates.0)
-  form-fits (op.Format12 true rd n8) fits =
-      quickly-fits (stack_address rd n8)
-      (quiet-fits Add 13 rd (words_number n8) (omega arith) (wide rd fits.registers.0) tt
-      (words-immediates n8 fits.immediates.0))
-  form-fits (op.Format13 s n7) fits =
-      quickly-fits (stack_move s n7)
-      (quiet-fits (if s then Sub else Add) 13 13 (words_number n7) (omega arith) (omega arith) tt
-      (words-immediates n7 (omega (arith, fits.immediates.0))))
-  form-fits (op.Format14 l r list8) fits =
-      quickly-fits (push_or_pop l r list8) (push_or_pop-fits l r list8 fits.immediates.0)
-  form-fits (op.Format15 l rb list8) fits =
-      quickly-fits (block l rb list8)
-      (record {
-        registers = (wide rb fits.registers.0, tt);
-        immediates = (omega (arith, fits.immediates.0), tt);
-        offsets = tt;
-      })
-  form-fits (op.Format16 cond n8) fits = branch_form-fits (condition_of cond) (branch_distance (sign_extension n8 8))
-  form-fits (op.Format17 n8) fits =
-      quickly-fits (software_interrupt n8)
-      (record { registers = tt; immediates = (omega (arith, fits.immediates.0), tt); offsets = tt })
-  form-fits (op.Format18 n11) fits = tt
-  form-fits (op.Format19 false n11) fits = fits.offsets.0
-  form-fits (op.Format19 true n11) fits = fits.offsets.0
+  form-fits : (one : Meaning) → MeaningFits one → FormFits (form_of one)
+  form-fits (Arm operation) fits = narrowed-fits (quick_of_word (Some operation)) (quick-fits (Some operation) fits)
+  form-fits (NearLoad rd words) fits = fits
+  form-fits (NearAddress rd words) fits = fits
+  form-fits (BranchIf condition halfwords) fits = branch_form-fits condition (branch_distance halfwords)
+  form-fits (Branch halfwords) fits = tt
+  form-fits (LinkHigh n11) fits = fits
+  form-fits (LinkLow n11) fits = fits
 
   option-fits : (one : Option ThumbOp) → IfSome one thumb.Fits → FormFits (form_of_half one)
   option-fits None fits = tt
-  option-fits (Some one) fits = form-fits one fits
+  option-fits (Some one) fits = form-fits (meaning_of one) (meaning-fits one fits)
 
   pub half-form-fits : ((half : ℕ) → IfSome (operation half) thumb.Fits) → (half : ℕ) → FormFits (form_of_half (operation half))
   half-form-fits fits half = option-fits (operation half) (fits half)

@@ -1,7 +1,7 @@
 use Rattle.std.proofs.Common.{ℕ, Bool, true, false, List, if◌then◌else◌, arith}
 use Rattle.std.specs.Prelude.{Option, Some, None}
-use Rattle.gba_arm_table.specs.Numbers.{condition_of}
 use Rattle.gba_arm_table.specs.declared.operation.ArmOp.{ArmOp}
+use Rattle.gba_arm_table.specs.declared.operation.Condition.{Condition}
 use Rattle.gba_bus.specs.Meanings.{CodePriced, Load, LoadsPriced, Price, Store}
 use Rattle.gba_bus.specs.Widths.{aligned}
 use Rattle.gba_bus.specs.declared.width.Width.TheVariants.{Word}
@@ -12,13 +12,13 @@ use Rattle.gba_exec_transfers.specs.Done.{Done, IsStepLength}
 use Rattle.gba_exec_transfers.specs.Effects.{effect, effect_of_word, internal}
 use Rattle.gba_exec_transfers.specs.Singles.{unit_load}
 use Rattle.gba_psr.specs.RegisterFile.{flags}
-use Rattle.gba_thumb_exec.specs.Effects.{after_address, after_near_load, conditional_branch, effect_of_half, link_half, near_address, short_branch, thumb_effect}
+use Rattle.gba_thumb_exec.specs.Effects.{after_near_load, conditional_branch, effect_of_half, effect_of_meaning, near_address, short_branch, thumb_effect}
 use Rattle.gba_thumb_exec.specs.Execution.{execution, site_of, with_next}
-use Rattle.gba_thumb_exec.specs.Operations.{shift_by_constant, add_or_subtract, process_number, process_register, full_register, process_full_register, transfer_by_register, half_by_register, transfer_by_number, half_by_number, stack_transfer, stack_address, stack_move, push_or_pop, block, software_interrupt}
+use Rattle.gba_thumb_exec.specs.Meanings.{meaning_of}
+use Rattle.gba_thumb_exec.specs.declared.meaning.Meaning.{Meaning}
+use Rattle.gba_thumb_exec.specs.declared.meaning.Meaning.TheVariants.{Arm, NearLoad, NearAddress, BranchIf, Branch, LinkHigh, LinkLow}
 use Rattle.gba_thumb_table.specs.Table.{operation}
 use Rattle.gba_thumb_table.specs.declared.operation.ThumbOp.{ThumbOp}
-use Rattle.gba_thumb_table.specs.declared.operation.ThumbOp.TheVariants as op
-use Rattle.gba_word.specs.Extension.{sign_extension}
 
 -- How long halfwords take where ARM operations take from 1 to 512 cycles, and each price is from 1 to 18.
 
@@ -50,58 +50,34 @@ module _ {State : Type 0} (price : Price State) (load : Load State) (store : Sto
       let read = load_prices bus site.address (aligned Word (near_address words site)) Word false in
       record { least = omega (arith, code.least); most = omega (arith, code.most, read.most) }
 
-  address_length : (p : Bool) (rd n8 : ℕ) (site : Site) (file : List ℕ) (bus : State)
-      → IsStepLength (after_address price load store p rd n8 site file bus).cycles
-  address_length true rd n8 site file bus = arm_length (stack_address rd n8) site file bus
-  address_length false rd n8 site file bus = code_length site bus
-
   either_length : (test : Bool) (one other : Done State) → IsStepLength one.cycles → IsStepLength other.cycles
       → IsStepLength (if test then one else other).cycles
   either_length true one other here there = here
   either_length false one other here there = there
 
-  condition_length : (cond n8 : ℕ) (site : Site) (file : List ℕ) (bus : State)
-      → IsStepLength (conditional_branch price load store cond n8 site file bus).cycles
-  condition_length cond n8 site file bus =
-      either_length (holds (condition_of cond) (flags file))
-      (short_branch price load store (sign_extension n8 8) site file bus)
+  condition_length : (condition : Condition) (halfwords : ℕ) (site : Site) (file : List ℕ) (bus : State)
+      → IsStepLength (conditional_branch price load store condition halfwords site file bus).cycles
+  condition_length condition halfwords site file bus =
+      either_length (holds condition (flags file))
+      (short_branch price load store halfwords site file bus)
       (internal price load store bus file (code_cost price bus site true))
       (jump_length site bus) (code_length site bus)
 
-  link_length : (second : Bool) (n11 : ℕ) (site : Site) (file : List ℕ) (bus : State)
-      → IsStepLength (link_half price load store second n11 site file bus).cycles
-  link_length true n11 site file bus = jump_length site bus
-  link_length false n11 site file bus = code_length site bus
-
-  thumb_length : (one : ThumbOp) (site : Site) (file : List ℕ) (bus : State)
-      → IsStepLength (thumb_effect price load store one site file bus).cycles
-  unfolding thumb_effect
-  thumb_length (op.Format1 op o5 rs rd) site file bus = arm_length (shift_by_constant op o5 rs rd) site file bus
-  thumb_length (op.Format2 i op x3 rs rd) site file bus = arm_length (add_or_subtract i op x3 rs rd) site file bus
-  thumb_length (op.Format3 op rd n8) site file bus = arm_length (process_number op rd n8) site file bus
-  thumb_length (op.Format4 op rs rd) site file bus = arm_length (process_register op rs rd) site file bus
-  thumb_length (op.Format5 op h1 h2 rs rd) site file bus =
-      arm_length (process_full_register op (full_register h2 rs) (full_register h1 rd)) site file bus
-  thumb_length (op.Format6 rd n8) site file bus = near_length rd n8 site file bus
-  thumb_length (op.Format7 l b ro rb rd) site file bus = arm_length (transfer_by_register l b ro rb rd) site file bus
-  thumb_length (op.Format8 h s ro rb rd) site file bus = arm_length (half_by_register h s ro rb rd) site file bus
-  thumb_length (op.Format9 b l o5 rb rd) site file bus = arm_length (transfer_by_number b l o5 rb rd) site file bus
-  thumb_length (op.Format10 l o5 rb rd) site file bus = arm_length (half_by_number l o5 rb rd) site file bus
-  thumb_length (op.Format11 l rd n8) site file bus = arm_length (stack_transfer l rd n8) site file bus
-  thumb_length (op.Format12 p rd n8) site file bus = address_length p rd n8 site file bus
-  thumb_length (op.Format13 s n7) site file bus = arm_length (stack_move s n7) site file bus
-  thumb_length (op.Format14 l r list8) site file bus = arm_length (push_or_pop l r list8) site file bus
-  thumb_length (op.Format15 l rb list8) site file bus = arm_length (block l rb list8) site file bus
-  thumb_length (op.Format16 cond n8) site file bus = condition_length cond n8 site file bus
-  thumb_length (op.Format17 n8) site file bus = arm_length (software_interrupt n8) site file bus
-  thumb_length (op.Format18 n11) site file bus = jump_length site bus
-  thumb_length (op.Format19 second n11) site file bus = link_length second n11 site file bus
+  meaning_length : (one : Meaning) (site : Site) (file : List ℕ) (bus : State)
+      → IsStepLength (effect_of_meaning price load store one site file bus).cycles
+  meaning_length (Arm operation) site file bus = arm_length operation site file bus
+  meaning_length (NearLoad rd words) site file bus = near_length rd words site file bus
+  meaning_length (NearAddress rd words) site file bus = code_length site bus
+  meaning_length (BranchIf condition halfwords) site file bus = condition_length condition halfwords site file bus
+  meaning_length (Branch halfwords) site file bus = jump_length site bus
+  meaning_length (LinkHigh n11) site file bus = code_length site bus
+  meaning_length (LinkLow n11) site file bus = jump_length site bus
 
   half_length : (one : Option ThumbOp) (site : Site) (file : List ℕ) (bus : State)
       → IsStepLength (effect_of_half price load store one site file bus).cycles
-  unfolding effect_of_half
+  unfolding effect_of_half thumb_effect
   half_length None site file bus = lengths None site file bus
-  half_length (Some one) site file bus = thumb_length one site file bus
+  half_length (Some one) site file bus = meaning_length (meaning_of one) site file bus
 
   pub execution_length : (half : ℕ) (file : List ℕ) (bus : State)
       → IsStepLength (execution price load store half file bus).cycles

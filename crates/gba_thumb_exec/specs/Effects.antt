@@ -1,5 +1,5 @@
-use Rattle.std.specs.Prelude.{ℕ, Bool, true, false, List, Option, Some, None, ◌+◌, ◌-◌, ◌*◌, ◌%◌, ◌^◌, if◌then◌else◌}
-use Rattle.gba_arm_table.specs.Numbers.{condition_of}
+use Rattle.std.specs.Prelude.{ℕ, true, List, Option, Some, None, ◌+◌, ◌-◌, ◌*◌, ◌%◌, ◌^◌, if◌then◌else◌}
+use Rattle.gba_arm_table.specs.declared.operation.Condition.{Condition}
 use Rattle.gba_bus.specs.Meanings.{Load, Price, Store}
 use Rattle.gba_exec_registers.specs.Access.{after_jump, code_cost, counter, jump_cost}
 use Rattle.gba_exec_registers.specs.Conditions.{holds}
@@ -9,12 +9,13 @@ use Rattle.gba_exec_transfers.specs.Effects.{effect, effect_of_word, internal}
 use Rattle.gba_exec_transfers.specs.Singles.{unit_load}
 use Rattle.gba_exec_transfers.specs.declared.units.LoadUnit.TheVariants as unit
 use Rattle.gba_psr.specs.RegisterFile.{flags, register, with_register}
-use Rattle.gba_thumb_exec.specs.Operations.{shift_by_constant, add_or_subtract, process_number, process_register, full_register, process_full_register, transfer_by_register, half_by_register, transfer_by_number, half_by_number, stack_transfer, stack_address, stack_move, push_or_pop, block, software_interrupt}
+use Rattle.gba_thumb_exec.specs.Meanings.{meaning_of}
+use Rattle.gba_thumb_exec.specs.declared.meaning.Meaning.{Meaning}
+use Rattle.gba_thumb_exec.specs.declared.meaning.Meaning.TheVariants.{Arm, NearLoad, NearAddress, BranchIf, Branch, LinkHigh, LinkLow}
 use Rattle.gba_thumb_table.specs.declared.operation.ThumbOp.{ThumbOp}
-use Rattle.gba_thumb_table.specs.declared.operation.ThumbOp.TheVariants as op
 use Rattle.gba_word.specs.Extension.{sign_extension}
 
--- What a Thumb operation leaves. Most formats have the effect of their ARM operation; those that no ARM operation says
+-- What a Thumb operation leaves. Most have the effect of the ARM operation that they mean; those that no ARM operation says
 -- have equations here (GBATEK, THUMB.6, THUMB.12, THUMB.16, THUMB.18 and THUMB.19).
 
 -- so many words above the PC, the instruction's address plus 4 with the low two bits cleared
@@ -47,11 +48,10 @@ module _ {State : Type 0} (price : Price State) (load : Load State) (store : Sto
         cycles = code_cost price bus site true + got.price + 1;
       }
 
-  -- an address near the PC, or near r13
-  abbrev pub after_address : Bool → ℕ → ℕ → Site → List ℕ → State → Done State
-  after_address true rd n8 site file bus = effect price load store (stack_address rd n8) site file bus
-  after_address false rd n8 site file bus =
-      internal price load store bus (with_register file rd (near_address n8 site)) (code_cost price bus site true)
+  -- an address near the PC
+  abbrev pub after_near_address : ℕ → ℕ → Site → List ℕ → State → Done State
+  after_near_address rd words site file bus =
+      internal price load store bus (with_register file rd (near_address words site)) (code_cost price bus site true)
 
   -- B of either kind
   abbrev pub short_branch : ℕ → Site → List ℕ → State → Done State
@@ -59,46 +59,26 @@ module _ {State : Type 0} (price : Price State) (load : Load State) (store : Sto
       internal price load store bus (after_short_branch halfwords site file) (jump_cost (code_cost price bus site))
 
   -- B under a condition, which costs 1S where it doesn't hold
-  abbrev pub conditional_branch : ℕ → ℕ → Site → List ℕ → State → Done State
-  conditional_branch cond n8 site file bus =
-      if holds (condition_of cond) (flags file) then short_branch (sign_extension n8 8) site file bus
+  abbrev pub conditional_branch : Condition → ℕ → Site → List ℕ → State → Done State
+  conditional_branch condition halfwords site file bus =
+      if holds condition (flags file) then short_branch halfwords site file bus
       else internal price load store bus file (code_cost price bus site true)
 
-  -- either half of BL
-  abbrev pub link_half : Bool → ℕ → Site → List ℕ → State → Done State
-  link_half false n11 site file bus =
+  -- what an operation leaves by its meaning
+  abbrev pub effect_of_meaning : Meaning → Site → List ℕ → State → Done State
+  effect_of_meaning (Arm operation) site file bus = effect price load store operation site file bus
+  effect_of_meaning (NearLoad rd words) site file bus = after_near_load rd words site file bus
+  effect_of_meaning (NearAddress rd words) site file bus = after_near_address rd words site file bus
+  effect_of_meaning (BranchIf condition halfwords) site file bus = conditional_branch condition halfwords site file bus
+  effect_of_meaning (Branch halfwords) site file bus = short_branch halfwords site file bus
+  effect_of_meaning (LinkHigh n11) site file bus =
       internal price load store bus (after_link_high n11 site file) (code_cost price bus site true)
-  link_half true n11 site file bus =
+  effect_of_meaning (LinkLow n11) site file bus =
       internal price load store bus (after_link_low n11 file) (jump_cost (code_cost price bus site))
 
   -- What a Thumb operation leaves. In the file, r15 is the address of the next instruction.
   unfoldable pub thumb_effect : ThumbOp → Site → List ℕ → State → Done State
-  thumb_effect (op.Format1 op o5 rs rd) site file bus =
-      effect price load store (shift_by_constant op o5 rs rd) site file bus
-  thumb_effect (op.Format2 i op x3 rs rd) site file bus =
-      effect price load store (add_or_subtract i op x3 rs rd) site file bus
-  thumb_effect (op.Format3 op rd n8) site file bus = effect price load store (process_number op rd n8) site file bus
-  thumb_effect (op.Format4 op rs rd) site file bus = effect price load store (process_register op rs rd) site file bus
-  thumb_effect (op.Format5 op h1 h2 rs rd) site file bus =
-      effect price load store (process_full_register op (full_register h2 rs) (full_register h1 rd)) site file bus
-  thumb_effect (op.Format6 rd n8) site file bus = after_near_load rd n8 site file bus
-  thumb_effect (op.Format7 l b ro rb rd) site file bus =
-      effect price load store (transfer_by_register l b ro rb rd) site file bus
-  thumb_effect (op.Format8 h s ro rb rd) site file bus =
-      effect price load store (half_by_register h s ro rb rd) site file bus
-  thumb_effect (op.Format9 b l o5 rb rd) site file bus =
-      effect price load store (transfer_by_number b l o5 rb rd) site file bus
-  thumb_effect (op.Format10 l o5 rb rd) site file bus =
-      effect price load store (half_by_number l o5 rb rd) site file bus
-  thumb_effect (op.Format11 l rd n8) site file bus = effect price load store (stack_transfer l rd n8) site file bus
-  thumb_effect (op.Format12 p rd n8) site file bus = after_address p rd n8 site file bus
-  thumb_effect (op.Format13 s n7) site file bus = effect price load store (stack_move s n7) site file bus
-  thumb_effect (op.Format14 l r list8) site file bus = effect price load store (push_or_pop l r list8) site file bus
-  thumb_effect (op.Format15 l rb list8) site file bus = effect price load store (block l rb list8) site file bus
-  thumb_effect (op.Format16 cond n8) site file bus = conditional_branch cond n8 site file bus
-  thumb_effect (op.Format17 n8) site file bus = effect price load store (software_interrupt n8) site file bus
-  thumb_effect (op.Format18 n11) site file bus = short_branch (sign_extension n11 11) site file bus
-  thumb_effect (op.Format19 second n11) site file bus = link_half second n11 site file bus
+  thumb_effect operation site file bus = effect_of_meaning (meaning_of operation) site file bus
 
   -- what a halfword of this operation leaves; one without an operation takes the Undefined trap, as a word does
   unfoldable pub effect_of_half : Option ThumbOp → Site → List ℕ → State → Done State

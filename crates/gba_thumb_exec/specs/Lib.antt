@@ -1,3 +1,4 @@
+pub mod Meanings
 pub mod Effects
 pub mod Execution
 pub mod Forms

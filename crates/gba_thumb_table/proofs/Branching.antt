@@ -6,10 +6,10 @@ use Rattle.std.proofs.lemmas.Nat.{and_assoc}
 use Rattle.std.proofs.lemmas.Nat.Bits.{and_high}
 use Rattle.gba_terms.specs.Bits.{field}
 use Rattle.gba_arm_table.specs.Fields.{Bits}
-use Rattle.gba_thumb_table.specs.declared.form.Form.{Form}
-use Rattle.gba_thumb_table.specs.declared.form.Form.TheVariants as form
-use Rattle.gba_thumb_table.specs.Table.{Row, rows, form_in}
-use Rattle.gba_thumb_table.specs.Branches.{branch_form}
+use Rattle.gba_thumb_table.specs.declared.format.Format.{Format}
+use Rattle.gba_thumb_table.specs.declared.format.Format.TheVariants as format
+use Rattle.gba_thumb_table.specs.Table.{Row, rows, format_in}
+use Rattle.gba_thumb_table.specs.Branches.{branch_format}
 
 -- The masks look at bits 15 to 8 alone. So a halfword has the row that these bits have with all others 0, and for those
 -- the checker compares the rows with the decision by bits, 256 times.
@@ -22,74 +22,74 @@ kept high = high * 2 ^ 8
 abbrev looks : Row → Bool
 looks row = nat_eq (bit_and 0xFF00 row.mask) row.mask
 
-form_in-kept : (rows : List Row) → list_all looks rows ≡ true → (half : ℕ)
-    → form_in rows half ≡ form_in rows (bit_and half 0xFF00)
-form_in-kept [] all half = refl
-form_in-kept (row ∷ rest) all half =
+format_in-kept : (rows : List Row) → list_all looks rows ≡ true → (half : ℕ)
+    → format_in rows half ≡ format_in rows (bit_and half 0xFF00)
+format_in-kept [] all half = refl
+format_in-kept (row ∷ rest) all half =
     let here : looks row ≡ true = grind arith in
     let later : list_all looks rest ≡ true = grind arith in
     let mask : bit_and 0xFF00 row.mask ≡ row.mask = eqb-true _ _ here in
     let read : bit_and (bit_and half 0xFF00) row.mask ≡ bit_and half row.mask =
     and_assoc row.mask half 0xFF00 ∙ ap (bit_and half) mask in
-    rw (read, form_in-kept rest later half) refl
+    rw (read, format_in-kept rest later half) refl
 
 -- a halfword has the row of its bits 15 to 8 alone
-pub form_in-key : (half : ℕ) → form_in rows half ≡ form_in rows (kept (field half 8 8))
-form_in-key half =
+pub format_in-key : (half : ℕ) → format_in rows half ≡ format_in rows (kept (field half 8 8))
+format_in-key half =
     let all : list_all looks rows ≡ true = unfold rows in refl in
-    form_in-kept rows all half ∙ ap (form_in rows) (and_high half 8 8)
+    format_in-kept rows all half ∙ ap (format_in rows) (and_high half 8 8)
 
--- a number for each form, and back
-unfoldable pub form_at : ℕ → Form
-form_at n =
-    get_or (form.Format1 ∷ form.Format2 ∷ form.Format3 ∷ form.Format4 ∷ form.Format5 ∷ form.Format6 ∷ form.Format7
-    ∷ form.Format8 ∷ form.Format9 ∷ form.Format10 ∷ form.Format11 ∷ form.Format12 ∷ form.Format13 ∷ form.Format14
-    ∷ form.Format15 ∷ form.Format16 ∷ form.Format17 ∷ form.Format18 ∷ form.Format19 ∷ []) n form.Undefined
+-- a number for each format, and back
+unfoldable pub format_at : ℕ → Format
+format_at n =
+    get_or (format.Format1 ∷ format.Format2 ∷ format.Format3 ∷ format.Format4 ∷ format.Format5 ∷ format.Format6 ∷ format.Format7
+    ∷ format.Format8 ∷ format.Format9 ∷ format.Format10 ∷ format.Format11 ∷ format.Format12 ∷ format.Format13 ∷ format.Format14
+    ∷ format.Format15 ∷ format.Format16 ∷ format.Format17 ∷ format.Format18 ∷ format.Format19 ∷ []) n format.Undefined
 
-abbrev pub number : Form → ℕ
-number form.Format1 = 0
-number form.Format2 = 1
-number form.Format3 = 2
-number form.Format4 = 3
-number form.Format5 = 4
-number form.Format6 = 5
-number form.Format7 = 6
-number form.Format8 = 7
-number form.Format9 = 8
-number form.Format10 = 9
-number form.Format11 = 10
-number form.Format12 = 11
-number form.Format13 = 12
-number form.Format14 = 13
-number form.Format15 = 14
-number form.Format16 = 15
-number form.Format17 = 16
-number form.Format18 = 17
-number form.Format19 = 18
-number form.Undefined = 19
+abbrev pub number : Format → ℕ
+number format.Format1 = 0
+number format.Format2 = 1
+number format.Format3 = 2
+number format.Format4 = 3
+number format.Format5 = 4
+number format.Format6 = 5
+number format.Format7 = 6
+number format.Format8 = 7
+number format.Format9 = 8
+number format.Format10 = 9
+number format.Format11 = 10
+number format.Format12 = 11
+number format.Format13 = 12
+number format.Format14 = 13
+number format.Format15 = 14
+number format.Format16 = 15
+number format.Format17 = 16
+number format.Format18 = 17
+number format.Format19 = 18
+number format.Undefined = 19
 
-pub form_at-number : (f : Form) → form_at (number f) ≡ f
-unfolding form_at
-form_at-number form.Format1 = refl
-form_at-number form.Format2 = refl
-form_at-number form.Format3 = refl
-form_at-number form.Format4 = refl
-form_at-number form.Format5 = refl
-form_at-number form.Format6 = refl
-form_at-number form.Format7 = refl
-form_at-number form.Format8 = refl
-form_at-number form.Format9 = refl
-form_at-number form.Format10 = refl
-form_at-number form.Format11 = refl
-form_at-number form.Format12 = refl
-form_at-number form.Format13 = refl
-form_at-number form.Format14 = refl
-form_at-number form.Format15 = refl
-form_at-number form.Format16 = refl
-form_at-number form.Format17 = refl
-form_at-number form.Format18 = refl
-form_at-number form.Format19 = refl
-form_at-number form.Undefined = refl
+pub format_at-number : (f : Format) → format_at (number f) ≡ f
+unfolding format_at
+format_at-number format.Format1 = refl
+format_at-number format.Format2 = refl
+format_at-number format.Format3 = refl
+format_at-number format.Format4 = refl
+format_at-number format.Format5 = refl
+format_at-number format.Format6 = refl
+format_at-number format.Format7 = refl
+format_at-number format.Format8 = refl
+format_at-number format.Format9 = refl
+format_at-number format.Format10 = refl
+format_at-number format.Format11 = refl
+format_at-number format.Format12 = refl
+format_at-number format.Format13 = refl
+format_at-number format.Format14 = refl
+format_at-number format.Format15 = refl
+format_at-number format.Format16 = refl
+format_at-number format.Format17 = refl
+format_at-number format.Format18 = refl
+format_at-number format.Format19 = refl
+format_at-number format.Undefined = refl
 
 -- a test of each number below a bound
 unfoldable pub all_below : (ℕ → Bool) → ℕ → Bool
@@ -105,29 +105,29 @@ all_below-at test (suc n) all k small =
     elim (cases_lt k n) [ inl below ↦ all_below-at test n later k below | inr above ↦ ap test (omega arith) ∙ here ]
 
 abbrev same_at : ℕ → Bool
-same_at high = nat_eq (number (form_in rows (kept high))) (number (branch_form (field (kept high))))
+same_at high = nat_eq (number (format_in rows (kept high))) (number (branch_format (field (kept high))))
 
 all_same : all_below same_at 256 ≡ true
 unfolding rows all_below
 all_same = refl
 
-same_form : (high : ℕ) → high < 256 → form_in rows (kept high) ≡ branch_form (field (kept high))
-same_form high small =
-    let numbers : number (form_in rows (kept high)) ≡ number (branch_form (field (kept high))) =
+same_format : (high : ℕ) → high < 256 → format_in rows (kept high) ≡ branch_format (field (kept high))
+same_format high small =
+    let numbers : number (format_in rows (kept high)) ≡ number (branch_format (field (kept high))) =
     eqb-true _ _ (all_below-at same_at 256 all_same high small) in
-    sym (form_at-number _) ∙ ap form_at numbers ∙ form_at-number _
+    sym (format_at-number _) ∙ ap format_at numbers ∙ format_at-number _
 
 -- the decision reads these six fields alone
 branched_agrees : (f g : Bits) → f 12 4 ≡ g 12 4 → f 11 1 ≡ g 11 1 → f 10 1 ≡ g 10 1 → f 9 1 ≡ g 9 1 → f 9 2 ≡ g 9 2
-    → f 8 4 ≡ g 8 4 → branch_form f ≡ branch_form g
+    → f 8 4 ≡ g 8 4 → branch_format f ≡ branch_format g
 branched_agrees f g a b c d e h = rw (a, b, c, d, e, h) refl
 
-branch_form-kept : (half : ℕ) → branch_form (field (kept (field half 8 8))) ≡ branch_form (field half)
-branch_form-kept half =
+branch_format-kept : (half : ℕ) → branch_format (field (kept (field half 8 8))) ≡ branch_format (field half)
+branch_format-kept half =
     branched_agrees (field (kept (field half 8 8))) (field half)
     (omega arith) (omega arith) (omega arith) (omega arith) (omega arith)
     (omega arith)
 
 -- the first row that fits is found by the decision by bits
-pub form_in-rows : (half : ℕ) → form_in rows half ≡ branch_form (field half)
-form_in-rows half = form_in-key half ∙ same_form (field half 8 8) (omega arith) ∙ branch_form-kept half
+pub format_in-rows : (half : ℕ) → format_in rows half ≡ branch_format (field half)
+format_in-rows half = format_in-key half ∙ same_format (field half 8 8) (omega arith) ∙ branch_format-kept half

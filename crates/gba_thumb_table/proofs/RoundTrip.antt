@@ -7,8 +7,8 @@ use Rattle.gba_word.specs.Sums.{flag_number}
 use Rattle.gba_arm_table.specs.declared.encoding.EncodeError.{EncodeError}
 use Rattle.gba_arm_table.specs.Limits.{Limit, Within, within}
 use Rattle.gba_arm_table.specs.Diagrams.{pack}
-use Rattle.gba_thumb_table.specs.declared.form.Form.{Form}
-use Rattle.gba_thumb_table.specs.declared.form.Form.TheVariants as form
+use Rattle.gba_thumb_table.specs.declared.format.Format.{Format}
+use Rattle.gba_thumb_table.specs.declared.format.Format.TheVariants as format
 use Rattle.gba_thumb_table.specs.declared.operation.ThumbOp.{ThumbOp}
 use Rattle.gba_thumb_table.specs.declared.operation.ThumbOp.TheVariants as op
 use Rattle.gba_thumb_table.specs.Limits.{Fits, registers_of, immediates_of, offsets_of}
@@ -16,7 +16,7 @@ use Rattle.gba_thumb_table.specs.Table.{operation, operation_of}
 use Rattle.gba_thumb_table.specs.Diagrams.{diagram}
 use Rattle.gba_thumb_table.specs.Encoding.{encoding}
 use Rattle.gba_thumb_table.proofs.Branching.{number}
-use Rattle.gba_thumb_table.proofs.Settling.{Settled, form_in-settled}
+use Rattle.gba_thumb_table.proofs.Settling.{Settled, format_in-settled}
 use Rattle.gba_thumb_table.proofs.Reading.{operation-Fits}
 
 -- An operation whose fields fit comes back from its halfword.
@@ -32,11 +32,11 @@ flag-at n false e = grind (arith, nat_tests)
 
 -- ---- each format
 
--- a halfword that is settled for a form has the operation that the form reads
-reads : (f : Form) → number f < 19 → (half : ℕ) (o : ThumbOp) → Settled f half → operation_of f (field half) ≡ Some o
+-- a halfword that is settled for a format has the operation that the format reads
+reads : (f : Format) → number f < 19 → (half : ℕ) (o : ThumbOp) → Settled f half → operation_of f (field half) ≡ Some o
     → operation half ≡ Some o
 unfolding operation
-reads f there half o s is = ap (λ g. operation_of g (field half)) (form_in-settled f there half s) ∙ is
+reads f there half o s is = ap (λ g. operation_of g (field half)) (format_in-settled f there half s) ∙ is
 
 format1-back : (half : ℕ) (kind o5 rs rd : ℕ) → half ≡ pack (diagram (op.Format1 kind o5 rs rd))
     → kind < 3 → o5 < 32 → rs < 8 → rd < 8 → operation half ≡ Some (op.Format1 kind o5 rs rd)
@@ -46,7 +46,7 @@ format1-back half kind o5 rs rd e b1 b2 b3 b4 =
     let read_o5 : field half 6 5 ≡ o5 = omega arith in
     let read_rs : field half 3 3 ≡ rs = omega arith in
     let read_rd : field half 0 3 ≡ rd = omega arith in
-    reads form.Format1 (omega arith) half _ (grind (arith, nat_tests)) (rw (read_kind, read_o5, read_rs, read_rd) refl)
+    reads format.Format1 (omega arith) half _ (grind (arith, nat_tests)) (rw (read_kind, read_o5, read_rs, read_rd) refl)
 
 format2-back : (half : ℕ) (i kind : Bool) (x3 rs rd : ℕ) → half ≡ pack (diagram (op.Format2 i kind x3 rs rd))
     → x3 < 8 → rs < 8 → rd < 8 → operation half ≡ Some (op.Format2 i kind x3 rs rd)
@@ -59,7 +59,7 @@ format2-back half i kind x3 rs rd e b1 b2 b3 =
     let read_x3 : field half 6 3 ≡ x3 = omega arith in
     let read_rs : field half 3 3 ≡ rs = omega arith in
     let read_rd : field half 0 3 ≡ rd = omega arith in
-    reads form.Format2 (omega arith) half _ (grind (arith, nat_tests))
+    reads format.Format2 (omega arith) half _ (grind (arith, nat_tests))
     (rw (read_i, read_kind, read_x3, read_rs, read_rd) refl)
 
 format3-back : (half : ℕ) (kind rd n8 : ℕ) → half ≡ pack (diagram (op.Format3 kind rd n8))
@@ -69,7 +69,7 @@ format3-back half kind rd n8 e b1 b2 b3 =
     let read_kind : field half 11 2 ≡ kind = omega arith in
     let read_rd : field half 8 3 ≡ rd = omega arith in
     let read_n8 : field half 0 8 ≡ n8 = omega arith in
-    reads form.Format3 (omega arith) half _ (grind (arith, nat_tests)) (rw (read_kind, read_rd, read_n8) refl)
+    reads format.Format3 (omega arith) half _ (grind (arith, nat_tests)) (rw (read_kind, read_rd, read_n8) refl)
 
 format4-back : (half : ℕ) (kind rs rd : ℕ) → half ≡ pack (diagram (op.Format4 kind rs rd))
     → kind < 16 → rs < 8 → rd < 8 → operation half ≡ Some (op.Format4 kind rs rd)
@@ -78,7 +78,7 @@ format4-back half kind rs rd e b1 b2 b3 =
     let read_kind : field half 6 4 ≡ kind = omega arith in
     let read_rs : field half 3 3 ≡ rs = omega arith in
     let read_rd : field half 0 3 ≡ rd = omega arith in
-    reads form.Format4 (omega arith) half _ (grind (arith, nat_tests)) (rw (read_kind, read_rs, read_rd) refl)
+    reads format.Format4 (omega arith) half _ (grind (arith, nat_tests)) (rw (read_kind, read_rs, read_rd) refl)
 
 format5-back : (half : ℕ) (kind : ℕ) (h1 h2 : Bool) (rs rd : ℕ) → half ≡ pack (diagram (op.Format5 kind h1 h2 rs rd))
     → kind < 4 → rs < 8 → rd < 8 → operation half ≡ Some (op.Format5 kind h1 h2 rs rd)
@@ -91,7 +91,7 @@ format5-back half kind h1 h2 rs rd e b1 b2 b3 =
     let read_h2 : (field half 6 1 == 1) ≡ h2 = flag-at _ h2 (omega arith) in
     let read_rs : field half 3 3 ≡ rs = omega arith in
     let read_rd : field half 0 3 ≡ rd = omega arith in
-    reads form.Format5 (omega arith) half _ (grind (arith, nat_tests))
+    reads format.Format5 (omega arith) half _ (grind (arith, nat_tests))
     (rw (read_kind, read_h1, read_h2, read_rs, read_rd) refl)
 
 format6-back : (half : ℕ) (rd n8 : ℕ) → half ≡ pack (diagram (op.Format6 rd n8))
@@ -100,7 +100,7 @@ format6-back half rd n8 e b1 b2 =
     let high : field half 8 8 / 8 ≡ 9 = omega arith in
     let read_rd : field half 8 3 ≡ rd = omega arith in
     let read_n8 : field half 0 8 ≡ n8 = omega arith in
-    reads form.Format6 (omega arith) half _ (grind (arith, nat_tests)) (rw (read_rd, read_n8) refl)
+    reads format.Format6 (omega arith) half _ (grind (arith, nat_tests)) (rw (read_rd, read_n8) refl)
 
 format7-back : (half : ℕ) (l b : Bool) (ro rb rd : ℕ) → half ≡ pack (diagram (op.Format7 l b ro rb rd))
     → ro < 8 → rb < 8 → rd < 8 → operation half ≡ Some (op.Format7 l b ro rb rd)
@@ -114,7 +114,7 @@ format7-back half l b ro rb rd e b1 b2 b3 =
     let read_ro : field half 6 3 ≡ ro = omega arith in
     let read_rb : field half 3 3 ≡ rb = omega arith in
     let read_rd : field half 0 3 ≡ rd = omega arith in
-    reads form.Format7 (omega arith) half _ (grind (arith, nat_tests))
+    reads format.Format7 (omega arith) half _ (grind (arith, nat_tests))
     (rw (read_l, read_b, read_ro, read_rb, read_rd) refl)
 
 format8-back : (half : ℕ) (h s : Bool) (ro rb rd : ℕ) → half ≡ pack (diagram (op.Format8 h s ro rb rd))
@@ -129,7 +129,7 @@ format8-back half h s ro rb rd e b1 b2 b3 =
     let read_ro : field half 6 3 ≡ ro = omega arith in
     let read_rb : field half 3 3 ≡ rb = omega arith in
     let read_rd : field half 0 3 ≡ rd = omega arith in
-    reads form.Format8 (omega arith) half _ (grind (arith, nat_tests))
+    reads format.Format8 (omega arith) half _ (grind (arith, nat_tests))
     (rw (read_h, read_s, read_ro, read_rb, read_rd) refl)
 
 format9-back : (half : ℕ) (b l : Bool) (o5 rb rd : ℕ) → half ≡ pack (diagram (op.Format9 b l o5 rb rd))
@@ -143,7 +143,7 @@ format9-back half b l o5 rb rd e b1 b2 b3 =
     let read_o5 : field half 6 5 ≡ o5 = omega arith in
     let read_rb : field half 3 3 ≡ rb = omega arith in
     let read_rd : field half 0 3 ≡ rd = omega arith in
-    reads form.Format9 (omega arith) half _ (grind (arith, nat_tests))
+    reads format.Format9 (omega arith) half _ (grind (arith, nat_tests))
     (rw (read_b, read_l, read_o5, read_rb, read_rd) refl)
 
 format10-back : (half : ℕ) (l : Bool) (o5 rb rd : ℕ) → half ≡ pack (diagram (op.Format10 l o5 rb rd))
@@ -155,7 +155,7 @@ format10-back half l o5 rb rd e b1 b2 b3 =
     let read_o5 : field half 6 5 ≡ o5 = omega arith in
     let read_rb : field half 3 3 ≡ rb = omega arith in
     let read_rd : field half 0 3 ≡ rd = omega arith in
-    reads form.Format10 (omega arith) half _ (grind (arith, nat_tests)) (rw (read_l, read_o5, read_rb, read_rd) refl)
+    reads format.Format10 (omega arith) half _ (grind (arith, nat_tests)) (rw (read_l, read_o5, read_rb, read_rd) refl)
 
 format11-back : (half : ℕ) (l : Bool) (rd n8 : ℕ) → half ≡ pack (diagram (op.Format11 l rd n8))
     → rd < 8 → n8 < 256 → operation half ≡ Some (op.Format11 l rd n8)
@@ -165,7 +165,7 @@ format11-back half l rd n8 e b1 b2 =
     let read_l : (field half 11 1 == 1) ≡ l = flag-at _ l (omega arith) in
     let read_rd : field half 8 3 ≡ rd = omega arith in
     let read_n8 : field half 0 8 ≡ n8 = omega arith in
-    reads form.Format11 (omega arith) half _ (grind (arith, nat_tests)) (rw (read_l, read_rd, read_n8) refl)
+    reads format.Format11 (omega arith) half _ (grind (arith, nat_tests)) (rw (read_l, read_rd, read_n8) refl)
 
 format12-back : (half : ℕ) (p : Bool) (rd n8 : ℕ) → half ≡ pack (diagram (op.Format12 p rd n8))
     → rd < 8 → n8 < 256 → operation half ≡ Some (op.Format12 p rd n8)
@@ -175,7 +175,7 @@ format12-back half p rd n8 e b1 b2 =
     let read_p : (field half 11 1 == 1) ≡ p = flag-at _ p (omega arith) in
     let read_rd : field half 8 3 ≡ rd = omega arith in
     let read_n8 : field half 0 8 ≡ n8 = omega arith in
-    reads form.Format12 (omega arith) half _ (grind (arith, nat_tests)) (rw (read_p, read_rd, read_n8) refl)
+    reads format.Format12 (omega arith) half _ (grind (arith, nat_tests)) (rw (read_p, read_rd, read_n8) refl)
 
 format13-back : (half : ℕ) (s : Bool) (n7 : ℕ) → half ≡ pack (diagram (op.Format13 s n7))
     → n7 < 128 → operation half ≡ Some (op.Format13 s n7)
@@ -184,7 +184,7 @@ format13-back half s n7 e b1 =
     let high : field half 8 8 ≡ 0xB0 = omega arith in
     let read_s : (field half 7 1 == 1) ≡ s = flag-at _ s (omega arith) in
     let read_n7 : field half 0 7 ≡ n7 = omega arith in
-    reads form.Format13 (omega arith) half _ (grind (arith, nat_tests)) (rw (read_s, read_n7) refl)
+    reads format.Format13 (omega arith) half _ (grind (arith, nat_tests)) (rw (read_s, read_n7) refl)
 
 format14-back : (half : ℕ) (l r : Bool) (list8 : ℕ) → half ≡ pack (diagram (op.Format14 l r list8))
     → list8 < 256 → operation half ≡ Some (op.Format14 l r list8)
@@ -196,7 +196,7 @@ format14-back half l r list8 e b1 =
     let read_l : (field half 11 1 == 1) ≡ l = flag-at _ l (omega arith) in
     let read_r : (field half 8 1 == 1) ≡ r = flag-at _ r (omega arith) in
     let read_list8 : field half 0 8 ≡ list8 = omega arith in
-    reads form.Format14 (omega arith) half _ (grind (arith, nat_tests)) (rw (read_l, read_r, read_list8) refl)
+    reads format.Format14 (omega arith) half _ (grind (arith, nat_tests)) (rw (read_l, read_r, read_list8) refl)
 
 format15-back : (half : ℕ) (l : Bool) (rb list8 : ℕ) → half ≡ pack (diagram (op.Format15 l rb list8))
     → rb < 8 → list8 < 256 → operation half ≡ Some (op.Format15 l rb list8)
@@ -206,7 +206,7 @@ format15-back half l rb list8 e b1 b2 =
     let read_l : (field half 11 1 == 1) ≡ l = flag-at _ l (omega arith) in
     let read_rb : field half 8 3 ≡ rb = omega arith in
     let read_list8 : field half 0 8 ≡ list8 = omega arith in
-    reads form.Format15 (omega arith) half _ (grind (arith, nat_tests)) (rw (read_l, read_rb, read_list8) refl)
+    reads format.Format15 (omega arith) half _ (grind (arith, nat_tests)) (rw (read_l, read_rb, read_list8) refl)
 
 format16-back : (half : ℕ) (cond n8 : ℕ) → half ≡ pack (diagram (op.Format16 cond n8))
     → cond < 14 → n8 < 256 → operation half ≡ Some (op.Format16 cond n8)
@@ -215,21 +215,21 @@ format16-back half cond n8 e b1 b2 =
     let high_2 : field half 8 8 % 16 < 14 = omega arith in
     let read_cond : field half 8 4 ≡ cond = omega arith in
     let read_n8 : field half 0 8 ≡ n8 = omega arith in
-    reads form.Format16 (omega arith) half _ (grind (arith, nat_tests)) (rw (read_cond, read_n8) refl)
+    reads format.Format16 (omega arith) half _ (grind (arith, nat_tests)) (rw (read_cond, read_n8) refl)
 
 format17-back : (half : ℕ) (n8 : ℕ) → half ≡ pack (diagram (op.Format17 n8))
     → n8 < 256 → operation half ≡ Some (op.Format17 n8)
 format17-back half n8 e b1 =
     let high : field half 8 8 ≡ 0xDF = omega arith in
     let read_n8 : field half 0 8 ≡ n8 = omega arith in
-    reads form.Format17 (omega arith) half _ (grind (arith, nat_tests)) (rw read_n8 refl)
+    reads format.Format17 (omega arith) half _ (grind (arith, nat_tests)) (rw read_n8 refl)
 
 format18-back : (half : ℕ) (n11 : ℕ) → half ≡ pack (diagram (op.Format18 n11))
     → n11 < 2048 → operation half ≡ Some (op.Format18 n11)
 format18-back half n11 e b1 =
     let high : field half 8 8 / 8 ≡ 28 = omega arith in
     let read_n11 : field half 0 11 ≡ n11 = omega arith in
-    reads form.Format18 (omega arith) half _ (grind (arith, nat_tests)) (rw read_n11 refl)
+    reads format.Format18 (omega arith) half _ (grind (arith, nat_tests)) (rw read_n11 refl)
 
 format19-back : (half : ℕ) (second : Bool) (n11 : ℕ) → half ≡ pack (diagram (op.Format19 second n11))
     → n11 < 2048 → operation half ≡ Some (op.Format19 second n11)
@@ -238,7 +238,7 @@ format19-back half second n11 e b1 =
     let high : field half 8 8 / 16 ≡ 15 = omega arith in
     let read_second : (field half 11 1 == 1) ≡ second = flag-at _ second (omega arith) in
     let read_n11 : field half 0 11 ≡ n11 = omega arith in
-    reads form.Format19 (omega arith) half _ (grind (arith, nat_tests)) (rw (read_second, read_n11) refl)
+    reads format.Format19 (omega arith) half _ (grind (arith, nat_tests)) (rw (read_second, read_n11) refl)
 
 -- ---- every format
 

@@ -8,13 +8,13 @@ ghost use Rattle.gba_thumb_table.specs.Table.{operation, operation_of};
 
 mod encoding;
 mod fields;
-mod form;
+mod format;
 pub mod laws;
 mod limits;
 mod operation;
 
 pub use encoding::encode;
-use form::{Form, form_of};
+use format::{Format, format_of};
 pub use gba_arm_table::EncodeError;
 pub use operation::ThumbOp;
 
@@ -26,33 +26,33 @@ pub fn decode(half: u16) -> Option<ThumbOp>
     ensures fits { IfSome result Fits }
 {
     let half = u32::from(half);
-    of_form(form_of(half), half)
+    of_format(format_of(half), half)
 }
 
-/// The operation of a halfword of this form.
-fn of_form(form: Form, half: u32) -> Option<ThumbOp>
-    ensures { result ≡ operation_of form (field half) }
+/// The operation of a halfword of this format.
+fn of_format(format: Format, half: u32) -> Option<ThumbOp>
+    ensures { result ≡ operation_of format (field half) }
 {
-    match form {
-        Form::Format1 => Some(fields::format1(half)),
-        Form::Format2 => Some(fields::format2(half)),
-        Form::Format3 => Some(fields::format3(half)),
-        Form::Format4 => Some(fields::format4(half)),
-        Form::Format5 => Some(fields::format5(half)),
-        Form::Format6 => Some(fields::format6(half)),
-        Form::Format7 => Some(fields::format7(half)),
-        Form::Format8 => Some(fields::format8(half)),
-        Form::Format9 => Some(fields::format9(half)),
-        Form::Format10 => Some(fields::format10(half)),
-        Form::Format11 => Some(fields::format11(half)),
-        Form::Format12 => Some(fields::format12(half)),
-        Form::Format13 => Some(fields::format13(half)),
-        Form::Format14 => Some(fields::format14(half)),
-        Form::Format15 => Some(fields::format15(half)),
-        Form::Format16 => Some(fields::format16(half)),
-        Form::Format17 => Some(fields::format17(half)),
-        Form::Format18 => Some(fields::format18(half)),
-        Form::Format19 => Some(fields::format19(half)),
-        Form::Undefined => None,
+    match format {
+        Format::Format1 => Some(fields::format1(half)),
+        Format::Format2 => Some(fields::format2(half)),
+        Format::Format3 => Some(fields::format3(half)),
+        Format::Format4 => Some(fields::format4(half)),
+        Format::Format5 => Some(fields::format5(half)),
+        Format::Format6 => Some(fields::format6(half)),
+        Format::Format7 => Some(fields::format7(half)),
+        Format::Format8 => Some(fields::format8(half)),
+        Format::Format9 => Some(fields::format9(half)),
+        Format::Format10 => Some(fields::format10(half)),
+        Format::Format11 => Some(fields::format11(half)),
+        Format::Format12 => Some(fields::format12(half)),
+        Format::Format13 => Some(fields::format13(half)),
+        Format::Format14 => Some(fields::format14(half)),
+        Format::Format15 => Some(fields::format15(half)),
+        Format::Format16 => Some(fields::format16(half)),
+        Format::Format17 => Some(fields::format17(half)),
+        Format::Format18 => Some(fields::format18(half)),
+        Format::Format19 => Some(fields::format19(half)),
+        Format::Undefined => None,
     }
 }

@@ -3,16 +3,16 @@ use Rattle.std.specs.Prelude.{IfSome}
 use Rattle.gba_terms.specs.Bits.{field}
 use Rattle.gba_thumb_table.specs.Limits.{Fits}
 use Rattle.gba_thumb_table.specs.Table.{operation, operation_of}
-use Rattle.gba_thumb_table.proofs.Branching.{form_in-rows}
+use Rattle.gba_thumb_table.proofs.Branching.{format_in-rows}
 use Rattle.gba_thumb_table.proofs.Reading.{operation-Fits}
 use Rattle.gba_thumb_table.proofs.decode.Goals as goal
 
 pub returns-clause-operation : goal.returns-clause-operation
 unfolding operation
 returns-clause-operation c =
-    c.of_form.ensures
-    ∙ ap (λ form. operation_of form (field c.from-half.result))
-    (c.form_of.ensures ∙ sym (form_in-rows c.from-half.result))
+    c.of_format.ensures
+    ∙ ap (λ format. operation_of format (field c.from-half.result))
+    (c.format_of.ensures ∙ sym (format_in-rows c.from-half.result))
     ∙ ap operation c.from-half.ensures
 
 pub returns-clause-fits : goal.returns-clause-fits

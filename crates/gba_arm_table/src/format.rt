@@ -1,15 +1,15 @@
-//! The forms of an instruction word: a name for each row of the table.
+//! The formats of an instruction word: a name for each row of the table.
 
 ghost use Rattle.std.specs.Prelude.{◌≡◌};
 ghost use Rattle.gba_terms.specs.Bits.{field};
-ghost use Rattle.gba_arm_table.specs.Branches.{branch_form, registers, immediates, extension_form, status};
+ghost use Rattle.gba_arm_table.specs.Branches.{branch_format, registers, immediates, extension_format, status};
 ghost use Rattle.gba_arm_table.specs.Fields.{is_compare};
 
 use gba_word::{bit, bits};
 
 /// The row of the table that a word has.
 #[derive(Clone, Copy, Debug, PartialEq, Eq)]
-pub enum Form {
+pub enum Format {
     Exchange,
     Multiply,
     MultiplyLong,
@@ -32,111 +32,111 @@ pub enum Form {
     Undefined,
 }
 
-/// The form of a word, by bits 27 to 25 and then by those that part its class.
-pub fn form_of(word: u32) -> Form
-    ensures { result ≡ branch_form (field word) }
+/// The format of a word, by bits 27 to 25 and then by those that part its class.
+pub fn format_of(word: u32) -> Format
+    ensures { result ≡ branch_format (field word) }
 {
     match bits(word, 25, 3) {
-        0 => register_form(word),
-        1 => immediate_form(word),
-        2 => Form::TransferNumber,
+        0 => register_format(word),
+        1 => immediate_format(word),
+        2 => Format::TransferNumber,
         3 => if bit(word, 4) {
-            Form::Undefined
+            Format::Undefined
         } else {
-            Form::TransferShifted
+            Format::TransferShifted
         },
-        4 => Form::Block,
-        5 => Form::Branch,
-        6 => Form::Undefined,
+        4 => Format::Block,
+        5 => Format::Branch,
+        6 => Format::Undefined,
         _ => if bit(word, 24) {
-            Form::Interrupt
+            Format::Interrupt
         } else {
-            Form::Undefined
+            Format::Undefined
         },
     }
 }
 
 /// Bits 27 to 25 are 0: data processing with a register, and what stands in its gaps.
-fn register_form(word: u32) -> Form
+fn register_format(word: u32) -> Format
     ensures { result ≡ registers (field word) }
 {
     if bit(word, 4) {
         if bit(word, 7) {
-            extended_form(word)
+            extended_format(word)
         } else if is_compare(word) && !bit(word, 20) {
-            status_form(word)
+            status_format(word)
         } else {
-            Form::ProcessingByRegister
+            Format::ProcessingByRegister
         }
     } else if is_compare(word) && !bit(word, 20) {
-        status_form(word)
+        status_format(word)
     } else {
-        Form::ProcessingFixed
+        Format::ProcessingFixed
     }
 }
 
 /// Bits 27 to 25 are 1: data processing with a turned number, and MSR.
-fn immediate_form(word: u32) -> Form
+fn immediate_format(word: u32) -> Format
     ensures { result ≡ immediates (field word) }
 {
     if !is_compare(word) || bit(word, 20) {
-        Form::ProcessingImmediate
+        Format::ProcessingImmediate
     } else if bit(word, 21) {
-        Form::StatusWriteImmediate
+        Format::StatusWriteImmediate
     } else {
-        Form::Undefined
+        Format::Undefined
     }
 }
 
 /// Bits 7 and 4 are set: multiplies, SWP, and transfers of halfwords and signed bytes.
-fn extended_form(word: u32) -> Form
-    ensures { result ≡ extension_form (field word) }
+fn extended_format(word: u32) -> Format
+    ensures { result ≡ extension_format (field word) }
 {
     match bits(word, 5, 2) {
         0 => match bits(word, 23, 2) {
             0 => if bit(word, 22) {
-                Form::Undefined
+                Format::Undefined
             } else {
-                Form::Multiply
+                Format::Multiply
             },
-            1 => Form::MultiplyLong,
+            1 => Format::MultiplyLong,
             2 => if bits(word, 20, 2) == 0 {
-                Form::Swap
+                Format::Swap
             } else {
-                Form::Undefined
+                Format::Undefined
             },
-            _ => Form::Undefined,
+            _ => Format::Undefined,
         },
-        1 => Form::HalfTransfer,
+        1 => Format::HalfTransfer,
         2 => if bit(word, 20) {
-            Form::SignedByteLoad
+            Format::SignedByteLoad
         } else {
-            Form::Undefined
+            Format::Undefined
         },
         _ => if bit(word, 20) {
-            Form::SignedHalfLoad
+            Format::SignedHalfLoad
         } else {
-            Form::Undefined
+            Format::Undefined
         },
     }
 }
 
 /// TST to CMN without S: MRS, MSR and BX.
-fn status_form(word: u32) -> Form
+fn status_format(word: u32) -> Format
     ensures { result ≡ status (field word) }
 {
     match bits(word, 4, 4) {
         0 => if bit(word, 21) {
-            Form::StatusWriteRegister
+            Format::StatusWriteRegister
         } else {
-            Form::StatusRead
+            Format::StatusRead
         },
         1 => if bits(word, 21, 4) == 9 {
-            Form::Exchange
+            Format::Exchange
         } else {
-            Form::Undefined
+            Format::Undefined
         },
-        _ => Form::Undefined,
+        _ => Format::Undefined,
     }
 }
 
