@@ -3,10 +3,8 @@ use Rattle.gba_terms.specs.Bits.{bit}
 use Rattle.gba_word.specs.Shifts.{nonzero_shift}
 use Rattle.gba_word.specs.declared.kinds.Shift.{Shift}
 use Rattle.gba_arm_table.specs.declared.operation.ComputeOp.{ComputeOp}
-use Rattle.gba_arm_table.specs.declared.operation.ComputeOp.TheVariants.{And, Eor, Sub, Rsb, Add, Adc, Orr, Mov, Bic, Mvn}
 use Rattle.gba_bus.specs.Meanings.{Load, Price, Store}
 use Rattle.gba_bus.specs.declared.width.Width.{Width}
-use Rattle.gba_bus.specs.declared.width.Width.TheVariants as width
 use Rattle.gba_psr.specs.RegisterFile.{flags, register, with_flags, with_register}
 use Rattle.gba_exec_registers.specs.Access.{after_jump, code_cost, counter, jump_cost}
 use Rattle.gba_exec_registers.specs.Branching.{after_undefined, undefined_cost}
@@ -18,9 +16,8 @@ use Rattle.gba_exec_transfers.specs.Done.{Done}
 use Rattle.gba_exec_transfers.specs.Effects.{effect, internal}
 use Rattle.gba_exec_transfers.specs.Singles.{after_load, after_store, unit_load, unit_store}
 use Rattle.gba_exec_transfers.specs.declared.units.LoadUnit.{LoadUnit}
-use Rattle.gba_exec_transfers.specs.declared.units.LoadUnit.TheVariants as unit
+use Rattle.gba_exec_quick.specs.Making.{General, Number, Plain, Shifted, SetNumber, SetPlain, SetShifted, CompareNumber, ComparePlain, CompareShifted, Loaded, Stored, LoadSingle, StoreSingle, LoadPlain, StorePlain, LoadBlock, StoreBlock, Branch, BranchLink, Other, Trap, general}
 use Rattle.gba_exec_quick.specs.declared.quick.Quick.{Quick}
-use Rattle.gba_exec_quick.specs.declared.quick.Quick.TheVariants as quick
 
 -- What a quick form leaves. The law `quick_forms_have_their_effect` says that it is the effect of the operation.
 
@@ -99,76 +96,57 @@ module _ {State : Type 0} (price : Price State) (load : Load State) (store : Sto
       let stored = unit_store price load store kind ((register file rn + offset) % 2 ^ 32) (register file rd) bus in
       record { registers = file; bus = stored.after; cycles = code_cost price bus site false + stored.price }
 
-  unfoldable pub effect_of_quick : Quick → Site → List ℕ → State → Done State
-  effect_of_quick (quick.Number kind rn rd value) site file bus = after_number kind rn rd value site file bus
-  effect_of_quick (quick.Plain kind rn rd rm) site file bus = after_plain kind rn rd rm site file bus
-  effect_of_quick (quick.AddNumber rn rd value) site file bus = after_number Add rn rd value site file bus
-  effect_of_quick (quick.SubNumber rn rd value) site file bus = after_number Sub rn rd value site file bus
-  effect_of_quick (quick.AndNumber rn rd value) site file bus = after_number And rn rd value site file bus
-  effect_of_quick (quick.OrrNumber rn rd value) site file bus = after_number Orr rn rd value site file bus
-  effect_of_quick (quick.BicNumber rn rd value) site file bus = after_number Bic rn rd value site file bus
-  effect_of_quick (quick.MovNumber rn rd value) site file bus = after_number Mov rn rd value site file bus
-  effect_of_quick (quick.AddPlain rn rd rm) site file bus = after_plain Add rn rd rm site file bus
-  effect_of_quick (quick.SubPlain rn rd rm) site file bus = after_plain Sub rn rd rm site file bus
-  effect_of_quick (quick.AndPlain rn rd rm) site file bus = after_plain And rn rd rm site file bus
-  effect_of_quick (quick.OrrPlain rn rd rm) site file bus = after_plain Orr rn rd rm site file bus
-  effect_of_quick (quick.EorPlain rn rd rm) site file bus = after_plain Eor rn rd rm site file bus
-  effect_of_quick (quick.MovPlain rn rd rm) site file bus = after_plain Mov rn rd rm site file bus
-  effect_of_quick (quick.RsbPlain rn rd rm) site file bus = after_plain Rsb rn rd rm site file bus
-  effect_of_quick (quick.MvnPlain rn rd rm) site file bus = after_plain Mvn rn rd rm site file bus
-  effect_of_quick (quick.Shifted kind rn rd rm shift amount) site file bus =
+  -- an operation of a register and a register shifted by a number, without S
+  abbrev pub after_shifted : ComputeOp → ℕ → ℕ → ℕ → Shift → ℕ → Site → List ℕ → State → Done State
+  after_shifted kind rn rd rm shift amount site file bus =
       internal price load store bus
       (with_register file rd
       (value_of kind (register file rn) (nonzero_shift shift (register file rm) amount).0 file))
       (code_cost price bus site true)
-  effect_of_quick (quick.SetNumber kind rn rd value turned) site file bus =
-      after_set_number kind rn rd value turned site file bus
-  effect_of_quick (quick.SetPlain kind rn rd rm) site file bus = after_set_plain kind rn rd rm site file bus
-  effect_of_quick (quick.SetShifted kind rn rd rm shift amount) site file bus =
-      after_set_shifted kind rn rd rm shift amount site file bus
-  effect_of_quick (quick.SetAddNumber rn rd value turned) site file bus =
-      after_set_number Add rn rd value turned site file bus
-  effect_of_quick (quick.SetSubNumber rn rd value turned) site file bus =
-      after_set_number Sub rn rd value turned site file bus
-  effect_of_quick (quick.SetMovNumber rn rd value turned) site file bus =
-      after_set_number Mov rn rd value turned site file bus
-  effect_of_quick (quick.SetAddPlain rn rd rm) site file bus = after_set_plain Add rn rd rm site file bus
-  effect_of_quick (quick.SetSubPlain rn rd rm) site file bus = after_set_plain Sub rn rd rm site file bus
-  effect_of_quick (quick.SetAndPlain rn rd rm) site file bus = after_set_plain And rn rd rm site file bus
-  effect_of_quick (quick.SetEorPlain rn rd rm) site file bus = after_set_plain Eor rn rd rm site file bus
-  effect_of_quick (quick.SetAdcPlain rn rd rm) site file bus = after_set_plain Adc rn rd rm site file bus
-  effect_of_quick (quick.SetOrrPlain rn rd rm) site file bus = after_set_plain Orr rn rd rm site file bus
-  effect_of_quick (quick.SetBicPlain rn rd rm) site file bus = after_set_plain Bic rn rd rm site file bus
-  effect_of_quick (quick.SetMvnPlain rn rd rm) site file bus = after_set_plain Mvn rn rd rm site file bus
-  effect_of_quick (quick.SetMovShifted rn rd rm shift amount) site file bus =
-      after_set_shifted Mov rn rd rm shift amount site file bus
-  effect_of_quick (quick.CompareNumber kind rn value turned) site file bus =
-      after_compare_number kind rn value turned site file bus
-  effect_of_quick (quick.ComparePlain kind rn rm) site file bus = after_compare_plain kind rn rm site file bus
-  effect_of_quick (quick.CmpNumber rn value turned) site file bus = after_compare_number Sub rn value turned site file bus
-  effect_of_quick (quick.CmpPlain rn rm) site file bus = after_compare_plain Sub rn rm site file bus
-  effect_of_quick (quick.CompareShifted kind rn rm shift amount) site file bus =
+
+  -- the flags of a register and a shifted register
+  abbrev pub after_compare_shifted : ComputeOp → ℕ → ℕ → Shift → ℕ → Site → List ℕ → State → Done State
+  after_compare_shifted kind rn rm shift amount site file bus =
       let second = nonzero_shift shift (register file rm) amount in
       internal price load store bus
       (with_flags file (flags_after (outcome_in kind (register file rn) second.0 second.1 file)))
       (code_cost price bus site true)
-  effect_of_quick (quick.LoadWord rn rd offset) site file bus = after_quick_load unit.Word rn rd offset site file bus
-  effect_of_quick (quick.LoadByte rn rd offset) site file bus = after_quick_load unit.Byte rn rd offset site file bus
-  effect_of_quick (quick.StoreWord rn rd offset) site file bus = after_quick_store width.Word rn rd offset site file bus
-  effect_of_quick (quick.StoreByte rn rd offset) site file bus = after_quick_store width.Byte rn rd offset site file bus
-  effect_of_quick (quick.LoadSingle kind one) site file bus = after_load price load store kind one site file bus
-  effect_of_quick (quick.StoreSingle kind one) site file bus = after_store price load store kind one site file bus
-  effect_of_quick (quick.LoadPlain plain) site file bus = after_load_block price load store plain.block site file bus
-  effect_of_quick (quick.StorePlain plain) site file bus = after_store_block price load store plain.block site file bus
-  effect_of_quick (quick.LoadBlock block) site file bus = after_load_block price load store block site file bus
-  effect_of_quick (quick.StoreBlock block) site file bus = after_store_block price load store block site file bus
-  effect_of_quick (quick.Branch distance) site file bus =
+
+  -- B and BL by so many bytes
+  abbrev pub after_quick_branch : ℕ → Site → List ℕ → State → Done State
+  after_quick_branch distance site file bus =
       internal price load store bus (after_jump file ((counter site + distance) % 2 ^ 32))
       (jump_cost (code_cost price bus site))
-  effect_of_quick (quick.BranchLink distance) site file bus =
-      internal price load store bus
-      (after_jump (with_register file 14 (register file 15)) ((counter site + distance) % 2 ^ 32))
-      (jump_cost (code_cost price bus site))
-  effect_of_quick (quick.Other whole) site file bus = effect price load store whole site file bus
-  effect_of_quick quick.Trap site file bus =
+
+  abbrev pub effect_of_general : General → Site → List ℕ → State → Done State
+  effect_of_general (Number kind rn rd value) site file bus = after_number kind rn rd value site file bus
+  effect_of_general (Plain kind rn rd rm) site file bus = after_plain kind rn rd rm site file bus
+  effect_of_general (Shifted kind rn rd rm shift amount) site file bus =
+      after_shifted kind rn rd rm shift amount site file bus
+  effect_of_general (SetNumber kind rn rd value turned) site file bus =
+      after_set_number kind rn rd value turned site file bus
+  effect_of_general (SetPlain kind rn rd rm) site file bus = after_set_plain kind rn rd rm site file bus
+  effect_of_general (SetShifted kind rn rd rm shift amount) site file bus =
+      after_set_shifted kind rn rd rm shift amount site file bus
+  effect_of_general (CompareNumber kind rn value turned) site file bus =
+      after_compare_number kind rn value turned site file bus
+  effect_of_general (ComparePlain kind rn rm) site file bus = after_compare_plain kind rn rm site file bus
+  effect_of_general (CompareShifted kind rn rm shift amount) site file bus =
+      after_compare_shifted kind rn rm shift amount site file bus
+  effect_of_general (Loaded kind rn rd offset) site file bus = after_quick_load kind rn rd offset site file bus
+  effect_of_general (Stored kind rn rd offset) site file bus = after_quick_store kind rn rd offset site file bus
+  effect_of_general (LoadSingle kind one) site file bus = after_load price load store kind one site file bus
+  effect_of_general (StoreSingle kind one) site file bus = after_store price load store kind one site file bus
+  effect_of_general (LoadPlain plain) site file bus = after_load_block price load store plain.block site file bus
+  effect_of_general (StorePlain plain) site file bus = after_store_block price load store plain.block site file bus
+  effect_of_general (LoadBlock block) site file bus = after_load_block price load store block site file bus
+  effect_of_general (StoreBlock block) site file bus = after_store_block price load store block site file bus
+  effect_of_general (Branch distance) site file bus = after_quick_branch distance site file bus
+  effect_of_general (BranchLink distance) site file bus =
+      after_quick_branch distance site (with_register file 14 (register file 15)) bus
+  effect_of_general (Other whole) site file bus = effect price load store whole site file bus
+  effect_of_general Trap site file bus =
       internal price load store bus (after_undefined file) (undefined_cost (code_cost price bus site))
+
+  unfoldable pub effect_of_quick : Quick → Site → List ℕ → State → Done State
+  effect_of_quick one site file bus = effect_of_general (general one) site file bus

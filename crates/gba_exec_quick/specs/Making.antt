@@ -14,11 +14,14 @@ use Rattle.gba_arm_table.specs.declared.operation.HalfOffset.TheVariants as half
 use Rattle.gba_arm_table.specs.declared.operation.Operand.{Operand}
 use Rattle.gba_arm_table.specs.declared.operation.Operand.TheVariants as operand
 use Rattle.gba_arm_table.specs.declared.operation.TransferOffset.TheVariants as transfer_offset
+use Rattle.gba_bus.specs.declared.width.Width.{Width}
 use Rattle.gba_bus.specs.declared.width.Width.TheVariants as width
 use Rattle.gba_exec_registers.specs.Processing.{compute_op_of}
 use Rattle.gba_exec_transfers.specs.Plain.{IsPlain, is_plain, plain_of}
 use Rattle.gba_exec_transfers.specs.declared.units.BlockTransfer.{BlockTransfer}
+use Rattle.gba_exec_transfers.specs.declared.units.LoadUnit.{LoadUnit}
 use Rattle.gba_exec_transfers.specs.declared.units.LoadUnit.TheVariants as unit
+use Rattle.gba_exec_transfers.specs.declared.units.PlainBlock.{PlainBlock}
 use Rattle.gba_exec_transfers.specs.declared.units.SingleTransfer.{SingleTransfer}
 use Rattle.gba_exec_quick.specs.declared.quick.Quick.{Quick}
 use Rattle.gba_exec_quick.specs.declared.quick.Quick.TheVariants as quick
@@ -172,59 +175,111 @@ abbrev pub quick_of_word : Option ArmOp → Quick
 quick_of_word None = quick.Trap
 quick_of_word (Some operation) = quick_of operation
 
+-- A quick form with the commonest operations taken back into their classes: data processing of a register and a number, of two
+-- registers, and of a register and a shifted one, without S, with S, and of the flags alone; loads and stores at a base plus an
+-- offset that keep the base; and the rest.
+pub data General : Type 0 where
+  Number : ComputeOp → ℕ → ℕ → ℕ → General
+  Plain : ComputeOp → ℕ → ℕ → ℕ → General
+  Shifted : ComputeOp → ℕ → ℕ → ℕ → Shift → ℕ → General
+  SetNumber : ComputeOp → ℕ → ℕ → ℕ → Bool → General
+  SetPlain : ComputeOp → ℕ → ℕ → ℕ → General
+  SetShifted : ComputeOp → ℕ → ℕ → ℕ → Shift → ℕ → General
+  CompareNumber : ComputeOp → ℕ → ℕ → Bool → General
+  ComparePlain : ComputeOp → ℕ → ℕ → General
+  CompareShifted : ComputeOp → ℕ → ℕ → Shift → ℕ → General
+  Loaded : LoadUnit → ℕ → ℕ → ℕ → General
+  Stored : Width → ℕ → ℕ → ℕ → General
+  LoadSingle : LoadUnit → SingleTransfer → General
+  StoreSingle : Width → SingleTransfer → General
+  LoadPlain : PlainBlock → General
+  StorePlain : PlainBlock → General
+  LoadBlock : BlockTransfer → General
+  StoreBlock : BlockTransfer → General
+  Branch : ℕ → General
+  BranchLink : ℕ → General
+  Other : ArmOp → General
+  Trap : General
+
+abbrev pub general : Quick → General
+general (quick.Number kind rn rd value) = Number kind rn rd value
+general (quick.AddNumber rn rd value) = Number Add rn rd value
+general (quick.SubNumber rn rd value) = Number Sub rn rd value
+general (quick.AndNumber rn rd value) = Number And rn rd value
+general (quick.OrrNumber rn rd value) = Number Orr rn rd value
+general (quick.BicNumber rn rd value) = Number Bic rn rd value
+general (quick.MovNumber rn rd value) = Number Mov rn rd value
+general (quick.Plain kind rn rd rm) = Plain kind rn rd rm
+general (quick.AddPlain rn rd rm) = Plain Add rn rd rm
+general (quick.SubPlain rn rd rm) = Plain Sub rn rd rm
+general (quick.AndPlain rn rd rm) = Plain And rn rd rm
+general (quick.OrrPlain rn rd rm) = Plain Orr rn rd rm
+general (quick.EorPlain rn rd rm) = Plain Eor rn rd rm
+general (quick.MovPlain rn rd rm) = Plain Mov rn rd rm
+general (quick.RsbPlain rn rd rm) = Plain Rsb rn rd rm
+general (quick.MvnPlain rn rd rm) = Plain Mvn rn rd rm
+general (quick.Shifted kind rn rd rm shift amount) = Shifted kind rn rd rm shift amount
+general (quick.SetNumber kind rn rd value turned) = SetNumber kind rn rd value turned
+general (quick.SetAddNumber rn rd value turned) = SetNumber Add rn rd value turned
+general (quick.SetSubNumber rn rd value turned) = SetNumber Sub rn rd value turned
+general (quick.SetMovNumber rn rd value turned) = SetNumber Mov rn rd value turned
+general (quick.SetPlain kind rn rd rm) = SetPlain kind rn rd rm
+general (quick.SetAddPlain rn rd rm) = SetPlain Add rn rd rm
+general (quick.SetSubPlain rn rd rm) = SetPlain Sub rn rd rm
+general (quick.SetAndPlain rn rd rm) = SetPlain And rn rd rm
+general (quick.SetEorPlain rn rd rm) = SetPlain Eor rn rd rm
+general (quick.SetAdcPlain rn rd rm) = SetPlain Adc rn rd rm
+general (quick.SetOrrPlain rn rd rm) = SetPlain Orr rn rd rm
+general (quick.SetBicPlain rn rd rm) = SetPlain Bic rn rd rm
+general (quick.SetMvnPlain rn rd rm) = SetPlain Mvn rn rd rm
+general (quick.SetShifted kind rn rd rm shift amount) = SetShifted kind rn rd rm shift amount
+general (quick.SetMovShifted rn rd rm shift amount) = SetShifted Mov rn rd rm shift amount
+general (quick.CompareNumber kind rn value turned) = CompareNumber kind rn value turned
+general (quick.CmpNumber rn value turned) = CompareNumber Sub rn value turned
+general (quick.ComparePlain kind rn rm) = ComparePlain kind rn rm
+general (quick.CmpPlain rn rm) = ComparePlain Sub rn rm
+general (quick.CompareShifted kind rn rm shift amount) = CompareShifted kind rn rm shift amount
+general (quick.LoadWord rn rd offset) = Loaded unit.Word rn rd offset
+general (quick.LoadByte rn rd offset) = Loaded unit.Byte rn rd offset
+general (quick.StoreWord rn rd offset) = Stored width.Word rn rd offset
+general (quick.StoreByte rn rd offset) = Stored width.Byte rn rd offset
+general (quick.LoadSingle kind one) = LoadSingle kind one
+general (quick.StoreSingle kind one) = StoreSingle kind one
+general (quick.LoadPlain plain) = LoadPlain plain
+general (quick.StorePlain plain) = StorePlain plain
+general (quick.LoadBlock block) = LoadBlock block
+general (quick.StoreBlock block) = StoreBlock block
+general (quick.Branch distance) = Branch distance
+general (quick.BranchLink distance) = BranchLink distance
+general (quick.Other whole) = Other whole
+general quick.Trap = Trap
+
 -- a quick form whose registers and amounts fit
+abbrev pub GeneralFits : General → Type 0
+GeneralFits (Number kind rn rd value) = (rn < 16) × (rd < 16)
+GeneralFits (Plain kind rn rd rm) = (rn < 16) × (rd < 16) × (rm < 16)
+GeneralFits (Shifted kind rn rd rm shift amount) = (rn < 16) × (rd < 16) × (rm < 16) × (0 < amount) × (amount ≤ 31)
+GeneralFits (SetNumber kind rn rd value turned) = (rn < 16) × (rd < 16)
+GeneralFits (SetPlain kind rn rd rm) = (rn < 16) × (rd < 16) × (rm < 16)
+GeneralFits (SetShifted kind rn rd rm shift amount) = (rn < 16) × (rd < 16) × (rm < 16) × (0 < amount) × (amount ≤ 31)
+GeneralFits (CompareNumber kind rn value turned) = rn < 16
+GeneralFits (ComparePlain kind rn rm) = (rn < 16) × (rm < 16)
+GeneralFits (CompareShifted kind rn rm shift amount) = (rn < 16) × (rm < 16) × (0 < amount) × (amount ≤ 31)
+GeneralFits (Loaded kind rn rd offset) = (rn < 16) × (rd < 16)
+GeneralFits (Stored kind rn rd offset) = (rn < 16) × (rd < 16)
+GeneralFits (LoadSingle kind one) = (one.rn < 16) × (one.rd < 16)
+GeneralFits (StoreSingle kind one) = (one.rn < 16) × (one.rd < 16)
+GeneralFits (LoadPlain plain) = IsPlain plain
+GeneralFits (StorePlain plain) = IsPlain plain
+GeneralFits (LoadBlock block) = block.rn < 16
+GeneralFits (StoreBlock block) = block.rn < 16
+GeneralFits (Branch distance) = Unit {0}
+GeneralFits (BranchLink distance) = Unit {0}
+GeneralFits (Other whole) = Fits whole
+GeneralFits Trap = Unit {0}
+
 abbrev pub QuickFits : Quick → Type 0
-QuickFits (quick.Number kind rn rd value) = (rn < 16) × (rd < 16)
-QuickFits (quick.Plain kind rn rd rm) = (rn < 16) × (rd < 16) × (rm < 16)
-QuickFits (quick.Shifted kind rn rd rm shift amount) = (rn < 16) × (rd < 16) × (rm < 16) × (0 < amount) × (amount ≤ 31)
-QuickFits (quick.AddNumber rn rd value) = (rn < 16) × (rd < 16)
-QuickFits (quick.SubNumber rn rd value) = (rn < 16) × (rd < 16)
-QuickFits (quick.AndNumber rn rd value) = (rn < 16) × (rd < 16)
-QuickFits (quick.OrrNumber rn rd value) = (rn < 16) × (rd < 16)
-QuickFits (quick.BicNumber rn rd value) = (rn < 16) × (rd < 16)
-QuickFits (quick.MovNumber rn rd value) = (rn < 16) × (rd < 16)
-QuickFits (quick.AddPlain rn rd rm) = (rn < 16) × (rd < 16) × (rm < 16)
-QuickFits (quick.SubPlain rn rd rm) = (rn < 16) × (rd < 16) × (rm < 16)
-QuickFits (quick.AndPlain rn rd rm) = (rn < 16) × (rd < 16) × (rm < 16)
-QuickFits (quick.OrrPlain rn rd rm) = (rn < 16) × (rd < 16) × (rm < 16)
-QuickFits (quick.EorPlain rn rd rm) = (rn < 16) × (rd < 16) × (rm < 16)
-QuickFits (quick.MovPlain rn rd rm) = (rn < 16) × (rd < 16) × (rm < 16)
-QuickFits (quick.RsbPlain rn rd rm) = (rn < 16) × (rd < 16) × (rm < 16)
-QuickFits (quick.MvnPlain rn rd rm) = (rn < 16) × (rd < 16) × (rm < 16)
-QuickFits (quick.SetNumber kind rn rd value turned) = (rn < 16) × (rd < 16)
-QuickFits (quick.SetPlain kind rn rd rm) = (rn < 16) × (rd < 16) × (rm < 16)
-QuickFits (quick.SetShifted kind rn rd rm shift amount) = (rn < 16) × (rd < 16) × (rm < 16) × (0 < amount) × (amount ≤ 31)
-QuickFits (quick.SetAddNumber rn rd value turned) = (rn < 16) × (rd < 16)
-QuickFits (quick.SetSubNumber rn rd value turned) = (rn < 16) × (rd < 16)
-QuickFits (quick.SetMovNumber rn rd value turned) = (rn < 16) × (rd < 16)
-QuickFits (quick.SetAddPlain rn rd rm) = (rn < 16) × (rd < 16) × (rm < 16)
-QuickFits (quick.SetSubPlain rn rd rm) = (rn < 16) × (rd < 16) × (rm < 16)
-QuickFits (quick.SetAndPlain rn rd rm) = (rn < 16) × (rd < 16) × (rm < 16)
-QuickFits (quick.SetEorPlain rn rd rm) = (rn < 16) × (rd < 16) × (rm < 16)
-QuickFits (quick.SetAdcPlain rn rd rm) = (rn < 16) × (rd < 16) × (rm < 16)
-QuickFits (quick.SetOrrPlain rn rd rm) = (rn < 16) × (rd < 16) × (rm < 16)
-QuickFits (quick.SetBicPlain rn rd rm) = (rn < 16) × (rd < 16) × (rm < 16)
-QuickFits (quick.SetMvnPlain rn rd rm) = (rn < 16) × (rd < 16) × (rm < 16)
-QuickFits (quick.SetMovShifted rn rd rm shift amount) = (rn < 16) × (rd < 16) × (rm < 16) × (0 < amount) × (amount ≤ 31)
-QuickFits (quick.CompareNumber kind rn value turned) = rn < 16
-QuickFits (quick.CmpNumber rn value turned) = rn < 16
-QuickFits (quick.CmpPlain rn rm) = (rn < 16) × (rm < 16)
-QuickFits (quick.ComparePlain kind rn rm) = (rn < 16) × (rm < 16)
-QuickFits (quick.CompareShifted kind rn rm shift amount) = (rn < 16) × (rm < 16) × (0 < amount) × (amount ≤ 31)
-QuickFits (quick.LoadWord rn rd offset) = (rn < 16) × (rd < 16)
-QuickFits (quick.LoadByte rn rd offset) = (rn < 16) × (rd < 16)
-QuickFits (quick.StoreWord rn rd offset) = (rn < 16) × (rd < 16)
-QuickFits (quick.StoreByte rn rd offset) = (rn < 16) × (rd < 16)
-QuickFits (quick.LoadSingle unit one) = (one.rn < 16) × (one.rd < 16)
-QuickFits (quick.StoreSingle width one) = (one.rn < 16) × (one.rd < 16)
-QuickFits (quick.LoadPlain plain) = IsPlain plain
-QuickFits (quick.StorePlain plain) = IsPlain plain
-QuickFits (quick.LoadBlock block) = block.rn < 16
-QuickFits (quick.StoreBlock block) = block.rn < 16
-QuickFits (quick.Branch distance) = Unit {0}
-QuickFits (quick.BranchLink distance) = Unit {0}
-QuickFits (quick.Other whole) = Fits whole
-QuickFits quick.Trap = Unit {0}
+QuickFits one = GeneralFits (general one)
 
 -- the forms without a quick shape
 abbrev pub is_whole : Quick → Bool

@@ -30,7 +30,7 @@ use Rattle.link_order.specs.Due.{is_due, due}
 use Rattle.link_order.proofs.DueOrder.{due_in_order, due_is_due}
 use Rattle.link_order.proofs.Places.{place_before, place_past, All-place, sorted_from_ordered, sorted-place}
 use Rattle.link_order.proofs.Live.{few_live}
-use Rattle.link_core.specs.Kept.{Flight, IsKept, IsFlight, AllLive, AllFit}
+use Rattle.link_core.specs.Kept.{Flight, IsKept, IsFlight, with_sent, AllLive, AllFit}
 
 -- few signals are live at once
 pub kept_few : {N C : Type 0} (kind : NodeKind C) (plain : N → C) (cut : Cut N) (sent_room due_room : ℕ)
@@ -38,6 +38,26 @@ pub kept_few : {N C : Type 0} (kind : NodeKind C) (plain : N → C) (cut : Cut N
 kept_few kind plain cut sent_room due_room kept =
     few_live kind (plain_cut plain cut) 1024 kept.cable.some_console kept.cable.at_most_four
     kept.cable.short_delay kept.sound kept.awaited
+
+-- a cut with other sound signals, which are live
+pub kept_with : {N C : Type 0} (kind : NodeKind C) (plain : N → C) (cut : Cut N) (sent : List Sent)
+    (sent_room due_room room : ℕ) → IsKept kind plain cut sent_room due_room
+    → IsSound kind (plain_cut plain (with_sent sent cut)) → AllLive kind (plain_cut plain (with_sent sent cut))
+    → AllFit sent → 16384 ≤ room → IsKept kind plain (with_sent sent cut) room due_room
+kept_with kind plain cut sent sent_room due_room room kept sound live widths large = record {
+  cable = record {
+    some_console = kept.cable.some_console;
+    at_most_four = kept.cable.at_most_four;
+    some_delay = kept.cable.some_delay;
+    short_delay = kept.cable.short_delay;
+  };
+  delays = kept.delays;
+  sound = sound;
+  awaited = live;
+  widths = widths;
+  room_of_sent = large;
+  room_of_due = kept.room_of_due;
+}
 
 pub flight_from_kept : {N C : Type 0} (kind : NodeKind C) (plain : N → C) (cut : Cut N) (sent_room due_room : ℕ)
     → IsKept kind plain cut sent_room due_room

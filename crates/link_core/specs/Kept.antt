@@ -16,6 +16,10 @@ pub record Flight : Type 0 where
 abbrev pub cut_of : {N : Type 0} → List N → Flight → Cut N
 cut_of nodes flight = record { consoles = nodes; delays = flight.delays; sent = flight.sent }
 
+-- a cut with other signals on their way
+abbrev pub with_sent : {N : Type 0} → List Sent → Cut N → Cut N
+with_sent sent cut = record { consoles = cut.consoles; delays = cut.delays; sent = sent }
+
 -- each signal can still be taken by some other console
 abbrev pub AllLive : {C : Type 0} → NodeKind C → Cut C → Type 0
 AllLive kind cut = All (λ (one : Sent). is_live kind cut one ≡ true) cut.sent

@@ -9,7 +9,7 @@ ghost use Rattle.link_order.specs.NodeKind.{kind_of};
 ghost use Rattle.link_order.specs.Order.{IsOrdered};
 ghost use Rattle.link_order.specs.Cut.{plain_cut, opening, live, count, clock_at, IsSound, IsCable};
 ghost use Rattle.link_order.specs.GlobalOrder.{least, with_signal, step, run, cycles_left};
-ghost use Rattle.link_core.specs.Kept.{Flight, cut_of, AllLive, AllFit};
+ghost use Rattle.link_core.specs.Kept.{Flight, cut_of, with_sent, AllLive, AllFit};
 
 use crate::burst::{horizon_of, take_turns};
 use crate::nodes::{clock_of, least_of, turn_of};
@@ -67,6 +67,18 @@ fn join_signal(sent: &mut Vec<Sent>, player: u32, signal: Option<Signal>)
                 signal,
             },
         );
+    }
+}
+
+/// Makes a list another one, for which it has room.
+fn refill(list: &mut Vec<Sent>, sent: &[Sent])
+    requires { length sent.now ≤ vec_capacity list.old }
+    ensures items { list.new.items ≡ sent.now }
+    ensures room { vec_capacity list.old ≤ vec_capacity list.new }
+{
+    list.clear();
+    if list.extend_from_slice(sent).is_err() {
+        unreachable!()
     }
 }
 
@@ -140,6 +152,16 @@ impl<N: Node> Cut<N> {
         ensures widths { AllFit result.now }
     {
         self.sent.as_slice()
+    }
+
+    /// Makes these the signals that some other node can still take, by clock, then by sender, in place of those that were there.
+    pub fn set_sent(&mut self, sent: &[Sent])
+        requires sound { IsSound (kind_of N.clock N.was N.next) (plain_cut N.plain (with_sent sent.now self.old)) }
+        requires live { AllLive (kind_of N.clock N.was N.next) (plain_cut N.plain (with_sent sent.now self.old)) }
+        requires widths { AllFit sent.now }
+        ensures { self.new ≡ with_sent sent.now self.old }
+    {
+        refill(&mut self.sent, sent);
     }
 
     /// Takes the nodes out, by player number. The signals and the room for them stay in the shell.

@@ -5,6 +5,7 @@ ghost use Rattle.std.specs.Prelude.{ℕ, ◌≡◌, ◌<◌, ◌≤◌};
 use gba_store::NoGate;
 use link_core::Cut;
 use link_node::{Delays, Node};
+use link_order::Sent;
 use link_run::{Round, RoundRefused, run_to};
 use link_trials::{Beat, begin, drawn};
 use std::alloc::Global;
@@ -71,5 +72,30 @@ fn a_round_that_does_nothing_changes_nothing(rt: HostRuntime) -> Result<(), Fail
     assert_eq!(rt; cut.nodes(), nodes.as_slice());
     assert_eq!(rt; cut.sent(), sent.as_slice());
     assert_eq!(rt; *cut.delays(), drawn(0x0fff));
+    Ok(())
+}
+
+/// Takes the signals away, puts them in again, and answers how many there were between.
+fn put_away_and_back<N: Node>(cut: &mut Cut<N>, sent: &[Sent]) -> usize
+    requires { sent.now ≡ cut.old.sent }
+{
+    let _ = cut.nodes();
+    let _ = cut.sent();
+    cut.set_sent(&[]);
+    let between = cut.sent().len();
+    cut.set_sent(sent);
+    between
+}
+
+#[test]
+fn signals_are_those_that_were_put_in(rt: HostRuntime) -> Result<(), Fail> {
+    let nodes = vec![in rt.alloc(); beat(9, 590), beat(6, 588), beat(49, NEVER)]?;
+    let Ok(mut cut) = begin(rt.alloc(), nodes, drawn(0x0fff)) else {
+        panic!(rt; "no memory");
+    };
+    cut.run_serial(600);
+    let sent = cut.sent().to_vec(rt.alloc())?;
+    assert_eq!(rt; put_away_and_back(&mut cut, sent.as_slice()), 0);
+    assert_eq!(rt; cut.sent(), sent.as_slice());
     Ok(())
 }
