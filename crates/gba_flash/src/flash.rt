@@ -156,7 +156,7 @@ impl Model for Flash {
 impl Flash {
     ghost use Rattle.std.specs.Prelude.{true, vec_len};
     ghost use Rattle.gba_flash.specs.Flash.{bytes_after, flash_at_first, flash_read, flash_written, is_flash, place_in, programmed};
-    ghost use Rattle.gba_flash.specs.Replacing.{with_bytes};
+    ghost use Rattle.gba_flash.specs.Replacing.{with_bytes, zeros};
     ghost use Rattle.gba_flash.specs.Soundness.{IsSoundMachine};
     ghost use Rattle.gba_image.specs.Backups.{backup_length};
 
@@ -213,6 +213,13 @@ impl Flash {
         ensures { self.new ≡ record self.old { bytes = with_bytes place bytes.now self.old.bytes } }
     {
         self.bytes.as_mut_slice()[place..place + bytes.len()].copy_from_slice(bytes);
+    }
+
+    /// Makes every byte 0, as no program can: what the flash remembers beside its bytes stays.
+    pub fn clear(&mut self)
+        ensures { self.new ≡ record self.old { bytes = zeros self.old.bytes } }
+    {
+        self.bytes.as_mut_slice().fill(0);
     }
 
     /// Which flash it is.

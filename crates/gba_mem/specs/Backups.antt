@@ -1,6 +1,6 @@
 use Rattle.std.specs.Prelude.{ℕ, List, Option, Some, None, slice_index, slice_set}
 use Rattle.gba_flash.specs.Flash.{FlashMemory, flash_at_first, flash_read, flash_written}
-use Rattle.gba_flash.specs.Replacing.{with_bytes}
+use Rattle.gba_flash.specs.Replacing.{with_bytes, zeros}
 use Rattle.gba_flash.specs.declared.machine.FlashMachine.{FlashMachine}
 use Rattle.gba_image.specs.declared.backup.Backup.{Backup}
 use Rattle.gba_image.specs.declared.backup.Backup.TheVariants.{Sram, Flash64, Flash128}
@@ -50,3 +50,8 @@ with_machine machine (InFlash flash) = InFlash (record flash { machine = machine
 abbrev pub with_backup_bytes : ℕ → List ℕ → BackupMemory → BackupMemory
 with_backup_bytes place new (InSram bytes) = InSram (with_bytes place new bytes)
 with_backup_bytes place new (InFlash flash) = InFlash (record flash { bytes = with_bytes place new flash.bytes })
+
+-- the same, where every byte is 0
+abbrev pub backup_cleared : BackupMemory → BackupMemory
+backup_cleared (InSram bytes) = InSram (zeros bytes)
+backup_cleared (InFlash flash) = InFlash (record flash { bytes = zeros flash.bytes })

@@ -1,7 +1,7 @@
 use Rattle.std.specs.Prelude.{ℕ, List}
-use Rattle.gba_flash.specs.Replacing.{with_bytes}
+use Rattle.gba_flash.specs.Replacing.{with_bytes, zeros}
 use Rattle.gba_image.specs.Backups.{backup_length}
-use Rattle.gba_mem.specs.Backups.{backup_of, with_backup_bytes}
+use Rattle.gba_mem.specs.Backups.{backup_cleared, backup_of, with_backup_bytes}
 use Rattle.gba_mem.specs.Memories.{Memories}
 use Rattle.gba_mem.specs.declared.part.MemoryPart.{MemoryPart}
 use Rattle.gba_mem.specs.declared.part.MemoryPart.TheVariants.{Work, Inner, Palette, Vram, Oam}
@@ -24,3 +24,14 @@ with_part Palette place new m = record m { palette = with_bytes place new m.pale
 with_part Vram place new m = record m { vram = with_bytes place new m.vram }
 with_part Oam place new m = record m { oam = with_bytes place new m.oam }
 with_part part.Backup place new m = record m { backup = with_backup_bytes place new m.backup }
+
+-- the memories, where every byte of those that are written is 0
+abbrev pub cleared : Memories → Memories
+cleared m = record m {
+  work = zeros m.work;
+  inner = zeros m.inner;
+  palette = zeros m.palette;
+  vram = zeros m.vram;
+  oam = zeros m.oam;
+  backup = backup_cleared m.backup;
+}

@@ -45,7 +45,7 @@ impl Model for Sram {
 
 impl Sram {
     ghost use Rattle.std.specs.Prelude.{◌≡◌, ◌+◌, ◌≤◌, length, slice_index, slice_set, vec_len};
-    ghost use Rattle.gba_flash.specs.Replacing.{with_bytes};
+    ghost use Rattle.gba_flash.specs.Replacing.{with_bytes, zeros};
     ghost use Rattle.gba_mem.specs.Places.{sram_place};
 
     fn new(bytes: Vec<u8>) -> Sram
@@ -67,6 +67,12 @@ impl Sram {
         ensures { self.new ≡ with_bytes place bytes.now self.old }
     {
         self.bytes.as_mut_slice()[place..place + bytes.len()].copy_from_slice(bytes);
+    }
+
+    fn clear(&mut self)
+        ensures { self.new ≡ zeros self.old }
+    {
+        self.bytes.as_mut_slice().fill(0);
     }
 
     fn read(&self, address: u32) -> u8
@@ -93,7 +99,7 @@ impl BackupChip {
     ghost use Rattle.std.specs.Prelude.{◌≡◌, ◌+◌, ◌≤◌, IfSome, length, vec_len};
     ghost use Rattle.gba_flash.specs.Soundness.{IsSoundMachine};
     ghost use Rattle.gba_image.specs.Backups.{backup_length};
-    ghost use Rattle.gba_mem.specs.Backups.{backup_at_start, backup_byte, backup_bytes, backup_of, backup_written, flash_machine, with_backup_bytes, with_machine};
+    ghost use Rattle.gba_mem.specs.Backups.{backup_at_start, backup_byte, backup_bytes, backup_cleared, backup_of, backup_written, flash_machine, with_backup_bytes, with_machine};
     ghost use Rattle.gba_mem.specs.Views.{backup_value};
 
     /// A chip with these bytes, as many as it has.
@@ -165,6 +171,16 @@ impl BackupChip {
         match self {
             BackupChip::Sram(sram) => sram.set_bytes(place, bytes),
             BackupChip::Flash(flash) => flash.set_bytes(place, bytes),
+        }
+    }
+
+    /// Makes every byte 0.
+    pub(crate) fn clear(&mut self)
+        ensures { backup_value self.new ≡ backup_cleared (backup_value self.old) }
+    {
+        match self {
+            BackupChip::Sram(sram) => sram.clear(),
+            BackupChip::Flash(flash) => flash.clear(),
         }
     }
 

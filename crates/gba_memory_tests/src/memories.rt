@@ -560,3 +560,25 @@ fn bytes_of_a_flash_are_no_command(rt: HostRuntime) -> Result<(), Fail> {
     play(&rt, &mut memory, &[Reads(0x0E00_2AAA, Byte, 0x55)]);
     Ok(())
 }
+
+/// Every byte of the memories that are written becomes 0; the BIOS and what a flash remembers stay.
+#[test]
+fn memories_are_cleared(rt: HostRuntime) -> Result<(), Fail> {
+    for backup in [Backup::Sram, Backup::Flash128] {
+        let mut memory = memories_of(&rt, rt.alloc(), None, None, backup)?;
+        play(&rt, &mut memory, &[Store(0, 0x0E00_5555, Byte, 0xAA)]);
+        let machine = memory.flash_machine();
+        for &(part, first, last, _) in &REPLACED {
+            replace(&rt, &mut memory, part, first, &[0x11, 0x22, 0x33, 0x44]);
+            replace(&rt, &mut memory, part, last, &[0x55, 0x66, 0x77, 0x88]);
+        }
+        memory.clear();
+        for (part, ..) in &REPLACED {
+            let bytes = bytes_of(&memory, *part);
+            assert!(rt; bytes.iter().all(|byte| *byte == 0));
+        }
+        assert_eq!(rt; memory.flash_machine(), machine);
+        assert_eq!(rt; memory.load(0, 0, Word), 0x4433_2211);
+    }
+    Ok(())
+}

@@ -2,10 +2,12 @@ use Rattle.std.proofs.Common.{◌≡◌, ℕ, ◌+◌, ◌<◌, ◌≤◌, ◌�
 use Rattle.std.specs.List.{range_with_len}
 use Rattle.std.proofs.lemmas.Bool.{cases_eq}
 use Rattle.std.proofs.lemmas.Bool.Decides.{nat_tests}
-use Rattle.std.proofs.lemmas.List.{get_or-set_other, get_or-set_same}
+use Rattle.std.proofs.lemmas.List.{get_or-set_other, get_or-set_same, get_or_append_left}
 use Rattle.std.proofs.lemmas.List.FromFn.{fill_by_all, get_or-map-range_with_len, length-map-range_with_len, map-range_with_len_more}
 use Rattle.gba_bus.specs.declared.region.Region.{Region}
 use Rattle.gba_bus.specs.declared.region.Region.TheVariants.{Inner}
+use Rattle.gba_flash.specs.declared.machine.FlashMachine.{FlashMachine}
+use Rattle.gba_mem.specs.Backups.{with_machine}
 use Rattle.gba_mem.specs.Loads.{is_inner}
 use Rattle.gba_mem.specs.Memories.{Memories}
 use Rattle.gba_mem.specs.Video.{IsSameVideo, is_video}
@@ -100,6 +102,20 @@ pub lines_once_paid : (before after : List (List ℕ)) (keys : List Picture) (m 
     → shown_lines after keys n drawn drawn ≡ shown_lines before keys m paid drawn
 lines_once_paid before after keys m n paid drawn shown =
     same_lines after before keys keys n m drawn paid drawn (λ y h. shown_paid after keys n drawn y h ∙ shown y h)
+
+pub lines_once_settled : (before after : List (List ℕ)) (keys : List Picture) (m n : Memories) (paid drawn last : ℕ)
+    → last ≡ drawn → ((y : ℕ) → y < drawn → slice_index_or after y [] ≡ shown_line before keys m paid y)
+    → shown_lines after keys n last drawn ≡ shown_lines before keys m paid drawn
+lines_once_settled before after keys m n paid drawn last all shown =
+    ap (λ k. shown_lines after keys n k drawn) all ∙ lines_once_paid before after keys m n paid drawn shown
+
+-- lines that are put in front, all paid
+pub lines_put : (lines rest : List (List ℕ)) (keys : List Picture) (m : Memories)
+    → shown_lines (lines ++ rest) keys m (length lines) (length lines) ≡ lines
+unfolding shown_lines
+lines_put lines rest keys m =
+    sym (fill_by_all (shown_line (lines ++ rest) keys m (length lines)) lines (length lines) [] refl
+    (λ y h. sym (shown_paid (lines ++ rest) keys m (length lines) y h ∙ get_or_append_left lines rest [] y h)))
 
 -- A line is paid: it is the one that was paid last.
 pub fresh_paid : (lines : List (List ℕ)) (keys : List Picture) (m : Memories) (paid fresh : ℕ) → paid < 160
@@ -204,6 +220,12 @@ inner_beside _ e = cc
 
 pub beside_as : (m n store : Memories) → n ≡ store → IsSameVideo m store → IsSameVideo m n
 beside_as m n store e same = subst (IsSameVideo m) (sym e) same
+
+-- nor is what a flash remembers
+pub machine_beside : (m n : Memories) (machine : FlashMachine) → n ≡ record m { backup = with_machine machine m.backup }
+    → IsSameVideo m n
+machine_beside m n machine e =
+    beside_as m n (record m { backup = with_machine machine m.backup }) e (record { palette = refl; vram = refl; oam = refl })
 
 -- the same lines are as fresh
 pub fresh_written : (lines others : List (List ℕ)) (keys : List Picture) (m : Memories) (paid fresh : ℕ) → lines ≡ others

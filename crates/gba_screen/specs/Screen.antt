@@ -1,6 +1,10 @@
 use Rattle.std.specs.Prelude.{ℕ, List, [], ◌∷◌, ◌++◌}
 use Rattle.gba_bus.specs.declared.width.Width.{Width}
+use Rattle.gba_flash.specs.declared.machine.FlashMachine.{FlashMachine}
+use Rattle.gba_mem.specs.Backups.{with_machine}
 use Rattle.gba_mem.specs.Memories.{Memories}
+use Rattle.gba_mem.specs.Replacing.{cleared, with_part}
+use Rattle.gba_mem.specs.declared.part.MemoryPart.{MemoryPart}
 use Rattle.gba_mem.specs.Stores.{store}
 use Rattle.gba_ppu_reg.specs.Registers.{Picture}
 use Rattle.gba_screen.specs.Lines.{line_bytes}
@@ -25,3 +29,18 @@ screen_stored mode address width value s = record s { memory = store mode s.memo
 -- the next frame has no line yet
 abbrev pub frame_ended : Screen → Screen
 frame_ended s = record s { lines = [] }
+
+-- What a screen is made of is replaced, which is no write of a program: bytes of a memory from a place on, every byte of the
+-- memories that are written, and what a flash remembers. The lines that are drawn stay.
+abbrev pub screen_with_part : MemoryPart → ℕ → List ℕ → Screen → Screen
+screen_with_part part place new s = record s { memory = with_part part place new s.memory }
+
+abbrev pub screen_cleared : Screen → Screen
+screen_cleared s = record s { memory = cleared s.memory }
+
+abbrev pub screen_with_machine : FlashMachine → Screen → Screen
+screen_with_machine machine s = record s { memory = record s.memory { backup = with_machine machine s.memory.backup } }
+
+-- these are the lines that are drawn
+abbrev pub with_lines : List (List ℕ) → Screen → Screen
+with_lines lines s = record s { lines = lines }

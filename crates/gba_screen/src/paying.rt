@@ -99,6 +99,31 @@ pub(crate) fn pay(
     fresh
 }
 
+/// Pays the lines that are drawn before what they were drawn of changes. None is fresh then.
+pub(crate) fn settle(
+    memory: &Memory,
+    keys: &[PictureRegisters],
+    lines: &mut [[u8; 480]],
+    paid: Paid,
+    drawn: u32,
+) -> Paid
+    requires drawn { drawn ≤ 160 }
+    requires paid { paid.lines ≤ drawn }
+    requires keys { length keys.now ≡ 160 }
+    requires lines { length lines.old ≡ 160 }
+    requires fresh { AreFresh lines.old keys.now memory.now paid.lines paid.fresh }
+    requires most { paid.fresh ≤ 160 }
+    ensures shown { (y : ℕ) → y < drawn → slice_index_or lines.new y [] ≡ shown_line lines.old keys.now memory.now paid.lines y }
+    ensures lines { result.lines ≡ drawn }
+    ensures none { result.fresh ≡ 0 }
+{
+    pay(memory, keys, lines, paid, drawn);
+    Paid {
+        lines: drawn,
+        fresh: 0,
+    }
+}
+
 /// Whether these registers are the key of a line.
 fn is_key(keys: &[PictureRegisters], line: u32, key: &PictureRegisters) -> bool
     requires { line < length keys.now }

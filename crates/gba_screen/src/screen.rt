@@ -1,12 +1,13 @@
 //! The screen.
 
-ghost use Rattle.std.specs.Prelude.{◌≡◌, ◌+◌, ◌≤◌, ◌++◌, IfOk, length, vec_len, vec_capacity};
+ghost use Rattle.std.specs.Prelude.{◌≡◌, ◌+◌, ◌≤◌, ◌++◌, IfOk, drop, length, vec_len, vec_capacity};
 
 use crate::lines::draw;
-use crate::paying::{NONE_PAID, Paid, pay, pay_before};
+use crate::paying::{NONE_PAID, Paid, pay, pay_before, settle};
 use gba_bus::Width;
+use gba_flash::FlashMachine;
 use gba_mem::laws::stores_keep_video;
-use gba_mem::{Memory, is_in_video};
+use gba_mem::{Memory, MemoryPart, is_in_video};
 use gba_ppu_reg::PictureRegisters;
 use gba_terms::NoMemory;
 use std::alloc::{AllocError, Global};
@@ -36,6 +37,14 @@ fn add_bytes(bytes: &mut Vec<u8>, more: &[u8])
     if bytes.extend_from_slice(more).is_err() {
         unreachable!()
     }
+}
+
+/// Puts these lines in the place of the first ones.
+fn put_lines(all: &mut [[u8; 480]], lines: &[[u8; 480]])
+    requires { length lines.now ≤ length all.old }
+    ensures { all.new ≡ lines.now ++ drop (length lines.now) all.old }
+{
+    all[..lines.len()].copy_from_slice(lines);
 }
 
 /// The memories of a console, and the lines that are drawn of the present frame. Contracts see both: a line is drawn once and
@@ -76,7 +85,10 @@ impl Screen {
     ghost use Rattle.gba_bus.specs.Regions.{region_of};
     ghost use Rattle.gba_mem.specs.Loads.{is_inner};
     ghost use Rattle.gba_mem.specs.Video.{is_video};
-    ghost use Rattle.gba_screen.specs.Screen.{blank_screen, frame_ended, screen_stored, with_line};
+    ghost use Rattle.gba_mem.specs.Replacing.{part_length};
+    ghost use Rattle.gba_mem.specs.Backups.{backup_of};
+    ghost use Rattle.gba_flash.specs.Soundness.{IsSoundMachine};
+    ghost use Rattle.gba_screen.specs.Screen.{blank_screen, frame_ended, screen_cleared, screen_stored, screen_with_machine, screen_with_part, with_line, with_lines};
 
     /// A screen with these memories, of which no line is drawn. They are dropped on refusal.
     pub fn new(alloc: Global, memory: Memory) -> Result<Screen, NoMemory>
@@ -145,17 +157,13 @@ impl Screen {
     fn change(&mut self, mode: u32, address: u32, width: Width, value: u32)
         ensures { self.new ≡ screen_stored mode address width value self.old }
     {
-        pay(
+        self.paid = settle(
             &self.memory,
             self.keys.as_slice(),
             self.lines.as_mut_slice(),
             self.paid,
             self.drawn,
         );
-        self.paid = Paid {
-            lines: self.drawn,
-            fresh: 0,
-        };
         self.memory.store(mode, address, width, value);
     }
 
@@ -234,5 +242,55 @@ impl Screen {
     {
         self.paid = self.paid.of_next_frame();
         self.drawn = 0;
+    }
+
+    /// Replaces bytes of a memory from a place on, as [`Memory::set_bytes`] does. The lines that are drawn stay as they are.
+    pub fn set_bytes(&mut self, part: MemoryPart, place: usize, bytes: &[u8])
+        requires { place + length bytes.now ≤ part_length part self.old.memory }
+        ensures { self.new ≡ screen_with_part part place bytes.now self.old }
+    {
+        self.paid = settle(
+            &self.memory,
+            self.keys.as_slice(),
+            self.lines.as_mut_slice(),
+            self.paid,
+            self.drawn,
+        );
+        self.memory.set_bytes(part, place, bytes);
+    }
+
+    /// Makes every byte of the memories that are written 0, as [`Memory::clear`] does. The lines that are drawn stay as they are.
+    pub fn clear(&mut self)
+        ensures { self.new ≡ screen_cleared self.old }
+    {
+        self.paid = settle(
+            &self.memory,
+            self.keys.as_slice(),
+            self.lines.as_mut_slice(),
+            self.paid,
+            self.drawn,
+        );
+        self.memory.clear();
+    }
+
+    /// Lets the flash go on from where a machine has come, as [`Memory::restore_flash`] does.
+    pub fn restore_flash(&mut self, machine: FlashMachine)
+        requires { IsSoundMachine (backup_of self.old.memory.backup) machine }
+        ensures { self.new ≡ screen_with_machine machine self.old }
+    {
+        self.memory.restore_flash(machine);
+    }
+
+    /// Makes these the lines that are drawn of the present frame, from the top down, 160 at most. The memories stay.
+    pub fn set_lines(&mut self, lines: &[[u8; 480]])
+        requires { length lines.now ≤ 160 }
+        ensures { self.new ≡ with_lines lines.now self.old }
+    {
+        put_lines(self.lines.as_mut_slice(), lines);
+        self.drawn = lines.len() as u32;
+        self.paid = Paid {
+            lines: self.drawn,
+            fresh: 0,
+        };
     }
 }

@@ -4,4 +4,6 @@
 #[cfg(test)]
 mod player;
 #[cfg(test)]
+mod replacing;
+#[cfg(test)]
 mod scenes;

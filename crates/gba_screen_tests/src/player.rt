@@ -1,10 +1,12 @@
 //! A screen beside the bytes that its lines should have.
 
-ghost use Rattle.std.specs.Prelude.{◌<◌};
+ghost use Rattle.std.specs.Prelude.{◌≡◌, ◌<◌};
+ghost use Rattle.gba_mem.specs.Replacing.{part_length};
 
 use gba_bus::Width::{self, Half};
+use gba_flash::{FlashMachine, FlashState};
 use gba_image::{Backup, Bios, ConsoleImages};
-use gba_mem::Memory;
+use gba_mem::{Memory, MemoryPart};
 use gba_mixing_tests::Random;
 use gba_ppu_mix::mix_line;
 use gba_ppu_reg::PictureRegisters;
@@ -35,6 +37,31 @@ pub(crate) enum What {
     Random,
 }
 
+/// What is replaced on a screen, which is no write of a program.
+#[derive(Clone, Copy)]
+pub(crate) enum Replaced {
+    /// The first 1,024 bytes of a memory become these.
+    Bytes(MemoryPart, u8),
+    /// Every byte becomes 0.
+    All,
+    /// The flash awaits a byte.
+    Machine,
+}
+
+/// How many bytes a memory has.
+fn length_of(memory: &Memory, part: MemoryPart) -> usize
+    ensures { result ≡ part_length part memory.now }
+{
+    match part {
+        MemoryPart::Work => memory.work().len(),
+        MemoryPart::Inner => memory.inner().len(),
+        MemoryPart::Palette => memory.palette().len(),
+        MemoryPart::Vram => memory.vram().len(),
+        MemoryPart::Oam => memory.oam().len(),
+        MemoryPart::Backup => memory.backup_bytes().len(),
+    }
+}
+
 /// A screen, the picture's registers, and what the lines of the frame should be.
 #[derive(Drop)]
 pub(crate) struct Player {
@@ -52,7 +79,7 @@ fn memory(alloc: Global) -> Result<Memory, Fail> {
             bios,
             cart: None,
             save: None,
-            backup: Backup::Sram,
+            backup: Backup::Flash64,
         },
     )?)
 }
@@ -170,6 +197,48 @@ impl Player {
             &self.wanted[from..from + 480],
             "line {line}"
         );
+    }
+
+    /// Replaces a part of what the lines are drawn of.
+    pub(crate) fn replace<R: Abort>(&mut self, rt: &R, replaced: Replaced) {
+        match replaced {
+            Replaced::Bytes(part, byte) => {
+                assert!(rt; length_of(self.screen.memory(), part) >= 1024);
+                self.screen.set_bytes(part, 0, &[byte; 1024]);
+            }
+            Replaced::All => self.screen.clear(),
+            Replaced::Machine => self.screen.restore_flash(FlashMachine {
+                state: FlashState::Program,
+                armed: false,
+                identify: true,
+                bank: 0,
+            }),
+        }
+    }
+
+    pub(crate) fn memory(&self) -> &Memory {
+        self.screen.memory()
+    }
+
+    /// Makes so many lines of bytes of their own the lines that are drawn.
+    pub(crate) fn set_lines<R: Abort>(
+        &mut self,
+        rt: &R,
+        alloc: Global,
+        count: u8,
+    ) -> Result<(), Fail> {
+        let mut lines = Vec::new(alloc);
+        for line in 0..count {
+            lines.push([line; 480])?;
+        }
+        assert!(rt; lines.len() <= 160);
+        self.screen.set_lines(lines.as_slice());
+        assert_eq!(rt; self.screen.lines_drawn(), u32::from(count));
+        self.wanted.clear();
+        for line in lines.as_slice() {
+            self.wanted.extend_from_slice(line)?;
+        }
+        Ok(())
     }
 
     /// Ends the frame, and looks at all of it where it is kept.

@@ -17,7 +17,7 @@ fn replace(memory: &mut [u8], place: usize, bytes: &[u8])
 
 impl Memory {
     ghost use Rattle.std.specs.Prelude.{◌≡◌, ◌+◌, ◌≤◌, length};
-    ghost use Rattle.gba_mem.specs.Replacing.{part_length, with_part};
+    ghost use Rattle.gba_mem.specs.Replacing.{cleared, part_length, with_part};
 
     /// Replaces bytes of a memory from a place on, which is no write of a program: what a write would drop is taken, and a flash
     /// takes them for no command.
@@ -33,5 +33,17 @@ impl Memory {
             MemoryPart::Oam => replace(self.oam.as_mut_slice(), place, bytes),
             MemoryPart::Backup => self.backup.set_bytes(place, bytes),
         }
+    }
+
+    /// Makes every byte of the memories that are written 0, also those of the SRAM or the flash, which aren't 0 at the start.
+    pub fn clear(&mut self)
+        ensures { self.new ≡ cleared self.old }
+    {
+        self.work.as_mut_slice().fill(0);
+        self.inner.as_mut_slice().fill(0);
+        self.palette.as_mut_slice().fill(0);
+        self.vram.as_mut_slice().fill(0);
+        self.oam.as_mut_slice().fill(0);
+        self.backup.clear();
     }
 }
