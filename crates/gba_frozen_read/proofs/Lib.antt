@@ -1,2 +1,4 @@
 pub mod FedLines
 pub mod Steps
+pub mod Fits
+pub mod Counting

@@ -22,6 +22,7 @@ fn refused(line: u64, kind: ThawKind) -> ThawError
 /// number of its lines plus 1. A line is ended by LF alone, and by nothing else; a last one that isn't is refused. What was handed
 /// on before a refusal stays. Whether the whole is sound isn't asked here. It takes no memory.
 pub fn read_frozen<T: Thawing>(setup: &Setup, bytes: &[u8], into: &mut T) -> Result<u64, ThawError>
+    requires some { 1 ≤ setup.now.consoles }
     requires consoles { setup.now.consoles ≤ 4 }
     requires until { setup.now.until < 2 ^ 63 }
     requires empty { T.Holds into.old setup.now nothing_read }
