@@ -1,11 +1,16 @@
 //! A board on a bench: calls on it, with what they need looked at first.
 
+ghost use Rattle.std.specs.Prelude.{◌≡◌};
+ghost use Rattle.gba_mem.specs.Replacing.{part_length};
+
 use gba_bus::{Bus, Width};
+use gba_flash::{FlashMachine, FlashState};
 use gba_image::{Backup, Bios, ConsoleImages};
-use gba_io::{Board, Counts, MemoryName, Room};
+use gba_io::{Board, BoardParts, Core, Counts, MemoryName, Room};
+use gba_mem::MemoryPart;
 use gba_ppu_reg::{Position, Reference};
 use gba_psg::Tone;
-use gba_serial::Transfer;
+use gba_serial::{Serial, Transfer};
 use gba_timer::Timer;
 use link_node::{Incoming, LinkMode, Signal};
 use std::alloc::Global;
@@ -32,6 +37,20 @@ fn bios_of(alloc: Global, first: u32) -> Result<Bios, Fail> {
         bytes.push(0)?;
     }
     Ok(Bios::check(bytes).ok().ok_or("no BIOS")?)
+}
+
+/// How many bytes a memory has.
+fn length_of(core: &Core, part: MemoryPart) -> usize
+    ensures { result ≡ part_length part core.now.memory }
+{
+    match part {
+        MemoryPart::Work => core.memory(MemoryName::Wram).len(),
+        MemoryPart::Inner => core.memory(MemoryName::Iwram).len(),
+        MemoryPart::Palette => core.memory(MemoryName::Palette).len(),
+        MemoryPart::Vram => core.memory(MemoryName::Vram).len(),
+        MemoryPart::Oam => core.memory(MemoryName::Oam).len(),
+        MemoryPart::Backup => core.memory(MemoryName::Backup).len(),
+    }
 }
 
 impl Bench {
@@ -235,5 +254,58 @@ impl Bench {
     pub(crate) fn known(&self, rt: &impl Abort, player: u32) -> LinkMode {
         assert!(rt; player < 4);
         self.board.core.serial().known(player)
+    }
+
+    pub(crate) fn serial(&self) -> Serial {
+        *self.board.core.serial()
+    }
+
+    /// The lines that are drawn of the present frame.
+    pub(crate) fn lines(&self, rt: &impl Abort, alloc: Global) -> Result<Vec<[u8; 480]>, Fail> {
+        let mut lines = Vec::new(alloc);
+        for line in 0..self.board.core.lines_drawn() {
+            let mut bytes = [0; 480];
+            assert!(rt; line < self.board.core.lines_drawn());
+            self.board.core.line(line, &mut bytes);
+            lines.push(bytes)?;
+        }
+        Ok(lines)
+    }
+
+    /// Replaces the first bytes of a memory.
+    pub(crate) fn set_bytes(&mut self, rt: &impl Abort, part: MemoryPart, bytes: &[u8]) {
+        assert!(rt; bytes.len() <= length_of(&self.board.core, part));
+        self.board.core.set_bytes(part, 0, bytes);
+    }
+
+    pub(crate) fn clear_memories(&mut self) {
+        self.board.core.clear_memories();
+    }
+
+    pub(crate) fn flash_machine(&self) -> Option<FlashMachine> {
+        self.board.core.flash_machine()
+    }
+
+    /// Lets the flash await a byte, where there is one.
+    pub(crate) fn restore_flash(&mut self) {
+        self.board.core.restore_flash(FlashMachine {
+            state: FlashState::Program,
+            armed: false,
+            identify: false,
+            bank: 0,
+        });
+    }
+
+    /// Pours parts and lines into the board.
+    pub(crate) fn pour(&mut self, rt: &impl Abort, parts: BoardParts, lines: &[[u8; 480]]) {
+        let Counts {
+            frames,
+            samples,
+            words,
+        } = parts.counts;
+        assert!(rt; frames < 1 << 40 && samples < 1 << 40 && words < 1 << 40);
+        assert!(rt; parts.devices.clock() <= 1_000_000);
+        assert!(rt; lines.len() <= 160);
+        self.board.pour(parts, lines, 1_000_000);
     }
 }

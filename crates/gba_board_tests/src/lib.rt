@@ -8,4 +8,6 @@ mod board;
 #[cfg(test)]
 mod cable;
 #[cfg(test)]
+mod pouring;
+#[cfg(test)]
 mod skipping;

@@ -9,7 +9,7 @@ use std::test::Fail;
 
 /// The registers that run, as words: direct sound from timers 0 and 1, four tone channels, four timers of which timer 1 counts
 /// timer 0's overflows, with their interrupts, and the picture's interrupts with line 3 to match.
-static RUNNING: [(u32, u32); 17] = [
+pub(crate) static RUNNING: [(u32, u32); 17] = [
     (0x084, 0x0000_0080),
     (0x080, 0x4302_FF77),
     (0x090, 0x7654_3210),
@@ -72,7 +72,7 @@ fn check_tones<R: Abort>(rt: &R, one: &Bench, other: &Bench) {
 }
 
 /// Both boards are the same, as far as their clocks, places, timers, queues, tones, requests and samples tell.
-fn check<R: Abort>(rt: &R, one: &Bench, other: &Bench) {
+pub(crate) fn check<R: Abort>(rt: &R, one: &Bench, other: &Bench) {
     assert_eq!(rt; one.clock(), other.clock());
     assert_eq!(rt; one.place(), other.place());
     check_timers(rt, one, other);

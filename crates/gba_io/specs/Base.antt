@@ -31,5 +31,5 @@ pub record IsBase (base : Base) : Type 0 where
   pub clock : base.clock ≤ 2 ^ 39 + 511
   pub cycles : base.cycles < 280896
   pub pairs : base.pairs ≤ 2 ^ 40 + base.clock / 512
-  pub frames : 280896 * base.frames + base.cycles ≤ 2 ^ 58 + base.clock + early_at base.cycles
+  pub frames : 280896 * base.frames + base.cycles ≤ 2 ^ 59 + base.clock + early_at base.cycles
   pub words : base.words ≤ 2 ^ 41

@@ -5,13 +5,14 @@ use Rattle.gba_devices.specs.Samples.{left_sample, right_sample}
 use Rattle.gba_image.specs.declared.backup.Backup.{Backup}
 use Rattle.gba_ppu_reg.specs.Position.{IsPosition}
 use Rattle.gba_io.specs.Base.{begun_at, early_at}
-use Rattle.gba_io.specs.Core.{Core, core_after, core_at_start, core_cycled}
+use Rattle.gba_io.specs.Core.{Core, core_after, core_at_start, core_cycled, core_poured}
 use Rattle.gba_io.specs.Drawing.{cycles_early, cycles_in, drawn_line, ends_frame, lines_drawn}
-use Rattle.gba_io.specs.Ended.{ended_emptied, ended_from, none_ended}
-use Rattle.gba_io.specs.Made.{Made, made_emptied, made_from, none_made, with_frame, with_pair}
+use Rattle.gba_io.specs.Ended.{ended_counted, ended_emptied, ended_from, none_ended}
+use Rattle.gba_io.specs.Made.{Made, made_counted, made_emptied, made_from, none_made, with_frame, with_pair}
 use Rattle.gba_io.specs.declared.base.Base.{Base}
 use Rattle.gba_io.specs.declared.board.Board.{Board}
 use Rattle.gba_io.specs.declared.made.Room.{Room}
+use Rattle.gba_io.specs.declared.pouring.BoardParts.{BoardParts}
 
 -- A board: its core, which the processor sees as a bus, what it has made, and the transfers that ended.
 
@@ -131,3 +132,17 @@ board_begun_at clock until b = record b {
 -- the board whose lists begin at this base, with room up to this clock
 abbrev pub board_from : Base → ℕ → Board → Board
 board_from base until b = record b { made = made_from base until b.made; ended = ended_from base until b.ended }
+
+-- The board of these parts beside its memories: it has made so much, and its lists begin here, empty, with room up to a clock. What
+-- it keeps of what it makes stays.
+abbrev pub board_filled : BoardParts → List (List ℕ) → Board → Board
+board_filled parts lines b = record {
+  core = core_poured parts.devices parts.serial lines b.core;
+  made = made_counted parts.counts.frames parts.counts.samples b.made;
+  ended = ended_counted parts.counts.words b.ended;
+}
+
+abbrev pub board_poured : BoardParts → List (List ℕ) → ℕ → Board → Board
+board_poured parts lines until b =
+    let filled = board_filled parts lines b in
+    board_from (base_of filled) until (board_emptied filled)

@@ -4,8 +4,11 @@ use Rattle.gba_devices.specs.State.{Devices, begun, devices_at_reset, is_calm, i
 use Rattle.gba_devices.specs.Cycles.{after_cycles, device_cycle}
 use Rattle.gba_image.specs.Backups.{backup_length}
 use Rattle.gba_image.specs.declared.backup.Backup.{Backup}
-use Rattle.gba_mem.specs.Backups.{backup_bytes, backup_of}
+use Rattle.gba_flash.specs.declared.machine.FlashMachine.{FlashMachine}
+use Rattle.gba_mem.specs.Backups.{backup_bytes, backup_of, with_machine}
 use Rattle.gba_mem.specs.Memories.{Memories, at_start}
+use Rattle.gba_mem.specs.Replacing.{cleared, with_part}
+use Rattle.gba_mem.specs.declared.part.MemoryPart.{MemoryPart}
 use Rattle.gba_io.specs.SerialRegisters.{is_serial}
 use Rattle.gba_serial.specs.Registers.{serial_stored}
 use Rattle.gba_serial.specs.SerialUnit.{SerialUnit, serial_at_reset}
@@ -89,3 +92,18 @@ length_named Palette m = 0x400
 length_named Vram m = 0x18000
 length_named Oam m = 0x400
 length_named named.Backup m = backup_length (backup_of m.backup)
+
+-- What a core is made of is replaced, which is no write of a program and leaves the lines that are drawn: bytes of a memory from a
+-- place on, every byte of the memories that are written, and what a flash remembers.
+abbrev pub core_with_part : MemoryPart → ℕ → List ℕ → Core → Core
+core_with_part part place new b = record b { memory = with_part part place new b.memory }
+
+abbrev pub core_cleared : Core → Core
+core_cleared b = record b { memory = cleared b.memory }
+
+abbrev pub core_with_machine : FlashMachine → Core → Core
+core_with_machine machine b = record b { memory = record b.memory { backup = with_machine machine b.memory.backup } }
+
+-- these devices, this serial unit and these lines stand beside its memories
+abbrev pub core_poured : Devices → SerialUnit → List (List ℕ) → Core → Core
+core_poured devices serial lines b = record { memory = b.memory; devices = devices; serial = serial; lines = lines }

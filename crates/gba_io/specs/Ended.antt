@@ -36,3 +36,7 @@ ended_emptied e = record e { words = [] }
 -- those that are kept begin at this base, and there is room up to this clock
 abbrev pub ended_from : Base → ℕ → Ended → Ended
 ended_from base until e = record e { base = base; until = until }
+
+-- so many are counted
+abbrev pub ended_counted : ℕ → Ended → Ended
+ended_counted count e = record e { count = count }

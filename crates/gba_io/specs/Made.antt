@@ -55,3 +55,7 @@ made_emptied m = record m { frames = []; samples = [] }
 -- what is kept begins at this base, and there is room up to this clock
 abbrev pub made_from : Base → ℕ → Made → Made
 made_from base until m = record m { base = base; until = until }
+
+-- so much is counted
+abbrev pub made_counted : ℕ → ℕ → Made → Made
+made_counted frames pairs m = record m { frame_count = frames; pairs = pairs }

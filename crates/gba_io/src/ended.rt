@@ -56,7 +56,7 @@ fn push(words: &mut Vec<Transfer>, transfer: Transfer)
 impl Ended {
     ghost use Rattle.std.specs.Prelude.{◌+◌, ◌<◌, ◌≤◌, IfOk, Some, length, ◌^◌};
     ghost use Rattle.gba_io.specs.Base.{IsBase, begun_at, words_from};
-    ghost use Rattle.gba_io.specs.Ended.{ended_emptied, ended_from, none_ended, with_transfer};
+    ghost use Rattle.gba_io.specs.Ended.{ended_counted, ended_emptied, ended_from, none_ended, with_transfer};
 
     /// None yet, with room for all that are kept of 2^24 cycles: they end at least 512 cycles apart.
     pub(crate) fn new(alloc: Global, room: Room) -> Result<Ended, NoMemory>
@@ -89,6 +89,19 @@ impl Ended {
         self.base
     }
 
+    /// Empties the list of them, which begins at this base from then on, and counts as many as had ended by then. There is
+    /// room for all that end in the steps which begin below `until`, at most 2^24 cycles later.
+    pub(crate) fn begin_from(&mut self, base: Base, until: u64)
+        requires near { until ≤ base.clock + 16777216 }
+        requires sound { IsBase base }
+        ensures { self.new ≡ ended_from base until (ended_emptied (ended_counted base.words self.old)) }
+    {
+        self.words.clear();
+        self.count = base.words;
+        self.until = until;
+        self.base = base;
+    }
+
     /// Empties the list of them, which begins at this base from then on, where so many have ended. There is room for all
     /// that end in the steps which begin below `until`, at most 2^24 cycles later.
     pub(crate) fn forget(&mut self, base: Base, until: u64)
@@ -97,9 +110,7 @@ impl Ended {
         requires words { base.words ≡ self.old.count }
         ensures { self.new ≡ ended_from base until (ended_emptied self.old) }
     {
-        self.words.clear();
-        self.until = until;
-        self.base = base;
+        self.begin_from(base, until);
     }
 
     /// What is kept begins at this later clock. There is room up to `until`, at most 2^24 cycles later.

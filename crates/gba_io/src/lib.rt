@@ -11,6 +11,7 @@ mod in_step;
 pub mod laws;
 mod made;
 mod parts;
+mod pouring;
 mod serial;
 
 pub use base::Base;
@@ -18,3 +19,4 @@ pub use board::Board;
 pub use ended::{Ended, SEGMENT_WORDS};
 pub use made::{Counts, Made, Room};
 pub use parts::{Core, MemoryName};
+pub use pouring::BoardParts;

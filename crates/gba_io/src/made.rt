@@ -97,7 +97,7 @@ impl Made {
     ghost use Rattle.std.specs.Prelude.{◌≡◌, ◌+◌, ◌<◌, ◌≤◌, length, true, false, IfOk, ◌^◌};
     ghost use Rattle.gba_io.specs.Base.{IsBase, begun_at, frames_from, pairs_from};
     ghost use Rattle.std.specs.List.{concat};
-    ghost use Rattle.gba_io.specs.Made.{made_emptied, made_from, none_made, with_frame, with_pair};
+    ghost use Rattle.gba_io.specs.Made.{made_counted, made_emptied, made_from, none_made, with_frame, with_pair};
 
     /// Nothing yet, with room for all that is kept of 2^24 cycles and one step more.
     pub(crate) fn new(alloc: Global, room: Room) -> Result<Made, NoMemory>
@@ -133,6 +133,21 @@ impl Made {
         self.base
     }
 
+    /// Empties what is kept, which begins at this base from then on, and counts as much as was made by then. There is room up
+    /// to `until`, at most 2^24 cycles later.
+    pub(crate) fn begin_from(&mut self, base: Base, until: u64)
+        requires near { until ≤ base.clock + 16777216 }
+        requires sound { IsBase base }
+        ensures { self.new ≡ made_from base until (made_emptied (made_counted base.frames base.pairs self.old)) }
+    {
+        self.frames.clear();
+        self.samples.clear();
+        self.frame_count = base.frames;
+        self.pairs = base.pairs;
+        self.until = until;
+        self.base = base;
+    }
+
     /// Empties what is kept, which begins at this base from then on, where the counts are these. There is room up to
     /// `until`, at most 2^24 cycles later.
     pub(crate) fn forget(&mut self, base: Base, until: u64)
@@ -142,10 +157,7 @@ impl Made {
         requires frames { base.frames ≡ self.old.frame_count }
         ensures { self.new ≡ made_from base until (made_emptied self.old) }
     {
-        self.frames.clear();
-        self.samples.clear();
-        self.until = until;
-        self.base = base;
+        self.begin_from(base, until);
     }
 
     /// What is kept begins at this later clock. There is room up to `until`, at most 2^24 cycles later.

@@ -345,7 +345,7 @@ impl Core {
     }
 
     /// How many lines of the present frame are drawn, 160 at most.
-    pub(crate) fn lines_drawn(&self) -> u32
+    pub fn lines_drawn(&self) -> u32
         ensures { result ≡ length self.now.lines }
     {
         self.screen.lines_drawn()
