@@ -1,5 +1,5 @@
 -- Where nothing asks for more, a step is an instruction.
-use Rattle.std.proofs.Common.{◌≡◌, ℕ, ◌+◌, ◌<◌, ◌≤◌, Bool, true, false, List, [], refl, ◌∙◌, ap, sym, if◌then◌else◌, arith}
+use Rattle.std.proofs.Common.{◌≡◌, ℕ, ◌<◌, ◌≤◌, Bool, true, false, List, [], refl, ◌∙◌, ap, sym, if◌then◌else◌, arith}
 use Rattle.std.specs.Prelude.{not, ◌&&◌, ◌||◌, ◌==◌, Option, None, Some, option_map}
 use Rattle.gba_terms.specs.Bits.{bit}
 use Rattle.gba_psr.specs.RegisterFile.{status}

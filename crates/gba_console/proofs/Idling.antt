@@ -22,7 +22,6 @@ use Rattle.gba_console.specs.Waiting.{IsSound}
 use Rattle.gba_console.proofs.Calm.{idle-next}
 use Rattle.gba_console.proofs.Passing.{has-room, sound-ready, step-sound, step-was}
 use Rattle.gba_console.specs.declared.doing.What.TheVariants.{Idle}
-use Rattle.gba_console.specs.declared.keys.KeyState.{KeyState}
 
 module _ (passes : (cycles : ℕ) (b : Board) → BoardPasses cycles b) where
   pub idle-is : CalmHasBegun → StaysQuiet → (m : Machine) (after : Board) → core_is_idle m.board.core ≡ true

@@ -1,15 +1,13 @@
 -- A console that is on, and one that is off.
-use Rattle.std.proofs.Common.{◌≡◌, ℕ, ◌+◌, ◌*◌, ◌/◌, ◌%◌, ◌<◌, ◌≤◌, ◌^◌, Bool, true, false, List, [], Option, None, refl, sym, ap, ◌∙◌, subst, arith, if◌then◌else◌, length}
+use Rattle.std.proofs.Common.{◌≡◌, ℕ, ◌<◌, ◌≤◌, ◌^◌, Bool, true, false, List, None, refl, sym, ap, ◌∙◌, arith, if◌then◌else◌}
 use Rattle.std.specs.Prelude.{nat_lt, not}
 use Rattle.std.proofs.lemmas.Bool.Decides.{nat_tests}
-use Rattle.gba_io.specs.declared.base.Base.{Base}
 use Rattle.gba_io.specs.declared.board.Board.{Board}
 use Rattle.link_node.specs.declared.signal.Incoming.{Incoming}
-use Rattle.link_node.specs.declared.signal.Signal.{Signal}
 use Rattle.gba_console.specs.Keys.{due_of, next_due}
-use Rattle.gba_console.specs.Machine.{Machine, clock_of, first_on, is_off}
+use Rattle.gba_console.specs.Machine.{Machine, clock_of, is_off}
 use Rattle.gba_console.specs.Step.{stepped, stepped_off, stepped_on, told, told_on}
-use Rattle.gba_console.specs.Waiting.{IsKept, IsResting, IsSound}
+use Rattle.gba_console.specs.Waiting.{IsKept, IsSound}
 use Rattle.gba_console.specs.declared.keys.KeyState.{KeyState}
 
 below-false : (a b : ℕ) → b ≤ a → nat_lt a b ≡ false

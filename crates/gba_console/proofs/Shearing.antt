@@ -5,7 +5,7 @@ use Rattle.link_node.specs.declared.signal.Incoming.{Incoming}
 use Rattle.gba_console.specs.Alone.{console_kind}
 use Rattle.gba_console.specs.Machine.{Machine, clock_of, forgotten, is_off, without_limit}
 use Rattle.gba_console.specs.Segments.{last_behind}
-use Rattle.gba_console.specs.Shorn.{TellsAlike, rested, seen, shorn}
+use Rattle.gba_console.specs.Shorn.{TellsAlike, rested, shorn}
 use Rattle.gba_console.specs.Step.{prepared, stepped, stepped_off, stepped_on, told, told_on}
 use Rattle.gba_console.specs.declared.doing.What.{What}
 use Rattle.gba_console.proofs.Behind.{acted-told, behind-forgotten, stepped-in-front, told-in-front}

@@ -7,6 +7,7 @@ pub mod Linked
 pub mod Machine
 pub mod NodeLaws
 pub mod Passing
+pub mod Pouring
 pub mod Run
 pub mod Segments
 pub mod Shorn

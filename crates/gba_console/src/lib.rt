@@ -13,6 +13,7 @@ mod hearing;
 mod keys;
 pub mod laws;
 mod node;
+mod pouring;
 
 use acting::{DECODED, IDLE_CYCLES, OFF_CYCLES, act, execute, place_of_half, place_of_word};
 use doing::Told;
@@ -32,6 +33,7 @@ pub use keys::KeyState;
 use keys::apply;
 use laws::{acts_pass, enough, steps_pass};
 use link_node::{Incoming, Signal};
+pub use pouring::ConsoleParts;
 use std::alloc::{AllocError, Global};
 use std::marker::Model;
 

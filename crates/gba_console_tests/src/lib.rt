@@ -14,6 +14,8 @@ mod picture;
 #[cfg(test)]
 mod play;
 #[cfg(test)]
+mod pouring;
+#[cfg(test)]
 mod segments;
 #[cfg(test)]
 mod told;

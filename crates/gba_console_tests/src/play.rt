@@ -1,13 +1,18 @@
 //! A console as the tests play it: each call is made where it may be made, and what it shows are numbers and lists.
 
-ghost use Rattle.std.specs.Prelude.{IsTrue};
+ghost use Rattle.std.specs.Prelude.{◌≡◌, ◌<◌, IsTrue};
 ghost use Rattle.gba_image.specs.Checks.{SaveFits};
+ghost use Rattle.gba_io.specs.Drawing.{lines_drawn};
 
 use gba_asm::assemble;
-use gba_console::{Console, KeyState, What};
+use gba_console::{Console, ConsoleParts, KeyState, What};
+use gba_devices::Devices;
+use gba_flash::{FlashMachine, FlashState};
 use gba_freeze::step_line;
 use gba_image::{Backup, Bios, Cartridge, ConsoleImages};
-use gba_io::{Board, Counts, MemoryName, Room};
+use gba_io::{Board, BoardParts, Counts, MemoryName, Room};
+use gba_mem::MemoryPart;
+use gba_ppu_reg::Position;
 use gba_serial::Transfer;
 use link_node::{Incoming, LinkMode, Node, Signal};
 use link_trials::may_take;
@@ -85,6 +90,20 @@ fn fits(images: &ConsoleImages) -> bool
     match &images.save {
         Some(save) => save.bytes().len() == images.backup.length(),
         None => true,
+    }
+}
+
+/// How many lines are drawn of a frame at a place of the picture.
+fn lines_at(place: &Position) -> usize
+    requires { place.now.line < 228 }
+    ensures { result ≡ lines_drawn place.now }
+{
+    if 160 <= place.line || (place.line == 159 && 1006 <= place.dot) {
+        0
+    } else if 1006 <= place.dot {
+        place.line as usize + 1
+    } else {
+        place.line as usize
     }
 }
 
@@ -252,6 +271,58 @@ impl Play {
     /// The end of the room.
     pub fn until(&self) -> u64 {
         self.console.until()
+    }
+
+    /// Pours these devices and counts into a console that is on from the start, beside its own registers and serial unit, and makes
+    /// its last step one of four cycles. So many key changes are applied.
+    pub fn pour<R: Abort>(
+        &mut self,
+        rt: &R,
+        devices: Devices,
+        counts: Counts,
+        applied: usize,
+        lines: &[[u8; 480]],
+    ) {
+        let clock = devices.clock();
+        assert!(rt; 4 <= clock && clock <= 1 << 24 && self.console.off() == 0);
+        assert!(rt; lines.len() == lines_at(&devices.place()));
+        assert!(rt; counts.frames < 1 << 40 && counts.samples < 1 << 40 && counts.words < 1 << 40);
+        assert!(rt; applied <= self.console.keys().len());
+        let parts = ConsoleParts {
+            registers: self.console.registers().clone(),
+            board: BoardParts {
+                devices,
+                serial: *self.board().core.serial(),
+                counts,
+            },
+            applied,
+            was: clock - 4,
+        };
+        self.console.pour(parts, lines, clock + 10_000);
+    }
+
+    /// Puts words at the front of the inner RAM.
+    pub fn put_words<R: Abort>(&mut self, rt: &R, words: &[u32; 2]) {
+        let mut bytes = [0; 8];
+        bytes[..4].copy_from_slice(&words[0].to_le_bytes());
+        bytes[4..].copy_from_slice(&words[1].to_le_bytes());
+        self.console.set_bytes(MemoryPart::Inner, 0, &bytes);
+        assert_eq!(rt; self.memory(MemoryName::Iwram).get(..8), Some(bytes.as_slice()));
+    }
+
+    pub fn clear_memories(&mut self) {
+        self.console.clear_memories();
+    }
+
+    /// Lets the flash await a byte, and answers what it then remembers.
+    pub fn await_byte(&mut self) -> Option<FlashMachine> {
+        self.console.restore_flash(FlashMachine {
+            state: FlashState::Program,
+            armed: false,
+            identify: false,
+            bank: 0,
+        });
+        self.board().core.flash_machine()
     }
 }
 

@@ -1,5 +1,5 @@
-use Rattle.std.proofs.Common.{◌≡◌, ◌-◌, ◌+◌, ◌*◌, ◌/◌, ℕ, ◌∙◌, ap, sym, subst, arith}
-use Rattle.std.specs.Prelude.{List, length}
+use Rattle.std.proofs.Common.{◌≡◌, ◌-◌, ℕ, ◌∙◌, ap, sym, arith}
+use Rattle.std.specs.Prelude.{List}
 use Rattle.gba_console.specs.declared.keys.KeyState.{KeyState}
 use Rattle.gba_io.specs.Board.{board_at_start, board_begun_at}
 use Rattle.gba_io.specs.declared.board.Board.{Board}

@@ -1,11 +1,8 @@
-use Rattle.std.proofs.Common.{◌≡◌, ◌-◌, ◌+◌, ◌<◌, ◌∙◌, ℕ, List, ap, sym, arith}
+use Rattle.std.proofs.Common.{◌≡◌, ◌-◌, ◌+◌, ◌<◌, ◌∙◌, ℕ, List, ap, arith}
 use Rattle.std.specs.Prelude.{drop}
-use Rattle.gba_io.specs.Core.{Core, core_begun, core_rested}
-use Rattle.gba_io.specs.declared.board.Board.{Board}
-use Rattle.link_node.specs.declared.signal.Incoming.{Incoming}
-use Rattle.gba_console.specs.Keys.{after_keys, due_count, next_due}
+use Rattle.gba_io.specs.Core.{core_rested}
+use Rattle.gba_console.specs.Keys.{due_count, next_due}
 use Rattle.gba_console.specs.Machine.{Machine, clock_of}
-use Rattle.gba_console.specs.Step.{all_learned, prepared_off, stepped_off}
 use Rattle.gba_console.specs.declared.keys.KeyState.{KeyState}
 use Rattle.gba_console.proofs.Images.{still-stand}
 use Rattle.gba_console.proofs.Resting.{left-off, off-clock, off-images, off-kept, off-made, prepares-off}

@@ -1,4 +1,4 @@
-use Rattle.std.proofs.Common.{ℕ, ◌∙◌, ◌-◌, ◌<◌, ◌≤◌, ap, sym, subst, arith}
+use Rattle.std.proofs.Common.{◌∙◌, ◌-◌, ◌<◌, ◌≤◌, ap, sym, subst, arith}
 use Rattle.std.specs.Prelude.{List, drop}
 use Rattle.gba_io.specs.declared.board.Board.{Board}
 use Rattle.gba_console.specs.Keys.{due_of}

@@ -1,0 +1,67 @@
+use Rattle.std.specs.Prelude.{◌≡◌, ℕ, ◌+◌, ◌%◌, ◌^◌, ◌<◌, ◌≤◌, nat_lt, List, [], length, if◌then◌else◌}
+use Rattle.gba_devices.specs.State.{place_at_reset}
+use Rattle.gba_io.specs.Board.{board_begun_at, board_poured}
+use Rattle.gba_io.specs.Core.{core_cleared, core_with_machine, core_with_part}
+use Rattle.gba_io.specs.Drawing.{lines_drawn}
+use Rattle.gba_io.specs.declared.board.Board.{Board}
+use Rattle.gba_io.specs.declared.pouring.BoardParts.{BoardParts}
+use Rattle.gba_flash.specs.declared.machine.FlashMachine.{FlashMachine}
+use Rattle.gba_mem.specs.declared.part.MemoryPart.{MemoryPart}
+use Rattle.gba_console.specs.Machine.{Machine, first_on}
+use Rattle.gba_console.specs.declared.doing.What.TheVariants.{Nothing}
+use Rattle.gba_console.specs.declared.pouring.ConsoleParts.{ConsoleParts}
+
+-- A console whose numbers are replaced, as no step does it.
+
+-- what a console needs of parts whose clock it is off at: nothing was made, and its clock has risen by 16 at a time
+pub record Rests (parts : BoardParts) (lines : List (List ℕ)) : Type 0 where
+  pub place : parts.devices.place ≡ place_at_reset
+  pub drawn : lines ≡ []
+  pub frames : parts.counts.frames ≡ 0
+  pub samples : parts.counts.samples ≡ 0
+  pub words : parts.counts.words ≡ 0
+  pub turn : parts.devices.clock % 16 ≡ 0
+
+-- What it needs of the parts of its board, its lines, the clock at which its last step began, and the end of its room: the last
+-- step took at most 512 cycles and began below that end, the lines are those that the picture's place says, and the counts
+-- are below 2^40. A transfer may run whose end has passed, and the counts needn't be those of the clock.
+pub record CanPour (off was until : ℕ) (parts : BoardParts) (lines : List (List ℕ)) : Type 0 where
+  pub begun : was ≤ parts.devices.clock
+  pub short : parts.devices.clock ≤ was + 512
+  pub drawn : length lines ≡ lines_drawn parts.devices.place
+  pub frames : parts.counts.frames < 2 ^ 40
+  pub samples : parts.counts.samples < 2 ^ 40
+  pub words : parts.counts.words < 2 ^ 40
+  pub few : until ≤ 2 ^ 39
+  pub near : until ≤ parts.devices.clock + 16777216
+  pub room : parts.devices.clock ≤ until + 511
+  pub rests : parts.devices.clock < off → Rests parts lines
+
+-- The board of these parts. What it makes begins here, or with the first step of a console that is off below a clock.
+abbrev pub board_poured_at : ℕ → BoardParts → List (List ℕ) → ℕ → Board → Board
+board_poured_at off parts lines until b =
+    let poured = board_poured parts lines until b in
+    if nat_lt parts.devices.clock off then board_begun_at (first_on off) until poured else poured
+
+-- The console of these parts, which stand beside its memories, all changes of its keys, and the clock below which it is off. Its
+-- lists are empty, and what its last step did isn't told.
+abbrev pub machine_poured : ConsoleParts → List (List ℕ) → ℕ → Machine → Machine
+machine_poured parts lines until m = record m {
+  registers = parts.registers;
+  board = board_poured_at m.off parts.board lines until m.board;
+  applied = parts.applied;
+  was = parts.was;
+  last = Nothing;
+}
+
+-- with bytes of a memory replaced from a place on, with every byte of the memories 0, and with what a flash remembers
+abbrev pub machine_with_part : MemoryPart → ℕ → List ℕ → Machine → Machine
+machine_with_part part place new m =
+    record m { board = record m.board { core = core_with_part part place new m.board.core } }
+
+abbrev pub machine_cleared : Machine → Machine
+machine_cleared m = record m { board = record m.board { core = core_cleared m.board.core } }
+
+abbrev pub machine_with_flash : FlashMachine → Machine → Machine
+machine_with_flash machine m =
+    record m { board = record m.board { core = core_with_machine machine m.board.core } }
