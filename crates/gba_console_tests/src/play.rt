@@ -282,14 +282,14 @@ impl Play {
         counts: Counts,
         applied: usize,
         lines: &[[u8; 480]],
-    ) {
+    ) -> Result<(), Fail> {
         let clock = devices.clock();
         assert!(rt; 4 <= clock && clock <= 1 << 24 && self.console.off() == 0);
         assert!(rt; lines.len() == lines_at(&devices.place()));
         assert!(rt; counts.frames < 1 << 40 && counts.samples < 1 << 40 && counts.words < 1 << 40);
         assert!(rt; applied <= self.console.keys().len());
         let parts = ConsoleParts {
-            registers: self.console.registers().clone(),
+            registers: self.console.registers().clone()?,
             board: BoardParts {
                 devices,
                 serial: *self.board().core.serial(),
@@ -299,6 +299,7 @@ impl Play {
             was: clock - 4,
         };
         self.console.pour(parts, lines, clock + 10_000);
+        Ok(())
     }
 
     /// Puts words at the front of the inner RAM.
@@ -307,7 +308,10 @@ impl Play {
         bytes[..4].copy_from_slice(&words[0].to_le_bytes());
         bytes[4..].copy_from_slice(&words[1].to_le_bytes());
         self.console.set_bytes(MemoryPart::Inner, 0, &bytes);
-        assert_eq!(rt; self.memory(MemoryName::Iwram).get(..8), Some(bytes.as_slice()));
+        assert_eq!(rt;
+            self.memory(MemoryName::Iwram).get(..8),
+            Some(bytes.as_slice())
+        );
     }
 
     pub fn clear_memories(&mut self) {

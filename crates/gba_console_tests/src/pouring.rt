@@ -28,10 +28,7 @@ const ADDS: [u32; 2] = [0xE280_0001, 0xEAFF_FFFD];
 const MOVES: [u32; 2] = [0xE3A0_0042, 0xEAFF_FFFD];
 
 static KEYS: [KeyState; 2] = [
-    KeyState {
-        clock: 10,
-        keys: 1,
-    },
+    KeyState { clock: 10, keys: 1 },
     KeyState {
         clock: 2_000,
         keys: 2,
@@ -72,8 +69,11 @@ fn a_poured_console_goes_on(rt: HostRuntime) -> Result<(), Fail> {
     let mut console = running(&rt, rt.alloc())?;
     console.put_words(&rt, &MOVES);
     let devices = devices_at(&rt, 1_000);
-    console.pour(&rt, devices, COUNTS, 1, &[]);
-    assert_eq!(rt; (console.was(), console.clock(), console.until()), (996, 1_000, 11_000));
+    console.pour(&rt, devices, COUNTS, 1, &[])?;
+    assert_eq!(rt;
+        (console.was(), console.clock(), console.until()),
+        (996, 1_000, 11_000)
+    );
     assert_eq!(rt; console.last(), What::Nothing);
     assert_eq!(rt; console.counts(), COUNTS);
     assert_eq!(rt; console.samples().len(), 0);
