@@ -2,6 +2,10 @@
 //! Tests of the numbers of a console and of the lines of a frozen file.
 
 #[cfg(test)]
+mod files;
+#[cfg(test)]
+mod keeping;
+#[cfg(test)]
 mod numbers;
 #[cfg(test)]
 mod others;
@@ -15,3 +19,5 @@ mod reading;
 mod spelling;
 #[cfg(test)]
 mod walk;
+#[cfg(test)]
+mod whole;
