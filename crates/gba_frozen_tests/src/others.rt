@@ -68,6 +68,11 @@ fn queues_hold_32_bytes(rt: HostRuntime) -> Result<(), Fail> {
         ),
         (
             Slot::Queue(0),
+            b"queue A fe 31 a5a5a5a5a5a5a5a5a5a5a5a5a5a5a5a5a5a5a5a5a5a5a5a5a5a5a5a5a5a5a5".as_slice(),
+            None,
+        ),
+        (
+            Slot::Queue(0),
             b"queue A 00 33 a5a5a5a5a5a5a5a5a5a5a5a5a5a5a5a5a5a5a5a5a5a5a5a5a5a5a5a5a5a5a5a5a5".as_slice(),
             Some(ThawKind::Number),
         ),
@@ -180,6 +185,41 @@ fn ends_of_memories(rt: HostRuntime) -> Result<(), Fail> {
             Slot::Memory(None),
             b"mem io 000400 0100000000000000000000000000000000000000000000000000000000000000".as_slice(),
             Some(ThawKind::Number),
+        ),
+        (
+            Slot::Memory(None),
+            b"mem io 0003c0 0100000000000000000000000000000000000000000000000000000000000000".as_slice(),
+            None,
+        ),
+        (
+            Slot::Memory(None),
+            b"mem iwram 007fe0 0100000000000000000000000000000000000000000000000000000000000000".as_slice(),
+            None,
+        ),
+        (
+            Slot::Memory(None),
+            b"mem palette 0003e0 0100000000000000000000000000000000000000000000000000000000000000".as_slice(),
+            None,
+        ),
+        (
+            Slot::Memory(None),
+            b"mem palette 000400 0100000000000000000000000000000000000000000000000000000000000000".as_slice(),
+            Some(ThawKind::Number),
+        ),
+        (
+            Slot::Memory(None),
+            b"mem oam 0003e0 0100000000000000000000000000000000000000000000000000000000000000".as_slice(),
+            None,
+        ),
+        (
+            Slot::Memory(None),
+            b"mem oam 000400 0100000000000000000000000000000000000000000000000000000000000000".as_slice(),
+            Some(ThawKind::Number),
+        ),
+        (
+            Slot::Memory(None),
+            b"mem vram 017fc0 0100000000000000000000000000000000000000000000000000000000000000".as_slice(),
+            None,
         ),
         (
             Slot::Memory(None),

@@ -433,3 +433,64 @@ fn serial_unit(rt: HostRuntime) -> Result<(), Fail> {
     }
     Ok(())
 }
+
+/// one less than the end of each range
+#[test]
+fn numbers_below_their_ends(rt: HostRuntime) -> Result<(), Fail> {
+    for &(row, line) in &[
+        (Row::Clock, b"clock 1510".as_slice()),
+        (Row::Was, b"was 1510".as_slice()),
+        (Row::Applied, b"applied 1099511627774".as_slice()),
+        (
+            Row::Counts,
+            b"counts 1099511627774 1099511627774 1099511627774".as_slice(),
+        ),
+        (Row::Halted, b"halted 0".as_slice()),
+        (Row::Register(30), b"r14_und fffffffe".as_slice()),
+        (Row::Register(31), b"cpsr f00000fb".as_slice()),
+        (Row::Register(36), b"spsr_und f00000fe".as_slice()),
+        (Row::Timer(0), b"timer 0 65534 65534 194 1022".as_slice()),
+        (Row::Timer(1), b"timer 1 65534 65534 198 1022".as_slice()),
+        (
+            Row::Dma(3),
+            b"dma 3 0 0 4294967294 4294967294 65535".as_slice(),
+        ),
+        (Row::Sequencer, b"sequencer 262142".as_slice()),
+        (
+            Row::Tone(1),
+            b"tone 1 0 6 16777214 255 14 6 6 2046".as_slice(),
+        ),
+        (Row::Tone(2), b"tone 2 0 6 0 0 0 0 0 0".as_slice()),
+        (Row::Tone(3), b"tone 3 0 62 0 0 0 0 0 0".as_slice()),
+        (Row::Tone(4), b"tone 4 0 32766 0 0 0 0 0 0".as_slice()),
+        (Row::Position, b"position 226 1230".as_slice()),
+        (Row::Affine(3), b"affine 3 fffffffe fffffffe".as_slice()),
+        (Row::Flash, b"flash 3 0 0 0".as_slice()),
+        (
+            Row::Serial,
+            b"serial 2 0 0 1099511627774 14 4294967294 4294967294".as_slice(),
+        ),
+        (Row::Known, b"known 2 2 2 2".as_slice()),
+    ] {
+        assert_eq!(rt; refusal(&rt, Slot::Fixed(row), line), None);
+    }
+    Ok(())
+}
+
+/// each of the known modes, and parts of the second timer
+#[test]
+fn middle_numbers(rt: HostRuntime) -> Result<(), Fail> {
+    for &(row, line) in &[
+        (Row::Known, b"known 0 4 0 0".as_slice()),
+        (Row::Known, b"known 0 0 4 0".as_slice()),
+        (Row::Timer(1), b"timer 1 65536 0 0 0".as_slice()),
+        (Row::Timer(1), b"timer 1 0 65536 0 0".as_slice()),
+        (Row::Timer(1), b"timer 1 0 0 0 1024".as_slice()),
+    ] {
+        assert_eq!(rt;
+            refusal(&rt, Slot::Fixed(row), line),
+            Some(ThawKind::Number)
+        );
+    }
+    Ok(())
+}
