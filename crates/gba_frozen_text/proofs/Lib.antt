@@ -6,3 +6,4 @@ pub mod Rows
 pub mod Consoles
 pub mod Drafts
 pub mod Whole
+pub mod MemoryRows
