@@ -28,8 +28,9 @@ def consoles(changes):
     return HEAD + ''.join((f'console {k}\nbios b\n' if k else '') + changes for k in range(4)) + END
 
 
-def labels(count):
-    return ''.join('x' * 25 + f'{number:07}:\n' for number in range(count))
+def labels(count, digits=7):
+    """So many labels of 32 letters, of which the last ones are digits."""
+    return ''.join('x' * (32 - digits) + f'{number:0{digits}}:\n' for number in range(count))
 
 
 def label_words(count):
@@ -65,7 +66,7 @@ INPUTS = {
         ('1,000,000 labels that share 25 letters', 0, lambda: labels(1_000_000)),
         ('2,000,000 labels that share 25 letters', 0, lambda: labels(2_000_000)),
         ('1,000,000 times the label x', 8, lambda: 'x:\n' * 1_000_000),
-        ('as many labels that share 25 letters as fit', 0, lambda: labels(SOURCE // 34)),
+        ('as many labels that share 24 letters as fit', 0, lambda: labels(SOURCE // 34, 8)),
         ('1,000,000 labels, the last one twice', 8, lambda: labels(1_000_000) + 'x' * 25 + '0999999:\n'),
         ('1,000,000 labels, 4,000,000 words of them', 0, lambda: label_words(1_000_000)),
         ('the same, and a last one without a label', 8, lambda: label_words(1_000_000) + '.word y\n'),
