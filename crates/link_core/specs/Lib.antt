@@ -1,3 +1,4 @@
 pub mod Kept
 pub mod Leave
 pub mod Burst
+pub mod Whole

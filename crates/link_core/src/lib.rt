@@ -11,6 +11,7 @@ mod lists;
 mod nodes;
 mod shell;
 mod signals;
+mod whole;
 
 pub use cut::{Cut, CutRefused};
 pub use horizon::{Seen, may_step};
@@ -19,3 +20,4 @@ pub use link_order::Sent;
 pub use lists::keep;
 pub use shell::Shell;
 pub use signals::index_of_due;
+pub use whole::is_whole;

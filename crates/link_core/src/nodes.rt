@@ -1,6 +1,6 @@
 //! The nodes of a cut: their clocks, the one that is furthest behind, and its step.
 
-ghost use Rattle.std.specs.Prelude.{ℕ, ◌≡◌, ◌<◌, Some, length, map, slice_index, slice_get, slice_set, All};
+ghost use Rattle.std.specs.Prelude.{ℕ, ◌≡◌, ◌+◌, ◌<◌, ◌≤◌, ◌^◌, Some, length, map, slice_index, slice_get, slice_set, All};
 ghost use Rattle.std.specs.Vec.{vec_len};
 ghost use Rattle.link_node.specs.Due.{IsDue, InOrder};
 ghost use Rattle.link_order.specs.GlobalOrder.{least_below};
@@ -10,7 +10,8 @@ use link_node::{Incoming, Node, Signal};
 /// The clock of a node.
 pub(crate) fn clock_of<N: Node>(nodes: &[N], i: usize) -> u64
     requires { i < length nodes.now }
-    ensures { result ≡ slice_index (map N.clock (map N.plain nodes.now)) i }
+    ensures value { result ≡ slice_index (map N.clock (map N.plain nodes.now)) i }
+    ensures small { result ≤ 2 ^ 39 + 511 }
 {
     nodes[i].clock()
 }

@@ -13,7 +13,7 @@ use link_node::{Delays, Incoming, Node};
 use link_order::Sent;
 
 /// Whether a sent signal stands before another.
-fn is_sent_before(one: &Sent, other: &Sent) -> bool
+pub(crate) fn is_sent_before(one: &Sent, other: &Sent) -> bool
     ensures { result ≡ is_before clock_of sender_of one.now other.now }
 {
     one.signal.clock < other.signal.clock
@@ -154,7 +154,7 @@ pub(crate) fn was_of<N: Node>(nodes: &[N], i: usize) -> u64
 }
 
 /// Whether some node but its sender can still take a signal.
-fn is_awaited_by<N: Node>(nodes: &[N], delays: &Delays, one: &Sent) -> bool
+pub(crate) fn is_awaited_by<N: Node>(nodes: &[N], delays: &Delays, one: &Sent) -> bool
     ensures { result ≡ is_awaited (hop_of delays.now) (slice_index (map N.was (map N.plain nodes.now)))
         (length nodes.now) one.now }
 {

@@ -11,3 +11,5 @@ mod meeting;
 mod schedules;
 #[cfg(test)]
 mod signals;
+#[cfg(test)]
+mod whole;

@@ -27,7 +27,7 @@ fn beat(pace: u64, tells: u64) -> Beat
 }
 
 /// No node comes to this clock.
-const NEVER: u64 = 1 << 40;
+pub(crate) const NEVER: u64 = 1 << 40;
 
 #[test]
 fn a_signal_that_nobody_took_stays_on_its_way(rt: HostRuntime) -> Result<(), Fail> {

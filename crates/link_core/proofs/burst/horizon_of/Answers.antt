@@ -10,7 +10,7 @@ loop-j-preserved g c =
     elim c.if-j-i.branch [
       | then-j-i w ↦
           let clock : ℕ → ℕ = slice_index (map g.N.Node.clock (map g.N.Node.plain c.args.nodes.now)) in
-          let own : w.clock_of.result ≡ clock c.loop-j.j = w.clock_of.ensures in
+          let own : w.clock_of.result ≡ clock c.loop-j.j = w.clock_of.ensures.value in
           let end_is = w.end-is in
           record {
             most = omega (arith, c.loop-j.invariant.most);

@@ -32,7 +32,7 @@ returns-then-clock-quiet-clause-goes g c =
     = c.was_of-was.ensures ∙ ap (λ (xs : List g.row.N.Denot). slice_index (map kind.was (map g.N.Node.plain xs)) c.args.i)
     c.deref.ensures.value in
     let clock_is : c.clock_of-clock.result ≡ clock_at kind p c.args.i
-    = c.clock_of-clock.ensures
+    = c.clock_of-clock.ensures.value
     ∙ ap (λ (xs : List g.row.N.Denot). slice_index (map kind.clock (map g.N.Node.plain xs)) c.args.i)
     c.deref-2.ensures.value in
     let early : clock_at kind p c.args.i < c.quiet_end-quiet.result
@@ -66,7 +66,7 @@ returns-then-clock-quiet-clause-rises g c =
     = c.was_of-was.ensures ∙ ap (λ (xs : List g.row.N.Denot). slice_index (map kind.was (map g.N.Node.plain xs)) c.args.i)
     c.deref.ensures.value in
     let clock_is : c.clock_of-clock.result ≡ clock_at kind p c.args.i
-    = c.clock_of-clock.ensures
+    = c.clock_of-clock.ensures.value
     ∙ ap (λ (xs : List g.row.N.Denot). slice_index (map kind.clock (map g.N.Node.plain xs)) c.args.i)
     c.deref-2.ensures.value in
     let early : clock_at kind p c.args.i < c.quiet_end-quiet.result
@@ -101,7 +101,7 @@ turn_of-requires-clause-ordered g c =
     = c.deref-3.ensures.value
     ∙ due_known kind g.N.Node.plain now c.args.i c.was_of-was.result c.clock_of-clock.result
     c.args.sent.now c.deref.result.now c.deref-2.result.now c.gather.new.list.items c.requires.kept.1.sound refl
-    c.deref.ensures.value c.was_of-was.ensures c.deref-2.ensures.value c.clock_of-clock.ensures c.gather.ensures.due in
+    c.deref.ensures.value c.was_of-was.ensures c.deref-2.ensures.value c.clock_of-clock.ensures.value c.gather.ensures.due in
     let go = due_may_go kind g.N.Node.plain now c.args.i c.deref-3.result.now c.requires.kept.0
     (vec_capacity c.args.due.now) c.requires.kept.1 c.requires.least told in
     go.0
@@ -119,7 +119,7 @@ turn_of-requires-clause-taken g c =
     = c.deref-3.ensures.value
     ∙ due_known kind g.N.Node.plain now c.args.i c.was_of-was.result c.clock_of-clock.result
     c.args.sent.now c.deref.result.now c.deref-2.result.now c.gather.new.list.items c.requires.kept.1.sound refl
-    c.deref.ensures.value c.was_of-was.ensures c.deref-2.ensures.value c.clock_of-clock.ensures c.gather.ensures.due in
+    c.deref.ensures.value c.was_of-was.ensures c.deref-2.ensures.value c.clock_of-clock.ensures.value c.gather.ensures.due in
     let go = due_may_go kind g.N.Node.plain now c.args.i c.deref-3.result.now c.requires.kept.0
     (vec_capacity c.args.due.now) c.requires.kept.1 c.requires.least told in
     go.1
@@ -147,7 +147,7 @@ returns-clause-goes g c =
     = c.deref-3.ensures.value
     ∙ due_known kind g.N.Node.plain now c.args.i c.was_of-was.result c.clock_of-clock.result
     c.args.sent.now c.deref.result.now c.deref-2.result.now c.gather.new.list.items c.requires.kept.1.sound refl
-    c.deref.ensures.value c.was_of-was.ensures c.deref-2.ensures.value c.clock_of-clock.ensures c.gather.ensures.due in
+    c.deref.ensures.value c.was_of-was.ensures c.deref-2.ensures.value c.clock_of-clock.ensures.value c.gather.ensures.due in
     let placed : Placed kind c.args.i c.args.end p (map g.N.Node.plain c.turn_of.new.nodes.items) c.turn_of.result
     = turned_placed kind law c.args.i c.args.end p c.deref-3.result.now (map g.N.Node.plain c.turn_of.new.nodes.items)
     c.turn_of.result below c.requires.early told c.turn_of.ensures.node c.turn_of.ensures.signal in
@@ -176,7 +176,7 @@ returns-clause-rises g c =
     = c.deref-3.ensures.value
     ∙ due_known kind g.N.Node.plain now c.args.i c.was_of-was.result c.clock_of-clock.result
     c.args.sent.now c.deref.result.now c.deref-2.result.now c.gather.new.list.items c.requires.kept.1.sound refl
-    c.deref.ensures.value c.was_of-was.ensures c.deref-2.ensures.value c.clock_of-clock.ensures c.gather.ensures.due in
+    c.deref.ensures.value c.was_of-was.ensures c.deref-2.ensures.value c.clock_of-clock.ensures.value c.gather.ensures.due in
     let placed : Placed kind c.args.i c.args.end p (map g.N.Node.plain c.turn_of.new.nodes.items) c.turn_of.result
     = turned_placed kind law c.args.i c.args.end p c.deref-3.result.now (map g.N.Node.plain c.turn_of.new.nodes.items)
     c.turn_of.result below c.requires.early told c.turn_of.ensures.node c.turn_of.ensures.signal in

@@ -46,7 +46,7 @@ turn_of-signal-requires-clause-ordered g c =
     = due_known kind g.N.Node.plain now c.least_of-i.result c.was_of-was.result c.clock_of-clock.result
     _ _ _ c.gather.new.list.items c.self.invariant.sound c.deref-4.ensures.value c.deref-2.ensures.value
     c.was_of-was.ensures
-    c.deref-3.ensures.value c.clock_of-clock.ensures c.gather.ensures.due in
+    c.deref-3.ensures.value c.clock_of-clock.ensures.value c.gather.ensures.due in
     let told : c.deref-5.result.now ≡ due_at kind (plain_cut g.N.Node.plain now) c.least_of-i.result =
     c.deref-5.ensures.value ∙ due_is in
     (due_may_go kind g.N.Node.plain now c.least_of-i.result c.deref-5.result.now _ _ c.self.invariant least_is told).0
@@ -66,7 +66,7 @@ turn_of-signal-requires-clause-taken g c =
     = due_known kind g.N.Node.plain now c.least_of-i.result c.was_of-was.result c.clock_of-clock.result
     _ _ _ c.gather.new.list.items c.self.invariant.sound c.deref-4.ensures.value c.deref-2.ensures.value
     c.was_of-was.ensures
-    c.deref-3.ensures.value c.clock_of-clock.ensures c.gather.ensures.due in
+    c.deref-3.ensures.value c.clock_of-clock.ensures.value c.gather.ensures.due in
     let told : c.deref-5.result.now ≡ due_at kind (plain_cut g.N.Node.plain now) c.least_of-i.result =
     c.deref-5.ensures.value ∙ due_is in
     (due_may_go kind g.N.Node.plain now c.least_of-i.result c.deref-5.result.now _ _ c.self.invariant least_is told).1
@@ -91,7 +91,7 @@ invariant_of-self g c =
     = due_known kind g.N.Node.plain now c.least_of-i.result c.was_of-was.result c.clock_of-clock.result
     _ _ _ c.gather.new.list.items c.self.invariant.sound c.deref-4.ensures.value c.deref-2.ensures.value
     c.was_of-was.ensures
-    c.deref-3.ensures.value c.clock_of-clock.ensures c.gather.ensures.due in
+    c.deref-3.ensures.value c.clock_of-clock.ensures.value c.gather.ensures.due in
     let told : c.deref-5.result.now ≡ due_at kind (plain_cut g.N.Node.plain now) c.least_of-i.result =
     c.deref-5.ensures.value ∙ due_is in
     let law : IsLawful kind = record {
@@ -137,7 +137,7 @@ returns-clause-step g c =
     = due_known kind g.N.Node.plain now c.least_of-i.result c.was_of-was.result c.clock_of-clock.result
     _ _ _ c.gather.new.list.items c.self.invariant.sound c.deref-4.ensures.value c.deref-2.ensures.value
     c.was_of-was.ensures
-    c.deref-3.ensures.value c.clock_of-clock.ensures c.gather.ensures.due in
+    c.deref-3.ensures.value c.clock_of-clock.ensures.value c.gather.ensures.due in
     let told : c.deref-5.result.now ≡ due_at kind (plain_cut g.N.Node.plain now) c.least_of-i.result =
     c.deref-5.ensures.value ∙ due_is in
     let law : IsLawful kind = record {
