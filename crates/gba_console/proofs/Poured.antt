@@ -12,9 +12,13 @@ use Rattle.gba_io.specs.declared.pouring.BoardParts.{BoardParts}
 use Rattle.gba_ppu_reg.specs.Position.{IsPosition}
 use Rattle.gba_serial.specs.SerialUnit.{SerialUnit}
 use Rattle.gba_io.proofs.Drawing.{early-is}
-use Rattle.gba_console.specs.Machine.{first_on}
-use Rattle.gba_console.specs.Pouring.{CanPour, Rests, board_poured_at}
+use Rattle.gba_console.specs.Machine.{Machine, first_on}
+use Rattle.gba_console.specs.Pouring.{CanPour, IsSameFrame, PoursAgain, Rests, board_poured_at, parts_of}
+use Rattle.gba_console.specs.Shorn.{shorn}
 use Rattle.gba_console.specs.Waiting.{IsKept, IsResting, IsSound}
+use Rattle.gba_console.specs.declared.doing.What.TheVariants.{Nothing}
+use Rattle.gba_console.specs.declared.keys.KeyState.{KeyState}
+use Rattle.gba_mem.specs.Memories.{Memories}
 use Rattle.gba_console.proofs.Images.{HasImages}
 
 poured-sound : (off was until : ℕ) (parts : BoardParts) (lines : List (List ℕ)) (b : Board) → CanPour off was until parts lines
@@ -122,3 +126,51 @@ poured-images devices serial lines b after e = record {
   bios = ap (λ (c : Core). c.memory.bios) e;
   rom = ap (λ (c : Core). c.memory.rom) e;
 }
+
+-- What is poured makes a console again, but for what no step looks at: by the memories, the key changes, the clock to be off
+-- below and what is kept of another one.
+framed : Memories → List KeyState → ℕ → Bool → Bool → Bool → Machine → Machine
+framed memory keys off frames samples words m = record m {
+  keys = keys;
+  off = off;
+  board = record m.board {
+    core = record m.board.core { memory = memory };
+    made = record m.board.made { keeps_frames = frames; keeps_samples = samples };
+    ended = record m.board.ended { keeps_words = words };
+  };
+}
+
+again-by : (test : Bool) (until : ℕ) (start m : Machine)
+    → shorn (record start {
+      registers = m.registers;
+      board =
+          (let poured = board_poured (parts_of m).board m.board.core.lines until start.board in
+          if test then board_begun_at (first_on start.off) until poured else poured);
+      applied = m.applied;
+      was = m.was;
+      last = Nothing;
+    })
+    ≡ shorn (framed start.board.core.memory start.keys start.off start.board.made.keeps_frames start.board.made.keeps_samples
+    start.board.ended.keeps_words m)
+unfolding framed
+again-by true until start m = refl
+again-by false until start m = refl
+
+framed-same : (start m : Machine) → IsSameFrame start m
+    → framed start.board.core.memory start.keys start.off start.board.made.keeps_frames start.board.made.keeps_samples
+    start.board.ended.keeps_words m ≡ m
+unfolding framed
+framed-same start m same =
+    let made = start.board.made in
+    let words = start.board.ended.keeps_words in
+    ap (λ (x : Memories). framed x start.keys start.off made.keeps_frames made.keeps_samples words m) same.memory
+    ∙ ap (λ (x : List KeyState). framed m.board.core.memory x start.off made.keeps_frames made.keeps_samples words m) same.keys
+    ∙ ap (λ (x : ℕ). framed m.board.core.memory m.keys x made.keeps_frames made.keeps_samples words m) same.off
+    ∙ ap (λ (x : Bool). framed m.board.core.memory m.keys m.off x made.keeps_samples words m) same.frames
+    ∙ ap (λ (x : Bool). framed m.board.core.memory m.keys m.off m.board.made.keeps_frames x words m) same.samples
+    ∙ ap (λ (x : Bool). framed m.board.core.memory m.keys m.off m.board.made.keeps_frames m.board.made.keeps_samples x m)
+    same.words
+
+pub poured-again : PoursAgain
+poured-again until start m same =
+    again-by (nat_lt m.board.core.devices.clock start.off) until start m ∙ ap shorn (framed-same start m same)

@@ -8,6 +8,7 @@ use Rattle.gba_io.specs.declared.pouring.BoardParts.{BoardParts}
 use Rattle.gba_flash.specs.declared.machine.FlashMachine.{FlashMachine}
 use Rattle.gba_mem.specs.declared.part.MemoryPart.{MemoryPart}
 use Rattle.gba_console.specs.Machine.{Machine, first_on}
+use Rattle.gba_console.specs.Shorn.{shorn}
 use Rattle.gba_console.specs.declared.doing.What.TheVariants.{Nothing}
 use Rattle.gba_console.specs.declared.pouring.ConsoleParts.{ConsoleParts}
 
@@ -65,3 +66,31 @@ machine_cleared m = record m { board = record m.board { core = core_cleared m.bo
 abbrev pub machine_with_flash : FlashMachine → Machine → Machine
 machine_with_flash machine m =
     record m { board = record m.board { core = core_with_machine machine m.board.core } }
+
+-- the parts of a console
+abbrev pub parts_of : Machine → ConsoleParts
+parts_of m = record {
+  registers = m.registers;
+  board = record {
+    devices = m.board.core.devices;
+    serial = m.board.core.serial;
+    counts = record { frames = m.board.made.frame_count; samples = m.board.made.pairs; words = m.board.ended.count };
+  };
+  applied = m.applied;
+  was = m.was;
+}
+
+-- two consoles have the same memories, key changes and clock to be off below, and keep the same lists
+pub record IsSameFrame (one other : Machine) : Type 0 where
+  pub memory : one.board.core.memory ≡ other.board.core.memory
+  pub keys : one.keys ≡ other.keys
+  pub off : one.off ≡ other.off
+  pub frames : one.board.made.keeps_frames ≡ other.board.made.keeps_frames
+  pub samples : one.board.made.keeps_samples ≡ other.board.made.keeps_samples
+  pub words : one.board.ended.keeps_words ≡ other.board.ended.keeps_words
+
+-- The parts and lines of a console make it again of such a one, but for what no step looks at.
+abbrev pub PoursAgain : Type 0
+PoursAgain =
+    (until : ℕ) (start m : Machine) → IsSameFrame start m
+    → shorn (machine_poured (parts_of m) m.board.core.lines until start) ≡ shorn m

@@ -9,6 +9,7 @@ ghost use Rattle.gba_console.specs.Counted.{CountsAlways};
 ghost use Rattle.gba_console.specs.Linked.{RecordsEnds, StartsLinked, console_view};
 ghost use Rattle.gba_console.specs.Machine.{Machine, forgotten};
 ghost use Rattle.gba_console.specs.Passing.{ActsPass};
+ghost use Rattle.gba_console.specs.Pouring.{PoursAgain};
 ghost use Rattle.gba_console.specs.Run.{IsEnough, Reaches, StepPasses};
 ghost use Rattle.gba_console.specs.Segments.{ForgetsSoundly, LiveSegments, Segments, behind, behind_if};
 ghost use Rattle.gba_console.specs.Shorn.{TellsAlike, shorn};
@@ -135,6 +136,12 @@ pub fn forgets()
 pub fn shorn_unseen()
     ensures unseen { IsUnseen console_kind (λ i. shorn) (λ i. shorn) }
     ensures tells { TellsAlike }
+{}
+
+/// The parts and the lines of a console, poured into one with the same memories, key changes and clock to be off below that keeps
+/// the same lists, make it again, but for what no step sees.
+pub fn pours_again()
+    ensures { PoursAgain }
 {}
 
 /// A run in two segments, between which the lists are emptied, is the whole run: but for the lists, and each list of the
