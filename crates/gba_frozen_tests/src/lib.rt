@@ -6,6 +6,8 @@ mod files;
 #[cfg(test)]
 mod keeping;
 #[cfg(test)]
+mod laws;
+#[cfg(test)]
 mod numbers;
 #[cfg(test)]
 mod others;

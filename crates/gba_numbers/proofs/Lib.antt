@@ -1,2 +1,3 @@
 pub mod ByPlace
 pub mod Setting
+pub mod OwnPlaces

@@ -21,6 +21,6 @@ pub record SetsOne : Type 0 where
   pub whole : (place value : ℕ) (n : ConsoleNumbers) → place < 234 → AreWhole n
       → (place ≡ length_a → value ≤ 32) → (place ≡ length_b → value ≤ 32) → AreWhole (with_at place value n)
 
--- no two numbers have one place, and no two places one number
+-- no two numbers have the same place
 abbrev pub HaveOwnPlaces : Type 0
 HaveOwnPlaces = (one other : Field) → is_field one ≡ true → is_field other ≡ true → place_of one ≡ place_of other → one ≡ other
