@@ -10,6 +10,11 @@ pub trait Gate {
     fn is_open(&self) -> bool {
         false
     }
+
+    /// Whether so many consoles can run side by side now, each on a processor that nobody else wants. No result depends on it.
+    fn has_room(&self, _consoles: usize) -> bool {
+        true
+    }
 }
 
 /// A gate that does nothing. It is open.

@@ -7,11 +7,13 @@
 
 mod gate;
 pub mod laws;
+mod load;
 mod memory;
 mod outside;
 mod system;
 
 pub use gate::{Gate, NoGate};
+pub use load::{SystemGate, running_threads};
 pub use memory::{MemorySink, MemoryStore, StoredFile};
 pub use outside::{ReadError, Sink, Store, WriteError};
 pub use system::{FileStore, StdSink};

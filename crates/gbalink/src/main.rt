@@ -2,7 +2,7 @@
 //! The program: the real store and sink, and the words after its name.
 
 use gba_link::gba_link;
-use gba_store::{FileStore, NoGate, StdSink};
+use gba_store::{FileStore, StdSink, SystemGate};
 use std::env;
 use std::fs::File;
 use std::io::{self, ErrorKind};
@@ -53,6 +53,6 @@ fn main(rt: HostRuntime) -> ExitCode {
         words.as_slice(),
         &mut store,
         &mut out,
-        &NoGate,
+        &SystemGate::new(rt),
     ))
 }

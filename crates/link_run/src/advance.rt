@@ -18,7 +18,7 @@ const POLLS: u32 = 1;
 const TURNS: u32 = 4096;
 
 /// The most looks in vain that a lane may have left. One takes some 20 ns.
-const MOST: u64 = 1 << 19;
+const MOST: u64 = 1 << 22;
 
 /// So many cycles that the other lanes make beside it give a lane one more look.
 const CYCLES: u64 = 12;
@@ -72,7 +72,7 @@ fn wait<N: Node>(shared: &Shared<N>, pause: Pause, looks: u64) -> u64
 
 /// The looks that a lane has left after so many cycles, beside which each other one of so many lanes makes as many.
 fn earn(looks: u64, cycles: u64, lanes: u32) -> u64
-    ensures most { result ≤ 524288 }
+    ensures most { result ≤ 4194304 }
 {
     let others = cycles.saturating_mul(u64::from(lanes.saturating_sub(1)));
     looks.saturating_add(others / CYCLES).min(MOST)

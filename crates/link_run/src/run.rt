@@ -22,7 +22,7 @@ const SHORTEST: u64 = 512;
 const NEAREST: u64 = 256;
 
 /// How many looks in vain a lane has when a round begins.
-const LOOKS: u64 = 1 << 14;
+const LOOKS: u64 = 1 << 21;
 
 /// The same where there are fewer processors than lanes.
 const FEW_LOOKS: u64 = 1 << 10;
@@ -186,7 +186,8 @@ fn go_on<R: Threads + Sync, N: Node + Send + Sync, G: Gate + Sync>(
 /// Runs a cut until every clock is at least `until`: by rounds of lanes on threads, and after each round by a stretch of
 /// the global order, which is the longer the less the round was worth. It comes to the cut that the global order makes,
 /// however the threads are scheduled. A node alone has nobody to run beside and goes straight through; so do nodes of
-/// which two have a way there and back below 512 cycles, and the rest of a run for which no memory is left. Only a lane's
+/// which two have a way there and back below 512 cycles, nodes for which the gate has no room at the start, and the rest of a
+/// run for which no memory is left. Only a lane's
 /// steps enter the gate: what the global order steps doesn't, between the rounds neither.
 pub fn run_to<R: Threads + Sync, N: Node + Send + Sync, G: Gate + Sync>(
     rt: &R,
@@ -204,7 +205,7 @@ pub fn run_to<R: Threads + Sync, N: Node + Send + Sync, G: Gate + Sync>(
 {
     let mut cut = cut;
     let players = cut.nodes().len();
-    if players == 1 || shortest_way(cut.delays(), players) < SHORTEST {
+    if players == 1 || shortest_way(cut.delays(), players) < SHORTEST || !gate.has_room(players) {
         cut.run_serial(until);
         return cut;
     }
