@@ -20,6 +20,8 @@ mod reading;
 #[cfg(test)]
 mod spelling;
 #[cfg(test)]
+mod still;
+#[cfg(test)]
 mod walk;
 #[cfg(test)]
 mod whole;

@@ -35,7 +35,7 @@ use Rattle.gba_frozen_text.specs.Text.{board_rows, drawn_of, last_rows, memory_o
 use Rattle.gba_frozen_text.proofs.Feeds.{drawn-fed, memory-fed, queue-fed, wave-fed}
 use Rattle.gba_frozen_text.proofs.Chain.{Reads, Step, reads_both, reads_more, reads_none, step}
 use Rattle.gba_frozen_text.proofs.Ranges.{Fit}
-use Rattle.gba_frozen_text.proofs.Rows.{Follow, board-follow, last-follow, processor-follow, row-step, rows-read, tones-follow}
+use Rattle.gba_frozen_text.proofs.RowChains.{Follow, board-follow, last-follow, processor-follow, row-step, rows-read, tones-follow}
 
 -- the first word of a line
 pub first-joined : (word : List ℕ) (words : List (List ℕ)) → list_all no_space word ≡ true → first_word (pieces (joined word words)) ≡ word

@@ -17,11 +17,11 @@ use Rattle.gba_frozen.specs.declared.places.MemoryPlace.{MemoryPlace}
 use Rattle.gba_frozen.specs.declared.places.Slot.TheVariants.{Drawn, Fixed, Memory, Queue, Wave}
 use Rattle.gba_frozen.specs.declared.rows.Row.TheVariants as row
 use Rattle.gba_frozen_text.specs.Laws.{AreFrozen}
-use Rattle.gba_frozen_text.specs.Text.{board_rows, console_says, drawn_of, last_rows, memory_of, processor_rows, queue_of, row_of, rows_behind, tone_rows}
+use Rattle.gba_frozen_text.specs.Text.{board_rows, console_says, drawn_of, last_rows, memory_of, numbers_say, processor_rows, queue_of, row_of, rows_behind, tone_rows}
 use Rattle.gba_frozen_text.proofs.Chain.{drafted}
 use Rattle.gba_frozen_text.proofs.Consoles.{behind_heading}
 use Rattle.gba_frozen_text.proofs.Filling.{bytes-filled, firsts, firsts-count, keep-one, partly, row_start, set-joined, set-one, value-single}
-use Rattle.gba_frozen_text.proofs.Rows.{AllInner, Follow, Inner, board-follow, inner-drafted, inner_both, inner_more, inner_none, last-follow, processor-follow, row-inner, rows-filled, rows-inner, tones-follow, with_lines, with_lines-both}
+use Rattle.gba_frozen_text.proofs.RowChains.{AllInner, Follow, Inner, board-follow, inner-drafted, inner_both, inner_more, inner_none, last-follow, processor-follow, row-inner, rows-filled, rows-inner, tones-follow, with_lines, with_lines-both}
 
 -- one list of lines behind another
 both : (one other : List Said) (c d e : ConsoleDraft) → with_lines one c ≡ d → with_lines other d ≡ e → with_lines (one ++ other) c ≡ e
@@ -318,7 +318,7 @@ behind-inner backup player c =
 
 pub console-drafted : (until : ℕ) (backup : Backup) (player : ℕ) (c : ConsoleDraft) (d : Draft) → AreFrozen until backup c.numbers
     → drafted (console_says backup player c) d ≡ record d { consoles = d.consoles ++ c ∷ [] }
-unfolding console_says drafted with_said
+unfolding console_says numbers_say drafted with_said
 console-drafted until backup player c d are =
     inner-drafted (behind_heading backup player c) d d.consoles console_at_first (behind-inner backup player c)
     ∙ ap (λ (e : ConsoleDraft). record d { consoles = d.consoles ++ e ∷ [] }) (behind-filled backup player c are.whole are.no_flash)

@@ -2,8 +2,10 @@ pub mod Feeds
 pub mod Chain
 pub mod Filling
 pub mod Ranges
-pub mod Rows
+pub mod RowChains
 pub mod Consoles
 pub mod Drafts
 pub mod Whole
 pub mod MemoryRows
+pub mod Printing
+pub mod First

@@ -93,7 +93,7 @@ field-small console.FlashArmed value h = grind (arith, nat_tests)
 field-small console.FlashIdentify value h = grind (arith, nat_tests)
 field-small console.FlashBank value h = grind (arith, nat_tests)
 
-spellable : (which : Row) (part value : ℕ) → part < count_of which → field_fits (field_of which part) value ≡ true
+pub spellable : (which : Row) (part value : ℕ) → part < count_of which → field_fits (field_of which part) value ≡ true
     → is_spellable (spelling_of which) value ≡ true
 unfolding spelling_of count_of field_of field_fits board_fits
 spellable row.Heading part value p h = absurd (omega arith)

@@ -22,7 +22,7 @@ use Rattle.gba_frozen_print.specs.Printed.{digest_text, end_text, ended, long_di
 use Rattle.gba_frozen_print.proofs.LinesAgain.{digest-again, signals-again}
 use Rattle.gba_frozen_read.specs.Thawed.{with_next}
 use Rattle.gba_frozen_text.specs.Laws.{AreConsoles, AreSent, FilesAgain, IsWhole}
-use Rattle.gba_frozen_text.specs.Text.{console_says, consoles_say, frozen_lines, frozen_text, live_of, said_line, text_of}
+use Rattle.gba_frozen_text.specs.Text.{console_says, consoles_say, frozen_lines, frozen_text, live_of, numbers_say, said_line, text_of}
 use Rattle.gba_frozen_text.proofs.Feeds.{digest-fed, signal-fed}
 use Rattle.gba_frozen_text.proofs.Chain.{Reads, Step, drafted, drafted-both, lines-read, one-line, reads_both, reads_more, reads_none, step}
 use Rattle.gba_frozen_text.proofs.Consoles.{behind_heading, body-read, first-joined, heading-step, last_drawn}
@@ -47,7 +47,7 @@ consoles-read : (setup : Setup) (from : Place) (player : ℕ) (c : ConsoleDraft)
     → player + suc (length consoles) ≡ setup.consoles → setup.consoles ≤ 4 → AreConsoles setup player (c ∷ consoles)
     → place_for setup (pieces (row_line row.Heading [])) from ≡ placed player (Fixed row.Heading)
     → (last : Option ℕ) × Reads setup from (consoles_say setup player (c ∷ consoles)) (placed (player + length consoles) (Drawn last))
-unfolding AreConsoles consoles_say console_says
+unfolding AreConsoles consoles_say console_says numbers_say
 consoles-read setup from player c [] sum few are begin =
     let last = last_drawn None c.drawn in
     let one : Reads setup from (Values row.Heading [] ∷ behind_heading (backup_of setup player) player c) (placed player (Drawn last)) =

@@ -1,5 +1,5 @@
 -- The lines of memories, and the memories that lines make.
-use Rattle.std.specs.Prelude.{◌≡◌, ℕ, zero, suc, ◌+◌, ◌/◌, ◌==◌, List, [], ◌∷◌, ◌++◌, length, take, drop, replicate, None, if◌then◌else◌}
+use Rattle.std.specs.Prelude.{◌≡◌, ℕ, zero, suc, ◌+◌, ◌/◌, ◌==◌, List, [], ◌∷◌, ◌++◌, length, take, drop, map, replicate, None, if◌then◌else◌}
 use Rattle.gba_image.specs.declared.backup.Backup.{Backup}
 use Rattle.gba_numbers.specs.declared.names.MemoryName.{MemoryName}
 use Rattle.gba_numbers.specs.declared.names.MemoryName.TheVariants as memory
@@ -7,7 +7,9 @@ use Rattle.gba_frozen.specs.Lines.{all_zero}
 use Rattle.gba_frozen.specs.Places.{memory_length, memory_order}
 use Rattle.gba_frozen.specs.declared.places.MemoryPlace.{MemoryPlace}
 use Rattle.gba_frozen_print.specs.Laws.{AreBelow}
+use Rattle.gba_frozen_print.specs.Printed.{ended, memory_text}
 use Rattle.gba_frozen_text.specs.Laws.{AreRows}
+use Rattle.gba_frozen_text.specs.Text.{memory_of, says_text}
 
 -- so many lines of 32 bytes of a memory, from an offset on: those of 32 bytes 0 are left out
 unfoldable pub rows_in : MemoryName → ℕ → ℕ → List ℕ → List (MemoryPlace × List ℕ)
@@ -15,6 +17,14 @@ rows_in name offset zero bytes = []
 rows_in name offset (suc count) bytes =
     if all_zero (take 32 bytes) then rows_in name (offset + 32) count (drop 32 bytes)
     else (record { name = name; offset = offset }, take 32 bytes) ∷ rows_in name (offset + 32) count (drop 32 bytes)
+
+-- the line of 32 bytes with its line feed, where they aren't all 0
+unfoldable pub row_text : MemoryPlace → List ℕ → List ℕ
+row_text place bytes = if all_zero bytes then [] else ended (memory_text place bytes)
+
+-- the lines of a memory
+abbrev pub memory_lines_text : MemoryName → List ℕ → List ℕ
+memory_lines_text name bytes = says_text (map memory_of (rows_in name 0 (length bytes / 32) bytes))
 
 unfoldable pub rows_of : Backup → (MemoryName → List ℕ) → MemoryName → List (MemoryPlace × List ℕ)
 rows_of backup bytes name = rows_in name 0 (memory_length backup name / 32) (bytes name)

@@ -55,18 +55,19 @@ memory_of line = MemoryBytes line.0 line.1
 abbrev pub drawn_of : ℕ × List ℕ → Said
 drawn_of line = Colours line.0 line.1
 
-unfoldable pub console_says : Backup → ℕ → ConsoleDraft → List Said
-console_says backup player c =
-    let n = c.numbers in
+-- before its memories
+unfoldable pub numbers_say : ℕ → ConsoleNumbers → List Said
+numbers_say player n =
     Values row.Heading [] ∷ Values (row.Console player) []
     ∷ (map (row_of n) processor_rows
     ++ queue_of n 0 n.queue_a ∷ queue_of n 1 n.queue_b ∷ []
     ++ map (row_of n) tone_rows
     ++ WaveBytes 0 n.wave0 ∷ WaveBytes 1 n.wave1 ∷ []
-    ++ map (row_of n) board_rows
-    ++ map memory_of c.memory
-    ++ map (row_of n) (rows_behind backup)
-    ++ map drawn_of c.drawn)
+    ++ map (row_of n) board_rows)
+
+unfoldable pub console_says : Backup → ℕ → ConsoleDraft → List Said
+console_says backup player c =
+    numbers_say player c.numbers ++ map memory_of c.memory ++ map (row_of c.numbers) (rows_behind backup) ++ map drawn_of c.drawn
 
 unfoldable pub consoles_say : Setup → ℕ → List ConsoleDraft → List Said
 consoles_say setup player [] = []
@@ -90,6 +91,10 @@ said_line (Live sender signal) = signal_text sender signal
 unfoldable pub text_of : List (List ℕ) → List ℕ
 text_of [] = []
 text_of (line ∷ lines) = ended line ++ text_of lines
+
+-- the lines that say these, one behind another
+abbrev pub says_text : List Said → List ℕ
+says_text says = text_of (map said_line says)
 
 -- The file of a draft: the first two lines, those of its consoles, its live signals, and the last line.
 unfoldable pub frozen_lines : Setup → Draft → List (List ℕ)
