@@ -2,9 +2,8 @@
 use Rattle.std.proofs.Common.{◌≡◌, ℕ, suc, ◌+◌, ◌*◌, ◌/◌, ◌%◌, ◌<◌, List, [], ◌∷◌, ◌++◌, length, take, drop, get_or, refl, sym, ap, ◌∙◌, append_assoc, add-one, drop-cons, arith}
 use Rattle.gba_frozen.specs.declared.rows.Row.TheVariants as row
 use Rattle.gba_io.specs.Core.{Core, core_half_stored}
-use Rattle.gba_numbers.specs.declared.names.MemoryName.{MemoryName}
 use Rattle.gba_output.specs.Rows.{line}
-use Rattle.gba_output.specs.StateFile.{io_bytes, register_lines, memory_line, memory_lines}
+use Rattle.gba_output.specs.StateFile.{io_bytes, register_lines}
 
 -- what is left of the lines is the next one and what is left after it
 pub register_lines-more : (values : List ℕ) (i : ℕ) → i < length values
@@ -24,16 +23,6 @@ register_lines-none register (value ∷ values) p = absurd (omega (arith, p))
 pub joined : (old new piece left rest all : List ℕ) → new ≡ old ++ piece → left ≡ piece ++ rest → old ++ left ≡ all → new ++ rest ≡ all
 joined old new piece left rest all grew split whole =
     ap (λ t. t ++ rest) grew ∙ append_assoc old piece rest ∙ ap (λ t. old ++ t) (sym split) ∙ whole
-
--- the lines of memory that are left are the next one and those after it
-pub memory_lines-more : (name : MemoryName) (left count offset : ℕ) (bytes : List ℕ) → left ≡ suc count
-    → memory_lines name left offset bytes ≡ memory_line name offset (take 32 (drop offset bytes)) ++ memory_lines name count (offset + 32) bytes
-unfolding memory_lines
-memory_lines-more name left count offset bytes is = ap (λ n. memory_lines name n offset bytes) is
-
-pub memory_lines-none : (name : MemoryName) (left offset : ℕ) (bytes : List ℕ) → left ≡ 0 → memory_lines name left offset bytes ≡ []
-unfolding memory_lines
-memory_lines-none name left offset bytes is = ap (λ n. memory_lines name n offset bytes) is
 
 -- the bytes of the I/O registers, one halfword after another
 pub io_bytes-none : (b : Core) → io_bytes 0 b ≡ []

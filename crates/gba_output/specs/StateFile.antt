@@ -1,15 +1,14 @@
-use Rattle.std.specs.Prelude.{ℕ, zero, suc, ◌+◌, ◌*◌, ◌/◌, ◌%◌, ◌==◌, Bool, List, [], ◌∷◌, ◌++◌, length, take, drop, codes, decimal, if◌then◌else◌}
-use Rattle.std.specs.List.{list_all}
+use Rattle.std.specs.Prelude.{ℕ, zero, suc, ◌+◌, ◌*◌, ◌/◌, ◌%◌, Bool, List, [], ◌∷◌, ◌++◌, codes, decimal}
 use Rattle.gba_console.specs.Machine.{Machine, clock_of}
 use Rattle.gba_devices.specs.Registers.{truth_number}
 use Rattle.gba_devices.specs.State.{Devices}
 use Rattle.gba_dma.specs.Channels.{channel_at}
 use Rattle.gba_dma.specs.declared.channel.Channel.{Channel}
 use Rattle.gba_frozen.specs.declared.rows.Row.TheVariants as row
-use Rattle.gba_frozen_print.specs.Printed.{ended, memory_text, queue_text, wave_text}
+use Rattle.gba_frozen_print.specs.Printed.{ended, queue_text, wave_text}
+use Rattle.gba_frozen_text.specs.Memories.{memory_lines_text}
 use Rattle.gba_io.specs.Core.{Core, core_half_stored}
 use Rattle.gba_mem.specs.Backups.{backup_bytes}
-use Rattle.gba_numbers.specs.declared.names.MemoryName.{MemoryName}
 use Rattle.gba_numbers.specs.declared.names.MemoryName.TheVariants as memory
 use Rattle.gba_ppu_reg.specs.Registers.{reference_of}
 use Rattle.gba_ppu_reg.specs.declared.position.Position.{Position}
@@ -95,24 +94,6 @@ unfoldable pub picture_lines : Devices → List ℕ
 picture_lines d =
     position_line d.place ++ affine_line 2 (reference_of 2 d.picture) ++ affine_line 3 (reference_of 3 d.picture)
 
--- The line of 32 bytes of a memory: its name, their offset as six digits, and the bytes. Where all the bytes are 0, there is no
--- line.
-unfoldable pub memory_row : MemoryName → ℕ → List ℕ → List ℕ
-memory_row name offset bytes = ended (memory_text (record { name = name; offset = offset }) bytes)
-
-abbrev pub memory_line : MemoryName → ℕ → List ℕ → List ℕ
-memory_line name offset bytes = if list_all (λ byte. byte == 0) bytes then [] else memory_row name offset bytes
-
--- so many of these lines, from an offset on
-unfoldable pub memory_lines : MemoryName → ℕ → ℕ → List ℕ → List ℕ
-memory_lines name zero offset bytes = []
-memory_lines name (suc count) offset bytes =
-    memory_line name offset (take 32 (drop offset bytes)) ++ memory_lines name count (offset + 32) bytes
-
--- the lines of a whole memory
-abbrev pub lines_of : MemoryName → List ℕ → List ℕ
-lines_of name bytes = memory_lines name (length bytes / 32) 0 bytes
-
 -- the bytes of so many of the I/O registers' halfwords, from 04000000h up: what is stored there, and of bits that are
 -- only read what they read
 unfoldable pub io_bytes : ℕ → Core → List ℕ
@@ -120,13 +101,13 @@ io_bytes zero b = []
 io_bytes (suc halves) b =
     io_bytes halves b ++ (core_half_stored (2 * halves) b % 256 ∷ core_half_stored (2 * halves) b / 256 ∷ [])
 
--- the lines of the memories that a state file has, the I/O registers first
+-- The lines of the memories that a state file has, the I/O registers first: 32 bytes each, without those of bytes 0.
 abbrev pub lines_of_memories : Core → List ℕ
 lines_of_memories b =
-    lines_of memory.Io (io_bytes 512 b)
-    ++ lines_of memory.Wram b.memory.work ++ lines_of memory.Iwram b.memory.inner
-    ++ lines_of memory.Palette b.memory.palette ++ lines_of memory.Vram b.memory.vram
-    ++ lines_of memory.Oam b.memory.oam
+    memory_lines_text memory.Io (io_bytes 512 b)
+    ++ memory_lines_text memory.Wram b.memory.work ++ memory_lines_text memory.Iwram b.memory.inner
+    ++ memory_lines_text memory.Palette b.memory.palette ++ memory_lines_text memory.Vram b.memory.vram
+    ++ memory_lines_text memory.Oam b.memory.oam
 
 -- the state file of a console
 abbrev pub state_file : Machine → List ℕ

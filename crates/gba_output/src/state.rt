@@ -1,12 +1,12 @@
 //! The state file, the save and the summary.
 
 ghost use Rattle.std.specs.Prelude.{◌≡◌, ◌+◌, ◌*◌, ◌/◌, ◌%◌, ◌≤◌, ◌<◌, ◌==◌, ◌++◌, [], ◌∷◌, decimal, length, drop, vec_len, vec_capacity};
-ghost use Rattle.std.specs.List.{list_all};
 ghost use Rattle.arrayvec.specs.ArrayVec.{array_vec_len};
 ghost use Rattle.gba_numbers.specs.declared.names.MemoryName.TheVariants as memory;
 ghost use Rattle.gba_frozen.specs.declared.rows.Row.TheVariants as row;
 ghost use Rattle.gba_output.specs.Rows.{line};
-ghost use Rattle.gba_output.specs.StateFile.{heading, io_bytes as io_bytes_of, lines_of, lines_of_memories, memory_line, memory_row, register_lines, save_file, state_file, summary_line};
+ghost use Rattle.gba_frozen_text.specs.Memories.{memory_lines_text};
+ghost use Rattle.gba_output.specs.StateFile.{heading, io_bytes as io_bytes_of, lines_of_memories, register_lines, save_file, state_file, summary_line};
 
 use crate::cable::add_cable_lines;
 use crate::devices::{add_channel_lines, add_picture_lines, add_queue_lines, add_timer_lines};
@@ -14,8 +14,8 @@ use crate::rows::{add_line, truth_number};
 use crate::tones::add_tone_lines;
 use arrayvec::ArrayVec;
 use gba_console::Console;
-use gba_frozen::{MemoryPlace, Row};
-use gba_frozen_print::add_memory;
+use gba_frozen::Row;
+use gba_frozen_text::add_memory_lines;
 use gba_io::{Core, MemoryName as Part};
 use gba_numbers::MemoryName;
 use gba_text::{Line, add_text};
@@ -30,9 +30,6 @@ pub const SAVE_ROOM: usize = 131_072;
 
 /// How many halfwords the I/O registers have.
 const IO_HALVES: u32 = 512;
-
-/// The bytes in a line of memory.
-const ROW: usize = 32;
 
 /// Adds bytes where there is room for them.
 pub(crate) fn add(into: &mut Vec<u8>, bytes: &[u8])
@@ -85,51 +82,6 @@ fn add_heading(into: &mut Vec<u8>, player: u32, clock: u64, halted: bool)
     add_line(into, Row::Halted, &[truth_number(halted)]);
 }
 
-fn is_zero(bytes: &[u8]) -> bool
-    ensures { result ≡ list_all (λ byte. byte == 0) bytes.now }
-{
-    bytes.iter().all(|byte| *byte == 0)
-}
-
-/// Adds the line of 32 bytes of memory.
-#[tactic(auto, unfolding(crate::specs::StateFile::memory_row))]
-fn add_memory_row(into: &mut Vec<u8>, name: MemoryName, offset: u32, bytes: &[u8])
-    requires whole { length bytes.now ≡ 32 }
-    requires room { vec_len into.old + 84 ≤ vec_capacity into.old }
-    ensures items { into.new.items ≡ into.old.items ++ memory_row name offset bytes.now }
-    ensures len { vec_len into.new ≤ vec_len into.old + 84 }
-    ensures room { vec_capacity into.old ≤ vec_capacity into.new }
-{
-    add_memory(into, MemoryPlace { name, offset }, bytes);
-}
-
-/// Adds the line of 32 bytes of memory, where they aren't all 0.
-fn add_memory_line(into: &mut Vec<u8>, name: MemoryName, offset: u32, bytes: &[u8])
-    requires whole { length bytes.now ≡ 32 }
-    requires room { vec_len into.old + 84 ≤ vec_capacity into.old }
-    ensures items { into.new.items ≡ into.old.items ++ memory_line name offset bytes.now }
-    ensures len { vec_len into.new ≤ vec_len into.old + 84 }
-    ensures room { vec_capacity into.old ≤ vec_capacity into.new }
-{
-    if !is_zero(bytes) {
-        add_memory_row(into, name, offset, bytes);
-    }
-}
-
-/// Adds the lines of a memory of at most 262,144 bytes.
-fn add_memory_lines(into: &mut Vec<u8>, name: MemoryName, bytes: &[u8])
-    requires most { length bytes.now ≤ 262144 }
-    requires room { vec_len into.old + 84 * (length bytes.now / 32) ≤ vec_capacity into.old }
-    ensures items { into.new.items ≡ into.old.items ++ lines_of name bytes.now }
-    ensures len { vec_len into.new ≤ vec_len into.old + 84 * (length bytes.now / 32) }
-    ensures room { vec_capacity into.old ≤ vec_capacity into.new }
-{
-    for line in 0..bytes.len() / ROW {
-        let offset = line * ROW;
-        add_memory_line(into, name, offset as u32, &bytes[offset..offset + ROW]);
-    }
-}
-
 /// Adds the bytes of a halfword, the low one first.
 fn add_half(bytes: &mut ArrayVec<u8, 1024>, half: u16)
     requires { array_vec_len bytes.old + 2 ≤ 1024 }
@@ -157,7 +109,7 @@ fn io_bytes(core: &Core) -> ArrayVec<u8, 1024>
 /// Adds the lines of the I/O registers.
 fn add_io_lines(into: &mut Vec<u8>, core: &Core)
     requires { vec_len into.old + 2688 ≤ vec_capacity into.old }
-    ensures items { into.new.items ≡ into.old.items ++ lines_of memory.Io (io_bytes_of 512 core.now) }
+    ensures items { into.new.items ≡ into.old.items ++ memory_lines_text memory.Io (io_bytes_of 512 core.now) }
     ensures len { vec_len into.new ≤ vec_len into.old + 2688 }
     ensures room { vec_capacity into.old ≤ vec_capacity into.new }
 {
