@@ -17,4 +17,5 @@ fn the_laws_are_stated() {
     gba_frozen_print::laws::signals_again();
     gba_frozen_text::laws::files_again();
     gba_frozen_text::laws::memories_again();
+    gba_frozen_text::laws::first_is_whole();
 }

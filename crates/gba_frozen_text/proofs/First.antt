@@ -1,17 +1,19 @@
 -- The numbers of a console at first may stand in a file.
-use Rattle.std.proofs.Common.{◌≡◌, ◌≢◌, ◌<◌, ◌≤◌, ℕ, zero, suc, ◌-◌, ◌==◌, Bool, true, false, cond, nat_le, nat_lt, inl, inr, [], refl, ap, sym, ◌∙◌, arith}
+use Rattle.std.proofs.Common.{◌≡◌, ◌≢◌, ◌<◌, ◌≤◌, ℕ, zero, suc, ◌-◌, ◌==◌, Bool, true, false, cond, nat_le, nat_lt, inl, inr, [], refl, ap, sym, ◌∙◌, arith, ◌+◌, ◌&&◌}
 use Rattle.std.specs.Prelude.{replicate, slice_index, slice_set}
-use Rattle.std.proofs.lemmas.Bool.{cases_lt, lt-ltb}
+use Rattle.std.proofs.lemmas.Bool.{cases_lt, le-leb, lt-ltb}
 use Rattle.std.proofs.lemmas.Bool.Decides.{nat_tests}
 use Rattle.std.proofs.lemmas.List.{get_or-set_other}
 use Rattle.gba_register.specs.Rows.{row_at}
 use Rattle.gba_timer.specs.Timers.{timer_rows}
 use Rattle.gba_numbers.specs.Fields.{is_board_field, is_field, place_of}
-use Rattle.gba_numbers.specs.Numbers.{numbers_at_first, value_at, value_of}
+use Rattle.gba_numbers.specs.Numbers.{AreWhole, numbers_at_first, value_at, value_of}
 use Rattle.gba_numbers.specs.Ranges.{board_fits, control_fits, field_fits, register_fits, tone_end}
 use Rattle.gba_numbers.specs.declared.fields.BoardField.TheVariants as board
 use Rattle.gba_numbers.specs.declared.fields.Field.{Field}
 use Rattle.gba_numbers.specs.declared.fields.Field.TheVariants.{Clock, Was, Applied, Register, Board, QueueByte, Frames, Samples, Words, FlashState, FlashArmed, FlashIdentify, FlashBank}
+use Rattle.gba_frozen.specs.Rows.{flash_field_of, in_time}
+use Rattle.gba_frozen_text.specs.Laws.{AreConsoles, AreDrawn, AreRows, AreSent, FirstIsWhole}
 use Rattle.gba_numbers.proofs.OwnPlaces.{have_own_places}
 
 -- what a number is at first, by its place
@@ -161,3 +163,68 @@ pub first-other : (field : Field) → is_field field ≡ true → (place_of fiel
 first-other field is apart =
     let number : first_number (place_of field) ≡ 0 = rw apart refl in
     (sym number ∙ sym (value-first (place_of field)), ap (field_fits field) (sym number) ∙ first-fits field is)
+
+-- and they may stand in a file
+first-timely : (until : ℕ) (field : Field) → in_time until field (value_of field numbers_at_first) ≡ true
+unfolding place_of
+first-timely until Clock = let none = value-first 0 in rw none (le-leb 0 (until + 511) (omega arith))
+first-timely until Was = let none = value-first 133 in rw none (le-leb 0 (until + 511) (omega arith))
+first-timely until Applied = refl
+first-timely until (Register n) = refl
+first-timely until (Board field) = refl
+first-timely until (QueueByte queue place) = refl
+first-timely until Frames = refl
+first-timely until Samples = refl
+first-timely until Words = refl
+first-timely until FlashState = refl
+first-timely until FlashArmed = refl
+first-timely until FlashIdentify = refl
+first-timely until FlashBank = refl
+
+first-fit : (until : ℕ) (field : Field) → is_field field ≡ true
+    → (field_fits field (value_of field numbers_at_first) && in_time until field (value_of field numbers_at_first)) ≡ true
+first-fit until field is =
+    let timely = first-timely until field in
+    let fits : field_fits field (value_of field numbers_at_first) ≡ true =
+    ap (field_fits field) (value-first (place_of field)) ∙ first-fits field is in
+    rw (fits, timely) refl
+
+first-flash : (part : ℕ) → part < 4 → value_of (flash_field_of part) numbers_at_first ≡ 0
+unfolding place_of
+first-flash zero h = value-first 129
+first-flash (suc zero) h = value-first 130
+first-flash (suc (suc zero)) h = value-first 131
+first-flash (suc (suc (suc zero))) h = value-first 132
+first-flash (suc (suc (suc (suc part)))) h = absurd (omega arith)
+
+first-whole : AreWhole numbers_at_first
+unfolding numbers_at_first
+first-whole = record {
+  values = refl;
+  queue_a = refl;
+  queue_b = refl;
+  short_a = omega arith;
+  short_b = omega arith;
+  wave0 = refl;
+  wave1 = refl;
+}
+
+pub first_is_whole : FirstIsWhole
+unfolding AreRows AreDrawn AreConsoles AreSent
+first_is_whole setup one digest bytes = record {
+  few = omega arith;
+  digest = digest;
+  bytes = bytes;
+  count = sym one;
+  last = sym one;
+  past = refl;
+  consoles = (
+    record {
+      numbers = record { whole = first-whole; fit = first-fit setup.until; no_flash = λ _. first-flash };
+      memory = tt;
+      drawn = tt;
+    },
+    tt,
+  );
+  sent = tt;
+}

@@ -10,8 +10,8 @@ use Rattle.gba_numbers.specs.Numbers.{AreWhole, ConsoleNumbers, value_of}
 use Rattle.gba_numbers.specs.Ranges.{field_fits}
 use Rattle.gba_numbers.specs.declared.fields.Field.{Field}
 use Rattle.gba_frozen.specs.Lines.{all_zero, drawn_end}
-use Rattle.gba_frozen.specs.Places.{backup_of, is_behind, is_below, is_row_place}
-use Rattle.gba_frozen.specs.Reading.{ConsoleDraft, Draft, frozen_language, judged, longest_file}
+use Rattle.gba_frozen.specs.Places.{backup_of, is_behind, is_below, is_row_place, placed}
+use Rattle.gba_frozen.specs.Reading.{ConsoleDraft, Draft, console_at_first, frozen_language, judged, longest_file}
 use Rattle.gba_frozen.specs.Rows.{flash_field_of, in_time}
 use Rattle.gba_frozen.specs.declared.kinds.Setup.{Setup}
 use Rattle.gba_frozen.specs.declared.places.MemoryPlace.{MemoryPlace}
@@ -72,3 +72,10 @@ abbrev pub FilesAgain : Type 0
 FilesAgain = (setup : Setup) (d : Draft) (whole_of : Draft → Option Draft) → IsWhole setup d
     → length (frozen_text setup d) ≤ longest_file
     → answer_of (frozen_language setup whole_of) (frozen_text setup d) ≡ judged (length (frozen_lines setup d)) (whole_of d)
+
+-- there is such a draft: one console as it is at first, without memories, drawn lines and signals
+abbrev pub draft_at_first : Draft
+draft_at_first = record { at = placed 0 Past; consoles = console_at_first ∷ []; sent = [] }
+
+abbrev pub FirstIsWhole : Type 0
+FirstIsWhole = (setup : Setup) → setup.consoles ≡ 1 → length setup.digest ≡ 32 → AreBelow 2 setup.digest → IsWhole setup draft_at_first

@@ -1,6 +1,6 @@
 //! Laws of whole files.
 
-ghost use Rattle.gba_frozen_text.specs.Laws.{FilesAgain};
+ghost use Rattle.gba_frozen_text.specs.Laws.{FilesAgain, FirstIsWhole};
 ghost use Rattle.gba_frozen_text.specs.Memories.{MemoriesAgain};
 
 /// A whole file that is printed comes to the draft that was printed, if that passes the test of the whole, whatever this is.
@@ -12,4 +12,9 @@ pub fn files_again()
 /// bytes 0.
 pub fn memories_again()
     ensures { MemoriesAgain }
+{}
+
+/// Such drafts there are: a job's one console as it is at first.
+pub fn first_is_whole()
+    ensures { FirstIsWhole }
 {}
