@@ -39,10 +39,6 @@ struct Cut {
     whole: bool,
 }
 
-const fn cut(nodes: [(u64, u64); 2], sent: &'static [(u32, u64)], whole: bool) -> Cut {
-    Cut { nodes, sent, whole }
-}
-
 /// Where the nodes of most rows are.
 const NEAR: [(u64, u64); 2] = [(300, 200), (290, 250)];
 
@@ -50,33 +46,113 @@ const NEAR: [(u64, u64); 2] = [(300, 200), (290, 250)];
 const FAR: [(u64, u64); 2] = [(901, 389), (290, 250)];
 
 static CUTS: [Cut; 20] = [
-    cut(NEAR, &[], true),
+    Cut {
+        nodes: NEAR,
+        sent: &[],
+        whole: true,
+    },
     // a last step that ends before it begins, one of 512 cycles and one of 513
-    cut([(300, 301), (290, 250)], &[], false),
-    cut([(712, 200), (690, 650)], &[], true),
-    cut([(713, 200), (690, 650)], &[], false),
+    Cut {
+        nodes: [(300, 301), (290, 250)],
+        sent: &[],
+        whole: false,
+    },
+    Cut {
+        nodes: [(712, 200), (690, 650)],
+        sent: &[],
+        whole: true,
+    },
+    Cut {
+        nodes: [(713, 200), (690, 650)],
+        sent: &[],
+        whole: false,
+    },
     // what the second node still sends arrives in the first one's last step, and before it
-    cut(FAR, &[], true),
-    cut([(901, 390), (290, 250)], &[], false),
-    cut([(290, 250), (901, 390)], &[], false),
+    Cut {
+        nodes: FAR,
+        sent: &[],
+        whole: true,
+    },
+    Cut {
+        nodes: [(901, 390), (290, 250)],
+        sent: &[],
+        whole: false,
+    },
+    Cut {
+        nodes: [(290, 250), (901, 390)],
+        sent: &[],
+        whole: false,
+    },
     // the second node took it in its last step, and it didn't
-    cut(NEAR, &[(0, 150)], false),
-    cut(NEAR, &[(0, 151)], true),
+    Cut {
+        nodes: NEAR,
+        sent: &[(0, 150)],
+        whole: false,
+    },
+    Cut {
+        nodes: NEAR,
+        sent: &[(0, 151)],
+        whole: true,
+    },
     // the sender has stepped since, and it hasn't
-    cut(NEAR, &[(0, 299)], true),
-    cut(NEAR, &[(0, 300)], false),
+    Cut {
+        nodes: NEAR,
+        sent: &[(0, 299)],
+        whole: true,
+    },
+    Cut {
+        nodes: NEAR,
+        sent: &[(0, 300)],
+        whole: false,
+    },
     // nobody's
-    cut(NEAR, &[(2, 200)], false),
+    Cut {
+        nodes: NEAR,
+        sent: &[(2, 200)],
+        whole: false,
+    },
     // the second node could still have stopped it
-    cut(FAR, &[(0, 389)], true),
-    cut(FAR, &[(0, 390)], false),
+    Cut {
+        nodes: FAR,
+        sent: &[(0, 389)],
+        whole: true,
+    },
+    Cut {
+        nodes: FAR,
+        sent: &[(0, 390)],
+        whole: false,
+    },
     // by clock, then by sender, and none twice
-    cut(NEAR, &[(0, 200), (1, 200)], true),
-    cut(NEAR, &[(1, 200), (0, 200)], false),
-    cut(NEAR, &[(0, 200), (0, 200)], false),
-    cut(NEAR, &[(0, 201), (0, 200)], false),
-    cut(NEAR, &[(0, 200), (0, 201), (1, 202)], true),
-    cut(NEAR, &[(0, 200), (1, 202), (0, 201)], false),
+    Cut {
+        nodes: NEAR,
+        sent: &[(0, 200), (1, 200)],
+        whole: true,
+    },
+    Cut {
+        nodes: NEAR,
+        sent: &[(1, 200), (0, 200)],
+        whole: false,
+    },
+    Cut {
+        nodes: NEAR,
+        sent: &[(0, 200), (0, 200)],
+        whole: false,
+    },
+    Cut {
+        nodes: NEAR,
+        sent: &[(0, 201), (0, 200)],
+        whole: false,
+    },
+    Cut {
+        nodes: NEAR,
+        sent: &[(0, 200), (0, 201), (1, 202)],
+        whole: true,
+    },
+    Cut {
+        nodes: NEAR,
+        sent: &[(0, 200), (1, 202), (0, 201)],
+        whole: false,
+    },
 ];
 
 #[test]
