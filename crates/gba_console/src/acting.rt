@@ -132,9 +132,8 @@ fn first_half(registers: &mut Registers, core: &mut Core, halves: &mut [KeptHalf
 {
     let address = registers.get(15);
     let half = half_at(core, address);
-    let kept = kept_at(core, address, half);
-    halves[place_of_half(address)] = kept;
-    thumb::execute_cold(registers, core, &kept.decoded)
+    halves[place_of_half(address)] = kept_at(core, address, half);
+    thumb::execute(registers, core, half)
 }
 
 /// Executes the instruction at r15, a halfword in Thumb state, and else a word, and tells which it was: what it was stands

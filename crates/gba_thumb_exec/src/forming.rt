@@ -7,7 +7,8 @@ ghost use Rattle.gba_thumb_exec.specs.Forms.{FormFits, branch_under, effect_of_f
 ghost use Rattle.gba_psr.specs.RegisterFile.{flags};
 
 use crate::Form;
-use crate::performing::{link_high, link_low, load_near, near_address};
+use crate::meaning::Meaning;
+use crate::performing::perform_meaning;
 use gba_arm_table::{ComputeOp, Condition};
 use gba_bus::{Bus, Width};
 use gba_exec_quick::{
@@ -19,7 +20,7 @@ use gba_exec_transfers::LoadUnit;
 use gba_psr::Registers;
 
 /// Performs a form and answers the cycles. r15 is the address of the next instruction. The common forms stand here, to be
-/// inlined where it is called.
+/// inlined where it is called; so it is called at one place.
 #[inline(always)]
 #[tactic(auto, unfolding(crate::specs::Forms::effect_of_form, gba_exec_quick::specs::Effects::effect_of_quick))]
 pub fn perform_form<B: Bus>(registers: &mut Registers, bus: &mut B, site: Site, one: &Form) -> u32
@@ -275,19 +276,20 @@ fn perform_rest<B: Bus>(registers: &mut Registers, bus: &mut B, site: Site, one:
         registers.new (B.state bus.new) result }
 {
     match *one {
-        Form::NearLoad { rd, words } => load_near(registers, bus, site, rd, words),
-        Form::NearAddress { rd, words } => {
-            registers.set(u32::from(rd), near_address(site, words));
-            code_price(bus, site, true)
-        }
-        Form::LinkHigh { n11 } => {
-            link_high(registers, site, n11);
-            code_price(bus, site, true)
-        }
-        Form::LinkLow { n11 } => {
-            link_low(registers, n11);
-            jump_price(bus, site)
-        }
+        Form::NearLoad { rd, words } => perform_meaning(
+            registers,
+            bus,
+            site,
+            Meaning::NearLoad { rd, words },
+        ),
+        Form::NearAddress { rd, words } => perform_meaning(
+            registers,
+            bus,
+            site,
+            Meaning::NearAddress { rd, words },
+        ),
+        Form::LinkHigh { n11 } => perform_meaning(registers, bus, site, Meaning::LinkHigh { n11 }),
+        Form::LinkLow { n11 } => perform_meaning(registers, bus, site, Meaning::LinkLow { n11 }),
         Form::BranchIf {
             condition,
             distance,

@@ -2,7 +2,7 @@
 
 ghost use Rattle.std.specs.Prelude.{◌≡◌, ◌<◌};
 ghost use Rattle.gba_arm_table.specs.Numbers.{condition_of};
-ghost use Rattle.gba_thumb_exec.specs.Meanings.{meaning_of as meaning_by};
+ghost use Rattle.gba_thumb_exec.specs.Meanings.{MeaningFits, meaning_of as meaning_by};
 ghost use Rattle.gba_thumb_table.specs.Limits.{Fits};
 
 use crate::operations::{
@@ -60,7 +60,8 @@ fn numbered_condition(number: u16) -> Condition
 /// What an operation means.
 pub fn meaning_of(op: ThumbOp) -> Meaning
     requires { Fits op }
-    ensures { result ≡ meaning_by op }
+    ensures value { result ≡ meaning_by op }
+    ensures fits { MeaningFits result }
 {
     let operation = match op {
         ThumbOp::Format1 { op, o5, rs, rd } => shift_by_constant(op, o5, rs, rd),
