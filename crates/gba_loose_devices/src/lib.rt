@@ -1,0 +1,17 @@
+#![tactic(auto)]
+//! Devices of the numbers that a frozen file has of a console, and of the bytes of its I/O registers. No command uses them yet.
+
+mod audio;
+mod cable;
+mod processor;
+mod units;
+mod values;
+mod video;
+mod whole;
+
+pub use audio::{sound, tones};
+pub use cable::serial;
+pub use processor::registers;
+pub use units::{channels, interrupts, keypad, timers};
+pub use video::{picture, place};
+pub use whole::{board, devices};
