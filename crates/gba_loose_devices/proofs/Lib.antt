@@ -1,3 +1,4 @@
 pub mod There
 pub mod Filling
 pub mod Places
+pub mod Checked

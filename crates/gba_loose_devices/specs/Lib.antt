@@ -4,3 +4,4 @@ pub mod Picture
 pub mod Sound
 pub mod Cable
 pub mod Whole
+pub mod Checks

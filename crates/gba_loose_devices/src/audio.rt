@@ -70,7 +70,7 @@ fn tone_field(place: u32) -> BoardField
 }
 
 /// The tones' numbers.
-fn tone_numbers(numbers: &Numbers) -> [u32; 33]
+pub(crate) fn tone_numbers(numbers: &Numbers) -> [u32; 33]
     ensures { result ≡ tone_numbers_of numbers.now }
 {
     let mut values = [0; 33];
@@ -100,7 +100,7 @@ fn wave(numbers: &Numbers, bank: u32) -> [u8; 16]
 
 /// The tones' halfwords.
 #[tactic(auto, unfolding(crate::specs::Sound::tone_halves))]
-fn tone_halves(io: &[u8; 1024]) -> [u16; 13]
+pub(crate) fn tone_halves(io: &[u8; 1024]) -> [u16; 13]
     ensures { result ≡ tone_halves_of io.now }
 {
     [

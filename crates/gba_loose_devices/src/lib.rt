@@ -3,6 +3,7 @@
 
 mod audio;
 mod cable;
+mod checks;
 mod processor;
 mod units;
 mod values;
@@ -11,6 +12,7 @@ mod whole;
 
 pub use audio::{sound, tones};
 pub use cable::serial;
+pub use checks::{are_sound_devices, has_status, runs_are_enabled, tones_are_sound};
 pub use processor::registers;
 pub use units::{channels, interrupts, keypad, timers};
 pub use video::{picture, place};

@@ -40,7 +40,7 @@ pub fn timers(numbers: &Numbers) -> Timers
 
 /// A DMA channel by its number, which is below 4.
 #[tactic(auto, unfolding(gba_numbers::specs::Fields::is_board_field))]
-fn channel(numbers: &Numbers, io: &[u8; 1024], channel: u32) -> Channel
+pub(crate) fn channel(numbers: &Numbers, io: &[u8; 1024], channel: u32) -> Channel
     requires { channel < 4 }
     ensures { result ≡ channel_poured channel numbers.now io.now }
 {
