@@ -1,0 +1,45 @@
+use Rattle.std.specs.Prelude.{◌≡◌, ℕ, ◌<◌, true}
+use Rattle.gba_dma.specs.Channels.{channel_at}
+use Rattle.gba_dma.specs.declared.channel.Channel.{Channel}
+use Rattle.gba_io.specs.Core.{Core}
+use Rattle.gba_loose_devices.specs.Devices.{channel_poured, timers_poured}
+use Rattle.gba_loose_devices.specs.Picture.{place_poured, reference_poured}
+use Rattle.gba_loose_devices.specs.Values.{is_set}
+use Rattle.gba_numbers.specs.Fields.{is_board_field}
+use Rattle.gba_numbers.specs.Numbers.{ConsoleNumbers, value_of}
+use Rattle.gba_numbers.specs.Ranges.{board_fits}
+use Rattle.gba_numbers.specs.declared.fields.BoardField.{BoardField}
+use Rattle.gba_numbers.specs.declared.fields.BoardField.TheVariants as board
+use Rattle.gba_numbers.specs.declared.fields.Field.TheVariants.{Board}
+use Rattle.gba_loose.specs.Numbers.{board_number}
+use Rattle.std.specs.Prelude.{List}
+
+-- What the numbers of a board make is that board again.
+
+-- the numbers are those of a board, and each of these is in its range
+abbrev pub AreNumbersOf : Core → ConsoleNumbers → Type 0
+AreNumbersOf b n = (field : BoardField) → is_board_field field ≡ true → value_of (Board field) n ≡ board_number field b
+
+abbrev pub AreInRange : Core → Type 0
+AreInRange b = (field : BoardField) → is_board_field field ≡ true → board_fits field (board_number field b) ≡ true
+
+-- the run of a channel, which isn't what was written to its registers
+pub record IsSameRun (one other : Channel) : Type 0 where
+  pub active : one.active ≡ other.active
+  pub first : one.first ≡ other.first
+  pub source : one.inner_source ≡ other.inner_source
+  pub target : one.inner_target ≡ other.inner_target
+  pub left : one.left ≡ other.left
+
+-- Timers, the runs of DMA channels, the picture's place and the inner reference points, and the halt are of numbers alone, whatever
+-- the bytes of the I/O registers are.
+pub record NumbersMakeAgain (b : Core) (n : ConsoleNumbers) : Type 0 where
+  pub timers : timers_poured n ≡ b.devices.timers
+  pub runs : (channel : ℕ) (io : List ℕ) → channel < 4 → IsSameRun (channel_poured channel n io) (channel_at channel b.devices.channels)
+  pub place : place_poured n ≡ b.devices.place
+  pub reference2 : reference_poured 2 n ≡ b.devices.picture.reference2
+  pub reference3 : reference_poured 3 n ≡ b.devices.picture.reference3
+  pub halted : is_set board.Halted n ≡ b.devices.halted
+
+abbrev pub MadeAgain : Type 0
+MadeAgain = (b : Core) (n : ConsoleNumbers) → AreNumbersOf b n → AreInRange b → NumbersMakeAgain b n

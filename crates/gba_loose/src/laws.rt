@@ -1,0 +1,9 @@
+//! Laws over the definitions. Each is the contract of a function that takes no value.
+
+ghost use Rattle.gba_loose.specs.Again.{MadeAgain};
+
+/// The numbers of a board, each in its range, make its timers, the runs of its DMA channels, its picture's place, its inner reference
+/// points and its halt again.
+pub fn made_again()
+    ensures { MadeAgain }
+{}
