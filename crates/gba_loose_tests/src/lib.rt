@@ -7,3 +7,5 @@ mod cable;
 mod devices;
 #[cfg(test)]
 mod made;
+#[cfg(test)]
+mod reading;
