@@ -19,7 +19,7 @@ use Rattle.gba_timer.specs.declared.timer.Timer.{Timer}
 use Rattle.gba_loose.specs.Numbers.{board_number}
 use Rattle.gba_loose.specs.Again.{AreInRange, AreNumbersOf, IsSameRun, MadeAgain, NumbersMakeAgain}
 
-cut-again : (width x v : ℕ) → v ≡ x → x < 2 ^ width → v % 2 ^ width ≡ x
+pub cut-again : (width x v : ℕ) → v ≡ x → x < 2 ^ width → v % 2 ^ width ≡ x
 cut-again width x v same small = ap (λ (v : ℕ). v % 2 ^ width) same ∙ mod-eq_of_lt small
 
 truth-again : (set : Bool) (v : ℕ) → v ≡ truth_number set → (v == 1) ≡ set

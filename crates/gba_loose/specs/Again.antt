@@ -1,10 +1,13 @@
-use Rattle.std.specs.Prelude.{◌≡◌, ℕ, ◌<◌, true}
+use Rattle.std.specs.Prelude.{◌≡◌, ℕ, ◌<◌, ◌^◌, true, List, length, slice_index}
 use Rattle.gba_dma.specs.Channels.{channel_at}
 use Rattle.gba_dma.specs.declared.channel.Channel.{Channel}
 use Rattle.gba_io.specs.Core.{Core}
 use Rattle.gba_loose_devices.specs.Devices.{channel_poured, timers_poured}
 use Rattle.gba_loose_devices.specs.Picture.{place_poured, reference_poured}
-use Rattle.gba_loose_devices.specs.Values.{is_set}
+use Rattle.gba_loose_devices.specs.Cable.{mode_poured}
+use Rattle.gba_loose_devices.specs.Sound.{queue_poured}
+use Rattle.gba_loose_devices.specs.Values.{bytes_cut, is_set}
+use Rattle.gba_serial.specs.SerialUnit.{known_mode}
 use Rattle.gba_numbers.specs.Fields.{is_board_field}
 use Rattle.gba_numbers.specs.Numbers.{ConsoleNumbers, value_of}
 use Rattle.gba_numbers.specs.Ranges.{board_fits}
@@ -12,7 +15,6 @@ use Rattle.gba_numbers.specs.declared.fields.BoardField.{BoardField}
 use Rattle.gba_numbers.specs.declared.fields.BoardField.TheVariants as board
 use Rattle.gba_numbers.specs.declared.fields.Field.TheVariants.{Board}
 use Rattle.gba_loose.specs.Numbers.{board_number}
-use Rattle.std.specs.Prelude.{List}
 
 -- What the numbers of a board make is that board again.
 
@@ -43,3 +45,29 @@ pub record NumbersMakeAgain (b : Core) (n : ConsoleNumbers) : Type 0 where
 
 abbrev pub MadeAgain : Type 0
 MadeAgain = (b : Core) (n : ConsoleNumbers) → AreNumbersOf b n → AreInRange b → NumbersMakeAgain b n
+
+-- the bytes of the sound queues and of the wave are those of a board, and each is one
+abbrev pub AreBytes : List ℕ → Type 0
+AreBytes bytes = (place : ℕ) → place < length bytes → slice_index bytes place < 2 ^ 8
+
+pub record AreBytesOf (b : Core) (n : ConsoleNumbers) : Type 0 where
+  pub queue_a : n.queue_a ≡ b.devices.sound.queue_a.bytes
+  pub queue_b : n.queue_b ≡ b.devices.sound.queue_b.bytes
+  pub wave0 : n.wave0 ≡ b.devices.tones.wave.bank0
+  pub wave1 : n.wave1 ≡ b.devices.tones.wave.bank1
+  pub fit_a : AreBytes n.queue_a
+  pub fit_b : AreBytes n.queue_b
+  pub fit0 : AreBytes n.wave0
+  pub fit1 : AreBytes n.wave1
+
+-- The sound queues and the wave are of these alone, and the modes that players last told of numbers.
+pub record BytesMakeAgain (b : Core) (n : ConsoleNumbers) : Type 0 where
+  pub queue_a : queue_poured 0 n ≡ b.devices.sound.queue_a
+  pub queue_b : queue_poured 1 n ≡ b.devices.sound.queue_b
+  pub wave0 : bytes_cut n.wave0 ≡ b.devices.tones.wave.bank0
+  pub wave1 : bytes_cut n.wave1 ≡ b.devices.tones.wave.bank1
+  pub known : (player : ℕ) → player < 4 → mode_poured player n ≡ known_mode b.serial.known player
+
+abbrev pub BytesAgain : Type 0
+BytesAgain =
+    (b : Core) (n : ConsoleNumbers) → AreNumbersOf b n → AreInRange b → AreBytesOf b n → BytesMakeAgain b n

@@ -1,9 +1,15 @@
 //! Laws over the definitions. Each is the contract of a function that takes no value.
 
-ghost use Rattle.gba_loose.specs.Again.{MadeAgain};
+ghost use Rattle.gba_loose.specs.Again.{BytesAgain, MadeAgain};
 
 /// The numbers of a board, each in its range, make its timers, the runs of its DMA channels, its picture's place, its inner reference
 /// points and its halt again.
 pub fn made_again()
     ensures { MadeAgain }
+{}
+
+/// The bytes of the sound queues and of the wave, and the numbers beside them, make these again, and so do the modes that players last
+/// told.
+pub fn bytes_again()
+    ensures { BytesAgain }
 {}

@@ -100,6 +100,7 @@ fn numbers_come_back(rt: HostRuntime) -> Result<(), Fail> {
 
 // A law answers nothing: that it holds is its contract.
 #[test]
-fn the_law_is_stated() {
+fn the_laws_are_stated() {
     gba_loose::laws::made_again();
+    gba_loose::laws::bytes_again();
 }
