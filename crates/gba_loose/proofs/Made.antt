@@ -22,7 +22,7 @@ use Rattle.gba_loose.specs.Again.{AreInRange, AreNumbersOf, IsSameRun, MadeAgain
 pub cut-again : (width x v : ℕ) → v ≡ x → x < 2 ^ width → v % 2 ^ width ≡ x
 cut-again width x v same small = ap (λ (v : ℕ). v % 2 ^ width) same ∙ mod-eq_of_lt small
 
-truth-again : (set : Bool) (v : ℕ) → v ≡ truth_number set → (v == 1) ≡ set
+pub truth-again : (set : Bool) (v : ℕ) → v ≡ truth_number set → (v == 1) ≡ set
 truth-again true v same = ap (λ (v : ℕ). v == 1) same
 truth-again false v same = ap (λ (v : ℕ). v == 1) same
 

@@ -1,10 +1,10 @@
-use Rattle.std.specs.Prelude.{◌≡◌, ℕ, ◌<◌, ◌^◌, true, List, length, slice_index}
+use Rattle.std.specs.Prelude.{IfSome, ◌≡◌, ℕ, ◌<◌, ◌^◌, true, List, length, slice_index}
 use Rattle.gba_dma.specs.Channels.{channel_at}
 use Rattle.gba_dma.specs.declared.channel.Channel.{Channel}
 use Rattle.gba_io.specs.Core.{Core}
 use Rattle.gba_loose_devices.specs.Devices.{channel_poured, timers_poured}
 use Rattle.gba_loose_devices.specs.Picture.{place_poured, reference_poured}
-use Rattle.gba_loose_devices.specs.Cable.{mode_poured}
+use Rattle.gba_loose_devices.specs.Cable.{mode_poured, run_poured}
 use Rattle.gba_loose_devices.specs.Sound.{queue_poured}
 use Rattle.gba_loose_devices.specs.Values.{bytes_cut, is_set}
 use Rattle.gba_serial.specs.SerialUnit.{known_mode}
@@ -71,3 +71,9 @@ pub record BytesMakeAgain (b : Core) (n : ConsoleNumbers) : Type 0 where
 abbrev pub BytesAgain : Type 0
 BytesAgain =
     (b : Core) (n : ConsoleNumbers) → AreNumbersOf b n → AreInRange b → AreBytesOf b n → BytesMakeAgain b n
+
+-- The transfer that runs is of numbers alone.
+abbrev pub RunAgain : Type 0
+RunAgain =
+    (b : Core) (n : ConsoleNumbers) → AreNumbersOf b n → AreInRange b → IfSome b.serial.run (λ run. length run.got ≡ 4)
+    → run_poured n ≡ b.serial.run

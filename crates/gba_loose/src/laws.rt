@@ -1,6 +1,6 @@
 //! Laws over the definitions. Each is the contract of a function that takes no value.
 
-ghost use Rattle.gba_loose.specs.Again.{BytesAgain, MadeAgain};
+ghost use Rattle.gba_loose.specs.Again.{BytesAgain, MadeAgain, RunAgain};
 
 /// The numbers of a board, each in its range, make its timers, the runs of its DMA channels, its picture's place, its inner reference
 /// points and its halt again.
@@ -12,4 +12,9 @@ pub fn made_again()
 /// told.
 pub fn bytes_again()
     ensures { BytesAgain }
+{}
+
+/// The numbers of a transfer that runs make it again, where it has heard or not heard each of four players, and none where none runs.
+pub fn run_again()
+    ensures { RunAgain }
 {}

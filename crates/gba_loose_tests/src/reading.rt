@@ -103,4 +103,5 @@ fn numbers_come_back(rt: HostRuntime) -> Result<(), Fail> {
 fn the_laws_are_stated() {
     gba_loose::laws::made_again();
     gba_loose::laws::bytes_again();
+    gba_loose::laws::run_again();
 }
