@@ -1,3 +1,4 @@
 pub mod Made
 pub mod Bytes
 pub mod Run
+pub mod Tones

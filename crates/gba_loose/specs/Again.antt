@@ -5,7 +5,8 @@ use Rattle.gba_io.specs.Core.{Core}
 use Rattle.gba_loose_devices.specs.Devices.{channel_poured, timers_poured}
 use Rattle.gba_loose_devices.specs.Picture.{place_poured, reference_poured}
 use Rattle.gba_loose_devices.specs.Cable.{mode_poured, run_poured}
-use Rattle.gba_loose_devices.specs.Sound.{queue_poured}
+use Rattle.gba_loose_devices.specs.Sound.{queue_poured, tone_numbers}
+use Rattle.gba_psg.specs.Numbers.{numbers_of}
 use Rattle.gba_loose_devices.specs.Values.{bytes_cut, is_set}
 use Rattle.gba_serial.specs.SerialUnit.{known_mode}
 use Rattle.gba_numbers.specs.Fields.{is_board_field}
@@ -77,3 +78,8 @@ abbrev pub RunAgain : Type 0
 RunAgain =
     (b : Core) (n : ConsoleNumbers) → AreNumbersOf b n → AreInRange b → IfSome b.serial.run (λ run. length run.got ≡ 4)
     → run_poured n ≡ b.serial.run
+
+-- The numbers of the tone channels are those that they say of themselves, which with the wave and with what is stored in their
+-- registers make them again.
+abbrev pub TonesAgain : Type 0
+TonesAgain = (b : Core) (n : ConsoleNumbers) → AreNumbersOf b n → AreInRange b → tone_numbers n ≡ numbers_of b.devices.tones

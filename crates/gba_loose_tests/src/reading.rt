@@ -104,4 +104,5 @@ fn the_laws_are_stated() {
     gba_loose::laws::made_again();
     gba_loose::laws::bytes_again();
     gba_loose::laws::run_again();
+    gba_loose::laws::tones_again();
 }
