@@ -66,6 +66,7 @@ fn board_at_reset(alloc: Global) -> Result<Board, Fail> {
     Ok(Board::new(alloc, 1, 2, 2, images, room)?)
 }
 
+#[tactic(auto, unfolding(gba_numbers::specs::Fields::is_field))]
 fn number<R: Abort>(rt: &R, core: &Core, field: BoardField) -> u64 {
     assert!(rt; is_field(Field::Board(field)));
     number_of(core, field)
