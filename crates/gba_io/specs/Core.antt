@@ -14,9 +14,9 @@ use Rattle.gba_serial.specs.Registers.{serial_stored}
 use Rattle.gba_serial.specs.SerialUnit.{SerialUnit, serial_at_reset}
 use Rattle.gba_serial.specs.Take.{learned}
 use Rattle.gba_serial.specs.Tell.{has_news, silent}
-use Rattle.gba_io.specs.declared.parts.MemoryName.{MemoryName}
-use Rattle.gba_io.specs.declared.parts.MemoryName.TheVariants.{Io, Wram, Iwram, Palette, Vram, Oam}
-use Rattle.gba_io.specs.declared.parts.MemoryName.TheVariants as named
+use Rattle.gba_numbers.specs.declared.names.MemoryName.{MemoryName}
+use Rattle.gba_numbers.specs.declared.names.MemoryName.TheVariants.{Io, Wram, Iwram, Palette, Vram, Oam}
+use Rattle.gba_numbers.specs.declared.names.MemoryName.TheVariants as named
 use Rattle.link_node.specs.declared.signal.Incoming.{Incoming}
 
 -- The core of a board: the memories, the devices and the serial unit, and the lines that are drawn of the present frame of the

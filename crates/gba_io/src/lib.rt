@@ -17,6 +17,7 @@ mod serial;
 pub use base::Base;
 pub use board::Board;
 pub use ended::{Ended, SEGMENT_WORDS};
+pub use gba_numbers::MemoryName;
 pub use made::{Counts, Made, Room};
-pub use parts::{Core, MemoryName};
+pub use parts::Core;
 pub use pouring::BoardParts;

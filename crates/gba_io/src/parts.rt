@@ -14,6 +14,7 @@ use gba_devices::laws::{cycle_keeps, cycles_pass};
 use gba_dma::{Channel, Unit};
 use gba_image::ConsoleImages;
 use gba_mem::Memory;
+use gba_numbers::MemoryName;
 use gba_ppu_reg::{Position, Reference};
 use gba_price_table::PriceTable;
 use gba_psg::Tone;
@@ -24,18 +25,6 @@ use gba_timer::Timer;
 use link_node::Incoming;
 use std::alloc::Global;
 use std::marker::Model;
-
-/// A memory by its name in the state file. `Backup` is the SRAM or the flash, and `Io` the I/O registers, which stand in no memory.
-#[derive(Clone, Copy, Debug, PartialEq, Eq)]
-pub enum MemoryName {
-    Io,
-    Wram,
-    Iwram,
-    Palette,
-    Vram,
-    Oam,
-    Backup,
-}
 
 /// An address outside the BIOS: what reads from there reads 0 in the BIOS, and so does DMA.
 const OUTSIDE_BIOS: u32 = 0x4000;
@@ -346,7 +335,8 @@ impl Core {
 
     /// How many lines of the present frame are drawn, 160 at most.
     pub fn lines_drawn(&self) -> u32
-        ensures { result ≡ length self.now.lines }
+        ensures value { result ≡ length self.now.lines }
+        ensures most { result ≤ 160 }
     {
         self.screen.lines_drawn()
     }

@@ -6,6 +6,7 @@ use crate::{Base, Board, Core, Counts};
 use gba_bus::WaitControl;
 use gba_devices::Devices;
 use gba_flash::FlashMachine;
+use gba_image::Backup;
 use gba_mem::MemoryPart;
 use gba_serial::Serial;
 
@@ -39,6 +40,13 @@ impl Core {
         ensures { self.new ≡ core_cleared self.old }
     {
         self.screen.clear();
+    }
+
+    /// What keeps the saves.
+    pub fn backup(&self) -> Backup
+        ensures { result ≡ backup_of self.now.memory.backup }
+    {
+        self.screen.memory().backup()
     }
 
     /// What the flash remembers beside its bytes; nothing where there is none. With the flash of 65,536 bytes its bank is 0
