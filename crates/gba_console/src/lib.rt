@@ -239,6 +239,14 @@ impl Console {
         self.keys.as_slice()
     }
 
+    /// How many changes of its keys are applied.
+    pub fn applied(&self) -> u64
+        ensures value { result ≡ self.now.applied }
+        ensures most { result ≤ length self.now.keys }
+    {
+        self.applied as u64
+    }
+
     /// The clock below which it is off, 0 where it is on from the start.
     pub fn off(&self) -> u64
         ensures { result ≡ self.now.off }

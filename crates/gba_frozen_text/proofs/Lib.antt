@@ -9,3 +9,4 @@ pub mod Whole
 pub mod MemoryRows
 pub mod Printing
 pub mod First
+pub mod Singles

@@ -6,20 +6,15 @@ use Rattle.std.proofs.lemmas.List.{append-nil}
 use Rattle.std.proofs.lemmas.List.Folds.{list_all-append}
 use Rattle.gba_text.proofs.Spans.{first_of_all, rest_of_all}
 use Rattle.gba_numbers.specs.Numbers.{ConsoleNumbers, value_of}
-use Rattle.gba_numbers.specs.Ranges.{field_fits}
 use Rattle.gba_numbers.specs.declared.names.MemoryName.{MemoryName}
 use Rattle.gba_frozen.specs.Lines.{Said, Values, WaveBytes, all_zero}
-use Rattle.gba_frozen.specs.Rows.{count_of, field_of, fits_spelling, spelling_of}
+use Rattle.gba_frozen.specs.Rows.{count_of, field_of}
 use Rattle.gba_frozen.specs.declared.places.MemoryPlace.{MemoryPlace}
 use Rattle.gba_frozen.specs.declared.rows.Row.{Row}
 use Rattle.gba_frozen.specs.declared.rows.Row.TheVariants as row
-use Rattle.gba_frozen.specs.declared.rows.Spelling.{Spelling}
-use Rattle.gba_frozen.specs.declared.rows.Spelling.TheVariants.{Decimal, Word}
-use Rattle.gba_frozen_print.specs.Laws.{is_spellable}
 use Rattle.gba_frozen_print.specs.Printed.{ended}
 use Rattle.gba_frozen_text.specs.Memories.{row_text, rows_in}
 use Rattle.gba_frozen_text.specs.Text.{board_rows, memory_of, numbers_say, processor_rows, queue_of, row_of, row_values, said_line, says_text, text_of, tone_rows}
-use Rattle.gba_frozen_text.proofs.Ranges.{spellable}
 
 -- a list that grew by the next piece of what is left
 pub grown : {A : Type 0} (old new piece left rest all : List A) → new ≡ old ++ piece → left ≡ piece ++ rest → old ++ left ≡ all
@@ -83,14 +78,6 @@ values-more which part left count n is = ap (λ c. row_values which part c n) is
 pub values-none : (which : Row) (part left : ℕ) (n : ConsoleNumbers) → left ≡ 0 → row_values which part left n ≡ []
 unfolding row_values
 values-none which part left n is = ap (λ c. row_values which part c n) is
-
-by_spelling : (spelling : Spelling) (value : ℕ) → is_spellable spelling value ≡ true → fits_spelling spelling value ≡ true
-by_spelling Decimal value h = refl
-by_spelling Word value h = h
-
-pub value-fits : (which : Row) (part value : ℕ) → part < count_of which → field_fits (field_of which part) value ≡ true
-    → fits_spelling (spelling_of which) value ≡ true
-value-fits which part value inside h = by_spelling (spelling_of which) value (spellable which part value inside h)
 
 pub all-more : (p : ℕ → Bool) (xs : List ℕ) (x : ℕ) → list_all p xs ≡ true → p x ≡ true → list_all p (xs ++ x ∷ []) ≡ true
 all-more p xs x h k = list_all-append p xs (x ∷ []) ∙ rw (h, k) refl

@@ -1,10 +1,11 @@
 -- The text of a whole frozen file.
-use Rattle.std.specs.Prelude.{ℕ, zero, suc, ◌+◌, List, [], ◌∷◌, ◌++◌, map, if◌then◌else◌}
+use Rattle.std.specs.Prelude.{ℕ, zero, suc, ◌+◌, ◌^◌, Bool, true, nat_lt, List, [], ◌∷◌, ◌++◌, map, if◌then◌else◌}
 use Rattle.gba_flash.specs.Flash.{is_flash}
 use Rattle.gba_image.specs.declared.backup.Backup.{Backup}
 use Rattle.link_node.specs.declared.signal.Signal.{Signal}
 use Rattle.gba_numbers.specs.Numbers.{ConsoleNumbers, value_of}
 use Rattle.gba_numbers.specs.declared.fields.BoardField.TheVariants as board
+use Rattle.gba_numbers.specs.declared.fields.Field.{Field}
 use Rattle.gba_numbers.specs.declared.fields.Field.TheVariants as console
 use Rattle.gba_frozen.specs.Lines.{Said, Nothing, Values, QueueBytes, WaveBytes, MemoryBytes, Colours, Live}
 use Rattle.gba_frozen.specs.Places.{backup_of}
@@ -15,6 +16,14 @@ use Rattle.gba_frozen.specs.declared.places.MemoryPlace.{MemoryPlace}
 use Rattle.gba_frozen.specs.declared.rows.Row.{Row}
 use Rattle.gba_frozen.specs.declared.rows.Row.TheVariants as row
 use Rattle.gba_frozen_print.specs.Printed.{digest_text, drawn_text, end_text, ended, memory_text, queue_text, signal_text, version_text, wave_text}
+
+-- whether a number can be printed: those of eight digits are below 2 ^ 32, and a sound queue's current byte is one
+unfoldable pub is_printable : Field → ℕ → Bool
+is_printable (console.Register register) value = nat_lt value (2 ^ 32)
+is_printable (console.Board (board.ReferenceX background)) value = nat_lt value (2 ^ 32)
+is_printable (console.Board (board.ReferenceY background)) value = nat_lt value (2 ^ 32)
+is_printable (console.Board (board.QueueCurrent queue)) value = nat_lt value 0x100
+is_printable _ value = true
 
 -- the numbers of a row, from one of its parts on
 unfoldable pub row_values : Row → ℕ → ℕ → ConsoleNumbers → List ℕ

@@ -2,20 +2,22 @@
 
 use gba_numbers::Field;
 
-/// A console that is printed: contracts see its numbers, each of which is in its range, with the bytes of its queues and of its wave.
+/// A console that is printed: contracts see its numbers, with the bytes of its queues and of its wave. Whether each is in its range
+/// isn't asked.
 pub trait Freezing {
     ghost use Rattle.std.specs.Prelude.{◌≡◌, ◌<◌, ◌≤◌, ◌==◌, true, length, if◌then◌else◌};
-    ghost use Rattle.gba_numbers.specs.Fields.{is_field};
+    ghost use Rattle.gba_numbers.specs.Fields.{is_field, place_of};
     ghost use Rattle.gba_numbers.specs.Numbers.{ConsoleNumbers, value_of};
-    ghost use Rattle.gba_numbers.specs.Ranges.{field_fits};
+    ghost use Rattle.gba_frozen_text.specs.Text.{is_printable};
 
     ghost numbers: { Self → ConsoleNumbers };
 
-    /// A number of the console.
+    /// A number of the console, which is no byte of a queue or of the wave.
     fn value(&self, field: Field) -> u64
-        requires { is_field field ≡ true }
+        requires known { is_field field ≡ true }
+        requires single { place_of field < 138 }
         ensures value { result ≡ value_of field (numbers self.now) }
-        ensures fits { field_fits field result ≡ true };
+        ensures printable { is_printable field result ≡ true };
 
     /// The bytes that a sound queue holds, oldest first, by its number: 0 for A and 1 for B.
     fn queue(&self, queue: u32) -> &[u8]

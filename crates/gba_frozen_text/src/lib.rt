@@ -1,6 +1,5 @@
 #![tactic(auto)]
-//! The text of a whole frozen file, the law that it is read again as it was, and printers of some of its lines together. No command
-//! uses it yet.
+//! The text of a whole frozen file, the law that it is read again as it was, and printers of some of its lines together.
 
 mod freezing;
 pub mod laws;

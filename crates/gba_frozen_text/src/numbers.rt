@@ -80,7 +80,7 @@ static BOARD_ROWS: [Row; 5] = [
 ];
 
 /// Adds the line of a sound queue.
-#[tactic(auto, unfolding(crate::specs::Text::said_line, gba_numbers::specs::Fields::is_field, gba_numbers::specs::Fields::is_board_field, gba_numbers::specs::Ranges::field_fits, gba_numbers::specs::Ranges::board_fits))]
+#[tactic(auto, unfolding(crate::specs::Text::said_line, crate::specs::Text::is_printable, gba_numbers::specs::Fields::is_field, gba_numbers::specs::Fields::is_board_field, gba_numbers::specs::Fields::place_of, gba_numbers::specs::Fields::board_place))]
 fn add_queue_of<S: Freezing>(into: &mut Vec<u8>, source: &S, queue: u32)
     requires two { queue < 2 }
     requires room { vec_len into.old + 98 ≤ vec_capacity into.old }
@@ -93,13 +93,13 @@ fn add_queue_of<S: Freezing>(into: &mut Vec<u8>, source: &S, queue: u32)
     add_queue(into, queue, current, source.queue(queue));
 }
 
-/// Adds the lines of a player's console before its memories: 12,000 bytes are enough.
+/// Adds the lines of a player's console before its memories: 11,681 bytes are enough.
 #[tactic(auto, unfolding(gba_frozen::specs::Rows::is_row, gba_frozen::specs::Rows::count_of))]
 pub fn add_numbers<S: Freezing>(into: &mut Vec<u8>, source: &S, player: u32)
     requires player { player < 4 }
-    requires room { vec_len into.old + 12000 ≤ vec_capacity into.old }
+    requires room { vec_len into.old + 11681 ≤ vec_capacity into.old }
     ensures items { into.new.items ≡ into.old.items ++ says_text (numbers_say player (S.numbers source.now)) }
-    ensures len { vec_len into.new ≤ vec_len into.old + 12000 }
+    ensures len { vec_len into.new ≤ vec_len into.old + 11681 }
     ensures room { vec_capacity into.old ≤ vec_capacity into.new }
 {
     add_row(into, Row::Heading, &[]);

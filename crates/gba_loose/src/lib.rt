@@ -1,5 +1,5 @@
 #![tactic(auto)]
-//! The numbers that a frozen file has of a console's board, and what they make of it again. No command uses them yet.
+//! The numbers that a frozen file has of a console's board, and what they make of it again.
 
 pub mod laws;
 mod reading;

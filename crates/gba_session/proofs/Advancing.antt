@@ -8,6 +8,7 @@ use Rattle.gba_console.specs.Segments.{LiveSegments, behind, forgotten_cut, join
 use Rattle.gba_session.proofs.Joining.{joined-forgotten, joined-get}
 use Rattle.gba_session.proofs.SameRun.{run-many}
 use Rattle.gba_joblog.specs.declared.outputs.PerKind.{PerKind}
+use Rattle.gba_snapshot.proofs.Forgetting.{state-unlimited}
 use Rattle.gba_session.specs.Held.{CanRun, HasPieces, HasRoom, HaveTaken, IsHashed, IsSegmented, asks_in, session_value}
 use Rattle.gba_session.specs.Session.{Consoles, is_over, later_end, segment_cut}
 use Rattle.gba_session.specs.Start.{run_until}
@@ -51,7 +52,11 @@ segment-many s =
 
 -- the end of a console's room is no part of what it gives
 plain-pieces : (over : Bool) (p : Player) (m : Machine) → HasPieces over p m → HasPieces over p (without_limit m)
-plain-pieces over p m has = record { words = has.words; state = has.state; save = has.save }
+plain-pieces over p m has = record {
+  words = has.words;
+  state = λ done asked. has.state done asked ∙ sym (state-unlimited m);
+  save = has.save;
+}
 
 plain-hashed : (p : Player) (before m : Machine) → IsHashed p (behind before m)
     → IsHashed p (behind before (without_limit m))

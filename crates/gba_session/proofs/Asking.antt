@@ -13,6 +13,7 @@ use Rattle.gba_joblog.specs.declared.outputs.PerKind.{PerKind}
 use Rattle.gba_output.specs.StateFile.{summary_line}
 use Rattle.gba_session.proofs.Advancing.{segment-many, until-many, whole-joined}
 use Rattle.gba_session.proofs.Joining.{joined-forgotten, joined-get, joined-lines}
+use Rattle.gba_snapshot.proofs.Forgetting.{state-behind}
 use Rattle.gba_session.specs.Files.{grows, output_bytes}
 use Rattle.gba_session.specs.Held.{HasPieces, IsHashed, IsSegmented, asks_in}
 use Rattle.gba_session.specs.Session.{Consoles, is_over, segment_cut, whole_cut}
@@ -57,6 +58,10 @@ module _ (v : Consoles) (cut : Cut Machine) (players : List Player) (held : IsSe
       ∙ ap (λ (c : Cut Machine). map forgotten c.consoles)
       (sym (whole-joined law v held.start held.begun) ∙ ends over)
 
+  pub ends-sent : LiveSegments → is_over v ≡ true → (segment_cut v).sent ≡ (whole_cut v).sent
+  ends-sent law over =
+      ap (λ (c : Cut Machine). c.sent) (sym (whole-joined law v held.start held.begun) ∙ ends over)
+
   module _ (k : ℕ) (p : Player) (within : k < length v.asks) (here : p ≡ get_or players k p) where
     there : k < length players
     there = omega (arith, within, asks-many)
@@ -99,7 +104,9 @@ module _ (v : Consoles) (cut : Cut Machine) (players : List Player) (held : IsSe
     state-at : LiveSegments → is_over v ≡ true → p.asks.state ≡ true → (m : Machine)
         → slice_get (whole_cut v).consoles k ≡ Some m → p.state.items ≡ output_bytes State m
     state-at law over asked m is =
-        (last-pieces m).state over asked ∙ ap (output_bytes State) (sym (last law over m is))
+        (last-pieces m).state over asked
+        ∙ sym (state-behind (get_or (run_until v.from v.start).consoles k m) (get_or (segment_cut v).consoles k m))
+        ∙ ap (output_bytes State) (sym (last law over m is))
 
     save-at : LiveSegments → is_over v ≡ true → p.asks.save ≡ true → (m : Machine)
         → slice_get (whole_cut v).consoles k ≡ Some m → p.save.items ≡ output_bytes Save m

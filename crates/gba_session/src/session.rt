@@ -68,7 +68,7 @@ impl Session {
     ghost use Rattle.std.specs.Prelude.{◌≡◌, ◌≤◌, ◌<◌, Bool, IfOk, Some, true, false, length, map, slice_get};
     ghost use Rattle.std.specs.List.{flat_map};
     ghost use Rattle.arrayvec.specs.ArrayVec.{array_vec_len};
-    ghost use Rattle.gba_console.specs.Machine.{Machine, forgotten};
+    ghost use Rattle.gba_console.specs.Machine.{Machine, forgotten, without_limit};
     ghost use Rattle.gba_joblog.specs.Outputs.{at_kind};
     ghost use Rattle.gba_joblog.specs.Soundness.{IsJob};
     ghost use Rattle.gba_joblog.specs.Views.{job_value};
@@ -78,6 +78,7 @@ impl Session {
     ghost use Rattle.gba_session.specs.Session.{advanced, is_over, later_end as end_after, prepared};
     ghost use Rattle.gba_session.specs.Session.{segment_cut, whole_cut};
     ghost use Rattle.gba_session.specs.Start.{FitJob};
+    ghost use Rattle.link_order.specs.Cut.{plain_cut};
     ghost use Rattle.sha2.specs.Sha256.{sha256};
 
     /// The consoles of a job at reset, with these images, one of the other: each for its console's backup, with a save that
@@ -158,6 +159,13 @@ impl Session {
         self.players.len()
     }
 
+    /// The consoles on their cable as they are now, with the lists of the last segment alone.
+    pub fn cut(&self) -> &Cut<Console>
+        ensures { plain_cut without_limit result.now ≡ segment_cut self.now }
+    {
+        &self.cut
+    }
+
     /// The bytes of an output that a player is asked for: of frames, samples and words those of the last segment, of
     /// state and save all, once the run is over.
     pub fn piece(&self, player: usize, kind: OutKind) -> &[u8]
@@ -198,7 +206,8 @@ impl Session {
     /// It does nothing.
     pub fn ends_whole(&self)
         requires over { is_over self.now ≡ true }
-        ensures { map forgotten (segment_cut self.now).consoles ≡ map forgotten (whole_cut self.now).consoles }
+        ensures consoles { map forgotten (segment_cut self.now).consoles ≡ map forgotten (whole_cut self.now).consoles }
+        ensures sent { (segment_cut self.now).sent ≡ (whole_cut self.now).sent }
     {
         segments();
         let _last = self.to;

@@ -1,12 +1,13 @@
 use Rattle.std.proofs.Common.{◌≡◌, ℕ, suc, ◌+◌, ◌-◌, ◌<◌, ◌++◌, [], ◌∷◌, List, true, sym, ap, ◌∙◌, arith}
 use Rattle.std.specs.List.{list_all}
 use Rattle.std.proofs.lemmas.List.{append-nil}
+use Rattle.gba_numbers.specs.Fields.{place_of}
 use Rattle.gba_numbers.specs.Numbers.{value_of}
-use Rattle.gba_numbers.specs.Ranges.{field_fits}
 use Rattle.gba_numbers.specs.declared.fields.Field.{Field}
 use Rattle.gba_frozen.specs.Rows.{count_of, field_of, fits_spelling, spelling_of}
-use Rattle.gba_frozen_text.specs.Text.{row_values}
-use Rattle.gba_frozen_text.proofs.Printing.{all-more, grown, value-fits, values-more, values-none}
+use Rattle.gba_frozen_text.specs.Text.{is_printable, row_values}
+use Rattle.gba_frozen_text.proofs.Printing.{all-more, grown, values-more, values-none}
+use Rattle.gba_frozen_text.proofs.Singles.{row-single, value-fits}
 use Rattle.gba_frozen_text.proofs.rows.row_values.Goals as goal
 
 pub loop-part-preserved : goal.loop-part-preserved
@@ -19,8 +20,8 @@ loop-part-preserved g c =
     let more : count_of which - part ≡ suc left = omega arith in
     let value : c.value.result ≡ value_of (field_of which part) n =
     c.value.ensures.value ∙ ap (λ (f : Field). value_of f n) c.field.ensures.value in
-    let fits : field_fits (field_of which part) c.value.result ≡ true =
-    ap (λ (f : Field). field_fits f c.value.result) (sym c.field.ensures.value) ∙ c.value.ensures.fits in
+    let fits : is_printable (field_of which part) c.value.result ≡ true =
+    ap (λ (f : Field). is_printable f c.value.result) (sym c.field.ensures.value) ∙ c.value.ensures.printable in
     let split : row_values which part (count_of which - part) n ≡ (c.value.result ∷ []) ++ row_values which (part + 1) left n =
     values-more which part (count_of which - part) left n more
     ∙ ap (λ (v : ℕ). v ∷ row_values which (part + 1) left n) (sym value) in
@@ -31,6 +32,13 @@ loop-part-preserved g c =
           ∙ all-more (fits_spelling (spelling_of which)) c.loop-part.values.items c.value.result c.loop-part.invariant.fit
           (value-fits which part c.value.result inside fits);
     }
+
+pub value-requires-clause-single : goal.value-requires-clause-single
+value-requires-clause-single g c =
+    let inside : c.loop-part.part < count_of c.args.row = omega arith in
+    let single = row-single c.args.row c.loop-part.part c.requires inside in
+    let same : place_of c.field.result ≡ place_of (field_of c.args.row c.loop-part.part) = ap place_of c.field.ensures.value in
+    omega (arith, single, same)
 
 pub returns-clause-values : goal.returns-clause-values
 returns-clause-values g c =

@@ -1,8 +1,4 @@
-use Rattle.std.proofs.Common.{◌≡◌, List, ap, map}
-use Rattle.gba_console.specs.Machine.{Machine, without_limit}
 use Rattle.gba_joblog.specs.Views.{job_value}
-use Rattle.link_order.specs.Cut.{Cut, opening}
-use Rattle.gba_session.specs.Start.{consoles_from, start_of}
 use Rattle.gba_session.proofs.Consoles.{fit-long}
 use Rattle.gba_session.proofs.Preparing.{begins, begins-prepared, opened, plain-consoles}
 use Rattle.gba_session.proofs.session.Session.prepare.Goals as goal

@@ -1,8 +1,0 @@
-use Rattle.std.proofs.Common.{◌≡◌, ◌*◌}
-use Rattle.arrayvec.specs.ArrayVec.{array_vec_len}
-use Rattle.gba_output.specs.StateFile.{io_bytes}
-use Rattle.gba_output.proofs.state.io_bytes.Given as goal
-
-abbrev pub invariant-loop-half : goal.invariant-loop-half
-invariant-loop-half l =
-    (l.bytes.items ≡ io_bytes l.half l.core) × (array_vec_len l.bytes ≡ 2 * l.half)

@@ -1,0 +1,4 @@
+pub mod Forgetting
+pub mod Halfwords
+pub mod Lines
+pub mod Places

@@ -1,0 +1,4 @@
+pub mod Io
+pub mod Snapshot
+pub mod Console
+pub mod File
