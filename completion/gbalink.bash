@@ -24,8 +24,8 @@ _gbalink_runs() {
 
 _gbalink() {
   case "$COMP_CWORD:${COMP_WORDS[1]}" in
-  1:*) _gbalink_words run asm dis tdis gen trace bios --job --help --version ;;
-  2:run | 2:trace) _gbalink_files '*.job' '*.log' ;;
+  1:*) _gbalink_words run asm dis tdis gen trace freeze bios --job --help --version ;;
+  2:run | 2:trace | 2:freeze) _gbalink_files '*.job' '*.log' ;;
   2:asm) _gbalink_files '*.s' ;;
   2:dis | 2:tdis) _gbalink_files '*.bios' '*.gba' '*.bin' ;;
   *:--job)
@@ -34,7 +34,7 @@ _gbalink() {
     *) _gbalink_files '*.bios' '*.gba' '*.bin' ;;
     esac
     ;;
-  2:gen | 3:gen | 3:trace | 4:trace) ;;
+  2:gen | 3:gen | 3:trace | 4:trace | 3:freeze) ;;
   *) _gbalink_files ;;
   esac
 }

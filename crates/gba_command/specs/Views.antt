@@ -9,11 +9,12 @@ use Rattle.gba_command.specs.declared.writing.WriteStop.TheVariants as writing
 use Rattle.gba_command.specs.declared.outputs.OutputFile.{OutputFile}
 use Rattle.gba_command.specs.declared.outputs.Outputs.{Outputs}
 use Rattle.gba_command.specs.Cause.{Cause, NoCommand, Job, Image, Digest, Source, Stop, Refused, Absent, StoreFails, LacksMemory}
-use Rattle.gba_command.specs.Words.{Command, RunJob, Assemble, ListArm, ListThumb, Generate, Trace, RunWords, FileWords, GenerateWords, TraceWords}
+use Rattle.gba_command.specs.Words.{Command, RunJob, Assemble, ListArm, ListThumb, Generate, Trace, Freeze, RunWords, FileWords, GenerateWords, TraceWords, FreezeWords}
 use Rattle.gba_command.specs.Writing.{Output, Run, WriteEnd, Wrote, SinkFails, SinkLacks, at_once}
 use Rattle.gba_command.specs.declared.words.Command.{Command as CommandText}
 use Rattle.gba_command.specs.declared.words.Command.TheVariants as command
 use Rattle.gba_command.specs.declared.words.FileWords.{FileWords as FileText}
+use Rattle.gba_command.specs.declared.words.FreezeWords.{FreezeWords as FreezeText}
 use Rattle.gba_command.specs.declared.words.GenerateWords.{GenerateWords as GenerateText}
 use Rattle.gba_command.specs.declared.words.RunWords.{RunWords as RunText}
 use Rattle.gba_command.specs.declared.words.TraceWords.{TraceWords as TraceText}
@@ -32,6 +33,9 @@ generate_words_value words = record { number = words.number; cycles = words.cycl
 abbrev pub trace_words_value : TraceText → TraceWords
 trace_words_value words = record { run = run_words_value words.run; first = words.first; count = words.count }
 
+abbrev pub freeze_words_value : FreezeText → FreezeWords
+freeze_words_value words = record { run = run_words_value words.run; clock = words.clock }
+
 abbrev pub command_value : CommandText → Command
 command_value (command.RunJob words) = RunJob (run_words_value words)
 command_value (command.Assemble words) = Assemble (file_words_value words)
@@ -39,6 +43,7 @@ command_value (command.ListArm words) = ListArm (file_words_value words)
 command_value (command.ListThumb words) = ListThumb (file_words_value words)
 command_value (command.Generate words) = Generate (generate_words_value words)
 command_value (command.Trace words) = Trace (trace_words_value words)
+command_value (command.Freeze words) = Freeze (freeze_words_value words)
 
 abbrev pub cause_value : CauseText → Cause
 cause_value cause.NoCommand = NoCommand

@@ -26,6 +26,11 @@ pub record TraceWords : Type 0 where
   pub first : ℕ
   pub count : ℕ
 
+-- `freeze JOB CLOCK OUT`
+pub record FreezeWords : Type 0 where
+  pub run : RunWords
+  pub clock : ℕ
+
 pub data Command : Type 0 where
   -- `run JOB OUT`: a job is run
   RunJob : RunWords → Command
@@ -39,6 +44,8 @@ pub data Command : Type 0 where
   Generate : GenerateWords → Command
   -- `trace JOB FIRST COUNT OUT`: steps of a job are listed
   Trace : TraceWords → Command
+  -- `freeze JOB CLOCK OUT`: a job is run to a clock, and the state of its consoles there is written
+  Freeze : FreezeWords → Command
 
 -- OUT may have 180 bytes, so that the names of the written files are names too
 abbrev pub longest_out : ℕ
@@ -76,6 +83,15 @@ abbrev pub trace_words : List ℕ → List ℕ → List ℕ → List ℕ → Opt
 trace_words job first count out =
     tracing (number_of 0 1099511627775 first) (number_of 1 1000000 count) (run_words job out)
 
+abbrev pub freezing : Option ℕ → Option RunWords → Option FreezeWords
+freezing None run = None
+freezing (Some clock) None = None
+freezing (Some clock) (Some run) = Some (record { run = run; clock = clock })
+
+-- CLOCK is from 1 to 2^38, of 1 to 20 decimal digits
+abbrev pub freeze_words : List ℕ → List ℕ → List ℕ → Option FreezeWords
+freeze_words job clock out = freezing (number_of 1 274877906944 clock) (run_words job out)
+
 -- a command of three words
 abbrev pub command_of_three : List ℕ → List ℕ → List ℕ → Option Command
 command_of_three name from to =
@@ -87,8 +103,10 @@ command_of_three name from to =
 
 -- a command of four words
 abbrev pub command_of_four : List ℕ → List ℕ → List ℕ → List ℕ → Option Command
-command_of_four name number cycles out =
-    if bytes_eq name (codes "gen") then option_map Generate (generate_words number cycles out) else None
+command_of_four name one two out =
+    if bytes_eq name (codes "gen") then option_map Generate (generate_words one two out)
+    else if bytes_eq name (codes "freeze") then option_map Freeze (freeze_words one two out)
+    else None
 
 -- a command of five words
 abbrev pub command_of_five : List ℕ → List ℕ → List ℕ → List ℕ → List ℕ → Option Command
@@ -101,7 +119,7 @@ command_of [] = None
 command_of (_ ∷ []) = None
 command_of (_ ∷ _ ∷ []) = None
 command_of (name ∷ from ∷ to ∷ []) = command_of_three name from to
-command_of (name ∷ number ∷ cycles ∷ out ∷ []) = command_of_four name number cycles out
+command_of (name ∷ one ∷ two ∷ out ∷ []) = command_of_four name one two out
 command_of (name ∷ job ∷ first ∷ count ∷ out ∷ []) = command_of_five name job first count out
 command_of (_ ∷ _ ∷ _ ∷ _ ∷ _ ∷ _ ∷ _) = None
 
@@ -129,6 +147,11 @@ pub record AreTraceWords (words : TraceWords) : Type 0 where
   pub some_steps : 1 ≤ words.count
   pub few_steps : words.count ≤ 1000000
 
+pub record AreFreezeWords (words : FreezeWords) : Type 0 where
+  pub run : AreRunWords words.run
+  pub some_cycles : 1 ≤ words.clock
+  pub few_cycles : words.clock ≤ 2 ^ 38
+
 abbrev pub IsCommand : Command → Type 0
 IsCommand (RunJob words) = AreRunWords words
 IsCommand (Assemble words) = AreFileWords words
@@ -136,3 +159,4 @@ IsCommand (ListArm words) = AreFileWords words
 IsCommand (ListThumb words) = AreFileWords words
 IsCommand (Generate words) = AreGenerateWords words
 IsCommand (Trace words) = AreTraceWords words
+IsCommand (Freeze words) = AreFreezeWords words

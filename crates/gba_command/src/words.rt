@@ -3,8 +3,8 @@
 ghost use Rattle.std.specs.Prelude.{◌≡◌, ◌≤◌, IfSome, length, map, option_map, string_bytes};
 ghost use Rattle.std.specs.Bool.{OnTrue};
 ghost use Rattle.gba_joblog.specs.Names.{is_name as is_name_said};
-ghost use Rattle.gba_command.specs.Views.{command_value, file_words_value, generate_words_value, run_words_value, trace_words_value};
-ghost use Rattle.gba_command.specs.Words.{AreFileWords, AreGenerateWords, AreRunWords, AreTraceWords, IsCommand, IsOut, command_of as command_said, command_of_five, command_of_four, command_of_three, file_words as file_words_said, generate_words as generate_words_said, is_out as is_out_said, run_words as run_words_said, trace_words as trace_words_said};
+ghost use Rattle.gba_command.specs.Views.{command_value, file_words_value, freeze_words_value, generate_words_value, run_words_value, trace_words_value};
+ghost use Rattle.gba_command.specs.Words.{AreFileWords, AreFreezeWords, AreGenerateWords, AreRunWords, AreTraceWords, IsCommand, IsOut, command_of as command_said, command_of_five, command_of_four, command_of_three, file_words as file_words_said, freeze_words as freeze_words_said, generate_words as generate_words_said, is_out as is_out_said, run_words as run_words_said, trace_words as trace_words_said};
 
 use gba_joblog::is_name;
 use gba_text::number_in;
@@ -23,6 +23,9 @@ const LAST_STEP: u64 = 1_099_511_627_775;
 
 /// The most steps of a trace.
 const MOST_STEPS: u64 = 1_000_000;
+
+/// The greatest CLOCK.
+const LAST_CLOCK: u64 = 274_877_906_944;
 
 /// The words JOB and OUT.
 #[derive(Clone, Copy, Debug, PartialEq, Eq)]
@@ -57,6 +60,14 @@ pub struct TraceWords<'a> {
     pub count: u64,
 }
 
+/// The words JOB and OUT beside CLOCK.
+#[derive(Clone, Copy, Debug, PartialEq, Eq)]
+pub struct FreezeWords<'a> {
+    pub run: RunWords<'a>,
+    /// In cycles of 16,777,216 Hz, from 1 to 274,877,906,944.
+    pub clock: u64,
+}
+
 /// A command of the program. Names are those of the job language, and that of what is written has at most 180 bytes.
 /// This project's profile.
 #[derive(Clone, Copy, Debug, PartialEq, Eq)]
@@ -73,6 +84,8 @@ pub enum Command<'a> {
     Generate(GenerateWords<'a>),
     /// `trace JOB FIRST COUNT OUT`: steps of a job are listed.
     Trace(TraceWords<'a>),
+    /// `freeze JOB CLOCK OUT`: a job is run to a clock, and the state of its consoles there is written.
+    Freeze(FreezeWords<'a>),
 }
 
 fn is_out(name: &str) -> bool
@@ -138,6 +151,15 @@ fn trace_words<'a>(job: &'a str, first: &str, count: &str, out: &'a str) -> Opti
     Some(TraceWords { run, first, count })
 }
 
+fn freeze_words<'a>(job: &'a str, clock: &str, out: &'a str) -> Option<FreezeWords<'a>>
+    ensures words { option_map freeze_words_value result ≡ freeze_words_said job.now clock.now out.now }
+    ensures sound { IfSome result (λ words. AreFreezeWords (freeze_words_value words)) }
+{
+    let clock = number_in(clock.as_bytes(), 1, LAST_CLOCK)?;
+    let run = run_words(job, out)?;
+    Some(FreezeWords { run, clock })
+}
+
 fn command_of_words<'a>(name: &str, from: &'a str, to: &'a str) -> Option<Command<'a>>
     ensures command { option_map command_value result ≡ command_of_three name.now from.now to.now }
     ensures sound { IfSome result (λ command. IsCommand (command_value command)) }
@@ -151,17 +173,13 @@ fn command_of_words<'a>(name: &str, from: &'a str, to: &'a str) -> Option<Comman
     }
 }
 
-fn command_of_numbers<'a>(
-    name: &str,
-    number: &str,
-    cycles: &str,
-    out: &'a str,
-) -> Option<Command<'a>>
-    ensures command { option_map command_value result ≡ command_of_four name.now number.now cycles.now out.now }
+fn command_of_numbers<'a>(name: &str, one: &'a str, two: &str, out: &'a str) -> Option<Command<'a>>
+    ensures command { option_map command_value result ≡ command_of_four name.now one.now two.now out.now }
     ensures sound { IfSome result (λ command. IsCommand (command_value command)) }
 {
     match name {
-        "gen" => generate_words(number, cycles, out).map(Command::Generate),
+        "gen" => generate_words(one, two, out).map(Command::Generate),
+        "freeze" => freeze_words(one, two, out).map(Command::Freeze),
         _ => None,
     }
 }
@@ -189,12 +207,9 @@ pub fn command_of(words: &[String]) -> Option<Command<'_>>
 {
     match words {
         [name, from, to] => command_of_words(name.as_str(), from.as_str(), to.as_str()),
-        [name, number, cycles, out] => command_of_numbers(
-            name.as_str(),
-            number.as_str(),
-            cycles.as_str(),
-            out.as_str(),
-        ),
+        [name, one, two, out] => {
+            command_of_numbers(name.as_str(), one.as_str(), two.as_str(), out.as_str())
+        }
         [name, job, first, count, out] => command_of_steps(
             name.as_str(),
             job.as_str(),

@@ -1,5 +1,5 @@
 -- The files of the runs of commands.
-use Rattle.std.proofs.Common.{◌≡◌, ℕ, ◌+◌, ◌<◌, ◌∙◌, true, false, List, [], ◌∷◌, ◌++◌, length, map, Some, Ok, refl, sym, ap, subst, inl, arith}
+use Rattle.std.proofs.Common.{◌≡◌, ℕ, ◌+◌, ◌<◌, ◌∙◌, Bool, true, false, nat_le, List, [], ◌∷◌, ◌++◌, length, map, Option, Some, Result, Ok, Err, refl, sym, ap, subst, inl, arith, if◌then◌else◌}
 use Rattle.std.specs.Prelude.{codes}
 use Rattle.std.specs.List.{All, AllZip}
 use Rattle.std.specs.Str.{bytes_eq}
@@ -10,13 +10,15 @@ use Rattle.gba_command.proofs.Comes.{outcome-done, outcome-parts}
 use Rattle.gba_command.proofs.LeftFiles.{has-own-files, names-apart}
 use Rattle.gba_command.proofs.Parts.{ArePart, all_differ, all_long, has_name, part-append, part-differ}
 use Rattle.gba_command.specs.LeftFiles.{NamesDiffer, is_among, standard_output}
-use Rattle.gba_command.specs.Plan.{outcome}
-use Rattle.gba_command.specs.Words.{Command, GenerateWords, RunJob, Assemble, ListArm, ListThumb, Generate, Trace, IsCommand, IsOut}
+use Rattle.gba_command.specs.Cause.{Cause}
+use Rattle.gba_command.specs.Plan.{file, judgement, outcome}
+use Rattle.gba_command.specs.Words.{AreFreezeWords, Command, FreezeWords, GenerateWords, RunWords, RunJob, Assemble, ListArm, ListThumb, Generate, Trace, Freeze, IsCommand, IsOut}
 use Rattle.gba_command.specs.Writing.{Output, Run}
 use Rattle.gba_dis.specs.declared.units.Set.TheVariants.{Arm, Thumb}
 use Rattle.gba_generator.proofs.MadeJob.{job-sound}
 use Rattle.gba_generator.specs.Job.{bios_file, job, job_file, job_text}
 use Rattle.gba_generator.specs.Source.{bios}
+use Rattle.gba_inputs.proofs.Replay.{judged-ok}
 use Rattle.gba_inputs.proofs.SoundInputs.{filled-sound, filled_consoles-sound, inputs-sound, zip-long}
 use Rattle.gba_inputs.specs.Filled.{filled}
 use Rattle.gba_inputs.specs.Inputs.{ConsoleInputs}
@@ -24,24 +26,31 @@ use Rattle.gba_inputs.specs.InputsPlan.{inputs_plan}
 use Rattle.gba_inputs.specs.Law.{AreInputs}
 use Rattle.gba_joblog.proofs.Sound.{sound}
 use Rattle.gba_joblog.specs.Job.{WholeJob}
+use Rattle.gba_joblog.specs.Language.{job_of, longest_job}
+use Rattle.gba_joblog.specs.declared.kinds.JobKind.TheVariants.{Long, Number}
 use Rattle.gba_joblog.specs.Names.{is_name}
 use Rattle.gba_joblog.specs.Soundness.{IsJob}
 use Rattle.gba_link.proofs.Generated.{made-sound}
-use Rattle.gba_link.proofs.RunsAgain.{done}
+use Rattle.gba_link.proofs.RunsAgain.{done, said}
 use Rattle.gba_link.specs.CommandPlan.{plan_of_command}
 use Rattle.gba_link.specs.FilesLaw.{HasFilesUnder, IsUnder, out_of}
+use Rattle.gba_link.specs.FreezePlan.{after_clock, after_inputs_frozen, clock_or_refusal, frozen_plan, result_of_freeze}
 use Rattle.gba_link.specs.GeneratedRun.{generated_run, made_files, made_inputs}
-use Rattle.gba_link.specs.RunPlan.{images_in, job_plan_with, result_of_run}
+use Rattle.gba_link.specs.RunPlan.{after_job_with, images_in, job_or_refusal_with, job_plan_with, job_refusal, result_of_run}
 use Rattle.gba_link.specs.TracePlan.{after_inputs_traced, result_of_trace, trace_file, traced, traced_plan}
-use Rattle.gba_run_files.proofs.OutputNames.{apart-under, differ-under, player_names, run_file_names, written-differ, written-part}
+use Rattle.gba_run_files.proofs.Shortening.{job-unstated-sound, job-until-sound}
+use Rattle.gba_run_files.proofs.OutputNames.{apart-under, differ-under, frozen-differ, frozen-under, player_names, run_file_names, written-differ, written-part}
 use Rattle.gba_run_files.proofs.OwnFiles.{own-after}
 use Rattle.gba_run_files.proofs.RunAgain.{written-under}
-use Rattle.gba_run_files.specs.Law.{RunsHaveOwnFiles, under}
+use Rattle.gba_run_files.specs.Frozen.{console_so_far, console_unstated, frozen_name, job_digest, job_unstated, job_until}
+use Rattle.gba_run_files.specs.Law.{FrozenRunsHaveOwnFiles, RunsHaveOwnFiles, under}
 use Rattle.gba_run_files.specs.Names.{names_from}
 use Rattle.gba_run_files.specs.Pieces.{run_pieces}
 use Rattle.gba_run_files.specs.Written.{files_at, summary_lines}
 use Rattle.gba_session.specs.Session.{prepared, whole_cut}
+use Rattle.gba_snapshot.specs.File.{frozen_file}
 use Rattle.gba_store.specs.Files.{Files}
+use Rattle.gba_text.specs.Languages.{error_at}
 use Rattle.gba_text.proofs.Steps.{ok-is}
 use Rattle.gba_translate.specs.Translation.{after_assembly, after_image, image_plan, listed, one_file, source_plan}
 
@@ -92,7 +101,10 @@ trace-under out text lines =
 
 -- ---- a job
 
-module _ (law : RunsHaveOwnFiles) where
+abbrev ok_job : WholeJob → Result WholeJob Cause
+ok_job job = Ok job
+
+module _ (law : RunsHaveOwnFiles) (frozen_law : FrozenRunsHaveOwnFiles) where
   job-under : (out : List ℕ) (said : WholeJob) (inputs : List ConsoleInputs) → IsJob said
       → AllZip AreInputs said.consoles inputs → HasFilesUnder out (result_of_run out said inputs)
   job-under out said inputs is read =
@@ -111,6 +123,50 @@ module _ (law : RunsHaveOwnFiles) where
         differ = (written-differ out count whole files lines pieces fine.few_consoles).0;
         own = law out whole images fine many;
         under = subst (All (IsUnder out)) (sym (written-under out count whole files lines pieces pieces)) (all-under out _);
+      }
+
+  -- ---- a job that is frozen
+
+  -- what a command's job says is a sound one
+  job-read : (files : Files) (more : Option (List ℕ)) (words : RunWords) (job : WholeJob)
+      → outcome files (job_plan_with more words) ≡ Ok job → IsJob job
+  job-read files more words job h =
+      let long = job_refusal words (error_at 0 Long) in
+      let read = outcome-parts files (file words.job longest_job long) (after_job_with more words) job h in
+      sound read.0 job (said more words job (job_of read.0) (judged-ok files (job_or_refusal_with more words read.0) job read.2))
+
+  clock-same : (files : Files) (words : FreezeWords) (asked found : WholeJob)
+      → outcome files (judgement (clock_or_refusal words asked)) ≡ Ok found → found ≡ asked
+  clock-same files words asked found h =
+      by (nat_le words.clock asked.cycles) (judged-ok files (clock_or_refusal words asked) found h) where
+        by : (early : Bool) → (if early then Ok asked else Err (job_refusal words.run (error_at 0 Number))) ≡ Ok found → found ≡ asked
+        by true same = let is : ok_job asked ≡ ok_job found = same in sym (ok-is asked found is)
+        by false same = absurd cc
+
+  frozen-under-out : (words : FreezeWords) (said : WholeJob) (inputs : List ConsoleInputs) → AreFreezeWords words → IsJob said
+      → AllZip AreInputs said.consoles inputs → HasFilesUnder words.run.out (result_of_freeze words said inputs)
+  frozen-under-out words said inputs named is read =
+      let out = words.run.out in
+      let whole : WholeJob = job_until words.clock (job_unstated (filled said inputs)) in
+      let images = map images_in inputs in
+      let s = prepared whole images in
+      let count = length whole.consoles in
+      let unstated : IsJob (job_unstated (filled said inputs)) =
+      job-unstated-sound (filled said inputs) (filled-sound said inputs is read) in
+      let fine : IsJob whole =
+      job-until-sound words.clock (job_unstated (filled said inputs)) named.some_cycles named.few_cycles unstated in
+      let kept : count ≡ length (filled said inputs).consoles =
+      length-map (job_unstated (filled said inputs)).consoles console_so_far
+      ∙ length-map (filled said inputs).consoles console_unstated in
+      let many : length images ≡ count =
+      length-map inputs images_in ∙ sym (zip-long said.consoles inputs read)
+      ∙ sym (filled_consoles-sound said.consoles inputs is.each read).long ∙ sym kept in
+      let files = files_at whole (whole_cut s) in
+      let text = frozen_file (job_digest (filled said inputs)) (whole_cut s) in
+      record {
+        differ = (frozen-differ out count whole.consoles files text fine.few_consoles).0;
+        own = frozen_law out (job_digest (filled said inputs)) whole images fine many;
+        under = subst (All (IsUnder out)) (sym (frozen-under out count whole.consoles files text)) (all-under out _);
       }
 
   -- ---- what `gen` makes
@@ -231,3 +287,14 @@ module _ (law : RunsHaveOwnFiles) where
       let made = result_of_trace words job read.0 in
       subst (HasFilesUnder words.run.out) (ok-is made run (sym (outcome-done files made) ∙ read.2))
       (trace-under words.run.out _ _)
+  commands-under files (Freeze words) run fine h =
+      let parts = outcome-parts files (job_plan_with (Some (frozen_name words.run.out)) words.run) (frozen_plan words) run h in
+      let asked = parts.0 in
+      let read = job-read files (Some (frozen_name words.run.out)) words.run asked parts.1 in
+      let timed = outcome-parts files (judgement (clock_or_refusal words asked)) (after_clock words) run parts.2 in
+      let same : timed.0 ≡ asked = clock-same files words asked timed.0 timed.1 in
+      let inputs = outcome-parts files (inputs_plan timed.0.consoles) (after_inputs_frozen words timed.0) run timed.2 in
+      let made = result_of_freeze words timed.0 inputs.0 in
+      let is : IsJob timed.0 = subst IsJob (sym same) read in
+      subst (HasFilesUnder words.run.out) (ok-is made run (sym (outcome-done files made) ∙ inputs.2))
+      (frozen-under-out words timed.0 inputs.0 fine is (inputs-sound files timed.0.consoles inputs.0 is.each inputs.1))

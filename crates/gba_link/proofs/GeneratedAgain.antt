@@ -1,5 +1,5 @@
 -- What `gen` makes can be run.
-use Rattle.std.proofs.Common.{◌≡◌, ◌≢◌, ◌≤◌, ℕ, zero, suc, ◌+◌, Bool, false, List, [], ◌∷◌, ◌++◌, ◌∙◌, length, map, Option, Some, None, Result, Ok, Err, refl, sym, ap, subst, arith, append_assoc, length-append, lit<}
+use Rattle.std.proofs.Common.{◌≡◌, ◌≢◌, ◌≤◌, ℕ, zero, suc, ◌+◌, Bool, false, List, [], ◌∷◌, ◌++◌, ◌∙◌, length, map, Option, Some, None, Result, Ok, Err, refl, sym, ap, arith, append_assoc, length-append, lit<}
 use Rattle.std.specs.Prelude.{IfOk, codes, decimal, option_map, ◌&&◌}
 use Rattle.std.specs.List.{AllZip}
 use Rattle.std.specs.Str.{bytes_eq}

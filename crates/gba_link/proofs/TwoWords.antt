@@ -6,7 +6,7 @@ use Rattle.gba_command.proofs.Comes.{ComesTo, comes-bind, comes-done, goes-comes
 use Rattle.gba_command.specs.Answer.{Answers, Closes, Concludes}
 use Rattle.gba_command.specs.Cause.{Cause, NoCommand, Job, Image, Digest, Source, Stop, Refused, Absent, StoreFails, LacksMemory, status_of, stop_status}
 use Rattle.gba_command.specs.Reading.{GoesTo}
-use Rattle.gba_command.specs.Words.{Command, FileWords, RunJob, Assemble, ListArm, ListThumb, Generate, Trace}
+use Rattle.gba_command.specs.Words.{Command, FileWords, RunJob, Assemble, ListArm, ListThumb, Generate, Trace, Freeze}
 use Rattle.gba_command.specs.Writing.{Run, SinkFails, SinkLacks, SinkState, WriteEnd, Wrote}
 use Rattle.gba_dis.specs.declared.units.Set.{Set}
 use Rattle.gba_dis.specs.declared.units.Set.TheVariants.{Arm, Thumb}
@@ -17,6 +17,9 @@ use Rattle.gba_inputs.specs.InputsPlan.{inputs_plan}
 use Rattle.gba_joblog.specs.Job.{WholeJob}
 use Rattle.gba_link.proofs.WrongWords.{refused-words}
 use Rattle.gba_link.specs.CommandPlan.{command_plan, plan_of_command}
+use Rattle.gba_command.specs.Plan.{judgement}
+use Rattle.gba_link.specs.FreezePlan.{after_clock, after_inputs_frozen, clock_or_refusal, frozen_plan, result_of_freeze}
+use Rattle.gba_run_files.specs.Frozen.{frozen_name}
 use Rattle.gba_link.specs.GeneratedRun.{generated_run, made_inputs}
 use Rattle.gba_link.specs.RunPlan.{after_inputs, end_with, images_in, job_plan, job_plan_with, result_of_run, run_plan}
 use Rattle.gba_link.specs.TracePlan.{after_inputs_traced, result_of_trace, trace_file, traced_plan}
@@ -64,6 +67,12 @@ run-fine (Trace words) run h e =
     let b = comes-bind (job_plan_with (Some (trace_file words.run.out)) words.run) (traced_plan words) run h in
     let i = comes-bind (inputs_plan b.0.consoles) (after_inputs_traced words b.0) run b.2 in
     let is = comes-done (result_of_trace words b.0 i.0) run i.2 in
+    let both = ap (λ (r : Run). r.end) is ∙ e in absurd cc
+run-fine (Freeze words) run h e =
+    let b = comes-bind (job_plan_with (Some (frozen_name words.run.out)) words.run) (frozen_plan words) run h in
+    let k = comes-bind (judgement (clock_or_refusal words b.0)) (after_clock words) run b.2 in
+    let i = comes-bind (inputs_plan k.0.consoles) (after_inputs_frozen words k.0) run k.2 in
+    let is = comes-done (result_of_freeze words k.0 i.0) run i.2 in
     let both = ap (λ (r : Run). r.end) is ∙ e in absurd cc
 
 -- ---- who answers 2

@@ -1,12 +1,12 @@
 -- Words are refused just where they say no command.
-use Rattle.std.proofs.Common.{◌≡◌, ◌⊎◌, ℕ, Bool, true, false, List, [], ◌∷◌, ◌++◌, Option, Some, None, Result, Ok, Err, refl, ap, subst, inl, inr, if◌then◌else◌}
+use Rattle.std.proofs.Common.{◌≡◌, ◌⊎◌, ℕ, Bool, true, false, List, [], ◌∷◌, ◌++◌, Option, Some, None, Result, Ok, Err, refl, ap, subst, inl, inr, nat_le, if◌then◌else◌}
 use Rattle.std.specs.Str.{bytes_eq}
 use Rattle.sha2.specs.Sha256.{sha256}
 use Rattle.gba_store.specs.declared.outside.ReadError.{ReadError}
 use Rattle.gba_command.specs.Cause.{Cause, NoCommand, Digest, Stop, Refused, LacksMemory}
 use Rattle.gba_command.specs.Plan.{Plan, Done, Refuse, Read, bind, each, judgement}
 use Rattle.gba_command.specs.Reading.{GoesTo}
-use Rattle.gba_command.specs.Words.{Command, FileWords, RunWords, TraceWords, RunJob, Assemble, ListArm, ListThumb, Generate, Trace}
+use Rattle.gba_command.specs.Words.{Command, FileWords, FreezeWords, RunWords, TraceWords, RunJob, Assemble, ListArm, ListThumb, Generate, Trace, Freeze}
 use Rattle.gba_command.specs.Writing.{Run}
 use Rattle.gba_command.proofs.Plans.{Names, refused-named, refuses-alone}
 use Rattle.gba_image.specs.declared.backup.Backup.{Backup}
@@ -24,8 +24,12 @@ use Rattle.gba_asm_words.specs.Kinds.{AsmError}
 use Rattle.gba_dis.specs.declared.units.Set.{Set}
 use Rattle.gba_dis.specs.declared.units.Set.TheVariants.{Arm, Thumb}
 use Rattle.gba_link.specs.CommandPlan.{command_plan, plan_of_command}
-use Rattle.gba_link.specs.RunPlan.{after_inputs, job_or_refusal_with, job_plan_with, run_plan, unless_clash, without_clash_with}
+use Rattle.gba_link.specs.FreezePlan.{after_clock, after_inputs_frozen, clock_or_refusal, frozen_plan}
+use Rattle.gba_link.specs.RunPlan.{after_inputs, job_or_refusal_with, job_plan_with, job_refusal, run_plan, unless_clash, without_clash_with}
 use Rattle.gba_link.specs.TracePlan.{after_inputs_traced, trace_file, traced_plan}
+use Rattle.gba_joblog.specs.declared.kinds.JobKind.TheVariants.{Number}
+use Rattle.gba_run_files.specs.Frozen.{frozen_name}
+use Rattle.gba_text.specs.Languages.{error_at}
 use Rattle.gba_translate.specs.Translation.{assembled, assembly_plan, listing_plan, after_assembly, unless_refused}
 
 abbrev refused_as : (X : Type 0) → Cause → Result X Cause
@@ -138,6 +142,17 @@ traced-named : (words : TraceWords) (job : WholeJob) → Names NoCommand (traced
 unfolding Names
 traced-named words job h = consoles-apart [] job.consoles (after_inputs_traced words job) (λ inputs none. none) h
 
+clock-apart : (words : FreezeWords) (job : WholeJob) (early : Bool)
+    → (if early then Ok job else Err (job_refusal words.run (error_at 0 Number))) ≡ Err NoCommand → ⊥
+clock-apart words job true h = cc
+clock-apart words job false h = cc
+
+frozen-named : (words : FreezeWords) (job : WholeJob) → Names NoCommand (frozen_plan words job) → ⊥
+unfolding Names
+frozen-named words job h =
+    judgement-apart (clock_or_refusal words job) (after_clock words) (clock-apart words job (nat_le words.clock job.cycles))
+    (λ found k. consoles-apart [] found.consoles (after_inputs_frozen words found) (λ inputs none. none) k) h
+
 unclashing : (words : RunWords) (job : WholeJob) (clash : Option ℕ) → unless_clash words job clash ≡ Err NoCommand → ⊥
 unclashing words job None h = cc
 unclashing words job (Some line) h = cc
@@ -180,6 +195,8 @@ read-named (ListThumb words) h = listing-named Thumb words h
 read-named (Generate words) h = h
 read-named (Trace words) h =
     job-named (Some (trace_file words.run.out)) words.run (traced_plan words) (traced-named words) h
+read-named (Freeze words) h =
+    job-named (Some (frozen_name words.run.out)) words.run (frozen_plan words) (frozen-named words) h
 
 module _ {Store : Type 0} (gives : List ℕ → ℕ → Result (List ℕ) ReadError → Store → Store → Type 0) where
   pub refused-words : (command : Option Command) (old new : Store) (end : Result Run Stop)

@@ -1,6 +1,7 @@
 pub mod RunPlan
 pub mod TracePlan
 pub mod GeneratedRun
+pub mod FreezePlan
 pub mod CommandPlan
 pub mod Law
 pub mod AgainLaw

@@ -7,6 +7,7 @@ ghost use Rattle.gba_command.specs.Words.{IsCommand};
 ghost use Rattle.gba_link.specs.CommandPlan.{plan_of, plan_of_command};
 ghost use Rattle.gba_link.specs.Work.{work_value};
 
+use crate::freezing::freeze_command;
 use crate::generation::generate;
 use crate::run::prepare_command;
 use crate::tracing::trace_command;
@@ -34,6 +35,7 @@ fn do_command<S: Store>(
         Command::ListThumb(words) => made(list_image(alloc, store, words, Set::Thumb)),
         Command::Generate(words) => generate(alloc, words),
         Command::Trace(words) => made(trace_command(alloc, store, words)),
+        Command::Freeze(words) => freeze_command(alloc, store, words),
     }
 }
 

@@ -10,7 +10,7 @@ ghost use Rattle.gba_link.specs.InputsLaw.{SparesItsInputs};
 ghost use Rattle.gba_link.specs.Law.{RefusesWrongWords, TwoIsWrongWords};
 
 use gba_console::laws::counts_what_it_keeps;
-use gba_run_files::laws::runs_have_own_files;
+use gba_run_files::laws::{frozen_runs_have_own_files, runs_have_own_files};
 use gba_store::{Sink, Store};
 
 /// Words are refused just where they say no command, and then nothing is read. Want of memory may come before it.
@@ -66,4 +66,5 @@ pub fn commands_have_files()
     ensures { CommandsHaveFiles }
 {
     runs_have_own_files();
+    frozen_runs_have_own_files();
 }

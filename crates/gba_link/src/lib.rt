@@ -11,6 +11,7 @@ ghost use Rattle.gba_command.specs.Writing.{Run};
 ghost use Rattle.gba_link.specs.CommandPlan.{plan_of};
 
 mod commands;
+mod freezing;
 mod generation;
 pub mod laws;
 mod run;
@@ -31,7 +32,7 @@ use std::thread::Threads;
 /// | 2 | `words` | the words are no command |
 /// | 3 | `absent NAME` | JOB, an image, a key file or a source, the next file to read, isn't there |
 /// | 4 | `store NAME` | the store failed in the read of the next file |
-/// | 5 | `job NAME line L KIND` | JOB or a key file isn't of its language, or an output file would be JOB or an input |
+/// | 5 | `job NAME line L KIND` | JOB or a key file isn't of its language, an output file would be JOB or an input, or CLOCK is above the job's cycles |
 /// | 6 | `image NAME KIND` | the image fails its check, or is too long to be listed; KIND is the first reason |
 /// | 7 | `digest NAME stated H got H` | a stated digest isn't that of the file that was read or made |
 /// | 8 | `source NAME line L KIND` | the source isn't of the assembly language, first at this line |

@@ -10,6 +10,8 @@ pub use content::{Content, Expected, bytes_of, is_as_expected, stored_all};
 pub use logging::LoggingSink;
 
 #[cfg(test)]
+mod freezing;
+#[cfg(test)]
 mod segments;
 #[cfg(test)]
 mod top_call;

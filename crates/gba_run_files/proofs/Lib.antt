@@ -1,3 +1,4 @@
+pub mod Shortening
 pub mod Asked
 pub mod Compared
 pub mod ConsoleDifferences

@@ -16,6 +16,7 @@ use Rattle.gba_joblog.specs.declared.outputs.OutKind.TheVariants.{Frames, Sample
 use Rattle.gba_joblog.specs.declared.outputs.PerKind.{PerKind}
 use Rattle.gba_joblog.proofs.EachKind.{at-per_kind}
 use Rattle.gba_session.specs.Files.{bytes_if, output_bytes}
+use Rattle.gba_run_files.specs.Frozen.{frozen_name}
 use Rattle.gba_run_files.specs.Names.{names_from, names_of}
 use Rattle.gba_run_files.specs.Pieces.{console_pieces, cut_pieces, kind_piece, piece_if}
 
@@ -59,6 +60,17 @@ log-apart out player kind few same =
     let whole = length-append (decimal player) (codes "." ++ out_name kind) in
     let long : length (codes "." ++ (decimal player ++ (codes "." ++ out_name kind))) ≡ length (codes ".log") = ap length tail in
     absurd (omega (arith, digit, whole, long, kind-letters kind))
+
+-- nor is the frozen file: its name has a letter where that of an output has its player
+pub frozen-apart : (out : List ℕ) (player : ℕ) (kind : OutKind) → player < 10 → output_file out player kind ≢ frozen_name out
+frozen-apart out player kind few same =
+    let tail : codes "." ++ (decimal player ++ (codes "." ++ out_name kind)) ≡ codes "." ++ codes "frozen" =
+    append_cancel_left out _ _ same in
+    let rest : (48 + player) ∷ (46 ∷ out_name kind) ≡ 102 ∷ codes "rozen" =
+    ap (λ (digits : List ℕ). digits ++ (codes "." ++ out_name kind)) (sym (decimal_digit player (omega (arith, few))))
+    ∙ append_cancel_left (codes ".") _ (codes "frozen") tail in
+    let first : 48 + player ≡ 102 = cc in
+    absurd (omega (arith, first, few))
 
 -- ---- what pieces add
 

@@ -5,7 +5,7 @@ use Rattle.std.specs.List.{flat_map}
 use Rattle.std.specs.Str.{bytes_eq}
 use Rattle.std.proofs.lemmas.Bool.Decides.{nat_tests}
 use Rattle.std.proofs.lemmas.Fmt.{decimal_digit}
-use Rattle.std.proofs.lemmas.List.{append_cancel_left, length-append}
+use Rattle.std.proofs.lemmas.List.{append_cancel_left, length-append, map-append}
 use Rattle.gba_command.proofs.LeftFiles.{same-name, names-apart, own-name}
 use Rattle.gba_command.proofs.Parts.{ArePart, part-append, part-differ, all_differ, has_name, all_long}
 use Rattle.gba_command.specs.LeftFiles.{NamesDiffer, is_among, standard_output}
@@ -18,10 +18,11 @@ use Rattle.gba_joblog.specs.declared.outputs.OutKind.{OutKind}
 use Rattle.gba_joblog.specs.declared.outputs.PerKind.{PerKind}
 use Rattle.gba_joblog.proofs.EachKind.{at-per_kind}
 use Rattle.gba_run_files.specs.Law.{under}
+use Rattle.gba_run_files.specs.Frozen.{frozen_name}
 use Rattle.gba_run_files.specs.Names.{names_from, names_of, run_names}
 use Rattle.gba_run_files.specs.Outputs.{console_outputs, kind_output, output_if, outputs_of}
 use Rattle.gba_run_files.specs.Written.{log_of, written}
-use Rattle.gba_run_files.proofs.RunAgain.{written-under}
+use Rattle.gba_run_files.proofs.RunAgain.{outputs-under, written-under}
 
 -- ---- files under OUT
 
@@ -160,4 +161,47 @@ written-differ out count job files lines pieces few =
           (differ-under out plain (part-differ plain (run_file_names count) part n.0)),
       subst (λ (l : List Output). is_among standard_output l ≡ false) (sym is)
           (apart-under out plain (run_file_names count) part n.1),
+    )
+
+-- ---- the names of a run that is frozen
+
+abbrev frozen_file_names : ℕ → List (List ℕ)
+frozen_file_names count = player_names 0 count ++ frozen_name [] ∷ []
+
+frozen-names : (count : ℕ) → count ≤ 4
+    → (all_differ (frozen_file_names count) ≡ true) × (all_long (frozen_file_names count) ≡ true)
+unfolding player_names all_differ has_name all_long
+frozen-names zero few = (refl, refl)
+frozen-names (suc zero) few = (refl, refl)
+frozen-names (suc (suc zero)) few = (refl, refl)
+frozen-names (suc (suc (suc zero))) few = (refl, refl)
+frozen-names (suc (suc (suc (suc zero)))) few = (refl, refl)
+frozen-names (suc (suc (suc (suc (suc n))))) few = absurd (omega (arith, few))
+
+abbrev frozen_output : List ℕ → List ℕ → Output
+frozen_output out bytes = record { name = frozen_name out; bytes = bytes }
+
+abbrev frozen_outputs : List ℕ → ℕ → List ConsoleJob → List (PerKind (List ℕ)) → List ℕ → List Output
+frozen_outputs out count consoles files bytes = outputs_of (names_from out 0 count) consoles files ++ frozen_output out bytes ∷ []
+
+pub frozen-under : (out : List ℕ) (count : ℕ) (consoles : List ConsoleJob) (files : List (PerKind (List ℕ))) (bytes : List ℕ)
+    → frozen_outputs out count consoles files bytes ≡ map (under out) (frozen_outputs [] count consoles files bytes)
+frozen-under out count consoles files bytes =
+    ap (λ (xs : List Output). xs ++ frozen_output out bytes ∷ []) (outputs-under out 0 count consoles files)
+    ∙ sym (map-append (under out) (outputs_of (names_from [] 0 count) consoles files) (frozen_output [] bytes ∷ []))
+
+pub frozen-differ : (out : List ℕ) (count : ℕ) (consoles : List ConsoleJob) (files : List (PerKind (List ℕ))) (bytes : List ℕ)
+    → count ≤ 4 → NamesDiffer (frozen_outputs out count consoles files bytes)
+    × (is_among standard_output (frozen_outputs out count consoles files bytes) ≡ false)
+frozen-differ out count consoles files bytes few =
+    let plain : List Output = frozen_outputs [] count consoles files bytes in
+    let part : ArePart plain (frozen_file_names count) =
+    part-append (outputs_of (names_from [] 0 count) consoles files) (frozen_output [] bytes ∷ []) (player_names 0 count)
+    (frozen_name [] ∷ []) (outputs-part 0 count consoles files (omega (arith, few))) (one-part (frozen_output [] bytes)) in
+    let n = frozen-names count few in
+    let is = frozen-under out count consoles files bytes in (
+      subst (λ (l : List Output). NamesDiffer l) (sym is)
+          (differ-under out plain (part-differ plain (frozen_file_names count) part n.0)),
+      subst (λ (l : List Output). is_among standard_output l ≡ false) (sym is)
+          (apart-under out plain (frozen_file_names count) part n.1),
     )

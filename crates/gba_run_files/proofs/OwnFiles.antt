@@ -1,18 +1,19 @@
 -- Each file of a job's run is the join of its pieces, and each piece is one of a file.
-use Rattle.std.proofs.Common.{◌≡◌, ℕ, zero, suc, ◌+◌, ◌<◌, ◌∙◌, Bool, true, false, ◌||◌, List, [], ◌∷◌, ◌++◌, length, get_or, map, refl, sym, ap, subst, arith, if◌then◌else◌}
+use Rattle.std.proofs.Common.{◌≡◌, ◌≢◌, ℕ, zero, suc, ◌+◌, ◌<◌, ◌∙◌, Bool, true, false, ◌||◌, List, [], ◌∷◌, ◌++◌, length, get_or, map, Result, Ok, refl, sym, ap, subst, arith, if◌then◌else◌}
 use Rattle.std.specs.List.{All, flat_map}
 use Rattle.std.specs.Str.{bytes_eq}
 use Rattle.std.proofs.lemmas.List.{append-nil, get_or-map, length-map}
 use Rattle.std.proofs.lemmas.List.Elements.{All-append, All-cons, All-head, All-nil, All-tail}
 use Rattle.gba_command.proofs.LeftFiles.{has-own-files, names-apart, other-name, own-name}
 use Rattle.gba_command.proofs.Parts.{neither}
+use Rattle.gba_command.specs.Cause.{Cause}
 use Rattle.gba_command.specs.LeftFiles.{HasOwnFiles, NamesDiffer, added, is_among, standard_output}
 use Rattle.gba_command.specs.Writing.{Output, Run}
 use Rattle.gba_console.specs.Machine.{Machine, forgotten}
 use Rattle.gba_console.specs.Segments.{LiveSegments}
 use Rattle.gba_image.specs.declared.images.ConsoleImages.{ConsoleImages}
 use Rattle.gba_joblog.proofs.EachKind.{at-per_kind}
-use Rattle.gba_joblog.specs.Clash.{log_file, output_file}
+use Rattle.gba_joblog.specs.Clash.{output_file}
 use Rattle.gba_joblog.specs.Job.{ConsoleJob, WholeJob}
 use Rattle.gba_joblog.specs.Outputs.{all_kinds, at_kind}
 use Rattle.gba_joblog.specs.Soundness.{IsJob}
@@ -20,14 +21,16 @@ use Rattle.gba_joblog.specs.Statements.{asks_for}
 use Rattle.gba_joblog.specs.declared.outputs.OutKind.{OutKind}
 use Rattle.gba_joblog.specs.declared.outputs.OutKind.TheVariants.{Frames, Samples, Words, State, Save}
 use Rattle.gba_joblog.specs.declared.outputs.PerKind.{PerKind}
-use Rattle.gba_run_files.proofs.Named.{added-append, log-apart}
-use Rattle.gba_run_files.proofs.OutputNames.{written-differ}
+use Rattle.gba_run_files.proofs.Named.{added-append, frozen-apart, log-apart}
+use Rattle.gba_run_files.proofs.OutputNames.{frozen-differ, written-differ}
 use Rattle.gba_run_files.proofs.Segmented.{advances}
-use Rattle.gba_run_files.proofs.Whole.{log-added-none, output-added}
+use Rattle.gba_run_files.proofs.Whole.{other-added-none, output-added}
+use Rattle.gba_run_files.specs.Frozen.{freeze_names, frozen_run}
 use Rattle.gba_run_files.specs.Names.{names_from, names_of, run_names}
 use Rattle.gba_run_files.specs.Outputs.{console_outputs, kind_output, outputs_of}
 use Rattle.gba_run_files.specs.Pieces.{console_pieces, cut_pieces, growing_kinds, kind_piece, lasting_kinds, later_segments, piece_if, run_pieces, segment_pieces}
 use Rattle.gba_run_files.specs.Written.{after_files, files_at, log_of, log_output, run_of, summary_lines}
+use Rattle.gba_snapshot.specs.File.{frozen_file}
 use Rattle.gba_session.proofs.Preparing.{reset-empty, start-can, start-long}
 use Rattle.gba_session.proofs.Advancing.{until-many}
 use Rattle.gba_session.specs.Files.{all_files, asks_of, bytes_if, files_of, output_bytes}
@@ -254,16 +257,16 @@ one-console : (consoles : List ConsoleJob) → 0 < length consoles → ConsoleJo
 one-console [] some = absurd (omega (arith, some))
 one-console (c ∷ consoles) some = c
 
-log-among : (before : List Output) (log : Output) → is_among log.name (before ++ log ∷ []) ≡ true
-log-among before log = among-second log.name before (log ∷ []) (among-own log [])
+last-among : (before : List Output) (last : Output) → is_among last.name (before ++ last ∷ []) ≡ true
+last-among before last = among-second last.name before (last ∷ []) (among-own last [])
 
-added-log : (name : List ℕ) (log : Output) → bytes_eq log.name name ≡ false → added name (log ∷ []) ≡ []
+added-last : (name : List ℕ) (last : Output) → bytes_eq last.name name ≡ false → added name (last ∷ []) ≡ []
 unfolding added
-added-log name log apart = rw apart refl
+added-last name last apart = rw apart refl
 
-added-own : (log : Output) → added log.name (log ∷ []) ≡ log.bytes
+added-own : (last : Output) → added last.name (last ∷ []) ≡ last.bytes
 unfolding added
-added-own log = rw (own-name log.name) (append-nil log.bytes)
+added-own last = rw (own-name last.name) (append-nil last.bytes)
 
 module _ (law : LiveSegments) (out : List ℕ) (job : WholeJob) (images : List ConsoleImages) (sound : IsJob job)
     (many : length images ≡ length job.consoles) where
@@ -275,9 +278,6 @@ module _ (law : LiveSegments) (out : List ℕ) (job : WholeJob) (images : List C
 
   abbrev machines : List Machine
   machines = (whole_cut s).consoles
-
-  abbrev log : Output
-  log = log_output (run_names out count) (log_of job (files_at job (whole_cut s)))
 
   abbrev outputs : List Output
   outputs = outputs_of (names_from out 0 count) job.consoles (files_at job (whole_cut s))
@@ -304,49 +304,73 @@ module _ (law : LiveSegments) (out : List ℕ) (job : WholeJob) (images : List C
       → get_or (run_until 0 s.start).consoles k m ≡ forgotten (get_or s.start.consoles k m)
   reset k m within = reset-empty job images k m (omega (arith, within, start-long job images sound many))
 
-  output-whole : (j : ℕ) (kind : OutKind) (c : ConsoleJob) (m : Machine) → j < count
-      → asks_for (get_or job.consoles j c) kind ≡ true
-      → added (output_file out (0 + j) kind) (pieces ++ log ∷ []) ≡ output_bytes kind (get_or machines j m)
-  output-whole j kind c m within asked =
-      let here : 0 + j ≡ j = omega arith in
-      let a = asks_of c in
-      let few : j < 10 = omega (arith, within, sound.few_consoles) in
-      ap (λ (k : ℕ). added (output_file out k kind) (pieces ++ log ∷ [])) here
-      ∙ added-append (output_file out j kind) pieces (log ∷ [])
-      ∙ ap (λ (bytes : List ℕ). bytes ++ added (output_file out j kind) (log ∷ []))
-      (output-added law out s count sound.few_consoles (start-can job images sound many) refl (sym asks-long) start-many reset
-      j kind within a m (asks-are j kind c a within ∙ asked))
-      ∙ ap (λ (bytes : List ℕ). output_bytes kind (get_or machines j m) ++ bytes)
-      (added-log (output_file out j kind) log
-      (names-apart (log_file out) (output_file out j kind) (λ same. log-apart out j kind few (sym same))))
-      ∙ append-nil (output_bytes kind (get_or machines j m))
+  -- the files of a run that writes one more behind these, by a name of its own
+  module _ (last : Output) (apart : (player : ℕ) (kind : OutKind) → player < 10 → output_file out player kind ≢ last.name)
+      (none : is_among standard_output (outputs ++ last ∷ []) ≡ false) (end : Result (List ℕ) Cause) where
+    output-whole : (j : ℕ) (kind : OutKind) (c : ConsoleJob) (m : Machine) → j < count
+        → asks_for (get_or job.consoles j c) kind ≡ true
+        → added (output_file out (0 + j) kind) (pieces ++ last ∷ []) ≡ output_bytes kind (get_or machines j m)
+    output-whole j kind c m within asked =
+        let here : 0 + j ≡ j = omega arith in
+        let a = asks_of c in
+        let few : j < 10 = omega (arith, within, sound.few_consoles) in
+        ap (λ (k : ℕ). added (output_file out k kind) (pieces ++ last ∷ [])) here
+        ∙ added-append (output_file out j kind) pieces (last ∷ [])
+        ∙ ap (λ (bytes : List ℕ). bytes ++ added (output_file out j kind) (last ∷ []))
+        (output-added law out s count sound.few_consoles (start-can job images sound many) refl (sym asks-long) start-many reset
+        j kind within a m (asks-are j kind c a within ∙ asked))
+        ∙ ap (λ (bytes : List ℕ). output_bytes kind (get_or machines j m) ++ bytes)
+        (added-last (output_file out j kind) last
+        (names-apart last.name (output_file out j kind) (λ same. apart j kind few (sym same))))
+        ∙ append-nil (output_bytes kind (get_or machines j m))
 
-  log-whole : added log.name (pieces ++ log ∷ []) ≡ log.bytes
-  log-whole =
-      added-append log.name pieces (log ∷ [])
-      ∙ ap (λ (bytes : List ℕ). bytes ++ added log.name (log ∷ []))
-      (log-added-none law out s count sound.few_consoles (start-can job images sound many) refl (sym asks-long) start-many reset)
-      ∙ added-own log
+    last-whole : added last.name (pieces ++ last ∷ []) ≡ last.bytes
+    last-whole =
+        added-append last.name pieces (last ∷ [])
+        ∙ ap (λ (bytes : List ℕ). bytes ++ added last.name (last ∷ []))
+        (other-added-none law out s count sound.few_consoles (start-can job images sound many) refl (sym asks-long) start-many reset
+        last.name apart)
+        ∙ added-own last
 
-  pub own-files : HasOwnFiles (run_of (run_names out count) job s)
-  own-files =
-      let P : Output → Type 0 = λ piece. is_among piece.name (outputs ++ log ∷ []) ≡ true in
-      let Q : Output → Type 0 = λ output. added output.name (pieces ++ log ∷ []) ≡ output.bytes in
-      let c = one-console job.consoles sound.some_consoles in
-      let files_long : length (files_at job (whole_cut s)) ≡ count =
-      files-long (map asks_of job.consoles) machines (omega (arith, asks-long, machines-many)) ∙ asks-long in
-      record {
-        apart = (written-differ out count job (files_at job (whole_cut s)) (summary_lines machines) pieces sound.few_consoles).1;
-        own = All-append P pieces (log ∷ [])
-            (pieces-hold P out count s (λ j kind a less within asked some.
-            among-first (output_file out j kind) outputs (log ∷ [])
-            (output-among out 0 j j job.consoles (files_at job (whole_cut s)) c kind (omega arith) files_long less
-            (sym (asks-are j kind c a less) ∙ asked))))
-            (All-cons P log [] (log-among outputs log) (All-nil P));
-        whole = All-append Q outputs (log ∷ [])
-            (outputs-hold Q out 0 job.consoles machines machines-many output-whole)
-            (All-cons Q log [] log-whole (All-nil Q));
-      }
+    pub own-files : HasOwnFiles (record { outputs = outputs ++ last ∷ []; pieces = pieces ++ last ∷ []; end = end })
+    own-files =
+        let P : Output → Type 0 = λ piece. is_among piece.name (outputs ++ last ∷ []) ≡ true in
+        let Q : Output → Type 0 = λ output. added output.name (pieces ++ last ∷ []) ≡ output.bytes in
+        let c = one-console job.consoles sound.some_consoles in
+        let files_long : length (files_at job (whole_cut s)) ≡ count =
+        files-long (map asks_of job.consoles) machines (omega (arith, asks-long, machines-many)) ∙ asks-long in
+        record {
+          apart = none;
+          own = All-append P pieces (last ∷ [])
+              (pieces-hold P out count s (λ j kind a less within asked some.
+              among-first (output_file out j kind) outputs (last ∷ [])
+              (output-among out 0 j j job.consoles (files_at job (whole_cut s)) c kind (omega arith) files_long less
+              (sym (asks-are j kind c a less) ∙ asked))))
+              (All-cons P last [] (last-among outputs last) (All-nil P));
+          whole = All-append Q outputs (last ∷ [])
+              (outputs-hold Q out 0 job.consoles machines machines-many output-whole)
+              (All-cons Q last [] last-whole (All-nil Q));
+        }
+
+  -- those of a job's run, which writes its log there
+  abbrev log : Output
+  log = log_output (run_names out count) (log_of job (files_at job (whole_cut s)))
+
+  pub run-own-files : HasOwnFiles (run_of (run_names out count) job s)
+  run-own-files =
+      own-files log (log-apart out)
+      (written-differ out count job (files_at job (whole_cut s)) (summary_lines machines) pieces sound.few_consoles).1
+      (run_of (run_names out count) job s).end
+
+  -- and those of one that is frozen at its end
+  abbrev frozen : List ℕ → Output
+  frozen digest = log_output (freeze_names out count) (frozen_file digest (whole_cut s))
+
+  pub frozen-own-files : (digest : List ℕ) → HasOwnFiles (frozen_run (freeze_names out count) job digest s)
+  frozen-own-files digest =
+      own-files (frozen digest) (frozen-apart out)
+      (frozen-differ out count job.consoles (files_at job (whole_cut s)) (frozen_file digest (whole_cut s)) sound.few_consoles).1
+      (Ok (summary_lines machines))
 
 -- ---- a run with files before its own
 

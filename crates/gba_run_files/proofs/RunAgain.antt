@@ -54,7 +54,7 @@ console-under : (out : List ℕ) (player : ℕ) (console : ConsoleJob) (files : 
 unfolding console_outputs
 console-under out player console files = kinds-under out player console files all_kinds
 
-outputs-under : (out : List ℕ) (player count : ℕ) (consoles : List ConsoleJob) (files : List (PerKind (List ℕ)))
+pub outputs-under : (out : List ℕ) (player count : ℕ) (consoles : List ConsoleJob) (files : List (PerKind (List ℕ)))
     → outputs_of (names_from out player count) consoles files
     ≡ map (under out) (outputs_of (names_from [] player count) consoles files)
 unfolding outputs_of names_from

@@ -7,6 +7,8 @@ use Rattle.gba_session.specs.Session.{Consoles, advanced, is_over, later_end, se
 use Rattle.gba_run_files.specs.Pieces.{console_pieces, cut_pieces, growing_kinds, lasting_kinds, later_segments, left_pieces, run_pieces, segment_pieces}
 use Rattle.gba_run_files.specs.Ready.{IsLast, IsReady}
 use Rattle.gba_run_files.specs.Written.{files_at}
+use Rattle.gba_output.specs.StateFile.{save_file, state_file}
+use Rattle.gba_snapshot.proofs.Forgetting.{state-forgotten}
 use Rattle.gba_session.proofs.Advancing.{until-many}
 use Rattle.gba_session.proofs.Consoles.{files-long}
 use Rattle.gba_session.specs.Files.{asks_of}
@@ -99,6 +101,10 @@ last-whole s first last is l =
     ap (λ (u : ℕ). run_until u last.start) (l.until ∙ ap (λ (x : Consoles). x.until) is ∙ more.until)
     ∙ ap (λ (start : Cut Machine). run_until s.until start) (l.start ∙ ap (λ (x : Consoles). x.start) is ∙ more.start)
 
+pub same-whole : (s last : Consoles) → IsLast s last → whole_cut last ≡ whole_cut s
+same-whole s last l =
+    ap (λ (u : ℕ). run_until u last.start) l.until ∙ ap (λ (start : Cut Machine). run_until s.until start) l.start
+
 pub last-asks : (s first last : Consoles) → first ≡ advanced s → IsLast first last → last.asks ≡ s.asks
 last-asks s first last is l = l.asks ∙ ap (λ (x : Consoles). x.asks) is ∙ (advances s).asks
 
@@ -114,7 +120,10 @@ files-many job s ready =
 
 lasting-one : (names : PerKind (List ℕ)) (asks : PerKind Bool) (m w : Machine) → forgotten m ≡ forgotten w
     → console_pieces lasting_kinds names asks m ≡ console_pieces lasting_kinds names asks w
-lasting-one names asks m w same = ap (λ (x : Machine). console_pieces lasting_kinds names asks x) same
+lasting-one names asks m w same =
+    let state : state_file m ≡ state_file w = sym (state-forgotten m) ∙ ap state_file same ∙ state-forgotten w in
+    let save : save_file m ≡ save_file w = ap (λ (x : Machine). save_file x) same in
+    rw (state, save) refl
 
 heads : {X : Type 0} (x y : X) (xs ys : List X) → x ∷ xs ≡ y ∷ ys → x ≡ y
 heads x y xs ys h = cc

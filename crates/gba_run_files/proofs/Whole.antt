@@ -1,5 +1,5 @@
 -- The pieces of each file of a run, one after another, are its bytes.
-use Rattle.std.proofs.Common.{◌≡◌, ℕ, zero, suc, ◌+◌, ◌*◌, ◌<◌, ◌≤◌, ◌∙◌, Bool, true, false, not, nat_eq, nat_lt, min, List, [], ◌∷◌, ◌++◌, length, get_or, refl, sym, ap, subst, arith, append_assoc, if◌then◌else◌}
+use Rattle.std.proofs.Common.{◌≡◌, ◌≢◌, ℕ, zero, suc, ◌+◌, ◌*◌, ◌<◌, ◌≤◌, ◌∙◌, Bool, true, false, not, nat_eq, nat_lt, min, List, [], ◌∷◌, ◌++◌, length, get_or, refl, sym, ap, subst, arith, append_assoc, if◌then◌else◌}
 use Rattle.std.proofs.lemmas.Bool.Decides.{nat_tests}
 use Rattle.std.proofs.lemmas.Grind.{flat_map-append}
 use Rattle.std.proofs.lemmas.List.{append-nil}
@@ -7,13 +7,13 @@ use Rattle.gba_command.specs.LeftFiles.{added}
 use Rattle.gba_command.specs.Writing.{Output}
 use Rattle.gba_console.specs.Machine.{Machine, forgotten}
 use Rattle.gba_console.specs.Segments.{LiveSegments, behind}
-use Rattle.gba_joblog.specs.Clash.{log_file, output_file}
+use Rattle.gba_joblog.specs.Clash.{output_file}
 use Rattle.gba_joblog.specs.Outputs.{at_kind}
 use Rattle.gba_joblog.specs.declared.outputs.OutKind.{OutKind}
 use Rattle.gba_joblog.specs.declared.outputs.OutKind.TheVariants.{Frames, Samples, Words, State, Save}
 use Rattle.gba_joblog.specs.declared.outputs.PerKind.{PerKind}
 use Rattle.gba_output.specs.TransferWords.{words_line}
-use Rattle.gba_run_files.proofs.Named.{console-other, name-told, added-append, cut-own, is_one_of, kinds-none, kinds-once, log-apart}
+use Rattle.gba_run_files.proofs.Named.{console-other, name-told, added-append, cut-own, is_one_of, kinds-none, kinds-once}
 use Rattle.gba_run_files.proofs.Segmented.{next-segment, over-none}
 use Rattle.gba_run_files.specs.Names.{names_from, names_of}
 use Rattle.gba_run_files.specs.Pieces.{console_pieces, cut_pieces, growing_kinds, lasting_kinds, later_segments, run_pieces, segment_pieces}
@@ -280,17 +280,18 @@ module _ (law : LiveSegments) (out : List ℕ) (s : Consoles) (count : ℕ) (few
       by true grow = growing-added grow
       by false last = lasting-added last
 
-  -- none is of the log
-  pub log-added-none : added (log_file out) (run_pieces names s) ≡ []
-  log-added-none =
+  -- none is of a file that is no output
+  pub other-added-none : (name : List ℕ) → ((player : ℕ) (kind : OutKind) → player < 10 → output_file out player kind ≢ name)
+      → added name (run_pieces names s) ≡ []
+  other-added-none name other =
       let most = suc (later_segments s) in
       let last = cut_pieces lasting_kinds names s.asks (whole_cut s).consoles in
       let apart : (j : ℕ) (asks : PerKind Bool) (x : Machine) (kinds : List OutKind) → j < count
-      → added (log_file out) (console_pieces kinds (names_of out j) asks x) ≡ [] =
-      λ j asks x kinds within. console-other out (log_file out) j asks x kinds
-      (λ one. log-apart out j one (omega (arith, within, few))) in
-      added-append (log_file out) (segment_pieces most names s) last
-      ∙ ap (λ (bytes : List ℕ). bytes ++ added (log_file out) last)
-      (segments-other (log_file out) out count (λ j asks x. apart j asks x growing_kinds) most s)
-      ∙ cut-none (log_file out) out lasting_kinds count (λ j asks x. apart j asks x lasting_kinds) 0 count s.asks
+      → added name (console_pieces kinds (names_of out j) asks x) ≡ [] =
+      λ j asks x kinds within. console-other out name j asks x kinds
+      (λ one. other j one (omega (arith, within, few))) in
+      added-append name (segment_pieces most names s) last
+      ∙ ap (λ (bytes : List ℕ). bytes ++ added name last)
+      (segments-other name out count (λ j asks x. apart j asks x growing_kinds) most s)
+      ∙ cut-none name out lasting_kinds count (λ j asks x. apart j asks x lasting_kinds) 0 count s.asks
       (whole_cut s).consoles (omega arith)

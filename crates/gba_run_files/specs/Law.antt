@@ -6,6 +6,7 @@ use Rattle.gba_joblog.specs.Job.{WholeJob}
 use Rattle.gba_joblog.specs.Log.{log_text}
 use Rattle.gba_joblog.specs.Soundness.{IsJob}
 use Rattle.gba_joblog.specs.declared.outputs.PerKind.{PerKind}
+use Rattle.gba_run_files.specs.Frozen.{freeze_names, frozen_run}
 use Rattle.gba_run_files.specs.Names.{run_names}
 use Rattle.gba_run_files.specs.Written.{log_of, run_of, written}
 use Rattle.gba_session.specs.Session.{prepared}
@@ -36,3 +37,9 @@ abbrev pub RunsHaveOwnFiles : Type 0
 RunsHaveOwnFiles =
     (out : List ℕ) (job : WholeJob) (images : List ConsoleImages) → IsJob job → length images ≡ length job.consoles
     → HasOwnFiles (run_of (run_names out (length job.consoles)) job (prepared job images))
+
+-- The same of the run of a job that is frozen at its end.
+abbrev pub FrozenRunsHaveOwnFiles : Type 0
+FrozenRunsHaveOwnFiles =
+    (out digest : List ℕ) (job : WholeJob) (images : List ConsoleImages) → IsJob job → length images ≡ length job.consoles
+    → HasOwnFiles (frozen_run (freeze_names out (length job.consoles)) job digest (prepared job images))

@@ -7,3 +7,4 @@ pub mod Pieces
 pub mod Ready
 pub mod Views
 pub mod Written
+pub mod Frozen

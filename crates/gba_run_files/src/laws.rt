@@ -1,6 +1,6 @@
 //! Laws over the definitions. Each is the contract of a function that takes no value.
 
-ghost use Rattle.gba_run_files.specs.Law.{LogsHaveRoom, OutputsDiffer, RunsHaveOwnFiles};
+ghost use Rattle.gba_run_files.specs.Law.{FrozenRunsHaveOwnFiles, LogsHaveRoom, OutputsDiffer, RunsHaveOwnFiles};
 
 use gba_console::laws::segments;
 
@@ -17,6 +17,13 @@ pub fn outputs_differ()
 /// Of a job's run each piece is one of a file, and the pieces of a file, one after another, are its bytes.
 pub fn runs_have_own_files()
     ensures { RunsHaveOwnFiles }
+{
+    segments();
+}
+
+/// The same of a run that is frozen at its end.
+pub fn frozen_runs_have_own_files()
+    ensures { FrozenRunsHaveOwnFiles }
 {
     segments();
 }

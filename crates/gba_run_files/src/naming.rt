@@ -2,6 +2,7 @@
 
 ghost use Rattle.std.specs.Prelude.{◌≡◌, ◌≤◌, ◌<◌, ◌++◌, ◌∷◌, [], IfOk, OnOk, length, map, string_bytes, string_len};
 ghost use Rattle.gba_joblog.specs.Clash.{log_file, output_file};
+ghost use Rattle.gba_run_files.specs.Frozen.{frozen_name as frozen_name_of};
 ghost use Rattle.gba_run_files.specs.Names.{names_from, names_of};
 ghost use Rattle.gba_run_files.specs.Views.{names_value};
 
@@ -27,6 +28,16 @@ pub(crate) fn log_name(alloc: Global, out: &str) -> Result<String, AllocError>
     ensures short { IfOk result (λ name. string_len name ≤ 200) }
 {
     let name = format!(in alloc; "{out}.log")?;
+    Ok(name)
+}
+
+/// The name of the frozen file under OUT.
+pub fn frozen_name(alloc: Global, out: &str) -> Result<String, AllocError>
+    requires { length out.now ≤ 180 }
+    ensures name { IfOk result (λ name. string_bytes name ≡ frozen_name_of out.now) }
+    ensures short { IfOk result (λ name. string_len name ≤ 200) }
+{
+    let name = format!(in alloc; "{out}.frozen")?;
     Ok(name)
 }
 

@@ -14,14 +14,11 @@ ghost use Rattle.gba_run_files.specs.Outputs.{difference_of};
 ghost use Rattle.gba_run_files.specs.Views.{names_value};
 ghost use Rattle.gba_run_files.specs.Written.{conclusion, files_at, log_line, log_of, summary_lines};
 
-use crate::creating::create_all;
 use crate::names::Names;
 use crate::naming::{all_names, log_name};
-use crate::pieces::{append_last, append_segments};
 use crate::stating::state_consoles;
-use gba_command::{
-    Cause, OutputFile, WriteStop, append, append_files, close_stopped, close_written,
-};
+use crate::writing::write_outputs;
+use gba_command::{Cause, OutputFile, WriteStop, append, close_stopped, close_written};
 use gba_image::ConsoleImages;
 use gba_joblog::{Job, digest_of, digits_of};
 use gba_log::{print, printed_len};
@@ -178,13 +175,17 @@ impl PreparedRun {
         let log_name = self.log_name;
         let all_names = self.names;
         let names = all_names.as_slice();
-        let until = job.cycles;
-        let session = self.session.advance(rt, alloc, gate);
-        let consoles = job.consoles.as_slice();
-        create_all(out, first.as_slice(), names, consoles, &log_name)?;
-        append_files(out, first.as_slice())?;
-        let session = append_segments(rt, alloc, out, names, consoles, session, until, gate)?;
-        append_last(out, names, consoles, &session)?;
+        let session = write_outputs(
+            rt,
+            alloc,
+            out,
+            first.as_slice(),
+            names,
+            &job,
+            &log_name,
+            self.session,
+            gate,
+        )?;
         let end = end_log(&mut job, names, &session, &mut log);
         append(out, log_name.as_str(), log.as_slice())?;
         Ok(end)

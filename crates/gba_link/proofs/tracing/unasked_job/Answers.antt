@@ -1,5 +1,4 @@
-use Rattle.std.proofs.Common.{List, ap, sym, subst, ◌∙◌}
-use Rattle.gba_image.specs.declared.images.ConsoleImages.{ConsoleImages}
+use Rattle.std.proofs.Common.{ap, sym, subst, ◌∙◌}
 use Rattle.gba_joblog.specs.Job.{WholeJob}
 use Rattle.gba_joblog.specs.Unasked.{unasked}
 use Rattle.gba_joblog.specs.Views.{job_value}

@@ -15,5 +15,5 @@ returns g c =
     subst (λ (pieces : List Output). PerformsAll g.O.Sink.Tells (map addition pieces) (g.O.Sink.state c.args.out.now)
     (g.O.Sink.state c.append_pieces.new.out) (write_end c.append_pieces.result))
     (ap (λ (kinds : List OutKind). cut_pieces kinds names s.asks (segment_cut s).consoles) c.as_slice.ensures
-    ∙ lasting-same names s.asks (segment_cut s).consoles (whole_cut s).consoles c.ends_whole.ensures)
+    ∙ lasting-same names s.asks (segment_cut s).consoles (whole_cut s).consoles c.ends_whole.ensures.consoles)
     c.append_pieces.ensures

@@ -1,0 +1,14 @@
+use Rattle.std.proofs.Common.{sym, subst}
+use Rattle.gba_joblog.specs.Job.{WholeJob}
+use Rattle.gba_joblog.specs.Soundness.{IsJob}
+use Rattle.gba_joblog.specs.Views.{job_value}
+use Rattle.gba_session.specs.Start.{FitJob}
+use Rattle.gba_run_files.proofs.Shortening.{job-unstated-sound, unstated-fit}
+use Rattle.gba_run_files.proofs.early.without_digests.Goals as goal
+
+pub returns-clause-sound : goal.returns-clause-sound
+returns-clause-sound c = λ sound. subst IsJob (sym c.unstate.ensures) (job-unstated-sound (job_value c.args.job) sound)
+
+pub returns-clause-fit : goal.returns-clause-fit
+returns-clause-fit c = λ images fit.
+    subst (λ (job : WholeJob). FitJob job images) (sym c.unstate.ensures) (unstated-fit (job_value c.args.job).consoles images fit)
