@@ -305,17 +305,46 @@ class Broken:
         self.restore()
         return is_well
 
+    def call_freeze(self, name, folder):
+        """A call of `freeze` of the job, whose text names the job and has each console at a clock that isn't before CLOCK."""
+        clock = self.make.pick(0, 1, 1, self.make.random.randrange(1, 30_000), 2**38, 2**38 + 1)
+        words = ['freeze', 'j', str(clock), OUT]
+        said, inputs, is_well = self.said(name, words, folder)
+        if said is None:
+            return is_well
+        if clock * len(said.consoles) > LONGEST:
+            return True
+        before = room.marks(folder)
+        got, is_well = self.call(name, words, folder, writes=True)
+        is_well = is_well and self.tally.holds(name, got.status == 0, f'{got}')
+        if is_well:
+            outputs = reading.outputs_of(said, OUT)
+            log = reading.log_of(said, inputs, {output: '0' * 64 for output, _ in outputs}, OUT)
+            digest = hashlib.sha256(re.sub(rb'(?m)^(out [a-z]+) sha256 .*$', rb'\1', log)).hexdigest()
+            lines = room.read(os.path.join(folder, OUT + '.frozen')).decode('latin-1').split('\n')
+            self.tally.agrees(name, [*lines[:2], *lines[-2:]], ['gbalink-frozen 1', f'job {digest}', 'end', ''])
+            clocks = [line.split()[1] for line in lines if line.startswith('clock ')]
+            told = re.findall('clock ([0-9]+)', got.out)
+            is_well = self.tally.agrees(name, (clocks, len(clocks)), (told, len(said.consoles)))
+            is_well = self.tally.holds(name, all(clock <= int(one) < clock + 512 for one in clocks), f'{clocks}') and is_well
+            written = {f'{OUT}.frozen': 0, **{output: 0 for output, _ in outputs}}
+            is_well = self.tally.agrees(name, {**room.marks(folder), **written}, {**before, **written}) and is_well
+        self.restore()
+        return is_well
+
     # ---- The kinds of input
 
     def job(self, name):
         """A changed job, whose run or whose first absent file shows that it was accepted."""
-        is_trace = self.make.often(0.1)
-        is_full = self.make.often(0.5 if is_trace else 0.12)
+        call = self.call_run
+        if self.make.often(0.15):
+            call = self.make.pick(self.call_trace, self.call_freeze)
+        is_full = self.make.often(0.12 if call == self.call_run else 0.5)
         names = {'bios': 'b', 'cart': 'c', 'save': 's', 'keys': 'k'}
         folder = self.full if is_full else self.bare
         data = self.make.changed(self.make.job(names, 20_000 if is_full else 2**38), VOCABULARY)
         room.write(os.path.join(folder, 'j'), data)
-        return (self.call_trace if is_trace else self.call_run)(name, folder), data
+        return call(name, folder), data
 
     def log_line(self, name):
         data = self.make.changed(self.log, VOCABULARY)
@@ -373,7 +402,7 @@ class Broken:
     def words(self, name):
         """Words that are changed, in a folder without inputs."""
         words = self.make.pick(['run', 'j', 'g'], ['asm', 'a', 'o'], ['dis', 'i', 'o'], ['tdis', 'i', 'o'], ['gen', '7', '90', 'g'],
-                               ['trace', 'j', '0', '1', 'g'])
+                               ['trace', 'j', '0', '1', 'g'], ['freeze', 'j', '1', 'g'])
         for _ in range(self.make.pick(1, 1, 2, 3)):
             place = self.make.random.randrange(len(words) + 1)
             words[place:place + self.make.pick(0, 1, 1)] = [self.make.word(VOCABULARY).decode() for _ in range(self.make.pick(0, 1, 1, 1))]
@@ -399,12 +428,13 @@ def bios_image():
                      0xE1C502B8, 0xE2866001, 0xEAFFFFFB)
 
 
+CONSOLE = r'console [0-3] clock [0-9]+ frames [0-9]+ samples [0-9]+ words [0-9]+'
 REPORTS = {
     2: r'words', 3: r'absent \S{1,200}', 4: r'store \S{1,200}', 6: r'image \S{1,200} (BiosLength|TooShort|TooLong|FixedByte|HeaderCheck|SaveLength)',
     5: r'job \S{1,200} line [0-9]+ (Long|Byte|Word|Order|Repeated|Number|Name|Missing|Extra|Digest|Clash)',
     7: r'digest \S{1,200} stated [0-9a-f]{64} got [0-9a-f]{64}', 8: r'source \S{1,200} line [0-9]+ (Size|Unknown|Operand|Repeated|Label|Range)',
     9: r'sink \S{1,200}', 10: r'memory', 13: r'',
-    0: r'trace [0-9]+|(console [0-3] clock [0-9]+ frames [0-9]+ samples [0-9]+ words [0-9]+\n){1,4}log [0-9a-f]{64}|(asm|dis) [0-9]+',
+    0: rf'trace [0-9]+|{CONSOLE}(\n{CONSOLE}){{0,3}}(\nlog [0-9a-f]{{64}})?|(asm|dis) [0-9]+',
 }
 
 

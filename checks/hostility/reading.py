@@ -14,6 +14,7 @@ CHANGES = 1_000_000
 STEPS = 1_000_000
 CLOCKS = 2**38
 CYCLES = {1: 2_147_483_648, 2: 274_877_906_944}
+MORE = {'trace': 'trace', 'freeze': 'frozen'}  # the file that a command writes beside the outputs of its job
 KINDS = ('frames', 'samples', 'words', 'state', 'save')
 INPUTS = ('bios', 'cart', 'save', 'keys')
 HEAD = ('gbalink', 'cycles', 'delay', 'link')
@@ -354,6 +355,9 @@ def command_of(words):
         if all(re.fullmatch(r'[0-9]{1,20}', word) for word in words[1:3]):
             if int(words[1]) < 2**32 and 1 <= int(words[2]) <= CYCLES[1]:
                 return words
+    if len(words) == 4 and words[0] == 'freeze' and is_name(words[1]) and is_name(words[3], 180):
+        if re.fullmatch(r'[0-9]{1,20}', words[2]) and 1 <= int(words[2]) <= CYCLES[2]:
+            return words
     if len(words) == 5 and words[0] == 'trace' and is_name(words[1]) and is_name(words[4], 180):
         if all(re.fullmatch(r'[0-9]{1,20}', word) for word in words[2:4]):
             if int(words[2]) < 2**40 and 1 <= int(words[3]) <= STEPS:
@@ -379,10 +383,12 @@ def parsed(name, parse, *arguments):
 
 
 def run_of(words, read):
-    """The job of a call that comes to a run or a trace, with its key changes, and its inputs' digests; or its answer."""
+    """The job of a call that comes to a run, a trace or a frozen run, with its key changes, and its inputs' digests; or its answer."""
     kind, name, *_, out = command_of(words)
     job = parsed(name, job_of, read_or_answer(name, read))
-    parsed(name, refuse_clash, job, name, out, *([f'{out}.trace'] if kind == 'trace' else []))
+    parsed(name, refuse_clash, job, name, out, *([f'{out}.{MORE[kind]}'] if kind in MORE else []))
+    if kind == 'freeze' and int(words[2]) > job.cycles:
+        raise Answer(5, f'job {name} line 0 Number')
     files = {}
     for console in job.consoles:
         for kind in INPUTS:

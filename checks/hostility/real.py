@@ -421,6 +421,7 @@ def memory_limits(real):
     uses = {
         'run': (['run', 'j', 'g'], {'job': JOB.replace(str(CYCLES), '300000')}), 'keys': (['run', 'j', 'g'], {'job': keys, 'k': '5 3ff\n' * 150_000}),
         'gen': (['gen', '7', '300000', 'g'], {}), 'trace': (['trace', 'j', '0', '20000', 'g'], {'job': JOB.replace(str(CYCLES), '300000')}),
+        'freeze': (['freeze', 'j', '200000', 'g'], {'job': JOB.replace(str(CYCLES), '300000')}),
         'asm': (['asm', 's', 'g.out'], {'s': 'label: mov r0, #1\nldr r0, label\n' + 'mov r0, #1\n' * 300_000}),
         'dis': (['dis', 's', 'g.out'], {'s': bytes(range(256)) * 2_000}),
     }
