@@ -2,6 +2,7 @@
 
 use crate::{Answer, Content, Failing, bytes_of, call_with, stored, stored_all};
 use Content::{Code, Filled, Text};
+use gba_snapshot::laws::frozen_is_text;
 use std::alloc::Global;
 use std::process::Abort;
 use std::test::Fail;
@@ -150,8 +151,10 @@ fn play<R: Abort + Threads + Sync>(
     Ok(())
 }
 
+/// The texts are those of what they say, by a law that is called here once.
 #[test]
 fn jobs_are_frozen(rt: HostRuntime) -> Result<(), Fail> {
+    frozen_is_text();
     for case in &CASES {
         play(&rt, rt.alloc(), case)?;
     }

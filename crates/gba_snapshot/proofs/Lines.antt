@@ -101,7 +101,7 @@ signal-early cut sent nodes i d m same consoles sound within is few =
 
 -- ---- what a console's lines say
 
-says-append : (xs ys : List Said) → says_text (xs ++ ys) ≡ says_text xs ++ says_text ys
+pub says-append : (xs ys : List Said) → says_text (xs ++ ys) ≡ says_text xs ++ says_text ys
 unfolding text_of
 says-append [] ys = refl
 says-append (x ∷ xs) ys =

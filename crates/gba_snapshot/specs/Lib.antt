@@ -2,3 +2,4 @@ pub mod Io
 pub mod Snapshot
 pub mod Console
 pub mod File
+pub mod Laws

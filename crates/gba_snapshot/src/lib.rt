@@ -5,6 +5,7 @@ mod console;
 mod drawn;
 mod file;
 mod io;
+pub mod laws;
 mod memories;
 mod reading;
 
