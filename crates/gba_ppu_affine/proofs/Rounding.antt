@@ -12,7 +12,8 @@ use Rattle.gba_ppu_affine.specs.Affine.{map_side}
 -- so many steps
 steps_low : (step x : ℕ) → step < 2 ^ 15 → x < 240 → StandsFor (2 ^ 23) (pos step *ℤ pos x) (step * x)
 steps_low step x h k =
-    let b : step * x ≤ 2 ^ 15 * 240 = mul-le-mul {n₁ = step} {m₁ = x} {n₂ = 2 ^ 15} {m₂ = 240} (omega arith) (omega arith) in
+    let b : step * x ≤ 2 ^ 15 * 240 =
+    mul-le-mul {n₁ = step} {m₁ = x} {n₂ = 2 ^ 15} {m₂ = 240} (omega arith) (omega arith) in
     record { turns = 0; sum = omega (arith, ints); least = omega (arith, ints); most = omega (arith, ints) }
 
 whole : (step back x : ℕ) → step + back ≡ 2 ^ 32 → step * x + back * x ≡ 2 ^ 32 * x
@@ -21,7 +22,8 @@ whole step back x e = let f : (step + back) * x ≡ 2 ^ 32 * x = ap (λ n. n * x
 steps_high : (step less x : ℕ) → step + suc less ≡ 2 ^ 32 → less < 2 ^ 15 → x < 240
     → StandsFor (2 ^ 23) (negsuc less *ℤ pos x) (step * x)
 steps_high step less x e h k =
-    let b : suc less * x ≤ 2 ^ 15 * 240 = mul-le-mul {n₁ = suc less} {m₁ = x} {n₂ = 2 ^ 15} {m₂ = 240} (omega arith) (omega arith) in
+    let b : suc less * x ≤ 2 ^ 15 * 240 =
+    mul-le-mul {n₁ = suc less} {m₁ = x} {n₂ = 2 ^ 15} {m₂ = 240} (omega arith) (omega arith) in
     let w : step * x + suc less * x ≡ 2 ^ 32 * x = whole step (suc less) x e in
     steps_back (suc less * x) (step * x) x b w
   where
@@ -40,7 +42,8 @@ steps_by step x k (inl low) =
     subst P (sym (signed_low step (omega arith))) (steps_low step x low k)
 steps_by step x k (inr high) =
     let P : ℤ → Type 0 = λ z. StandsFor (2 ^ 23) (z *ℤ pos x) (step * x) in
-    subst P (sym (signed_high step (omega arith) high.1)) (steps_high step (2 ^ 32 - 1 - step) x (omega arith) (omega arith) k)
+    subst P (sym (signed_high step (omega arith) high.1))
+    (steps_high step (2 ^ 32 - 1 - step) x (omega arith) (omega arith) k)
 
 added : (z y : ℤ) (n m : ℕ) → StandsFor (2 ^ 31) z n → StandsFor (2 ^ 23) y m
     → StandsFor (2 ^ 31 + 2 ^ 23 + 1) (z +ℤ y) (n + m)

@@ -6,8 +6,8 @@ use Rattle.gba_ppu_dot.specs.Dots.{clear_dot, indexed_dot}
 use Rattle.gba_ppu_dot.specs.declared.dot.Dot.{Dot}
 use Rattle.gba_ppu_affine.specs.Places.{place_across, place_down}
 
--- An affine background (GBATEK, LCD VRAM BG Screen Data Format, Rotation/Scaling BG Screen). The map is a square of so many
--- dots, by its size.
+-- An affine background (GBATEK, LCD VRAM BG Screen Data Format, Rotation/Scaling BG Screen). The map is a square of so
+-- many dots, by its size.
 abbrev pub map_side : ℕ → ℕ
 map_side size = if size == 0 then 128 else if size == 1 then 256 else if size == 2 then 512 else 1024
 

@@ -11,8 +11,8 @@ use Rattle.gba_ppu_affine.specs.Places.{place_of}
 abbrev pub exact_place : ℕ → ℕ → ℕ → ℤ
 exact_place start step x = int_div_euclid (signed start +ℤ signed step *ℤ pos x) (pos (2 ^ 8))
 
--- For every reference point and every parameter, at each place of a line: the exact place is inside a picture exactly where
--- the place by words is, and is then the same; and the two are the same on a map that wraps.
+-- For every reference point and every parameter, at each place of a line: the exact place is inside a picture exactly
+-- where the place by words is, and is then the same; and the two are the same on a map that wraps.
 pub record RoundsDown : Type 0 where
   pub inside : (start parameter x n : ℕ) → start < 2 ^ 32 → x < 240 → n < 1024
       → exact_place start (sign_extension parameter 16) x ≡ pos n → place_of start (sign_extension parameter 16) x ≡ n

@@ -4,9 +4,8 @@ ghost use Rattle.std.specs.Prelude.{◌≡◌, ◌+◌, ◌*◌, ◌/◌, ◌%�
 ghost use Rattle.gba_ppu_dot.specs.Control.{size_of};
 ghost use Rattle.gba_ppu_dot.specs.Dots.{IsLine};
 ghost use Rattle.gba_ppu_affine.specs.Affine.{affine_dot as dot_of, affine_pixel, map_dot as dot_on_map, map_side as side_of, tile_at as tile_on_map, tile_dot as dot_of_tile};
-ghost use Rattle.gba_ppu_affine.specs.Places.{place_of};
 
-use crate::walk::Walk;
+use crate::walk::{Surface, Walk};
 use gba_ppu_dot::{BackgroundControl, Dot};
 use gba_ppu_reg::PictureRegisters;
 
@@ -97,18 +96,14 @@ fn affine_dot(vram: &[u8], control: BackgroundControl, u: u32, v: u32) -> Dot
     }
 }
 
-/// Draws along a way.
-fn draw(vram: &[u8], control: BackgroundControl, walk: Walk, dots: &mut [Dot])
-    requires vram { length vram.now ≡ 98304 }
-    requires dots { length dots.old ≡ 240 }
-    ensures { IsLine (λ x. dot_of vram.now control.value (place_of walk.across walk.step_across x) (place_of walk.down walk.step_down x)) dots.new }
-{
-    let mut across = walk.across;
-    let mut down = walk.down;
-    for dot in dots.iter_mut() {
-        *dot = affine_dot(vram, control, across / 0x100, down / 0x100);
-        across = across.wrapping_add(walk.step_across);
-        down = down.wrapping_add(walk.step_down);
+impl Surface for BackgroundControl {
+    ghost use Rattle.gba_ppu_affine.specs.Affine.{affine_dot};
+
+    ghost dot_of = { λ control vram u v. affine_dot vram control.value u v };
+
+    #[inline(always)]
+    fn dot_at(&self, vram: &[u8], u: u32, v: u32) -> Dot {
+        affine_dot(vram, *self, u, v)
     }
 }
 
@@ -124,5 +119,5 @@ pub fn affine_line(r: &PictureRegisters, vram: &[u8], bg: u32, _line: u32, dots:
     requires dots { length dots.old ≡ 240 }
     ensures { IsLine (affine_pixel r.now vram.now bg) dots.new }
 {
-    draw(vram, BackgroundControl::of(r, bg), Walk::of(r, bg), dots);
+    Walk::of(r, bg).draw(&BackgroundControl::of(r, bg), vram, dots);
 }

@@ -3,19 +3,19 @@
 ghost use Rattle.std.specs.Prelude.{◌≡◌, ◌<◌, ◌≤◌, length};
 ghost use Rattle.gba_ppu_dot.specs.Dots.{IsLine};
 ghost use Rattle.gba_ppu_affine.specs.Bitmap.{bitmap_dot as dot_of, bitmap_pixel, page_start as page_of};
-ghost use Rattle.gba_ppu_affine.specs.Places.{place_of};
 
-use crate::walk::Walk;
+use crate::walk::{Surface, Walk};
 use gba_ppu_dot::{BackgroundControl, Dot, half_at};
 use gba_ppu_reg::PictureRegisters;
 use gba_word::bit;
 
 /// Which bitmap is shown, where it begins in bytes, and how its dots are put over others.
-#[derive(Clone, Copy, Debug, PartialEq, Eq)]
+#[derive(Clone, Copy)]
 struct Bitmap {
     mode: u32,
     page: u32,
     priority: u8,
+    ghost page_fits: { page ≤ 0xA000 },
 }
 
 fn page_start(r: &PictureRegisters) -> u32
@@ -31,8 +31,7 @@ fn page_start(r: &PictureRegisters) -> u32
 
 #[tactic(auto, unfolding(crate::specs::Bitmap::bitmap_dot))]
 fn bitmap_dot(vram: &[u8], bitmap: Bitmap, u: u32, v: u32) -> Dot
-    requires vram { length vram.now ≡ 98304 }
-    requires page { bitmap.page ≤ 0xA000 }
+    requires { length vram.now ≡ 98304 }
     ensures { result ≡ dot_of bitmap.mode bitmap.page vram.now bitmap.priority u v }
 {
     match bitmap.mode {
@@ -52,19 +51,14 @@ fn bitmap_dot(vram: &[u8], bitmap: Bitmap, u: u32, v: u32) -> Dot
     }
 }
 
-/// Draws along a way.
-fn draw(vram: &[u8], bitmap: Bitmap, walk: Walk, dots: &mut [Dot])
-    requires vram { length vram.now ≡ 98304 }
-    requires page { bitmap.page ≤ 0xA000 }
-    requires dots { length dots.old ≡ 240 }
-    ensures { IsLine (λ x. dot_of bitmap.mode bitmap.page vram.now bitmap.priority (place_of walk.across walk.step_across x) (place_of walk.down walk.step_down x)) dots.new }
-{
-    let mut across = walk.across;
-    let mut down = walk.down;
-    for dot in dots.iter_mut() {
-        *dot = bitmap_dot(vram, bitmap, across / 0x100, down / 0x100);
-        across = across.wrapping_add(walk.step_across);
-        down = down.wrapping_add(walk.step_down);
+impl Surface for Bitmap {
+    ghost use Rattle.gba_ppu_affine.specs.Bitmap.{bitmap_dot};
+
+    ghost dot_of = { λ bitmap vram u v. bitmap_dot bitmap.mode bitmap.page vram bitmap.priority u v };
+
+    #[inline(always)]
+    fn dot_at(&self, vram: &[u8], u: u32, v: u32) -> Dot {
+        bitmap_dot(vram, *self, u, v)
     }
 }
 
@@ -84,5 +78,5 @@ pub fn bitmap_line(r: &PictureRegisters, vram: &[u8], bg: u32, _line: u32, dots:
         page: page_start(r),
         priority: BackgroundControl::of(r, bg).priority(),
     };
-    draw(vram, bitmap, Walk::of(r, bg), dots);
+    Walk::of(r, bg).draw(&bitmap, vram, dots);
 }

@@ -1,7 +1,20 @@
 //! The way of a line through a picture.
 
+use gba_ppu_dot::Dot;
 use gba_ppu_reg::PictureRegisters;
 use gba_word::sign_extend;
+
+/// A picture that the lines of the screen go through: what it has at any place.
+pub(crate) trait Surface {
+    ghost use Rattle.std.specs.Prelude.{◌≡◌, ℕ, List, length};
+    ghost use Rattle.gba_ppu_dot.specs.declared.dot.Dot.{Dot};
+
+    ghost dot_of: { Self → List ℕ → ℕ → ℕ → Dot };
+
+    fn dot_at(&self, vram: &[u8], u: u32, v: u32) -> Dot
+        requires { length vram.now ≡ 98304 }
+        ensures { result ≡ dot_of self.now vram.now u v };
+}
 
 /// The place of a dot, and how far it is to that of the next one: words with 8 bits behind the point.
 #[derive(Clone, Copy, Debug, PartialEq, Eq)]
@@ -13,9 +26,10 @@ pub(crate) struct Walk {
 }
 
 impl Walk {
-    ghost use Rattle.std.specs.Prelude.{◌≡◌, ◌+◌, ◌%◌, ◌^◌, ◌≤◌};
+    ghost use Rattle.std.specs.Prelude.{◌≡◌, ◌≤◌, length};
+    ghost use Rattle.gba_ppu_dot.specs.Dots.{IsLine};
     ghost use Rattle.gba_ppu_reg.specs.Registers.{reference_of};
-    ghost use Rattle.gba_ppu_affine.specs.Places.{step_across, step_down};
+    ghost use Rattle.gba_ppu_affine.specs.Places.{place_of, step_across, step_down};
 
     /// The way of background 2 or 3, at its first dot.
     pub fn of(r: &PictureRegisters, background: u32) -> Walk
@@ -33,6 +47,22 @@ impl Walk {
             down: start.y,
             step_across: sign_extend(u32::from(r.kept(parameters)), 16),
             step_down: sign_extend(u32::from(r.kept(parameters + 0x004)), 16),
+        }
+    }
+
+    /// Draws what a picture has along the way.
+    pub fn draw<S: Surface>(self, surface: &S, vram: &[u8], dots: &mut [Dot])
+        requires vram { length vram.now ≡ 98304 }
+        requires dots { length dots.old ≡ 240 }
+        ensures { IsLine (λ x. S.dot_of surface.now vram.now (place_of self.across self.step_across x)
+            (place_of self.down self.step_down x)) dots.new }
+    {
+        let mut across = self.across;
+        let mut down = self.down;
+        for dot in dots.iter_mut() {
+            *dot = surface.dot_at(vram, across / 0x100, down / 0x100);
+            across = across.wrapping_add(self.step_across);
+            down = down.wrapping_add(self.step_down);
         }
     }
 }

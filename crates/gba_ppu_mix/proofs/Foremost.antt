@@ -141,14 +141,16 @@ none : bottom ≡ all []
 unfolding all
 none = refl
 
-front_is : (shows : ℕ) (ranks : Ranks) (dots : Dots) → front_of shows ranks dots ≡ all (front_candidates shows ranks dots)
+front_is : (shows : ℕ) (ranks : Ranks) (dots : Dots)
+    → front_of shows ranks dots ≡ all (front_candidates shows ranks dots)
 unfolding front_of
 front_is shows ranks dots =
     layer_more shows Background1 ranks.background1 dots.background1 _ _
     (layer_more shows Background0 ranks.background0 dots.background0 _ _
     (layer_more shows Sprites (sprite_rank dots.sprite.priority) dots.sprite [] bottom none))
 
-layers_are : (shows : ℕ) (ranks : Ranks) (dots : Dots) → stack_of shows ranks dots ≡ all (candidates_of shows ranks dots)
+layers_are : (shows : ℕ) (ranks : Ranks) (dots : Dots)
+    → stack_of shows ranks dots ≡ all (candidates_of shows ranks dots)
 unfolding stack_of
 layers_are shows ranks dots =
     layer_more shows Background3 ranks.background3 dots.background3 _ _
@@ -209,7 +211,8 @@ two_by c s false e h =
     let P : Stack → Type 0 = λ t. AreTwoBefore (turn c.layer + 1) t in
     subst P (sym (behind_top c s e)) (two_nearer c s (nat_lt c.rank s.second.rank) refl h)
 
-two_with_dot : (shows : ℕ) (layer : Layer) (rank : ℕ) (dot : Dot) (s : Stack) (w : Bool) → is_candidate shows layer dot ≡ w
+two_with_dot : (shows : ℕ) (layer : Layer) (rank : ℕ) (dot : Dot) (s : Stack) (w : Bool)
+    → is_candidate shows layer dot ≡ w
     → AreTwoBefore (turn layer) s → AreTwoBefore (turn layer + 1) (with_dot shows layer rank dot s)
 unfolding with_dot
 two_with_dot shows layer rank dot s true e h =

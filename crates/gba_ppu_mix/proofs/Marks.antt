@@ -1,14 +1,17 @@
--- The colour of a pile by its marks.
+-- The colour of a painted stack by its marks.
 use Rattle.std.proofs.Common.{◌≡◌, ℕ, ◌+◌, ◌*◌, Bool, true, false, refl}
 use Rattle.std.specs.Prelude.{◌&&◌, ◌||◌, if◌then◌else◌}
 use Rattle.gba_terms.specs.Bits.{bit}
-use Rattle.gba_ppu_mix.specs.Blending.{one_if}
+use Rattle.gba_ppu_mix.specs.Painting.{one_if}
 
--- effects show, the top is a first target, it is a semi-transparent sprite, the second is a second target, and the effect is alpha
+-- effects show, the top is a first target, it is a semi-transparent sprite, the second is a second target, and the
+-- effect is alpha
 pub by_tests : (shown first semi second alpha : Bool) (a b c : ℕ)
     → (if second
     then (if semi then a
-    else (if alpha then (if shown then (if first then a else (if shown then (if first then b else c) else c)) else (if shown then (if first then b else c) else c))
+    else (if alpha then
+    (if shown then (if first then a else (if shown then (if first then b else c) else c))
+    else (if shown then (if first then b else c) else c))
     else (if shown then (if first then b else c) else c)))
     else (if shown then (if first then b else c) else c))
     ≡ (if second && (semi || (shown && first && alpha)) then a else if shown && first then b else c)

@@ -4,16 +4,19 @@ use Rattle.gba_terms.specs.Bits.{bit}
 use Rattle.gba_ppu_reg.specs.Registers.{Picture}
 use Rattle.gba_ppu_dot.specs.Dots.{clear_dot}
 use Rattle.gba_ppu_mix.specs.Blending.{blending_of, stack_colour}
-use Rattle.gba_ppu_mix.specs.Layers.{background_dot, has_layers, is_layer_on, sprites_dot}
-use Rattle.gba_ppu_mix.specs.Mixing.{backdrop_colour, colour_of_dots, is_blank, layers_dots, mixed_pixel}
+use Rattle.gba_ppu_mix.specs.Layers.{background_dot, is_layer_on, sprites_dot}
+use Rattle.gba_ppu_mix.specs.Mixing.{colour_of_dots, is_blank, layers_dots, mixed_pixel}
+use Rattle.gba_ppu_mix.specs.Painting.{backdrop_colour, has_layers}
 use Rattle.gba_ppu_mix.specs.Stacks.{Dots, bottom, dot_of, front_of, ranks_of, stack_of, with_dot}
 use Rattle.gba_ppu_mix.specs.Windows.{shows_at, windows_of}
 use Rattle.gba_ppu_mix.specs.declared.blending.Blending.{Blending}
 use Rattle.gba_ppu_mix.specs.declared.stacks.Ranks.{Ranks}
 use Rattle.gba_ppu_mix.specs.declared.windows.Windows.{Windows}
 
-pub seen : (r : Picture) (palette vram oam : List ℕ) (y x colour : ℕ) (w : Windows) (b : Blending) (ranks : Ranks) (dots : Dots)
-    → is_blank r ≡ false → w ≡ windows_of r y → b ≡ blending_of r → ranks ≡ ranks_of r → dots ≡ layers_dots r vram oam y x
+pub seen : (r : Picture) (palette vram oam : List ℕ) (y x colour : ℕ) (w : Windows) (b : Blending) (ranks : Ranks)
+    (dots : Dots)
+    → is_blank r ≡ false → w ≡ windows_of r y → b ≡ blending_of r → ranks ≡ ranks_of r
+    → dots ≡ layers_dots r vram oam y x
     → colour ≡ colour_of_dots palette w b ranks x dots → colour ≡ mixed_pixel r palette vram oam y x
 unfolding mixed_pixel
 seen r palette vram oam y x colour w b ranks dots off w_is b_is ranks_are dots_are e = rw off (cc)
@@ -42,7 +45,8 @@ no_background : (r : Picture) (vram : List ℕ) (background y x : ℕ) → is_la
 unfolding background_dot
 no_background r vram background y x off = rw off refl
 
-no_sprites : (r : Picture) (vram oam : List ℕ) (y x : ℕ) → is_layer_on r 4 ≡ false → sprites_dot r vram oam y x ≡ clear_dot
+no_sprites : (r : Picture) (vram oam : List ℕ) (y x : ℕ) → is_layer_on r 4 ≡ false
+    → sprites_dot r vram oam y x ≡ clear_dot
 unfolding sprites_dot
 no_sprites r vram oam y x off = rw off refl
 

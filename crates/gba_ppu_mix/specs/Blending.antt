@@ -1,4 +1,4 @@
-use Rattle.std.specs.Prelude.{ℕ, Bool, ◌&&◌, ◌||◌, ◌+◌, ◌*◌, ◌==◌, min, true, false, List, if◌then◌else◌}
+use Rattle.std.specs.Prelude.{ℕ, Bool, ◌&&◌, ◌||◌, ◌==◌, min, true, false, List, if◌then◌else◌}
 use Rattle.gba_terms.specs.Bits.{bit, field}
 use Rattle.gba_ppu_reg.specs.Registers.{Picture, picture_kept}
 use Rattle.gba_ppu_dot.specs.Paints.{colour_of}
@@ -12,7 +12,8 @@ use Rattle.gba_ppu_mix.specs.declared.blending.Effect.{Effect}
 use Rattle.gba_ppu_mix.specs.declared.blending.Effect.TheVariants.{Unchanged, Alpha, Brighter, Darker}
 use Rattle.gba_ppu_mix.specs.declared.stacks.Layer.{Layer}
 
--- BLDCNT, BLDALPHA and BLDY (GBATEK, LCD I/O Color Special Effects). Coefficients are sixteenths, and above 16 count as 16.
+-- BLDCNT, BLDALPHA and BLDY (GBATEK, LCD I/O Color Special Effects). Coefficients are sixteenths, and above 16 count as
+-- 16.
 abbrev pub effect_of : ℕ → Effect
 effect_of number =
     if number == 0 then Unchanged else if number == 1 then Alpha else if number == 2 then Brighter else Darker
@@ -52,8 +53,8 @@ abbrev pub is_target : ℕ → Layer → Bool
 is_target targets layer = bit targets (layer_bit layer)
 
 -- The colour of the foremost layer's dot over that of the layer behind it. Where that one is a second target, a
--- semi-transparent sprite is blended with it whatever the effect is and wherever effects show (own: in every window). Else
--- the effect is on a first target alone, and where effects show.
+-- semi-transparent sprite is blended with it whatever the effect is and wherever effects show (own: in every window).
+-- Else the effect is on a first target alone, and where effects show.
 abbrev pub is_changed : Blending → Bool → Layer → Bool
 is_changed b effects layer = effects && is_target b.first_targets layer
 
@@ -70,10 +71,3 @@ stack_colour palette b effects dots s =
     if is_target b.second_targets s.second.layer && is_blended b effects s.top.layer top
     then both b.eva b.evb (colour_of palette top) (colour_of palette (dot_of dots s.second.layer))
     else changed_alone palette b effects s.top.layer top
-
--- What a layer is a target of, and whether its dot is a semi-transparent sprite's, as bits 0, 1 and 2.
-abbrev pub one_if : Bool → ℕ
-one_if test = if test then 1 else 0
-
-abbrev pub marks_of : Blending → Layer → Bool → ℕ
-marks_of b layer semi = one_if (is_target b.first_targets layer) + 2 * one_if (is_target b.second_targets layer) + 4 * one_if semi

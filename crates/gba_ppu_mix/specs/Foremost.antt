@@ -32,8 +32,8 @@ abbrev pub IsOneOf : Candidate → List Candidate → Type 0
 IsOneOf c [] = ⊥
 IsOneOf c (x ∷ xs) = (c ≡ x) ⊎ IsOneOf c xs
 
--- The top is the backdrop or a candidate, and none is in front of it. The second is a candidate, or the backdrop, or nothing,
--- and each candidate but the top is behind it or is it.
+-- The top is the backdrop or a candidate, and none is in front of it. The second is a candidate, or the backdrop, or
+-- nothing, and each candidate but the top is behind it or is it.
 pub record HasForemost (cs : List Candidate) (s : Stack) : Type 0 where
   pub top : (s.top ≡ bottom.top) ⊎ IsOneOf s.top cs
   pub second : (s.second ≡ bottom.second) ⊎ (s.second ≡ bottom.top) ⊎ IsOneOf s.second cs
@@ -44,7 +44,8 @@ pub record HasForemost (cs : List Candidate) (s : Stack) : Type 0 where
   pub order : s.top.rank ≤ s.second.rank
 
 abbrev pub HasForemostOfLayers : Type 0
-HasForemostOfLayers = (shows : ℕ) (ranks : Ranks) (dots : Dots) → HasForemost (candidates_of shows ranks dots) (stack_of shows ranks dots)
+HasForemostOfLayers = (shows : ℕ) (ranks : Ranks) (dots : Dots)
+    → HasForemost (candidates_of shows ranks dots) (stack_of shows ranks dots)
 
 -- The second layer is never the top one again: the backdrop and nothing behind it count as layers too.
 abbrev pub AreTwoLayers : Stack → Type 0

@@ -2,6 +2,6 @@ pub mod Blending
 pub mod Foremost
 pub mod Layers
 pub mod Mixing
-pub mod Piles
+pub mod Painting
 pub mod Stacks
 pub mod Windows

@@ -1,12 +1,11 @@
 use Rattle.std.specs.Prelude.{◌≡◌, ℕ, Bool, ◌<◌, List, slice_index, if◌then◌else◌}
 use Rattle.gba_terms.specs.Bits.{bit}
 use Rattle.gba_ppu_reg.specs.Registers.{Picture, picture_kept}
-use Rattle.gba_ppu_mix.specs.Blending.{blending_of, changed_alone, stack_colour}
+use Rattle.gba_ppu_mix.specs.Blending.{blending_of, stack_colour}
 use Rattle.gba_ppu_mix.specs.Layers.{background_dot, sprites_dot}
-use Rattle.gba_ppu_mix.specs.Stacks.{Dots, backdrop_dot, ranks_of, stack_of}
+use Rattle.gba_ppu_mix.specs.Stacks.{Dots, ranks_of, stack_of}
 use Rattle.gba_ppu_mix.specs.Windows.{shows_at, windows_of}
 use Rattle.gba_ppu_mix.specs.declared.blending.Blending.{Blending}
-use Rattle.gba_ppu_mix.specs.declared.stacks.Layer.TheVariants.{Backdrop}
 use Rattle.gba_ppu_mix.specs.declared.stacks.Ranks.{Ranks}
 use Rattle.gba_ppu_mix.specs.declared.windows.Windows.{Windows}
 
@@ -17,10 +16,6 @@ colour_where palette shows b ranks dots = stack_colour palette b (bit shows 5) d
 -- the same by the windows
 unfoldable pub colour_of_dots : List ℕ → Windows → Blending → Ranks → ℕ → Dots → ℕ
 colour_of_dots palette w b ranks x dots = colour_where palette (shows_at w x dots.sprite.window) b ranks dots
-
--- the colour where no layer has a dot, by what shows
-abbrev pub backdrop_colour : List ℕ → Blending → ℕ → ℕ
-backdrop_colour palette b shows = changed_alone palette b (bit shows 5) Backdrop backdrop_dot
 
 -- the dots of the layers at (x, y)
 abbrev pub layers_dots : Picture → List ℕ → List ℕ → ℕ → ℕ → Dots

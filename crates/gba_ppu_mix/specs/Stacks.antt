@@ -49,9 +49,15 @@ layer_bit Sprites = 4
 layer_bit Backdrop = 5
 layer_bit Nothing = 6
 
--- The order of the layers from the front, as numbers: by priority, and with one priority sprites before backgrounds and these
--- by their number (GBATEK, LCD I/O BG Control, LCD OBJ OAM Attributes). The backdrop is behind every priority, and behind it
--- there is nothing.
+-- The order of the layers from the front, as numbers: by priority, and with one priority sprites before backgrounds and
+-- these by their number (GBATEK, LCD I/O BG Control, LCD OBJ OAM Attributes). The backdrop is behind every priority,
+-- and behind it there is nothing.
+abbrev pub backdrop_rank : ℕ
+backdrop_rank = 0x800
+
+abbrev pub nothing_rank : ℕ
+nothing_rank = 0x801
+
 abbrev pub sprite_rank : ℕ → ℕ
 sprite_rank priority = 8 * priority
 
@@ -83,7 +89,10 @@ with_dot shows layer rank dot s =
 
 -- the backdrop alone
 abbrev pub bottom : Stack
-bottom = record { top = record { rank = 0x800; layer = Backdrop }; second = record { rank = 0x801; layer = Nothing } }
+bottom = record {
+  top = record { rank = backdrop_rank; layer = Backdrop };
+  second = record { rank = nothing_rank; layer = Nothing };
+}
 
 -- the candidates of all layers
 unfoldable pub front_of : ℕ → Ranks → Dots → Stack

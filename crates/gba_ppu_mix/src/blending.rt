@@ -1,8 +1,8 @@
 //! Blending.
 
 ghost use Rattle.std.specs.Prelude.{◌≡◌, ◌≤◌, ◌<◌, if◌then◌else◌, length};
-ghost use Rattle.gba_ppu_mix.specs.Blending.{alone as alone_by, blending_of, coefficient as coefficient_of, effect_of as effect_by, is_alpha, is_changed as is_changed_by, is_target as is_target_of, marks_of as marks_by};
-ghost use Rattle.gba_ppu_mix.specs.Mixing.{backdrop_colour as colour_of_backdrop};
+ghost use Rattle.gba_ppu_mix.specs.Blending.{alone as alone_by, blending_of, coefficient as coefficient_of, effect_of as effect_by, is_alpha, is_changed as is_changed_by, is_target as is_target_of};
+ghost use Rattle.gba_ppu_mix.specs.Painting.{backdrop_colour as colour_of_backdrop, marks_of as marks_by};
 
 use crate::stacks::{Layer, layer_bit};
 use gba_ppu_blend::{brighter, darker};
@@ -110,7 +110,8 @@ impl Blending {
 
     fn changed(&self, effects: bool, layer: Layer, colour: u16) -> u16
         requires { self.now.evy ≤ 16 }
-        ensures { result ≡ if is_changed_by self.now effects layer then alone_by self.now.effect self.now.evy colour else colour }
+        ensures { result ≡ if is_changed_by self.now effects layer then alone_by self.now.effect self.now.evy colour
+            else colour }
     {
         if self.is_changed(effects, layer) {
             alone(self.effect, self.evy, colour)

@@ -6,7 +6,8 @@ ghost use Rattle.gba_ppu_affine.specs.Bitmap.{bitmap_pixel};
 ghost use Rattle.gba_ppu_dot.specs.Dots.{IsLine};
 ghost use Rattle.gba_ppu_dot.specs.Paints.{ArePaints, IsPaintLine};
 ghost use Rattle.gba_ppu_reg.specs.Registers.{picture_mode};
-ghost use Rattle.gba_ppu_mix.specs.Layers.{background_dot, dot_of_kind, has_layers as has_any, is_layer_on as is_on, kind_of as kind_in, sprites_dot};
+ghost use Rattle.gba_ppu_mix.specs.Layers.{background_dot, dot_of_kind, is_layer_on as is_on, kind_of as kind_in, sprites_dot};
+ghost use Rattle.gba_ppu_mix.specs.Painting.{has_layers as has_any};
 
 use gba_ppu_affine::{affine_line, bitmap_line};
 use gba_ppu_dot::{BackgroundPaints, Dot, clear_line, clear_paints, paint_line};

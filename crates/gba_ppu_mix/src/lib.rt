@@ -2,11 +2,11 @@
 //! The colours of a line: the layers behind one another, windows and blending.
 
 mod blending;
+mod eights;
 pub mod laws;
 mod layers;
 mod line;
 mod paints;
-mod piles;
 mod stacks;
 mod windows;
 

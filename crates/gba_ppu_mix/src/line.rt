@@ -1,14 +1,14 @@
 //! A line of the picture.
 
 ghost use Rattle.std.specs.Prelude.{◌≡◌, ℕ, ◌+◌, ◌<◌, ◌≤◌, false, length, slice_index};
-ghost use Rattle.gba_ppu_mix.specs.Mixing.{IsPixelLine, backdrop_colour, is_blank as is_blank_by, mixed_pixel};
-ghost use Rattle.gba_ppu_mix.specs.Piles.{pile_colour, pile_of, place_at};
-ghost use Rattle.gba_ppu_mix.specs.Windows.{run_shows, shows_at};
+ghost use Rattle.gba_ppu_mix.specs.Mixing.{IsPixelLine, is_blank as is_blank_by, mixed_pixel};
+ghost use Rattle.gba_ppu_mix.specs.Painting.{backdrop_colour, painted_stack_colour, painted_stack_of, place_at, run_shows};
+ghost use Rattle.gba_ppu_mix.specs.Windows.{shows_at};
 
 use crate::blending::Blending;
+use crate::eights::{LineConstants, coloured, stack_eight};
 use crate::layers::has_layers;
 use crate::paints::PaintedLines;
-use crate::piles::{Coats, coloured, pile_eight};
 use crate::stacks::Ranks;
 use crate::windows::{Run, Windows};
 use gba_ppu_blend::{eight_from, put_eight};
@@ -24,27 +24,30 @@ fn is_blank(r: &PictureRegisters) -> bool
 
 /// Mixes eight places.
 #[inline(always)]
-fn mix_eight(b: &Blending, c: &Coats, lines: &PaintedLines, at: usize, colours: &mut [u16])
+fn mix_eight(b: &Blending, c: &LineConstants, lines: &PaintedLines, at: usize, colours: &mut [u16])
     requires eva { b.now.eva ≤ 16 }
     requires evb { b.now.evb ≤ 16 }
     requires evy { b.now.evy ≤ 16 }
     requires place { at + 8 ≤ 240 }
     requires colours { length colours.old ≡ 240 }
     ensures before { (x : ℕ) → x < at → slice_index colours.new x ≡ slice_index colours.old x }
-    ensures here { (i : ℕ) → i < 8 → slice_index colours.new (at + i) ≡ pile_colour b.now (slice_index lines.now.shows (at + i)) (pile_of c.now (place_at lines.now (at + i))) }
+    ensures here { (i : ℕ) → i < 8 → slice_index colours.new (at + i)
+        ≡ painted_stack_colour b.now (slice_index lines.now.shows (at + i))
+        (painted_stack_of c.now (place_at lines.now (at + i))) }
 {
     let shows = eight_from(&lines.shows, at);
-    let pile = pile_eight(c, lines, shows, at);
-    put_eight(coloured(b, shows, pile), at, colours);
+    let stack = stack_eight(c, lines, shows, at);
+    put_eight(coloured(b, shows, stack), at, colours);
 }
 
 /// Mixes the layers' lines.
-fn mix(b: &Blending, c: &Coats, lines: &PaintedLines, colours: &mut [u16])
+fn mix(b: &Blending, c: &LineConstants, lines: &PaintedLines, colours: &mut [u16])
     requires eva { b.now.eva ≤ 16 }
     requires evb { b.now.evb ≤ 16 }
     requires evy { b.now.evy ≤ 16 }
     requires colours { length colours.old ≡ 240 }
-    ensures { (x : ℕ) → x < 240 → slice_index colours.new x ≡ pile_colour b.now (slice_index lines.now.shows x) (pile_of c.now (place_at lines.now x)) }
+    ensures { (x : ℕ) → x < 240 → slice_index colours.new x
+        ≡ painted_stack_colour b.now (slice_index lines.now.shows x) (painted_stack_of c.now (place_at lines.now x)) }
 {
     for k in 0..30 {
         mix_eight(b, c, lines, 8 * k, colours);
@@ -59,7 +62,8 @@ fn fill_run(palette: &[u8], run: &Run, b: &Blending, start: u32, colours: &mut [
     requires end { run.now.end ≤ 240 }
     requires colours { length colours.old ≡ 240 }
     ensures before { (x : ℕ) → x < start → slice_index colours.new x ≡ slice_index colours.old x }
-    ensures filled { (x : ℕ) → start ≤ x → x < run.now.end → slice_index colours.new x ≡ backdrop_colour palette.now b.now (run_shows run.now false) }
+    ensures filled { (x : ℕ) → start ≤ x → x < run.now.end
+        → slice_index colours.new x ≡ backdrop_colour palette.now b.now (run_shows run.now false) }
 {
     let colour = b.backdrop_colour(palette, run.shows(false));
     colours[start as usize..run.end as usize].fill(colour);
@@ -70,7 +74,8 @@ fn fill(palette: &[u8], w: &Windows, b: &Blending, colours: &mut [u16])
     requires palette { length palette.now ≡ 1024 }
     requires evy { b.now.evy ≤ 16 }
     requires colours { length colours.old ≡ 240 }
-    ensures { (x : ℕ) → x < 240 → slice_index colours.new x ≡ backdrop_colour palette.now b.now (shows_at w.now x false) }
+    ensures { (x : ℕ) → x < 240 → slice_index colours.new x
+        ≡ backdrop_colour palette.now b.now (shows_at w.now x false) }
 {
     let mut start = 0;
     while start < 240 {
@@ -121,6 +126,6 @@ pub fn mix_line(
     lines.put_backgrounds(r, palette, vram, line);
     lines.put_sprites(r, palette, vram, oam, line, &windows, &blending);
     let backdrop = entry_colour(palette, 0);
-    let coats = Coats::of(&blending, Ranks::of(r), backdrop);
-    mix(&blending, &coats, &lines, colours);
+    let constants = LineConstants::of(&blending, Ranks::of(r), backdrop);
+    mix(&blending, &constants, &lines, colours);
 }

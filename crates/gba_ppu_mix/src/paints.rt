@@ -3,10 +3,11 @@
 ghost use Rattle.std.specs.Prelude.{◌≡◌, ℕ, ◌<◌, ◌≤◌, length, slice_index, slice_index_or};
 ghost use Rattle.gba_ppu_dot.specs.Dots.{clear_dot};
 ghost use Rattle.gba_ppu_dot.specs.Paints.{ArePaints, IsPaintLine, paint_of as paint_of_dot};
-ghost use Rattle.gba_ppu_mix.specs.Blending.{is_semi as is_semi_kind, marks_of};
+ghost use Rattle.gba_ppu_mix.specs.Blending.{is_semi as is_semi_kind};
 ghost use Rattle.gba_ppu_mix.specs.Layers.{background_dot, sprites_dot};
+ghost use Rattle.gba_ppu_mix.specs.Painting.{marks_of, run_shows};
 ghost use Rattle.gba_ppu_mix.specs.Stacks.{sprite_rank as rank_of_sprite};
-ghost use Rattle.gba_ppu_mix.specs.Windows.{run_shows, shows_at};
+ghost use Rattle.gba_ppu_mix.specs.Windows.{shows_at};
 ghost use Rattle.gba_ppu_mix.specs.declared.stacks.Layer.TheVariants.{Sprites};
 
 use crate::blending::Blending;
@@ -39,7 +40,8 @@ fn is_semi(dot: Dot) -> bool
 /// The ranks of the sprites' dots.
 fn put_ranks(dots: &[Dot; 240], ranks: &mut [u16])
     requires { length ranks.old ≡ 240 }
-    ensures { (x : ℕ) → x < 240 → slice_index ranks.new x ≡ rank_of_sprite (slice_index_or dots.now x clear_dot).priority }
+    ensures { (x : ℕ) → x < 240 → slice_index ranks.new x
+        ≡ rank_of_sprite (slice_index_or dots.now x clear_dot).priority }
 {
     for x in 0..240 {
         ranks[x] = sprite_rank(dots[x].priority);
@@ -49,7 +51,8 @@ fn put_ranks(dots: &[Dot; 240], ranks: &mut [u16])
 /// The marks of the sprites' dots.
 fn put_marks(b: &Blending, dots: &[Dot; 240], marks: &mut [u16])
     requires { length marks.old ≡ 240 }
-    ensures { (x : ℕ) → x < 240 → slice_index marks.new x ≡ marks_of b.now Sprites (is_semi_kind (slice_index_or dots.now x clear_dot).kind) }
+    ensures { (x : ℕ) → x < 240 → slice_index marks.new x
+        ≡ marks_of b.now Sprites (is_semi_kind (slice_index_or dots.now x clear_dot).kind) }
 {
     for x in 0..240 {
         marks[x] = b.marks_of(Layer::Sprites, is_semi(dots[x]));
@@ -62,7 +65,8 @@ fn put_run(run: &Run, dots: &[Dot; 240], start: u32, shows: &mut [u16])
     requires end { run.now.end ≤ 240 }
     requires shows { length shows.old ≡ 240 }
     ensures before { (x : ℕ) → x < start → slice_index shows.new x ≡ slice_index shows.old x }
-    ensures here { (x : ℕ) → start ≤ x → x < run.now.end → slice_index shows.new x ≡ run_shows run.now (slice_index_or dots.now x clear_dot).window }
+    ensures here { (x : ℕ) → start ≤ x → x < run.now.end
+        → slice_index shows.new x ≡ run_shows run.now (slice_index_or dots.now x clear_dot).window }
 {
     for x in start..run.end {
         let place = x as usize;
@@ -73,7 +77,8 @@ fn put_run(run: &Run, dots: &[Dot; 240], start: u32, shows: &mut [u16])
 /// What shows in the line.
 fn put_shows(w: &Windows, dots: &[Dot; 240], shows: &mut [u16])
     requires { length shows.old ≡ 240 }
-    ensures { (x : ℕ) → x < 240 → slice_index shows.new x ≡ shows_at w.now x (slice_index_or dots.now x clear_dot).window }
+    ensures { (x : ℕ) → x < 240 → slice_index shows.new x
+        ≡ shows_at w.now x (slice_index_or dots.now x clear_dot).window }
 {
     let mut start = 0;
     while start < 240 {
@@ -141,10 +146,14 @@ impl PaintedLines {
         ensures background1 { self.new.background1 ≡ self.old.background1 }
         ensures background2 { self.new.background2 ≡ self.old.background2 }
         ensures background3 { self.new.background3 ≡ self.old.background3 }
-        ensures sprites { (x : ℕ) → x < 240 → slice_index self.new.sprites x ≡ paint_of_dot palette.now (sprites_dot r.now vram.now oam.now line x) }
-        ensures sprite_ranks { (x : ℕ) → x < 240 → slice_index self.new.sprite_ranks x ≡ rank_of_sprite (sprites_dot r.now vram.now oam.now line x).priority }
-        ensures sprite_marks { (x : ℕ) → x < 240 → slice_index self.new.sprite_marks x ≡ marks_of b.now Sprites (is_semi_kind (sprites_dot r.now vram.now oam.now line x).kind) }
-        ensures shows { (x : ℕ) → x < 240 → slice_index self.new.shows x ≡ shows_at w.now x (sprites_dot r.now vram.now oam.now line x).window }
+        ensures sprites { (x : ℕ) → x < 240 → slice_index self.new.sprites x
+            ≡ paint_of_dot palette.now (sprites_dot r.now vram.now oam.now line x) }
+        ensures sprite_ranks { (x : ℕ) → x < 240 → slice_index self.new.sprite_ranks x
+            ≡ rank_of_sprite (sprites_dot r.now vram.now oam.now line x).priority }
+        ensures sprite_marks { (x : ℕ) → x < 240 → slice_index self.new.sprite_marks x
+            ≡ marks_of b.now Sprites (is_semi_kind (sprites_dot r.now vram.now oam.now line x).kind) }
+        ensures shows { (x : ℕ) → x < 240 → slice_index self.new.shows x
+            ≡ shows_at w.now x (sprites_dot r.now vram.now oam.now line x).window }
     {
         let mut dots = empty_line();
         sprites_line(r, vram, oam, line, &mut dots);

@@ -27,6 +27,12 @@ pub struct Ranks {
     pub background3: u16,
 }
 
+/// The backdrop's place in the order: behind every layer.
+pub const BACKDROP_RANK: u16 = 0x800;
+
+/// The place of what is behind the backdrop.
+pub const NOTHING_RANK: u16 = 0x801;
+
 /// The layer's bit in BLDCNT, and in what a window shows.
 pub fn layer_bit(layer: Layer) -> u32
     ensures value { result ≡ bit_of layer }

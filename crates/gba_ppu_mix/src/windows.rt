@@ -1,7 +1,8 @@
 //! Windows.
 
 ghost use Rattle.std.specs.Prelude.{◌≡◌, ℕ, Bool, ◌<◌, ◌≤◌, false};
-ghost use Rattle.gba_ppu_mix.specs.Windows.{is_inside as has_place, is_on_side as side_has, run_shows, shows_at, side_of as side_from, window_of as window_on, windows_of};
+ghost use Rattle.gba_ppu_mix.specs.Painting.{run_shows};
+ghost use Rattle.gba_ppu_mix.specs.Windows.{is_inside as has_place, is_on_side as side_has, shows_at, side_of as side_from, window_of as window_on, windows_of};
 
 use gba_ppu_reg::PictureRegisters;
 use gba_word::{bit, bits};

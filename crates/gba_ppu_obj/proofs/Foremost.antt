@@ -217,7 +217,8 @@ window_of_each dot_of zero i h o = absurd (omega arith)
 window_of_each dot_of (suc count) i h o =
     window_more dot_of count
     ∙ ⊎_elim
-    (λ (low : i < count). left_or (first_over dot_of count).window (dot_of count).window (window_of_each dot_of count i low o))
+    (λ (low : i < count). left_or (first_over dot_of count).window (dot_of count).window
+    (window_of_each dot_of count i low o))
     (λ (high : count ≤ i).
     let e : i ≡ count = omega arith in
     let P : ℕ → Type 0 = λ n. (dot_of n).window ≡ true in

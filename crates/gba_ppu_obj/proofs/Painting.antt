@@ -26,7 +26,8 @@ unfolding over
 over_clear best = ap (λ w. record best { window = w }) (or_false best.window)
 
 -- one dot more over those before it
-pub one_more : (dot_of : ℕ → Dot) (count : ℕ) → first_over dot_of (count + 1) ≡ over (first_over dot_of count) (dot_of count)
+pub one_more : (dot_of : ℕ → Dot) (count : ℕ) → first_over dot_of (count + 1)
+    ≡ over (first_over dot_of count) (dot_of count)
 unfolding first_over
 one_more dot_of count = rw (add-one) refl
 
@@ -64,10 +65,12 @@ pub drawn_at : (m : Mapping) (vram oam : List ℕ) (a : Attributes) (y x q left 
     → (x < start → width ≤ box_column left x)
     → (end ≤ x → width ≤ box_column left x)
     → (x < start → new ≡ old)
-    → (start ≤ x → x < end → new ≡ over old (numbered_dot (sprite_of m a) (box_number m vram oam a q (first + (x - start)))))
+    → (start ≤ x → x < end
+    → new ≡ over old (numbered_dot (sprite_of m a) (box_number m vram oam a q (first + (x - start)))))
     → (end ≤ x → new ≡ old)
     → new ≡ over old (attributes_dot m vram oam a y x)
-drawn_at m vram oam a y x q left width start end first old new row_is left_is width_is on within inside to_left to_right before drawn after =
+drawn_at m vram oam a y x q left width start end first old new row_is left_is width_is on within inside to_left to_right
+    before drawn after =
     let shown : is_row_shown a (box_row (top_of a) y) ≡ true = ap (is_row_shown a) (sym row_is) ∙ on in
     let beside : width ≤ box_column left x → attributes_dot m vram oam a y x ≡ clear_dot =
     λ past. beside_box m vram oam a y x shown (rw (left_is, width_is) at past) in

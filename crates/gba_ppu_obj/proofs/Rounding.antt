@@ -33,7 +33,8 @@ whole step less n e = let f : (step + less) * n ≡ 2 ^ 32 * n = ap (λ m. m * n
 small : (step far : ℕ) → step ≤ 2 ^ 15 → far ≤ 128 → step * far ≤ 2 ^ 22
 small step far h k = mul-le-mul {n₁ = step} {m₁ = far} {n₂ = 2 ^ 15} {m₂ = 128} h k
 
-low_forth : (step far : ℕ) → step < 2 ^ 15 → far ≤ 128 → StandsFor (2 ^ 22) (pos step *ℤ pos far) (step * (far + 2 ^ 32))
+low_forth : (step far : ℕ) → step < 2 ^ 15 → far ≤ 128
+    → StandsFor (2 ^ 22) (pos step *ℤ pos far) (step * (far + 2 ^ 32))
 low_forth step far h k =
     let b : step * far ≤ 2 ^ 22 = small step far (omega arith) k in
     let f : step * (far + 2 ^ 32) ≡ step * far + 2 ^ 32 * step = forth step far in
@@ -66,7 +67,8 @@ high_forth : (step less far : ℕ) → step + suc less ≡ 2 ^ 32 → less < 2 ^
 high_forth step less far e h k =
     let w : step * far + suc less * far ≡ 2 ^ 32 * far = whole step (suc less) far e in
     let f : step * (far + 2 ^ 32) ≡ step * far + 2 ^ 32 * step = forth step far in
-    down_by (suc less * far) (step * (far + 2 ^ 32)) (far + step) (small (suc less) far (omega arith) k) (omega (arith, w, f))
+    down_by (suc less * far) (step * (far + 2 ^ 32)) (far + step) (small (suc less) far (omega arith) k)
+    (omega (arith, w, f))
 
 high_back : (step less far : ℕ) → step + suc less ≡ 2 ^ 32 → less < 2 ^ 15 → suc far ≤ 128
     → StandsFor (2 ^ 22) (negsuc less *ℤ negsuc far) (step * (2 ^ 32 - suc far))
@@ -76,7 +78,8 @@ high_back step less far e h k =
     up_by (suc less * suc far) (step * (2 ^ 32 - suc far)) (step - suc far) (small (suc less) (suc far) (omega arith) k)
     (omega (arith, w, f))
 
-same_product : (one step_value far_value far : ℤ) (step word other : ℕ) → one ≡ step_value → far ≡ far_value → word ≡ other
+same_product : (one step_value far_value far : ℤ) (step word other : ℕ) → one ≡ step_value → far ≡ far_value
+    → word ≡ other
     → StandsFor (2 ^ 22) (step_value *ℤ far_value) (step * other) → StandsFor (2 ^ 22) (one *ℤ far) (step * word)
 same_product one step_value far_value far step word other e f g h = rw (e, f, g) h
 
@@ -85,7 +88,8 @@ product_after : (step place half : ℕ) → IsStep step → half ≤ place → p
 product_after step place half (inl low) h k =
     same_product (signed step) (pos step) (pos (place - half)) (pos place -ℤ pos half) step (place + (2 ^ 32 - half))
     ((place - half) + 2 ^ 32)
-    (signed_low step (omega arith)) (after_middle place half h) (omega arith) (low_forth step (place - half) low (omega arith))
+    (signed_low step (omega arith)) (after_middle place half h) (omega arith)
+    (low_forth step (place - half) low (omega arith))
 product_after step place half (inr high) h k =
     same_product (signed step) (negsuc (2 ^ 32 - 1 - step)) (pos (place - half)) (pos place -ℤ pos half) step
     (place + (2 ^ 32 - half)) ((place - half) + 2 ^ 32)
@@ -95,7 +99,8 @@ product_after step place half (inr high) h k =
 product_before : (step place half : ℕ) → IsStep step → place < half → half ≤ 64
     → StandsFor (2 ^ 22) (signed step *ℤ (pos place -ℤ pos half)) (step * (place + (2 ^ 32 - half)))
 product_before step place half (inl low) h k =
-    same_product (signed step) (pos step) (negsuc (half - place - 1)) (pos place -ℤ pos half) step (place + (2 ^ 32 - half))
+    same_product (signed step) (pos step) (negsuc (half - place - 1)) (pos place -ℤ pos half) step
+    (place + (2 ^ 32 - half))
     (2 ^ 32 - suc (half - place - 1))
     (signed_low step (omega arith)) (before_middle place half h) (omega arith)
     (low_back step (half - place - 1) low (omega arith))
@@ -103,7 +108,8 @@ product_before step place half (inr high) h k =
     same_product (signed step) (negsuc (2 ^ 32 - 1 - step)) (negsuc (half - place - 1)) (pos place -ℤ pos half) step
     (place + (2 ^ 32 - half)) (2 ^ 32 - suc (half - place - 1))
     (signed_high step (omega (arith, high.0)) high.1) (before_middle place half h) (omega arith)
-    (high_back step (2 ^ 32 - 1 - step) (half - place - 1) (omega (arith, high.1)) (omega (arith, high.0)) (omega arith))
+    (high_back step (2 ^ 32 - 1 - step) (half - place - 1) (omega (arith, high.1)) (omega (arith, high.0))
+    (omega arith))
 
 product : (step place side : ℕ) → IsStep step → side ≤ 128 → place < 128
     → StandsFor (2 ^ 22) (signed step *ℤ from_middle place side) (step * (place + (2 ^ 32 - side / 2)))
@@ -125,10 +131,12 @@ added z y n m a b = record {
 }
 
 pub stands : (across down box_wide box_high p q : ℕ) → box_wide ≤ 128 → box_high ≤ 128 → p < 128 → q < 128
-    → Sum (signed (sign_extension across 16) *ℤ from_middle p box_wide +ℤ signed (sign_extension down 16) *ℤ from_middle q box_high)
+    → Sum (signed (sign_extension across 16) *ℤ from_middle p box_wide +ℤ signed
+    (sign_extension down 16) *ℤ from_middle q box_high)
     (sign_extension across 16 * (p + (2 ^ 32 - box_wide / 2)) + sign_extension down 16 * (q + (2 ^ 32 - box_high / 2)))
 stands across down box_wide box_high p q w h k l =
-    added (signed (sign_extension across 16) *ℤ from_middle p box_wide) (signed (sign_extension down 16) *ℤ from_middle q box_high)
+    added (signed (sign_extension across 16) *ℤ from_middle p box_wide)
+    (signed (sign_extension down 16) *ℤ from_middle q box_high)
     (sign_extension across 16 * (p + (2 ^ 32 - box_wide / 2)))
     (sign_extension down 16 * (q + (2 ^ 32 - box_high / 2)))
     (product (sign_extension across 16) p box_wide (extension_is_step across) w k)

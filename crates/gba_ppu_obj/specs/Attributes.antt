@@ -1,4 +1,4 @@
-use Rattle.std.specs.Prelude.{ℕ, Bool, not, ◌&&◌, ◌+◌, ◌*◌, ◌==◌, nat_lt, List, if◌then◌else◌}
+use Rattle.std.specs.Prelude.{ℕ, Bool, true, false, not, ◌&&◌, ◌+◌, ◌*◌, ◌==◌, nat_lt, List, if◌then◌else◌}
 use Rattle.gba_terms.specs.Bits.{bit, field}
 use Rattle.gba_ppu_dot.specs.Bytes.{half_at}
 use Rattle.gba_ppu_obj.specs.declared.attributes.Attributes.{Attributes}
@@ -66,8 +66,8 @@ priority_of a = field a.third 10 2
 abbrev pub palette_of : Attributes → ℕ
 palette_of a = field a.third 12 4
 
--- The sides of a sprite's picture, in dots: it is square, or wide, or high. A square has the same side twice, a wide one a
--- long side across and a short one down, a high one the other way round.
+-- The sides of a sprite's picture, in dots: it is square, or wide, or high. A square has the same side twice, a wide
+-- one a long side across and a short one down, a high one the other way round.
 abbrev pub square_side : ℕ → ℕ
 square_side size = if size == 0 then 8 else if size == 1 then 16 else if size == 2 then 32 else 64
 
@@ -97,11 +97,14 @@ abbrev pub box_height : Attributes → ℕ
 box_height a = if is_double a then 2 * height_of a else height_of a
 
 -- whether it is shown at all: shape 3 and mode 3 mean nothing, and a sprite that has one of them isn't shown (own)
-abbrev pub is_prohibited : Attributes → Bool
-is_prohibited a = field a.first 10 2 == 3
+abbrev pub is_prohibited : SpriteMode → Bool
+is_prohibited Normal = false
+is_prohibited SemiTransparent = false
+is_prohibited Window = false
+is_prohibited Prohibited = true
 
 unfoldable pub is_shown : Attributes → Bool
-is_shown a = not (is_hidden a) && not (shape_of a == 3) && not (is_prohibited a)
+is_shown a = not (is_hidden a) && not (shape_of a == 3) && not (is_prohibited (mode_of a))
 
 -- whether a row of its box is shown
 abbrev pub is_row_shown : Attributes → ℕ → Bool

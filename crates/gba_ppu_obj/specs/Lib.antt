@@ -1,4 +1,5 @@
 pub mod Attributes
+pub mod Fits
 pub mod Order
 pub mod Places
 pub mod Rounding

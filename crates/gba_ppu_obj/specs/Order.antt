@@ -2,8 +2,9 @@ use Rattle.std.specs.Prelude.{ℕ, zero, suc, Bool, not, ◌&&◌, ◌||◌, nat
 use Rattle.gba_ppu_dot.specs.Dots.{clear_dot}
 use Rattle.gba_ppu_dot.specs.declared.dot.Dot.{Dot}
 
--- A dot over those of the sprites before it: it is seen where it is opaque and no opaque one before it has its priority or a
--- lower one. So the seen one is the opaque one with the least priority, and among these the one with the least number.
+-- A dot over those of the sprites before it: it is seen where it is opaque and no opaque one before it has its priority
+-- or a lower one. So the seen one is the opaque one with the least priority, and among these the one with the least
+-- number.
 abbrev pub wins : Dot → Dot → Bool
 wins best new = new.opaque && (not best.opaque || nat_lt new.priority best.priority)
 

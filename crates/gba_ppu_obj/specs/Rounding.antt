@@ -16,8 +16,8 @@ exact_place across down box_wide box_high side p q =
     int_div_euclid (signed across *ℤ from_middle p box_wide +ℤ signed down *ℤ from_middle q box_high) (pos (2 ^ 8))
     +ℤ pos (side / 2)
 
--- For every two parameters, at each place of every box: the exact place is inside a picture exactly where the place by words
--- is, and is then the same.
+-- For every two parameters, at each place of every box: the exact place is inside a picture exactly where the place by
+-- words is, and is then the same.
 pub record RoundsDown : Type 0 where
   pub inside : (across down box_wide box_high side p q n : ℕ) → box_wide ≤ 128 → box_high ≤ 128 → side ≤ 64
       → p < 128 → q < 128 → n < 64

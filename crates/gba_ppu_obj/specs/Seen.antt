@@ -15,8 +15,8 @@ pub record IsSeen (dot_of : ℕ → Dot) (count j : ℕ) (seen : Dot) : Type 0 w
   pub in_front : (i : ℕ) → i < count → (dot_of i).opaque ≡ true → IsInFront dot_of j i
   pub same : seen ≡ record (dot_of j) { window = seen.window }
 
--- Of so many dots, whatever they are: where none of them is opaque nothing is seen, and else the foremost one; the place is in
--- the window exactly where one of them is.
+-- Of so many dots, whatever they are: where none of them is opaque nothing is seen, and else the foremost one; the
+-- place is in the window exactly where one of them is.
 pub record SeesTheForemost : Type 0 where
   pub nothing : (dot_of : ℕ → Dot) (count : ℕ) → (first_over dot_of count).opaque ≡ false
       → (i : ℕ) → i < count → (dot_of i).opaque ≡ false

@@ -1,4 +1,4 @@
-use Rattle.std.specs.Prelude.{ℕ, Bool, ◌+◌, ◌*◌, ◌/◌, ◌%◌, ◌<◌, ◌≤◌, ◌&&◌, ◌||◌, ◌==◌, nat_lt, true, false, List, slice_index, if◌then◌else◌}
+use Rattle.std.specs.Prelude.{ℕ, Bool, ◌+◌, ◌*◌, ◌/◌, ◌%◌, ◌&&◌, ◌||◌, ◌==◌, nat_lt, true, false, List, slice_index, if◌then◌else◌}
 use Rattle.gba_terms.specs.Bits.{bit, field}
 use Rattle.gba_ppu_reg.specs.Registers.{Picture, picture_kept, picture_mode}
 use Rattle.gba_ppu_dot.specs.Dots.{clear_dot}
@@ -12,16 +12,16 @@ use Rattle.gba_ppu_obj.specs.declared.attributes.SpriteMode.TheVariants.{Normal,
 use Rattle.gba_ppu_obj.specs.declared.sprite.Mapping.{Mapping}
 use Rattle.gba_ppu_obj.specs.declared.sprite.Sprite.{Sprite}
 
--- How the tiles of sprites lie in video memory: one after another by DISPCNT's bit 6, else in rows of 32 (GBATEK, LCD OBJ
--- VRAM Character (Tile) Mapping). In the modes with a bitmap the lower half of their memory is the bitmap's.
+-- How the tiles of sprites lie in video memory: one after another by DISPCNT's bit 6, else in rows of 32 (GBATEK, LCD
+-- OBJ VRAM Character (Tile) Mapping). In the modes with a bitmap the lower half of their memory is the bitmap's.
 abbrev pub has_bitmap : ℕ → Bool
 has_bitmap mode = (mode == 3) || (mode == 4) || (mode == 5)
 
 abbrev pub mapping_of : Picture → Mapping
 mapping_of r = record { one_dimension = bit (picture_kept 0x000 r) 6; with_bitmap = has_bitmap (picture_mode r) }
 
--- A tile's number counts units of 32 bytes, of which a tile with 8 bits for each dot has two. In rows of 32 such a tile begins
--- at an even number, whatever the attributes say.
+-- A tile's number counts units of 32 bytes, of which a tile with 8 bits for each dot has two. In rows of 32 such a tile
+-- begins at an even number, whatever the attributes say.
 abbrev pub tile_units : Attributes → ℕ
 tile_units a = if has_eight_bits a then 2 else 1
 
@@ -45,8 +45,8 @@ is_window SemiTransparent = false
 is_window Window = true
 is_window Prohibited = false
 
--- A sprite's picture: its sides, the number of its first tile, how far it is in units to the tile below and to the next one,
--- and what its dots are.
+-- A sprite's picture: its sides, the number of its first tile, how far it is in units to the tile below and to the next
+-- one, and what its dots are.
 abbrev pub sprite_of : Mapping → Attributes → Sprite
 sprite_of m a = record {
   width = width_of a;
@@ -61,15 +61,6 @@ sprite_of m a = record {
   kind = kind_of (mode_of a);
   in_window = is_window (mode_of a);
 }
-
--- the sizes that these numbers have
-pub record SpriteFits (s : Sprite) : Type 0 where
-  pub width : s.width ≤ 64
-  pub height : s.height ≤ 64
-  pub first_tile : s.first_tile < 1024
-  pub row_units : s.row_units ≤ 32
-  pub tile_units : s.tile_units ≤ 2
-  pub palette_start : s.palette_start ≤ 496
 
 -- the number of the tile that has a place of the picture: there are 1,024 units
 unfoldable pub tile_number : Sprite → ℕ → ℕ → ℕ

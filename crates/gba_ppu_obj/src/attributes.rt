@@ -110,9 +110,9 @@ impl Attributes {
     }
 
     fn is_prohibited(self) -> bool
-        ensures { result ≡ is_prohibited self }
+        ensures { result ≡ is_prohibited (mode_of self) }
     {
-        bits(u32::from(self.first), 10, 2) == 3
+        matches!(self.mode(), SpriteMode::Prohibited)
     }
 
     /// Whether its dots have 8 bits, and not 4.

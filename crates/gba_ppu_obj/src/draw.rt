@@ -3,9 +3,10 @@
 ghost use Rattle.std.specs.Prelude.{◌≡◌, ℕ, ◌+◌, ◌-◌, ◌/◌, ◌<◌, ◌≤◌, length, slice_index_or};
 ghost use Rattle.gba_ppu_dot.specs.declared.dot.Dot.{Dot};
 ghost use Rattle.gba_ppu_obj.specs.Attributes.{attributes_of, box_height, box_width, is_row_shown as is_row_of_box};
+ghost use Rattle.gba_ppu_obj.specs.Fits.{SpriteFits};
 ghost use Rattle.gba_ppu_obj.specs.Order.{over as dot_over};
 ghost use Rattle.gba_ppu_obj.specs.Places.{box_row as row_of, mirrored as mirrored_place, turned_place as place_turned};
-ghost use Rattle.gba_ppu_obj.specs.Tiles.{SpriteFits, numbered_dot, sprite_of};
+ghost use Rattle.gba_ppu_obj.specs.Tiles.{numbered_dot, sprite_of};
 ghost use Rattle.gba_ppu_obj.specs.Sprites.{attributes_dot, box_number as number_of_box, straight_number as number_straight, turned_number as number_turned};
 
 use crate::attributes::Attributes;
@@ -90,7 +91,9 @@ fn draw_straight(vram: &[u8], s: &Sprite, a: Attributes, q: u32, span: Span, dot
     requires within { span.first + (span.end - span.start) ≤ s.now.width }
     requires dots { span.end ≤ length dots.old }
     ensures before { (x : ℕ) (d : Dot) → x < span.start → slice_index_or dots.new x d ≡ slice_index_or dots.old x d }
-    ensures drawn { (x : ℕ) (d : Dot) → span.start ≤ x → x < span.end → slice_index_or dots.new x d ≡ dot_over (slice_index_or dots.old x d) (numbered_dot s.now (number_straight vram.now s.now a q (span.first + (x - span.start)))) }
+    ensures drawn { (x : ℕ) (d : Dot) → span.start ≤ x → x < span.end
+        → slice_index_or dots.new x d ≡ dot_over (slice_index_or dots.old x d)
+        (numbered_dot s.now (number_straight vram.now s.now a q (span.first + (x - span.start)))) }
     ensures after { (x : ℕ) (d : Dot) → span.end ≤ x → slice_index_or dots.new x d ≡ slice_index_or dots.old x d }
 {
     for x in span.start..span.end {
@@ -115,7 +118,10 @@ fn draw_turned(
     requires within { span.first + (span.end - span.start) ≤ 128 }
     requires dots { span.end ≤ length dots.old }
     ensures before { (x : ℕ) (d : Dot) → x < span.start → slice_index_or dots.new x d ≡ slice_index_or dots.old x d }
-    ensures drawn { (x : ℕ) (d : Dot) → span.start ≤ x → x < span.end → slice_index_or dots.new x d ≡ dot_over (slice_index_or dots.old x d) (numbered_dot s.now (number_turned vram.now s.now t.now (box_width a) (box_height a) q (span.first + (x - span.start)))) }
+    ensures drawn { (x : ℕ) (d : Dot) → span.start ≤ x → x < span.end
+        → slice_index_or dots.new x d ≡ dot_over (slice_index_or dots.old x d)
+        (numbered_dot s.now
+        (number_turned vram.now s.now t.now (box_width a) (box_height a) q (span.first + (x - span.start)))) }
     ensures after { (x : ℕ) (d : Dot) → span.end ≤ x → slice_index_or dots.new x d ≡ slice_index_or dots.old x d }
 {
     let box_wide = a.box_width();
@@ -149,7 +155,9 @@ fn draw_box(
     requires within { span.first + (span.end - span.start) ≤ box_width a }
     requires dots { span.end ≤ length dots.old }
     ensures before { (x : ℕ) (d : Dot) → x < span.start → slice_index_or dots.new x d ≡ slice_index_or dots.old x d }
-    ensures drawn { (x : ℕ) (d : Dot) → span.start ≤ x → x < span.end → slice_index_or dots.new x d ≡ dot_over (slice_index_or dots.old x d) (numbered_dot (sprite_of m a) (number_of_box m vram.now oam.now a q (span.first + (x - span.start)))) }
+    ensures drawn { (x : ℕ) (d : Dot) → span.start ≤ x → x < span.end
+        → slice_index_or dots.new x d ≡ dot_over (slice_index_or dots.old x d)
+        (numbered_dot (sprite_of m a) (number_of_box m vram.now oam.now a q (span.first + (x - span.start)))) }
     ensures after { (x : ℕ) (d : Dot) → span.end ≤ x → slice_index_or dots.new x d ≡ slice_index_or dots.old x d }
 {
     let s = Sprite::of(m, a);
@@ -188,7 +196,8 @@ fn draw_attributes(m: Mapping, vram: &[u8], oam: &[u8], a: Attributes, line: u32
     requires oam { length oam.now ≡ 1024 }
     requires line { line < 160 }
     requires dots { length dots.old ≡ 240 }
-    ensures { (x : ℕ) (d : Dot) → x < 240 → slice_index_or dots.new x d ≡ dot_over (slice_index_or dots.old x d) (attributes_dot m vram.now oam.now a line x) }
+    ensures { (x : ℕ) (d : Dot) → x < 240 → slice_index_or dots.new x d
+        ≡ dot_over (slice_index_or dots.old x d) (attributes_dot m vram.now oam.now a line x) }
 {
     let q = box_row(a.top(), line);
     if is_row_shown(a, q) {
@@ -204,7 +213,9 @@ pub fn draw_sprite(m: Mapping, vram: &[u8], oam: &[u8], number: u32, line: u32, 
     requires number { number < 128 }
     requires line { line < 160 }
     requires dots { length dots.old ≡ 240 }
-    ensures { (x : ℕ) (d : Dot) → x < 240 → slice_index_or dots.new x d ≡ dot_over (slice_index_or dots.old x d) (attributes_dot m vram.now oam.now (attributes_of oam.now number) line x) }
+    ensures { (x : ℕ) (d : Dot) → x < 240 → slice_index_or dots.new x d
+        ≡ dot_over (slice_index_or dots.old x d)
+        (attributes_dot m vram.now oam.now (attributes_of oam.now number) line x) }
 {
     draw_attributes(m, vram, oam, Attributes::of(oam, number), line, dots);
 }

@@ -17,7 +17,8 @@ pub fn span_of(left: u32, width: u32) -> Span
     requires width { width ≤ 128 }
     ensures order { result.start ≤ result.end }
     ensures end { result.end ≤ 240 }
-    ensures inside { (x : ℕ) → result.start ≤ x → x < result.end → box_column left x ≡ result.first + (x - result.start) }
+    ensures inside { (x : ℕ) → result.start ≤ x → x < result.end
+        → box_column left x ≡ result.first + (x - result.start) }
     ensures within { result.first + (result.end - result.start) ≤ width }
     ensures before { (x : ℕ) → x < result.start → width ≤ box_column left x }
     ensures after { (x : ℕ) → x < 240 → result.end ≤ x → width ≤ box_column left x }

@@ -51,7 +51,8 @@ pub struct Sprite {
 }
 
 impl Sprite {
-    ghost use Rattle.gba_ppu_obj.specs.Tiles.{first_in_rows as first_even, kind_of as kind_by, SpriteFits, palette_start as palette_from, sprite_of, tile_units as units_of};
+    ghost use Rattle.gba_ppu_obj.specs.Fits.{SpriteFits};
+    ghost use Rattle.gba_ppu_obj.specs.Tiles.{first_in_rows as first_even, kind_of as kind_by, palette_start as palette_from, sprite_of, tile_units as units_of};
 
     fn tile_units(a: Attributes) -> u32
         ensures value { result ≡ units_of a }

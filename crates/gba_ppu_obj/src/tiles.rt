@@ -1,7 +1,8 @@
 //! The tiles of sprites.
 
 ghost use Rattle.std.specs.Prelude.{◌≡◌, ◌<◌, length};
-ghost use Rattle.gba_ppu_obj.specs.Tiles.{SpriteFits, byte_number, dot_number as number_of, nibble_number, picture_number as number_at, tile_number as number_of_tile};
+ghost use Rattle.gba_ppu_obj.specs.Fits.{SpriteFits};
+ghost use Rattle.gba_ppu_obj.specs.Tiles.{byte_number, dot_number as number_of, nibble_number, picture_number as number_at, tile_number as number_of_tile};
 
 use crate::sprite::Sprite;
 use gba_word::bits;

@@ -36,24 +36,29 @@ within_row : (mirror : Bool) (column : ℕ) → column < 8 → mirrored mirror c
 within_row true column h = omega arith
 within_row false column h = h
 
-nibble_seen : (vram : List ℕ) (control entry column row : ℕ) (mirror : Bool) → has_eight_bits control ≡ false → mirror ≡ bit entry 10
-    → nibble_number vram (tiles_start control + 32 * field entry 0 10 + 4 * mirrored (bit entry 11) row) (mirrored mirror column)
+nibble_seen : (vram : List ℕ) (control entry column row : ℕ) (mirror : Bool) → has_eight_bits control ≡ false
+    → mirror ≡ bit entry 10
+    → nibble_number vram (tiles_start control + 32 * field entry 0 10 + 4 * mirrored (bit entry 11) row)
+    (mirrored mirror column)
     ≡ number_at vram control entry column row
 unfolding number_at
 nibble_seen vram control entry column row mirror e m = rw (m, e) refl
 
 pub nibbles_seen : (palette vram : List ℕ) (control entry column row numbers start : ℕ) (mirror : Bool) → column < 8
     → has_eight_bits control ≡ false
-    → ((i : ℕ) → i < 8 → field numbers (4 * i) 4 ≡ nibble_number vram (tiles_start control + 32 * field entry 0 10 + 4 * mirrored (bit entry 11) row) i)
+    → ((i : ℕ) → i < 8 → field numbers (4 * i) 4 ≡ nibble_number vram
+    (tiles_start control + 32 * field entry 0 10 + 4 * mirrored (bit entry 11) row) i)
     → start ≡ palette_of control entry → mirror ≡ bit entry 10
-    → number_paint palette start (field numbers (4 * mirrored mirror column) 4) ≡ paint_of palette (tile_dot vram control entry column row)
+    → number_paint palette start (field numbers (4 * mirrored mirror column) 4)
+    ≡ paint_of palette (tile_dot vram control entry column row)
 nibbles_seen palette vram control entry column row numbers start mirror h e is s m =
     ap (λ n. number_paint palette start n)
     (is (mirrored mirror column) (within_row mirror column h) ∙ nibble_seen vram control entry column row mirror e m)
     ∙ ap (λ n. number_paint palette n (number_at vram control entry column row)) s
     ∙ numbered palette (priority_of control) (palette_of control entry) (number_at vram control entry column row)
 
-pub bytes_seen : (palette vram numbers : List ℕ) (control entry column row : ℕ) → column < 8 → has_eight_bits control ≡ true
+pub bytes_seen : (palette vram numbers : List ℕ) (control entry column row : ℕ) → column < 8
+    → has_eight_bits control ≡ true
     → ((i : ℕ) → i < 8 → slice_index numbers i ≡ number_at vram control entry i row)
     → number_paint palette 0 (slice_index numbers column) ≡ paint_of palette (tile_dot vram control entry column row)
 bytes_seen palette vram numbers control entry column row h e is =
@@ -62,11 +67,13 @@ bytes_seen palette vram numbers control entry column row h e is =
     ∙ rw e refl
 
 -- a row of nibbles as one number
-byte_at : (vram : List ℕ) (start k low a : ℕ) → start % 4 ≡ 0 → start < 0x10000 → k < 4 → a ≡ slice_index vram (start + k)
+byte_at : (vram : List ℕ) (start k low a : ℕ) → start % 4 ≡ 0 → start < 0x10000 → k < 4
+    → a ≡ slice_index vram (start + k)
     → field a low 4 ≡ field (tile_byte vram (start + k)) low 4
 byte_at vram start k low a m h b e =
     ap (λ n. field n low 4) e
-    ∙ sym (ap (λ (t : Bool). field (if t then slice_index vram (start + k) else 0) low 4) (lt-ltb (start + k) 0x10000 (omega arith)))
+    ∙ sym (ap (λ (t : Bool). field (if t then slice_index vram (start + k) else 0) low 4)
+    (lt-ltb (start + k) 0x10000 (omega arith)))
 
 pub record AreBytes (vram : List ℕ) (start a b c d : ℕ) : Type 0 where
   pub aligned : start % 4 ≡ 0
@@ -109,7 +116,8 @@ nibbles_of vram start a b c d (suc (suc (suc (suc (suc (suc (suc zero))))))) is 
     e ∙ byte_at vram start 3 4 d is.aligned is.within (omega arith) is.fourth
 nibbles_of vram start a b c d (suc (suc (suc (suc (suc (suc (suc (suc more)))))))) is h = absurd (omega arith)
 
-pub no_nibbles : (vram : List ℕ) (start column : ℕ) → 0x10000 ≤ start → field 0 (4 * column) 4 ≡ nibble_number vram start column
+pub no_nibbles : (vram : List ℕ) (start column : ℕ) → 0x10000 ≤ start
+    → field 0 (4 * column) 4 ≡ nibble_number vram start column
 unfolding nibble_number
 no_nibbles vram start column h =
     nothing (4 * column) ∙ sym (nothing (4 * (column % 2)))

@@ -48,12 +48,12 @@ in_tile base tile i = omega arith
 whole_tile : (base tile : ℕ) → (8 * base + 8 * tile) % 8 ≡ 0
 whole_tile base tile = omega arith
 
-pub drawn_here : (vram : List ℕ) (control base tile i y x entry : ℕ) (wide : Bool) → wide ≡ is_wide control
-    → x ≡ on_map wide (8 * base + 8 * tile) → entry ≡ text_entry vram control x y → i < 8
-    → tile_dot vram control entry i (y % 8) ≡ map_dot vram control (on_map (is_wide control) (8 * base + (8 * tile + i))) y
-drawn_here vram control base tile i y x entry wide w e f h =
-    ap (λ n. tile_dot vram control n i (y % 8))
-    (f ∙ ap (λ n. text_entry vram control n y) (e ∙ ap (λ b. on_map b (8 * base + 8 * tile)) w))
+pub drawn_here : (vram : List ℕ) (control base tile i y entry : ℕ)
+    → entry ≡ text_entry vram control (on_map (is_wide control) (8 * base + 8 * tile)) y → i < 8
+    → tile_dot vram control entry i (y % 8) ≡ map_dot vram control
+    (on_map (is_wide control) (8 * base + (8 * tile + i))) y
+drawn_here vram control base tile i y entry e h =
+    ap (λ n. tile_dot vram control n i (y % 8)) e
     ∙ sym (drawn_tile vram control (8 * base + 8 * tile) i y (whole_tile base tile) h)
     ∙ ap (λ n. map_dot vram control (on_map (is_wide control) n) y) (in_tile base tile i)
 

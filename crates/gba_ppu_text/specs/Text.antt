@@ -6,8 +6,8 @@ use Rattle.gba_ppu_dot.specs.Control.{control_of, has_eight_bits, map_start, pri
 use Rattle.gba_ppu_dot.specs.Dots.{indexed_dot}
 use Rattle.gba_ppu_dot.specs.declared.dot.Dot.{Dot}
 
--- A text background (GBATEK, LCD VRAM Character Data, LCD VRAM BG Screen Data Format, LCD I/O BG Scrolling). The map is 256
--- or 512 dots wide (bit 14 of the control) and high (bit 15).
+-- A text background (GBATEK, LCD VRAM Character Data, LCD VRAM BG Screen Data Format, LCD I/O BG Scrolling). The map is
+-- 256 or 512 dots wide (bit 14 of the control) and high (bit 15).
 abbrev pub is_wide : ℕ → Bool
 is_wide control = bit control 14
 

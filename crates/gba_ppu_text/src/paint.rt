@@ -30,7 +30,8 @@ fn paint_nibbles(colours: &[u16], row: u32, mirror: bool, at: usize, paints: &mu
     requires colours { length colours.now ≡ 16 }
     requires paints { at + 8 ≤ length paints.old }
     ensures before { (k : ℕ) → k < at → slice_index paints.new k ≡ slice_index paints.old k }
-    ensures drawn { (column : ℕ) → column < 8 → slice_index paints.new (at + column) ≡ slice_index colours.now (field row (4 * mirrored_place mirror column) 4) }
+    ensures drawn { (column : ℕ) → column < 8 → slice_index paints.new (at + column)
+        ≡ slice_index colours.now (field row (4 * mirrored_place mirror column) 4) }
 {
     for column in 0..8u32 {
         let number = bits(row, 4 * mirrored(mirror, column), 4);

@@ -76,7 +76,8 @@ pub(crate) fn palette_of(control: BackgroundControl, entry: u16) -> u16
 fn stored_row(vram: &[u8], control: BackgroundControl, entry: u16, row: u32) -> [u8; 8]
     requires vram { length vram.now ≡ 98304 }
     requires row { row < 8 }
-    ensures { (column : ℕ) → column < 8 → slice_index result column ≡ stored_number vram.now control.value (field entry 0 10) column (mirrored_place (bit_of entry 11) row) }
+    ensures { (column : ℕ) → column < 8 → slice_index result column
+        ≡ stored_number vram.now control.value (field entry 0 10) column (mirrored_place (bit_of entry 11) row) }
 {
     let tile = bits(u32::from(entry), 0, 10);
     let row = mirrored(bit(u32::from(entry), 11), row);
@@ -92,7 +93,8 @@ fn stored_row(vram: &[u8], control: BackgroundControl, entry: u16, row: u32) -> 
 pub(crate) fn seen_row(vram: &[u8], control: BackgroundControl, entry: u16, row: u32) -> [u8; 8]
     requires vram { length vram.now ≡ 98304 }
     requires row { row < 8 }
-    ensures { (column : ℕ) → column < 8 → slice_index result column ≡ number_at vram.now control.value entry column row }
+    ensures { (column : ℕ) → column < 8 → slice_index result column
+        ≡ number_at vram.now control.value entry column row }
 {
     let [a, b, c, d, e, f, g, h] = stored_row(vram, control, entry, row);
     if bit(u32::from(entry), 10) {
@@ -115,7 +117,8 @@ pub(crate) fn draw_row(
     requires row { row < 8 }
     requires dots { at + 8 ≤ length dots.old }
     ensures before { (k : ℕ) (d : Dot) → k < at → slice_index_or dots.new k d ≡ slice_index_or dots.old k d }
-    ensures drawn { (column : ℕ) (d : Dot) → column < 8 → slice_index_or dots.new (at + column) d ≡ tile_dot vram.now control.value entry column row }
+    ensures drawn { (column : ℕ) (d : Dot) → column < 8
+        → slice_index_or dots.new (at + column) d ≡ tile_dot vram.now control.value entry column row }
 {
     let priority = control.priority();
     let palette = palette_of(control, entry);

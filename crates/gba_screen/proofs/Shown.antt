@@ -94,7 +94,8 @@ pub lines_settled : (lines : List (List ℕ)) (keys : List Picture) (m n : Memor
     → shown_lines lines keys n paid drawn ≡ shown_lines lines keys m paid drawn
 lines_settled lines keys m n paid drawn all =
     same_lines lines lines keys keys n m paid paid drawn
-    (λ y h. let late : y < paid = omega arith in shown_paid lines keys n paid y late ∙ sym (shown_paid lines keys m paid y late))
+    (λ y h. let late : y < paid = omega arith in shown_paid lines keys n paid y late
+    ∙ sym (shown_paid lines keys m paid y late))
 
 -- once they are paid
 pub lines_once_paid : (before after : List (List ℕ)) (keys : List Picture) (m n : Memories) (paid drawn : ℕ)
@@ -125,7 +126,8 @@ fresh_paid lines keys m paid fresh early whole old = record {
   same = λ y h late.
       ⊎_elim
       (λ (here : y ≡ paid).
-      subst (λ (k : ℕ). slice_index_or (slice_set lines paid (owed_line keys m paid)) k [] ≡ owed_line keys m k) (sym here)
+      subst (λ (k : ℕ). slice_index_or (slice_set lines paid (owed_line keys m paid)) k [] ≡ owed_line keys m k)
+      (sym here)
       (get_or-set_same lines paid (owed_line keys m paid) [] (omega arith)))
       (λ (other : y ≡ paid → ⊥).
       let before : paid_since paid y < fresh = omega arith in
@@ -186,7 +188,8 @@ fresh_owed lines keys m paid fresh line r owed early whole stays old = record {
       (cases_eq y line);
 }
 
-shown-other : (lines : List (List ℕ)) (keys : List Picture) (m : Memories) (paid line y : ℕ) (r : Picture) → (y ≡ line → ⊥)
+shown-other : (lines : List (List ℕ)) (keys : List Picture) (m : Memories) (paid line y : ℕ) (r : Picture)
+    → (y ≡ line → ⊥)
     → shown_line lines (slice_set keys line r) m paid y ≡ shown_line lines keys m paid y
 shown-other lines keys m paid line y r other =
     ap (λ owed. if nat_lt y paid then slice_index_or lines y [] else owed) (owed-other keys m line y r other)
@@ -225,10 +228,12 @@ beside_as m n store e same = subst (IsSameVideo m) (sym e) same
 pub machine_beside : (m n : Memories) (machine : FlashMachine) → n ≡ record m { backup = with_machine machine m.backup }
     → IsSameVideo m n
 machine_beside m n machine e =
-    beside_as m n (record m { backup = with_machine machine m.backup }) e (record { palette = refl; vram = refl; oam = refl })
+    beside_as m n (record m { backup = with_machine machine m.backup }) e
+    (record { palette = refl; vram = refl; oam = refl })
 
 -- the same lines are as fresh
-pub fresh_written : (lines others : List (List ℕ)) (keys : List Picture) (m : Memories) (paid fresh : ℕ) → lines ≡ others
+pub fresh_written : (lines others : List (List ℕ)) (keys : List Picture) (m : Memories) (paid fresh : ℕ)
+    → lines ≡ others
     → AreFresh others keys m paid fresh → AreFresh lines keys m paid fresh
 fresh_written lines others keys m paid fresh same old =
     subst (λ (some : List (List ℕ)). AreFresh some keys m paid fresh) (sym same) old

@@ -5,8 +5,8 @@ use Rattle.gba_mem.specs.Memories.{Memories}
 use Rattle.gba_ppu_mix.specs.Mixing.{mixed_pixel}
 use Rattle.gba_ppu_reg.specs.Registers.{Picture}
 
--- The lines of the picture. A line is a function of the picture's registers, inner reference points included, of the palette,
--- the VRAM and the OAM, and of its number, from 0 to 159: its 240 pixels from left to right.
+-- The lines of the picture. A line is a function of the picture's registers, inner reference points included, of the
+-- palette, the VRAM and the OAM, and of its number, from 0 to 159: its 240 pixels from left to right.
 unfoldable pub line_colours : Picture → Memories → ℕ → List ℕ
 line_colours r m y = map (mixed_pixel r m.palette m.vram m.oam y) (range_with_len 0 240)
 

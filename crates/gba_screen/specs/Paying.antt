@@ -4,8 +4,9 @@ use Rattle.gba_mem.specs.Memories.{Memories}
 use Rattle.gba_ppu_reg.specs.Registers.{Picture, picture_at_reset}
 use Rattle.gba_screen.specs.Lines.{line_bytes}
 
--- How the code keeps the lines of a frame. Of the lines that are drawn, the first `paid` stand as bytes, and the others are
--- owed: they are what their keys, the registers at their HBlanks, and the memories give. Only private functions cite these.
+-- How the code keeps the lines of a frame. Of the lines that are drawn, the first `paid` stand as bytes, and the others
+-- are owed: they are what their keys, the registers at their HBlanks, and the memories give. Only private functions
+-- cite these.
 
 -- what a line is by its key
 abbrev pub owed_line : List Picture → Memories → ℕ → List ℕ
@@ -18,8 +19,8 @@ shown_line lines keys m paid y = if nat_lt y paid then slice_index_or lines y []
 unfoldable pub shown_lines : List (List ℕ) → List Picture → Memories → ℕ → ℕ → List (List ℕ)
 shown_lines lines keys m paid drawn = map (shown_line lines keys m paid) (range_with_len 0 drawn)
 
--- Lines are paid one after another, and after the last one of a frame the first one of the next: how many were paid since a
--- line was.
+-- Lines are paid one after another, and after the last one of a frame the first one of the next: how many were paid
+-- since a line was.
 abbrev pub paid_since : ℕ → ℕ → ℕ
 paid_since paid y = (paid + 159 - y) % 160
 

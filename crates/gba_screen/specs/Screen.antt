@@ -30,8 +30,8 @@ screen_stored mode address width value s = record s { memory = store mode s.memo
 abbrev pub frame_ended : Screen → Screen
 frame_ended s = record s { lines = [] }
 
--- What a screen is made of is replaced, which is no write of a program: bytes of a memory from a place on, every byte of the
--- memories that are written, and what a flash remembers. The lines that are drawn stay.
+-- What a screen is made of is replaced, which is no write of a program: bytes of a memory from a place on, every byte
+-- of the memories that are written, and what a flash remembers. The lines that are drawn stay.
 abbrev pub screen_with_part : MemoryPart → ℕ → List ℕ → Screen → Screen
 screen_with_part part place new s = record s { memory = with_part part place new s.memory }
 

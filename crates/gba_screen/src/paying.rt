@@ -30,7 +30,8 @@ impl Paid {
         requires paid { self.lines ≤ 160 }
         requires most { self.fresh ≤ 160 }
         ensures lines { result.lines ≡ 0 }
-        ensures fresh { (lines : List (List ℕ)) (keys : List Picture) (m : Memories) → AreFresh lines keys m self.lines self.fresh → AreFresh lines keys m 0 result.fresh }
+        ensures fresh { (lines : List (List ℕ)) (keys : List Picture) (m : Memories)
+            → AreFresh lines keys m self.lines self.fresh → AreFresh lines keys m 0 result.fresh }
         ensures most { result.fresh ≤ 160 }
         ensures kept { 160 ≤ self.lines → result.fresh ≡ self.fresh }
     {
@@ -88,7 +89,8 @@ pub(crate) fn pay(
     requires lines { length lines.old ≡ 160 }
     requires fresh { AreFresh lines.old keys.now memory.now paid.lines paid.fresh }
     requires most { paid.fresh ≤ 160 }
-    ensures shown { (y : ℕ) → y < drawn → slice_index_or lines.new y [] ≡ shown_line lines.old keys.now memory.now paid.lines y }
+    ensures shown { (y : ℕ) → y < drawn → slice_index_or lines.new y []
+        ≡ shown_line lines.old keys.now memory.now paid.lines y }
     ensures fresh { AreFresh lines.new keys.now memory.now drawn result }
     ensures most { result ≤ 160 }
 {
@@ -113,7 +115,8 @@ pub(crate) fn settle(
     requires lines { length lines.old ≡ 160 }
     requires fresh { AreFresh lines.old keys.now memory.now paid.lines paid.fresh }
     requires most { paid.fresh ≤ 160 }
-    ensures shown { (y : ℕ) → y < drawn → slice_index_or lines.new y [] ≡ shown_line lines.old keys.now memory.now paid.lines y }
+    ensures shown { (y : ℕ) → y < drawn → slice_index_or lines.new y []
+        ≡ shown_line lines.old keys.now memory.now paid.lines y }
     ensures lines { result.lines ≡ drawn }
     ensures none { result.fresh ≡ 0 }
 {
@@ -148,11 +151,13 @@ pub(crate) fn pay_before(
     requires lines { length lines.old ≡ 160 }
     requires fresh { AreFresh lines.old keys.now memory.now paid.lines paid.fresh }
     requires most { paid.fresh ≤ 160 }
-    ensures shown { (y : ℕ) → y < drawn → shown_line lines.new keys.now memory.now result.lines y ≡ shown_line lines.old keys.now memory.now paid.lines y }
+    ensures shown { (y : ℕ) → y < drawn → shown_line lines.new keys.now memory.now result.lines y
+        ≡ shown_line lines.old keys.now memory.now paid.lines y }
     ensures fresh { AreFresh lines.new keys.now memory.now result.lines result.fresh }
     ensures most { result.fresh ≤ 160 }
     ensures paid { result.lines ≤ drawn }
-    ensures stays { result.lines + 159 < result.fresh + drawn → slice_index_or keys.now drawn picture_at_reset ≡ key.now }
+    ensures stays { result.lines + 159 < result.fresh + drawn
+        → slice_index_or keys.now drawn picture_at_reset ≡ key.now }
 {
     if paid.lines + 159 < paid.fresh + drawn && !is_key(keys, drawn, key) {
         let fresh = pay(memory, keys, lines, paid, drawn);

@@ -1,6 +1,6 @@
 use Rattle.std.proofs.Common.{◌<◌, ◌≤◌, ◌∙◌, ⊎_elim, ap, false}
 use Rattle.std.proofs.lemmas.Bool.{cases_lt}
-use Rattle.gba_ppu_mix.specs.Mixing.{backdrop_colour}
+use Rattle.gba_ppu_mix.specs.Painting.{backdrop_colour}
 use Rattle.gba_ppu_mix.proofs.line.fill.Goals as goal
 
 pub loop-start-preserved : goal.loop-start-preserved

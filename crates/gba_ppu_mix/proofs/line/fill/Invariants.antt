@@ -1,5 +1,5 @@
 use Rattle.std.proofs.Common.{◌≡◌, ℕ, ◌-◌, ◌<◌, ◌≤◌, false, slice_index}
-use Rattle.gba_ppu_mix.specs.Mixing.{backdrop_colour}
+use Rattle.gba_ppu_mix.specs.Painting.{backdrop_colour}
 use Rattle.gba_ppu_mix.specs.Windows.{shows_at}
 use Rattle.gba_ppu_mix.proofs.line.fill.Given as goal
 

@@ -20,8 +20,8 @@ returns c = λ x h.
     seen r palette vram oam y x (slice_index c.mix.new.colours x) w b ranks (layers_dots r vram oam y x)
     (sym c.is_blank.ensures ∙ c.if-is_blank.false) c.of-windows.ensures c.of-blending.ensures.value c.of.ensures refl
     (c.mix.ensures x h
-    ∙ colour_at r palette vram oam y x w b ranks c.of-coats.result lines c.of-blending.ensures.second_targets
-    (c.of-coats.ensures ∙ rw c.entry_colour-backdrop.ensures refl)
+    ∙ colour_at r palette vram oam y x w b ranks c.of-constants.result lines c.of-blending.ensures.second_targets
+    (c.of-constants.ensures ∙ rw c.entry_colour-backdrop.ensures refl)
     record {
       sprite = kept.sprites x h;
       sprite_rank = kept.sprite_ranks x h;
@@ -35,7 +35,8 @@ returns c = λ x h.
 
 pub returns-then-not-has_layers : goal.returns-then-not-has_layers
 returns-then-not-has_layers c = λ x h.
-    unseen c.args.r.now c.args.palette.now c.args.vram.now c.args.oam.now c.args.line x (slice_index c.fill.new.colours x)
+    unseen c.args.r.now c.args.palette.now c.args.vram.now c.args.oam.now c.args.line x
+    (slice_index c.fill.new.colours x)
     c.of-windows.result c.of-blending.result (sym c.is_blank.ensures ∙ c.if-is_blank.false)
     (sym c.has_layers.ensures ∙ c.if-not-has_layers.true) c.of-windows.ensures c.of-blending.ensures.value
     c.of-blending.ensures.second_targets (c.fill.ensures x h)

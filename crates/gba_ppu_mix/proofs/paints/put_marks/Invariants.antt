@@ -1,6 +1,7 @@
 use Rattle.std.proofs.Common.{◌≡◌, ℕ, ◌<◌, slice_index, slice_index_or}
 use Rattle.gba_ppu_dot.specs.Dots.{clear_dot}
-use Rattle.gba_ppu_mix.specs.Blending.{is_semi, marks_of}
+use Rattle.gba_ppu_mix.specs.Blending.{is_semi}
+use Rattle.gba_ppu_mix.specs.Painting.{marks_of}
 use Rattle.gba_ppu_mix.specs.declared.stacks.Layer.TheVariants.{Sprites}
 use Rattle.gba_ppu_mix.proofs.paints.put_marks.Given as goal
 

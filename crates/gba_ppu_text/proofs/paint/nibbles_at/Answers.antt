@@ -3,7 +3,8 @@ use Rattle.gba_ppu_text.proofs.Paints.{nibbles_of, no_nibbles}
 use Rattle.gba_ppu_text.proofs.paint.nibbles_at.Goals as goal
 
 pub returns-then-start-ge-TILES_END : goal.returns-then-start-ge-TILES_END
-returns-then-start-ge-TILES_END c = λ column h. no_nibbles c.args.vram.now c.args.start column c.if-start-ge-TILES_END.true
+returns-then-start-ge-TILES_END c =
+    λ column h. no_nibbles c.args.vram.now c.args.start column c.if-start-ge-TILES_END.true
 
 pub returns : goal.returns
 returns c = λ column h.

@@ -26,6 +26,7 @@ returns-clause-drawn c = λ palette are column h.
     ∙ get_or-chunk start (start + 16 - start) c.args.colours.now.by_nibble number 0 within
     ∙ are.by_nibble (start + number) below
     ∙ nibble_is palette start number whole few
-    ∙ nibbles_seen palette c.args.vram.now c.args.control.value c.args.entry column c.args.row c.nibbles_at-numbers.result
+    ∙ nibbles_seen palette c.args.vram.now c.args.control.value c.args.entry column c.args.row
+    c.nibbles_at-numbers.result
     start c.bit-mirror.result h (sym c.has_eight_bits.ensures ∙ c.if-has_eight_bits.false)
     (λ i k. cc (c.nibbles_at-numbers.ensures i k)) (is ∙ c.palette_of.ensures.value) (cc)

@@ -8,13 +8,13 @@ use Rattle.gba_ppu_text.proofs.painted.paint_tiles.Goals as goal
 pub loop-tile-preserved : goal.loop-tile-preserved
 loop-tile-preserved c = λ palette are.
     let vram = c.args.vram.now in
-    let control = c.args.control.value in
-    let base = c.args.across / 8 in
+    let control = c.args.row.now.control.value in
+    let base = c.args.row.now.across / 8 in
     let tile = c.loop-tile.tile in
-    eight_paints (λ k. paint_of palette (map_dot vram control (on_map (is_wide control) (8 * base + k)) c.args.y)) c.loop-tile.paints
+    eight_paints (λ k. paint_of palette
+    (map_dot vram control (on_map (is_wide control) (8 * base + k)) c.args.row.now.down)) c.loop-tile.paints
     c.paint_row.new.paints tile (c.loop-tile.invariant palette are) c.paint_row.ensures.before
     (λ i h.
     c.paint_row.ensures.drawn palette are i h
     ∙ ap (paint_of palette)
-    (drawn_here vram control base tile i c.args.y c.on_map-x.result c.entry_at-entry.result c.is_wide-wide.result
-    c.is_wide-wide.ensures c.on_map-x.ensures.value c.entry_at-entry.ensures h))
+    (drawn_here vram control base tile i c.args.row.now.down c.entry-entry.result c.entry-entry.ensures h))

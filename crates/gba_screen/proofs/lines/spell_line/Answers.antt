@@ -6,7 +6,8 @@ use Rattle.gba_screen.proofs.lines.spell_line.Goals as goal
 pub loop-part-preserved : goal.loop-part-preserved
 loop-part-preserved c = record {
   spelled =
-      spelled-more c.loop-part.bytes c.copy_from_slice.new.self c.args.colours.now c.loop-part.part _ c.loop-part.invariant.whole
+      spelled-more c.loop-part.bytes c.copy_from_slice.new.self c.args.colours.now c.loop-part.part _
+      c.loop-part.invariant.whole
       (search rules) c.loop-part-test.true c.loop-part.invariant.spelled
       (c.copy_from_slice.ensures.after ∙ c.bytes_of_eight-eight.ensures);
   whole =

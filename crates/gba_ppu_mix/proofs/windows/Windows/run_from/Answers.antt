@@ -9,4 +9,5 @@ returns-clause-shows c = λ k b from below.
     let second : k < c.next_edge-end-2.result = omega (arith, end, below) in
     let first : k < c.next_edge-end.result = omega (arith, second, within) in
     c.shows_from.ensures.shows b
-    ∙ same_shows c.args.self.now k c.args.x b (c.next_edge-end.ensures.same k from first) (c.next_edge-end-2.ensures.same k from second)
+    ∙ same_shows c.args.self.now k c.args.x b (c.next_edge-end.ensures.same k from first)
+    (c.next_edge-end-2.ensures.same k from second)

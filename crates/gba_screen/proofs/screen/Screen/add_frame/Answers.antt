@@ -27,7 +27,17 @@ returns-clause-items c =
     let shown = rw (c.as_mut_slice.ensures.value, c.as_slice.ensures.value) at c.pay-fresh.ensures.shown in
     let count = lines_count s.lines.items s.keys.items s.memory s.paid.lines s.drawn in
     let drawn = ap (λ (v : Screen). length v.lines) c.self.view_is in
-    let whole : length paid ≡ s.drawn = omega (arith, count, drawn, c.requires.whole, c.self.invariant.0, s.lines.ok.0, c.pay-fresh.auto.lines, c.as_mut_slice.ensures.len) in
+    let whole : length paid ≡ s.drawn =
+    omega (
+      arith,
+      count,
+      drawn,
+      c.requires.whole,
+      c.self.invariant.0,
+      s.lines.ok.0,
+      c.pay-fresh.auto.lines,
+      c.as_mut_slice.ensures.len,
+    ) in
     rw (← c.self.view_is)
     (c.add_bytes.ensures.items
     ∙ ap (λ bytes. c.args.frames.now.items ++ bytes)

@@ -14,7 +14,9 @@ returns c =
     let written : (with_items s.lines paid).items ≡ paid = with_items_is s.lines paid (search (rules, places)) in
     let shown = rw (c.as_mut_slice.ensures.value, c.as_slice.ensures.value) at settled.ensures.shown in
     rw (← c.self.view_is)
-    (same_screen c.store.new.self (store c.args.mode s.memory c.args.address c.args.width c.args.value) _ _ c.store.ensures
+    (same_screen c.store.new.self
+    (store c.args.mode s.memory c.args.address c.args.width c.args.value) _ _ c.store.ensures
     (ap (λ lines. shown_lines lines s.keys.items c.store.new.self settled.result.lines s.drawn) written
-    ∙ lines_once_settled s.lines.items paid s.keys.items s.memory c.store.new.self s.paid.lines s.drawn settled.result.lines
+    ∙ lines_once_settled s.lines.items paid s.keys.items s.memory c.store.new.self s.paid.lines s.drawn
+    settled.result.lines
     settled.ensures.lines shown))

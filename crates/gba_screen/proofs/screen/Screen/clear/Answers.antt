@@ -16,5 +16,6 @@ returns c =
     rw (← c.self.view_is)
     (same_screen c.clear.new.self (cleared s.memory) _ _ c.clear.ensures
     (ap (λ lines. shown_lines lines s.keys.items c.clear.new.self settled.result.lines s.drawn) written
-    ∙ lines_once_settled s.lines.items paid s.keys.items s.memory c.clear.new.self s.paid.lines s.drawn settled.result.lines
+    ∙ lines_once_settled s.lines.items paid s.keys.items s.memory c.clear.new.self s.paid.lines s.drawn
+    settled.result.lines
     settled.ensures.lines shown))

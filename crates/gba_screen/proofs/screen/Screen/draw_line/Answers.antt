@@ -33,7 +33,8 @@ invariant_of-self c =
       before.most,
       fresh_written (with_items s.lines paid).items paid (slice_set s.keys.items c.args.line c.args.r.now) s.memory
           c.pay_before-self-inside.result.lines c.pay_before-self-inside.result.fresh written
-          (fresh_owed paid s.keys.items s.memory c.pay_before-self-inside.result.lines c.pay_before-self-inside.result.fresh c.args.line c.args.r.now
+          (fresh_owed paid s.keys.items s.memory c.pay_before-self-inside.result.lines
+          c.pay_before-self-inside.result.fresh c.args.line c.args.r.now
           before.paid c.requires.line keys stays fresh),
     )
 
@@ -55,6 +56,8 @@ returns c =
     (same_screen s.memory s.memory _ _ refl
     (ap (λ lines. shown_lines lines set s.memory last (s.drawn + 1)) written
     ∙ ap (λ n. shown_lines paid set s.memory last n) more
-    ∙ lines_owed s.lines.items paid s.keys.items s.memory s.paid.lines last c.args.line c.args.r.now before.paid keys shown
-    ∙ ap (λ n. shown_lines s.lines.items s.keys.items s.memory s.paid.lines n ++ (line_bytes c.args.r.now s.memory c.args.line ∷ []))
+    ∙ lines_owed s.lines.items paid s.keys.items s.memory s.paid.lines last c.args.line c.args.r.now before.paid keys
+    shown
+    ∙ ap (λ n. shown_lines s.lines.items s.keys.items s.memory s.paid.lines n ++
+    (line_bytes c.args.r.now s.memory c.args.line ∷ []))
     (sym next)))

@@ -42,6 +42,7 @@ returns-else-line-self c =
     rw (← c.self.view_is)
     (c.draw.ensures
     ∙ ap (λ key. line_bytes key s.memory c.args.line)
-    (get_or_read s.keys.items c.args.line c.index-else-line-self.result.now whole c.index-else-line-self.ensures picture_at_reset)
+    (get_or_read s.keys.items c.args.line c.index-else-line-self.result.now whole c.index-else-line-self.ensures
+    picture_at_reset)
     ∙ sym (line_at s.lines.items s.keys.items s.memory s.paid.lines s.drawn c.args.line drawn
     ∙ shown_owed s.lines.items s.keys.items s.memory s.paid.lines c.args.line c.if-line-self.false))

@@ -14,7 +14,9 @@ returns c =
     let written : (with_items s.lines paid).items ≡ paid = with_items_is s.lines paid (search (rules, places)) in
     let shown = rw (c.as_mut_slice.ensures.value, c.as_slice.ensures.value) at settled.ensures.shown in
     rw (← c.self.view_is)
-    (same_screen c.set_bytes.new.self (with_part c.args.part c.args.place c.args.bytes.now s.memory) _ _ c.set_bytes.ensures
+    (same_screen c.set_bytes.new.self
+    (with_part c.args.part c.args.place c.args.bytes.now s.memory) _ _ c.set_bytes.ensures
     (ap (λ lines. shown_lines lines s.keys.items c.set_bytes.new.self settled.result.lines s.drawn) written
-    ∙ lines_once_settled s.lines.items paid s.keys.items s.memory c.set_bytes.new.self s.paid.lines s.drawn settled.result.lines
+    ∙ lines_once_settled s.lines.items paid s.keys.items s.memory c.set_bytes.new.self s.paid.lines s.drawn
+    settled.result.lines
     settled.ensures.lines shown))

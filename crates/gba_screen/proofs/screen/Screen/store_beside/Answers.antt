@@ -8,8 +8,14 @@ invariant_of-self c =
     let i = c.self.invariant in
     let stored = store c.args.mode s.memory c.args.address c.args.width c.args.value in
     let same = beside_as s.memory c.store.new.self stored c.store.ensures
-    (c.stores_keep_video.ensures c.args.mode s.memory c.args.address c.args.width c.args.value c.requires) in
-    (i.0, i.1, i.2, i.3, i.4, fresh_beside s.lines.items s.keys.items s.memory c.store.new.self s.paid.lines s.paid.fresh same i.5)
+    (c.stores_keep_video.ensures c.args.mode s.memory c.args.address c.args.width c.args.value c.requires) in (
+      i.0,
+      i.1,
+      i.2,
+      i.3,
+      i.4,
+      fresh_beside s.lines.items s.keys.items s.memory c.store.new.self s.paid.lines s.paid.fresh same i.5,
+    )
 
 pub returns : goal.returns
 returns c =

@@ -10,8 +10,14 @@ invariant_of-self c =
     let stored = store 0 s.memory c.args.address c.args.width c.args.value in
     let same = beside_as s.memory c.store_inner.new.self stored (c.store_inner.ensures 0)
     (c.stores_keep_video.ensures 0 s.memory c.args.address c.args.width c.args.value
-    (inner_beside (region_of c.args.address) c.requires)) in
-    (i.0, i.1, i.2, i.3, i.4, fresh_beside s.lines.items s.keys.items s.memory c.store_inner.new.self s.paid.lines s.paid.fresh same i.5)
+    (inner_beside (region_of c.args.address) c.requires)) in (
+      i.0,
+      i.1,
+      i.2,
+      i.3,
+      i.4,
+      fresh_beside s.lines.items s.keys.items s.memory c.store_inner.new.self s.paid.lines s.paid.fresh same i.5,
+    )
 
 pub returns : goal.returns
 returns c = λ mode.
