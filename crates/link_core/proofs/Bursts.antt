@@ -123,7 +123,8 @@ from_late delays was clock end i j (one ∷ rest) le less apart first early quie
       | inl own ↦ subst (λ (t : List Signal). All P t) (sym (from_own j one rest own))
           (all_cons P one.signal (from j rest)
           (not_due was clock (one.signal.clock + hop_of delays j i) first end early less
-          (subst (λ (k : ℕ). first < one.signal.clock + hop_of delays k i → end ≤ one.signal.clock + hop_of delays k i) own
+          (subst (λ (k : ℕ). first < one.signal.clock + hop_of delays k i
+          → end ≤ one.signal.clock + hop_of delays k i) own
           (all_head (ArrivesFrom (hop_of delays) i first end) one rest quiet (λ e. apart (sym own ∙ e))))) more)
       | inr other ↦ subst (λ (t : List Signal). All P t) (sym (from_other j one rest other)) more
     ]
@@ -140,7 +141,8 @@ none_due delays was clock end i first ss le less early quiet (suc j) =
     let ih = none_due delays was clock end i first ss le less early quiet j in
     elim (same_or_apart j i) [
       | inl e ↦
-          let own : due (hop_of delays) (λ k. from k ss) i was clock (suc j) ≡ due (hop_of delays) (λ k. from k ss) i was
+          let own : due (hop_of delays) (λ k. from k ss) i was clock (suc j)
+          ≡ due (hop_of delays) (λ k. from k ss) i was
           clock j =
           rw e (due_own (hop_of delays) (λ k. from k ss) i passes) in
           own ∙ ih
@@ -152,7 +154,8 @@ none_due delays was clock end i first ss le less early quiet (suc j) =
     ]
 
 -- a console's steps alone are steps of its cut, where nothing is due to them
-pub record Alone {C : Type 0} (kind : NodeKind C) (i end : ℕ) (p : Cut C) (x y : C) (told : Option Signal) : Type 0 where
+pub record Alone {C : Type 0} (kind : NodeKind C) (i end : ℕ) (p : Cut C) (x y : C)
+    (told : Option Signal) : Type 0 where
   pub goes : GoesAlone kind i end p (record {
     consoles = slice_set p.consoles i y;
     delays = p.delays;
@@ -181,7 +184,8 @@ pub alone : {C : Type 0} (kind : NodeKind C) → IsLawful kind → (i end quiet 
 alone {C = C} kind law i end quiet p x stands begun within late Stays = record {
   goes =
       let e : p.consoles ≡ slice_set p.consoles i x = sym (set_found p.consoles i x stands) in
-      subst (λ (cs : List C). GoesAlone kind i end p (record { consoles = cs; delays = p.delays; sent = p.sent })) e Stands;
+      subst (λ (cs : List C). GoesAlone kind i end p
+      (record { consoles = cs; delays = p.delays; sent = p.sent })) e Stands;
   was_is = omega arith;
   begun = begun;
 }
@@ -203,7 +207,8 @@ alone {C = C} kind law i end quiet p x stands begun within late (Steps y rest ea
       sent = with_signal i told p.sent;
     }
     = ap (step_with kind d i) nothing ∙ ap (step_from kind d i []) here
-    ∙ ap (λ (cs : List C). let e : Cut C = record { consoles = cs; delays = p.delays; sent = with_signal i told p.sent } in
+    ∙ ap (λ (cs : List C). let e : Cut C =
+    record { consoles = cs; delays = p.delays; sent = with_signal i told p.sent } in
     e) (set-set p.consoles i y z) in
     record {
       goes = subst (GoesAlone kind i end p) next (Goes d a.goes (omega (arith, clock_is, early)));
@@ -212,7 +217,8 @@ alone {C = C} kind law i end quiet p x stands begun within late (Steps y rest ea
     }
 
 -- what the steps of one console, found in a list of consoles, make of a cut
-pub record Placed {C : Type 0} (kind : NodeKind C) (i end : ℕ) (p : Cut C) (new : List C) (told : Option Signal) : Type 0
+pub record Placed {C : Type 0} (kind : NodeKind C) (i end : ℕ) (p : Cut C) (new : List C)
+    (told : Option Signal) : Type 0
   where
     pub goes : GoesAlone kind i end p (record { consoles = new; delays = p.delays; sent = with_signal i told p.sent })
     pub rises : clock_at kind p i < slice_index (map kind.clock new) i
@@ -317,10 +323,13 @@ kept_live {N = N} {C = C} kind plain nodes zs delays sent told all same more is 
       sent = ss;
     } in
     ap with_sent (is
-    ∙ ap (λ (ys : List N). filter (is_awaited (hop_of delays) (slice_index (map kind.was (map plain ys))) (length ys)) told)
+    ∙ ap (λ (ys : List N). filter
+    (is_awaited (hop_of delays) (slice_index (map kind.was (map plain ys))) (length ys)) told)
     same
-    ∙ ap (λ (n : ℕ). filter (is_awaited (hop_of delays) (slice_index (map kind.was (map plain nodes))) n) told) (long nodes)
-    ∙ ap (filter (is_awaited (hop_of delays) (slice_index (map kind.was (map plain nodes))) (length (map plain nodes)))) more)
+    ∙ ap (λ (n : ℕ). filter (is_awaited (hop_of delays) (slice_index (map kind.was (map plain nodes))) n) told)
+    (long nodes)
+    ∙ ap (filter
+    (is_awaited (hop_of delays) (slice_index (map kind.was (map plain nodes))) (length (map plain nodes)))) more)
 
 -- a burst keeps all that a cut keeps, and leaves the same end and fewer cycles
 pub burst_kept : {N C : Type 0} (kind : NodeKind C) (plain : N → C) (cut new : Cut N) (d : Cut C) (i until : ℕ)

@@ -137,7 +137,8 @@ turned_live {C = C} kind law plain cut i due nodes signal sent some t =
     } in
     let first : plain_cut plain (record { consoles = nodes; delays = cut.delays; sent = sent })
     ≡ make (map plain nodes) (with_signal i signal cut.sent)
-    = ap (λ (ss : List Sent). let d : Cut C = record { consoles = map plain nodes; delays = cut.delays; sent = ss } in d)
+    = ap (λ (ss : List Sent). let d : Cut C = record { consoles = map plain nodes; delays = cut.delays; sent = ss } in
+    d)
     sent_now in
     first
     ∙ ap (λ (cs : List C). make cs (with_signal i signal cut.sent)) consoles

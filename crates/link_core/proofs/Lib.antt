@@ -4,3 +4,4 @@ pub mod Leaves
 pub mod Bursts
 pub mod Reaching
 pub mod Wholeness
+pub mod Turns

@@ -1,7 +1,6 @@
 -- No delay of a cable is longer than 1,024 cycles.
-use Rattle.std.proofs.Common.{◌≡◌, ◌<◌, ◌≤◌, ℕ, Bool, true, false, nat_lt, inl, inr, arith, refl, if◌then◌else◌}
+use Rattle.std.proofs.Common.{◌≡◌, ◌<◌, ◌≤◌, ℕ, Bool, true, false, nat_lt, arith, refl, if◌then◌else◌}
 use Rattle.std.specs.Prelude.{◌&&◌, slice_index, slice_index_or, []}
-use Rattle.std.proofs.lemmas.Bool.{cases_Bool}
 use Rattle.std.proofs.lemmas.Bool.Decides.{nat_tests}
 use Rattle.link_node.specs.declared.delays.Delays.{Delays}
 use Rattle.link_node.specs.Delays.{AreDelays, hop_of}

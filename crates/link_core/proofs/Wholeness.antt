@@ -1,7 +1,6 @@
 -- The test of a whole cut is what a whole cut is.
-use Rattle.std.proofs.Common.{◌≡◌, ◌≢◌, ℕ, zero, suc, Bool, true, false, List, [], ◌∷◌, ◌+◌, ◌<◌, ◌≤◌, ◌==◌, nat_lt, inl, inr, arith, refl, rules, sym, ap, subst, ◌↔◌, IsTrue, length}
-use Rattle.std.specs.Prelude.{◌&&◌, ◌||◌, nat_le, All, AllPairs, slice_index, map}
-use Rattle.std.specs.List.{list_all}
+use Rattle.std.proofs.Common.{◌≡◌, ◌≢◌, ℕ, zero, suc, Bool, true, false, List, [], ◌∷◌, ◌+◌, ◌<◌, ◌≤◌, ◌==◌, inl, inr, arith, refl, rules, sym, subst, IsTrue}
+use Rattle.std.specs.Prelude.{◌&&◌, slice_index, map}
 use Rattle.std.proofs.lemmas.Bool.{cases_Bool}
 use Rattle.std.proofs.lemmas.Bool.Decides.{nat_tests}
 use Rattle.std.proofs.lemmas.List.Kept.{AllPairs-cons}
@@ -9,7 +8,7 @@ use Rattle.std.proofs.lemmas.List.Sums.{AllPass-from_list_all, list_all-from_All
 use Rattle.link_node.specs.Delays.{hop_of}
 use Rattle.link_order.proofs.Lists.{all_cons, all_head, all_map, pairs_head, pairs_nil, pairs_tail}
 use Rattle.link_order.specs.declared.sent.Sent.{Sent}
-use Rattle.link_order.specs.Cut.{Cut, IsInTime, IsSound, IsSoundSignal, clock_at, count, hop, is_awaited, is_live, was_at}
+use Rattle.link_order.specs.Cut.{Cut, IsSoundSignal, count, is_awaited}
 use Rattle.link_order.specs.NodeKind.{NodeKind}
 use Rattle.link_order.specs.Order.{IsOrdered, is_before, clock_of, sender_of}
 use Rattle.link_core.specs.Whole.{IsWhole, all_below, is_allowed, is_behind, is_near, is_ordered, is_paced, is_sound_signal, is_whole_by}
@@ -58,13 +57,15 @@ behind-ordered one (next ∷ rest) e =
     let later : IsOrdered (next ∷ rest) = behind-ordered next rest parts.1 in
     AllPairs-cons Behind one (next ∷ rest)
     (all_cons (Behind one) next rest parts.0
-    (all_map (Behind next) (Behind one) rest (λ x r. before-then one next x parts.0 r) (pairs_head Behind next rest later)))
+    (all_map (Behind next) (Behind one) rest (λ x r. before-then one next x parts.0 r)
+    (pairs_head Behind next rest later)))
     later
 
 ordered-behind : (one : Sent) (rest : List Sent) → IsOrdered (one ∷ rest) → is_behind one rest ≡ true
 ordered-behind one [] ordered = refl
 ordered-behind one (next ∷ rest) ordered =
-    and (is_before clock_of sender_of one next) (is_behind next rest) (all_head (Behind one) next rest (pairs_head Behind one (next ∷ rest) ordered))
+    and (is_before clock_of sender_of one next) (is_behind next rest)
+    (all_head (Behind one) next rest (pairs_head Behind one (next ∷ rest) ordered))
     (ordered-behind next rest (pairs_tail Behind one (next ∷ rest) ordered))
 
 ordered-is : (sent : List Sent) → (is_ordered sent ≡ true → IsOrdered sent) × (IsOrdered sent → is_ordered sent ≡ true)
@@ -100,12 +101,14 @@ sound-from : (between : ℕ → ℕ → ℕ) (clock : ℕ → ℕ) (n : ℕ) (on
     → (one.sender < n) × (one.signal.clock < clock one.sender) × (all_below (is_allowed between clock one) n ≡ true)
 sound-from between clock n one e = search (nat_tests, arith, rules)
 
-to-sound : (between : ℕ → ℕ → ℕ) (clock : ℕ → ℕ) (n : ℕ) (one : Sent) → one.sender < n → one.signal.clock < clock one.sender
+to-sound : (between : ℕ → ℕ → ℕ) (clock : ℕ → ℕ) (n : ℕ) (one : Sent) → one.sender < n
+    → one.signal.clock < clock one.sender
     → all_below (is_allowed between clock one) n ≡ true → is_sound_signal between clock n one ≡ true
 to-sound between clock n one player sent allowed = search (nat_tests, arith, rules)
 
 module _ {C : Type 0} (kind : NodeKind C) (cut : Cut C) where
-  tested-signal : (one : Sent) → is_sound_signal (hop_of cut.delays) (slice_index (map kind.clock cut.consoles)) (count cut) one ≡ true
+  tested-signal : (one : Sent) → is_sound_signal (hop_of cut.delays) (slice_index (map kind.clock cut.consoles))
+      (count cut) one ≡ true
       → IsSoundSignal kind cut one
   tested-signal one e =
       let parts = sound-from (hop_of cut.delays) (slice_index (map kind.clock cut.consoles)) (count cut) one e in
@@ -113,13 +116,15 @@ module _ {C : Type 0} (kind : NodeKind C) (cut : Cut C) where
         from_player = parts.0;
         sent_before = parts.1;
         allowed = λ i p apart. allowed-at (hop_of cut.delays) (slice_index (map kind.clock cut.consoles)) one i apart
-            (below-each (is_allowed (hop_of cut.delays) (slice_index (map kind.clock cut.consoles)) one) (count cut) parts.2 i p);
+            (below-each (is_allowed (hop_of cut.delays) (slice_index (map kind.clock cut.consoles)) one)
+            (count cut) parts.2 i p);
       }
 
   signal-tested : (one : Sent) → IsSoundSignal kind cut one
       → is_sound_signal (hop_of cut.delays) (slice_index (map kind.clock cut.consoles)) (count cut) one ≡ true
   signal-tested one sound =
-      to-sound (hop_of cut.delays) (slice_index (map kind.clock cut.consoles)) (count cut) one sound.from_player sound.sent_before
+      to-sound (hop_of cut.delays) (slice_index (map kind.clock cut.consoles))
+      (count cut) one sound.from_player sound.sent_before
       (each-below (is_allowed (hop_of cut.delays) (slice_index (map kind.clock cut.consoles)) one) (count cut)
       (λ i p. allowed-from (hop_of cut.delays) (slice_index (map kind.clock cut.consoles)) one i (sound.allowed i p)))
 

@@ -1,4 +1,4 @@
-use Rattle.std.specs.Prelude.{ℕ, zero, suc, Bool, true, ◌≡◌, ◌+◌, ◌==◌, ◌&&◌, ◌||◌, nat_le, nat_lt, List, [], ◌∷◌, slice_index, map}
+use Rattle.std.specs.Prelude.{ℕ, zero, suc, Bool, true, ◌+◌, ◌==◌, ◌&&◌, ◌||◌, nat_le, nat_lt, List, [], ◌∷◌, slice_index, map}
 use Rattle.std.specs.List.{list_all}
 use Rattle.link_node.specs.Delays.{hop_of}
 use Rattle.link_order.specs.declared.sent.Sent.{Sent}
@@ -13,8 +13,8 @@ pub record IsWhole {C : Type 0} (kind : NodeKind C) (cut : Cut C) : Type 0 where
   pub live : AllLive kind cut
   pub in_time : IsInTime kind cut
 
--- The same as a test, by the delays between consoles, their clocks, the clocks at which their last steps began, and how many
--- they are.
+-- The same as a test, by the delays between consoles, their clocks, the clocks at which their last steps began, and how
+-- many they are.
 
 -- whether something holds of each number below another
 abbrev pub all_below : (ℕ → Bool) → ℕ → Bool
@@ -36,7 +36,8 @@ is_allowed between clock one i = i == one.sender || nat_lt one.signal.clock (clo
 
 abbrev pub is_sound_signal : (ℕ → ℕ → ℕ) → (ℕ → ℕ) → ℕ → Sent → Bool
 is_sound_signal between clock count one =
-    nat_lt one.sender count && nat_lt one.signal.clock (clock one.sender) && all_below (is_allowed between clock one) count
+    nat_lt one.sender count && nat_lt one.signal.clock (clock one.sender) && all_below
+    (is_allowed between clock one) count
 
 -- one after another
 abbrev pub is_behind : Sent → List Sent → Bool
@@ -57,5 +58,6 @@ is_whole_by between clock was count sent =
 
 unfoldable pub is_whole : {C : Type 0} → NodeKind C → Cut C → Bool
 is_whole kind cut =
-    is_whole_by (hop_of cut.delays) (slice_index (map kind.clock cut.consoles)) (slice_index (map kind.was cut.consoles))
+    is_whole_by (hop_of cut.delays) (slice_index (map kind.clock cut.consoles))
+    (slice_index (map kind.was cut.consoles))
     (count cut) cut.sent

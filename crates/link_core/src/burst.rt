@@ -88,7 +88,8 @@ pub(crate) fn take_turns<N: Node>(
     requires early { slice_index (map N.clock (map N.plain nodes.old.items)) i < end }
     ensures goes { GoesAlone (kind_of N.clock N.was N.next) i end
         (plain_cut N.plain (cut_of nodes.old.items (record { delays = delays.now; sent = sent.now })))
-        (plain_cut N.plain (cut_of nodes.new.items (record { delays = delays.now; sent = with_signal i result sent.now }))) }
+        (plain_cut N.plain
+        (cut_of nodes.new.items (record { delays = delays.now; sent = with_signal i result sent.now }))) }
     ensures rises { slice_index (map N.clock (map N.plain nodes.old.items)) i
         < slice_index (map N.clock (map N.plain nodes.new.items)) i }
     ensures limits { map N.bound nodes.new.items ≡ map N.bound nodes.old.items }

@@ -40,7 +40,8 @@ fn are_paced<N: Node>(nodes: &[N]) -> bool
 fn reach<N: Node>(nodes: &[N], delays: &Delays, sender: usize, receiver: usize) -> u64
     requires sender { sender < length nodes.now }
     requires delays { AreDelays delays.now }
-    ensures value { result ≡ slice_index (map N.clock (map N.plain nodes.now)) sender + hop_of delays.now sender receiver }
+    ensures value { result
+        ≡ slice_index (map N.clock (map N.plain nodes.now)) sender + hop_of delays.now sender receiver }
     ensures small { result ≤ 2 ^ 40 }
 {
     clock_of(nodes, sender) + delays.hop(sender, receiver)

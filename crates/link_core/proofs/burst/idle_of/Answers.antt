@@ -15,7 +15,9 @@ returns-clause-alone g c x stands =
     ∙ read-record g.N.Node.plain c.args.nodes.now.items c.args.i c.index_mut.result.now x stands in
     record {
       y = y;
-      alone = subst (λ (z : g.N.Node.Record). StepsAlone kind.clock kind.next c.args.end z y c.go_alone.result) is_x c.go_alone.ensures.alone;
+      alone = subst (λ
+          (z : g.N.Node.Record). StepsAlone kind.clock kind.next c.args.end z y c.go_alone.result) is_x
+          c.go_alone.ensures.alone;
       placed = map-set g.N.Node.plain c.args.nodes.now.items c.args.i c.go_alone.new.self;
       rises = subst (λ (z : g.N.Node.Record). kind.clock z < c.args.end → kind.clock z < kind.clock y) is_x
           c.go_alone.ensures.rises;

@@ -8,6 +8,7 @@ returns-clause-leave c i known between within are hops =
     let test : IsTrue (nat_lt c.args.clock c.args.until) ↔ (c.args.clock < c.args.until) = search rules in
     let below : IsBelowAll c.args.clock c.args.seen.now c.args.delays.now
     = λ place d inside. c.loop-place.invariant place d (omega arith) in
-    let by_peers = leave c.args.clock c.args.until i known between c.args.seen.now c.args.delays.now c.requires.many within
+    let by_peers =
+    leave c.args.clock c.args.until i known between c.args.seen.now c.args.delays.now c.requires.many within
     are hops in
     ((λ t. by_peers.0 (test.0 t, below)), (λ m. test.1 (by_peers.1 m).0))

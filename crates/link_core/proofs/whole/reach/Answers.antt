@@ -1,4 +1,4 @@
-use Rattle.std.proofs.Common.{◌≤◌, arith}
+use Rattle.std.proofs.Common.{arith}
 use Rattle.link_core.proofs.Reaching.{short_hop}
 use Rattle.link_core.proofs.whole.reach.Goals as goal
 

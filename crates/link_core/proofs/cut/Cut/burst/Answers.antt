@@ -1,15 +1,12 @@
 use Rattle.std.proofs.Common.{ℕ, ◌≡◌, ◌<◌, ◌≤◌, arith, refl, sym, ap, ◌∙◌, subst}
-use Rattle.std.specs.Prelude.{List, length, map, All}
-use Rattle.std.specs.Vec.{vec_capacity}
-use Rattle.std.proofs.lemmas.List.{length-map}
-use Rattle.link_order.specs.declared.sent.Sent.{Sent}
-use Rattle.link_order.specs.NodeKind.{NodeKind, IsLawful, kind_of}
-use Rattle.link_order.specs.Cut.{Cut, plain_cut, count, clock_at, live}
-use Rattle.link_order.specs.GlobalOrder.{least, with_signal, run, cycles_left}
-use Rattle.link_core.specs.Burst.{GoesAlone}
+use Rattle.std.specs.Prelude.{length, All}
+use Rattle.link_order.specs.NodeKind.{NodeKind, kind_of}
+use Rattle.link_order.specs.Cut.{Cut, plain_cut, clock_at, live}
+use Rattle.link_order.specs.GlobalOrder.{least, run}
+use Rattle.link_core.specs.Kept.{cut_of}
 use Rattle.link_core.proofs.Keeping.{kept_few, least_known, limits_reach}
-use Rattle.link_core.proofs.Bursts.{Bursts, bursts, horizon_ahead, horizon_later, kept_live}
-use Rattle.link_core.proofs.Bursts.{burst_kept, burst_end, burst_fewer}
+use Rattle.link_core.proofs.Bursts.{horizon_later, burst_kept, burst_end}
+use Rattle.link_core.proofs.Turns.{fewer_left, lawful, least_kept, made}
 use Rattle.link_core.proofs.cut.Cut.burst.Goals as goal
 
 pub take_turns-signal-requires-clause-limit : goal.take_turns-signal-requires-clause-limit
@@ -24,8 +21,7 @@ take_turns-signal-requires-clause-limit g c =
 pub take_turns-signal-requires-clause-early : goal.take_turns-signal-requires-clause-early
 take_turns-signal-requires-clause-early g c =
     let kind : NodeKind g.N.Node.Record = kind_of g.N.Node.clock g.N.Node.was g.N.Node.next in
-    let now : Cut g.row.N.Denot = record {
-      consoles = c.self.inside.nodes.items;
+    let now : Cut g.row.N.Denot = cut_of c.self.inside.nodes.items record {
       delays = c.self.inside.delays;
       sent = c.self.inside.sent.items;
     } in
@@ -47,182 +43,37 @@ join_signal-requires g c =
 
 pub invariant_of-self : goal.invariant_of-self
 invariant_of-self g c =
-    let kind : NodeKind g.N.Node.Record = kind_of g.N.Node.clock g.N.Node.was g.N.Node.next in
-    let law : IsLawful kind = record {
-      rises = g.met.N.Node.rises;
-      short = g.met.N.Node.short;
-      moves = g.met.N.Node.moves;
-      bears = g.met.N.Node.bears;
-      fits = g.met.N.Node.fits;
-    } in
-    let now : Cut g.row.N.Denot = record {
-      consoles = c.self.inside.nodes.items;
-      delays = c.self.inside.delays;
-      sent = c.self.inside.sent.items;
-    } in
-    let p : Cut g.N.Node.Record = plain_cut g.N.Node.plain now in
-    let i : ℕ = c.least_of-i.result in
-    let below : i < count p
-    = omega (
-      arith,
-      c.least_of-i.ensures.player,
-      ap length c.deref.ensures.value,
-      length-map c.self.inside.nodes.items g.N.Node.plain,
-    ) in
-    let d : Cut g.N.Node.Record = record {
-      consoles = map g.N.Node.plain c.take_turns-signal.new.nodes.items;
-      delays = c.self.inside.delays;
-      sent = with_signal i c.take_turns-signal.result c.self.inside.sent.items;
-    } in
-    let with_sent : List Sent → Cut g.N.Node.Record = λ (ss : List Sent). record {
-      consoles = map g.N.Node.plain c.self.inside.nodes.items;
-      delays = c.self.inside.delays;
-      sent = ss;
-    } in
-    let with_told : List Sent → Cut g.N.Node.Record = λ (ss : List Sent). record {
-      consoles = map g.N.Node.plain c.take_turns-signal.new.nodes.items;
-      delays = c.self.inside.delays;
-      sent = with_signal i c.take_turns-signal.result ss;
-    } in
-    let goes : GoesAlone kind i c.horizon_of-end.result p d
-    = subst (λ (ss : List Sent). GoesAlone kind i c.horizon_of-end.result (with_sent ss) (with_told ss))
-    c.deref-3.ensures.value c.take_turns-signal.ensures.goes in
-    let burst : Bursts kind i c.args.until p d
-    = bursts kind law i c.horizon_of-end.result c.args.until p c.self.invariant.cable c.self.invariant.sound
-    c.self.invariant.widths below c.horizon_of-end.ensures.most
-    (horizon_ahead kind g.N.Node.plain now c.deref-2.result.now i c.horizon_of-end.result c.deref-2.ensures.value
-    c.horizon_of-end.ensures.ahead) goes in
-    let made : Cut g.row.N.Denot = record {
-      consoles = c.take_turns-signal.new.nodes.items;
-      delays = c.self.inside.delays;
-      sent = c.drop_dead.new.sent.items;
-    } in
-    let whole : plain_cut g.N.Node.plain made ≡ live kind d
-    = kept_live kind g.N.Node.plain c.take_turns-signal.new.nodes.items c.deref-4.result.now c.self.inside.delays
-    c.drop_dead.new.sent.items c.join_signal.new.sent.items
-    (with_signal i c.take_turns-signal.result c.self.inside.sent.items)
-    c.deref-4.ensures.value c.join_signal.ensures.items c.drop_dead.ensures.items in
-    burst_kept kind g.N.Node.plain now made d i c.args.until (vec_capacity c.self.inside.sent)
-    (vec_capacity c.self.inside.due) (vec_capacity c.drop_dead.new.sent) (vec_capacity c.take_turns-signal.new.due)
-    c.self.invariant (omega arith) (omega arith) refl burst whole
+    let kind = kind_of g.N.Node.clock g.N.Node.was g.N.Node.next in
+    let law = lawful g.N.Node.clock g.N.Node.was g.N.Node.next g.met.N.Node.rises g.met.N.Node.short g.met.N.Node.moves
+    g.met.N.Node.bears g.met.N.Node.fits in
+    let least_is =
+    least_kept kind g.N.Node.plain _ _ _ _ _ c.self.invariant c.deref.ensures.value c.least_of-i.ensures.value in
+    let m = made kind law g.N.Node.plain _ _ _ _ _ _ _ _ _ _ _ _ _ c.self.invariant least_is
+    c.horizon_of-end.ensures.most c.deref-2.ensures.value c.horizon_of-end.ensures.ahead c.deref-3.ensures.value
+    c.take_turns-signal.ensures.goes c.deref-4.ensures.value c.join_signal.ensures.items c.drop_dead.ensures.items in
+    burst_kept kind g.N.Node.plain _ _ _ _ _ _ _ _ _ c.self.invariant (omega arith) (omega arith) refl m.bursts m.whole
 
 pub returns-clause-same_end : goal.returns-clause-same_end
 returns-clause-same_end g c =
-    let kind : NodeKind g.N.Node.Record = kind_of g.N.Node.clock g.N.Node.was g.N.Node.next in
-    let law : IsLawful kind = record {
-      rises = g.met.N.Node.rises;
-      short = g.met.N.Node.short;
-      moves = g.met.N.Node.moves;
-      bears = g.met.N.Node.bears;
-      fits = g.met.N.Node.fits;
-    } in
-    let now : Cut g.row.N.Denot = record {
-      consoles = c.self.inside.nodes.items;
-      delays = c.self.inside.delays;
-      sent = c.self.inside.sent.items;
-    } in
-    let p : Cut g.N.Node.Record = plain_cut g.N.Node.plain now in
-    let i : ℕ = c.least_of-i.result in
-    let below : i < count p
-    = omega (
-      arith,
-      c.least_of-i.ensures.player,
-      ap length c.deref.ensures.value,
-      length-map c.self.inside.nodes.items g.N.Node.plain,
-    ) in
-    let d : Cut g.N.Node.Record = record {
-      consoles = map g.N.Node.plain c.take_turns-signal.new.nodes.items;
-      delays = c.self.inside.delays;
-      sent = with_signal i c.take_turns-signal.result c.self.inside.sent.items;
-    } in
-    let with_sent : List Sent → Cut g.N.Node.Record = λ (ss : List Sent). record {
-      consoles = map g.N.Node.plain c.self.inside.nodes.items;
-      delays = c.self.inside.delays;
-      sent = ss;
-    } in
-    let with_told : List Sent → Cut g.N.Node.Record = λ (ss : List Sent). record {
-      consoles = map g.N.Node.plain c.take_turns-signal.new.nodes.items;
-      delays = c.self.inside.delays;
-      sent = with_signal i c.take_turns-signal.result ss;
-    } in
-    let goes : GoesAlone kind i c.horizon_of-end.result p d
-    = subst (λ (ss : List Sent). GoesAlone kind i c.horizon_of-end.result (with_sent ss) (with_told ss))
-    c.deref-3.ensures.value c.take_turns-signal.ensures.goes in
-    let burst : Bursts kind i c.args.until p d
-    = bursts kind law i c.horizon_of-end.result c.args.until p c.self.invariant.cable c.self.invariant.sound
-    c.self.invariant.widths below c.horizon_of-end.ensures.most
-    (horizon_ahead kind g.N.Node.plain now c.deref-2.result.now i c.horizon_of-end.result c.deref-2.ensures.value
-    c.horizon_of-end.ensures.ahead) goes in
-    let made : Cut g.row.N.Denot = record {
-      consoles = c.take_turns-signal.new.nodes.items;
-      delays = c.self.inside.delays;
-      sent = c.drop_dead.new.sent.items;
-    } in
-    let whole : plain_cut g.N.Node.plain made ≡ live kind d
-    = kept_live kind g.N.Node.plain c.take_turns-signal.new.nodes.items c.deref-4.result.now c.self.inside.delays
-    c.drop_dead.new.sent.items c.join_signal.new.sent.items
-    (with_signal i c.take_turns-signal.result c.self.inside.sent.items)
-    c.deref-4.ensures.value c.join_signal.ensures.items c.drop_dead.ensures.items in
-    burst_end kind law p d (plain_cut g.N.Node.plain made) i c.args.until burst whole
+    let kind = kind_of g.N.Node.clock g.N.Node.was g.N.Node.next in
+    let law = lawful g.N.Node.clock g.N.Node.was g.N.Node.next g.met.N.Node.rises g.met.N.Node.short g.met.N.Node.moves
+    g.met.N.Node.bears g.met.N.Node.fits in
+    let least_is =
+    least_kept kind g.N.Node.plain _ _ _ _ _ c.self.invariant c.deref.ensures.value c.least_of-i.ensures.value in
+    let m = made kind law g.N.Node.plain _ _ _ _ _ _ _ _ _ _ _ _ _ c.self.invariant least_is
+    c.horizon_of-end.ensures.most c.deref-2.ensures.value c.horizon_of-end.ensures.ahead c.deref-3.ensures.value
+    c.take_turns-signal.ensures.goes c.deref-4.ensures.value c.join_signal.ensures.items c.drop_dead.ensures.items in
+    burst_end kind law _ _ _ _ c.args.until m.bursts m.whole
     ∙ ap (λ (e : Cut g.row.N.Denot). live kind (run kind (plain_cut g.N.Node.plain e) c.args.until)) c.self.view_is
 
 pub returns-clause-fewer : goal.returns-clause-fewer
 returns-clause-fewer g c =
-    let kind : NodeKind g.N.Node.Record = kind_of g.N.Node.clock g.N.Node.was g.N.Node.next in
-    let law : IsLawful kind = record {
-      rises = g.met.N.Node.rises;
-      short = g.met.N.Node.short;
-      moves = g.met.N.Node.moves;
-      bears = g.met.N.Node.bears;
-      fits = g.met.N.Node.fits;
-    } in
-    let now : Cut g.row.N.Denot = record {
-      consoles = c.self.inside.nodes.items;
-      delays = c.self.inside.delays;
-      sent = c.self.inside.sent.items;
-    } in
-    let p : Cut g.N.Node.Record = plain_cut g.N.Node.plain now in
-    let i : ℕ = c.least_of-i.result in
-    let below : i < count p
-    = omega (
-      arith,
-      c.least_of-i.ensures.player,
-      ap length c.deref.ensures.value,
-      length-map c.self.inside.nodes.items g.N.Node.plain,
-    ) in
-    let d : Cut g.N.Node.Record = record {
-      consoles = map g.N.Node.plain c.take_turns-signal.new.nodes.items;
-      delays = c.self.inside.delays;
-      sent = with_signal i c.take_turns-signal.result c.self.inside.sent.items;
-    } in
-    let with_sent : List Sent → Cut g.N.Node.Record = λ (ss : List Sent). record {
-      consoles = map g.N.Node.plain c.self.inside.nodes.items;
-      delays = c.self.inside.delays;
-      sent = ss;
-    } in
-    let with_told : List Sent → Cut g.N.Node.Record = λ (ss : List Sent). record {
-      consoles = map g.N.Node.plain c.take_turns-signal.new.nodes.items;
-      delays = c.self.inside.delays;
-      sent = with_signal i c.take_turns-signal.result ss;
-    } in
-    let goes : GoesAlone kind i c.horizon_of-end.result p d
-    = subst (λ (ss : List Sent). GoesAlone kind i c.horizon_of-end.result (with_sent ss) (with_told ss))
-    c.deref-3.ensures.value c.take_turns-signal.ensures.goes in
-    let burst : Bursts kind i c.args.until p d
-    = bursts kind law i c.horizon_of-end.result c.args.until p c.self.invariant.cable c.self.invariant.sound
-    c.self.invariant.widths below c.horizon_of-end.ensures.most
-    (horizon_ahead kind g.N.Node.plain now c.deref-2.result.now i c.horizon_of-end.result c.deref-2.ensures.value
-    c.horizon_of-end.ensures.ahead) goes in
-    let made : Cut g.row.N.Denot = record {
-      consoles = c.take_turns-signal.new.nodes.items;
-      delays = c.self.inside.delays;
-      sent = c.drop_dead.new.sent.items;
-    } in
-    let whole : plain_cut g.N.Node.plain made ≡ live kind d
-    = kept_live kind g.N.Node.plain c.take_turns-signal.new.nodes.items c.deref-4.result.now c.self.inside.delays
-    c.drop_dead.new.sent.items c.join_signal.new.sent.items
-    (with_signal i c.take_turns-signal.result c.self.inside.sent.items)
-    c.deref-4.ensures.value c.join_signal.ensures.items c.drop_dead.ensures.items in
-    subst (λ (e : Cut g.row.N.Denot). cycles_left kind (plain_cut g.N.Node.plain made) c.args.until
-    < cycles_left kind (plain_cut g.N.Node.plain e) c.args.until) c.self.view_is
-    (burst_fewer kind p d (plain_cut g.N.Node.plain made) i c.args.until burst whole c.take_turns-signal.ensures.rises)
+    let kind = kind_of g.N.Node.clock g.N.Node.was g.N.Node.next in
+    let law = lawful g.N.Node.clock g.N.Node.was g.N.Node.next g.met.N.Node.rises g.met.N.Node.short g.met.N.Node.moves
+    g.met.N.Node.bears g.met.N.Node.fits in
+    let least_is =
+    least_kept kind g.N.Node.plain _ _ _ _ _ c.self.invariant c.deref.ensures.value c.least_of-i.ensures.value in
+    let m = made kind law g.N.Node.plain _ _ _ _ _ _ _ _ _ _ _ _ _ c.self.invariant least_is
+    c.horizon_of-end.ensures.most c.deref-2.ensures.value c.horizon_of-end.ensures.ahead c.deref-3.ensures.value
+    c.take_turns-signal.ensures.goes c.deref-4.ensures.value c.join_signal.ensures.items c.drop_dead.ensures.items in
+    fewer_left kind g.N.Node.plain _ _ _ _ _ _ _ c.self.view_is m c.take_turns-signal.ensures.rises

@@ -15,5 +15,6 @@ invariant-loop-self g l = record {
 }
 
 abbrev pub decreases-loop-self : goal.decreases-loop-self
-decreases-loop-self g l = cycles_left (kind_of g.N.Node.clock g.N.Node.was g.N.Node.next) (plain_cut g.N.Node.plain l.self)
+decreases-loop-self g l = cycles_left (kind_of g.N.Node.clock g.N.Node.was g.N.Node.next)
+    (plain_cut g.N.Node.plain l.self)
     l.until
