@@ -17,7 +17,8 @@ record Keeps (d after : Devices) : Type 0 where
   place : after.place ≡ d.place
   priced : after.priced ≡ d.priced
 
-either-keeps : (test : Bool) (d one other : Devices) → Keeps d one → Keeps d other → Keeps d (if test then one else other)
+either-keeps : (test : Bool) (d one other : Devices) → Keeps d one → Keeps d other
+    → Keeps d (if test then one else other)
 either-keeps true d one other here there = here
 either-keeps false d one other here there = there
 
@@ -45,7 +46,12 @@ halves-keep offset value d =
     let low = half_written offset (field value 0 16) 0xffff d in
     let first = half-keeps offset (field value 0 16) 0xffff d in
     let second = half-keeps (offset + 2) (field value 16 16) 0xffff low in
-    record { clock = second.clock ∙ first.clock; place = second.place ∙ first.place; priced = second.priced ∙ first.priced }
+    record {
+      clock = second.clock ∙ first.clock;
+      place = second.place ∙ first.place;
+      priced = second.priced
+          ∙ first.priced;
+    }
 
 word-keeps : (offset value : ℕ) (d : Devices) → Keeps d (word_written offset value d)
 word-keeps offset value d =

@@ -1,5 +1,6 @@
 use Rattle.std.proofs.Common.{◌≡◌, ℕ, zero, suc, Bool, true, false, ◌+◌, ◌-◌, ◌*◌, ◌/◌, ◌%◌, ◌<◌, ◌≤◌, ◌∙◌, ⊎_elim, refl, ap, sym, arith, add-one, add-zero, if◌then◌else◌}
 use Rattle.std.specs.Prelude.{◌==◌, ◌||◌, ◌&&◌, min}
+use Rattle.std.specs.Int.Bits.{or_zero_r}
 use Rattle.std.proofs.Math.Nat.{le_trans, mul-div-le, mul-le-mul_left}
 use Rattle.std.proofs.lemmas.Bool.{cases_lt, or_parts}
 use Rattle.std.proofs.lemmas.Bool.Decides.{nat_tests}
@@ -10,7 +11,7 @@ use Rattle.gba_psg.specs.Tones.{after_cycles as tones_after, cycle as tones_cycl
 use Rattle.gba_psg.specs.declared.four.FourTones.{FourTones}
 use Rattle.gba_timer.specs.Quiet.{QuietMarks, quiet_within as quiet_timers}
 use Rattle.gba_timer.specs.Timers.{FourTimers, after_cycles as timers_after, cycle as timer_cycle}
-use Rattle.gba_devices.specs.Cycles.{CyclePasses, CyclesPass, SkipsCycles, after_cycles, at_hblank, at_line, at_place, device_cycle, draws_at, draws_line, draws_within, farthest, is_seen, makes_pair, makes_within, pairless, placed, quiet, rung, skipped, sounded}
+use Rattle.gba_devices.specs.Cycles.{CyclePasses, CyclesPass, SkipsCycles, after_cycles, at_hblank, at_line, at_place, device_cycle, draws_at, draws_line, draws_within, farthest, is_seen, makes_pair, makes_within, pairless, placed, quiet, rung, skipped, sounded, with_timer_requests}
 use Rattle.gba_devices.specs.State.{Devices, is_idle}
 
 -- Cycles one after another, and cycles at once.
@@ -19,7 +20,8 @@ pub after-none : (d : Devices) → after_cycles 0 d ≡ d
 unfolding after_cycles
 after-none d = refl
 
-pub after-sum : (count more : ℕ) (d : Devices) → after_cycles count (after_cycles more d) ≡ after_cycles (count + more) d
+pub after-sum : (count more : ℕ) (d : Devices) → after_cycles count (after_cycles more d)
+    ≡ after_cycles (count + more) d
 unfolding after_cycles
 after-sum zero more d = ap (λ n. after_cycles n d) (omega arith)
 after-sum (suc count) more d =
@@ -33,7 +35,8 @@ record Keeps (d after : Devices) : Type 0 where
   waits : after.waits ≡ d.waits
   priced : after.priced ≡ d.priced
 
-either-keeps : (test : Bool) (d one other : Devices) → Keeps d one → Keeps d other → Keeps d (if test then one else other)
+either-keeps : (test : Bool) (d one other : Devices) → Keeps d one → Keeps d other
+    → Keeps d (if test then one else other)
 either-keeps true d one other here there = here
 either-keeps false d one other here there = there
 
@@ -49,7 +52,8 @@ place-keeps : (d : Devices) → Keeps d (at_place d)
 unfolding at_place
 place-keeps d =
     either-keeps (begins_hblank d.place) d (at_hblank d) (if begins_line d.place then at_line d else d) (hblank-keeps d)
-    (either-keeps (begins_line d.place) d (at_line d) d (line-keeps d) (record { clock = refl; place = refl; waits = refl; priced = refl }))
+    (either-keeps (begins_line d.place) d (at_line d) d (line-keeps d)
+    (record { clock = refl; place = refl; waits = refl; priced = refl }))
 
 pub cycle-keeps : (d : Devices) → CyclePasses d
 unfolding device_cycle sounded rung
@@ -79,7 +83,8 @@ whole_steps cycles count most room e =
 pair-later : (clock count : ℕ) → count + 1 ≤ 511 - clock % 512 → ((clock + count + 1) % 512 == 0) ≡ false
 pair-later clock count within = grind (arith, nat_tests)
 
-no-pair : (count more : ℕ) (d : Devices) → count + 1 ≤ pairless (skipped more d) → makes_pair (skipped (more + count) d) ≡ false
+no-pair : (count more : ℕ) (d : Devices) → count + 1 ≤ pairless (skipped more d)
+    → makes_pair (skipped (more + count) d) ≡ false
 no-pair count more d within =
     let sum : d.clock + (more + count) + 1 ≡ d.clock + more + count + 1 = omega arith in
     ap (λ n. n % 512 == 0) sum ∙ pair-later (d.clock + more) count within
@@ -114,13 +119,27 @@ skip-none : (d : Devices) → skipped 0 d ≡ d
 unfolding timers_after place_after tones_after
 skip-none d = rw add-zero refl
 
+-- timers of which none overflows request nothing
+pub none_requested : (mark : ℕ) (d : Devices) → mark ≡ 0 → d ≡ with_timer_requests mark d
+none_requested mark d e =
+    rw e (sym (ap (λ (n : ℕ). record d { interrupts = record d.interrupts { raised = n } })
+    (or_zero_r d.interrupts.raised)))
+
 module _ (timers : QuietMarks) (places : QuietPlaces) where
-  sounded-skipped : (count : ℕ) (d : Devices) → count + 1 ≤ quiet_timers farthest d.timers → count + 1 ≤ quiet_place farthest d.place
+  sounded-skipped : (count : ℕ) (d : Devices) → count + 1 ≤ quiet_timers farthest d.timers
+      → count + 1 ≤ quiet_place farthest d.place
       → placed (sounded (skipped count d)) ≡ skipped (count + 1) d
   unfolding sounded rung
   sounded-skipped count d least near =
       let sum : d.clock + count + 1 ≡ d.clock + (count + 1) = omega arith in
-      rw (timers.none farthest count d.timers (omega (arith, least)), timers-next count d.timers, tones-next count d.tones, place-next count d.place, sum) refl
+      rw (
+        timers.none farthest count d.timers (omega (arith, least)),
+        timers-next count d.timers,
+        tones-next count d.tones,
+        place-next count d.place,
+        sum,
+        or_zero_r d.interrupts.raised,
+      ) refl
 
   cycle-skipped : (count : ℕ) (d : Devices) → count + 1 ≤ quiet d
       → device_cycle (skipped count d) ≡ skipped (count + 1) d
@@ -169,7 +188,8 @@ module _ (timers : QuietMarks) (places : QuietPlaces) where
   draws-nothing (suc count) more d within =
       neither (draws_within count (skipped more d)) (draws_line (after_cycles count (skipped more d)))
       (draws-nothing count more d (omega (arith, within)))
-      (ap draws_line (skips-all count more d (omega (arith, within))) ∙ draws-none (more + count) d (omega (arith, within)))
+      (ap draws_line (skips-all count more d (omega (arith, within)))
+      ∙ draws-none (more + count) d (omega (arith, within)))
 
   timers-still : (count : ℕ) (d : Devices) → count ≤ quiet d → quiet_timers count d.timers ≡ count
   unfolding quiet
@@ -192,7 +212,8 @@ module _ (timers : QuietMarks) (places : QuietPlaces) where
   }
 
 -- steps one after another
-pub draws-sum : (count more : ℕ) (d : Devices) → draws_within more d ≡ false → draws_within count (after_cycles more d) ≡ false
+pub draws-sum : (count more : ℕ) (d : Devices) → draws_within more d ≡ false
+    → draws_within count (after_cycles more d) ≡ false
     → draws_within (count + more) d ≡ false
 unfolding draws_within
 draws-sum zero more d before after = let sum : 0 + more ≡ more = omega arith in ap (λ n. draws_within n d) sum ∙ before
@@ -210,7 +231,8 @@ pub steps_after : (cycles first more : ℕ) (d middle after : Devices) → middl
     → after ≡ after_cycles (cycles * more) middle → after ≡ after_cycles (cycles * (first + more)) d
 steps_after cycles first more d middle after e f =
     let sum : cycles * more + cycles * first ≡ cycles * (first + more) = omega arith in
-    f ∙ ap (after_cycles (cycles * more)) e ∙ after-sum (cycles * more) (cycles * first) d ∙ ap (λ n. after_cycles n d) sum
+    f ∙ ap (after_cycles (cycles * more)) e ∙ after-sum (cycles * more) (cycles * first) d
+    ∙ ap (λ n. after_cycles n d) sum
 
 pub steps_lineless : (cycles first more : ℕ) (d middle : Devices) → middle ≡ after_cycles (cycles * first) d
     → draws_within (cycles * first) d ≡ false → draws_within (cycles * more) middle ≡ false
@@ -231,13 +253,15 @@ steps_idle cycles first more d middle e before after steps within =
     let sum : first + (steps - first) ≡ steps = omega (arith, late) in
     let there : is_idle middle ≡ is_idle d = ap is_idle e ∙ before first (omega arith) in
     ap (λ n. is_idle (after_cycles (cycles * n) d)) (sym sum)
-    ∙ ap is_idle (sym (steps_after cycles first (steps - first) d middle (after_cycles (cycles * (steps - first)) middle) e refl))
+    ∙ ap is_idle (sym
+    (steps_after cycles first (steps - first) d middle (after_cycles (cycles * (steps - first)) middle) e refl))
     ∙ after (steps - first) rest
     ∙ there)
     (λ (early : steps ≤ first). before steps early)
     (cases_lt first steps)
 
-pub steps_few : (cycles first more rest most : ℕ) → cycles * first ≤ 1024 → rest ≡ min ((1024 - cycles * first) / cycles) most
+pub steps_few : (cycles first more rest most : ℕ) → cycles * first ≤ 1024
+    → rest ≡ min ((1024 - cycles * first) / cycles) most
     → more ≤ rest → cycles * (first + more) ≤ 1024
 steps_few cycles first more rest most few e within =
     let whole = whole_steps cycles rest most (1024 - cycles * first) e in

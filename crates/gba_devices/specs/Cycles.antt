@@ -1,9 +1,9 @@
-use Rattle.std.specs.Prelude.{◌≡◌, ℕ, zero, suc, Bool, false, ◌+◌, ◌-◌, ◌*◌, ◌%◌, ◌≤◌, ◌==◌, ◌||◌, ◌&&◌, nat_lt, bit_or, min, if◌then◌else◌}
+use Rattle.std.specs.Prelude.{◌≡◌, ℕ, zero, suc, Bool, false, ◌+◌, ◌-◌, ◌*◌, ◌%◌, ◌≤◌, ◌==◌, ◌||◌, ◌&&◌, nat_lt, min, if◌then◌else◌}
 use Rattle.gba_terms.specs.Bits.{bit}
 use Rattle.gba_dma.specs.Channels.{FourChannels, after_trigger}
 use Rattle.gba_dma.specs.declared.event.DmaEvent.{DmaEvent}
 use Rattle.gba_dma.specs.declared.event.DmaEvent.TheVariants.{VBlank, HBlank, QueueA, QueueB}
-use Rattle.gba_irq.specs.declared.interrupts.Interrupts.{Interrupts}
+use Rattle.gba_irq.specs.Interrupts.{with_request_if, with_requests}
 use Rattle.gba_ppu_reg.specs.Position.{after_cycles as place_after, begins_hblank, begins_line, cycle as place_cycle, is_matched}
 use Rattle.gba_ppu_reg.specs.Quiet.{quiet_within as quiet_place}
 use Rattle.gba_ppu_reg.specs.Registers.{Picture, after_line, after_reload, picture_kept}
@@ -16,15 +16,12 @@ use Rattle.gba_timer.specs.Timers.{after_cycles as timers_after, cycle as timer_
 use Rattle.gba_devices.specs.State.{Devices}
 
 -- A device cycle: the clock rises by 1; the timers move, from 0 to 3, and request their interrupts in that cycle; then
--- the sound queues of timers 0 and 1 take bytes where these overflowed, and ask for DMA; then the tone channels move; then
--- the picture's place moves by a dot, with what begins there.
+-- the sound queues of timers 0 and 1 take bytes where these overflowed, and ask for DMA; then the tone channels move;
+-- then the picture's place moves by a dot, with what begins there.
 
 -- the requests of timers that overflow, from bit 3 of IF up
-abbrev pub with_timer_requests : ℕ → Devices → Interrupts
-with_timer_requests mark d =
-    record d.interrupts {
-      raised = if mark == 0 then d.interrupts.raised else bit_or d.interrupts.raised (8 * requests mark d.timers);
-    }
+abbrev pub with_timer_requests : ℕ → Devices → Devices
+with_timer_requests mark d = record d { interrupts = with_requests (8 * requests mark d.timers) d.interrupts }
 
 abbrev pub moved : Devices → Devices
 moved d = record d { clock = d.clock + 1; timers = timer_cycle d.timers }
@@ -43,17 +40,13 @@ rung timer rings d = record d {
   channels = if rings then asked_by (asked timer d.sound) d.channels else d.channels;
 }
 
--- One of IF's bits is requested, or isn't.
-abbrev pub with_bit : Bool → ℕ → ℕ → ℕ
-with_bit set mask raised = if set then bit_or raised mask else raised
-
 -- DISPSTAT's bits 3 to 5 ask for the interrupts of VBlank, HBlank and the matched line (GBATEK, LCD I/O Interrupts and
 -- Status)
 abbrev pub status_of : Picture → ℕ
 status_of r = picture_kept 0x004 r
 
--- HBlank begins: it requests bit 1 of IF, and in the lines 0 to 159, which are seen, it triggers the DMA that waits for it,
--- and the inner reference points grow.
+-- HBlank begins: it requests bit 1 of IF, and in the lines 0 to 159, which are seen, it triggers the DMA that waits for
+-- it, and the inner reference points grow.
 abbrev pub is_seen : Position → Bool
 is_seen p = nat_lt p.line 160
 
@@ -61,11 +54,11 @@ unfoldable pub at_hblank : Devices → Devices
 at_hblank d = record d {
   channels = if is_seen d.place then after_trigger HBlank d.channels else d.channels;
   picture = if is_seen d.place then after_line d.picture else d.picture;
-  interrupts = record d.interrupts { raised = with_bit (bit (status_of d.picture) 4) 2 d.interrupts.raised };
+  interrupts = with_request_if (bit (status_of d.picture) 4) 1 d.interrupts;
 }
 
--- A line begins: the matched one requests bit 2 of IF, and line 160 bit 0. VBlank begins in it, triggers the DMA that waits
--- for it, and makes the inner reference points those that are written.
+-- A line begins: the matched one requests bit 2 of IF, and line 160 bit 0. VBlank begins in it, triggers the DMA that
+-- waits for it, and makes the inner reference points those that are written.
 abbrev pub begins_vblank : Position → Bool
 begins_vblank p = p.line == 160
 
@@ -73,11 +66,9 @@ unfoldable pub at_line : Devices → Devices
 at_line d = record d {
   channels = if begins_vblank d.place then after_trigger VBlank d.channels else d.channels;
   picture = if begins_vblank d.place then after_reload d.picture else d.picture;
-  interrupts = record d.interrupts {
-    raised =
-        with_bit (begins_vblank d.place && bit (status_of d.picture) 3) 1
-        (with_bit (is_matched (status_of d.picture) d.place && bit (status_of d.picture) 5) 4 d.interrupts.raised);
-  };
+  interrupts =
+      with_request_if (begins_vblank d.place && bit (status_of d.picture) 3) 0
+      (with_request_if (is_matched (status_of d.picture) d.place && bit (status_of d.picture) 5) 2 d.interrupts);
 }
 
 -- what begins at the dot to which the place came
@@ -101,7 +92,7 @@ sounded d =
     toned
     (rung 1 (bit (overflow_mark d.timers) 1)
     (rung 0 (bit (overflow_mark d.timers) 0)
-    (record (moved d) { interrupts = with_timer_requests (overflow_mark d.timers) (moved d) })))
+    (with_timer_requests (overflow_mark d.timers) (moved d))))
 
 unfoldable pub device_cycle : Devices → Devices
 device_cycle d = at_place (placed (sounded d))
@@ -125,16 +116,17 @@ draws_line d = draws_at (place_cycle d.place)
 -- whether one of so many cycles makes something
 unfoldable pub makes_within : ℕ → Devices → Bool
 makes_within zero d = false
-makes_within (suc count) d = makes_within count d || (makes_pair (after_cycles count d) || draws_line (after_cycles count d))
+makes_within (suc count) d = makes_within count d ||
+    (makes_pair (after_cycles count d) || draws_line (after_cycles count d))
 
 -- whether one of so many cycles draws a line
 unfoldable pub draws_within : ℕ → Devices → Bool
 draws_within zero d = false
 draws_within (suc count) d = draws_within count d || draws_line (after_cycles count d)
 
--- Cycles in which no timer overflows and nothing begins at a place can be skipped at once: for so many that is so, of those
--- that are looked at, which are more than a line has before its HBlank. A pair of samples may be made in them, and the tone
--- channels move on in them.
+-- Cycles in which no timer overflows and nothing begins at a place can be skipped at once: for so many that is so, of
+-- those that are looked at, which are more than a line has before its HBlank. A pair of samples may be made in them,
+-- and the tone channels move on in them.
 abbrev pub farthest : ℕ
 farthest = 1024
 

@@ -5,8 +5,8 @@ use Rattle.gba_bus.specs.declared.width.Width.TheVariants.{Byte, Half, Word}
 use Rattle.gba_devices.specs.Registers.{half_read, io_loaded}
 use Rattle.gba_devices.specs.State.{Devices}
 
--- That what is read has zeros above its width, for the laws of the buses above. The cut in `half_read` sees to it, whatever
--- numbers the record has.
+-- That what is read has zeros above its width, for the laws of the buses above. The cut in `half_read` sees to it,
+-- whatever numbers the record has.
 
 abbrev pub ReadsFit : Type 0
 ReadsFit = (offset : ℕ) (width : Width) (d : Devices) → FitsWidth width (io_loaded offset width d)

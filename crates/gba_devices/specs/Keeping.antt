@@ -7,7 +7,8 @@ use Rattle.gba_devices.specs.State.{Devices, begun, is_calm, is_idle}
 pub record WritesKeep : Type 0 where
   pub clock : (offset : ℕ) (width : Width) (value : ℕ) (d : Devices) → (io_stored offset width value d).clock ≡ d.clock
   pub place : (offset : ℕ) (width : Width) (value : ℕ) (d : Devices) → (io_stored offset width value d).place ≡ d.place
-  pub priced : (offset : ℕ) (width : Width) (value : ℕ) (d : Devices) → (io_stored offset width value d).priced ≡ d.priced
+  pub priced : (offset : ℕ) (width : Width) (value : ℕ) (d : Devices)
+      → (io_stored offset width value d).priced ≡ d.priced
 
 -- Calm and idle devices have the prices of this step already.
 pub record CalmHasBegun : Type 0 where

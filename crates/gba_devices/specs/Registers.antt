@@ -4,9 +4,8 @@ use Rattle.gba_bus.specs.declared.width.Width.{Width}
 use Rattle.gba_bus.specs.declared.width.Width.TheVariants.{Byte, Half, Word}
 use Rattle.gba_register.specs.Rows.{Row, row, row_at}
 use Rattle.gba_dma.specs.Channels.{dma_kept, dma_read, dma_written}
-use Rattle.gba_irq.specs.Interrupts.{interrupt_kept, interrupt_read, interrupt_written}
+use Rattle.gba_irq.specs.Interrupts.{interrupt_kept, interrupt_read, interrupt_written, with_request_if}
 use Rattle.gba_irq.specs.Keypad.{becomes_true, keypad_read, with_control, with_pressed}
-use Rattle.gba_irq.specs.declared.interrupts.Interrupts.{Interrupts}
 use Rattle.gba_ppu_reg.specs.Registers.{picture_kept, picture_read_at, picture_written}
 use Rattle.gba_psg.specs.Registers.{tones_kept, tones_read, tones_written}
 use Rattle.gba_sound.specs.Queues.{after_word, sound_read, sound_written}
@@ -15,8 +14,8 @@ use Rattle.gba_devices.specs.declared.registers.Owner.{Owner}
 use Rattle.gba_devices.specs.declared.registers.Owner.TheVariants.{PictureBlock, ToneBlock, SoundBlock, DmaBlock, TimerBlock, KeyBlock, InterruptBlock, WaitControl, PostFlag, Nobody}
 use Rattle.gba_devices.specs.State.{Devices}
 
--- The I/O registers (GBATEK, GBA I/O Map), by their offsets from 04000000h. Each device has its own rows; here are those
--- of WAITCNT and POSTFLG, and which device a halfword belongs to. What isn't listed reads 0 and drops writes.
+-- The I/O registers (GBATEK, GBA I/O Map), by their offsets from 04000000h. Each device has its own rows; here are
+-- those of WAITCNT and POSTFLG, and which device a halfword belongs to. What isn't listed reads 0 and drops writes.
 
 unfoldable pub system_rows : List Row
 system_rows = row 0x204 0x5fff 0x5fff ∷ row 0x300 0x0001 0x0001 ∷ []
@@ -39,7 +38,8 @@ owner_of offset =
 abbrev pub truth_number : Bool → ℕ
 truth_number set = if set then 1 else 0
 
--- What a halfword reads. SOUNDCNT_H and SOUNDCNT_X are of direct sound and of the tone channels, each of which shows its bits.
+-- What a halfword reads. SOUNDCNT_H and SOUNDCNT_X are of direct sound and of the tone channels, each of which shows
+-- its bits.
 abbrev pub read_of : Owner → ℕ → Devices → ℕ
 read_of PictureBlock offset d = picture_read_at offset d.place d.picture
 read_of ToneBlock offset d = tones_read offset d.tones
@@ -52,8 +52,8 @@ read_of WaitControl offset d = bit_and d.waits (row_at system_rows 0x204).read_m
 read_of PostFlag offset d = bit_and (truth_number d.posted) (row_at system_rows 0x300).read_mask
 read_of Nobody offset d = 0
 
--- The record may have any numbers, and a halfword is cut to its 16 bits, since every state of a bus has to read what fits. Of
--- the devices' own numbers the cut takes nothing, as the clauses `whole` of what reads a halfword say.
+-- The record may have any numbers, and a halfword is cut to its 16 bits, since every state of a bus has to read what
+-- fits. Of the devices' own numbers the cut takes nothing, as the clauses `whole` of what reads a halfword say.
 unfoldable pub half_read : ℕ → Devices → ℕ
 half_read offset d = read_of (owner_of offset) offset d % 2 ^ 16
 
@@ -88,27 +88,23 @@ stored_of owner offset d = read_of owner offset d
 unfoldable pub half_stored : ℕ → Devices → ℕ
 half_stored offset d = stored_of (owner_of offset) offset d % 2 ^ 16
 
--- the keypad's interrupt is requested where its condition went from false to true (that it is tested after each key
--- change and each write of KEYCNT is this project's profile)
-abbrev pub with_key_request : Bool → Interrupts → Interrupts
-with_key_request rose i = record i { raised = if rose then bit_or i.raised (2 ^ 12) else i.raised }
-
--- other keys are pressed
+-- Other keys are pressed. The keypad's interrupt is requested where its condition went from false to true (that it is
+-- tested after each key change and each write of KEYCNT is this project's profile).
 unfoldable pub keyed : ℕ → Devices → Devices
 keyed pressed d = record d {
   keys = with_pressed pressed d.keys;
-  interrupts = with_key_request (becomes_true d.keys (with_pressed pressed d.keys)) d.interrupts;
+  interrupts = with_request_if (becomes_true d.keys (with_pressed pressed d.keys)) 12 d.interrupts;
 }
 
 -- KEYCNT is written
 abbrev pub with_key_control : ℕ → Devices → Devices
 with_key_control value d = record d {
   keys = with_control value d.keys;
-  interrupts = with_key_request (becomes_true d.keys (with_control value d.keys)) d.interrupts;
+  interrupts = with_request_if (becomes_true d.keys (with_control value d.keys)) 12 d.interrupts;
 }
 
--- What a write of a halfword leaves; `lanes` has the bits of the bytes that are written, and `value` the whole halfword.
--- A write that covers byte 301h halts (GBATEK, HALTCNT; that Stop is a halt too is this project's profile).
+-- What a write of a halfword leaves; `lanes` has the bits of the bytes that are written, and `value` the whole
+-- halfword. A write that covers byte 301h halts (GBATEK, HALTCNT; that Stop is a halt too is this project's profile).
 abbrev pub written_of : Owner → ℕ → ℕ → ℕ → Devices → Devices
 written_of PictureBlock offset value lanes d = record d { picture = picture_written offset value d.picture }
 written_of ToneBlock offset value lanes d = record d { tones = tones_written offset value d.tones }

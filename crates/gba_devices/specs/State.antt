@@ -1,7 +1,7 @@
-use Rattle.std.specs.Prelude.{ℕ, Bool, false, not, ◌+◌, ◌^◌, ◌&&◌, ◌==◌, bit_or, if◌then◌else◌}
+use Rattle.std.specs.Prelude.{ℕ, Bool, false, not, ◌+◌, ◌&&◌, ◌==◌}
 use Rattle.gba_dma.specs.Channel.{requests_interrupt}
 use Rattle.gba_dma.specs.Channels.{FourChannels, after_unit_at, channel_at, channels_at_reset, is_moving}
-use Rattle.gba_irq.specs.Interrupts.{is_pending}
+use Rattle.gba_irq.specs.Interrupts.{is_pending, with_request_if}
 use Rattle.gba_irq.specs.Keypad.{Keys}
 use Rattle.gba_irq.specs.declared.interrupts.Interrupts.{Interrupts}
 use Rattle.gba_ppu_reg.specs.Registers.{Picture, picture_at_reset}
@@ -11,9 +11,9 @@ use Rattle.gba_psg.specs.declared.four.FourTones.{FourTones}
 use Rattle.gba_sound.specs.Queues.{DirectSound, sound_at_reset}
 use Rattle.gba_timer.specs.Timers.{FourTimers, timers_at_reset}
 
--- The devices of a board: the clock in cycles since reset, the timers, direct sound, the tone channels, the DMA channels, the
--- picture's place and its registers, the interrupts, the keypad, WAITCNT, the WAITCNT by which the accesses of this step are
--- priced, POSTFLG, and the halt.
+-- The devices of a board: the clock in cycles since reset, the timers, direct sound, the tone channels, the DMA
+-- channels, the picture's place and its registers, the interrupts, the keypad, WAITCNT, the WAITCNT by which the
+-- accesses of this step are priced, POSTFLG, and the halt.
 pub record Devices : Type 0 where
   pub clock : ℕ
   pub timers : FourTimers
@@ -69,16 +69,12 @@ rested cycles d = record d { clock = d.clock + cycles }
 abbrev pub woken : Devices → Devices
 woken d = record d { halted = false }
 
--- A unit of a DMA channel ends. Where it ends a run that asks for it, the channel's interrupt is requested: bits 8 to 11
--- of IF are those of channels 0 to 3 (GBATEK, GBA Interrupt Control).
-abbrev pub with_dma_request : ℕ → FourChannels → ℕ → ℕ
-with_dma_request number cs raised =
-    if requests_interrupt (channel_at number cs) then bit_or raised (2 ^ (8 + number)) else raised
-
+-- A unit of a DMA channel ends. Where it ends a run that asks for it, the channel's interrupt is requested: bits 8 to
+-- 11 of IF are those of channels 0 to 3 (GBATEK, GBA Interrupt Control).
 unfoldable pub after_dma_unit : ℕ → Devices → Devices
 after_dma_unit number d = record d {
   channels = after_unit_at number d.channels;
-  interrupts = record d.interrupts { raised = with_dma_request number d.channels d.interrupts.raised };
+  interrupts = with_request_if (requests_interrupt (channel_at number d.channels)) (8 + number) d.interrupts;
 }
 
 -- an interrupt asks for its entry, as far as devices decide it: IME is set, and an enabled interrupt is requested

@@ -2,8 +2,6 @@
 
 ghost use Rattle.std.specs.Prelude.{◌≡◌, ◌+◌, ◌≤◌, ◌<◌, ◌^◌};
 
-mod requests;
-
 use crate::laws::{cycle_keeps, cycles_pass, skips_cycles, writes_keep};
 use crate::parts::DeviceParts;
 use crate::place::FARTHEST;
@@ -47,7 +45,7 @@ impl Model for Devices {
 impl Devices {
     ghost use Rattle.std.specs.Prelude.{◌≡◌, ℕ, ◌+◌, ◌*◌, ◌≤◌, ◌<◌, ◌^◌, ◌==◌, length, true, false, IfSome, if◌then◌else◌};
     ghost use Rattle.gba_dma.specs.Channels.{channel_at, next_unit};
-    ghost use Rattle.gba_irq.specs.Interrupts.{is_pending};
+    ghost use Rattle.gba_irq.specs.Interrupts.{is_pending, with_request};
     ghost use Rattle.gba_ppu_reg.specs.Position.{IsPosition};
     ghost use Rattle.gba_ppu_reg.specs.Registers.{picture_mode, reference_of};
     ghost use Rattle.gba_psg.specs.Tones.{tone_at};
@@ -237,6 +235,15 @@ impl Devices {
         self.calm = self.set.is_calm();
     }
 
+    /// Requests the serial interrupt: bit 7 of IF.
+    #[tactic(auto, unfolding(crate::specs::Cycles::quiet))]
+    pub fn request_serial(&mut self)
+        ensures { self.new ≡ record self.old { interrupts = with_request 7 self.old.interrupts } }
+    {
+        self.set.request(7);
+        self.calm = self.set.is_calm();
+    }
+
     fn tones(&self) -> Tones
         ensures { result ≡ self.now.tones }
     {
@@ -386,7 +393,8 @@ impl Devices {
     pub fn owe(&mut self, cycles: u32) -> bool
         requires few { cycles ≤ 512 }
         requires clock { self.old.clock < 2 ^ 61 }
-        ensures owed { result ≡ true → (self.new ≡ after_cycles cycles self.old) × (makes_within cycles self.old ≡ false) }
+        ensures owed { result ≡ true → (self.new ≡ after_cycles cycles self.old)
+            × (makes_within cycles self.old ≡ false) }
         ensures idle { is_idle self.new ≡ is_idle self.old }
         ensures calm { is_calm self.new ≡ is_calm self.old }
         ensures left { result ≡ false → self.new ≡ self.old }
@@ -405,7 +413,8 @@ impl Devices {
         requires clock { self.old.clock < 2 ^ 61 }
         ensures devices { self.new ≡ after_cycles (cycles * result) self.old }
         ensures silent { makes_within (cycles * result) self.old ≡ false }
-        ensures idle { (steps : ℕ) → steps ≤ result → is_idle (after_cycles (cycles * steps) self.old) ≡ is_idle self.old }
+        ensures idle { (steps : ℕ) → steps ≤ result
+            → is_idle (after_cycles (cycles * steps) self.old) ≡ is_idle self.old }
         ensures calm { is_calm self.new ≡ is_calm self.old }
         ensures few { cycles * result ≤ 1024 }
         ensures most { result ≤ most }
@@ -425,7 +434,8 @@ impl Devices {
         requires clock { self.old.clock < 2 ^ 61 }
         ensures devices { self.new ≡ after_cycles (cycles * result) self.old }
         ensures lineless { draws_within (cycles * result) self.old ≡ false }
-        ensures idle { (steps : ℕ) → steps ≤ result → is_idle (after_cycles (cycles * steps) self.old) ≡ is_idle self.old }
+        ensures idle { (steps : ℕ) → steps ≤ result
+            → is_idle (after_cycles (cycles * steps) self.old) ≡ is_idle self.old }
         ensures calm { is_calm self.new ≡ is_calm self.old }
         ensures few { cycles * result ≤ 1024 }
         ensures most { result ≤ most }
@@ -449,7 +459,8 @@ impl Devices {
         requires clock { self.old.clock + 1024 < 2 ^ 61 }
         ensures devices { self.new ≡ after_cycles (cycles * result) self.old }
         ensures lineless { draws_within (cycles * result) self.old ≡ false }
-        ensures idle { (steps : ℕ) → steps ≤ result → is_idle (after_cycles (cycles * steps) self.old) ≡ is_idle self.old }
+        ensures idle { (steps : ℕ) → steps ≤ result
+            → is_idle (after_cycles (cycles * steps) self.old) ≡ is_idle self.old }
         ensures calm { is_calm self.new ≡ is_calm self.old }
         ensures few { cycles * result ≤ 1024 }
         ensures most { result ≤ most }

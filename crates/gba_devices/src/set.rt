@@ -4,8 +4,6 @@ ghost use Rattle.std.specs.Prelude.{◌≡◌, ◌≤ℤ◌, ◌+ℤ◌, pos, ne
 ghost use Rattle.gba_devices.specs.Registers.{system_rows};
 ghost use Rattle.gba_register.specs.Rows.{row_at};
 
-mod requests;
-
 use crate::laws::skips_cycles;
 use crate::parts::DeviceParts;
 use crate::place::{FARTHEST, Place};
@@ -93,18 +91,18 @@ impl DeviceSet {
     ghost use Rattle.gba_terms.specs.Bits.{bit};
     ghost use Rattle.gba_bus.specs.declared.width.Width.TheVariants.{Byte};
     ghost use Rattle.gba_dma.specs.Channels.{channel_at, next_unit};
-    ghost use Rattle.gba_irq.specs.Interrupts.{is_pending};
+    ghost use Rattle.gba_irq.specs.Interrupts.{is_pending, with_request, with_request_if};
     ghost use Rattle.gba_ppu_reg.specs.Position.{IsPosition, after_cycles as place_after};
     ghost use Rattle.gba_ppu_reg.specs.Registers.{picture_kept, picture_mode, picture_read_at, reference_of};
     ghost use Rattle.gba_psg.specs.Registers.{tones_read, tones_written};
     ghost use Rattle.gba_psg.specs.Tones.{after_cycles as tones_after};
     ghost use Rattle.gba_sound.specs.Queues.{queue_at, sound_read, sound_written};
     ghost use Rattle.gba_timer.specs.Timers.{requests};
-    ghost use Rattle.gba_devices.specs.Cycles.{asked_by, at_hblank, at_line, at_place, device_cycle, pairless, placed, quiet, rung, skipped, sounded, status_of, with_bit, with_timer_requests};
+    ghost use Rattle.gba_devices.specs.Cycles.{asked_by, at_hblank, at_line, at_place, device_cycle, pairless, placed, quiet, rung, skipped, sounded, status_of, with_timer_requests};
     ghost use Rattle.gba_devices.specs.Parts.{devices_of};
-    ghost use Rattle.gba_devices.specs.Registers.{half_kept, half_read, half_stored, half_written, halves_written, io_loaded, io_stored, keyed, owner_of as owner_in, read_of, stored_of, with_key_control, with_key_request, word_written};
+    ghost use Rattle.gba_devices.specs.Registers.{half_kept, half_read, half_stored, half_written, halves_written, io_loaded, io_stored, keyed, owner_of as owner_in, read_of, stored_of, with_key_control, word_written};
     ghost use Rattle.gba_devices.specs.Samples.{left_sample, right_sample};
-    ghost use Rattle.gba_devices.specs.State.{after_dma_unit, asks_entry, begun, devices_at_reset, is_calm, is_idle, rested, with_dma_request, woken};
+    ghost use Rattle.gba_devices.specs.State.{after_dma_unit, asks_entry, begun, devices_at_reset, is_calm, is_idle, rested, woken};
 
     /// The devices at reset.
     pub(crate) fn new() -> DeviceSet
@@ -340,11 +338,21 @@ impl DeviceSet {
         self.halt.halted = false;
     }
 
-    fn request_key(&mut self, rose: bool)
-        ensures { self.new ≡ record self.old { interrupts = with_key_request rose self.old.interrupts } }
+    /// Requests the interrupt of a bit of IF.
+    pub(crate) fn request(&mut self, bit: u32)
+        requires { bit < 14 }
+        ensures { self.new ≡ record self.old { interrupts = with_request bit self.old.interrupts } }
     {
-        if rose {
-            self.interrupts.raise(12);
+        self.interrupts.raise(bit);
+    }
+
+    /// The same where it is asked for.
+    fn request_if(&mut self, asked: bool, bit: u32)
+        requires { bit < 14 }
+        ensures { self.new ≡ record self.old { interrupts = with_request_if asked bit self.old.interrupts } }
+    {
+        if asked {
+            self.request(bit);
         }
     }
 
@@ -354,14 +362,14 @@ impl DeviceSet {
         ensures { self.new ≡ keyed pressed self.old }
     {
         let rose = self.keypad.set(pressed);
-        self.request_key(rose);
+        self.request_if(rose, 12);
     }
 
     fn control_keys(&mut self, value: u16)
         ensures { self.new ≡ with_key_control value self.old }
     {
         let rose = self.keypad.control(value);
-        self.request_key(rose);
+        self.request_if(rose, 12);
     }
 
     /// What a halfword reads.
@@ -406,7 +414,8 @@ impl DeviceSet {
     /// What is stored at a halfword of the picture's registers while the picture is at a place, and of bits that are only
     /// read what they read.
     pub(crate) fn picture_stored(&self, offset: u32, at: &Position) -> u16
-        ensures { result ≡ bit_or (picture_kept offset self.now.picture) (picture_read_at offset at.now self.now.picture) }
+        ensures { result ≡ bit_or (picture_kept offset self.now.picture)
+            (picture_read_at offset at.now self.now.picture) }
     {
         self.picture.kept(offset) | self.picture.read_at(offset, at)
     }
@@ -448,7 +457,12 @@ impl DeviceSet {
 
     /// Writes SOUNDCNT_H, SOUNDCNT_X or SOUNDBIAS: direct sound and the tone channels take their bits of it.
     fn write_sound(&mut self, offset: u32, value: u16)
-        ensures { self.new ≡ record self.old { sound = sound_written offset value self.old.sound; tones = tones_written offset value self.old.tones } }
+        ensures { self.new
+            ≡ record self.old {
+              sound = sound_written offset value self.old.sound;
+              tones =
+                  tones_written offset value self.old.tones;
+            } }
     {
         self.queues.write(offset, value);
         self.tones.write(offset, value);
@@ -549,8 +563,9 @@ impl DeviceSet {
     }
 
     /// Requests the interrupts of timers that overflow.
+    #[tactic(auto, using(crate::proofs::Passing::none_requested))]
     fn request_timers(&mut self, mark: u8)
-        ensures { self.new ≡ record self.old { interrupts = with_timer_requests mark self.old } }
+        ensures { self.new ≡ with_timer_requests mark self.old }
     {
         if mark != 0 {
             self.interrupts.raised |= 8 * u16::from(self.timers.requests(mark));
@@ -605,23 +620,13 @@ impl DeviceSet {
         u32::from(self.picture.kept(0x004))
     }
 
-    /// Requests one of IF's bits, or doesn't.
-    fn request(&mut self, wanted: bool, bit: u32)
-        requires { bit < 14 }
-        ensures { self.new ≡ record self.old { interrupts = record self.old.interrupts { raised = with_bit wanted (2 ^ bit) self.old.interrupts.raised } } }
-    {
-        if wanted {
-            self.interrupts.raise(bit);
-        }
-    }
-
     /// HBlank begins.
     #[tactic(auto, unfolding(crate::specs::Cycles::at_hblank))]
     fn begin_hblank(&mut self)
         ensures { self.new ≡ at_hblank self.old }
     {
         let asked = bit(self.status(), 4);
-        self.request(asked, 1);
+        self.request_if(asked, 1);
         if self.place.at().line < 160 {
             self.channels.trigger(DmaEvent::HBlank);
             self.picture.next_line();
@@ -635,8 +640,8 @@ impl DeviceSet {
     {
         let status = self.status();
         let line = self.place.at().line;
-        self.request(line == bits(status, 8, 8) && bit(status, 5), 2);
-        self.request(line == 160 && bit(status, 3), 0);
+        self.request_if(line == bits(status, 8, 8) && bit(status, 5), 2);
+        self.request_if(line == 160 && bit(status, 3), 0);
         if line == 160 {
             self.channels.trigger(DmaEvent::VBlank);
             self.picture.reload();

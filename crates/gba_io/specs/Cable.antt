@@ -1,7 +1,7 @@
-use Rattle.std.specs.Prelude.{ℕ, ◌≡◌, ◌+◌, ◌*◌, ◌<◌, ◌≤◌, ◌^◌, Bool, false, Option, None, Some, if◌then◌else◌}
+use Rattle.std.specs.Prelude.{ℕ, ◌≡◌, ◌+◌, ◌*◌, ◌<◌, ◌≤◌, ◌^◌, Bool, false, Option, None, Some}
 use Rattle.gba_bus.specs.declared.width.Width.{Width}
 use Rattle.gba_devices.specs.State.{Devices}
-use Rattle.gba_irq.specs.Interrupts.{with_request}
+use Rattle.gba_irq.specs.Interrupts.{with_request_if}
 use Rattle.gba_io.specs.Base.{words_from}
 use Rattle.gba_io.specs.Bus.{core_written}
 use Rattle.gba_io.specs.Core.{Core}
@@ -24,7 +24,7 @@ asks_interrupt (Some transfer) = transfer.interrupt
 
 abbrev pub after_transfer : Option Transfer → Devices → Devices
 after_transfer transfer d = record d {
-  interrupts = if asks_interrupt transfer then with_request 7 d.interrupts else d.interrupts;
+  interrupts = with_request_if (asks_interrupt transfer) 7 d.interrupts;
 }
 
 -- a board after a transfer whose end is at most a clock: the interrupt is requested, and the transfer is counted and kept

@@ -7,9 +7,17 @@ use Rattle.gba_irq.specs.declared.interrupts.Interrupts.{Interrupts}
 unfoldable pub interrupt_rows : List Row
 interrupt_rows = row 0x200 0x3fff 0x3fff ∷ row 0x202 0x3fff 0x3fff ∷ row 0x208 0x0001 0x0001 ∷ []
 
--- an interrupt was requested: its bit of IF is set
+-- these bits of IF are set
+abbrev pub with_requests : ℕ → Interrupts → Interrupts
+with_requests mask i = record i { raised = bit_or i.raised mask }
+
+-- an interrupt is requested: its bit of IF is set
 abbrev pub with_request : ℕ → Interrupts → Interrupts
-with_request place i = record i { raised = bit_or i.raised (2 ^ place) }
+with_request place i = with_requests (2 ^ place) i
+
+-- the same where it is asked for
+abbrev pub with_request_if : Bool → ℕ → Interrupts → Interrupts
+with_request_if asked place i = record i { raised = if asked then (with_request place i).raised else i.raised }
 
 -- these bits of IF are cleared
 abbrev pub without_requests : ℕ → Interrupts → Interrupts

@@ -12,7 +12,8 @@ returns c =
           steps_after c.args.cycles first.result more.result d first.new.self more.new.self first.ensures.devices
           more.ensures.devices;
       lineless =
-          steps_lineless c.args.cycles first.result more.result d first.new.self first.ensures.devices first.ensures.lineless
+          steps_lineless c.args.cycles first.result more.result d first.new.self first.ensures.devices
+          first.ensures.lineless
           more.ensures.lineless;
       idle =
           steps_idle c.args.cycles first.result more.result d first.new.self first.ensures.devices first.ensures.idle
