@@ -23,7 +23,11 @@ pub region-same : (width : Width) (address i : ℕ) → i < size width
     → region_of (aligned width address + i) ≡ region_of address
 unfolding region_of
 region-same width address i h =
-    rw (block-same width address i h, test-same 0x4000 width address i h refl, test-same 0x04000400 width address i h refl) refl
+    rw (
+      block-same width address i h,
+      test-same 0x4000 width address i h refl,
+      test-same 0x04000400 width address i h refl,
+    ) refl
 
 pub work-next : (width : Width) (address i : ℕ) → i < size width
     → work_place (aligned width address + i) ≡ work_place (aligned width address) + i

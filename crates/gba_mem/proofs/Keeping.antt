@@ -11,7 +11,7 @@ use Rattle.gba_bus.specs.declared.region.Region.TheVariants.{Palette, Vram, Oam}
 use Rattle.gba_bus.specs.declared.width.Width.{Width}
 use Rattle.gba_bus.specs.declared.width.Width.TheVariants.{Byte, Half, Word}
 use Rattle.gba_mem.specs.Memories.{Memories}
-use Rattle.gba_mem.specs.Places.{palette_place, sprite_part, vram_place}
+use Rattle.gba_mem.specs.Places.{oam_place, palette_place, sprite_part, vram_place}
 use Rattle.gba_mem.specs.Stores.{store}
 use Rattle.gba_mem.specs.Video.{IsSameVideo, StoresKeepVideo, has_both, has_number, has_oam, has_palette, has_vram, is_video}
 use Rattle.gba_mem.specs.Wide.{put_both, put_number, wide_oam, wide_palette, wide_store, wide_vram}
@@ -35,7 +35,8 @@ written-other before after place byte other e apart =
     ap (λ xs. slice_index xs other) (sym e)
     ∙ get_or-set_other before place other byte 0 (λ same. absurd (omega arith))
 
-both-sound : (bytes : List ℕ) (place low high : ℕ) → slice_index bytes place ≡ low → slice_index bytes (place + 1) ≡ high
+both-sound : (bytes : List ℕ) (place low high : ℕ) → slice_index bytes place ≡ low
+    → slice_index bytes (place + 1) ≡ high
     → slice_set (slice_set bytes place low) (place + 1) high ≡ bytes
 both-sound bytes place low high e f =
     ap (λ xs. slice_set xs (place + 1) high) (same-byte bytes place low e) ∙ same-byte bytes (place + 1) high f
@@ -93,7 +94,8 @@ both-exact bytes place low high within e =
     (eq-eqb (slice_index bytes place) low
     (written-other one bytes (place + 1) high place e (omega arith)
     ∙ get_or-set_same bytes place low 0 (omega arith)))
-    (eq-eqb (slice_index bytes (place + 1)) high (written-here one bytes (place + 1) high e (omega (arith, size, within))))
+    (eq-eqb (slice_index bytes (place + 1)) high
+    (written-here one bytes (place + 1) high e (omega (arith, size, within))))
 
 number-exact : (width : Width) (bytes : List ℕ) (place value : ℕ) → place + size width ≤ length bytes
     → put_number width bytes place value ≡ bytes → has_number width bytes place value ≡ true
@@ -133,14 +135,16 @@ number-exact Word bytes place value within e =
     (eq-eqb (slice_index bytes (place + 3)) d last)
 
 -- the same by the memory
-palette-sound : (palette : List ℕ) (address : ℕ) (width : Width) (value : ℕ) → has_palette palette address width value ≡ true
+palette-sound : (palette : List ℕ) (address : ℕ) (width : Width) (value : ℕ)
+    → has_palette palette address width value ≡ true
     → wide_palette palette address width value ≡ palette
 unfolding has_palette wide_palette
 palette-sound palette address Byte value e = both_sound palette (palette_place (aligned Half address)) value e
 palette-sound palette address Half value e = number-sound Half palette (palette_place (aligned Half address)) value e
 palette-sound palette address Word value e = number-sound Word palette (palette_place (aligned Word address)) value e
 
-byte-sound : (below : Bool) (vram : List ℕ) (place value : ℕ) → (if below then has_both vram place value else true) ≡ true
+byte-sound : (below : Bool) (vram : List ℕ) (place value : ℕ)
+    → (if below then has_both vram place value else true) ≡ true
     → (if below then put_both vram place value else vram) ≡ vram
 byte-sound true vram place value e = both_sound vram place value e
 byte-sound false vram place value e = refl
@@ -157,13 +161,18 @@ oam-sound : (oam : List ℕ) (address : ℕ) (width : Width) (value : ℕ) → h
     → wide_oam oam address width value ≡ oam
 unfolding has_oam wide_oam
 oam-sound oam address Byte value e = refl
-oam-sound oam address Half value e = number-sound Half oam (palette_place (aligned Half address)) value e
-oam-sound oam address Word value e = number-sound Word oam (palette_place (aligned Word address)) value e
+oam-sound oam address Half value e = number-sound Half oam (oam_place (aligned Half address)) value e
+oam-sound oam address Word value e = number-sound Word oam (oam_place (aligned Word address)) value e
 
 within-palette : (width : Width) (address : ℕ) → palette_place (aligned width address) + size width ≤ 0x400
 within-palette Byte address = omega arith
 within-palette Half address = omega arith
 within-palette Word address = omega arith
+
+within-oam : (width : Width) (address : ℕ) → oam_place (aligned width address) + size width ≤ 0x400
+within-oam Byte address = omega arith
+within-oam Half address = omega arith
+within-oam Word address = omega arith
 
 within-vram : (width : Width) (address : ℕ) → vram_place (aligned width address) + size width ≤ 0x18000
 within-vram Byte address = grind (arith, nat_tests)
@@ -209,11 +218,11 @@ oam-exact : (oam : List ℕ) (address : ℕ) (width : Width) (value : ℕ) → l
 unfolding has_oam wide_oam
 oam-exact oam address Byte value whole e = refl
 oam-exact oam address Half value whole e =
-    let within = within-palette Half address in
-    number-exact Half oam (palette_place (aligned Half address)) value (omega (arith, whole, within)) e
+    let within = within-oam Half address in
+    number-exact Half oam (oam_place (aligned Half address)) value (omega (arith, whole, within)) e
 oam-exact oam address Word value whole e =
-    let within = within-palette Word address in
-    number-exact Word oam (palette_place (aligned Word address)) value (omega (arith, whole, within)) e
+    let within = within-oam Word address in
+    number-exact Word oam (oam_place (aligned Word address)) value (omega (arith, whole, within)) e
 
 -- what a write of a region does, told by its memory alone
 pub record TellsOf (has : Bool) (mode : ℕ) (m : Memories) (address : ℕ) (width : Width) (value : ℕ) : Type 0 where

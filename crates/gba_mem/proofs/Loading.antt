@@ -24,7 +24,12 @@ number-as f g Byte a p same = ap (λ n. n % 2 ^ 8) (first-same f g a p (same 0 (
 number-as f g Half a p same =
     rw (first-same f g a p (same 0 (omega arith)), same 1 (omega arith)) refl
 number-as f g Word a p same =
-    rw (first-same f g a p (same 0 (omega arith)), same 1 (omega arith), same 2 (omega arith), same 3 (omega arith)) refl
+    rw (
+      first-same f g a p (same 0 (omega arith)),
+      same 1 (omega arith),
+      same 2 (omega arith),
+      same 3 (omega arith),
+    ) refl
 
 number-zero : (width : Width) (a : ℕ) → number_of (λ _. 0) width a ≡ 0
 number-zero Byte a = refl
@@ -68,20 +73,24 @@ region-load-wide : (region : Region) (in_bios : Bool) (m : Memories) (address : 
 unfolding region_load wide_load
 region-load-wide Bios in_bios m address width = bios-as in_bios m address width
 region-load-wide Work in_bios m address width =
-    number-as (byte_in Work in_bios m) (slice_index m.work) width (aligned width address) (work_place (aligned width address))
+    number-as (byte_in Work in_bios m) (slice_index m.work) width (aligned width address)
+    (work_place (aligned width address))
     (λ i h. ap (slice_index m.work) (work-next width address i h))
 region-load-wide Inner in_bios m address width =
-    number-as (byte_in Inner in_bios m) (slice_index m.inner) width (aligned width address) (inner_place (aligned width address))
+    number-as (byte_in Inner in_bios m) (slice_index m.inner) width (aligned width address)
+    (inner_place (aligned width address))
     (λ i h. ap (slice_index m.inner) (inner-next width address i h))
 region-load-wide Io in_bios m address width = number-zero width (aligned width address)
 region-load-wide Palette in_bios m address width =
     number-as (byte_in Palette in_bios m) (slice_index m.palette) width (aligned width address)
     (palette_place (aligned width address)) (λ i h. ap (slice_index m.palette) (palette-next width address i h))
 region-load-wide Vram in_bios m address width =
-    number-as (byte_in Vram in_bios m) (slice_index m.vram) width (aligned width address) (vram_place (aligned width address))
+    number-as (byte_in Vram in_bios m) (slice_index m.vram) width (aligned width address)
+    (vram_place (aligned width address))
     (λ i h. ap (slice_index m.vram) (vram-next width address i h))
 region-load-wide Oam in_bios m address width =
-    number-as (byte_in Oam in_bios m) (slice_index m.oam) width (aligned width address) (oam_place (aligned width address))
+    number-as (byte_in Oam in_bios m) (slice_index m.oam) width (aligned width address)
+    (oam_place (aligned width address))
     (λ i h. ap (slice_index m.oam) (palette-next width address i h))
 region-load-wide Rom0 in_bios m address width = rom-as m.rom width address
 region-load-wide Rom1 in_bios m address width = rom-as m.rom width address
@@ -102,7 +111,8 @@ size-positive Word = omega arith
 byte-as-first : (in_bios : Bool) (m : Memories) (width : Width) (address : ℕ)
     → byte_at in_bios m (aligned width address) ≡ byte_in (region_of address) in_bios m (aligned width address)
 byte-as-first in_bios m width address =
-    first-same (byte_at in_bios m) (byte_in (region_of address) in_bios m) (aligned width address) (aligned width address)
+    first-same (byte_at in_bios m) (byte_in (region_of address) in_bios m) (aligned width address)
+    (aligned width address)
     (byte-as in_bios m width address 0 (size-positive width))
 
 either-as : (test : Bool) (a b c d : ℕ) → a ≡ b → c ≡ d → (if test then a else c) ≡ (if test then b else d)
@@ -117,7 +127,8 @@ load-region m from address width =
     (number_of (λ _. byte_in (region_of address) false m (aligned width address)) width 0)
     (number_of (byte_at (is_bios (region_of from)) m) width (aligned width address))
     (number_of (byte_in (region_of address) (is_bios (region_of from)) m) width (aligned width address))
-    (number-as (λ _. byte_at false m (aligned width address)) (λ _. byte_in (region_of address) false m (aligned width address))
+    (number-as (λ _. byte_at false m (aligned width address))
+    (λ _. byte_in (region_of address) false m (aligned width address))
     width 0 0 (λ i h. byte-as-first false m width address))
     (number-as (byte_at (is_bios (region_of from)) m) (byte_in (region_of address) (is_bios (region_of from)) m) width
     (aligned width address) (aligned width address) (λ i h. byte-as (is_bios (region_of from)) m width address i h))

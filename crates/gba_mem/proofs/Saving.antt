@@ -21,7 +21,11 @@ written-sound : (backup : BackupMemory) (address byte : ℕ) → IsSoundBackup b
 written-sound (InSram bytes) address byte sound =
     record { sound = length-set bytes (sram_place address) byte ∙ sound; kind = refl }
 written-sound (InFlash flash) address byte sound =
-    record { sound = stays-sound (flash_place address) byte flash sound; kind = keeps-kind (flash_place address) byte flash }
+    record {
+      sound = stays-sound (flash_place address) byte flash sound;
+      kind =
+          keeps-kind (flash_place address) byte flash;
+    }
 
 wide-sound : (region : Region) (mode : ℕ) (m : Memories) (address : ℕ) (width : Width) (value : ℕ)
     → IsSoundBackup m.backup → StaysSound m.backup (wide_store region mode m address width value).backup

@@ -6,8 +6,8 @@ use Rattle.gba_bus.specs.declared.width.Width.TheVariants.{Byte, Half, Word}
 use Rattle.gba_mem.specs.Loads.{byte_at, is_bios, is_sram, load, number_of}
 use Rattle.gba_mem.specs.Memories.{Memories}
 
--- That what is read has zeros above its width, for the laws of the buses above. The cut in `number_of` sees to it, whatever
--- numbers the lists have.
+-- That what is read has zeros above its width, for the laws of the buses above. The cut in `number_of` sees to it,
+-- whatever numbers the lists have.
 
 number-fits : (byte : ℕ → ℕ) (width : Width) (address : ℕ) → FitsWidth width (number_of byte width address)
 number-fits byte Byte address = omega arith

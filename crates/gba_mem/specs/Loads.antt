@@ -41,8 +41,9 @@ byte_in Other in_bios m address = 0
 abbrev pub byte_at : Bool → Memories → ℕ → ℕ
 byte_at in_bios m address = byte_in (region_of address) in_bios m address
 
--- The number of as many bytes as the width has, from an address up, the lowest byte first. A list of the definitions may have
--- any numbers, and each is cut to its width, since every state of a bus has to read what fits. Of bytes the cut takes nothing.
+-- The number of as many bytes as the width has, from an address up, the lowest byte first. A list of the definitions
+-- may have any numbers, and each is cut to its width, since every state of a bus has to read what fits. Of bytes the
+-- cut takes nothing.
 abbrev pub number_of : (ℕ → ℕ) → Width → ℕ → ℕ
 number_of byte Byte address = byte address % 2 ^ 8
 number_of byte Half address = from_le_bytes w16 (byte address ∷ byte (address + 1) ∷ []) % 2 ^ 16

@@ -4,8 +4,8 @@ use Rattle.gba_image.specs.declared.backup.Backup.{Backup}
 use Rattle.gba_mem.specs.Backups.{BackupMemory, backup_at_start}
 
 -- The memories of a console (GBATEK, GBA Memory Map): the BIOS, the cartridge's ROM, the work RAM, the inner RAM, the
--- palette, the VRAM and the OAM, each as its bytes from the front up, and what keeps the cartridge's saves. Where there is
--- no cartridge its ROM has no byte.
+-- palette, the VRAM and the OAM, each as its bytes from the front up, and what keeps the cartridge's saves. Where there
+-- is no cartridge its ROM has no byte.
 pub record Memories : Type 0 where
   pub bios : List ℕ
   pub rom : List ℕ

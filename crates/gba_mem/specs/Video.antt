@@ -7,7 +7,7 @@ use Rattle.gba_bus.specs.declared.region.Region.TheVariants.{Palette, Vram, Oam}
 use Rattle.gba_bus.specs.declared.width.Width.{Width}
 use Rattle.gba_bus.specs.declared.width.Width.TheVariants.{Byte, Half, Word}
 use Rattle.gba_mem.specs.Memories.{Memories}
-use Rattle.gba_mem.specs.Places.{palette_place, sprite_part, vram_place}
+use Rattle.gba_mem.specs.Places.{oam_place, palette_place, sprite_part, vram_place}
 use Rattle.gba_mem.specs.Stores.{store}
 
 -- Video memory: the palette, the VRAM and the OAM, of which the picture is drawn.
@@ -29,8 +29,8 @@ StoresKeepVideo =
     (mode : ℕ) (m : Memories) (address : ℕ) (width : Width) (value : ℕ) → is_video (region_of address) ≡ false
     → IsSameVideo m (store mode m address width value)
 
--- Whether bytes have a number already, as it would be put at a place: its low bytes, as many as the width has, or its low
--- byte twice. Only private functions cite these.
+-- Whether bytes have a number already, as it would be put at a place: its low bytes, as many as the width has, or its
+-- low byte twice. Only private functions cite these.
 abbrev pub has_number : Width → List ℕ → ℕ → ℕ → Bool
 has_number Byte bytes place value = slice_index bytes place == field value 0 8
 has_number Half bytes place value =
@@ -57,4 +57,4 @@ has_vram mode vram address width value = has_number width vram (vram_place (alig
 
 unfoldable pub has_oam : List ℕ → ℕ → Width → ℕ → Bool
 has_oam oam address Byte value = true
-has_oam oam address width value = has_number width oam (palette_place (aligned width address)) value
+has_oam oam address width value = has_number width oam (oam_place (aligned width address)) value

@@ -5,6 +5,7 @@ ghost use Rattle.gba_image.specs.Backups.{backup_length};
 ghost use Rattle.gba_image.specs.Checks.{SaveFits};
 ghost use Rattle.gba_mem.specs.Memories.{saved_bytes};
 
+use crate::places;
 use crate::start::filled;
 use gba_flash::{Flash, FlashMachine};
 use gba_image::{Backup, Save};
@@ -78,13 +79,13 @@ impl Sram {
     fn read(&self, address: u32) -> u8
         ensures { result ≡ slice_index self.now (sram_place address) }
     {
-        self.bytes[(address % 0x8000) as usize]
+        self.bytes[places::sram(address)]
     }
 
     fn write(&mut self, address: u32, value: u8)
         ensures { self.new ≡ slice_set self.old (sram_place address) value }
     {
-        self.bytes[(address % 0x8000) as usize] = value;
+        self.bytes[places::sram(address)] = value;
     }
 }
 

@@ -292,7 +292,7 @@ impl Memory {
                 places::palette(address, width),
             ),
             Region::Vram => number(self.vram.as_slice(), width, places::vram(address, width)),
-            Region::Oam => number(self.oam.as_slice(), width, places::palette(address, width)),
+            Region::Oam => number(self.oam.as_slice(), width, places::oam(address, width)),
             Region::Rom0 | Region::Rom1 | Region::Rom2 => self.read_rom(
                 width,
                 width.align(address),
@@ -343,7 +343,7 @@ impl Memory {
     {
         match width {
             Width::Byte => {}
-            Width::Half | Width::Word => put(oam, width, places::palette(address, width), value),
+            Width::Half | Width::Word => put(oam, width, places::oam(address, width), value),
         }
     }
 

@@ -2,7 +2,7 @@
 
 ghost use Rattle.std.specs.Prelude.{◌≡◌, ◌≤◌, ◌<◌, ◌+◌, ◌-◌, ◌%◌};
 ghost use Rattle.gba_bus.specs.Widths.{aligned, size};
-ghost use Rattle.gba_mem.specs.Places.{inner_place, palette_place, sprite_part, vram_place, work_place};
+ghost use Rattle.gba_mem.specs.Places.{inner_place, oam_place, palette_place, sprite_part, sram_place, vram_place, work_place};
 
 use gba_bus::Width;
 
@@ -28,7 +28,6 @@ pub(crate) fn inner(address: u32, width: Width) -> usize
     (width.align(address) % 0x8000) as usize
 }
 
-/// In the palette, and in the OAM, which is as long.
 pub(crate) fn palette(address: u32, width: Width) -> usize
     ensures place { result ≡ palette_place (aligned width address) }
     ensures within { result + size width ≤ 0x400 }
@@ -46,6 +45,21 @@ pub(crate) fn vram(address: u32, width: Width) -> usize
     } else {
         (place - 0x8000) as usize
     }
+}
+
+pub(crate) fn oam(address: u32, width: Width) -> usize
+    ensures place { result ≡ oam_place (aligned width address) }
+    ensures within { result + size width ≤ 0x400 }
+{
+    (width.align(address) % 0x400) as usize
+}
+
+/// In the SRAM, which is read and written by bytes.
+pub(crate) fn sram(address: u32) -> usize
+    ensures place { result ≡ sram_place address }
+    ensures within { result < 0x8000 }
+{
+    (address % 0x8000) as usize
 }
 
 /// Where the tiles of sprites begin in the VRAM.

@@ -88,7 +88,7 @@ fn keeps_oam(oam: &[u8], address: u32, width: Width, value: u32) -> bool
 {
     match width {
         Width::Byte => true,
-        Width::Half | Width::Word => has(oam, width, places::palette(address, width), value),
+        Width::Half | Width::Word => has(oam, width, places::oam(address, width), value),
     }
 }
 
