@@ -2,14 +2,15 @@
 //! moves and what they must show.
 
 use crate::bench::{Bench, Seat};
+use crate::shown::{NOTHING, Shown, flag, is, number, two};
 use Move::{
-    Advance, Begins, Calm, Clock, Halts, Kept, Keys, Left, Lines, Load, Master, Pair, Pending,
-    Place, Price, Queue, Reference, Sequencer, Store, Timer, Tone, Unit, Wakes, Wave,
+    Advance, Begins, Calm, Clock, Code, Forget, Frames, Halts, Kept, Keys, Left, Lines, Load,
+    Master, Memory, Pair, Pairs, Pending, Place, Price, Put, Queue, Read, Reference, Sequencer,
+    Store, Timer, Tone, Unit, Wakes, Wave,
 };
 use gba_bus::Width;
 use gba_bus::Width::{Byte, Half, Word};
 use gba_io::{MemoryName, Room};
-use gba_ppu_reg::{Position, Reference as Point};
 use std::alloc::Global;
 use std::process::Abort;
 use std::test::Fail;
@@ -73,6 +74,20 @@ enum Move {
     Place(u32, u32),
     /// The inner reference point of a background.
     Reference(u32, u32, u32),
+    /// Write at an address.
+    Put(u32, Width, u32),
+    /// A read at an address gives this, and costs 1.
+    Read(u32, Width, u32),
+    /// A read of an instruction at an address gives this.
+    Code(u32, Width, u32),
+    /// A memory has so many bytes, and this is the first.
+    Memory(MemoryName, usize, Option<u8>),
+    /// So many frames were made, and so many are kept.
+    Frames(u64, u64),
+    /// So many pairs of samples were made, and so many are kept.
+    Pairs(u64, u64),
+    /// Empty the lists.
+    Forget,
 }
 
 /// A board of one console, whose BIOS begins with a word that isn't 0.
@@ -93,89 +108,170 @@ fn advance_lines<R: Abort>(rt: &R, bench: &mut Bench, lines: u32) {
     }
 }
 
-fn load<R: Abort>(rt: &R, bench: &mut Bench, offset: u32, width: Width, value: u32) {
-    let got = bench.load(0x0400_0000 | offset, width);
-    assert_eq!(rt; got, (value, 1), "at {offset}");
+/// A price that may be none: none is 0, and no price is.
+fn price(got: Option<u32>, wanted: Option<u32>) -> Shown {
+    number(u64::from(got.unwrap_or(0)), u64::from(wanted.unwrap_or(0)))
 }
 
-fn queue_is<R: Abort>(rt: &R, bench: &Bench, queue: u32, held: usize, current: u8) {
-    assert_eq!(rt; bench.queue(rt, queue).len(), held);
-    assert_eq!(rt; bench.queue_current(rt, queue), current);
-}
-
-fn pair_is<R: Abort>(rt: &R, bench: &Bench, count: usize, left: i16, right: i16) {
-    let samples = bench.samples();
-    assert_eq!(rt; bench.counts().samples, count as u64);
-    assert_eq!(rt; samples.len() / 4, count);
+/// The last pair of samples.
+fn last_pair(samples: &[u8]) -> Option<(i16, i16)> {
     let [.., a, b, c, d] = samples else {
-        return assert!(rt; false);
+        return None;
     };
-    assert_eq!(rt;
-        (i16::from_le_bytes([*a, *b]), i16::from_le_bytes([*c, *d])),
-        (left, right)
+    Some((i16::from_le_bytes([*a, *b]), i16::from_le_bytes([*c, *d])))
+}
+
+/// So many pairs of samples are made and kept, and this is the last.
+fn pair_is<R: Abort>(rt: &R, bench: &Bench, count: usize, pair: (i16, i16)) -> Shown {
+    let samples = bench.samples();
+    is(
+        rt,
+        "the last pair",
+        (count, last_pair(samples)),
+        (count, Some(pair)),
     );
+    let count = count as u64;
+    Shown {
+        got: [bench.counts().samples, samples.len() as u64 / 4, 0],
+        wanted: [count, count, 0],
+    }
 }
 
-fn timer_is<R: Abort>(rt: &R, bench: &Bench, number: u32, counter: u16, phase: u16) {
+fn queue_is<R: Abort>(rt: &R, bench: &Bench, queue: u32, held: usize, current: u8) -> Shown {
+    let got = bench.queue(rt, queue).len();
+    Shown {
+        got: [got as u64, u64::from(bench.queue_current(rt, queue)), 0],
+        wanted: [held as u64, u64::from(current), 0],
+    }
+}
+
+fn timer_is<R: Abort>(rt: &R, bench: &Bench, number: u32, counter: u16, phase: u16) -> Shown {
     let timer = bench.timer(rt, number);
-    assert_eq!(rt; (timer.counter, timer.phase), (counter, phase));
+    two(
+        (u32::from(timer.counter), u32::from(timer.phase)),
+        (u32::from(counter), u32::from(phase)),
+    )
 }
 
-/// Looks at what must hold of the timers, the sound and the picture.
-fn look_at_devices<R: Abort>(rt: &R, bench: &Bench, one: Move) {
+fn place_is(bench: &Bench, line: u32, dot: u32) -> Shown {
+    let place = bench.place();
+    two((place.line, place.dot), (line, dot))
+}
+
+fn reference_is<R: Abort>(rt: &R, bench: &Bench, background: u32, x: u32, y: u32) -> Shown {
+    let point = bench.reference(rt, background);
+    two((point.x, point.y), (x, y))
+}
+
+/// So many bytes, and the first, or 256 where there is none.
+fn memory_is(bytes: &[u8], length: usize, first: Option<u8>) -> Shown {
+    let got = bytes.first().copied().map_or(256, u64::from);
+    Shown {
+        got: [bytes.len() as u64, got, 0],
+        wanted: [length as u64, first.map_or(256, u64::from), 0],
+    }
+}
+
+/// So many were made, and so many are kept, of which each has so many bytes.
+fn list_is(made: (u64, u64), bytes: &[u8], size: u64, kept: u64) -> Shown {
+    Shown {
+        got: [made.0, bytes.len() as u64, 0],
+        wanted: [made.1, kept.saturating_mul(size), 0],
+    }
+}
+
+/// Looks at the memories and the lists.
+fn look_at_lists<R: Abort>(rt: &R, bench: &Bench, one: Move) -> Shown {
+    let counts = bench.counts();
     match one {
-        Timer(number, counter, phase) => timer_is(rt, bench, number, counter, phase),
-        Queue(queue, held, current) => queue_is(rt, bench, queue, held, current),
-        Tone(channel, place) => assert_eq!(rt; bench.tone(rt, channel).place, place),
-        Sequencer(cycles) => assert_eq!(rt; bench.sequencer(), cycles),
-        Wave(bank, byte) => assert_eq!(rt; bench.wave_bank(rt, bank)[0], byte),
-        Pair(count, left, right) => pair_is(rt, bench, count, left, right),
-        Place(line, dot) => assert_eq!(rt; bench.place(), Position { line, dot }),
-        Reference(background, x, y) => {
-            assert_eq!(rt; bench.reference(rt, background), Point { x, y });
-        }
+        Memory(name, length, first) => memory_is(bench.memory(name), length, first),
+        Frames(made, kept) => list_is((counts.frames, made), bench.frames(), 76_800, kept),
+        Pairs(made, kept) => list_is((counts.samples, made), bench.samples(), 4, kept),
         _ => panic!(rt; "a move that nobody makes"),
     }
 }
 
-/// Looks at what must hold.
-fn look<R: Abort>(rt: &R, bench: &Bench, one: Move) {
+/// Looks at what must hold of the timers, the sound and the picture.
+fn look_at_devices<R: Abort>(rt: &R, bench: &Bench, one: Move) -> Shown {
     match one {
-        Kept(offset, half) => assert_eq!(rt; bench.io_half(offset), half),
-        Halts(halted) => assert_eq!(rt; bench.halted(), halted),
-        Pending(pending) => assert_eq!(rt; bench.pending(), pending),
-        Master(master) => assert_eq!(rt; bench.master(), master),
-        Calm(calm) => assert_eq!(rt; bench.is_calm(), calm),
-        Price(cycles) => assert_eq!(rt; bench.code_price(0x0800_0000, Half), cycles),
-        Clock(clock) => assert_eq!(rt; bench.clock(), clock),
-        Left(channel, units) => assert_eq!(rt; bench.units_left(rt, channel), units),
+        Timer(number, counter, phase) => timer_is(rt, bench, number, counter, phase),
+        Queue(queue, held, current) => queue_is(rt, bench, queue, held, current),
+        Tone(channel, place) => two((bench.tone(rt, channel).place, 0), (place, 0)),
+        Sequencer(cycles) => two((bench.sequencer(), 0), (cycles, 0)),
+        Wave(bank, byte) => number(u64::from(bench.wave_bank(rt, bank)[0]), u64::from(byte)),
+        Pair(count, left, right) => pair_is(rt, bench, count, (left, right)),
+        Place(line, dot) => place_is(bench, line, dot),
+        Reference(background, x, y) => reference_is(rt, bench, background, x, y),
+        other => look_at_lists(rt, bench, other),
+    }
+}
+
+/// Looks at what must hold.
+fn look<R: Abort>(rt: &R, bench: &Bench, one: Move) -> Shown {
+    match one {
+        Kept(offset, half) => number(u64::from(bench.io_half(offset)), u64::from(half)),
+        Halts(halted) => flag(bench.halted(), halted),
+        Pending(pending) => flag(bench.pending(), pending),
+        Master(master) => flag(bench.master(), master),
+        Calm(calm) => flag(bench.is_calm(), calm),
+        Price(cycles) => two((bench.code_price(0x0800_0000, Half), 0), (cycles, 0)),
+        Clock(clock) => number(bench.clock(), clock),
+        Left(channel, units) => two((bench.units_left(rt, channel), 0), (units, 0)),
         other => look_at_devices(rt, bench, other),
     }
 }
 
-fn play<R: Abort>(rt: &R, bench: &mut Bench, one: Move) {
+/// Makes a move that shows nothing.
+fn make<R: Abort>(rt: &R, bench: &mut Bench, one: Move) {
     match one {
-        Store(offset, width, value) => {
-            assert_eq!(rt; bench.store(0x0400_0000 | offset, width, value), 1);
-        }
-        Load(offset, width, value) => load(rt, bench, offset, width, value),
         Advance(cycles) => bench.advance(rt, cycles),
         Lines(lines) => advance_lines(rt, bench, lines),
         Keys(pressed) => bench.set_keys(pressed),
         Begins => bench.begin(),
         Wakes => bench.wake(),
-        Unit(cycles) => assert_eq!(rt; bench.dma_unit(), cycles),
+        Forget => bench.forget(rt),
+        _ => {}
+    }
+}
+
+fn play<R: Abort>(rt: &R, bench: &mut Bench, one: Move) -> Shown {
+    match one {
+        Store(offset, width, value) => {
+            let cycles = bench.store(0x0400_0000 | offset, width, value);
+            two((cycles, 0), (1, 0))
+        }
+        Load(offset, width, value) => two(bench.load(0x0400_0000 | offset, width), (value, 1)),
+        Unit(cycles) => price(bench.dma_unit(), cycles),
+        Put(address, width, value) => {
+            let _ = bench.store(address, width, value);
+            NOTHING
+        }
+        Read(address, width, value) => two(bench.load(address, width), (value, 1)),
+        Code(address, width, value) => two((bench.code(address, width), 0), (value, 0)),
+        Advance(_) | Lines(_) | Keys(_) | Begins | Wakes | Forget => {
+            make(rt, bench, one);
+            NOTHING
+        }
         other => look(rt, bench, other),
     }
 }
 
-fn play_all<R: Abort>(rt: &R, bench: &mut Bench, moves: &[Move]) {
-    for one in moves {
-        play(rt, bench, *one);
+/// Makes moves, and looks at what they show.
+fn play_all<R: Abort>(rt: &R, bench: &mut Bench, list: usize, moves: &[Move]) {
+    for (place, one) in moves.iter().enumerate() {
+        let shown = play(rt, bench, *one);
+        let got = shown.got;
+        let wanted = shown.wanted;
+        is(
+            rt,
+            "list, move, numbers",
+            (list, place, got),
+            (list, place, wanted),
+        );
     }
 }
 
-static MOVES: [&[Move]; 34] = [
+static MOVES: [&[Move]; 37] = [
     // A word over IE and IF: the one stores, ones in the other clear. Timer 0 requests bit 3.
     &[
         Store(0x100, Half, 0xFFFF),
@@ -760,132 +856,65 @@ static MOVES: [&[Move]; 34] = [
         Store(0x0201_0000, Byte, 0x5A),
         Load(0x0201_0000, Half, 0x5A5A),
     ],
+    // A unit that copies the BIOS's first word to the inner RAM reads 0 in the BIOS, which begins with another word.
+    &[
+        Put(0x0300_0000, Word, 0xFFFF_FFFF),
+        Read(0, Word, 0x1234_5678),
+        Store(0x0D4, Word, 0x0000_0000),
+        Store(0x0D8, Word, 0x0300_0000),
+        Store(0x0DC, Word, 0x8400_0001),
+        Unit(Some(4)),
+        Read(0x0300_0000, Word, 0),
+    ],
+    // Memories have their sizes, and what stands in none of them reads 0.
+    &[
+        Put(0x0300_0002, Byte, 0x5A),
+        Put(0x0200_0000, Word, 0x1234_5678),
+        Memory(MemoryName::Io, 0, None),
+        Memory(MemoryName::Wram, 0x4_0000, Some(0x78)),
+        Memory(MemoryName::Iwram, 0x8000, Some(0)),
+        Memory(MemoryName::Palette, 0x400, Some(0)),
+        Memory(MemoryName::Vram, 0x1_8000, Some(0)),
+        Memory(MemoryName::Oam, 0x400, Some(0)),
+        Memory(MemoryName::Backup, 0x8000, Some(0xFF)),
+        Read(0x0300_0000, Word, 0x005A_0000),
+        Read(0x0400_0400, Word, 0),
+        Code(0x0400_0130, Half, 0x03FF),
+    ],
+    // Lists are forgotten, and what was made stays counted.
+    &[
+        Lines(160),
+        Frames(1, 1),
+        Pairs(385, 385),
+        Forget,
+        Frames(1, 0),
+        Pairs(385, 0),
+        Lines(228),
+        Frames(2, 1),
+        Pairs(933, 548),
+        Forget,
+        Frames(2, 0),
+        Pairs(933, 0),
+        Lines(227),
+        Frames(2, 0),
+        Pairs(1479, 546),
+        Forget,
+        Frames(2, 0),
+        Pairs(1479, 0),
+        Lines(1),
+        Frames(3, 1),
+        Pairs(1482, 3),
+        Forget,
+        Frames(3, 0),
+        Pairs(1482, 0),
+    ],
 ];
 
 #[test]
 fn registers_keep_their_table(rt: HostRuntime) -> Result<(), Fail> {
-    for moves in MOVES {
+    for (list, moves) in MOVES.iter().enumerate() {
         let mut bench = bench_of(rt.alloc())?;
-        play_all(&rt, &mut bench, moves);
-    }
-    Ok(())
-}
-
-/// A unit that copies the BIOS's first word to the inner RAM.
-static FROM_BIOS: [Move; 4] = [
-    Store(0x0D4, Word, 0x0000_0000),
-    Store(0x0D8, Word, 0x0300_0000),
-    Store(0x0DC, Word, 0x8400_0001),
-    Unit(Some(4)),
-];
-
-/// A DMA unit reads 0 in the BIOS, which begins with another word.
-#[test]
-fn a_unit_reads_no_bios(rt: HostRuntime) -> Result<(), Fail> {
-    let mut bench = bench_of(rt.alloc())?;
-    bench.store(0x0300_0000, Word, 0xFFFF_FFFF);
-    assert_eq!(rt; bench.load(0, Word), (0x1234_5678, 1));
-    play_all(&rt, &mut bench, &FROM_BIOS);
-    assert_eq!(rt; bench.load(0x0300_0000, Word), (0, 1));
-    Ok(())
-}
-
-/// A memory, its length and its first byte.
-type Memory = (MemoryName, usize, Option<u8>);
-
-static MEMORIES: [Memory; 7] = [
-    (MemoryName::Io, 0, None),
-    (MemoryName::Wram, 0x4_0000, Some(0x78)),
-    (MemoryName::Iwram, 0x8000, Some(0)),
-    (MemoryName::Palette, 0x400, Some(0)),
-    (MemoryName::Vram, 0x1_8000, Some(0)),
-    (MemoryName::Oam, 0x400, Some(0)),
-    (MemoryName::Backup, 0x8000, Some(0xFF)),
-];
-
-fn memory_is<R: Abort>(rt: &R, bench: &Bench, (name, length, first): Memory) {
-    let bytes = bench.memory(name);
-    assert_eq!(rt; bytes.len(), length);
-    assert_eq!(rt; bytes.first().copied(), first);
-}
-
-/// Memories have their sizes, and what stands in none of them reads 0.
-#[test]
-fn memories_have_their_names(rt: HostRuntime) -> Result<(), Fail> {
-    let mut bench = bench_of(rt.alloc())?;
-    bench.store(0x0300_0002, Byte, 0x5A);
-    bench.store(0x0200_0000, Word, 0x1234_5678);
-    for &memory in &MEMORIES {
-        memory_is(&rt, &bench, memory);
-    }
-    assert_eq!(rt; bench.load(0x0300_0000, Word), (0x005A_0000, 1));
-    assert_eq!(rt; bench.load(0x0400_0400, Word), (0, 1));
-    assert_eq!(rt; bench.code(0x0400_0130, Half), 0x03FF);
-    Ok(())
-}
-
-/// So many lines more, and then the frames and the pairs that are counted and those that are kept since the lists were
-/// emptied.
-#[derive(Clone, Copy)]
-struct Stretch {
-    lines: u32,
-    frames: u64,
-    kept_frames: usize,
-    pairs: u64,
-    kept_pairs: usize,
-}
-
-static STRETCHES: [Stretch; 4] = [
-    Stretch {
-        lines: 160,
-        frames: 1,
-        kept_frames: 1,
-        pairs: 385,
-        kept_pairs: 385,
-    },
-    Stretch {
-        lines: 228,
-        frames: 2,
-        kept_frames: 1,
-        pairs: 933,
-        kept_pairs: 548,
-    },
-    Stretch {
-        lines: 227,
-        frames: 2,
-        kept_frames: 0,
-        pairs: 1479,
-        kept_pairs: 546,
-    },
-    Stretch {
-        lines: 1,
-        frames: 3,
-        kept_frames: 1,
-        pairs: 1482,
-        kept_pairs: 3,
-    },
-];
-
-fn lists_are<R: Abort>(rt: &R, bench: &Bench, stretch: Stretch) {
-    let counts = bench.counts();
-    assert_eq!(rt;
-        (counts.frames, counts.samples),
-        (stretch.frames, stretch.pairs)
-    );
-    let bytes = stretch.kept_frames.saturating_mul(76_800);
-    assert_eq!(rt; bench.frames().len(), bytes);
-    let bytes = stretch.kept_pairs.saturating_mul(4);
-    assert_eq!(rt; bench.samples().len(), bytes);
-}
-
-#[test]
-fn lists_are_forgotten(rt: HostRuntime) -> Result<(), Fail> {
-    let mut bench = bench_of(rt.alloc())?;
-    for &stretch in &STRETCHES {
-        advance_lines(&rt, &mut bench, stretch.lines);
-        lists_are(&rt, &bench, stretch);
-        bench.forget(&rt);
-        assert!(rt; bench.frames().is_empty() && bench.samples().is_empty());
+        play_all(&rt, &mut bench, list, moves);
     }
     Ok(())
 }

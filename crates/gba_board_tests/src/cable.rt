@@ -1,8 +1,10 @@
 //! The serial unit on the board: its registers at every width, and what the cable does, by moves and what they must show.
 
 use crate::bench::{Bench, Seat};
+use crate::shown::{NOTHING, Shown, flag, is, number, shows, two};
 use Move::{
-    Advance, Begins, Calm, Count, Ends, Kept, Load, Reply, Silent, Start, Store, Tells, Word,
+    Advance, Begins, Calm, Count, Ends, Forget, Kept, Known, Load, Reply, Silent, Start, Store,
+    Tells, Word,
 };
 use gba_bus::Width;
 use gba_bus::Width::{Byte, Half};
@@ -42,6 +44,10 @@ enum Move {
     Count(u64, usize),
     /// This transfer is kept at a place.
     Word(usize, Transfer),
+    /// A player is known to be in this mode.
+    Known(u32, LinkMode),
+    /// Empty the list.
+    Forget,
 }
 
 /// A board of a player. Room for a million cycles.
@@ -79,31 +85,33 @@ fn incoming(arrival: u64, sender: u32, signal: Signal) -> Incoming {
     }
 }
 
-fn load<R: Abort>(rt: &R, bench: &mut Bench, offset: u32, width: Width, value: u32) {
-    let got = bench.load(0x0400_0000 | offset, width);
-    assert_eq!(rt; got, (value, 1), "at {offset}");
+/// The step tells this signal, or nothing.
+fn tells<R: Abort>(rt: &R, bench: &Bench, signal: Option<Signal>) -> Shown {
+    is(rt, "told", bench.outgoing(), signal);
+    NOTHING
 }
 
-fn store<R: Abort>(rt: &R, bench: &mut Bench, offset: u32, width: Width, value: u32) {
-    assert_eq!(rt; bench.store(0x0400_0000 | offset, width, value), 1);
-}
-
-fn tells<R: Abort>(rt: &R, bench: &Bench, signal: Option<Signal>) {
-    let told = bench.outgoing();
-    assert!(rt; told == signal, "{told:?} told");
-}
-
-fn word_is<R: Abort>(rt: &R, bench: &Bench, place: usize, transfer: Transfer) {
+/// This transfer is kept at a place.
+fn word_is<R: Abort>(rt: &R, bench: &Bench, place: usize, transfer: Transfer) -> Shown {
     let word = bench.words().get(place).copied();
-    assert!(rt; word == Some(transfer), "{word:?} kept");
+    is(rt, "kept", word, Some(transfer));
+    NOTHING
 }
 
-fn counts<R: Abort>(rt: &R, bench: &Bench, count: u64, kept: usize) {
-    assert_eq!(rt; bench.counts().words, count);
-    assert_eq!(rt; bench.words().len(), kept);
+fn mode_is<R: Abort>(rt: &R, bench: &Bench, player: u32, mode: LinkMode) -> Shown {
+    is(rt, "known", bench.known(rt, player), mode);
+    NOTHING
 }
 
-fn hear<R: Abort>(rt: &R, bench: &mut Bench, one: Move) {
+fn counts_are(bench: &Bench, count: u64, kept: usize) -> Shown {
+    Shown {
+        got: [bench.counts().words, bench.words().len() as u64, 0],
+        wanted: [count, kept as u64, 0],
+    }
+}
+
+/// Does what shows nothing.
+fn make<R: Abort>(rt: &R, bench: &mut Bench, one: Move) {
     match one {
         Start(arrival, sender, clock, mode, speed, word) => {
             let signal = start(clock, mode, Some((speed, word)), None);
@@ -113,48 +121,53 @@ fn hear<R: Abort>(rt: &R, bench: &mut Bench, one: Move) {
             let signal = start(clock, mode, None, Some(word));
             bench.take(rt, &incoming(arrival, sender, signal));
         }
-        Ends => bench.end_due(rt),
-        _ => {}
-    }
-}
-
-fn show<R: Abort>(rt: &R, bench: &Bench, one: Move) {
-    match one {
-        Kept(offset, half) => assert_eq!(rt; bench.io_half(offset), half),
-        Calm(calm) => assert_eq!(rt; bench.is_calm(), calm),
-        Tells(clock, mode, begun, reply) => tells(
-            rt,
-            bench,
-            Some(start(clock, mode, begun, reply)),
-        ),
-        Silent => tells(rt, bench, None),
-        Count(count, kept) => counts(rt, bench, count, kept),
-        Word(place, transfer) => word_is(rt, bench, place, transfer),
-        _ => {}
-    }
-}
-
-fn play<R: Abort>(rt: &R, bench: &mut Bench, one: Move) {
-    match one {
-        Store(offset, width, value) => store(rt, bench, offset, width, value),
-        Load(offset, width, value) => load(rt, bench, offset, width, value),
         Advance(cycles) => advance(rt, bench, cycles),
         Begins => bench.begin(),
+        Ends => bench.end_due(rt),
+        Forget => bench.forget(rt),
+        _ => {}
+    }
+}
+
+fn look<R: Abort>(rt: &R, bench: &Bench, one: Move) -> Shown {
+    match one {
+        Kept(offset, half) => number(u64::from(bench.io_half(offset)), u64::from(half)),
+        Calm(calm) => flag(bench.is_calm(), calm),
+        Tells(clock, mode, begun, reply) => {
+            tells(rt, bench, Some(start(clock, mode, begun, reply)))
+        }
+        Silent => tells(rt, bench, None),
+        Count(count, kept) => counts_are(bench, count, kept),
+        Word(place, transfer) => word_is(rt, bench, place, transfer),
+        Known(player, mode) => mode_is(rt, bench, player, mode),
+        _ => NOTHING,
+    }
+}
+
+fn play<R: Abort>(rt: &R, bench: &mut Bench, one: Move) -> Shown {
+    match one {
+        Store(offset, width, value) => {
+            let cycles = bench.store(0x0400_0000 | offset, width, value);
+            two((cycles, 0), (1, 0))
+        }
+        Load(offset, width, value) => two(bench.load(0x0400_0000 | offset, width), (value, 1)),
         other => {
-            hear(rt, bench, other);
-            show(rt, bench, other);
+            make(rt, bench, other);
+            look(rt, bench, other)
         }
     }
 }
 
-fn play_all<R: Abort>(rt: &R, bench: &mut Bench, moves: &[Move]) {
-    for one in moves {
-        play(rt, bench, *one);
+/// Makes moves, and looks at what they show.
+fn play_all<R: Abort>(rt: &R, bench: &mut Bench, case: &str, moves: &[Move]) {
+    for (place, one) in moves.iter().enumerate() {
+        shows(rt, case, place, play(rt, bench, *one));
     }
 }
 
 /// A board of a player, whether transfers are kept, and what is done to it.
 struct Case {
+    name: &'static str,
     seat: Seat,
     words: bool,
     moves: &'static [Move],
@@ -356,6 +369,23 @@ const MODES: [Move; 8] = [
     Calm(false),
 ];
 
+/// The list is emptied, and what ends later is kept in it. All are counted.
+const FORGOTTEN: [Move; 13] = [
+    Store(0x134, Half, 0),
+    Store(0x120, Width::Word, 0x0123_4567),
+    Store(0x128, Half, 0x5081),
+    Advance(2048),
+    Ends,
+    Known(1, Other),
+    Count(1, 1),
+    Forget,
+    Count(1, 0),
+    Store(0x128, Half, 0x5081),
+    Advance(2048),
+    Ends,
+    Count(2, 1),
+];
+
 const FIRST_OF_TWO: Seat = Seat {
     player: 0,
     count: 2,
@@ -374,46 +404,60 @@ const ONLY_ONE: Seat = Seat {
     delay: 512,
 };
 
-static CASES: [Case; 8] = [
+static CASES: [Case; 9] = [
     Case {
+        name: "widths",
         seat: FIRST_OF_TWO,
         words: true,
         moves: &WIDTHS,
     },
     Case {
+        name: "bytes",
         seat: FIRST_OF_TWO,
         words: true,
         moves: &BYTES,
     },
     Case {
+        name: "Multi",
         seat: FIRST_OF_TWO,
         words: true,
         moves: &MULTI,
     },
     Case {
+        name: "late",
         seat: FIRST_OF_TWO,
         words: false,
         moves: &LATE,
     },
     Case {
+        name: "in time",
         seat: FIRST_OF_TWO,
         words: true,
         moves: &IN_TIME,
     },
     Case {
+        name: "answered",
         seat: SECOND_OF_TWO,
         words: true,
         moves: &ANSWERED,
     },
     Case {
+        name: "alone",
         seat: FIRST_OF_TWO,
         words: true,
         moves: &ALONE,
     },
     Case {
+        name: "modes",
         seat: ONLY_ONE,
         words: true,
         moves: &MODES,
+    },
+    Case {
+        name: "forgotten",
+        seat: FIRST_OF_TWO,
+        words: true,
+        moves: &FORGOTTEN,
     },
 ];
 
@@ -421,23 +465,7 @@ static CASES: [Case; 8] = [
 fn boards_do_as_worked_out(rt: HostRuntime) -> Result<(), Fail> {
     for case in &CASES {
         let mut bench = bench_of(rt.alloc(), case.seat, case.words)?;
-        play_all(&rt, &mut bench, case.moves);
+        play_all(&rt, &mut bench, case.name, case.moves);
     }
-    Ok(())
-}
-
-/// The list is emptied, and what ends later is kept in it. All are counted.
-#[test]
-fn words_are_forgotten(rt: HostRuntime) -> Result<(), Fail> {
-    let mut bench = bench_of(rt.alloc(), FIRST_OF_TWO, true)?;
-    play_all(&rt, &mut bench, &ALONE);
-    assert_eq!(rt; bench.known(&rt, 1), Other);
-    counts(&rt, &bench, 1, 1);
-    bench.forget(&rt);
-    counts(&rt, &bench, 1, 0);
-    store(&rt, &mut bench, 0x128, Half, 0x5081);
-    advance(&rt, &mut bench, 2048);
-    bench.end_due(&rt);
-    counts(&rt, &bench, 2, 1);
     Ok(())
 }

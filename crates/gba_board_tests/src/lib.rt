@@ -10,4 +10,6 @@ mod cable;
 #[cfg(test)]
 mod pouring;
 #[cfg(test)]
+mod shown;
+#[cfg(test)]
 mod skipping;

@@ -1,6 +1,7 @@
 //! Boards into which parts are poured.
 
 use crate::bench::{Bench, Seat};
+use crate::shown::is;
 use crate::skipping::{RUNNING, check};
 use gba_bus::Width::{Byte, Half, Word};
 use gba_devices::Devices;
@@ -9,13 +10,6 @@ use gba_mem::MemoryPart;
 use std::alloc::Global;
 use std::process::Abort;
 use std::test::Fail;
-
-/// A board, and devices that have the same writes and the same cycles.
-#[derive(Drop)]
-struct Twins {
-    bench: Bench,
-    devices: Devices,
-}
 
 /// A board of player 0 of two, which keeps all that it makes.
 fn bench_of(alloc: Global) -> Result<Bench, Fail> {
@@ -38,17 +32,12 @@ fn store<R: Abort>(rt: &R, devices: &mut Devices, offset: u32, value: u32) {
     devices.store(offset, Word, value);
 }
 
-/// Twins whose registers run.
-fn running<R: Abort>(rt: &R, alloc: Global) -> Result<Twins, Fail> {
-    let mut twins = Twins {
-        bench: bench_of(alloc)?,
-        devices: Devices::new(),
-    };
+/// Lets the registers of a board and of devices run.
+fn begin<R: Abort>(rt: &R, bench: &mut Bench, devices: &mut Devices) {
     for &(offset, value) in &RUNNING {
-        twins.bench.store(0x0400_0000 | offset, Word, value);
-        store(rt, &mut twins.devices, offset, value);
+        bench.store(0x0400_0000 | offset, Word, value);
+        store(rt, devices, offset, value);
     }
-    Ok(twins)
 }
 
 fn cycle<R: Abort>(rt: &R, devices: &mut Devices) {
@@ -83,14 +72,14 @@ fn step<R: Abort>(rt: &R, bench: &mut Bench, number: u32) {
 }
 
 /// Both go to clock 122,880, in line 99: a transfer has ended, and another one runs.
-fn run<R: Abort>(rt: &R, twins: &mut Twins) {
+fn run<R: Abort>(rt: &R, bench: &mut Bench, devices: &mut Devices) {
     for number in 0..240 {
         if number == 0 || number == 235 {
-            transfer(&mut twins.bench, 0x1234 + number);
+            transfer(bench, 0x1234 + number);
         }
-        twins.devices.begin();
-        step(rt, &mut twins.bench, number);
-        advance(rt, &mut twins.devices);
+        devices.begin();
+        step(rt, bench, number);
+        advance(rt, devices);
     }
 }
 
@@ -104,62 +93,83 @@ static MEMORIES: [(MemoryName, MemoryPart); 6] = [
     (MemoryName::Backup, MemoryPart::Backup),
 ];
 
-/// A board into which all of another one is poured.
-fn poured<R: Abort>(rt: &R, alloc: Global, twins: Twins) -> Result<(Bench, Bench), Fail> {
-    let Twins {
-        bench: one,
-        devices,
-    } = twins;
-    let mut other = bench_of(alloc)?;
+/// Pours a board's memories into another one.
+fn pour_memories<R: Abort>(rt: &R, one: &Bench, other: &mut Bench) {
+    for &(name, part) in &MEMORIES {
+        other.set_bytes(rt, part, one.memory(name));
+    }
+}
+
+/// Pours all of a board, whose devices are these, into another one.
+fn pour_all<R: Abort>(
+    rt: &R,
+    alloc: Global,
+    one: &Bench,
+    devices: Devices,
+    other: &mut Bench,
+) -> Result<(), Fail> {
+    let lines = one.lines(rt, alloc)?;
     let parts = BoardParts {
         devices,
         serial: one.serial(),
         counts: one.counts(),
     };
-    let lines = one.lines(rt, alloc)?;
     other.pour(rt, parts, lines.as_slice());
-    for &(name, part) in &MEMORIES {
-        other.set_bytes(rt, part, one.memory(name));
-    }
-    Ok((one, other))
+    pour_memories(rt, one, other);
+    Ok(())
 }
 
 fn check_halves<R: Abort>(rt: &R, one: &Bench, other: &Bench) {
     for half in 0..0x200 {
-        assert_eq!(rt; one.io_half(2 * half), other.io_half(2 * half));
+        let got = (half, one.io_half(2 * half));
+        is(rt, "a halfword", got, (half, other.io_half(2 * half)));
     }
 }
 
 /// Both go on alike.
 fn go_on<R: Abort>(rt: &R, one: &mut Bench, other: &mut Bench) {
+    check(rt, one, other);
+    check_halves(rt, one, other);
     for number in 240..400 {
         step(rt, one, number);
         step(rt, other, number);
         check(rt, one, other);
     }
     check_halves(rt, one, other);
-    assert!(rt; one.frames() == other.frames());
-    assert!(rt; one.words() == other.words());
+    assert!(rt; one.frames() == other.frames() && one.words() == other.words());
+}
+
+/// How much of frames, samples and transfers was made, and how many bytes of frames and how many transfers are kept.
+fn made(bench: &Bench) -> [u64; 5] {
+    let counts = bench.counts();
+    [
+        counts.frames,
+        counts.samples,
+        counts.words,
+        bench.frames().len() as u64,
+        bench.words().len() as u64,
+    ]
+}
+
+/// Devices that have come with a board to where a transfer runs.
+fn come<R: Abort>(rt: &R, bench: &mut Bench) -> Devices {
+    let mut devices = Devices::new();
+    begin(rt, bench, &mut devices);
+    run(rt, bench, &mut devices);
+    devices
 }
 
 /// A board of another one's parts, lines and memories makes what that one makes: the rest of a frame whose first lines had other
 /// colours, the pairs of samples of sounds that had begun, and the end of a transfer that ran.
 #[test]
 fn a_poured_board_goes_on(rt: HostRuntime) -> Result<(), Fail> {
-    let mut twins = running(&rt, rt.alloc())?;
-    run(&rt, &mut twins);
-    let (mut one, mut other) = poured(&rt, rt.alloc(), twins)?;
+    let mut one = bench_of(rt.alloc())?;
+    let devices = come(&rt, &mut one);
+    let mut other = bench_of(rt.alloc())?;
+    pour_all(&rt, rt.alloc(), &one, devices, &mut other)?;
     one.forget(&rt);
-    check(&rt, &one, &other);
-    check_halves(&rt, &one, &other);
     go_on(&rt, &mut one, &mut other);
-    assert_eq!(rt; (other.frames().len(), other.words().len()), (76_800, 1));
-    let counts = Counts {
-        frames: 1,
-        samples: 400,
-        words: 2,
-    };
-    assert_eq!(rt; other.counts(), counts);
+    is(&rt, "what was made", made(&other), [1, 400, 2, 76_800, 1]);
     Ok(())
 }
 
@@ -182,6 +192,41 @@ static COUNTS: [Counts; 3] = [
     },
 ];
 
+/// Halted devices, with 3 waits for the first access to the ROM and 1 for the next.
+fn halted() -> Devices {
+    let mut devices = Devices::new();
+    devices.store(0x204, Half, 0x4317);
+    devices.store(0x301, Byte, 0);
+    devices.begin();
+    devices
+}
+
+/// Nothing asks for more than an instruction, or something does, and an access to the ROM costs this.
+fn costs<R: Abort>(rt: &R, bench: &Bench, calm: bool, price: u32) {
+    let got = (bench.is_calm(), bench.code_price(0x0800_0000, Half));
+    is(rt, "calm, and the price", got, (calm, price));
+}
+
+/// Counts from these on, with the pair of samples at clock 512.
+fn counts_on<R: Abort>(rt: &R, bench: &mut Bench, counts: Counts) {
+    is(rt, "counts", bench.counts(), counts);
+    bench.advance(rt, 512);
+    let made = bench.counts().samples.checked_sub(counts.samples);
+    is(rt, "one pair", (made, bench.samples().len()), (Some(1), 4));
+}
+
+/// Pours halted devices and these counts.
+fn pour_counts<R: Abort>(rt: &R, bench: &mut Bench, counts: Counts) {
+    costs(rt, bench, true, 5);
+    let parts = BoardParts {
+        devices: halted(),
+        serial: bench.serial(),
+        counts,
+    };
+    bench.pour(rt, parts, &[]);
+    costs(rt, bench, false, 4);
+}
+
 /// The counts go on from any numbers. What asks for more than an instruction, and what an access to the ROM costs, are the poured
 /// devices': halted, and WAITCNT with 3 waits for the first access and 1 for the next.
 #[test]
@@ -189,46 +234,46 @@ fn counts_are_poured(rt: HostRuntime) -> Result<(), Fail> {
     for &counts in &COUNTS {
         let mut bench = bench_of(rt.alloc())?;
         bench.advance(&rt, 511);
-        let mut devices = Devices::new();
-        devices.store(0x204, Half, 0x4317);
-        devices.store(0x301, Byte, 0);
-        devices.begin();
-        let serial = bench.serial();
-        assert_eq!(rt;
-            (bench.is_calm(), bench.code_price(0x0800_0000, Half)),
-            (true, 5)
-        );
-        let parts = BoardParts {
-            devices,
-            serial,
-            counts,
-        };
-        bench.pour(&rt, parts, &[]);
-        assert_eq!(rt;
-            (bench.is_calm(), bench.code_price(0x0800_0000, Half)),
-            (false, 4)
-        );
-        assert_eq!(rt; bench.counts(), counts);
-        bench.advance(&rt, 512);
-        assert_eq!(rt; bench.counts().samples, counts.samples + 1);
-        assert_eq!(rt; bench.samples().len(), 4);
+        pour_counts(&rt, &mut bench, counts);
+        counts_on(&rt, &mut bench, counts);
     }
     Ok(())
+}
+
+/// Puts three bytes at the front of each memory.
+fn put_bytes<R: Abort>(rt: &R, bench: &mut Bench) {
+    for &(name, part) in &MEMORIES {
+        bench.set_bytes(rt, part, &[0x11, 0x22, 0x33]);
+        let third = bench.memory(name).get(2).copied();
+        is(rt, "the third byte", (name, third), (name, Some(0x33)));
+    }
+}
+
+/// Whether all bytes of a memory are 0.
+fn is_clear(bytes: &[u8]) -> bool {
+    bytes.iter().all(|byte| *byte == 0)
+}
+
+/// All bytes of all memories are 0.
+fn are_cleared<R: Abort>(rt: &R, bench: &Bench) {
+    for &(name, _) in &MEMORIES {
+        is(
+            rt,
+            "clear",
+            (name, is_clear(bench.memory(name))),
+            (name, true),
+        );
+    }
 }
 
 /// The memories of a board are replaced and cleared, and its SRAM has no machine.
 #[test]
 fn memories_are_poured(rt: HostRuntime) -> Result<(), Fail> {
     let mut bench = bench_of(rt.alloc())?;
-    for &(name, part) in &MEMORIES {
-        bench.set_bytes(&rt, part, &[0x11, 0x22, 0x33]);
-        assert_eq!(rt; bench.memory(name).get(2).copied(), Some(0x33));
-    }
+    put_bytes(&rt, &mut bench);
     bench.restore_flash();
-    assert_eq!(rt; bench.flash_machine(), None);
+    is(&rt, "a machine", bench.flash_machine(), None);
     bench.clear_memories();
-    for &(name, _) in &MEMORIES {
-        assert!(rt; bench.memory(name).iter().all(|byte| *byte == 0));
-    }
+    are_cleared(&rt, &bench);
     Ok(())
 }

@@ -1,6 +1,7 @@
 //! A board that moves by many cycles at once beside one that moves cycle by cycle.
 
 use crate::bench::{Bench, Seat};
+use crate::shown::is;
 use gba_bus::Width::Word;
 use gba_io::Room;
 use std::alloc::Global;
@@ -53,35 +54,58 @@ fn running(rt: &impl Abort, alloc: Global, samples: bool) -> Result<Bench, Fail>
     let mut bench = bench_of(alloc, samples)?;
     for (offset, value) in &RUNNING {
         let price = bench.store(0x0400_0000 | *offset, Word, *value);
-        assert_eq!(rt; price, 1);
+        is(rt, "a price", price, 1);
     }
     Ok(bench)
 }
 
 fn check_timers<R: Abort>(rt: &R, one: &Bench, other: &Bench) {
     for number in 0..4u32 {
-        assert_eq!(rt; one.timer(rt, number), other.timer(rt, number));
+        let timers = (one.timer(rt, number), other.timer(rt, number));
+        is(rt, "a timer", (number, timers.0), (number, timers.1));
     }
 }
 
 fn check_tones<R: Abort>(rt: &R, one: &Bench, other: &Bench) {
-    assert_eq!(rt; one.sequencer(), other.sequencer());
     for channel in 0..4u32 {
-        assert_eq!(rt; one.tone(rt, channel), other.tone(rt, channel));
+        let tones = (one.tone(rt, channel), other.tone(rt, channel));
+        is(rt, "a tone channel", (channel, tones.0), (channel, tones.1));
     }
+}
+
+fn check_queues<R: Abort>(rt: &R, one: &Bench, other: &Bench) {
+    for queue in 0..2u32 {
+        assert_eq!(rt;
+            one.queue(rt, queue),
+            other.queue(rt, queue),
+            "queue {queue}"
+        );
+    }
+}
+
+/// The clock, the line and the dot, the requests, the cycles since the sound was turned on, and what was made.
+fn numbers(bench: &Bench) -> [u64; 8] {
+    let place = bench.place();
+    let counts = bench.counts();
+    [
+        bench.clock(),
+        u64::from(place.line),
+        u64::from(place.dot),
+        u64::from(bench.io_half(0x202)),
+        u64::from(bench.sequencer()),
+        counts.frames,
+        counts.samples,
+        counts.words,
+    ]
 }
 
 /// Both boards are the same, as far as their clocks, places, timers, queues, tones, requests and samples tell.
 pub(crate) fn check<R: Abort>(rt: &R, one: &Bench, other: &Bench) {
-    assert_eq!(rt; one.clock(), other.clock());
-    assert_eq!(rt; one.place(), other.place());
+    is(rt, "numbers", numbers(one), numbers(other));
     check_timers(rt, one, other);
     check_tones(rt, one, other);
-    assert_eq!(rt; one.queue(rt, 0), other.queue(rt, 0));
-    assert_eq!(rt; one.queue(rt, 1), other.queue(rt, 1));
-    assert_eq!(rt; one.io_half(0x202), other.io_half(0x202));
+    check_queues(rt, one, other);
     assert!(rt; one.samples() == other.samples());
-    assert_eq!(rt; one.counts(), other.counts());
 }
 
 /// So many moves by so many cycles.
@@ -108,7 +132,7 @@ fn skip_and_step<R: Abort>(rt: &R, alloc: Global, samples: bool) -> Result<(), F
             step_both(rt, &mut one, &mut other, *cycles);
         }
     }
-    assert_eq!(rt; one.counts().samples, one.clock() / 512);
+    is(rt, "pairs", one.counts().samples, one.clock() / 512);
     Ok(())
 }
 
@@ -121,30 +145,41 @@ fn boards_skip_as_they_step(rt: HostRuntime) -> Result<(), Fail> {
     Ok(())
 }
 
+/// Moves by so many cycles, and then owes steps of so many, at most so many: how many it owes, and the clock and the pairs then.
+type Owing = (u32, u32, u32, [u64; 3]);
+
 /// With nothing that runs, the steps go to the pair of samples at clock 512, to the limit of the quiet cycles, and to HBlank.
-#[test]
-fn steps_are_owed_up_to_what_happens(rt: HostRuntime) -> Result<(), Fail> {
-    let mut one = bench_of(rt.alloc(), true)?;
-    for steps in [20, 11, 0] {
-        assert_eq!(rt; one.owe_steps(&rt, 16, 20), steps);
-    }
-    assert_eq!(rt; one.clock(), 496);
-    one.advance(&rt, 16);
-    assert_eq!(rt; one.counts().samples, 1);
-    assert_eq!(rt; one.owe_steps(&rt, 1, 511), 493);
-    assert_eq!(rt; one.clock(), 1005);
-    Ok(())
-}
+static HEARD: [Owing; 4] = [
+    (0, 16, 20, [20, 320, 0]),
+    (0, 16, 20, [11, 496, 0]),
+    (0, 16, 20, [0, 496, 0]),
+    (16, 1, 511, [493, 1005, 1]),
+];
 
 /// Where samples aren't kept the steps go on past the pair, and past the 512 cycles of a look, to HBlank: the second twenty are
 /// twelve up to the end of the first look at 512 and eight of the next.
-#[test]
-fn steps_are_owed_past_pairs_that_nobody_hears(rt: HostRuntime) -> Result<(), Fail> {
-    let mut one = bench_of(rt.alloc(), false)?;
-    for (steps, pairs) in [(20, 0), (20, 1), (20, 1), (2, 1), (0, 1)] {
-        assert_eq!(rt; one.owe_steps(&rt, 16, 20), steps);
-        assert_eq!(rt; one.counts().samples, pairs);
+static NOT_HEARD: [Owing; 5] = [
+    (0, 16, 20, [20, 320, 0]),
+    (0, 16, 20, [20, 640, 1]),
+    (0, 16, 20, [20, 960, 1]),
+    (0, 16, 20, [2, 992, 1]),
+    (0, 16, 20, [0, 992, 1]),
+];
+
+fn owes<R: Abort>(rt: &R, bench: &mut Bench, owing: &[Owing]) {
+    for (moved, cycles, most, wanted) in owing {
+        bench.advance(rt, *moved);
+        let steps = bench.owe_steps(rt, *cycles, *most);
+        let got = [u64::from(steps), bench.clock(), bench.counts().samples];
+        is(rt, "steps, clock and pairs", got, *wanted);
     }
-    assert_eq!(rt; one.clock(), 992);
+}
+
+#[test]
+fn steps_are_owed_up_to_what_happens(rt: HostRuntime) -> Result<(), Fail> {
+    for (samples, owing) in [(true, HEARD.as_slice()), (false, NOT_HEARD.as_slice())] {
+        let mut bench = bench_of(rt.alloc(), samples)?;
+        owes(&rt, &mut bench, owing);
+    }
     Ok(())
 }

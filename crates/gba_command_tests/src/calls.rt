@@ -25,6 +25,10 @@ pub(crate) const NOTHING_FAILS: Failing<'static> = Failing {
     appends: &[],
 };
 
+/// The words of a call, and the bytes of the file that it reads.
+#[derive(Clone, Copy)]
+pub(crate) struct Case<'a>(pub(crate) &'a [&'a str], pub(crate) &'a [u8]);
+
 /// What a call left: its status, and the files, of which `-` is standard output.
 #[derive(Drop)]
 pub(crate) struct Answer {
@@ -41,6 +45,23 @@ impl Answer {
     /// Standard output.
     pub(crate) fn report(&self) -> &[u8] {
         self.file("-")
+    }
+
+    /// It has this status and this report.
+    pub(crate) fn is<R: Abort>(&self, rt: &R, case: Case<'_>, status: u8, report: &[u8]) {
+        let Case(words, read) = case;
+        assert_eq!(rt; self.status, status, "of {words:?} over {read:?}");
+        assert_eq!(rt; self.report(), report, "of {words:?} over {read:?}");
+    }
+
+    /// It has left these bytes in a file, or no such file.
+    pub(crate) fn has<R: Abort>(&self, rt: &R, case: Case<'_>, name: &str, bytes: Option<&[u8]>) {
+        let Case(words, read) = case;
+        assert_eq!(rt;
+            self.out.bytes(name),
+            bytes,
+            "of {words:?} over {read:?}, in {name}"
+        );
     }
 }
 

@@ -1,7 +1,7 @@
 //! Runs that are made of a number. The words of the image are those of the ARM Architecture manual's diagrams, and the
 //! numbers of the sequence are reckoned by hand from its rule.
 
-use crate::calls::{Answer, Failing, NOTHING_FAILS, call, call_with};
+use crate::calls::{Answer, Case, Failing, NOTHING_FAILS, call, call_with};
 use std::alloc::Global;
 use std::process::Abort;
 use std::test::Fail;
@@ -45,40 +45,66 @@ fn has_word<R: Abort>(rt: &R, image: &[u8], offset: usize, word: u32) {
     assert!(rt; found.eq(word.to_le_bytes().iter().copied()), "at {offset}");
 }
 
+/// A player's image has its words, its seed, and zeros behind it.
+fn is_image<R: Abort>(rt: &R, image: &[u8], seed: u32) {
+    assert_eq!(rt; image.len(), 16_384);
+    for &(offset, word) in &WORDS {
+        has_word(rt, image, offset, word);
+    }
+    has_word(rt, image, 100, seed);
+    assert!(rt; image.iter().skip(104).all(|byte| *byte == 0));
+}
+
 /// The images and the job, and the words that player 0 sent: the upper halves of the numbers of its sequence.
 #[test]
 fn files_are_made(rt: HostRuntime) -> Result<(), Fail> {
     let answer = call(&rt, rt.alloc(), &["gen", "7", "030000", "g"], &[])?;
     assert_eq!(rt; answer.status, 0);
     for player in 0..4 {
-        let image = answer.file(IMAGES[player]);
-        assert_eq!(rt; image.len(), 16_384);
-        for &(offset, word) in &WORDS {
-            has_word(&rt, image, offset, word);
-        }
-        has_word(&rt, image, 100, SEEDS[player]);
-        assert!(rt; image.iter().skip(104).all(|byte| *byte == 0));
+        is_image(&rt, answer.file(IMAGES[player]), SEEDS[player]);
     }
     assert_eq!(rt; answer.file("g.job"), JOB);
+    let words = answer.file("g.0.words");
     for part in [b" multi 63a7 ".as_slice(), b" multi b70d "] {
-        let words = answer.file("g.0.words");
-        assert!(rt; words.windows(part.len()).any(|place| place == part));
+        assert!(rt;
+            words.windows(part.len()).any(|place| place == part),
+            "{part:?}"
+        );
     }
     Ok(())
+}
+
+/// Two numbers, the cycles, and whether their runs have the same summary.
+static NUMBERS: [(&str, &str, &str, bool); 2] = [
+    ("7", "7", "50000", true),
+    ("7", "8", "30000", false),
+];
+
+/// The summary of the run of a number.
+fn summary<R: Abort + Threads + Sync>(
+    rt: &R,
+    alloc: Global,
+    number: &str,
+    cycles: &str,
+) -> Result<Answer, Fail> {
+    let answer = call(rt, alloc, &["gen", number, cycles, "g"], &[])?;
+    assert_eq!(rt; answer.status, 0, "of {number}");
+    Ok(answer)
 }
 
 /// The same number twice: the same summary. Another one: another summary.
 #[test]
 fn numbers_say_the_run(rt: HostRuntime) -> Result<(), Fail> {
-    let alloc = rt.alloc();
-    let words = ["gen", "7", "50000", "g"];
-    let first = call(&rt, alloc, &words, &[])?;
-    let second = call(&rt, alloc, &words, &[])?;
-    assert_eq!(rt; (first.status, second.status), (0, 0));
-    assert_eq!(rt; first.report(), second.report());
-    let same = call(&rt, alloc, &["gen", "7", "30000", "g"], &[])?;
-    let other = call(&rt, alloc, &["gen", "8", "30000", "g"], &[])?;
-    assert!(rt; same.report() != other.report());
+    for &(first, second, cycles, same) in &NUMBERS {
+        let one = summary(&rt, rt.alloc(), first, cycles)?;
+        let other = summary(&rt, rt.alloc(), second, cycles)?;
+        assert!(rt;
+            (one.report() == other.report()) == same,
+            "of {first}, {:?}, and of {second}, {:?}",
+            one.report(),
+            other.report()
+        );
+    }
     Ok(())
 }
 
@@ -99,22 +125,25 @@ fn run_made<R: Abort + Threads + Sync>(
     call(rt, alloc, &["run", job, "h"], &files)
 }
 
+/// Another call's report and files, but under other names.
+fn is_again<R: Abort>(rt: &R, job: &str, again: &Answer, made: &Answer) {
+    again.is(rt, Case(&["run", job, "h"], b""), 0, made.report());
+    for &(first, second) in &WRITTEN {
+        assert_eq!(rt;
+            again.file(second),
+            made.file(first),
+            "of {job}, in {second}"
+        );
+    }
+}
+
 /// The job that was made and the log of its run, run again over the images.
 #[test]
 fn made_jobs_are_run(rt: HostRuntime) -> Result<(), Fail> {
-    let alloc = rt.alloc();
-    let made = call(&rt, alloc, &["gen", "3", "60000", "g"], &[])?;
+    let made = call(&rt, rt.alloc(), &["gen", "3", "60000", "g"], &[])?;
     for job in ["g.job", "g.log"] {
-        let again = run_made(&rt, alloc, &made, job)?;
-        assert_eq!(rt; again.status, 0, "of {job}");
-        assert_eq!(rt; again.report(), made.report(), "of {job}");
-        for &(first, second) in &WRITTEN {
-            assert_eq!(rt;
-                again.file(second),
-                made.file(first),
-                "of {job}, in {second}"
-            );
-        }
+        let again = run_made(&rt, rt.alloc(), &made, job)?;
+        is_again(&rt, job, &again, &made);
     }
     Ok(())
 }
@@ -142,9 +171,9 @@ fn failures_are_told(rt: HostRuntime) -> Result<(), Fail> {
             appends,
             ..NOTHING_FAILS
         };
-        let answer = call_with(&rt, rt.alloc(), &["gen", "7", "1000", "g"], &[], failing)?;
-        assert_eq!(rt; answer.status, 9);
-        assert_eq!(rt; answer.report(), report);
+        let words = ["gen", "7", "1000", "g"];
+        let answer = call_with(&rt, rt.alloc(), &words, &[], failing)?;
+        answer.is(&rt, Case(&words, b""), 9, report);
     }
     Ok(())
 }

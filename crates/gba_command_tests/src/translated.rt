@@ -1,7 +1,7 @@
 //! Sources that are assembled, and images that are listed. Words and halfwords are those of the ARM Architecture manual's
 //! diagrams.
 
-use crate::calls::{Failing, NOTHING_FAILS, call, call_with};
+use crate::calls::{Case, Failing, NOTHING_FAILS, call, call_with};
 use std::test::Fail;
 
 /// What is read, and what must be written and reported.
@@ -47,10 +47,10 @@ static TRANSLATIONS: [Translation<'static>; 7] = [
 #[test]
 fn files_are_translated(rt: HostRuntime) -> Result<(), Fail> {
     for &(command, read, written, report) in &TRANSLATIONS {
-        let answer = call(&rt, rt.alloc(), &[command, "s", "o"], &[("s", read)])?;
-        assert_eq!(rt; answer.status, 0, "of {command} {read:?}");
-        assert_eq!(rt; answer.file("o"), written, "of {command} {read:?}");
-        assert_eq!(rt; answer.report(), report, "of {command} {read:?}");
+        let words = [command, "s", "o"];
+        let answer = call(&rt, rt.alloc(), &words, &[("s", read)])?;
+        answer.is(&rt, Case(&words, read), 0, report);
+        answer.has(&rt, Case(&words, read), "o", Some(written));
     }
     Ok(())
 }
@@ -67,18 +67,18 @@ static REFUSED: [(&[u8], &[u8]); 5] = [
 #[test]
 fn sources_are_refused(rt: HostRuntime) -> Result<(), Fail> {
     for &(source, report) in &REFUSED {
-        let answer = call(&rt, rt.alloc(), &["asm", "s", "o"], &[("s", source)])?;
-        assert_eq!(rt; answer.status, 8, "of {source:?}");
-        assert_eq!(rt; answer.report(), report, "of {source:?}");
-        assert!(rt; answer.out.bytes("o").is_none(), "of {source:?}");
+        let words = ["asm", "s", "o"];
+        let answer = call(&rt, rt.alloc(), &words, &[("s", source)])?;
+        answer.is(&rt, Case(&words, source), 8, report);
+        answer.has(&rt, Case(&words, source), "o", None);
     }
     Ok(())
 }
 
 /// The file that isn't there, and calls that fail: the status, the report, and what OUT has then.
 static FAILURES: [Failure<'static>; 5] = [
-    ("asm", "t", NOTHING_FAILS, 3, b"absent t\n", b""),
-    ("tdis", "t", NOTHING_FAILS, 3, b"absent t\n", b""),
+    ("asm", "t", NOTHING_FAILS, 3, b"absent t\n", None),
+    ("tdis", "t", NOTHING_FAILS, 3, b"absent t\n", None),
     (
         "dis",
         "s",
@@ -88,7 +88,7 @@ static FAILURES: [Failure<'static>; 5] = [
         },
         4,
         b"store s\n",
-        b"",
+        None,
     ),
     (
         "asm",
@@ -99,7 +99,7 @@ static FAILURES: [Failure<'static>; 5] = [
         },
         9,
         b"sink o\n",
-        b"",
+        None,
     ),
     (
         "asm",
@@ -110,20 +110,27 @@ static FAILURES: [Failure<'static>; 5] = [
         },
         9,
         b"sink o\n",
-        b"\x1e\xff",
+        Some(b"\x1e\xff"),
     ),
 ];
 
-type Failure<'a> = (&'a str, &'a str, Failing<'a>, u8, &'a [u8], &'a [u8]);
+type Failure<'a> = (
+    &'a str,
+    &'a str,
+    Failing<'a>,
+    u8,
+    &'a [u8],
+    Option<&'a [u8]>,
+);
 
 #[test]
 fn failures_are_told(rt: HostRuntime) -> Result<(), Fail> {
     for &(command, name, failing, status, report, written) in &FAILURES {
+        let words = [command, name, "o"];
         let files = [("s", b"bx lr\n".as_slice())];
-        let answer = call_with(&rt, rt.alloc(), &[command, name, "o"], &files, failing)?;
-        assert_eq!(rt; answer.status, status, "of {command}");
-        assert_eq!(rt; answer.report(), report, "of {command}");
-        assert_eq!(rt; answer.file("o"), written, "of {command}");
+        let answer = call_with(&rt, rt.alloc(), &words, &files, failing)?;
+        answer.is(&rt, Case(&words, b"bx lr\n"), status, report);
+        answer.has(&rt, Case(&words, b"bx lr\n"), "o", written);
     }
     Ok(())
 }
@@ -134,11 +141,15 @@ fn long_images_are_refused(rt: HostRuntime) -> Result<(), Fail> {
     let mut image = Vec::new(rt.alloc());
     image.resize(33_554_433, 0)?;
     for command in ["dis", "tdis"] {
-        let files = [("i", image.as_slice())];
-        let answer = call(&rt, rt.alloc(), &[command, "i", "o"], &files)?;
-        assert_eq!(rt; answer.status, 6);
-        assert_eq!(rt; answer.report(), b"image i TooLong\n".as_slice());
-        assert!(rt; answer.out.bytes("o").is_none());
+        let words = [command, "i", "o"];
+        let answer = call(&rt, rt.alloc(), &words, &[("i", image.as_slice())])?;
+        answer.is(
+            &rt,
+            Case(&words, b"33,554,433 zeros"),
+            6,
+            b"image i TooLong\n",
+        );
+        answer.has(&rt, Case(&words, b"33,554,433 zeros"), "o", None);
     }
     Ok(())
 }

@@ -1,7 +1,10 @@
 //! The words of the commands: one too few, one too many, and names and numbers at and past their edges.
 
-use crate::calls::call;
+use crate::calls::{Case, call};
 use std::test::Fail;
+
+/// What every call here may read.
+const SOURCE: &[u8] = b"bx lr\n";
 
 /// 180 bytes, and one more.
 const LONGEST: &str =
@@ -57,10 +60,9 @@ static WRONG: [&[&str]; 40] = [
 #[test]
 fn words_are_refused(rt: HostRuntime) -> Result<(), Fail> {
     for &words in &WRONG {
-        let answer = call(&rt, rt.alloc(), words, &[("s", b"bx lr\n")])?;
-        assert_eq!(rt; answer.status, 2, "of {words:?}");
-        assert_eq!(rt; answer.report(), b"words\n".as_slice(), "of {words:?}");
-        assert_eq!(rt; answer.file("o"), b"".as_slice(), "of {words:?}");
+        let answer = call(&rt, rt.alloc(), words, &[("s", SOURCE)])?;
+        answer.is(&rt, Case(words, SOURCE), 2, b"words\n");
+        answer.has(&rt, Case(words, SOURCE), "o", None);
     }
     Ok(())
 }
@@ -83,9 +85,12 @@ static RIGHT: [(&[&str], &[u8]); 7] = [
 #[test]
 fn words_are_commands(rt: HostRuntime) -> Result<(), Fail> {
     for &(words, report) in &RIGHT {
-        let answer = call(&rt, rt.alloc(), words, &[("s", b"bx lr\n")])?;
-        assert_eq!(rt; answer.status, 0, "of {words:?}");
-        assert!(rt; answer.report().starts_with(report), "of {words:?}");
+        let answer = call(&rt, rt.alloc(), words, &[("s", SOURCE)])?;
+        let front = answer
+            .report()
+            .get(..report.len())
+            .unwrap_or(answer.report());
+        assert_eq!(rt; (answer.status, front), (0, report), "of {words:?}");
     }
     Ok(())
 }

@@ -23,8 +23,8 @@ fn regions_have_both_ends(rt: HostRuntime) {
         (0x0E00_0000, 0x0FFF_FFFF, Region::Sram),
         (0x1000_0000, 0xFFFF_FFFF, Region::Other),
     ] {
-        assert_eq!(rt; region_of(first), region, "at {first}");
-        assert_eq!(rt; region_of(last), region, "at {last}");
+        let regions = (region_of(first), region_of(last));
+        assert_eq!(rt; regions, (region, region), "at {first} and {last}");
     }
 }
 
@@ -38,17 +38,12 @@ fn costs<R: Abort>(
     cycles: u32,
 ) {
     let table = PriceTable::new(waits);
-    assert_eq!(rt;
+    let got = (
         price(region_of(address), width, sequential, waits),
-        cycles,
-        "at {address}"
-    );
-    assert_eq!(rt;
         table.price(address, width, sequential),
-        cycles,
-        "at {address}"
+        table.waits().value,
     );
-    assert_eq!(rt; table.waits().value, waits.value);
+    assert_eq!(rt; got, (cycles, cycles, waits.value), "at {address}");
 }
 
 /// Prices at 8, 16 and 32 bits where the wait control has no part (GBATEK, GBA Memory Map).

@@ -16,7 +16,7 @@ use std::test::Fail;
 
 /// Something done to the memories, or something that must hold of them.
 #[derive(Clone, Copy)]
-enum Move {
+pub(crate) enum Move {
     /// Write a number in a mode of the picture.
     Store(u32, u32, Width, u32),
     /// An address reads so for an instruction in ROM.
@@ -25,28 +25,126 @@ enum Move {
     ReadsFrom(u32, u32, Width, u32),
     /// The instruction there is this.
     Instruction(u32, Width, u32),
+    /// Replace four bytes from a place of a memory on.
+    Replace(MemoryPart, usize, [u8; 4]),
+    /// A memory is lent with this byte at a place.
+    Holds(MemoryPart, usize, u8),
+    /// A memory has so many bytes, and so many of them aren't this.
+    Apart(MemoryPart, usize, u8, usize),
+    /// It saves in this.
+    SavesIn(Backup),
+    /// What a flash remembers.
+    Machine(Option<FlashMachine>),
+    /// Let a flash go on from this.
+    Restore(FlashMachine),
+    /// Make every byte 0.
+    Clear,
 }
 
-use Move::{Instruction, Reads, ReadsFrom, Store};
+use Move::{
+    Apart, Clear, Holds, Instruction, Machine, Reads, ReadsFrom, Replace, Restore, SavesIn, Store,
+};
 
-fn play<R: Abort>(rt: &R, memory: &mut Memory, moves: &[Move]) {
-    for one in moves {
-        match *one {
-            Store(mode, address, width, value) => memory.store(mode, address, width, value),
-            Reads(address, width, value) => {
-                assert_eq!(rt;
-                    memory.load(0x0800_0000, address, width),
-                    value,
-                    "at {address}"
-                );
-            }
-            ReadsFrom(from, address, width, value) => {
-                assert_eq!(rt; memory.load(from, address, width), value, "at {address}");
-            }
-            Instruction(address, width, value) => {
-                assert_eq!(rt; memory.code(address, width), value, "at {address}");
-            }
+fn bytes_of(memory: &Memory, part: MemoryPart) -> &[u8]
+    ensures { length result.now ≡ part_length part memory.now }
+{
+    match part {
+        MemoryPart::Work => memory.work(),
+        MemoryPart::Inner => memory.inner(),
+        MemoryPart::Palette => memory.palette(),
+        MemoryPart::Vram => memory.vram(),
+        MemoryPart::Oam => memory.oam(),
+        MemoryPart::Backup => memory.backup_bytes(),
+    }
+}
+
+/// Replaces bytes that are within a memory.
+fn replace<R: Abort>(rt: &R, memory: &mut Memory, part: MemoryPart, place: usize, bytes: &[u8; 4]) {
+    let length = bytes_of(memory, part).len();
+    assert!(rt; place < length && length - place >= 4);
+    memory.set_bytes(part, place, bytes);
+}
+
+/// Whether there is such a machine of this backup.
+fn is_machine(backup: Backup, machine: FlashMachine) -> bool
+    ensures { IsTrue result → IsSoundMachine backup machine }
+{
+    match (backup, machine.state) {
+        (Backup::Flash128, _) => machine.bank < 2,
+        (_, FlashState::Bank) => false,
+        _ => machine.bank == 0,
+    }
+}
+
+fn restore<R: Abort>(rt: &R, memory: &mut Memory, machine: FlashMachine) {
+    assert!(rt; is_machine(memory.backup(), machine));
+    memory.restore_flash(machine);
+}
+
+/// Does what a move says.
+fn make<R: Abort>(rt: &R, memory: &mut Memory, one: Move) {
+    match one {
+        Store(mode, address, width, value) => memory.store(mode, address, width, value),
+        Replace(part, place, bytes) => replace(rt, memory, part, place, &bytes),
+        Restore(machine) => restore(rt, memory, machine),
+        Clear => memory.clear(),
+        _ => {}
+    }
+}
+
+/// What a move shows, and what it must show.
+type Shown = (u64, u64);
+
+/// Of a move that shows nothing.
+const NOTHING: Shown = (0, 0);
+
+fn number(got: u32, wanted: u32) -> Shown {
+    (u64::from(got), u64::from(wanted))
+}
+
+/// The byte at a place, or 256 where there is none.
+fn byte(bytes: &[u8], place: usize, wanted: u8) -> Shown {
+    let got = bytes.get(place).copied().map_or(256, u64::from);
+    (got, u64::from(wanted))
+}
+
+fn apart<R: Abort>(rt: &R, bytes: &[u8], length: usize, value: u8, wanted: usize) -> Shown {
+    assert_eq!(rt; bytes.len(), length);
+    let count = bytes.iter().filter(|byte| **byte != value).count();
+    (count as u64, wanted as u64)
+}
+
+fn saves_in<R: Abort>(rt: &R, memory: &Memory, backup: Backup) -> Shown {
+    assert_eq!(rt; memory.backup(), backup);
+    (memory.backup_bytes().len() as u64, backup.length() as u64)
+}
+
+fn remembers<R: Abort>(rt: &R, memory: &Memory, machine: Option<FlashMachine>) -> Shown {
+    assert_eq!(rt; memory.flash_machine(), machine);
+    NOTHING
+}
+
+/// Looks at what must hold.
+fn look<R: Abort>(rt: &R, memory: &mut Memory, one: Move) -> Shown {
+    match one {
+        Reads(address, width, value) => number(memory.load(0x0800_0000, address, width), value),
+        ReadsFrom(from, address, width, value) => number(memory.load(from, address, width), value),
+        Instruction(address, width, value) => number(memory.code(address, width), value),
+        Holds(part, place, value) => byte(bytes_of(memory, part), place, value),
+        Apart(part, length, value, count) => {
+            apart(rt, bytes_of(memory, part), length, value, count)
         }
+        SavesIn(backup) => saves_in(rt, memory, backup),
+        Machine(machine) => remembers(rt, memory, machine),
+        _ => NOTHING,
+    }
+}
+
+fn play<R: Abort>(rt: &R, memory: &mut Memory, case: &str, moves: &[Move]) {
+    for (place, one) in moves.iter().enumerate() {
+        make(rt, memory, *one);
+        let (got, wanted) = look(rt, memory, *one);
+        assert_eq!(rt; got, wanted, "{case}, move {place}");
     }
 }
 
@@ -70,18 +168,13 @@ fn memories_of<R: Abort>(
     Ok(Memory::new(alloc, images)?)
 }
 
-/// The same with SRAM.
-pub(crate) fn memories<R: Abort>(
-    rt: &R,
-    alloc: Global,
-    cart: Option<Cartridge>,
-    save: Option<Save>,
-) -> Result<Memory, Fail> {
-    memories_of(rt, alloc, cart, save, Backup::Sram)
+/// The same with SRAM alone.
+pub(crate) fn memories<R: Abort>(rt: &R, alloc: Global) -> Result<Memory, Fail> {
+    memories_of(rt, alloc, None, None, Backup::Sram)
 }
 
 /// Each memory that repeats, at both ends of a period and of its region, at each width.
-static MIRRORS: [Move; 38] = [
+const MIRRORS: [Move; 38] = [
     Store(0, 0x0200_0000, Word, 0x4433_2211),
     Reads(0x0200_0003, Word, 0x4433_2211),
     Reads(0x0204_0001, Half, 0x2211),
@@ -124,7 +217,7 @@ static MIRRORS: [Move; 38] = [
 
 /// A byte written to the palette or to the VRAM below the tiles of sprites goes to both bytes of its halfword. Those
 /// tiles and the OAM drop it. The tiles begin at 10000h in modes 0 to 2, and at 14000h in the others.
-static BYTES: [Move; 24] = [
+const BYTES: [Move; 24] = [
     Store(0, 0x0700_0000, Byte, 0x5A),
     Reads(0x0700_0000, Word, 0),
     Store(0, 0x0600_0001, Byte, 0xFF5A),
@@ -152,7 +245,7 @@ static BYTES: [Move; 24] = [
 ];
 
 /// What drops writes and reads 0, and the BIOS, which reads 0 from outside.
-static DROPS: [Move; 22] = [
+const DROPS: [Move; 22] = [
     ReadsFrom(0x0000_0000, 0x0000_0000, Word, 0x4433_2211),
     ReadsFrom(0x0000_3FFF, 0x0000_0003, Half, 0x4433),
     ReadsFrom(0x0000_0100, 0x0000_3FFF, Byte, 0x55),
@@ -178,7 +271,7 @@ static DROPS: [Move; 22] = [
 ];
 
 /// The SRAM has one byte at a time.
-static SRAM: [Move; 12] = [
+const SRAM: [Move; 12] = [
     Reads(0x0E00_0000, Word, 0xFFFF_FFFF),
     Store(0, 0x0E00_0000, Byte, 0x5A),
     Reads(0x0E00_0000, Word, 0x5A5A_5A5A),
@@ -193,22 +286,8 @@ static SRAM: [Move; 12] = [
     Instruction(0x0E00_0004, Word, 0x7878_7878),
 ];
 
-#[test]
-fn memories_repeat_and_take_each_width(rt: HostRuntime) -> Result<(), Fail> {
-    for moves in [&MIRRORS[..], &BYTES[..], &DROPS[..], &SRAM[..]] {
-        let mut memory = memories(&rt, rt.alloc(), None, None)?;
-        play(&rt, &mut memory, moves);
-    }
-    Ok(())
-}
-
 /// A cartridge of zeros with a header and these bytes.
-fn cartridge<R: Abort>(
-    rt: &R,
-    alloc: Global,
-    length: usize,
-    bytes: &[(usize, u8)],
-) -> Result<Cartridge, Fail> {
+fn cartridge<R: Abort>(rt: &R, alloc: Global, (length, bytes): Image) -> Result<Cartridge, Fail> {
     let mut cart = image(rt, alloc, length, &HEADER)?;
     for (place, byte) in bytes {
         assert!(rt; *place < cart.len());
@@ -217,119 +296,38 @@ fn cartridge<R: Abort>(
     Ok(Cartridge::check(cart)?)
 }
 
-/// A row: how long a cartridge is, its bytes, and what it reads.
-type Row<'a> = (usize, &'a [(usize, u8)], &'a [Move]);
-
-/// ROM in its three views, and past its image, where a halfword reads its own number.
-#[test]
-fn rom_reads_past_its_image(rt: HostRuntime) -> Result<(), Fail> {
-    static ROWS: [Row; 4] = [
-        (
-            192,
-            &[(0, 0x11), (3, 0x44), (0xBF, 0x77)],
-            &[
-                Reads(0x0800_0000, Word, 0x4400_0011),
-                Reads(0x0A00_0001, Half, 0x0011),
-                Reads(0x0C00_0003, Byte, 0x44),
-                Instruction(0x0C00_0000, Word, 0x4400_0011),
-                Reads(0x0800_00BC, Word, 0x7700_5100),
-                Reads(0x0800_00C0, Word, 0x0061_0060),
-                Reads(0x0800_0200, Half, 0x0100),
-                Instruction(0x0800_0200, Half, 0x0100),
-                Reads(0x0A00_0201, Byte, 0x01),
-                Reads(0x0DFF_FFFC, Word, 0xFFFF_FFFE),
-                Reads(0x0802_0002, Half, 0x0001),
-            ],
-        ),
-        (
-            193,
-            &[(0xC0, 0xAB)],
-            &[
-                Reads(0x0800_00C0, Half, 0x00AB),
-                Reads(0x0800_00C1, Byte, 0x00),
-                Instruction(0x0A00_00C0, Word, 0x0061_00AB),
-            ],
-        ),
-        (
-            33_554_431,
-            &[(33_554_430, 0xAB)],
-            &[
-                Reads(0x09FF_FFFE, Half, 0xFFAB),
-                Instruction(0x0BFF_FFFC, Word, 0xFFAB_0000),
-                Reads(0x0DFF_FFFF, Byte, 0xFF),
-                Reads(0x0A00_00B2, Byte, 0x96),
-            ],
-        ),
-        (
-            33_554_432,
-            &[(33_554_431, 0x12)],
-            &[
-                Reads(0x09FF_FFFE, Half, 0x1200),
-                Instruction(0x0BFF_FFFC, Word, 0x1200_0000),
-                Reads(0x0DFF_FFFF, Byte, 0x12),
-            ],
-        ),
-    ];
-    for &(length, bytes, moves) in &ROWS {
-        let cart = cartridge(&rt, rt.alloc(), length, bytes)?;
-        let mut memory = memories(&rt, rt.alloc(), Some(cart), None)?;
-        play(&rt, &mut memory, moves);
-    }
-    Ok(())
-}
-
-/// The bytes of a RAM all have this value.
-fn all_are<R: Abort>(rt: &R, ram: &[u8], value: u8) {
-    for byte in ram {
-        assert_eq!(rt; *byte, value);
-    }
-}
-
-/// RAM starts as 0, and the SRAM as FFh.
-#[test]
-fn memories_start_as_they_should(rt: HostRuntime) -> Result<(), Fail> {
-    let memory = memories(&rt, rt.alloc(), None, None)?;
-    all_are(&rt, memory.work(), 0);
-    all_are(&rt, memory.inner(), 0);
-    all_are(&rt, memory.palette(), 0);
-    all_are(&rt, memory.vram(), 0);
-    all_are(&rt, memory.oam(), 0);
-    all_are(&rt, memory.backup_bytes(), 0xFF);
-    Ok(())
-}
+/// A RAM starts as 0, and the SRAM as FFh.
+const STARTS: [Move; 6] = [
+    Apart(MemoryPart::Work, 0x4_0000, 0, 0),
+    Apart(MemoryPart::Inner, 0x8000, 0, 0),
+    Apart(MemoryPart::Palette, 0x400, 0, 0),
+    Apart(MemoryPart::Vram, 0x1_8000, 0, 0),
+    Apart(MemoryPart::Oam, 0x400, 0, 0),
+    Apart(MemoryPart::Backup, 0x8000, 0xFF, 0),
+];
 
 /// Each memory is lent with what was stored in it, and the SRAM starts as the save.
-#[test]
-fn memories_are_lent(rt: HostRuntime) -> Result<(), Fail> {
-    let bytes = [(5, 0x5A), (0x7FFF, 0x6B)];
-    let save = Save::check(image(&rt, rt.alloc(), 32_768, &bytes)?, Backup::Sram)?;
-    let mut memory = memories(&rt, rt.alloc(), None, Some(save))?;
-    play(&rt, &mut memory, &LENT);
-    assert_eq!(rt; memory.work().get(3).copied(), Some(0x01));
-    assert_eq!(rt; memory.inner().last().copied(), Some(0x02));
-    assert_eq!(rt; memory.palette().get(2).copied(), Some(0x03));
-    assert_eq!(rt; memory.vram().last().copied(), Some(0x04));
-    assert_eq!(rt; memory.oam().get(1).copied(), Some(0x05));
-    assert_eq!(rt; memory.backup_bytes().get(6).copied(), Some(0x06));
-    assert_eq!(rt; memory.backup_bytes().get(5).copied(), Some(0x5A));
-    assert_eq!(rt; memory.backup_bytes().last().copied(), Some(0x6B));
-    Ok(())
-}
-
-/// One store to each memory that can be written.
-static LENT: [Move; 6] = [
+const LENT: [Move; 14] = [
     Store(0, 0x0200_0003, Byte, 0x01),
     Store(0, 0x03FF_FFFC, Word, 0x0200_0000),
     Store(0, 0x0500_0003, Byte, 0x03),
     Store(0, 0x0601_FFFE, Half, 0x0400),
     Store(0, 0x0700_0000, Half, 0x0500),
     Store(0, 0x0E00_0006, Byte, 0x06),
+    Holds(MemoryPart::Work, 3, 0x01),
+    Holds(MemoryPart::Inner, 0x7FFF, 0x02),
+    Holds(MemoryPart::Palette, 2, 0x03),
+    Holds(MemoryPart::Vram, 0x1_7FFF, 0x04),
+    Holds(MemoryPart::Oam, 1, 0x05),
+    Holds(MemoryPart::Backup, 6, 0x06),
+    Holds(MemoryPart::Backup, 5, 0x5A),
+    Holds(MemoryPart::Backup, 0x7FFF, 0x6B),
 ];
 
 /// A flash has one byte at a time, as SRAM has, and a store of any width is one write to it, of its low byte at its aligned
 /// address. This one of 65,536 bytes says what it is, to loads and to code, at all repeats, until F0h is written; programs a
 /// byte, which keeps its zeros; and chooses no bank.
-static FLASH: [Move; 38] = [
+const FLASH: [Move; 41] = [
     Reads(0x0E00_0000, Word, 0xFFFF_FFFF),
     Store(0, 0x0E00_5555, Byte, 0xAA),
     Store(0, 0x0E00_2AAA, Byte, 0x55),
@@ -368,10 +366,21 @@ static FLASH: [Move; 38] = [
     Store(0, 0x0E00_0004, Byte, 0x0F),
     Reads(0x0E00_0004, Byte, 0x08),
     Reads(0x0E00_0000, Byte, 0xFF),
+    SavesIn(Backup::Flash64),
+    Apart(MemoryPart::Backup, 65_536, 0xFF, 1),
+    Holds(MemoryPart::Backup, 4, 0x08),
 ];
 
+/// The next byte is programmed, in bank 1.
+const PROGRAMS: FlashMachine = FlashMachine {
+    state: FlashState::Program,
+    armed: false,
+    identify: false,
+    bank: 1,
+};
+
 /// The larger flash has another number, and a second bank: a byte that is programmed there isn't the first one's.
-static LARGE_FLASH: [Move; 18] = [
+const LARGE_FLASH: [Move; 22] = [
     Store(0, 0x0E00_5555, Byte, 0xAA),
     Store(0, 0x0E00_2AAA, Byte, 0x55),
     Store(0, 0x0E00_5555, Byte, 0x90),
@@ -388,110 +397,293 @@ static LARGE_FLASH: [Move; 18] = [
     Store(0, 0x0E00_5555, Byte, 0xAA),
     Store(0, 0x0E00_2AAA, Byte, 0x55),
     Store(0, 0x0E00_5555, Byte, 0xA0),
+    Machine(Some(PROGRAMS)),
     Store(0, 0x0E00_0003, Byte, 0x5A),
     Reads(0x0E00_0003, Byte, 0x5A),
+    SavesIn(Backup::Flash128),
+    Apart(MemoryPart::Backup, 131_072, 0xFF, 1),
+    Holds(MemoryPart::Backup, 0x1_0003, 0x5A),
 ];
 
-/// What is done to a flash, how many of its bytes aren't FFh in the end, and the place and the value of one of these.
-type Done<'a> = (Backup, &'a [Move], (usize, usize, u8));
+/// A flash goes on from where another one has come: there the next byte is programmed, in bank 1.
+const GOES_ON: [Move; 4] = [
+    Restore(PROGRAMS),
+    Machine(Some(PROGRAMS)),
+    Store(0, 0x0E00_0003, Byte, 0x5A),
+    Holds(MemoryPart::Backup, 0x1_0003, 0x5A),
+];
 
-#[test]
-fn flashes_take_their_commands(rt: HostRuntime) -> Result<(), Fail> {
-    let rows: [Done; 2] = [
-        (Backup::Flash64, &FLASH, (1, 4, 0x08)),
-        (Backup::Flash128, &LARGE_FLASH, (1, 0x1_0003, 0x5A)),
-    ];
-    for (backup, moves, (many, place, value)) in rows {
-        let mut memory = memories_of(&rt, rt.alloc(), None, None, backup)?;
-        assert_eq!(rt; memory.backup(), backup);
-        play(&rt, &mut memory, moves);
-        let bytes = memory.backup_bytes();
-        assert_eq!(rt; bytes.len(), backup.length());
-        let programmed = bytes.iter().filter(|byte| **byte != 0xFF).count();
-        assert_eq!(rt; programmed, many);
-        assert_eq!(rt; bytes.get(place).copied(), Some(value));
-    }
-    Ok(())
-}
-
-/// Whether there is such a machine of this backup.
-fn is_machine(backup: Backup, machine: FlashMachine) -> bool
-    ensures { IsTrue result → IsSoundMachine backup machine }
-{
-    match (backup, machine.state) {
-        (Backup::Flash128, _) => machine.bank < 2,
-        (_, FlashState::Bank) => false,
-        _ => machine.bank == 0,
-    }
-}
-
-/// A flash goes on from where another one has come: there the next byte is programmed, in bank 1. SRAM has no machine, and
-/// takes none.
-#[test]
-fn flashes_go_on_from_a_machine(rt: HostRuntime) -> Result<(), Fail> {
-    let mut first = memories_of(&rt, rt.alloc(), None, None, Backup::Flash128)?;
-    play(&rt, &mut first, &LARGE_FLASH[..16]);
-    let machine = first.flash_machine().ok_or("no flash")?;
-    let programs = FlashMachine {
-        state: FlashState::Program,
-        armed: false,
-        identify: false,
-        bank: 1,
-    };
-    assert_eq!(rt; machine, programs);
-    let mut next = memories_of(&rt, rt.alloc(), None, None, Backup::Flash128)?;
-    assert!(rt; is_machine(next.backup(), machine));
-    next.restore_flash(machine);
-    assert_eq!(rt; next.flash_machine(), Some(programs));
-    play(&rt, &mut next, &[Store(0, 0x0E00_0003, Byte, 0x5A)]);
-    assert_eq!(rt; next.backup_bytes().get(0x1_0003).copied(), Some(0x5A));
-    let mut sram = memories(&rt, rt.alloc(), None, None)?;
-    assert_eq!(rt; sram.flash_machine(), None);
-    let at_first = FlashMachine {
+/// SRAM has no machine, and takes none.
+const TAKES_NONE: [Move; 3] = [
+    Machine(None),
+    Restore(FlashMachine {
         state: FlashState::Ready,
         bank: 0,
-        ..programs
-    };
-    assert!(rt; is_machine(sram.backup(), at_first));
-    sram.restore_flash(at_first);
-    assert_eq!(rt; sram.flash_machine(), None);
-    Ok(())
-}
+        ..PROGRAMS
+    }),
+    Machine(None),
+];
 
 /// A flash starts as its save, which code and loads read.
+const SAVED: [Move; 4] = [
+    Reads(0x0E00_0005, Byte, 0x5A),
+    Reads(0x0E00_0006, Byte, 0),
+    Reads(0x0E00_FFFF, Byte, 0),
+    Holds(MemoryPart::Backup, 0x1_FFFF, 0x6B),
+];
+
+/// What replaces bytes.
+const BYTES_1: [u8; 4] = [0x11, 0x22, 0x33, 0x44];
+
+const BYTES_5: [u8; 4] = [0x55, 0x66, 0x77, 0x88];
+
+/// Loads see them, also where a program's write of a byte would be dropped or doubled.
+const REPLACED_READ: [Move; 7] = [
+    Replace(MemoryPart::Work, 0x3_FFFC, BYTES_1),
+    Replace(MemoryPart::Oam, 4, BYTES_1),
+    Replace(MemoryPart::Palette, 1, BYTES_1),
+    Reads(0x0203_FFFC, Word, 0x4433_2211),
+    Reads(0x0700_0004, Half, 0x2211),
+    Reads(0x0500_0000, Word, 0x3322_1100),
+    Reads(0x0500_0004, Byte, 0x44),
+];
+
+/// AAh was written at 5555h.
+const BEGUN: FlashMachine = FlashMachine {
+    state: FlashState::First,
+    armed: false,
+    identify: false,
+    bank: 0,
+};
+
+/// The bytes of a flash are replaced in both banks, and no command is begun or ended by them.
+const NO_COMMAND: [Move; 7] = [
+    Store(0, 0x0E00_5555, Byte, 0xAA),
+    Machine(Some(BEGUN)),
+    Replace(MemoryPart::Backup, 0x2AAA, BYTES_5),
+    Replace(MemoryPart::Backup, 0x1_FFFC, BYTES_5),
+    Machine(Some(BEGUN)),
+    Holds(MemoryPart::Backup, 0x1_FFFF, 0x88),
+    Reads(0x0E00_2AAA, Byte, 0x55),
+];
+
+/// Every byte of the memories that are written becomes 0; the BIOS and what a flash remembers stay.
+const CLEARED: [Move; 22] = [
+    Store(0, 0x0E00_5555, Byte, 0xAA),
+    Replace(MemoryPart::Work, 0, BYTES_1),
+    Replace(MemoryPart::Work, 0x3_FFFC, BYTES_5),
+    Replace(MemoryPart::Inner, 0, BYTES_1),
+    Replace(MemoryPart::Inner, 0x7FFC, BYTES_5),
+    Replace(MemoryPart::Palette, 0, BYTES_1),
+    Replace(MemoryPart::Palette, 0x3FC, BYTES_5),
+    Replace(MemoryPart::Vram, 0, BYTES_1),
+    Replace(MemoryPart::Vram, 0x1_7FFC, BYTES_5),
+    Replace(MemoryPart::Oam, 0, BYTES_1),
+    Replace(MemoryPart::Oam, 0x3FC, BYTES_5),
+    Replace(MemoryPart::Backup, 0, BYTES_1),
+    Replace(MemoryPart::Backup, 0x7FFC, BYTES_5),
+    Replace(MemoryPart::Backup, 0x1234, BYTES_1),
+    Replace(MemoryPart::Backup, 0x5678, BYTES_5),
+    Clear,
+    Apart(MemoryPart::Work, 0x4_0000, 0, 0),
+    Apart(MemoryPart::Inner, 0x8000, 0, 0),
+    Apart(MemoryPart::Palette, 0x400, 0, 0),
+    Apart(MemoryPart::Vram, 0x1_8000, 0, 0),
+    Apart(MemoryPart::Oam, 0x400, 0, 0),
+    ReadsFrom(0, 0, Word, 0x4433_2211),
+];
+
+/// How long a file is, and its bytes that aren't 0.
+type Image<'a> = (usize, &'a [(usize, u8)]);
+
+/// What a console saves in, its cartridge and save where it has them, and what is done to its memories.
+#[derive(Clone, Copy)]
+struct Case {
+    name: &'static str,
+    backup: Backup,
+    cart: Option<Image<'static>>,
+    save: Option<Image<'static>>,
+    moves: &'static [Move],
+    last: &'static [Move],
+}
+
+/// With SRAM, a header alone and no save.
+const PLAIN: Case = Case {
+    name: "",
+    backup: Backup::Sram,
+    cart: None,
+    save: None,
+    moves: &[],
+    last: &[],
+};
+
+static CASES: [Case; 19] = [
+    Case {
+        name: "mirrors",
+        moves: &MIRRORS,
+        ..PLAIN
+    },
+    Case {
+        name: "bytes",
+        moves: &BYTES,
+        ..PLAIN
+    },
+    Case {
+        name: "drops",
+        moves: &DROPS,
+        ..PLAIN
+    },
+    Case {
+        name: "SRAM",
+        moves: &SRAM,
+        ..PLAIN
+    },
+    // ROM in its three views, and past its image, where a halfword reads its own number.
+    Case {
+        name: "ROM of 192 bytes",
+        cart: Some((192, &[(0, 0x11), (3, 0x44), (0xBF, 0x77)])),
+        moves: &[
+            Reads(0x0800_0000, Word, 0x4400_0011),
+            Reads(0x0A00_0001, Half, 0x0011),
+            Reads(0x0C00_0003, Byte, 0x44),
+            Instruction(0x0C00_0000, Word, 0x4400_0011),
+            Reads(0x0800_00BC, Word, 0x7700_5100),
+            Reads(0x0800_00C0, Word, 0x0061_0060),
+            Reads(0x0800_0200, Half, 0x0100),
+            Instruction(0x0800_0200, Half, 0x0100),
+            Reads(0x0A00_0201, Byte, 0x01),
+            Reads(0x0DFF_FFFC, Word, 0xFFFF_FFFE),
+            Reads(0x0802_0002, Half, 0x0001),
+        ],
+        ..PLAIN
+    },
+    Case {
+        name: "ROM of 193 bytes",
+        cart: Some((193, &[(0xC0, 0xAB)])),
+        moves: &[
+            Reads(0x0800_00C0, Half, 0x00AB),
+            Reads(0x0800_00C1, Byte, 0x00),
+            Instruction(0x0A00_00C0, Word, 0x0061_00AB),
+        ],
+        ..PLAIN
+    },
+    Case {
+        name: "ROM of 33,554,431 bytes",
+        cart: Some((33_554_431, &[(33_554_430, 0xAB)])),
+        moves: &[
+            Reads(0x09FF_FFFE, Half, 0xFFAB),
+            Instruction(0x0BFF_FFFC, Word, 0xFFAB_0000),
+            Reads(0x0DFF_FFFF, Byte, 0xFF),
+            Reads(0x0A00_00B2, Byte, 0x96),
+        ],
+        ..PLAIN
+    },
+    Case {
+        name: "ROM of 33,554,432 bytes",
+        cart: Some((33_554_432, &[(33_554_431, 0x12)])),
+        moves: &[
+            Reads(0x09FF_FFFE, Half, 0x1200),
+            Instruction(0x0BFF_FFFC, Word, 0x1200_0000),
+            Reads(0x0DFF_FFFF, Byte, 0x12),
+        ],
+        ..PLAIN
+    },
+    Case {
+        name: "starts",
+        moves: &STARTS,
+        ..PLAIN
+    },
+    Case {
+        name: "lent",
+        save: Some((32_768, &[(5, 0x5A), (0x7FFF, 0x6B)])),
+        moves: &LENT,
+        ..PLAIN
+    },
+    Case {
+        name: "flash",
+        backup: Backup::Flash64,
+        moves: &FLASH,
+        ..PLAIN
+    },
+    Case {
+        name: "large flash",
+        backup: Backup::Flash128,
+        moves: &LARGE_FLASH,
+        ..PLAIN
+    },
+    Case {
+        name: "goes on",
+        backup: Backup::Flash128,
+        moves: &GOES_ON,
+        ..PLAIN
+    },
+    Case {
+        name: "takes none",
+        moves: &TAKES_NONE,
+        ..PLAIN
+    },
+    Case {
+        name: "saved",
+        backup: Backup::Flash128,
+        save: Some((131_072, &[(5, 0x5A), (0x1_FFFF, 0x6B)])),
+        moves: &SAVED,
+        ..PLAIN
+    },
+    Case {
+        name: "replaced bytes are read",
+        moves: &REPLACED_READ,
+        ..PLAIN
+    },
+    Case {
+        name: "no command",
+        backup: Backup::Flash128,
+        moves: &NO_COMMAND,
+        ..PLAIN
+    },
+    Case {
+        name: "cleared with SRAM",
+        moves: &CLEARED,
+        last: &[Apart(MemoryPart::Backup, 0x8000, 0, 0), Machine(None)],
+        ..PLAIN
+    },
+    Case {
+        name: "cleared with a flash",
+        backup: Backup::Flash128,
+        moves: &CLEARED,
+        last: &[
+            Apart(MemoryPart::Backup, 0x2_0000, 0, 0),
+            Machine(Some(BEGUN)),
+        ],
+        ..PLAIN
+    },
+];
+
+/// The save of a case.
+fn save_of<R: Abort>(rt: &R, alloc: Global, case: &Case) -> Result<Option<Save>, Fail> {
+    let Some((length, bytes)) = case.save else {
+        return Ok(None);
+    };
+    Ok(Some(Save::check(image(rt, alloc, length, bytes)?, case.backup)?))
+}
+
+/// The cartridge of a case.
+fn cartridge_of<R: Abort>(rt: &R, alloc: Global, case: &Case) -> Result<Option<Cartridge>, Fail> {
+    let Some(cart) = case.cart else {
+        return Ok(None);
+    };
+    Ok(Some(cartridge(rt, alloc, cart)?))
+}
+
 #[test]
-fn flashes_start_as_their_save(rt: HostRuntime) -> Result<(), Fail> {
-    let bytes = [(5, 0x5A), (0x1_FFFF, 0x6B)];
-    let save = Save::check(image(&rt, rt.alloc(), 131_072, &bytes)?, Backup::Flash128)?;
-    let mut memory = memories_of(&rt, rt.alloc(), None, Some(save), Backup::Flash128)?;
-    let reads = [
-        Reads(0x0E00_0005, Byte, 0x5A),
-        Reads(0x0E00_0006, Byte, 0),
-        Reads(0x0E00_FFFF, Byte, 0),
-    ];
-    play(&rt, &mut memory, &reads);
-    assert_eq!(rt; memory.backup_bytes().last().copied(), Some(0x6B));
-    Ok(())
-}
-
-fn bytes_of(memory: &Memory, part: MemoryPart) -> &[u8]
-    ensures { length result.now ≡ part_length part memory.now }
-{
-    match part {
-        MemoryPart::Work => memory.work(),
-        MemoryPart::Inner => memory.inner(),
-        MemoryPart::Palette => memory.palette(),
-        MemoryPart::Vram => memory.vram(),
-        MemoryPart::Oam => memory.oam(),
-        MemoryPart::Backup => memory.backup_bytes(),
+fn memories_do_as_worked_out(rt: HostRuntime) -> Result<(), Fail> {
+    for case in &CASES {
+        let cart = cartridge_of(&rt, rt.alloc(), case)?;
+        let save = save_of(&rt, rt.alloc(), case)?;
+        let mut memory = memories_of(&rt, rt.alloc(), cart, save, case.backup)?;
+        play(&rt, &mut memory, case.name, case.moves);
+        play(&rt, &mut memory, case.name, case.last);
     }
-}
-
-/// Replaces bytes that are within a memory.
-fn replace<R: Abort>(rt: &R, memory: &mut Memory, part: MemoryPart, place: usize, bytes: &[u8; 4]) {
-    let length = bytes_of(memory, part).len();
-    assert!(rt; place < length && length - place >= 4);
-    memory.set_bytes(part, place, bytes);
+    Ok(())
 }
 
 /// Two places of each memory that take four bytes, mostly the first and the last, and what a byte that was never written is.
@@ -509,76 +701,18 @@ static REPLACED: [(MemoryPart, usize, usize, u8); 7] = [
 #[test]
 fn bytes_are_replaced(rt: HostRuntime) -> Result<(), Fail> {
     for &(part, first, last, other) in &REPLACED {
-        let mut memory = memories(&rt, rt.alloc(), None, None)?;
-        replace(&rt, &mut memory, part, first, &[0x11, 0x22, 0x33, 0x44]);
-        replace(&rt, &mut memory, part, last, &[0x55, 0x66, 0x77, 0x88]);
-        let bytes = bytes_of(&memory, part);
-        let wanted = [
-            (first, 0x11),
-            (first.saturating_add(3), 0x44),
-            (first.saturating_add(4), other),
-            (last.saturating_sub(1), other),
-            (last, 0x55),
-            (last.saturating_add(3), 0x88),
+        let moves = [
+            Replace(part, first, BYTES_1),
+            Replace(part, last, BYTES_5),
+            Holds(part, first, 0x11),
+            Holds(part, first.saturating_add(3), 0x44),
+            Holds(part, first.saturating_add(4), other),
+            Holds(part, last.saturating_sub(1), other),
+            Holds(part, last, 0x55),
+            Holds(part, last.saturating_add(3), 0x88),
         ];
-        for (place, byte) in wanted {
-            assert_eq!(rt; bytes.get(place).copied(), Some(byte), "at {place}");
-        }
-    }
-    Ok(())
-}
-
-/// Loads see them, also where a program's write of a byte would be dropped or doubled.
-#[test]
-fn replaced_bytes_are_read(rt: HostRuntime) -> Result<(), Fail> {
-    let mut memory = memories(&rt, rt.alloc(), None, None)?;
-    let bytes = [0x11, 0x22, 0x33, 0x44];
-    replace(&rt, &mut memory, MemoryPart::Work, 0x3_FFFC, &bytes);
-    replace(&rt, &mut memory, MemoryPart::Oam, 4, &bytes);
-    replace(&rt, &mut memory, MemoryPart::Palette, 1, &bytes);
-    let reads = [
-        Reads(0x0203_FFFC, Word, 0x4433_2211),
-        Reads(0x0700_0004, Half, 0x2211),
-        Reads(0x0500_0000, Word, 0x3322_1100),
-        Reads(0x0500_0004, Byte, 0x44),
-    ];
-    play(&rt, &mut memory, &reads);
-    Ok(())
-}
-
-/// The bytes of a flash are replaced in both banks, and no command is begun or ended by them.
-#[test]
-fn bytes_of_a_flash_are_no_command(rt: HostRuntime) -> Result<(), Fail> {
-    let mut memory = memories_of(&rt, rt.alloc(), None, None, Backup::Flash128)?;
-    play(&rt, &mut memory, &[Store(0, 0x0E00_5555, Byte, 0xAA)]);
-    let machine = memory.flash_machine();
-    let bytes = [0x55, 0x66, 0x77, 0x88];
-    replace(&rt, &mut memory, MemoryPart::Backup, 0x2AAA, &bytes);
-    replace(&rt, &mut memory, MemoryPart::Backup, 0x1_FFFC, &bytes);
-    assert_eq!(rt; memory.flash_machine(), machine);
-    assert_eq!(rt; memory.backup_bytes().last().copied(), Some(0x88));
-    play(&rt, &mut memory, &[Reads(0x0E00_2AAA, Byte, 0x55)]);
-    Ok(())
-}
-
-/// Every byte of the memories that are written becomes 0; the BIOS and what a flash remembers stay.
-#[test]
-fn memories_are_cleared(rt: HostRuntime) -> Result<(), Fail> {
-    for backup in [Backup::Sram, Backup::Flash128] {
-        let mut memory = memories_of(&rt, rt.alloc(), None, None, backup)?;
-        play(&rt, &mut memory, &[Store(0, 0x0E00_5555, Byte, 0xAA)]);
-        let machine = memory.flash_machine();
-        for &(part, first, last, _) in &REPLACED {
-            replace(&rt, &mut memory, part, first, &[0x11, 0x22, 0x33, 0x44]);
-            replace(&rt, &mut memory, part, last, &[0x55, 0x66, 0x77, 0x88]);
-        }
-        memory.clear();
-        for (part, ..) in &REPLACED {
-            let bytes = bytes_of(&memory, *part);
-            assert!(rt; bytes.iter().all(|byte| *byte == 0));
-        }
-        assert_eq!(rt; memory.flash_machine(), machine);
-        assert_eq!(rt; memory.load(0, 0, Word), 0x4433_2211);
+        let mut memory = memories(&rt, rt.alloc())?;
+        play(&rt, &mut memory, "bytes are replaced", &moves);
     }
     Ok(())
 }

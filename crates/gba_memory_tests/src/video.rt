@@ -76,7 +76,7 @@ fn check<R: Abort>(rt: &R, memory: &Memory, case: &(u32, u32, Width, u32, bool))
 
 #[test]
 fn writes_that_change_nothing(rt: HostRuntime) -> Result<(), Fail> {
-    let mut memory = memories(&rt, rt.alloc(), None, None)?;
+    let mut memory = memories(&rt, rt.alloc())?;
     for (mode, address, width, value) in WRITTEN {
         memory.store(mode, address, width, value);
     }

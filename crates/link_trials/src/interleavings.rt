@@ -5,7 +5,7 @@ ghost use Rattle.link_node.specs.Delays.{AreDelays};
 ghost use Rattle.link_node.specs.Due.{IsDue, InOrder};
 
 use crate::plain::{LIMIT, taken};
-use crate::tests::is_live;
+use crate::tests::{are_signals, is, is_live};
 use crate::trial::{Trial, TrialShell, may_go};
 use crate::{Mixer, drawn, may_take};
 use link_core::{Seen, Sent};
@@ -233,6 +233,45 @@ fn make_play(
     })
 }
 
+/// Console i is as `Cut` had it after as many of its steps.
+fn check_step(rt: &impl Abort, play: &Play, console: &Console, i: usize) {
+    assert!(rt; console.steps > 0);
+    let wanted = play
+        .steps
+        .iter()
+        .filter(|(player, _)| *player == i)
+        .nth(console.steps - 1);
+    is(
+        rt,
+        "a console",
+        wanted.map(|(_, node)| *node),
+        Some(console.node),
+    );
+}
+
+/// Console i looks at console j or steps, and is compared with the one of `Cut` after a step. It answers whether it made one.
+fn act(
+    rt: &impl Abort,
+    alloc: Global,
+    play: &Play,
+    all: &mut [Console],
+    number: u64,
+) -> Result<bool, Fail> {
+    let count = all.len() as u64;
+    assert!(rt; count > 0);
+    let i = ((number >> 33) % count) as usize;
+    if (number >> 50) % 2 == 0 {
+        look(rt, all, i, ((number >> 40) % count) as usize);
+        return Ok(false);
+    }
+    if !step(rt, alloc, all, i, &play.delays, play.until)? {
+        return Ok(false);
+    }
+    assert!(rt; i < all.len());
+    check_step(rt, play, &all[i], i);
+    Ok(true)
+}
+
 /// Plays so many looks and steps in an order that the seed gives, and compares each console after each of its steps
 /// with the one that `Cut` had after as many. It answers how many steps were made.
 fn play_some(
@@ -243,24 +282,11 @@ fn play_some(
     seed: u64,
     actions: u64,
 ) -> Result<u64, Fail> {
-    let count = all.len() as u64;
-    assert!(rt; count > 0);
     let mut number = seed;
     let mut made = 0u64;
     for _ in 0..actions {
         number = next_random(number);
-        let i = ((number >> 33) % count) as usize;
-        let j = ((number >> 40) % count) as usize;
-        if (number >> 50) % 2 == 0 {
-            look(rt, all, i, j);
-        } else if step(rt, alloc, all, i, &play.delays, play.until)? {
-            assert!(rt; i < all.len() && all[i].steps > 0);
-            let wanted = play
-                .steps
-                .iter()
-                .filter(|(player, _)| *player == i)
-                .nth(all[i].steps - 1);
-            assert_eq!(rt; wanted.map(|(_, node)| *node), Some(all[i].node));
+        if act(rt, alloc, play, all, number)? {
             made = made.saturating_add(1);
         }
     }
@@ -276,11 +302,32 @@ struct Tally {
     flying: u64,
 }
 
+/// Sixty plays from one beginning. It answers how many steps were made.
+fn play_often(rt: &impl Abort, alloc: Global, play: &Play) -> Result<u64, Fail> {
+    let mut all_made = 0u64;
+    for seed in 0..60 {
+        let mut all = consoles(alloc, &play.nodes, &play.sent)?;
+        let made = play_some(rt, alloc, play, &mut all, seed, 400)?;
+        all_made = all_made.saturating_add(made);
+    }
+    Ok(all_made)
+}
+
+/// Counts where a play begins, and its steps.
+fn count(tally: &mut Tally, play: &Play, made: u64) {
+    tally.made = tally.made.saturating_add(made);
+    let clock = play.nodes.first().map_or(0, |node| node.clock);
+    if play.nodes.iter().any(|node| node.clock != clock) {
+        tally.apart = tally.apart.saturating_add(1);
+    }
+    tally.flying = tally.flying.saturating_add(play.sent.len() as u64);
+}
+
 /// Plays of so many mixers on one cable, from two beginnings.
 fn play_all(
     rt: &impl Abort,
     alloc: Global,
-    count: usize,
+    players: usize,
     delays: Delays,
     seed: u64,
     tally: &mut Tally,
@@ -288,17 +335,27 @@ fn play_all(
     requires { AreDelays delays }
 {
     for first in [0, 777] {
-        let play = make_play(rt, alloc, count, delays, seed, first, 3_000)?;
-        for seed in 0..60 {
-            let mut all = consoles(alloc, &play.nodes, &play.sent)?;
-            let made = play_some(rt, alloc, &play, &mut all, seed, 400)?;
-            tally.made = tally.made.saturating_add(made);
-        }
-        let clock = play.nodes.first().map_or(0, |node| node.clock);
-        if play.nodes.iter().any(|node| node.clock != clock) {
-            tally.apart = tally.apart.saturating_add(1);
-        }
-        tally.flying = tally.flying.saturating_add(play.sent.len() as u64);
+        let play = make_play(rt, alloc, players, delays, seed, first, 3_000)?;
+        let made = play_often(rt, alloc, &play)?;
+        count(tally, &play, made);
+    }
+    Ok(())
+}
+
+/// Plays of so many mixers on cables with one delay, and on five that are drawn.
+fn play_on_all(
+    rt: &impl Abort,
+    alloc: Global,
+    players: usize,
+    tally: &mut Tally,
+) -> Result<(), Fail> {
+    for delay in [1, 16, 512, 1024] {
+        play_all(rt, alloc, players, Delays::all(delay), delay, tally)?;
+    }
+    let mut number = players as u64;
+    for _ in 0..5 {
+        number = next_random(number);
+        play_all(rt, alloc, players, drawn(number >> 40), number, tally)?;
     }
     Ok(())
 }
@@ -310,33 +367,20 @@ fn random_interleavings_are_the_global_order(rt: HostRuntime) -> Result<(), Fail
         apart: 0,
         flying: 0,
     };
-    for count in 1..5 {
-        for delay in [1, 16, 512, 1024] {
-            play_all(
-                &rt,
-                rt.alloc(),
-                count,
-                Delays::all(delay),
-                delay,
-                &mut tally,
-            )?;
-        }
-        let mut number = count as u64;
-        for _ in 0..5 {
-            number = next_random(number);
-            play_all(
-                &rt,
-                rt.alloc(),
-                count,
-                drawn(number >> 40),
-                number,
-                &mut tally,
-            )?;
-        }
+    for players in 1..5 {
+        play_on_all(&rt, rt.alloc(), players, &mut tally)?;
     }
-    assert!(rt; tally.made > 40_000);
-    assert!(rt; tally.apart > 16, "many begin with clocks apart");
-    assert!(rt; tally.flying > 40, "many begin with signals on their way");
+    let Tally {
+        made,
+        apart,
+        flying,
+    } = tally;
+    assert!(rt; made > 40_000, "{made} steps");
+    assert!(rt; apart > 16, "{apart} begin with clocks apart");
+    assert!(rt;
+        flying > 40,
+        "{flying} signals are on their way where plays begin"
+    );
     Ok(())
 }
 
@@ -375,6 +419,13 @@ fn refill(rt: &impl Abort, shell: &mut TrialShell, signals: &[Sent]) {
     }
 }
 
+/// The consoles are these nodes.
+fn are_last(rt: &impl Abort, all: &[Console], nodes: &[Mixer]) {
+    for (console, node) in all.iter().zip(nodes.iter()) {
+        is(rt, "a console at the end", console.node, *node);
+    }
+}
+
 /// A play of many actions comes to the end, and its consoles and signals are the cut that the global order makes. It
 /// answers how many signals are on their way there.
 fn play_to_the_end(
@@ -389,13 +440,11 @@ fn play_to_the_end(
     let mut play = make_play(rt, alloc, count, delays, seed, 777, 3_000)?;
     let mut all = consoles(alloc, &play.nodes, &play.sent)?;
     let made = play_some(rt, alloc, &play, &mut all, 5, 6_000)?;
-    assert_eq!(rt; made, play.steps.len() as u64);
-    for (console, node) in all.iter().zip(play.last.iter()) {
-        assert_eq!(rt; console.node, *node);
-    }
+    is(rt, "steps", made, play.steps.len() as u64);
+    are_last(rt, &all, &play.last);
     let live = live_of(rt, alloc, &all, &delays)?;
     refill(rt, &mut play.shell, &live);
-    assert_eq!(rt; play.shell.sent(), play.left.as_slice());
+    are_signals(rt, "signals at the end", play.shell.sent(), &play.left);
     Ok(play.left.len() as u64)
 }
 

@@ -10,6 +10,7 @@ use crate::{Beat, Mixer, begin, drawn, mixers};
 use link_core::{Seen, Sent, laws};
 use link_node::Delays;
 use std::alloc::Global;
+use std::fmt::Debug;
 use std::process::Abort;
 use std::test::Fail;
 
@@ -44,6 +45,38 @@ pub fn still_live(
     Ok(live)
 }
 
+/// It is this.
+pub fn is<T: Copy + PartialEq + Debug>(rt: &impl Abort, what: &str, got: T, wanted: T) {
+    assert_eq!(rt; got, wanted, "{what}");
+}
+
+/// These are the signals.
+pub fn are_signals(rt: &impl Abort, what: &str, got: &[Sent], wanted: &[Sent]) {
+    assert_eq!(rt; got, wanted, "{what}");
+}
+
+/// These are the mixers.
+fn are_mixers(rt: &impl Abort, what: &str, got: &[Mixer], wanted: &[Mixer]) {
+    assert_eq!(rt; got, wanted, "{what}");
+}
+
+/// A run of so many mixers, in two parts.
+fn run_in_parts(
+    rt: &impl Abort,
+    alloc: Global,
+    count: usize,
+    delays: Delays,
+    seed: u64,
+) -> Result<Trial, Fail>
+    requires { AreDelays delays }
+{
+    let mut trial = Trial::of(rt, alloc, count, delays, seed)?;
+    trial.run(rt, 9_000);
+    trial.run(rt, 20_000);
+    is(rt, "delays", trial.delays(), delays);
+    Ok(trial)
+}
+
 /// A run of so many mixers, in two parts, beside that of the plain program. It answers how many signals are on their way
 /// at its end.
 fn compare(
@@ -56,14 +89,11 @@ fn compare(
     requires { AreDelays delays }
 {
     let mut plain = mixers(alloc, count, seed, LIMIT)?;
-    let all = plain_run(rt, alloc, &mut plain, &delays, 20_000)?;
-    let mut trial = Trial::of(rt, alloc, count, delays, seed)?;
-    trial.run(rt, 9_000);
-    trial.run(rt, 20_000);
-    assert_eq!(rt; trial.nodes(), plain.as_slice());
-    assert_eq!(rt; trial.delays(), delays);
-    let live = still_live(rt, alloc, &all.sent, &plain, &delays)?;
-    assert_eq!(rt; trial.sent(), live.as_slice());
+    let sent = plain_run(rt, alloc, &mut plain, &delays, 20_000)?.sent;
+    let live = still_live(rt, alloc, &sent, &plain, &delays)?;
+    let trial = run_in_parts(rt, alloc, count, delays, seed)?;
+    are_mixers(rt, "mixers after a run", trial.nodes(), &plain);
+    are_signals(rt, "signals after a run", trial.sent(), &live);
     let _ = trial.into_nodes();
     Ok(live.len() as u64)
 }
@@ -96,15 +126,29 @@ fn runs_are_those_of_the_plain_program(rt: HostRuntime) -> Result<(), Fail> {
     Ok(())
 }
 
+/// A sender, a receiver, and the delay between them where 0 to 1 is long, which is bit 1, 1 to 0, bit 4, and 2 to 3, bit 11.
+static HOPS: [(usize, usize, u64); 6] = [
+    (0, 1, 1024),
+    (1, 0, 1024),
+    (2, 3, 1024),
+    (3, 2, 1),
+    (4, 0, 0),
+    (0, 4, 0),
+];
+
 #[test]
 fn drawn_delays_are_those_of_their_bits(rt: HostRuntime) {
-    // 0 to 1 is bit 1, 1 to 0 is bit 4, 2 to 3 is bit 11
     let delays = drawn(0x0812);
-    assert_eq!(rt; (delays.hop(0, 1), delays.hop(1, 0)), (1024, 1024));
-    assert_eq!(rt; (delays.hop(2, 3), delays.hop(3, 2)), (1024, 1));
-    assert_eq!(rt; (delays.hop(4, 0), delays.hop(0, 4)), (0, 0));
-    assert_eq!(rt; delays.with(3, 2, 7).rows[3], [1, 1, 7, 1]);
-    assert_eq!(rt; delays.with(4, 2, 7), delays);
+    for &(sender, receiver, delay) in &HOPS {
+        is(
+            &rt,
+            "a delay",
+            (sender, receiver, delays.hop(sender, receiver)),
+            (sender, receiver, delay),
+        );
+    }
+    is(&rt, "a row", delays.with(3, 2, 7).rows[3], [1, 1, 7, 1]);
+    is(&rt, "no row", delays.with(4, 2, 7), delays);
 }
 
 /// A node that tells once, and one that listens.
@@ -151,7 +195,8 @@ fn heard(rt: &impl Abort, alloc: Global, first: u64) -> Result<(Option<u64>, Opt
 fn a_signal_is_taken_at_its_arrival_and_not_before(rt: HostRuntime) -> Result<(), Fail> {
     // sent at 100, so it arrives at 1,124: steps at 0, 281, 562, 843, 1,124, and at 0, 280, 561, 842, 1,123, 1,404
     for (first, clock) in [(280, 1124), (279, 1404)] {
-        assert_eq!(rt; heard(&rt, rt.alloc(), first)?, (None, Some(clock)));
+        let heard = heard(&rt, rt.alloc(), first)?;
+        is(&rt, "heard", heard, (None, Some(clock)));
     }
     Ok(())
 }
@@ -280,7 +325,24 @@ fn add_twice(rt: &impl Abort, shell: &mut TrialShell, signals: &[Sent]) {
 fn check_least(rt: &impl Abort, trial: &Trial) {
     let clocks = trial.nodes().iter().map(|node| node.clock).min();
     let least = trial.nodes().get(trial.least() as usize);
-    assert_eq!(rt; least.map(|node| node.clock), clocks);
+    is(rt, "the least clock", least.map(|node| node.clock), clocks);
+}
+
+/// A shell has these signals, loses them, and has them once where each is added twice.
+fn is_shell(rt: &impl Abort, shell: &mut TrialShell, sent: &[Sent]) {
+    is(rt, "delays of a shell", shell.delays(), drawn(0x1234));
+    are_signals(rt, "signals of a shell", shell.sent(), sent);
+    shell.clear();
+    is(rt, "signals of a cleared shell", shell.sent().len(), 0);
+    add_twice(rt, shell, sent);
+    are_signals(rt, "signals that are added twice", shell.sent(), sent);
+}
+
+/// A cut of three nodes is taken apart.
+fn is_parted(rt: &impl Abort, trial: Trial, sent: &[Sent]) {
+    let (nodes, mut shell) = trial.part();
+    is(rt, "parted nodes", nodes.len(), 3);
+    is_shell(rt, &mut shell, sent);
 }
 
 #[test]
@@ -289,19 +351,20 @@ fn a_cut_is_parted_and_joined(rt: HostRuntime) -> Result<(), Fail> {
     trial.run(&rt, 5_000);
     check_least(&rt, &trial);
     let sent = trial.sent().to_vec(rt.alloc())?;
-    assert!(rt; !sent.is_empty());
+    is(&rt, "no signals", sent.is_empty(), false);
     let trial = trial.put_together();
-    assert_eq!(rt; trial.sent(), sent.as_slice());
-    assert_eq!(rt; trial.nodes().len(), 3);
-    let (nodes, mut shell) = trial.part();
-    assert_eq!(rt; nodes.len(), 3);
-    assert_eq!(rt; shell.delays(), drawn(0x1234));
-    assert_eq!(rt; shell.sent(), sent.as_slice());
-    shell.clear();
-    assert_eq!(rt; shell.sent().len(), 0);
-    add_twice(&rt, &mut shell, &sent);
-    assert_eq!(rt; shell.sent(), sent.as_slice());
+    are_signals(&rt, "joined signals", trial.sent(), &sent);
+    is(&rt, "joined nodes", trial.nodes().len(), 3);
+    is_parted(&rt, trial, &sent);
     Ok(())
+}
+
+/// A run makes these steps.
+fn makes_steps(rt: &impl Abort, trial: &mut Trial, steps: &[(usize, Mixer)]) {
+    for wanted in steps {
+        let got = trial.step(rt);
+        is(rt, "a step", got, *wanted);
+    }
 }
 
 #[test]
@@ -310,8 +373,6 @@ fn steps_are_those_of_the_plain_program(rt: HostRuntime) -> Result<(), Fail> {
     let all = plain_run(&rt, rt.alloc(), &mut plain, &drawn(0x1a35), 5_000)?;
     assert!(rt; all.steps.len() > 60);
     let mut trial = Trial::of(&rt, rt.alloc(), 3, drawn(0x1a35), 5)?;
-    for wanted in &all.steps {
-        assert_eq!(rt; trial.step(&rt), *wanted);
-    }
+    makes_steps(&rt, &mut trial, &all.steps);
     Ok(())
 }
