@@ -2,10 +2,8 @@
 //! calls, as the order of creates and appends is stated, and not from what the program does.
 
 use Content::{Cartridge, Code, Filled, Text};
-use Expected::Is;
 use gba_link_tests::{
-    Answer, Content, Expected, Failing, LoggingSink, bytes_of, call_into, call_with,
-    is_as_expected, stored,
+    Answer, Content, Failing, LoggingSink, bytes_of, call_into, call_with, stored,
 };
 use gba_store::{MemorySink, NoGate, StoredFile};
 use std::alloc::{AllocError, Global};
@@ -158,6 +156,21 @@ fn are_left<R: Abort>(
     Ok(())
 }
 
+/// The command with these calls failing, of which the first is that of this number and makes or grows this file.
+fn fail_with<R: Abort + Threads + Sync>(
+    rt: &R,
+    alloc: Global,
+    command: &Command<'_>,
+    whole: &LoggingSink<'_>,
+    (failing, name): (usize, &str),
+    calls: Failing<'_>,
+) -> Result<(), Fail> {
+    let files = files_of(alloc, command)?;
+    let answer = call_with(rt, alloc, command.words, files, calls)?;
+    assert_eq!(rt; answer.status, 9, "call {failing}");
+    are_left(rt, alloc, whole, &answer, failing, name)
+}
+
 /// The command with the call of this number failing.
 fn fail_call<R: Abort + Threads + Sync>(
     rt: &R,
@@ -168,29 +181,38 @@ fn fail_call<R: Abort + Threads + Sync>(
 ) -> Result<(), Fail> {
     let Numbered { call, number } = numbered_call(whole.calls(), failing).ok_or("no such call")?;
     let numbers = [number];
-    let none: [u64; 0] = [];
-    let (name, failing_calls) = match call {
+    let calls = Failing::NONE;
+    let (name, calls) = match call {
         Call::Create(name) => (
             name,
             Failing {
-                reads: &none,
                 creates: &numbers,
-                appends: &none,
+                ..calls
             },
         ),
         Call::Append(name, _) => (
             name,
             Failing {
-                reads: &none,
-                creates: &none,
                 appends: &numbers,
+                ..calls
             },
         ),
     };
-    let files = files_of(alloc, command)?;
-    let answer = call_with(rt, alloc, command.words, files, failing_calls)?;
-    assert_eq!(rt; answer.status, 9, "call {failing}");
-    are_left(rt, alloc, whole, &answer, failing, name)
+    fail_with(rt, alloc, command, whole, (failing, name), calls)
+}
+
+/// The command as it is.
+fn run_whole<R: Abort + Threads + Sync>(
+    rt: &R,
+    alloc: Global,
+    command: &Command<'_>,
+    whole: &mut LoggingSink<'_>,
+) -> Result<(), Fail> {
+    let there = files_of(alloc, command)?;
+    let status = call_into(rt, alloc, command.words, there, whole, &NoGate)?;
+    assert_eq!(rt; status, 0);
+    assert!(rt; whole.calls().starts_with(command.calls));
+    Ok(())
 }
 
 /// The command once as it is, and then with each call of its sink failing.
@@ -202,10 +224,7 @@ fn fail_all<R: Abort + Threads + Sync>(
     let made = AtomicU64::new(0);
     let files = MemorySink::new(alloc, Vec::new(alloc), Vec::new(alloc));
     let mut whole = LoggingSink::new(alloc, files, &made);
-    let there = files_of(alloc, command)?;
-    let status = call_into(rt, alloc, command.words, there, &mut whole, &NoGate)?;
-    assert_eq!(rt; status, 0);
-    assert!(rt; whole.calls().starts_with(command.calls));
+    run_whole(rt, alloc, command, &mut whole)?;
     for failing in 0..whole.calls().lines().count() {
         fail_call(rt, alloc, command, &whole, failing)?;
     }
@@ -239,12 +258,30 @@ create g.3.words\ncreate g.3.state\ncreate g.log\n\
 append g.0.bios 16384\nappend g.1.bios 16384\nappend g.2.bios 16384\nappend g.3.bios 16384\nappend g.job 212\n\
 append g.0.state ";
 
+/// Up to a clock in the second segment there are 11 more frames and 6,294 more pairs of samples. What is written of a whole
+/// run alone isn't: no state, no save, no log.
+const FROZEN: &str =
+    "create g.0.frames\ncreate g.1.samples\ncreate g.1.words\ncreate g.3.samples\ncreate g.frozen\n\
+append g.0.frames 4608000\nappend g.1.samples 131072\nappend g.3.samples 131072\n\
+append g.0.frames 844800\nappend g.1.samples 25176\nappend g.3.samples 25176\n\
+append g.frozen ";
+
 /// A statement is four bytes; of eight bytes FFh a listing has two lines `.word 0xffffffff`.
-static COMMANDS: [Command<'static>; 4] = [
+static COMMANDS: [Command<'static>; 6] = [
     Command {
         words: &["run", "j", "g"],
         files: &[("j", Text(JOB)), ("b", Code(&HALTS))],
         calls: CALLS,
+    },
+    Command {
+        words: &["freeze", "j", "20000000", "g"],
+        files: &[("j", Text(JOB)), ("b", Code(&HALTS))],
+        calls: FROZEN,
+    },
+    Command {
+        words: &["trace", "j", "0", "9", "g"],
+        files: &[("j", Text(JOB)), ("b", Code(&HALTS))],
+        calls: "create g.trace\nappend g.trace ",
     },
     Command {
         words: &["gen", "7", "1000", "g"],
@@ -263,7 +300,8 @@ static COMMANDS: [Command<'static>; 4] = [
     },
 ];
 
-/// Each create and each append fails, of a run over three segments, of `gen`, `asm` and `dis`: the file of that call is
+/// Each create and each append fails, of a run over three segments, of what is frozen in the second one, of `trace`, `gen`,
+/// `asm` and `dis`: the file of that call is
 /// told, what was added before is there, half of the piece of that call, and no call comes after it but the report.
 #[test]
 fn each_call_of_the_sink_fails(rt: HostRuntime) -> Result<(), Fail> {
@@ -428,51 +466,66 @@ fn inputs_with(alloc: Global, place: usize, wrong: Wrong) -> Result<Vec<StoredFi
     Ok(files)
 }
 
-/// The job with one of its reads going wrong is refused so, and writes nothing but its report.
-fn refuse<R: Abort + Threads + Sync>(
+/// The status, and the report of a file that goes wrong so.
+fn refusal_of(alloc: Global, input: &Input<'_>, wrong: Wrong) -> Result<(u8, String), AllocError> {
+    let name = input.name;
+    Ok(match wrong {
+        Wrong::Absent => (3, format!(in alloc; "absent {name}\n")?),
+        Wrong::Unreadable => (4, format!(in alloc; "store {name}\n")?),
+        Wrong::Cut => (input.status, String::from_str(alloc, input.refusal)?),
+    })
+}
+
+/// A call is refused so, and writes nothing but its report.
+fn is_refused<R: Abort>(rt: &R, answer: &Answer, place: usize, status: u8, report: &str) {
+    assert_eq!(rt; answer.status, status, "read {place}");
+    assert_eq!(rt; answer.report(), report.as_bytes(), "read {place}");
+    for name in ["g.0.state", "g.1.state", "g.2.state", "g.3.state", "g.log"] {
+        assert!(rt; answer.bytes(name).is_none(), "{name} after read {place}");
+    }
+}
+
+/// A run of the job in which this read goes wrong.
+fn run_with<R: Threads + Sync>(
     rt: &R,
     alloc: Global,
     place: usize,
     wrong: Wrong,
-    status: u8,
-    report: &str,
-) -> Result<(), Fail> {
+) -> Result<Answer, Fail> {
     let files = inputs_with(alloc, place, wrong)?;
     let number = [(place as u64).saturating_add(1)];
-    let none: [u64; 0] = [];
     let failing = Failing {
         reads: match wrong {
             Wrong::Unreadable => number.as_slice(),
-            _ => none.as_slice(),
+            _ => &[],
         },
-        creates: &none,
-        appends: &none,
+        ..Failing::NONE
     };
-    let answer = call_with(rt, alloc, &["run", "j", "g"], files, failing)?;
-    assert_eq!(rt; answer.status, status, "read {place}");
-    assert!(rt;
-        is_as_expected(alloc, Some(answer.report()), Is(Text(report)))?,
-        "read {place}"
-    );
-    for name in ["g.0.state", "g.1.state", "g.2.state", "g.3.state", "g.log"] {
-        assert!(rt; answer.bytes(name).is_none(), "{name} after read {place}");
-    }
+    call_with(rt, alloc, &["run", "j", "g"], files, failing)
+}
+
+/// The job with the read of this input, at this place, going wrong is refused so, and writes nothing but its report.
+fn refuse<R: Abort + Threads + Sync>(
+    rt: &R,
+    alloc: Global,
+    (place, input): (usize, &Input<'_>),
+    wrong: Wrong,
+) -> Result<(), Fail> {
+    let answer = run_with(rt, alloc, place, wrong)?;
+    let (status, report) = refusal_of(alloc, input, wrong)?;
+    is_refused(rt, &answer, place, status, report.as_str());
     Ok(())
 }
 
 /// Each file that a run reads is absent, can't be read, or is cut: it is told, with what is wrong with it.
 #[test]
 fn each_read_goes_wrong(rt: HostRuntime) -> Result<(), Fail> {
-    let alloc = rt.alloc();
-    let well = inputs_with(alloc, INPUTS.len(), Wrong::Cut)?;
-    let answer = call_with(&rt, alloc, &["run", "j", "g"], well, Failing::NONE)?;
-    assert_eq!(rt; answer.status, 0);
-    for (place, input) in INPUTS.iter().enumerate() {
-        let absent = format!(in alloc; "absent {}\n", input.name)?;
-        refuse(&rt, alloc, place, Wrong::Absent, 3, absent.as_str())?;
-        let unreadable = format!(in alloc; "store {}\n", input.name)?;
-        refuse(&rt, alloc, place, Wrong::Unreadable, 4, unreadable.as_str())?;
-        refuse(&rt, alloc, place, Wrong::Cut, input.status, input.refusal)?;
+    let well = run_with(&rt, rt.alloc(), INPUTS.len(), Wrong::Cut)?;
+    assert_eq!(rt; well.status, 0);
+    for one in INPUTS.iter().enumerate() {
+        for wrong in [Wrong::Absent, Wrong::Unreadable, Wrong::Cut] {
+            refuse(&rt, rt.alloc(), one, wrong)?;
+        }
     }
     Ok(())
 }

@@ -530,10 +530,8 @@ fn came_to<R: Abort>(
     report: &str,
     written: &[(&str, Content<'_>)],
 ) -> Result<(), Fail> {
-    assert_eq!(rt;
-        (answer.status, answer.report()),
-        (status, report.as_bytes())
-    );
+    assert_eq!(rt; answer.status, status);
+    assert_eq!(rt; answer.report(), report.as_bytes());
     wrote(rt, alloc, answer, written)
 }
 
@@ -575,6 +573,8 @@ fn wrote_the_same<R: Abort>(
     first: &Answer,
     second: &Answer,
 ) -> Result<(), Fail> {
+    assert_eq!(rt; second.status, 0);
+    assert_eq!(rt; second.report(), first.report());
     for &ending in &ENDINGS {
         let one = name_of(alloc, "g", ending)?;
         let other = name_of(alloc, "h", ending)?;
@@ -596,7 +596,6 @@ fn is_run_again<R: Abort + Threads + Sync>(
     let log = written_as(alloc, &first, "g.log", "l")?;
     let files = files_of(alloc, log, one.inputs, "k")?;
     let second = call(rt, alloc, &["run", "l", "h"], files)?;
-    assert_eq!(rt; (second.status, second.report()), (0, first.report()));
     wrote_the_same(rt, alloc, &first, &second)
 }
 
