@@ -41,12 +41,7 @@ pub struct Cable {
 }
 
 impl Cable {
-    /// Two consoles with these sources.
-    pub fn new(alloc: Global, delay: u64, sources: [&[u8]; 2]) -> Result<Cable, Fail> {
-        Cable::with_off(alloc, delay, sources, 0)
-    }
-
-    /// The same, where player 1 is off below a clock.
+    /// Two consoles with these sources, of which player 1 is off below a clock.
     pub fn with_off(
         alloc: Global,
         delay: u64,
@@ -110,18 +105,22 @@ impl Cable {
         Ok(())
     }
 
-    /// The clock of the only start that a console told.
-    pub fn started<R: Abort>(&self, rt: &R, player: usize) -> Result<u32, Fail> {
-        assert!(rt; player < 2);
-        let mut starts = 0;
-        let mut clock = 0;
-        for signal in self.told[player].as_slice() {
-            if signal.start.is_some() {
-                starts = 1 + starts % 2;
-                clock = signal.clock;
-            }
-        }
-        assert_eq!(rt; starts, 1);
-        Ok(u32::try_from(clock).ok().ok_or("a late start")?)
+    /// The clock of the only start that a console told. None: it told none, or several.
+    pub fn started(&self, player: usize) -> Option<u64> {
+        only_start(self.told.get(player)?.as_slice())
     }
+}
+
+/// The clock of the only one of these signals that has a start.
+fn only_start(signals: &[Signal]) -> Option<u64> {
+    let mut only = None;
+    for signal in signals {
+        if signal.start.is_some() && only.is_some() {
+            return None;
+        }
+        if signal.start.is_some() {
+            only = Some(signal.clock);
+        }
+    }
+    only
 }

@@ -1,21 +1,16 @@
 //! A console whose cartridge has a flash: its program and DMA read and write it.
 
-use crate::play::{ALONE, Play, has_bytes, images_of_source};
+use crate::course::Code::Source;
+use crate::course::Look::{Byte, Register};
+use crate::course::Move::{self, Shows, Steps};
+use crate::course::{Course, PLAIN, go_through};
 use gba_image::Backup;
-use gba_io::{MemoryName, Room};
+use gba_io::MemoryName;
 use std::test::Fail;
-
-/// Room for a few cycles, of which nothing is kept.
-const ROOM: Room = Room {
-    until: 10_000,
-    frames: false,
-    samples: false,
-    words: false,
-};
 
 /// Lets the flash say what it is, and DMA3 read it as a word; then lets DMA3 write two halfwords, of which the first is
 /// programmed and the second is no command.
-static SOURCE: &[u8] = b"        mov   r0, #0x0e000000
+const SOURCE: &[u8] = b"        mov   r0, #0x0e000000
         add   r1, r0, #0x5500
         add   r1, r1, #0x55
         add   r2, r0, #0x2a00
@@ -49,26 +44,38 @@ static SOURCE: &[u8] = b"        mov   r0, #0x0e000000
 stay:   b     stay
 ";
 
+/// What the console shows after 31 instructions and three units: what the flash is, as DMA3 read it, and what it wrote.
+const MOVES: [Move; 10] = [
+    Steps(34),
+    Shows(Byte(MemoryName::Iwram, 0), 0xC2),
+    Shows(Byte(MemoryName::Iwram, 1), 0xC2),
+    Shows(Byte(MemoryName::Iwram, 3), 0xC2),
+    Shows(Byte(MemoryName::Iwram, 4), 0),
+    Shows(Byte(MemoryName::Backup, 0x0F), 0xFF),
+    Shows(Byte(MemoryName::Backup, 0x10), 0xC2),
+    Shows(Byte(MemoryName::Backup, 0x11), 0xFF),
+    Shows(Byte(MemoryName::Backup, 0x12), 0xFF),
+    Shows(Register(10), 0xC2),
+];
+
+static COURSES: [Course; 2] = [
+    Course {
+        name: "a flash of 65,536 bytes",
+        bios: Source(SOURCE),
+        backup: Backup::Flash64,
+        moves: &MOVES,
+        ..PLAIN
+    },
+    Course {
+        name: "a flash of 131,072 bytes",
+        bios: Source(SOURCE),
+        backup: Backup::Flash128,
+        moves: &MOVES,
+        ..PLAIN
+    },
+];
+
 #[test]
 fn dma_reads_and_writes_a_flash(rt: HostRuntime) -> Result<(), Fail> {
-    for backup in [Backup::Flash64, Backup::Flash128] {
-        let mut images = images_of_source(rt.alloc(), SOURCE)?;
-        images.backup = backup;
-        let mut console = Play::new(rt.alloc(), ALONE, 0, images, &[], ROOM)?;
-        // 31 instructions and three units.
-        for _ in 0..34 {
-            console.step(&rt);
-        }
-        let inner = console.memory(MemoryName::Iwram);
-        has_bytes(&rt, inner, &[(0, 0xC2), (1, 0xC2), (3, 0xC2), (4, 0)]);
-        let bytes = console.memory(MemoryName::Backup);
-        assert_eq!(rt; bytes.len(), backup.length());
-        has_bytes(
-            &rt,
-            bytes,
-            &[(0x0F, 0xFF), (0x10, 0xC2), (0x11, 0xFF), (0x12, 0xFF)],
-        );
-        assert_eq!(rt; console.register(&rt, 10), 0xC2);
-    }
-    Ok(())
+    go_through(&rt, rt.alloc(), &COURSES)
 }

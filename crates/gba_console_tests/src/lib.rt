@@ -6,6 +6,8 @@ mod cable;
 #[cfg(test)]
 mod console;
 #[cfg(test)]
+mod course;
+#[cfg(test)]
 mod flash;
 #[cfg(test)]
 mod off;

@@ -335,18 +335,3 @@ pub fn comes_to<R: Abort>(rt: &R, console: &mut Play, until: u64, clock: u64) {
     console.run(rt, until);
     assert_eq!(rt; console.clock(), clock, "until {until}");
 }
-
-/// Some registers, by their places in the list of all of them, have these numbers.
-pub fn has<R: Abort>(rt: &R, console: &Play, registers: &[(usize, u32)]) {
-    let all = console.registers();
-    for (place, number) in registers {
-        assert_eq!(rt; all.get(*place), Some(number), "at {place}");
-    }
-}
-
-/// Some bytes of a memory, by their places.
-pub fn has_bytes<R: Abort>(rt: &R, memory: &[u8], bytes: &[(usize, u8)]) {
-    for (place, byte) in bytes {
-        assert_eq!(rt; memory.get(*place), Some(byte), "at {place}");
-    }
-}

@@ -1,9 +1,14 @@
 //! A console into which parts are poured.
 
+use crate::course::Look::{
+    Clock, Frames, Half, Pairs, Register, SampleBytes, Transfers, Until, Was,
+};
+use crate::course::Move::{self, Run, Shows, Steps};
+use crate::course::{goes, is, shows};
 use crate::play::{ALONE, Play, images_of_source};
 use gba_console::{KeyState, What};
 use gba_devices::Devices;
-use gba_flash::FlashState;
+use gba_flash::{FlashMachine, FlashState};
 use gba_image::Backup;
 use gba_io::{Counts, MemoryName, Room};
 use std::alloc::Global;
@@ -50,7 +55,7 @@ fn running<R: Abort>(rt: &R, alloc: Global) -> Result<Play, Fail> {
     for _ in 0..6 {
         console.step(rt);
     }
-    assert_eq!(rt; console.register(rt, 0), 2);
+    shows(rt, &console, "adds", Register(0), 2);
     Ok(console)
 }
 
@@ -62,6 +67,49 @@ fn devices_at<R: Abort>(rt: &R, clock: u32) -> Devices {
     devices
 }
 
+/// What it shows where it is poured.
+const POURED: [Move; 7] = [
+    Shows(Was, 996),
+    Shows(Clock, 1_000),
+    Shows(Until, 11_000),
+    Shows(Frames, 7),
+    Shows(Pairs, 11),
+    Shows(Transfers, 13),
+    Shows(SampleBytes, 0),
+];
+
+/// It goes on by MOV r0, #42h.
+const GOES_ON: [Move; 3] = [
+    Steps(1),
+    Shows(Register(0), 0x42),
+    Shows(Half(0x130), 0x3FF),
+];
+
+/// And by the second key change. The clock is 3,000 or at most two steps of 3 cycles more, so that five pairs were made.
+const RUNS_ON: [Move; 3] = [Run(3_000), Shows(Half(0x130), 0x3FD), Shows(Pairs, 15)];
+
+/// Moves of a poured console, and what its last step did behind them.
+static POURS: [(&str, &[Move], Option<What>); 3] = [
+    ("poured", &POURED, Some(What::Nothing)),
+    (
+        "goes on",
+        &GOES_ON,
+        Some(What::Arm {
+            address: 0x0300_0000,
+            word: MOVES[0],
+        }),
+    ),
+    ("runs on", &RUNS_ON, None),
+];
+
+/// Makes the moves.
+fn goes_on<R: Abort>(rt: &R, console: &mut Play) {
+    for &(case, moves, what) in &POURS {
+        goes(rt, console, case, moves);
+        is(rt, case, what.unwrap_or(console.last()), console.last());
+    }
+}
+
 /// A poured console has the clocks and the counts, its lists are empty, its last step isn't told, and it goes on with what stands in
 /// its memories, whatever was decoded before; the second key change is the next one.
 #[test]
@@ -70,36 +118,35 @@ fn a_poured_console_goes_on(rt: HostRuntime) -> Result<(), Fail> {
     console.put_words(&rt, &MOVES);
     let devices = devices_at(&rt, 1_000);
     console.pour(&rt, devices, COUNTS, 1, &[])?;
-    assert_eq!(rt;
-        (console.was(), console.clock(), console.until()),
-        (996, 1_000, 11_000)
-    );
-    assert_eq!(rt; console.last(), What::Nothing);
-    assert_eq!(rt; console.counts(), COUNTS);
-    assert_eq!(rt; console.samples().len(), 0);
-    console.step(&rt);
-    let moved = What::Arm {
-        address: 0x0300_0000,
-        word: MOVES[0],
-    };
-    assert_eq!(rt; console.last(), moved);
-    assert_eq!(rt; console.register(&rt, 0), 0x42);
-    assert_eq!(rt; console.io_half(0x130), 0x3FF);
-    console.run(&rt, 3_000);
-    assert_eq!(rt; console.io_half(0x130), 0x3FD);
-    assert_eq!(rt; console.counts().samples, 11 + console.clock() / 512 - 1);
+    goes_on(&rt, &mut console);
     Ok(())
 }
+
+/// All bytes of these memories are 0.
+fn are_cleared<R: Abort>(rt: &R, console: &Play) {
+    for name in [MemoryName::Iwram, MemoryName::Backup] {
+        assert!(rt;
+            console.memory(name).iter().all(|byte| *byte == 0),
+            "{name:?}"
+        );
+    }
+}
+
+/// A byte is programmed next.
+const PROGRAMS: FlashMachine = FlashMachine {
+    state: FlashState::Program,
+    armed: false,
+    identify: false,
+    bank: 0,
+};
 
 /// The memories are cleared, and the flash goes on from a machine.
 #[test]
 fn memories_of_a_console_are_poured(rt: HostRuntime) -> Result<(), Fail> {
     let mut console = running(&rt, rt.alloc())?;
     console.clear_memories();
-    for name in [MemoryName::Iwram, MemoryName::Backup] {
-        assert!(rt; console.memory(name).iter().all(|byte| *byte == 0));
-    }
-    let machine = console.await_byte().ok_or("no flash")?;
-    assert_eq!(rt; machine.state, FlashState::Program);
+    are_cleared(&rt, &console);
+    let machine = console.await_byte();
+    is(&rt, "awaits a byte", machine, Some(PROGRAMS));
     Ok(())
 }

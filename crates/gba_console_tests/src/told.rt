@@ -1,19 +1,12 @@
 //! What a step tells of itself, and its line.
 
+use crate::course::{ROOM, is};
 use crate::play::{ALONE, Play, images_of_words};
 use gba_console::What::{Arm, Dma, Idle, Irq, Nothing, Off, Thumb};
 use gba_console::{KeyState, What};
-use gba_io::Room;
 use std::alloc::Global;
+use std::process::Abort;
 use std::test::Fail;
-
-/// Room for a million cycles, where all is kept.
-const ROOM: Room = Room {
-    until: 1_000_000,
-    frames: true,
-    samples: true,
-    words: true,
-};
 
 /// Branches to itself.
 const LOOPS: &[u32] = &[0xEAFF_FFFE];
@@ -34,8 +27,8 @@ const BOTH_STATES: &[u32] = &[
     0xEAFF_FFFE, // 14 B to itself
 ];
 
-/// Has button A interrupt a loop of 3 cycles, whose first step begins at 15.
-const AWAITS_A: &[u32] = &[
+/// Has button A interrupt a loop of 3 cycles, whose first step begins at 15: KEYCNT 4001h, IE 1000h, IME 1, I 0.
+pub(crate) const AWAITS_A: &[u32] = &[
     0xE3A0_1301, // 00 MOV r1, #04000000h
     0xE281_1E13, // 04 ADD r1, r1, #130h
     0xE3A0_2901, // 08 MOV r2, #4000h
@@ -67,9 +60,10 @@ const MOVES_WORDS: &[u32] = &[
 /// Of a program of the BIOS, the clock below which its console is off, the clock that it runs to, what its last step did, and
 /// the clock at which that step began: steps one by one, many of the same at once, and those in which no instruction is executed.
 /// BEQ at 8 isn't, but is told.
-static COURSES: [(&[u32], u64, u64, What, u64); 15] = [
-    (LOOPS, 0, 0, Nothing, 0),
+static COURSES: [(&str, &[u32], u64, u64, What, u64); 15] = [
+    ("loops until 0", LOOPS, 0, 0, Nothing, 0),
     (
+        "loops until 1",
         LOOPS,
         0,
         1,
@@ -80,6 +74,7 @@ static COURSES: [(&[u32], u64, u64, What, u64); 15] = [
         0,
     ),
     (
+        "loops until 999",
         LOOPS,
         0,
         999,
@@ -90,6 +85,7 @@ static COURSES: [(&[u32], u64, u64, What, u64); 15] = [
         996,
     ),
     (
+        "skips until 4",
         SKIPS,
         0,
         4,
@@ -100,6 +96,7 @@ static COURSES: [(&[u32], u64, u64, What, u64); 15] = [
         3,
     ),
     (
+        "both states until 4",
         BOTH_STATES,
         0,
         4,
@@ -110,6 +107,7 @@ static COURSES: [(&[u32], u64, u64, What, u64); 15] = [
         1,
     ),
     (
+        "both states until 5",
         BOTH_STATES,
         0,
         5,
@@ -120,6 +118,7 @@ static COURSES: [(&[u32], u64, u64, What, u64); 15] = [
         4,
     ),
     (
+        "both states until 9",
         BOTH_STATES,
         0,
         9,
@@ -130,6 +129,7 @@ static COURSES: [(&[u32], u64, u64, What, u64); 15] = [
         6,
     ),
     (
+        "both states until 10",
         BOTH_STATES,
         0,
         10,
@@ -140,6 +140,7 @@ static COURSES: [(&[u32], u64, u64, What, u64); 15] = [
         9,
     ),
     (
+        "halts until 4",
         HALTS,
         0,
         4,
@@ -149,12 +150,26 @@ static COURSES: [(&[u32], u64, u64, What, u64); 15] = [
         },
         2,
     ),
-    (HALTS, 0, 20, Idle, 4),
-    (HALTS, 0, 2000, Idle, 1988),
-    (AWAITS_A, 0, 19, Irq, 18),
-    (MOVES_WORDS, 0, 20, Dma { channel: 3 }, 11),
-    (MOVES_WORDS, 0, 27, Dma { channel: 3 }, 20),
-    (LOOPS, 100, 100, Off, 96),
+    ("halts until 20", HALTS, 0, 20, Idle, 4),
+    ("halts until 2000", HALTS, 0, 2000, Idle, 1988),
+    ("awaits A until 19", AWAITS_A, 0, 19, Irq, 18),
+    (
+        "moves words until 20",
+        MOVES_WORDS,
+        0,
+        20,
+        Dma { channel: 3 },
+        11,
+    ),
+    (
+        "moves words until 27",
+        MOVES_WORDS,
+        0,
+        27,
+        Dma { channel: 3 },
+        20,
+    ),
+    ("loops off below 100 until 100", LOOPS, 100, 100, Off, 96),
 ];
 
 /// Button A is pressed at 16, and another one at a clock that no course comes to.
@@ -171,17 +186,22 @@ fn play_of(alloc: Global, words: &[u32], off: u64) -> Result<Play, Fail> {
     Play::new(alloc, ALONE, off, images, &KEYS, ROOM)
 }
 
+/// What its last step did, when that began, where it is off, and its changes of the keys.
+fn tells<R: Abort>(rt: &R, console: &Play, case: &str, (off, what, was): (u64, What, u64)) {
+    is(rt, case, console.off(), off);
+    is(rt, case, console.last(), what);
+    is(rt, case, console.was(), was);
+    assert_eq!(rt; console.keys(), KEYS.as_slice(), "{case}");
+}
+
 #[test]
 fn steps_tell_what_they_did(rt: HostRuntime) -> Result<(), Fail> {
-    for &(words, off, until, what, was) in &COURSES {
+    for &(case, words, off, until, what, was) in &COURSES {
         let mut console = play_of(rt.alloc(), words, off)?;
         console.run(&rt, until);
-        assert_eq!(rt; console.last(), what, "until {until}");
-        assert_eq!(rt; console.was(), was, "until {until}");
-        assert_eq!(rt; console.off(), off);
-        assert_eq!(rt; console.keys(), KEYS.as_slice());
+        tells(&rt, &console, case, (off, what, was));
         console.forget(&rt, ROOM.until);
-        assert_eq!(rt; console.last(), Nothing);
+        is(&rt, case, console.last(), Nothing);
     }
     Ok(())
 }
@@ -233,12 +253,24 @@ static LINES: [(&[u32], u64, u64, &[u8]); 7] = [
     ),
 ];
 
+/// The line of the last step.
+fn line_of<R: Abort>(
+    rt: &R,
+    alloc: Global,
+    words: &[u32],
+    off: u64,
+    until: u64,
+) -> Result<Vec<u8>, Fail> {
+    let mut console = play_of(alloc, words, off)?;
+    console.run(rt, until);
+    console.line(alloc)
+}
+
 #[test]
 fn steps_have_their_lines(rt: HostRuntime) -> Result<(), Fail> {
     for &(words, off, until, line) in &LINES {
-        let mut console = play_of(rt.alloc(), words, off)?;
-        console.run(&rt, until);
-        assert_eq!(rt; console.line(rt.alloc())?.as_slice(), line);
+        let told = line_of(&rt, rt.alloc(), words, off, until)?;
+        assert_eq!(rt; told.as_slice(), line, "until {until}");
     }
     Ok(())
 }

@@ -1,6 +1,8 @@
 //! Transfers over whole consoles, whose programs start and await them.
 
 use crate::cable::{Cable, console_of};
+use crate::course::Look::{Clock, Half, Transfers, TransfersKept, Was};
+use crate::course::{is, show_the_same, shows};
 use crate::play::{ALONE, Play, Seat};
 use gba_serial::Transfer;
 use link_node::LinkMode::{self, Multi, Normal8, Normal32, Other};
@@ -10,7 +12,7 @@ use std::process::Abort;
 use std::test::Fail;
 
 /// Player 0: waits until all are ready in Multi, and starts with 1234h at speed 3.
-pub(crate) const STARTS_MULTI: &[u8] = b"
+const STARTS_MULTI: &[u8] = b"
         mov r5, #0x04000000
         add r5, r5, #0x100
         mov r0, #0
@@ -31,7 +33,7 @@ go:     .word 0x6083
 ";
 
 /// Player 1: in Multi with ABCDh.
-pub(crate) const AWAITS_MULTI: &[u8] = b"
+const AWAITS_MULTI: &[u8] = b"
         mov r5, #0x04000000
         add r5, r5, #0x100
         mov r0, #0
@@ -46,7 +48,7 @@ mode:   .word 0x2003
 ";
 
 /// Starts Multi with 1234h at speed 3 at once.
-pub(crate) const STARTS_ALONE: &[u8] = b"
+const STARTS_ALONE: &[u8] = b"
         mov r5, #0x04000000
         add r5, r5, #0x100
         mov r0, #0
@@ -90,7 +92,7 @@ end:    b end
 ";
 
 /// Starts Normal32 with the inside clock and 01234567h.
-const STARTS_WORD: &[u8] = b"
+pub(crate) const STARTS_WORD: &[u8] = b"
         mov r5, #0x04000000
         add r5, r5, #0x100
         mov r0, #0
@@ -113,99 +115,246 @@ const TELLS_LATER: &[u8] = b"
         strh r0, [r5, #0x34]
 ";
 
-/// A console has ended just this transfer.
-fn ended<R: Abort>(rt: &R, console: &Play, transfer: Transfer) {
-    assert_eq!(rt; console.counts().words, 1);
-    assert_eq!(rt; console.words().len(), 1);
-    let word = console.words().first().copied();
-    assert!(rt; word == Some(transfer), "{word:?} ended");
+/// A transfer in Multi 5,220 cycles after the start.
+const MULTI: Transfer = Transfer {
+    end: 5220,
+    mode: Multi,
+    words: [0x1234, 0xABCD, 0xFFFF, 0xFFFF],
+    sent: 0x1234,
+    got: 0,
+    error: false,
+    interrupt: false,
+};
+
+/// A transfer in Normal32 2,048 cycles after the start, where nothing is received.
+const WORD: Transfer = Transfer {
+    end: 2048,
+    mode: Normal32,
+    words: [0; 4],
+    sent: 0x0123_4567,
+    got: 0xFFFF_FFFF,
+    error: false,
+    interrupt: false,
+};
+
+/// A transfer in Normal8 516 cycles after the start.
+const BYTE: Transfer = Transfer {
+    end: 516,
+    mode: Normal8,
+    words: [0; 4],
+    sent: 0x5A,
+    got: 0xA5,
+    error: false,
+    interrupt: false,
+};
+
+/// Two consoles on a cable, and the transfer that each ends, so many cycles after the start.
+#[derive(Clone, Copy)]
+struct Meeting {
+    name: &'static str,
+    delay: u64,
+    /// Player 1 is off below this clock, and tells nothing before it.
+    off: u64,
+    sources: [&'static [u8]; 2],
+    /// Clocks, and the mode of player 0 that player 1 has learned by then, while it is off.
+    known: &'static [(u64, LinkMode)],
+    until: u64,
+    /// Whether player 1 starts too, at the same clock.
+    both: bool,
+    ended: [Option<Transfer>; 2],
+    /// Halfwords of the I/O registers of both consoles, by their offset.
+    halves: &'static [(u32, u64, u64)],
 }
 
-fn transfer(end: u64, mode: LinkMode, words: [u16; 4], sent: u32, got: u32) -> Transfer {
-    Transfer {
-        end,
-        mode,
-        words,
-        sent,
-        got,
-        error: false,
-        interrupt: false,
+/// On a cable with a delay of 512 cycles, for 10,000 cycles.
+const PLAIN: Meeting = Meeting {
+    name: "",
+    delay: 512,
+    off: 0,
+    sources: [b"", b""],
+    known: &[],
+    until: 10_000,
+    both: false,
+    ended: [None, None],
+    halves: &[],
+};
+
+static MEETINGS: [Meeting; 6] = [
+    // Both end 5,220 cycles after the start with both words, and player 0, which asked for it, has its interrupt requested.
+    Meeting {
+        name: "two consoles in Multi",
+        sources: [STARTS_MULTI, AWAITS_MULTI],
+        ended: [
+            Some(Transfer {
+                interrupt: true,
+                ..MULTI
+            }),
+            Some(Transfer {
+                sent: 0xABCD,
+                ..MULTI
+            }),
+        ],
+        halves: &[(0x202, 0x0080, 0x0000)],
+        ..PLAIN
+    },
+    // A peer in Normal8 doesn't answer a start in Multi, whose transfer ends with the error.
+    Meeting {
+        name: "nobody answers in Multi",
+        sources: [STARTS_ALONE, AWAITS_BYTE],
+        ended: [
+            Some(Transfer {
+                words: [0x1234, 0xFFFF, 0xFFFF, 0xFFFF],
+                error: true,
+                ..MULTI
+            }),
+            None,
+        ],
+        ..PLAIN
+    },
+    // Two starts at the same clock: neither replies, and both get ones.
+    Meeting {
+        name: "both start",
+        sources: [STARTS_WORD, STARTS_WORD],
+        both: true,
+        ended: [Some(WORD), Some(WORD)],
+        ..PLAIN
+    },
+    // Over the shortest delay a byte takes 516 cycles, and each has the other's.
+    Meeting {
+        name: "bytes are exchanged",
+        delay: 1,
+        sources: [STARTS_BYTE, AWAITS_BYTE],
+        until: 3_000,
+        ended: [
+            Some(BYTE),
+            Some(Transfer {
+                sent: 0xA5,
+                got: 0x5A,
+                ..BYTE
+            }),
+        ],
+        halves: &[(0x12A, 0x00A5, 0x005A)],
+        ..PLAIN
+    },
+    // Player 0 starts a Multi transfer while player 1 is off, and ends it alone, with an error. Player 1, which is on before
+    // that end, ends none.
+    Meeting {
+        name: "a start is lost on a console that is off",
+        delay: 16,
+        off: 2000,
+        sources: [STARTS_ALONE, AWAITS_MULTI],
+        until: 8000,
+        ended: [
+            Some(Transfer {
+                words: [0x1234, 0xFFFF, 0xFFFF, 0xFFFF],
+                error: true,
+                ..MULTI
+            }),
+            None,
+        ],
+        ..PLAIN
+    },
+    // What player 0 told while player 1 was off is known there, so the two make a transfer together once both are on.
+    Meeting {
+        name: "modes are known from before",
+        delay: 16,
+        off: 2000,
+        sources: [STARTS_MULTI, AWAITS_MULTI],
+        known: &[(0, Other), (1000, Multi)],
+        until: 9000,
+        ended: [
+            Some(Transfer {
+                interrupt: true,
+                ..MULTI
+            }),
+            Some(Transfer {
+                sent: 0xABCD,
+                ..MULTI
+            }),
+        ],
+        ..PLAIN
+    },
+];
+
+/// A transfer of a start at this clock.
+fn of_start(start: u64, after: Option<Transfer>) -> Option<Transfer> {
+    let transfer = after?;
+    let end = start.checked_add(transfer.end)?;
+    Some(Transfer { end, ..transfer })
+}
+
+/// A console has ended just this transfer, or none.
+fn has_ended<R: Abort>(rt: &R, case: &str, console: &Play, transfer: Option<Transfer>) {
+    let count = u64::from(transfer.is_some());
+    shows(rt, console, case, Transfers, count);
+    shows(rt, console, case, TransfersKept, count);
+    is(rt, case, console.words().first().copied(), transfer);
+}
+
+/// Both consoles have ended their transfers.
+fn have_ended<R: Abort>(rt: &R, cable: &Cable, meeting: &Meeting) {
+    let Some(start) = cable.started(0) else {
+        return is(rt, meeting.name, cable.started(0).is_some(), true);
+    };
+    let second = if meeting.both { Some(start) } else { None };
+    is(rt, meeting.name, cable.started(1), second);
+    let [one, other] = &cable.consoles;
+    has_ended(rt, meeting.name, one, of_start(start, meeting.ended[0]));
+    has_ended(rt, meeting.name, other, of_start(start, meeting.ended[1]));
+    for (offset, first, second) in meeting.halves {
+        shows(rt, one, meeting.name, Half(*offset), *first);
+        shows(rt, other, meeting.name, Half(*offset), *second);
     }
 }
 
-/// A halfword of the I/O registers of both consoles.
-fn has_halves<R: Abort>(rt: &R, cable: &Cable, offset: u32, halves: [u16; 2]) {
-    let [one, other] = &cable.consoles;
-    assert_eq!(rt; [one.io_half(offset), other.io_half(offset)], halves);
+/// The clock of the first signal that player 1 told, or 0 where it told none.
+fn first_told(cable: &Cable) -> u64 {
+    match cable.told[1].first() {
+        Some(signal) => signal.clock,
+        None => 0,
+    }
 }
 
-/// Both end 5,220 cycles after the start with both words, and player 0, which asked for it, has its interrupt requested.
-#[test]
-fn two_consoles_in_multi(rt: HostRuntime) -> Result<(), Fail> {
-    let alloc = rt.alloc();
-    let mut cable = Cable::new(alloc, 512, [STARTS_MULTI, AWAITS_MULTI])?;
-    cable.run(&rt, alloc, 10_000)?;
-    let end = u64::from(cable.started(&rt, 0)?) + 5220;
-    let words = [0x1234, 0xABCD, 0xFFFF, 0xFFFF];
-    let mut first = transfer(end, Multi, words, 0x1234, 0);
-    first.interrupt = true;
-    ended(&rt, &cable.consoles[0], first);
-    ended(
-        &rt,
-        &cable.consoles[1],
-        transfer(end, Multi, words, 0xABCD, 0),
-    );
-    has_halves(&rt, &cable, 0x202, [0x0080, 0x0000]);
+/// Runs to clocks at which player 1 is off: it steps by 16 cycles, tells nothing, and learns the modes of player 0.
+fn learns<R: Abort>(
+    rt: &R,
+    alloc: Global,
+    cable: &mut Cable,
+    meeting: &Meeting,
+) -> Result<(), Fail> {
+    for (until, mode) in meeting.known {
+        cable.run(rt, alloc, *until)?;
+        let console = &cable.consoles[1];
+        is(rt, meeting.name, console.known(rt, 0), *mode);
+        is(
+            rt,
+            meeting.name,
+            (console.clock() % 16, cable.told[1].len()),
+            (0, 0),
+        );
+    }
     Ok(())
 }
 
-/// A peer in Normal8 doesn't answer a start in Multi, whose transfer ends with the error.
-#[test]
-fn nobody_answers_in_multi(rt: HostRuntime) -> Result<(), Fail> {
-    let alloc = rt.alloc();
-    let mut cable = Cable::new(alloc, 512, [STARTS_ALONE, AWAITS_BYTE])?;
-    cable.run(&rt, alloc, 10_000)?;
-    let end = u64::from(cable.started(&rt, 0)?) + 5220;
-    let words = [0x1234, 0xFFFF, 0xFFFF, 0xFFFF];
-    let mut first = transfer(end, Multi, words, 0x1234, 0);
-    first.error = true;
-    ended(&rt, &cable.consoles[0], first);
-    assert_eq!(rt; cable.consoles[1].counts().words, 0);
+fn meets<R: Abort>(rt: &R, alloc: Global, meeting: &Meeting) -> Result<(), Fail> {
+    let mut cable = Cable::with_off(alloc, meeting.delay, meeting.sources, meeting.off)?;
+    learns(rt, alloc, &mut cable, meeting)?;
+    cable.run(rt, alloc, meeting.until)?;
+    have_ended(rt, &cable, meeting);
+    is(
+        rt,
+        meeting.name,
+        first_told(&cable) >= meeting.off.max(1),
+        true,
+    );
     Ok(())
 }
 
-/// Two starts at the same clock: neither replies, and both get ones.
 #[test]
-fn both_start(rt: HostRuntime) -> Result<(), Fail> {
-    let alloc = rt.alloc();
-    let mut cable = Cable::new(alloc, 512, [STARTS_WORD, STARTS_WORD])?;
-    cable.run(&rt, alloc, 10_000)?;
-    let start = u64::from(cable.started(&rt, 0)?);
-    assert_eq!(rt; u64::from(cable.started(&rt, 1)?), start);
-    let both = transfer(start + 2048, Normal32, [0; 4], 0x0123_4567, 0xFFFF_FFFF);
-    ended(&rt, &cable.consoles[0], both);
-    ended(&rt, &cable.consoles[1], both);
-    Ok(())
-}
-
-/// Over the shortest delay a byte takes 516 cycles, and each has the other's.
-#[test]
-fn bytes_are_exchanged(rt: HostRuntime) -> Result<(), Fail> {
-    let alloc = rt.alloc();
-    let mut cable = Cable::new(alloc, 1, [STARTS_BYTE, AWAITS_BYTE])?;
-    cable.run(&rt, alloc, 3_000)?;
-    let end = u64::from(cable.started(&rt, 0)?) + 516;
-    ended(
-        &rt,
-        &cable.consoles[0],
-        transfer(end, Normal8, [0; 4], 0x5A, 0xA5),
-    );
-    ended(
-        &rt,
-        &cable.consoles[1],
-        transfer(end, Normal8, [0; 4], 0xA5, 0x5A),
-    );
-    has_halves(&rt, &cable, 0x12A, [0x00A5, 0x005A]);
+fn two_consoles_make_transfers(rt: HostRuntime) -> Result<(), Fail> {
+    for meeting in &MEETINGS {
+        meets(&rt, rt.alloc(), meeting)?;
+    }
     Ok(())
 }
 
@@ -221,7 +370,7 @@ fn idle_to<R: Abort>(rt: &R, console: &mut Play, clock: u64) {
     for _ in 0..clock {
         idle_before(rt, console, clock);
     }
-    assert_eq!(rt; console.clock(), clock);
+    is(rt, "idles", console.clock(), clock);
 }
 
 /// Told in the step at 100.
@@ -248,23 +397,32 @@ fn told_at_100<R: Abort>(rt: &R, alloc: Global) -> Result<Option<Signal>, Fail> 
     Ok(sender.turn(rt, &[]))
 }
 
-/// A signal of 100 over a delay of 1,024 is taken by the step that begins at 1,124, and not by that at 1,123.
-#[test]
-fn a_signal_arrives(rt: HostRuntime) -> Result<(), Fail> {
-    let told = told_at_100(&rt, rt.alloc())?;
-    assert!(rt; told == Some(LATER), "{told:?} told");
+/// Takes a signal that arrives at 1,124 by the step that begins there, and not by that at 1,123.
+fn takes_at_1124<R: Abort>(rt: &R, taker: &mut Play) {
+    idle_to(rt, taker, 1123);
+    idle_to(rt, taker, 1124);
+    is(
+        rt,
+        "at 1124",
+        (taker.was(), taker.known(rt, 0)),
+        (1123, Other),
+    );
     let due = Incoming {
         sender: 0,
         arrival: 1124,
         signal: LATER,
     };
+    let told = taker.turn(rt, &[due]);
+    is(rt, "from 1124", (told, taker.known(rt, 0)), (None, Normal8));
+}
+
+/// A signal of 100 over a delay of 1,024 is taken by the step that begins at 1,124, and not by that at 1,123.
+#[test]
+fn a_signal_arrives(rt: HostRuntime) -> Result<(), Fail> {
+    let told = told_at_100(&rt, rt.alloc())?;
+    is(&rt, "told at 100", told, Some(LATER));
     let mut taker = console_of(rt.alloc(), far(1), b"andeq r0, r0, r0\n")?;
-    idle_to(&rt, &mut taker, 1123);
-    idle_to(&rt, &mut taker, 1124);
-    assert_eq!(rt; taker.was(), 1123);
-    assert_eq!(rt; taker.known(&rt, 0), Other);
-    assert!(rt; taker.turn(&rt, &[due]).is_none());
-    assert_eq!(rt; taker.known(&rt, 0), Normal8);
+    takes_at_1124(&rt, &mut taker);
     Ok(())
 }
 
@@ -283,34 +441,44 @@ fn turn_to<R: Abort>(rt: &R, console: &mut Play, clock: u64) {
 }
 
 /// Two consoles have the same clocks, transfers and serial registers.
-fn are_the_same<R: Abort>(rt: &R, one: &Play, other: &Play) {
-    assert_eq!(rt; (one.clock(), one.was()), (other.clock(), other.was()));
-    assert!(rt; one.words() == other.words(), "{:?}", one.words());
-    for half in [0x120, 0x122, 0x128, 0x12A, 0x134, 0x202] {
-        assert_eq!(rt; one.io_half(half), other.io_half(half), "at {half:x}");
+fn are_the_same<R: Abort>(rt: &R, case: &str, one: &Play, other: &Play) {
+    let looks = [
+        Clock,
+        Was,
+        TransfersKept,
+        Half(0x120),
+        Half(0x122),
+        Half(0x128),
+        Half(0x12A),
+        Half(0x134),
+        Half(0x202),
+    ];
+    show_the_same(rt, case, one, other, &looks);
+    for place in 0..one.words().len() {
+        let words = (
+            one.words().get(place).copied(),
+            other.words().get(place).copied(),
+        );
+        is(rt, case, words.0, words.1);
     }
 }
+
+static SOURCES: [(&str, &[u8]); 4] = [
+    ("starts Multi alone", STARTS_ALONE),
+    ("starts a word", STARTS_WORD),
+    ("starts a byte", STARTS_BYTE),
+    ("awaits Multi", AWAITS_MULTI),
+];
 
 /// A console alone makes the same steps by turns as by a run.
 #[test]
 fn runs_are_turns(rt: HostRuntime) -> Result<(), Fail> {
-    for source in [STARTS_ALONE, STARTS_WORD, STARTS_BYTE, AWAITS_MULTI] {
+    for &(case, source) in &SOURCES {
         let mut one = console_of(rt.alloc(), ALONE, source)?;
         let mut other = console_of(rt.alloc(), ALONE, source)?;
         one.run(&rt, 9_001);
         turn_to(&rt, &mut other, 9_001);
-        are_the_same(&rt, &one, &other);
+        are_the_same(&rt, case, &one, &other);
     }
-    Ok(())
-}
-
-/// A transfer that is forgotten stays counted.
-#[test]
-fn words_are_forgotten(rt: HostRuntime) -> Result<(), Fail> {
-    let mut console = console_of(rt.alloc(), ALONE, STARTS_WORD)?;
-    console.run(&rt, 9_001);
-    assert_eq!(rt; console.words().len(), 1);
-    console.forget(&rt, 100_000);
-    assert_eq!(rt; (console.words().len(), console.counts().words), (0, 1));
     Ok(())
 }
