@@ -14,6 +14,7 @@ use Rattle.gba_io.specs.Board.{BoardPasses, HasRoom, board_after}
 use Rattle.gba_io.specs.Core.{core_is_idle}
 use Rattle.gba_io.specs.declared.board.Board.{Board}
 use Rattle.gba_serial.specs.Apart.{StaysQuiet, next_end}
+use Rattle.gba_console.specs.Idling.{CanIdle, KeepsIdling}
 use Rattle.gba_console.specs.Keys.{due_of}
 use Rattle.gba_console.specs.Machine.{Machine, clock_of, left_of}
 use Rattle.gba_console.specs.Step.{next}
@@ -24,14 +25,14 @@ use Rattle.gba_console.proofs.Passing.{has-room, sound-ready, step-sound, step-w
 use Rattle.gba_console.specs.declared.doing.What.TheVariants.{Idle}
 
 module _ (passes : (cycles : ℕ) (b : Board) → BoardPasses cycles b) where
-  pub idle-is : CalmHasBegun → StaysQuiet → (m : Machine) (after : Board) → core_is_idle m.board.core ≡ true
-      → m.off ≤ clock_of m → clock_of m < due_of (left_of m) → clock_of m < next_end m.board.core.serial → after ≡ board_after 16 m.board
+  pub idle-is : CalmHasBegun → StaysQuiet → (m : Machine) (after : Board) → CanIdle (clock_of m + 1) m
+      → after ≡ board_after 16 m.board
       → (record m { board = after; was = after.core.devices.clock - 16; last = Idle }) ≡ next m
-  idle-is begun quiet m after idle on early before e =
+  idle-is begun quiet m after can e =
       ap (λ (b : Board). record m { board = b; was = b.core.devices.clock - 16; last = Idle }) e
       ∙ ap (λ (was : ℕ). record m { board = board_after 16 m.board; was = was; last = Idle })
       (step-was (clock_of m) 16 m.board (board_after 16 m.board) refl (passes 16 m.board) refl)
-      ∙ sym (idle-next begun quiet m idle on early before)
+      ∙ sym (idle-next begun quiet m can.idle can.on (omega (arith, can.keys)) (omega (arith, can.ends)))
 
   pub idle-sound : (was : ℕ) (b after : Board) → IsSound was b → was ≤ b.core.devices.clock
       → b.core.devices.clock < b.made.until → after ≡ board_after 16 b → IsSound (after.core.devices.clock - 16) after
@@ -46,6 +47,36 @@ pub idle-room : (was : ℕ) (b : Board) → IsSound was b → b.core.devices.clo
 idle-room was b sound early =
     has-room b 16 b.core.devices.clock refl (omega arith) sound.step early sound.few
 
+-- what idle steps need, they leave where nothing asks for more after them
+pub can-still : (stop : ℕ) (m after : Machine) → CanIdle stop m → KeepsIdling m after → clock_of m ≤ clock_of after
+    → core_is_idle after.board.core ≡ true → CanIdle stop after
+can-still stop m after can keeps later idle = record {
+  until = omega (arith, can.until, keeps.until);
+  idle = idle;
+  on = omega (arith, can.on, keeps.off, later);
+  keys = subst (λ (n : ℕ). stop ≤ n) (ap due_of (sym keeps.keys)) can.keys;
+  ends = subst (λ (n : ℕ). stop ≤ n) (ap next_end (sym keeps.serial)) can.ends;
+}
+
+-- what two rows of idle steps keep, both keep together
+pub kept-twice : {m between after : Machine} → KeepsIdling m between → KeepsIdling between after → KeepsIdling m after
+kept-twice first second = record {
+  until = second.until ∙ first.until;
+  off = second.off ∙ first.off;
+  keys = second.keys ∙ first.keys;
+  serial = second.serial ∙ first.serial;
+}
+
+-- and below their stop one of them can be made
+pub can-once : (stop : ℕ) (m : Machine) → CanIdle stop m → clock_of m < stop → CanIdle (clock_of m + 1) m
+can-once stop m can early = record {
+  until = omega (arith, can.until, early);
+  idle = can.idle;
+  on = can.on;
+  keys = omega (arith, can.keys, early);
+  ends = omega (arith, can.ends, early);
+}
+
 -- So many idle steps, one after another, in whose cycles nothing happens.
 pub machine_at : Machine → ℕ → Machine
 machine_at m zero = m
@@ -54,8 +85,7 @@ machine_at m (suc steps) =
     record m { board = after; was = after.core.devices.clock - 16; last = Idle }
 
 module _ (passes : (cycles : ℕ) (b : Board) → BoardPasses cycles b) (begun : CalmHasBegun) (quiet : StaysQuiet)
-    (steps_pass : (m : Machine) → StepPasses [] m) (m : Machine) (stop : ℕ)
-    (idle : core_is_idle m.board.core ≡ true) (on : m.off ≤ clock_of m) (early : stop ≤ due_of (left_of m)) (before : stop ≤ next_end m.board.core.serial) where
+    (steps_pass : (m : Machine) → StepPasses [] m) (m : Machine) (stop : ℕ) (can : CanIdle stop m) where
   -- after some of them, its board
   board-at : (steps : ℕ) → (machine_at m steps).board ≡ board_after (16 * steps) m.board
   unfolding machine_at board_after
@@ -78,13 +108,24 @@ module _ (passes : (cycles : ℕ) (b : Board) → BoardPasses cycles b) (begun :
   clock-at : (steps : ℕ) → clock_of (machine_at m steps) ≡ clock_of m + 16 * steps
   clock-at steps = ap (λ (b : Board). b.core.devices.clock) (board-at steps) ∙ (passes (16 * steps) m.board).clock
 
+  until-at : (steps : ℕ) → (machine_at m steps).board.made.until ≡ m.board.made.until
+  until-at steps = ap (λ (b : Board). b.made.until) (board-at steps) ∙ (passes (16 * steps) m.board).until
+
+  keeps-at : (steps : ℕ) → KeepsIdling m (machine_at m steps)
+  keeps-at steps = record {
+    until = until-at steps;
+    off = off-at steps;
+    keys = keys-at steps;
+    serial = serial-at steps;
+  }
+
   still-idle : (steps : ℕ) → is_idle (board_after (16 * steps) m.board).core.devices ≡ is_idle m.board.core.devices
       → core_is_idle (machine_at m steps).board.core ≡ true
   still-idle steps same =
       ap (λ (u : SerialUnit). is_idle (machine_at m steps).board.core.devices && not (has_news u)) (serial-at steps)
       ∙ ap (λ (test : Bool). test && not (has_news m.board.core.serial))
       (ap (λ (b : Board). is_idle b.core.devices) (board-at steps) ∙ same)
-      ∙ idle
+      ∙ can.idle
 
   next-board : (steps : ℕ) → board_after (16 * suc steps) m.board ≡ board_after 16 (machine_at m steps).board
   next-board steps =
@@ -104,14 +145,16 @@ module _ (passes : (cycles : ℕ) (b : Board) → BoardPasses cycles b) (begun :
       → clock_of m + 16 * steps < stop → machine_at m (suc steps) ≡ next (machine_at m steps)
   one-at steps same below =
       sym (next-at steps)
-      ∙ idle-is passes begun quiet (machine_at m steps) (board_after (16 * suc steps) m.board) (still-idle steps same)
-      (omega (arith, off-at steps, clock-at steps, on))
-      (let due = ap due_of (keys-at steps) in omega (arith, due, early, below, clock-at steps))
-      (let ends = ap next_end (serial-at steps) in omega (arith, ends, before, below, clock-at steps))
+      ∙ idle-is passes begun quiet (machine_at m steps) (board_after (16 * suc steps) m.board)
+      (can-once stop (machine_at m steps)
+      (can-still stop m (machine_at m steps) can (keeps-at steps) (omega (arith, clock-at steps))
+      (still-idle steps same))
+      (omega (arith, below, clock-at steps)))
       (next-board steps)
 
   pub idle-row : (count : ℕ)
-      → ((steps : ℕ) → steps ≤ count → is_idle (board_after (16 * steps) m.board).core.devices ≡ is_idle m.board.core.devices)
+      → ((steps : ℕ) → steps ≤ count
+      → is_idle (board_after (16 * steps) m.board).core.devices ≡ is_idle m.board.core.devices)
       → clock_of m + 16 * count < stop + 16 → GoesAlone stop m (machine_at m count) None
   unfolding machine_at
   idle-row zero same below = Stays
@@ -131,18 +174,15 @@ module _ (passes : (cycles : ℕ) (b : Board) → BoardPasses cycles b) (begun :
   was-at zero later = later
   was-at (suc steps) later = omega arith
 
-  until-at : (steps : ℕ) → (machine_at m steps).board.made.until ≡ m.board.made.until
-  until-at steps = ap (λ (b : Board). b.made.until) (board-at steps) ∙ (passes (16 * steps) m.board).until
-
-  sound-at : (count : ℕ) → IsSound m.was m.board → m.was ≤ clock_of m → stop ≤ m.board.made.until
-      → clock_of m + 16 * count < stop + 16 → IsSound (machine_at m count).was (machine_at m count).board
+  sound-at : (count : ℕ) → IsSound m.was m.board → m.was ≤ clock_of m → clock_of m + 16 * count < stop + 16
+      → IsSound (machine_at m count).was (machine_at m count).board
   unfolding machine_at
-  sound-at zero sound later room below = sound
-  sound-at (suc steps) sound later room below =
+  sound-at zero sound later below = sound
+  sound-at (suc steps) sound later below =
       let at = machine_at m steps in
-      let here = sound-at steps sound later room (omega (arith, below)) in
+      let here = sound-at steps sound later (omega (arith, below)) in
       idle-sound passes at.was at.board (board_after (16 * suc steps) m.board) here (was-at steps later)
-      (omega (arith, clock-at steps, until-at steps, below, room)) (next-board steps)
+      (omega (arith, clock-at steps, until-at steps, below, can.until)) (next-board steps)
 
   -- what a console is that has made them
   pub made-at : (count : ℕ) → 0 < count → (after : Board) → after ≡ board_after (16 * count) m.board
@@ -153,14 +193,15 @@ module _ (passes : (cycles : ℕ) (b : Board) → BoardPasses cycles b) (begun :
       ap (λ (b : Board). record m { board = b; was = b.core.devices.clock - 16; last = Idle }) e
 
   pub many-sound : (count : ℕ) → 0 < count → (after : Board) → after ≡ board_after (16 * count) m.board
-      → IsSound m.was m.board → m.was ≤ clock_of m → stop ≤ m.board.made.until → clock_of m + 16 * count < stop + 16
+      → IsSound m.was m.board → m.was ≤ clock_of m → clock_of m + 16 * count < stop + 16
       → IsSound (after.core.devices.clock - 16) after
-  many-sound count some after e sound later room below =
+  many-sound count some after e sound later below =
       let P : Machine → Type 0 = λ some. IsSound some.was some.board in
-      subst P (sym (made-at count some after e)) (sound-at count sound later room below)
+      subst P (sym (made-at count some after e)) (sound-at count sound later below)
 
   pub many-alone : (count : ℕ) → 0 < count → (after : Board) → after ≡ board_after (16 * count) m.board
-      → ((steps : ℕ) → steps ≤ count → is_idle (board_after (16 * steps) m.board).core.devices ≡ is_idle m.board.core.devices)
+      → ((steps : ℕ) → steps ≤ count
+      → is_idle (board_after (16 * steps) m.board).core.devices ≡ is_idle m.board.core.devices)
       → clock_of m + 16 * count < stop + 16
       → GoesAlone stop m (record m { board = after; was = after.core.devices.clock - 16; last = Idle }) None
   many-alone count some after e same below =
@@ -168,7 +209,8 @@ module _ (passes : (cycles : ℕ) (b : Board) → BoardPasses cycles b) (begun :
       subst (λ (z : Machine). GoesAlone stop m z none) (sym (made-at count some after e)) (idle-row count same below)
 
   pub many-idle : (count : ℕ) → (after : Board) → after ≡ board_after (16 * count) m.board
-      → ((steps : ℕ) → steps ≤ count → is_idle (board_after (16 * steps) m.board).core.devices ≡ is_idle m.board.core.devices)
+      → ((steps : ℕ) → steps ≤ count
+      → is_idle (board_after (16 * steps) m.board).core.devices ≡ is_idle m.board.core.devices)
       → core_is_idle after.core ≡ true
   many-idle count after e same =
       ap (λ (b : Board). core_is_idle b.core) (e ∙ sym (board-at count)) ∙ still-idle count (same count (omega arith))

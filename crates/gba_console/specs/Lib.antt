@@ -2,6 +2,7 @@ pub mod Alone
 pub mod Counted
 pub mod Doing
 pub mod Fixed
+pub mod Idling
 pub mod Keys
 pub mod Linked
 pub mod Machine

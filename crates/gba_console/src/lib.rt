@@ -1,5 +1,7 @@
 #![tactic(auto)]
-//! A console: registers, a board and changes of the keys, one step of it, and the console as a node of the cable.
+//! A console: registers, a board and changes of the keys. What it is made of and how it is read stand here; how it goes
+//! on stands in `one_step`, in the loops `plain_steps` and `idle_steps`, and in `many_steps`, which has the calls that
+//! go through both. A call whose name begins with `step` makes one step, one that begins with `go` or `run` makes many.
 
 ghost use Rattle.std.specs.Prelude.{◌≡◌, ◌+◌, ◌<◌, ◌≤◌, ◌^◌, All, IfOk, drop, length, vec_len, ℕ, List};
 ghost use Rattle.gba_console.specs.Fixed.{Stands};
@@ -10,29 +12,26 @@ mod acting;
 mod doing;
 mod fixed;
 mod hearing;
+mod idle_steps;
 mod keys;
 pub mod laws;
+mod many_steps;
 mod node;
+mod one_step;
+mod plain_steps;
 mod pouring;
 
-use acting::{DECODED, IDLE_CYCLES, OFF_CYCLES, act, execute, place_of_half, place_of_word};
+use acting::{DECODED, place_of_half, place_of_word};
 use doing::Told;
 pub use doing::What;
 use fixed::{KeptHalf, first_kept};
 use gba_arm_exec::{Decoded as DecodedWord, decode_word};
-use gba_devices::laws::calm_has_begun;
 use gba_image::ConsoleImages;
-use gba_io::laws::{board_passes, ends_stay_fit};
 use gba_io::{Board, Counts, Room};
 use gba_psr::Registers;
 use gba_serial::Transfer;
-use gba_serial::laws::stays_quiet;
 use gba_terms::NoMemory;
-use hearing::{learn_all, take_all};
 pub use keys::KeyState;
-use keys::apply;
-use laws::{acts_pass, enough, steps_pass};
-use link_node::{Incoming, Signal};
 pub use pouring::ConsoleParts;
 use std::alloc::{AllocError, Global};
 use std::marker::Model;
@@ -137,16 +136,11 @@ impl Model for Console {
 }
 
 impl Console {
-    ghost use Rattle.std.specs.Prelude.{ℕ, ◌≡◌, ◌+◌, ◌*◌, ◌≤◌, ◌<◌, ◌^◌, IfOk, IsTrue, All, [], None, length, true, false};
+    ghost use Rattle.std.specs.Prelude.{◌≡◌, ◌+◌, ◌≤◌, ◌<◌, ◌^◌, IfOk, length, true, false};
     ghost use Rattle.gba_console.specs.Keys.{due_of};
     ghost use Rattle.gba_console.specs.Machine.{clock_of, forgotten, left_of, limit_of, player_of, reset, without_limit};
-    ghost use Rattle.gba_console.specs.Run.{GoesAlone, news, run_to};
-    ghost use Rattle.gba_console.specs.Step.{next, stepped, stepped_off, stepped_on, told, told_on};
-    ghost use Rattle.gba_console.specs.Waiting.{IsPlain};
     ghost use Rattle.gba_image.specs.Checks.{SaveFits};
-    ghost use Rattle.gba_io.specs.Core.{core_is_calm, core_is_idle};
     ghost use Rattle.gba_serial.specs.Apart.{next_end};
-    ghost use Rattle.link_node.specs.Due.{InOrder, IsDue};
 
     /// A console at reset, at clock 0, of a player below `count`, on a cable of 1 to 4 consoles whose signals take `round`
     /// cycles from player 0 to player 1 and back, from 2 to 2,048, from its images, whose save was checked for their backup,
@@ -335,217 +329,12 @@ impl Console {
         self.aside = What::Nothing;
     }
 
-    /// Makes a step, of 1 to 512 cycles, which begins below the end of the room. Nothing is due in it.
-    pub fn step(&mut self)
-        requires { clock_of self.old < self.old.board.made.until }
-        ensures step { self.new ≡ next self.old }
-        ensures raised { clock_of self.old < clock_of self.new }
-        ensures short { clock_of self.new ≤ clock_of self.old + 512 }
-        ensures until { self.new.board.made.until ≡ self.old.board.made.until }
-    {
-        steps_pass();
-        let _ = self.step_fully(&[]);
-    }
-
-    /// Makes a step that takes the signals which are due, and answers what it tells.
-    pub fn step_with(&mut self, due: &[Incoming]) -> Option<Signal>
-        requires below { clock_of self.old < self.old.board.made.until }
-        requires ordered { InOrder due.now }
-        requires taken { All (IsDue self.old.was (clock_of self.old)) due.now }
-        ensures step { self.new ≡ stepped due.now self.old }
-        ensures signal { result ≡ told due.now self.old }
-        ensures until { self.new.board.made.until ≡ self.old.board.made.until }
-    {
-        steps_pass();
-        if due.is_empty() && self.is_plain() {
-            self.step_once()
-        } else {
-            self.step_seldom(due)
-        }
-    }
-
-    /// Whether nothing asks for more than an instruction.
-    fn is_plain(&self) -> bool
-        ensures { IsTrue result → IsPlain self.now }
-    {
-        let clock = self.clock();
-        self.is_calm() && clock < self.due() && clock < self.next_end()
-    }
-
-    /// Makes a plain step, and answers what it tells.
-    fn step_once(&mut self) -> Option<Signal>
-        requires below { clock_of self.old < self.old.board.made.until }
-        requires plain { IsPlain self.old }
-        ensures step { self.new ≡ next self.old }
-        ensures signal { result ≡ told [] self.old }
-    {
-        steps_pass();
-        stays_quiet();
-        self.make_steps(1);
-        if self.is_calm() {
-            return None;
-        }
-        self.news()
-    }
-
-    /// Makes a step that isn't plain, behind a call, so that the code around it holds nothing for it.
-    #[inline(never)]
-    fn step_seldom(&mut self, due: &[Incoming]) -> Option<Signal>
-        requires below { clock_of self.old < self.old.board.made.until }
-        requires ordered { InOrder due.now }
-        requires taken { All (IsDue self.old.was (clock_of self.old)) due.now }
-        ensures step { self.new ≡ stepped due.now self.old }
-        ensures signal { result ≡ told due.now self.old }
-        ensures until { self.new.board.made.until ≡ self.old.board.made.until }
-    {
-        steps_pass();
-        if due.is_empty() && self.idle_once() {
-            return None;
-        }
-        self.step_fully(due)
-    }
-
-    /// Idles for a step if nothing asks for more, and answers whether it did. Such a step tells nothing.
-    fn idle_once(&mut self) -> bool
-        requires { clock_of self.old < self.old.board.made.until }
-        ensures step { result ≡ true → self.new ≡ next self.old }
-        ensures silent { result ≡ true → told [] self.old ≡ None }
-        ensures left { result ≡ false → self.new ≡ self.old }
-        ensures until { self.new.board.made.until ≡ self.old.board.made.until }
-    {
-        steps_pass();
-        stays_quiet();
-        let clock = self.clock();
-        if !self.is_idle() || self.due() <= clock || self.next_end() <= clock {
-            return false;
-        }
-        let _ = self.step_idly();
-        true
-    }
-
-    /// Makes a step, whatever is asked for, and answers what it tells.
-    #[inline(never)]
-    fn step_fully(&mut self, due: &[Incoming]) -> Option<Signal>
-        requires below { clock_of self.old < self.old.board.made.until }
-        requires ordered { InOrder due.now }
-        requires taken { All (IsDue self.old.was (clock_of self.old)) due.now }
-        ensures step { self.new ≡ stepped due.now self.old }
-        ensures signal { result ≡ told due.now self.old }
-    {
-        if self.is_off() {
-            self.step_off(due);
-            return None;
-        }
-        self.step_on(due)
-    }
-
     /// Whether the console is off.
     fn is_off(&self) -> bool
         ensures on { result ≡ false → self.now.off ≤ clock_of self.now }
         ensures off { result ≡ true → clock_of self.now < self.now.off }
     {
         self.clock() < self.off
-    }
-
-    /// Makes a step of a console that is off.
-    #[tactic(auto, unfolding(crate::specs::Step::stepped_off))]
-    fn step_off(&mut self, due: &[Incoming])
-        requires below { clock_of self.old < self.old.board.made.until }
-        requires off { clock_of self.old < self.old.off }
-        ensures { self.new ≡ stepped_off due.now self.old }
-    {
-        steps_pass();
-        let clock = self.board.core.clock();
-        self.board.core.begin();
-        learn_all(&mut self.board.core, due);
-        self.applied = apply(
-            clock,
-            self.keys.as_slice(),
-            self.applied,
-            &mut self.board.core,
-        );
-        self.cycles = OFF_CYCLES;
-        self.told = Told::Aside;
-        self.aside = What::Off;
-        self.board.core.rest(OFF_CYCLES);
-        self.due = due_at(
-            self.off,
-            clock + u64::from(OFF_CYCLES),
-            self.keys.as_slice(),
-            self.applied,
-        );
-    }
-
-    /// Makes a step of a console that is on, and answers what it tells.
-    #[tactic(auto, unfolding(crate::specs::Step::stepped_on, crate::specs::Step::told_on))]
-    fn step_on(&mut self, due: &[Incoming]) -> Option<Signal>
-        requires below { clock_of self.old < self.old.board.made.until }
-        requires on { self.old.off ≤ clock_of self.old }
-        requires ordered { InOrder due.now }
-        requires taken { All (IsDue self.old.was (clock_of self.old)) due.now }
-        ensures step { self.new ≡ stepped_on due.now self.old }
-        ensures signal { result ≡ told_on due.now self.old }
-    {
-        acts_pass();
-        board_passes();
-        ends_stay_fit();
-        let clock = self.board.core.clock();
-        self.board.core.begin();
-        take_all(&mut self.board, due);
-        self.board.end_due();
-        self.applied = apply(
-            clock,
-            self.keys.as_slice(),
-            self.applied,
-            &mut self.board.core,
-        );
-        self.due = due_after(self.keys.as_slice(), self.applied);
-        let acted = act(&mut self.registers, &mut self.board.core);
-        let signal = self.board.outgoing();
-        self.cycles = acted.cycles;
-        self.told = Told::Aside;
-        self.aside = acted.what;
-        self.board.advance(acted.cycles);
-        signal
-    }
-
-    /// Makes a plain step, and answers its cycles. No transfer ends in it, and none that begins in it ends soon.
-    #[inline(always)]
-    fn step_plainly(&mut self) -> u32
-        requires clock { clock_of self.old < self.old.board.made.until }
-        requires plain { IsPlain self.old }
-        ensures step { self.new ≡ next self.old }
-        ensures keys { left_of self.new ≡ left_of self.old }
-        ensures off { self.new.off ≡ self.old.off }
-        ensures ends { (bound : ℕ) → bound ≤ clock_of self.old + 512 → bound ≤ next_end self.old.board.core.serial
-            → bound ≤ next_end self.new.board.core.serial }
-        ensures clock { clock_of self.new ≡ clock_of self.old + result }
-        ensures some { 1 ≤ result }
-        ensures until { self.new.board.made.until ≡ self.old.board.made.until }
-    {
-        acts_pass();
-        calm_has_begun();
-        stays_quiet();
-        board_passes();
-        self.at = self.registers.get(15);
-        let cycles = execute(
-            &mut self.registers,
-            &mut self.board.core,
-            self.words.as_mut_slice(),
-            self.halves.as_mut_slice(),
-            &mut self.told,
-        );
-        self.cycles = cycles;
-        self.board.advance(cycles);
-        cycles
-    }
-
-    /// Whether nothing but the keys and the end of a transfer may ask for more than an instruction.
-    #[inline(always)]
-    fn is_calm(&self) -> bool
-        ensures { result ≡ core_is_calm self.now.board.core }
-    {
-        self.board.core.is_calm()
     }
 
     /// The clock of the next change of the keys, or one that no run reaches; 0 while the console is off.
@@ -561,225 +350,5 @@ impl Console {
         ensures { result ≡ next_end self.now.board.core.serial }
     {
         self.board.core.serial().next_end()
-    }
-
-    /// What the last step told.
-    fn news(&self) -> Option<Signal>
-        ensures { result ≡ news self.now }
-    {
-        self.board.core.signal(self.was())
-    }
-
-    /// Makes plain steps until something asks for more or `most` cycles have passed, from 1 to 512. In these cycles no keys
-    /// change and no transfer ends. Only the last step may tell something.
-    #[inline(never)]
-    fn make_steps(&mut self, most: u32)
-        requires some { 1 ≤ most }
-        requires few { most ≤ 512 }
-        requires until { clock_of self.old + most ≤ self.old.board.made.until }
-        requires keys { clock_of self.old + most ≤ due_of (left_of self.old) }
-        requires ends { clock_of self.old + most ≤ next_end self.old.board.core.serial }
-        requires calm { core_is_calm self.old.board.core ≡ true }
-        requires on { self.old.off ≤ clock_of self.old }
-        ensures alone { GoesAlone (clock_of self.old + most) self.old self.new (news self.new) }
-        ensures later { clock_of self.old < clock_of self.new }
-        ensures until { self.new.board.made.until ≡ self.old.board.made.until }
-    {
-        steps_pass();
-        stays_quiet();
-        let mut left = most;
-        loop {
-            let cycles = self.step_plainly();
-            if cycles >= left || !self.is_calm() {
-                return;
-            }
-            left -= cycles;
-        }
-    }
-
-    /// Makes steps while they are plain, the clock is below `end` and they tell nothing, and answers what the last one tells.
-    #[inline(never)]
-    fn go_plainly(&mut self, end: u64) -> Option<Signal>
-        requires { end ≤ self.old.board.made.until }
-        ensures alone { GoesAlone end self.old self.new result }
-        ensures later { clock_of self.old ≤ clock_of self.new }
-        ensures until { self.new.board.made.until ≡ self.old.board.made.until }
-    {
-        stays_quiet();
-        while self.is_calm() {
-            let stop = end.min(self.due()).min(self.next_end());
-            let most = stop.saturating_sub(self.clock()).min(512) as u32;
-            if most == 0 {
-                return None;
-            }
-            self.make_steps(most);
-            if !self.is_calm() {
-                return self.news();
-            }
-        }
-        None
-    }
-
-    /// Makes a step where nothing asks for more than idling, and answers whether nothing does after it. It tells nothing.
-    #[inline(always)]
-    fn step_idly(&mut self) -> bool
-        requires clock { clock_of self.old < self.old.board.made.until }
-        requires idle { core_is_idle self.old.board.core ≡ true }
-        requires on { self.old.off ≤ clock_of self.old }
-        requires early { clock_of self.old < due_of (left_of self.old) }
-        requires ends { clock_of self.old < next_end self.old.board.core.serial }
-        ensures step { self.new ≡ next self.old }
-        ensures clock { clock_of self.new ≡ clock_of self.old + 16 }
-        ensures keys { left_of self.new ≡ left_of self.old }
-        ensures off { self.new.off ≡ self.old.off }
-        ensures serial { self.new.board.core.serial ≡ self.old.board.core.serial }
-        ensures idle { result ≡ core_is_idle self.new.board.core }
-        ensures until { self.new.board.made.until ≡ self.old.board.made.until }
-    {
-        calm_has_begun();
-        stays_quiet();
-        board_passes();
-        let idled = IDLE_CYCLES;
-        self.board.advance(idled);
-        self.cycles = idled;
-        self.told = Told::Aside;
-        self.aside = What::Idle;
-        self.board.core.is_idle()
-    }
-
-    /// Whether nothing but the keys and the end of a transfer may ask for more than idling.
-    fn is_idle(&self) -> bool
-        ensures { result ≡ core_is_idle self.now.board.core }
-    {
-        self.board.core.is_idle()
-    }
-
-    /// Makes as many of so many idle steps as nothing happens in, all at once, and answers how many. All of them begin below
-    /// `stop`, and they tell nothing.
-    fn idle_quietly(&mut self, stop: u64, most: u32) -> u32
-        requires below { clock_of self.old + 16 * most < stop + 16 }
-        requires until { stop ≤ self.old.board.made.until }
-        requires idle { core_is_idle self.old.board.core ≡ true }
-        requires on { self.old.off ≤ clock_of self.old }
-        requires keys { stop ≤ due_of (left_of self.old) }
-        requires ends { stop ≤ next_end self.old.board.core.serial }
-        ensures alone { GoesAlone stop self.old self.new None }
-        ensures clock { clock_of self.new ≡ clock_of self.old + 16 * result }
-        ensures keys { left_of self.new ≡ left_of self.old }
-        ensures off { self.new.off ≡ self.old.off }
-        ensures serial { self.new.board.core.serial ≡ self.old.board.core.serial }
-        ensures idle { core_is_idle self.new.board.core ≡ true }
-        ensures until { self.new.board.made.until ≡ self.old.board.made.until }
-    {
-        calm_has_begun();
-        stays_quiet();
-        board_passes();
-        steps_pass();
-        let steps = self.board.owe_steps(IDLE_CYCLES, most);
-        if steps == 0 {
-            return 0;
-        }
-        self.cycles = IDLE_CYCLES;
-        self.told = Told::Aside;
-        self.aside = What::Idle;
-        steps
-    }
-
-    /// Makes idle steps, up to the first one in which something happens and that one too, and answers whether nothing asks for more than idling after them. All of them begin below
-    /// `stop`, and they tell nothing.
-    #[inline(always)]
-    fn idle_on(&mut self, stop: u64) -> bool
-        requires below { clock_of self.old < stop }
-        requires until { stop ≤ self.old.board.made.until }
-        requires idle { core_is_idle self.old.board.core ≡ true }
-        requires on { self.old.off ≤ clock_of self.old }
-        requires keys { stop ≤ due_of (left_of self.old) }
-        requires ends { stop ≤ next_end self.old.board.core.serial }
-        ensures alone { GoesAlone stop self.old self.new None }
-        ensures rises { clock_of self.old < clock_of self.new }
-        ensures keys { left_of self.new ≡ left_of self.old }
-        ensures off { self.new.off ≡ self.old.off }
-        ensures serial { self.new.board.core.serial ≡ self.old.board.core.serial }
-        ensures idle { result ≡ core_is_idle self.new.board.core }
-        ensures until { self.new.board.made.until ≡ self.old.board.made.until }
-    {
-        stays_quiet();
-        steps_pass();
-        let left = (stop - self.clock()).min(1024) as u32;
-        let most = (left + IDLE_CYCLES - 1) / IDLE_CYCLES;
-        let steps = self.idle_quietly(stop, most);
-        if most <= steps {
-            return true;
-        }
-        self.step_idly()
-    }
-
-    /// Idles while nothing asks for more and the clock is below `end`. Such steps tell nothing.
-    #[inline(never)]
-    fn go_idly(&mut self, end: u64)
-        requires { end ≤ self.old.board.made.until }
-        ensures alone { GoesAlone end self.old self.new None }
-        ensures later { clock_of self.old ≤ clock_of self.new }
-        ensures until { self.new.board.made.until ≡ self.old.board.made.until }
-    {
-        stays_quiet();
-        if !self.is_idle() {
-            return;
-        }
-        let stop = end.min(self.due()).min(self.next_end());
-        while self.clock() < stop {
-            if !self.idle_on(stop) {
-                return;
-            }
-        }
-    }
-
-    /// Makes steps with nothing due until the clock is at least `end`, which is no more than the end of the room, or one of
-    /// them tells something, and answers that.
-    pub fn go_alone(&mut self, end: u64) -> Option<Signal>
-        requires { end ≤ self.old.board.made.until }
-        ensures alone { GoesAlone end self.old self.new result }
-        ensures ends { result ≡ None → end ≤ clock_of self.new }
-        ensures rises { clock_of self.old < end → clock_of self.old < clock_of self.new }
-        ensures until { self.new.board.made.until ≡ self.old.board.made.until }
-    {
-        steps_pass();
-        while self.clock() < end {
-            if let Some(signal) = self.go_somehow(end) {
-                return Some(signal);
-            }
-        }
-        None
-    }
-
-    /// Makes one step or more with nothing due, each of which begins below `end`, up to one that tells something.
-    fn go_somehow(&mut self, end: u64) -> Option<Signal>
-        requires end { end ≤ self.old.board.made.until }
-        requires early { clock_of self.old < end }
-        ensures alone { GoesAlone end self.old self.new result }
-        ensures rises { clock_of self.old < clock_of self.new }
-        ensures until { self.new.board.made.until ≡ self.old.board.made.until }
-    {
-        steps_pass();
-        if let Some(signal) = self.go_plainly(end) {
-            return Some(signal);
-        }
-        self.go_idly(end);
-        if self.clock() < end {
-            return self.step_fully(&[]);
-        }
-        None
-    }
-
-    /// Makes steps until the clock is at least `until`, which is no more than the end of the room. Nothing is due in them, and
-    /// what they tell nobody hears.
-    pub fn run_to(&mut self, until: u64)
-        requires { until ≤ self.old.board.made.until }
-        ensures run { self.new ≡ run_to until self.old }
-        ensures until { self.new.board.made.until ≡ self.old.board.made.until }
-    {
-        steps_pass();
-        enough();
-        while self.go_alone(until).is_some() {}
     }
 }

@@ -1,7 +1,6 @@
-use Rattle.std.proofs.Common.{ℕ, ◌≤◌, ◌∙◌, ap, refl, subst, sym, arith}
-use Rattle.gba_serial.specs.Apart.{next_end}
+use Rattle.std.proofs.Common.{◌∙◌, refl, sym, arith}
 use Rattle.link_node.specs.Alone.{Stays}
-use Rattle.gba_console.specs.Keys.{due_of}
+use Rattle.gba_console.proofs.Idling.{can-still}
 use Rattle.gba_console.proofs.Rows.{and-then}
 use Rattle.gba_console.proofs.Console.go_idly.Goals as goal
 
@@ -13,29 +12,35 @@ loop-self-init c = record {
   alone = Stays;
   later = omega arith;
   within = omega (arith, c.min.ensures, c.min-stop.ensures);
-  keys = omega (arith, c.min.ensures, c.min-stop.ensures, c.due.ensures.early);
-  on = λ early. c.due.ensures.on (omega (arith, early, c.min.ensures, c.min-stop.ensures));
-  idle = sym c.is_idle.ensures ∙ c.if-not-is_idle.false;
+  idles = λ early. record {
+    until = omega (arith, c.min.ensures, c.min-stop.ensures, c.requires);
+    idle = sym c.is_idle.ensures ∙ c.if-not-is_idle.false;
+    on = c.due.ensures.on (omega (arith, early, c.min.ensures, c.min-stop.ensures));
+    keys = omega (arith, c.min.ensures, c.min-stop.ensures, c.due.ensures.early);
+    ends = omega (arith, c.min-stop.ensures, c.next_end.ensures);
+  };
   until = refl;
-  ends = omega (arith, c.min-stop.ensures, c.next_end.ensures);
 }
 
-pub returns-then-not-idle_on-clause-alone : goal.returns-then-not-idle_on-clause-alone
-returns-then-not-idle_on-clause-alone c =
-    and-then c.loop-self.invariant.within c.loop-self.invariant.alone c.idle_on.ensures.alone
+pub returns-then-not-go_past_event-clause-alone : goal.returns-then-not-go_past_event-clause-alone
+returns-then-not-go_past_event-clause-alone c =
+    and-then c.loop-self.invariant.within c.loop-self.invariant.alone c.go_past_event.ensures.alone
 
 pub loop-self-preserved : goal.loop-self-preserved
 loop-self-preserved c =
-    let step = c.idle_on.ensures in
+    let step = c.go_past_event.ensures in
     let held = c.loop-self.invariant in record {
       alone = and-then held.within held.alone step.alone;
       later = omega (arith, step.rises, held.later);
       within = held.within;
-      on = λ _.
-          (let before = held.on (omega (arith, c.loop-self-test.true, c.clock.ensures.value)) in
-          omega (arith, before, step.off, step.rises));
-      keys = subst (λ (n : ℕ). c.min-stop.result ≤ n) (ap due_of (sym step.keys)) held.keys;
-      idle = sym step.idle ∙ c.if-not-idle_on.false;
-      until = step.until ∙ held.until;
-      ends = subst (λ (n : ℕ). c.min-stop.result ≤ n) (ap next_end (sym step.serial)) held.ends;
+      idles = λ _.
+          (let before = held.idles (omega (arith, c.loop-self-test.true, c.clock.ensures.value)) in
+          can-still c.min-stop.result c.loop-self.self c.go_past_event.new.self before step.keeps
+          (omega (arith, step.rises))
+          (sym step.idle ∙ c.if-not-go_past_event.false));
+      until = step.keeps.until ∙ held.until;
     }
+
+pub go_past_event-requires-clause-idles : goal.go_past_event-requires-clause-idles
+go_past_event-requires-clause-idles c =
+    c.loop-self.invariant.idles (omega (arith, c.loop-self-test.true, c.clock.ensures.value))

@@ -1,4 +1,4 @@
-use Rattle.std.proofs.Common.{◌-◌, ◌≤◌, refl, arith}
+use Rattle.std.proofs.Common.{◌+◌, ◌-◌, ◌≤◌, refl, arith}
 use Rattle.std.specs.Prelude.{drop}
 use Rattle.gba_console.specs.Machine.{Machine}
 use Rattle.gba_console.proofs.Idling.{idle-clock, idle-is, idle-room, idle-sound}
@@ -10,8 +10,9 @@ use Rattle.gba_console.specs.Doing.{told_by}
 pub advance-requires-clause-room : goal.advance-requires-clause-room
 advance-requires-clause-room c =
     let b = c.self.inside.board in
+    let room : b.core.devices.clock + 1 ≤ b.made.until = rw (← c.self.view_is) at c.requires.until in
     idle-room (b.core.devices.clock - c.self.inside.cycles) b
-    (c.self.invariant.5.on (rw (← c.self.view_is) at c.requires.on)) (rw (← c.self.view_is) at c.requires.clock)
+    (c.self.invariant.5.on (rw (← c.self.view_is) at c.requires.on)) (omega (arith, room))
 
 pub returns-clause-step : goal.returns-clause-step
 returns-clause-step c =
@@ -27,9 +28,7 @@ returns-clause-step c =
     } in
     rw (← c.self.view_is)
     (idle-is c.board_passes.ensures.all c.calm_has_begun.ensures c.stays_quiet.ensures m c.advance.new.self
-    (rw (← c.self.view_is) at c.requires.idle) (rw (← c.self.view_is) at c.requires.on)
-    (rw (← c.self.view_is) at c.requires.early)
-    (rw (← c.self.view_is) at c.requires.ends) c.advance.ensures)
+    (rw (← c.self.view_is) at c.requires) c.advance.ensures)
 
 pub invariant_of-self : goal.invariant_of-self
 invariant_of-self c =
@@ -37,7 +36,7 @@ invariant_of-self c =
     let b = inside.board in
     let after = c.advance.new.self in
     let moved = c.advance.ensures in
-    let early = rw (← c.self.view_is) at c.requires.clock in
+    let room : b.core.devices.clock + 1 ≤ b.made.until = rw (← c.self.view_is) at c.requires.until in
     let on : inside.off ≤ b.core.devices.clock = rw (← c.self.view_is) at c.requires.on in
     let passed = idle-clock c.board_passes.ensures.all b after moved in
     let later = after.core.devices.clock in (
@@ -49,7 +48,7 @@ invariant_of-self c =
       omega (arith, passed),
       kept-on inside.off (later - 16) after c.self.invariant.5.most (omega (arith, on, passed))
           (idle-sound c.board_passes.ensures.all (b.core.devices.clock - inside.cycles) b after (c.self.invariant.5.on on)
-          (omega arith) early moved),
+          (omega arith) (omega (arith, room)) moved),
       still-stand b.core.memory after.core.memory inside.halves.items
           (moved-images b.core.memory.bios b.core.memory.rom 16 b after (record { bios = refl; rom = refl }) moved
           (c.board_passes.ensures.all 16 b))

@@ -11,11 +11,11 @@ use Rattle.gba_console.specs.Waiting.{IsKept}
 use Rattle.gba_console.proofs.On.{due-kept, kept-on}
 use Rattle.gba_console.proofs.Idling.{board-none, many-alone, many-idle, many-sound}
 use Rattle.gba_console.proofs.Images.{moved-images, still-stand}
-use Rattle.gba_console.proofs.Console.idle_quietly.Goals as goal
+use Rattle.gba_console.proofs.Console.go_quietly.Goals as goal
 use Rattle.gba_console.specs.Doing.{told_by}
 
 pub owe_steps-steps-requires-clause-step : goal.owe_steps-steps-requires-clause-step
-owe_steps-steps-requires-clause-step c = (c.self.invariant.5.on (rw (← c.self.view_is) at c.requires.on)).step
+owe_steps-steps-requires-clause-step c = (c.self.invariant.5.on (rw (← c.self.view_is) at c.requires.idles.on)).step
 
 pub returns-then-steps-eq0-clause-alone : goal.returns-then-steps-eq0-clause-alone
 returns-then-steps-eq0-clause-alone c =
@@ -53,8 +53,8 @@ returns-clause-alone c =
     let below : clock_of m + 16 * c.args.most < c.args.stop + 16 = rw (← c.self.view_is) at c.requires.below in
     rw (← c.self.view_is)
     (many-alone c.board_passes.ensures.all c.calm_has_begun.ensures c.stays_quiet.ensures (c.steps_pass.ensures []) m
-    c.args.stop (rw (← c.self.view_is) at c.requires.idle) (rw (← c.self.view_is) at c.requires.on) (rw (← c.self.view_is) at c.requires.keys)
-    (rw (← c.self.view_is) at c.requires.ends) steps some c.owe_steps-steps.new.self c.owe_steps-steps.ensures.owed
+    c.args.stop (rw (← c.self.view_is) at c.requires.idles) steps some c.owe_steps-steps.new.self
+    c.owe_steps-steps.ensures.owed
     c.owe_steps-steps.ensures.idle (omega (arith, below, c.owe_steps-steps.ensures.most)))
 
 pub invariant_of-self : goal.invariant_of-self
@@ -96,7 +96,7 @@ invariant_of-self-2 c =
     let below : clock_of m + 16 * c.args.most < c.args.stop + 16 = rw (← c.self.view_is) at c.requires.below in
     let passes = c.board_passes.ensures.all (16 * steps) b in
     let clock = ap (λ (b : Board). b.core.devices.clock) owed in
-    let on : inside.off ≤ b.core.devices.clock = rw (← c.self.view_is) at c.requires.on in
+    let on : inside.off ≤ b.core.devices.clock = rw (← c.self.view_is) at c.requires.idles.on in
     let later = after.core.devices.clock in (
       c.self.invariant.0,
       c.self.invariant.1,
@@ -104,10 +104,10 @@ invariant_of-self-2 c =
       due-kept inside.off b.core.devices.clock later inside.due (drop inside.applied inside.keys.items) on
           (omega (arith, clock, passes.clock)) c.self.invariant.3,
       omega (arith, clock, passes.clock, some),
-      kept-on inside.off (later - 16) after c.self.invariant.5.most (omega (arith, on, clock, passes.clock)) (many-sound c.board_passes.ensures.all c.calm_has_begun.ensures c.stays_quiet.ensures (c.steps_pass.ensures []) m
-          c.args.stop (rw (← c.self.view_is) at c.requires.idle) (rw (← c.self.view_is) at c.requires.on) (rw (← c.self.view_is) at c.requires.keys)
-          (rw (← c.self.view_is) at c.requires.ends) steps some after owed (c.self.invariant.5.on on) (omega arith)
-          (rw (← c.self.view_is) at c.requires.until) (omega (arith, below, c.owe_steps-steps.ensures.most))),
+      kept-on inside.off (later - 16) after c.self.invariant.5.most (omega (arith, on, clock, passes.clock))
+          (many-sound c.board_passes.ensures.all c.calm_has_begun.ensures c.stays_quiet.ensures
+          (c.steps_pass.ensures []) m c.args.stop (rw (← c.self.view_is) at c.requires.idles) steps some after owed
+          (c.self.invariant.5.on on) (omega arith) (omega (arith, below, c.owe_steps-steps.ensures.most))),
       still-stand b.core.memory after.core.memory inside.halves.items
           (moved-images b.core.memory.bios b.core.memory.rom (16 * steps) b after (record { bios = refl; rom = refl }) owed
           passes)
@@ -127,6 +127,5 @@ returns-clause-idle c =
       last = told_by inside.told inside.at inside.aside inside.words.items inside.halves.items;
     } in
     many-idle c.board_passes.ensures.all c.calm_has_begun.ensures c.stays_quiet.ensures (c.steps_pass.ensures []) m
-    c.args.stop (rw (← c.self.view_is) at c.requires.idle) (rw (← c.self.view_is) at c.requires.on) (rw (← c.self.view_is) at c.requires.keys)
-    (rw (← c.self.view_is) at c.requires.ends) c.owe_steps-steps.result c.owe_steps-steps.new.self
+    c.args.stop (rw (← c.self.view_is) at c.requires.idles) c.owe_steps-steps.result c.owe_steps-steps.new.self
     c.owe_steps-steps.ensures.owed c.owe_steps-steps.ensures.idle

@@ -5,7 +5,7 @@ use Rattle.gba_console.specs.Keys.{due_of}
 use Rattle.gba_console.specs.Machine.{clock_of}
 use Rattle.gba_console.specs.Run.{GoesAlone}
 use Rattle.gba_console.proofs.Rows.{calm-silent, one-more}
-use Rattle.gba_console.proofs.Console.make_steps.Goals as goal
+use Rattle.gba_console.proofs.Console.go_plainly_for.Goals as goal
 
 pub loop-left-init : goal.loop-left-init
 loop-left-init c = record {

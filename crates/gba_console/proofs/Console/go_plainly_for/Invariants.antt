@@ -4,7 +4,7 @@ use Rattle.gba_serial.specs.Apart.{next_end}
 use Rattle.gba_console.specs.Keys.{due_of}
 use Rattle.gba_console.specs.Machine.{clock_of, left_of}
 use Rattle.gba_console.specs.Run.{GoesAlone}
-use Rattle.gba_console.proofs.Console.make_steps.Given as goal
+use Rattle.gba_console.proofs.Console.go_plainly_for.Given as goal
 
 -- what is done is a row of steps, and some cycles are left before a step may be no plain one
 abbrev pub invariant-loop-left : goal.invariant-loop-left
