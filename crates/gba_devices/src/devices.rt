@@ -24,13 +24,12 @@ pub struct Devices {
     debt: u32,
     silence: u32,
     horizon: u32,
-    calm: bool,
 }
 
 impl Model for Devices {
     ghost use Rattle.std.specs.Prelude.{◌≡◌, ◌+◌, ◌-◌, ◌≤◌, ◌<◌, ◌^◌};
     ghost use Rattle.gba_devices.specs.Cycles.{pairless, quiet, skipped};
-    ghost use Rattle.gba_devices.specs.State.{Devices, is_calm};
+    ghost use Rattle.gba_devices.specs.State.{Devices};
 
     ghost Value = { Devices };
 
@@ -38,8 +37,7 @@ impl Model for Devices {
 
     ghost invariant = { λ d.
         (d.debt ≤ d.silence) × (d.silence ≤ d.horizon) × (d.horizon ≤ quiet d.set) × (d.horizon ≤ 1024)
-        × (d.silence - d.debt ≤ pairless (skipped d.debt d.set)) × (d.calm ≡ is_calm d.set)
-        × (d.set.clock + d.debt < 2 ^ 63) };
+        × (d.silence - d.debt ≤ pairless (skipped d.debt d.set)) × (d.set.clock + d.debt < 2 ^ 63) };
 }
 
 impl Devices {
@@ -68,7 +66,6 @@ impl Devices {
             debt: 0,
             silence: horizon.min(set.pairless()),
             horizon,
-            calm: set.is_calm(),
             set,
         }
     }
@@ -86,7 +83,6 @@ impl Devices {
             debt: 0,
             silence: horizon.min(set.pairless()),
             horizon,
-            calm: set.is_calm(),
             set,
         }
     }
@@ -140,7 +136,7 @@ impl Devices {
     pub fn is_calm(&self) -> bool
         ensures { result ≡ is_calm self.now }
     {
-        self.calm
+        self.set.is_calm()
     }
 
     /// Whether the console is halted, and nothing asks for more than idling: no interrupt, no DMA, and no other prices.
@@ -232,7 +228,6 @@ impl Devices {
         ensures { self.new ≡ after_dma_unit channel self.old }
     {
         self.set.end_unit(channel);
-        self.calm = self.set.is_calm();
     }
 
     /// Requests the serial interrupt: bit 7 of IF.
@@ -241,7 +236,6 @@ impl Devices {
         ensures { self.new ≡ record self.old { interrupts = with_request 7 self.old.interrupts } }
     {
         self.set.request(7);
-        self.calm = self.set.is_calm();
     }
 
     fn tones(&self) -> Tones
@@ -345,7 +339,6 @@ impl Devices {
         self.set.store(offset, width, value);
         self.horizon = self.set.quiet();
         self.silence = self.horizon.min(self.set.pairless());
-        self.calm = self.set.is_calm();
     }
 
     /// Begins a step: its accesses take the prices of WAITCNT as it is.
@@ -354,7 +347,6 @@ impl Devices {
         ensures { self.new ≡ begun self.old }
     {
         self.set.begin();
-        self.calm = self.set.is_calm();
     }
 
     /// Lets so many cycles pass in which no device moves: the console is off.
@@ -376,7 +368,6 @@ impl Devices {
         ensures { self.new ≡ woken self.old }
     {
         self.set.wake();
-        self.calm = self.set.is_calm();
     }
 
     /// Makes these the pressed keys, 1 for pressed in bits 0 to 9.
@@ -385,7 +376,6 @@ impl Devices {
         ensures { self.new ≡ keyed pressed self.old }
     {
         self.set.set_keys(pressed);
-        self.calm = self.set.is_calm();
     }
 
     /// Moves by so many cycles where nothing happens in them, and answers whether it did.
@@ -547,6 +537,5 @@ impl Devices {
         self.set.cycle();
         self.horizon = self.set.quiet();
         self.silence = self.horizon.min(self.set.pairless());
-        self.calm = self.set.is_calm();
     }
 }
