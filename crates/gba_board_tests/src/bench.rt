@@ -155,15 +155,15 @@ impl Bench {
     }
 
     pub(crate) fn halted(&self) -> bool {
-        self.board.core.halted()
+        self.board.core.devices().halted()
     }
 
     pub(crate) fn pending(&self) -> bool {
-        self.board.core.pending()
+        self.board.core.devices().pending()
     }
 
     pub(crate) fn master(&self) -> bool {
-        self.board.core.master()
+        self.board.core.devices().master()
     }
 
     pub(crate) fn is_calm(&self) -> bool {
@@ -175,34 +175,34 @@ impl Bench {
     }
 
     pub(crate) fn place(&self) -> Position {
-        self.board.core.place()
+        self.board.core.devices().place()
     }
 
     pub(crate) fn reference(&self, rt: &impl Abort, background: u32) -> Reference {
         assert!(rt; 2 <= background);
         assert!(rt; background <= 3);
-        self.board.core.reference(background)
+        self.board.core.devices().reference(background)
     }
 
     pub(crate) fn timer(&self, rt: &impl Abort, number: u32) -> Timer {
         assert!(rt; number < 4);
-        self.board.core.timer(number)
+        self.board.core.devices().timer(number)
     }
 
     /// A tone channel by its number less 1.
     pub(crate) fn tone(&self, rt: &impl Abort, channel: u32) -> Tone {
         assert!(rt; channel < 4);
-        self.board.core.tone(channel)
+        self.board.core.devices().tone(channel)
     }
 
     pub(crate) fn sequencer(&self) -> u32 {
-        self.board.core.sequencer()
+        self.board.core.devices().sequencer()
     }
 
     /// The bytes of a bank of the wave.
     pub(crate) fn wave_bank(&self, rt: &impl Abort, bank: u32) -> [u8; 16] {
         assert!(rt; bank < 2);
-        self.board.core.wave_bank(bank)
+        self.board.core.devices().wave_bank(bank)
     }
 
     /// Does a unit of DMA, and answers how many cycles it takes.
@@ -213,17 +213,17 @@ impl Bench {
     /// How many units of a DMA channel are left.
     pub(crate) fn units_left(&self, rt: &impl Abort, channel: u32) -> u32 {
         assert!(rt; channel < 4);
-        self.board.core.channel(channel).left
+        self.board.core.devices().channel(channel).left
     }
 
     pub(crate) fn queue(&self, rt: &impl Abort, queue: u32) -> &[u8] {
         assert!(rt; queue < 2);
-        self.board.core.queue(queue)
+        self.board.core.devices().queue(queue)
     }
 
     pub(crate) fn queue_current(&self, rt: &impl Abort, queue: u32) -> u8 {
         assert!(rt; queue < 2);
-        self.board.core.queue_current(queue)
+        self.board.core.devices().queue_current(queue)
     }
 
     pub(crate) fn memory(&self, name: MemoryName) -> &[u8] {

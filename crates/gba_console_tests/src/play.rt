@@ -216,23 +216,23 @@ impl Play {
     }
 
     pub fn is_halted(&self) -> bool {
-        self.board().core.halted()
+        self.board().core.devices().halted()
     }
 
     /// Whether an enabled interrupt is requested.
     pub fn is_pending(&self) -> bool {
-        self.board().core.pending()
+        self.board().core.devices().pending()
     }
 
     /// Whether a DMA channel's run goes on.
     pub fn is_active<R: Abort>(&self, rt: &R, channel: u32) -> bool {
         assert!(rt; channel < 4);
-        self.board().core.channel(channel).active
+        self.board().core.devices().channel(channel).active
     }
 
     /// The line and the dot of the picture.
     pub fn place(&self) -> (u32, u32) {
-        let place = self.board().core.place();
+        let place = self.board().core.devices().place();
         (place.line, place.dot)
     }
 

@@ -67,7 +67,7 @@ impl Board {
             pairs: counts.samples,
             frames: counts.frames,
             words: counts.words,
-            cycles: u64::from(cycles_in(&self.core.place())),
+            cycles: u64::from(cycles_in(&self.core.devices().place())),
         }
     }
 
@@ -105,7 +105,7 @@ impl Board {
         requires room { HasRoom 1 self.old }
         ensures { self.new ≡ board_drawn self.old }
     {
-        let line = self.core.place().line;
+        let line = self.core.devices().place().line;
         self.core.draw_line();
         if line == 159 {
             self.core.end_frame(&mut self.made);

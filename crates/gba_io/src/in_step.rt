@@ -58,7 +58,7 @@ impl Board {
         ensures sound { IsTrue result → IsInStep self.now }
         ensures exact { IsInStep self.now → result ≡ true }
     {
-        let place = self.core.place();
+        let place = self.core.devices().place();
         let counts = self.counts();
         let clock = self.core.clock();
         let base = self.made.base();

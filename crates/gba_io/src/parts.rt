@@ -11,17 +11,14 @@ use crate::serial::is_serial;
 use gba_bus::{Bus, WaitControl};
 use gba_devices::Devices;
 use gba_devices::laws::{cycle_keeps, cycles_pass};
-use gba_dma::{Channel, Unit};
+use gba_dma::Unit;
 use gba_image::ConsoleImages;
 use gba_mem::Memory;
 use gba_numbers::MemoryName;
-use gba_ppu_reg::{Position, Reference};
 use gba_price_table::PriceTable;
-use gba_psg::Tone;
 use gba_screen::Screen;
 use gba_serial::Serial;
 use gba_terms::NoMemory;
-use gba_timer::Timer;
 use link_node::Incoming;
 use std::alloc::Global;
 use std::marker::Model;
@@ -78,19 +75,13 @@ impl Model for Core {
 }
 
 impl Core {
-    ghost use Rattle.std.specs.Prelude.{◌≡◌, ℕ, ◌+◌, ◌*◌, ◌^◌, ◌<◌, ◌≤◌, ◌==◌, ◌++◌, ◌∷◌, [], true, false, IfOk, length, option_map, if◌then◌else◌};
+    ghost use Rattle.std.specs.Prelude.{◌≡◌, ℕ, ◌+◌, ◌*◌, ◌^◌, ◌<◌, ◌≤◌, [], true, false, IfOk, length, option_map};
     ghost use Rattle.std.specs.Option.{option_map_or};
-    ghost use Rattle.gba_dma.specs.Channels.{channel_at, next_unit};
+    ghost use Rattle.gba_dma.specs.Channels.{next_unit};
     ghost use Rattle.gba_devices.specs.Cycles.{after_cycles, draws_line, draws_within, makes_pair, makes_within};
     ghost use Rattle.gba_devices.specs.Samples.{left_sample, right_sample};
     ghost use Rattle.gba_devices.specs.State.{is_idle};
     ghost use Rattle.gba_image.specs.Checks.{SaveFits};
-    ghost use Rattle.gba_irq.specs.Interrupts.{is_pending};
-    ghost use Rattle.gba_ppu_reg.specs.Position.{IsPosition};
-    ghost use Rattle.gba_ppu_reg.specs.Registers.{reference_of};
-    ghost use Rattle.gba_psg.specs.Tones.{tone_at};
-    ghost use Rattle.gba_sound.specs.Queues.{queue_at};
-    ghost use Rattle.gba_timer.specs.Timers.{timer_at};
     ghost use Rattle.gba_io.specs.Core.{core_after, core_at_start, core_begun, core_cycled, core_half_stored, core_is_calm, core_is_idle, core_keyed, core_learned, core_rested, core_woken, length_named, memory_named};
     ghost use Rattle.gba_io.specs.Base.{frames_from};
     ghost use Rattle.gba_io.specs.Board.{lines_with};
@@ -134,6 +125,13 @@ impl Core {
         self.devices.clock()
     }
 
+    /// The devices.
+    pub fn devices(&self) -> &Devices
+        ensures { result.now ≡ self.now.devices }
+    {
+        &self.devices
+    }
+
     /// Whether nothing asks for more than an instruction: no halt, no interrupt that IME lets in, no
     /// DMA, no other prices, and the last step told the peers nothing.
     #[inline]
@@ -171,27 +169,6 @@ impl Core {
     {
         self.devices.set_keys(pressed);
         self.calm = is_calm(&self.devices, &self.serial);
-    }
-
-    /// Whether an enabled interrupt is requested: IE AND IF isn't 0.
-    pub fn pending(&self) -> bool
-        ensures { result ≡ is_pending self.now.devices.interrupts }
-    {
-        self.devices.pending()
-    }
-
-    /// IME.
-    pub fn master(&self) -> bool
-        ensures { result ≡ self.now.devices.interrupts.master }
-    {
-        self.devices.master()
-    }
-
-    /// Whether the console is halted.
-    pub fn halted(&self) -> bool
-        ensures { result ≡ self.now.devices.halted }
-    {
-        self.devices.halted()
     }
 
     /// Lets so many cycles pass in which no device moves: the console is off.
@@ -232,13 +209,6 @@ impl Core {
         self.devices.end_unit(unit.channel);
         self.calm = is_calm(&self.devices, &self.serial);
         read + written + start_cycles(unit.first)
-    }
-
-    /// The unit that DMA does next: that of the lowest active channel. None exactly where no channel is active.
-    pub fn next_unit(&self) -> Option<Unit>
-        ensures { result ≡ next_unit self.now.devices.channels }
-    {
-        self.devices.next_unit()
     }
 
     /// Does one DMA unit of the lowest active channel, and answers its cycles. None exactly where no channel is active.
@@ -375,80 +345,6 @@ impl Core {
         ensures right { result.1 ≡ right_sample self.now.devices }
     {
         self.devices.sample()
-    }
-
-    /// The place of the picture: its line, from 0 to 227, and its dot, from 0 to 1,231.
-    pub fn place(&self) -> Position
-        ensures place { result ≡ self.now.devices.place }
-        ensures sound { IsPosition result }
-    {
-        self.devices.place()
-    }
-
-    /// The inner reference point of background 2 or 3: words, with 8 bits behind the point.
-    pub fn reference(&self, background: u32) -> Reference
-        requires least { 2 ≤ background }
-        requires most { background ≤ 3 }
-        ensures { result ≡ reference_of background self.now.devices.picture }
-    {
-        self.devices.reference(background)
-    }
-
-    /// A DMA channel by its number, which is below 4.
-    pub fn channel(&self, number: u32) -> Channel
-        requires { number < 4 }
-        ensures { result ≡ channel_at number self.now.devices.channels }
-    {
-        self.devices.channel(number)
-    }
-
-    /// The current byte of sound queue A or B, which are 0 and 1: a signed sample.
-    pub fn queue_current(&self, queue: u32) -> u8
-        requires { queue < 2 }
-        ensures { result ≡ (queue_at queue self.now.devices.sound).current }
-    {
-        self.devices.queue_current(queue)
-    }
-
-    /// The bytes that sound queue A or B holds, oldest first, 32 at most.
-    pub fn queue(&self, queue: u32) -> &[u8]
-        requires { queue < 2 }
-        ensures bytes { result.now ≡ (queue_at queue self.now.devices.sound).bytes }
-        ensures most { length result.now ≤ 32 }
-    {
-        self.devices.queue(queue)
-    }
-
-    /// The cycles since the sound was turned on, modulo 262,144, by which the tone channels' lengths, sweep and envelopes tick.
-    pub fn sequencer(&self) -> u32
-        ensures value { result ≡ self.now.devices.tones.sequencer }
-        ensures most { result < 0x40000 }
-    {
-        self.devices.sequencer()
-    }
-
-    /// A tone channel by its number less 1, which is below 4.
-    pub fn tone(&self, channel: u32) -> Tone
-        requires { channel < 4 }
-        ensures { result ≡ tone_at channel self.now.devices.tones }
-    {
-        self.devices.tone(channel)
-    }
-
-    /// The bytes of a bank of tone channel 3's wave, 0 or 1.
-    pub fn wave_bank(&self, bank: u32) -> [u8; 16]
-        requires { bank < 2 }
-        ensures { result ≡ (if bank == 0 then self.now.devices.tones.wave.bank0 else self.now.devices.tones.wave.bank1) }
-    {
-        self.devices.wave_bank(bank)
-    }
-
-    /// A timer by its number, which is below 4.
-    pub fn timer(&self, number: u32) -> Timer
-        requires { number < 4 }
-        ensures { result ≡ timer_at number self.now.devices.timers }
-    {
-        self.devices.timer(number)
     }
 
     /// What is stored at the halfword of an offset from 04000000h; of bits that are only read, what they read.

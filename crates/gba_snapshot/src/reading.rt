@@ -72,8 +72,8 @@ impl<'a> Snapshot<'a> {
         let core = &console.board().core;
         Snapshot {
             console,
-            wave0: core.wave_bank(0),
-            wave1: core.wave_bank(1),
+            wave0: core.devices().wave_bank(0),
+            wave1: core.devices().wave_bank(1),
         }
     }
 
@@ -94,9 +94,9 @@ impl<'a> Snapshot<'a> {
     {
         let core = &self.console.board().core;
         match field {
-            BoardField::QueueCurrent(queue) => u64::from(core.queue_current(queue)),
-            BoardField::ReferenceX(background) => u64::from(core.reference(background).x),
-            BoardField::ReferenceY(background) => u64::from(core.reference(background).y),
+            BoardField::QueueCurrent(queue) => u64::from(core.devices().queue_current(queue)),
+            BoardField::ReferenceX(background) => u64::from(core.devices().reference(background).x),
+            BoardField::ReferenceY(background) => u64::from(core.devices().reference(background).y),
             _ => number_of(core, field),
         }
     }
@@ -137,7 +137,7 @@ impl<'a> Freezing for Snapshot<'a> {
 
     #[tactic(auto, unfolding(crate::specs::Snapshot::numbers_of))]
     fn queue(&self, queue: u32) -> &[u8] {
-        self.console.board().core.queue(queue)
+        self.console.board().core.devices().queue(queue)
     }
 
     #[tactic(auto, unfolding(crate::specs::Snapshot::numbers_of))]
