@@ -41,8 +41,9 @@ _gbalink() {
 
 _gbalink_view() {
   case "$COMP_CWORD:${COMP_WORDS[COMP_CWORD - 1]}:${COMP_WORDS[COMP_CWORD]}" in
-  1:*:-*) _gbalink_words --listing --help ;;
+  1:*:-*) _gbalink_words --listing --frozen --help ;;
   1:* | *:--against:*) _gbalink_runs ;;
+  *:--frozen:*) _gbalink_files '*.frozen' ;;
   *:--sound:*) _gbalink_words 0 1 2 3 mixed ;;
   2:*) _gbalink_words --frame --frames --video --sound --transfers --page --against ;;
   *:*:-*) _gbalink_words --columns --every --hashes --sound --against --from --to --trace ;;
