@@ -85,16 +85,21 @@ class Wild:
         is_alone = self.random.random() < 0.5
         got = self.call(['run', 'j', 'g'], is_alone)
         if not self.tally.holds(name, got.status == 0, f'{got}\n{text}'):
+            self.clear()
             return
         again = self.call(['run', 'g.log', 'h'], not is_alone)
         self.tally.agrees(f'{name}, the log', again.pair, got.pair)
         first, second = room.contents(self.folder, 'g'), room.contents(self.folder, 'h')
         self.words += sum(data.count(b'\n') for entry, data in first.items() if entry.endswith('.words'))
         self.tally.holds(f'{name}, the log', first == second, f'other bytes: {[entry for entry in first if first[entry] != second.get(entry)]}\n{text}')
-        for out in 'gh':
-            for entry in first:
-                os.remove(os.path.join(self.folder, out + entry))
+        self.clear()
         self.traces(name)
+
+    def clear(self):
+        """Removes what runs wrote."""
+        for out in 'gh':
+            for entry in room.contents(self.folder, out):
+                os.remove(os.path.join(self.folder, out + entry))
 
     def traces(self, name):
         """The steps of the job, and the same in two parts; each machine's clock never falls, and the least one steps."""
