@@ -20,6 +20,9 @@ const TURNS: u32 = 4096;
 /// The most looks in vain that a lane may have left. One takes some 20 ns.
 const MOST: u64 = 1 << 22;
 
+/// So many looks in vain at a peer that doesn't go on, and a lane goes on in another thread. They take 0.1 to 0.2 ms.
+const PATIENCE: u64 = 1 << 12;
+
 /// So many cycles that the other lanes make beside it give a lane one more look.
 const CYCLES: u64 = 12;
 
@@ -54,20 +57,21 @@ fn meet<R, N: Node, G>(work: &Work<R, N, G>) {
     }
 }
 
-/// Waits until the peer for which a lane has stopped goes on, for at most so many looks. It answers how many are left.
+/// Waits until the peer for which a lane has stopped goes on, for at most so many looks. It answers how many it has taken.
 fn wait<N: Node>(shared: &Shared<N>, pause: Pause, looks: u64) -> u64
     requires some { 0 < looks }
-    ensures fewer { result < looks }
+    ensures some { 0 < result }
+    ensures most { result ≤ looks }
 {
     let Pause::Blocked { peer, seen } = pause else {
-        return looks - 1;
+        return 1;
     };
-    let mut left = looks - 1;
-    while left > 0 && shared.clock_of(peer) == Some(seen) {
+    let mut taken = 1;
+    while taken < looks && shared.clock_of(peer) == Some(seen) {
         hint::spin_loop();
-        left -= 1;
+        taken += 1;
     }
-    left
+    taken
 }
 
 /// The looks that a lane has left after so many cycles, beside which each other one of so many lanes makes as many.
@@ -78,23 +82,69 @@ fn earn(looks: u64, cycles: u64, lanes: u32) -> u64
     looks.saturating_add(others / CYCLES).min(MOST)
 }
 
-/// Lets a lane advance to the end, or till it has no look left.
-fn go<R, N: Node, G: Gate>(work: &Work<R, N, G>, lane: &mut Lane<N>)
-    requires { MayGo work.now.shared.now work.now.until lane.old }
-    ensures { Went (kind_of N.clock N.was N.next) N.plain N.bound work.now.until lane.old lane.new }
+/// Lets a lane advance in this thread to the end, till it has no look left, or till it has taken `patience` of them for one
+/// peer that hasn't gone on. It answers how many are left.
+fn go_here<R, N: Node, G: Gate>(
+    work: &Work<R, N, G>,
+    lane: &mut Lane<N>,
+    looks: u64,
+    patience: u64,
+) -> u64
+    requires may_go { MayGo work.now.shared.now work.now.until lane.old }
+    requires some { 0 < patience }
+    ensures went { Went (kind_of N.clock N.was N.next) N.plain N.bound work.now.until lane.old lane.new }
+    ensures most { result ≤ 4194304 }
 {
     let mut pause = lane.advance(work.shared, work.gate, work.until, POLLS);
-    meet(work);
     let mut clock = lane.clock();
-    let mut left = work.looks.min(MOST);
+    let mut left = looks.min(MOST);
     while left > 0 && clock < work.until {
-        left = wait(work.shared, pause, left);
+        let taken = wait(work.shared, pause, left.min(patience));
+        left -= taken;
         pause = lane.advance(work.shared, work.gate, work.until, POLLS);
         let now = lane.clock();
         if now > clock {
             left = earn(left, now - clock, work.lanes);
             clock = now;
+        } else if taken >= patience {
+            return left;
         }
+    }
+    left
+}
+
+/// Lets a lane advance to the end, or till it has no look left, in a thread of its own, while this one sleeps.
+fn go_elsewhere<R: Threads + Sync, N: Node + Send + Sync, G: Gate + Sync>(
+    work: &Work<R, N, G>,
+    lane: &mut Lane<N>,
+    looks: u64,
+)
+    requires { MayGo work.now.shared.now work.now.until lane.old }
+    ensures { Went (kind_of N.clock N.was N.next) N.plain N.bound work.now.until lane.old lane.new }
+{
+    join_mut(
+        work.rt,
+        &mut || -> u64
+            requires { MayGo work.now.shared.now work.now.until lane.now }
+        { go_here(work, lane, looks, MOST) },
+        &mut || (),
+    );
+}
+
+/// Lets a lane advance to the end, or till it has no look left. A lane that waits too long for one peer goes on in another
+/// thread, once, since that peer may be one that waits for this very processor.
+fn go<R: Threads + Sync, N: Node + Send + Sync, G: Gate + Sync>(
+    work: &Work<R, N, G>,
+    lane: &mut Lane<N>,
+)
+    requires { MayGo work.now.shared.now work.now.until lane.old }
+    ensures { Went (kind_of N.clock N.was N.next) N.plain N.bound work.now.until lane.old lane.new }
+{
+    lane.advance(work.shared, work.gate, work.until, POLLS);
+    meet(work);
+    let left = go_here(work, lane, work.looks, PATIENCE);
+    if left > 0 && lane.clock() < work.until {
+        go_elsewhere(work, lane, left);
     }
 }
 
@@ -120,7 +170,7 @@ fn two<R: Threads + Sync, N: Node + Send + Sync, G: Gate + Sync>(
     );
 }
 
-/// Three lanes side by side.
+/// Three lanes side by side. This thread starts the others, so that the system knows of each before it places the next.
 fn three<R: Threads + Sync, N: Node + Send + Sync, G: Gate + Sync>(
     work: &Work<R, N, G>,
     a: &mut Lane<N>,
@@ -137,12 +187,12 @@ fn three<R: Threads + Sync, N: Node + Send + Sync, G: Gate + Sync>(
     join_mut(
         work.rt,
         &mut ||
-            requires first { MayGo work.now.shared.now work.now.until a.now }
-            requires second { MayGo work.now.shared.now work.now.until b.now }
-        { two(work, a, b) },
+            requires { MayGo work.now.shared.now work.now.until a.now }
+        { go(work, a) },
         &mut ||
-            requires { MayGo work.now.shared.now work.now.until c.now }
-        { go(work, c) },
+            requires first { MayGo work.now.shared.now work.now.until b.now }
+            requires second { MayGo work.now.shared.now work.now.until c.now }
+        { two(work, b, c) },
     );
 }
 
@@ -166,13 +216,13 @@ fn four<R: Threads + Sync, N: Node + Send + Sync, G: Gate + Sync>(
     join_mut(
         work.rt,
         &mut ||
-            requires first { MayGo work.now.shared.now work.now.until a.now }
-            requires second { MayGo work.now.shared.now work.now.until b.now }
-        { two(work, a, b) },
+            requires { MayGo work.now.shared.now work.now.until a.now }
+        { go(work, a) },
         &mut ||
-            requires first { MayGo work.now.shared.now work.now.until c.now }
-            requires second { MayGo work.now.shared.now work.now.until d.now }
-        { two(work, c, d) },
+            requires first { MayGo work.now.shared.now work.now.until b.now }
+            requires second { MayGo work.now.shared.now work.now.until c.now }
+            requires third { MayGo work.now.shared.now work.now.until d.now }
+        { three(work, b, c, d) },
     );
 }
 

@@ -1,7 +1,7 @@
 use Rattle.std.proofs.Common.{◌-◌, ◌+◌, ◌*◌, ◌≤◌}
 use Rattle.link_order.specs.NodeKind.{kind_of}
 use Rattle.link_run.specs.Going.{Went}
-use Rattle.link_run.proofs.advance.go.Given as goal
+use Rattle.link_run.proofs.advance.go_here.Given as goal
 
 abbrev pub invariant-loop-left : goal.invariant-loop-left
 invariant-loop-left g l = record {
