@@ -209,8 +209,9 @@ def is_step(line, job):
 class Broken:
     """The calls of one worker, in folders of its own."""
 
-    def __init__(self, program, top, seed, sources):
+    def __init__(self, program, top, seed, sources, commands=()):
         self.program = program
+        self.commands = commands
         self.top = top
         self.tally = room.Tally('broken input')
         self.ended = collections.Counter()
@@ -319,8 +320,7 @@ class Broken:
         is_well = is_well and self.tally.holds(name, got.status == 0, f'{got}')
         if is_well:
             outputs = reading.outputs_of(said, OUT)
-            log = reading.log_of(said, inputs, {output: '0' * 64 for output, _ in outputs}, OUT)
-            digest = hashlib.sha256(re.sub(rb'(?m)^(out [a-z]+) sha256 .*$', rb'\1', log)).hexdigest()
+            digest = reading.frozen_digest(said, inputs)
             lines = room.read(os.path.join(folder, OUT + '.frozen')).decode('latin-1').split('\n')
             self.tally.agrees(name, [*lines[:2], *lines[-2:]], ['gbalink-frozen 1', f'job {digest}', 'end', ''])
             clocks = [line.split()[1] for line in lines if line.startswith('clock ')]
@@ -402,7 +402,7 @@ class Broken:
     def words(self, name):
         """Words that are changed, in a folder without inputs."""
         words = self.make.pick(['run', 'j', 'g'], ['asm', 'a', 'o'], ['dis', 'i', 'o'], ['tdis', 'i', 'o'], ['gen', '7', '90', 'g'],
-                               ['trace', 'j', '0', '1', 'g'], ['freeze', 'j', '1', 'g'])
+                               ['trace', 'j', '0', '1', 'g'], ['freeze', 'j', '1', 'g'], *map(list, self.commands))
         for _ in range(self.make.pick(1, 1, 2, 3)):
             place = self.make.random.randrange(len(words) + 1)
             words[place:place + self.make.pick(0, 1, 1)] = [self.make.word(VOCABULARY).decode() for _ in range(self.make.pick(0, 1, 1, 1))]
@@ -429,12 +429,13 @@ def bios_image():
 
 
 CONSOLE = r'console [0-3] clock [0-9]+ frames [0-9]+ samples [0-9]+ words [0-9]+'
+SUMMARY = rf'{CONSOLE}(\n{CONSOLE}){{0,3}}'
 REPORTS = {
     2: r'words', 3: r'absent \S{1,200}', 4: r'store \S{1,200}', 6: r'image \S{1,200} (BiosLength|TooShort|TooLong|FixedByte|HeaderCheck|SaveLength)',
     5: r'job \S{1,200} line [0-9]+ (Long|Byte|Word|Order|Repeated|Number|Name|Missing|Extra|Digest|Clash)',
     7: r'digest \S{1,200} stated [0-9a-f]{64} got [0-9a-f]{64}', 8: r'source \S{1,200} line [0-9]+ (Size|Unknown|Operand|Repeated|Label|Range)',
     9: r'sink \S{1,200}', 10: r'memory', 13: r'',
-    0: rf'trace [0-9]+|{CONSOLE}(\n{CONSOLE}){{0,3}}(\nlog [0-9a-f]{{64}})?|(asm|dis) [0-9]+',
+    0: rf'trace [0-9]+|{SUMMARY}(\nlog [0-9a-f]{{64}})?|(asm|dis) [0-9]+',
 }
 
 
@@ -447,10 +448,10 @@ def is_report(answer):
 SHARES = {Broken.job: 60, Broken.key_file: 14, Broken.log_line: 8, Broken.source: 8, Broken.image: 4, Broken.words: 4, Broken.listing: 2}
 
 
-def check(program, top, seed, count, sources, keep=None):
-    """So many inputs of one seed."""
+def check(program, top, seed, count, sources, keep=None, commands=()):
+    """So many inputs of one seed; `commands` are words of commands that don't stand in every program."""
     os.makedirs(top)
-    broken = Broken(program, top, seed, sources)
+    broken = Broken(program, top, seed, sources, commands)
     kinds = [kind for kind, share in SHARES.items() for _ in range(share)]
     for number in range(count):
         kind = broken.make.random.choice(kinds)

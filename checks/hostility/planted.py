@@ -31,6 +31,12 @@ BUGS = [
     ('want of memory is another status', 'memory_limits', '[ $status -ne 10 ] || status=9'),
     ('a signal is no end', 'signals', '[ $status -lt 128 ] || status=0'),
     ('other bytes in a run again', 'wild', '[ "$3" != h ] || [ ! -e h.0.state ] || echo >>h.0.state'),
+    ('Unsound in another line', 'frozen', 'case $out in *Unsound) out=$(echo "$out" | sed "s/line [0-9]*/line 1/") ;; esac'),
+    ('Number for Spelling', 'frozen', 'out=$(echo "$out" | sed "s/Spelling/Number/")'),
+    ("another job's file is accepted", 'frozen', 'case $out in *Job) status=0 ;; esac'),
+    ('a refused frozen file empties a file', 'frozen', '[ $status -ne 12 ] || : >g.log'),
+    ('a resumed job writes a log', 'frozen', '[ "$1" != resume ] || [ $status -ne 0 ] || echo >>g.log'),
+    ('a resumed console has another number', 'frozen', '[ "$1" != resume ] || [ $status -ne 0 ] || sed -i "s/^r0 .*/r0 12345678/" g.*.state'),
     ('another status of wild code', 'wild', 'case $(head -c 2000 j) in *"console 2"*) status=9 ;; esac'),
 ]
 SCRIPT = '''#!/bin/sh
@@ -42,10 +48,10 @@ exit $status
 '''
 
 
-def check(program, hostile):
-    """Whether each bug is found."""
+def check(program, hostile, resumes):
+    """Whether each bug is found; those of frozen files where the program reads them."""
     missed = 0
-    for name, part, bug in BUGS:
+    for name, part, bug in [bug for bug in BUGS if resumes or bug[1] != 'frozen']:
         with tempfile.TemporaryDirectory() as folder:
             os.chmod(folder, 0o755)
             path = os.path.join(folder, 'gbalink')

@@ -6,6 +6,8 @@ import hashlib
 import re
 from dataclasses import dataclass, field
 
+from . import thawing
+
 JOB_BYTES = 134_217_728
 KEY_FILE_BYTES = 33_554_432
 IMAGE_BYTES = 33_554_432
@@ -309,9 +311,10 @@ def outputs_of(job, out):
     return named + [(f'{out}.log', None)]
 
 
-def refuse_clash(job, name, out, *more):
+def refuse_clash(job, names, out, *more):
+    """Refuses a job where one of the files that are read by these names, or an input, would be written."""
     written = {*more, *(output for output, _ in outputs_of(job, out))}
-    clashing = [0] if name in written else []
+    clashing = [0] if written & {*names} else []
     clashing += [entry.line for console in job.consoles for entry in console.inputs.values() if entry.name in written]
     if clashing:
         raise Refused('Clash', min(clashing))
@@ -358,6 +361,8 @@ def command_of(words):
     if len(words) == 4 and words[0] == 'freeze' and is_name(words[1]) and is_name(words[3], 180):
         if re.fullmatch(r'[0-9]{1,20}', words[2]) and 1 <= int(words[2]) <= CYCLES[2]:
             return words
+    if len(words) == 4 and words[0] == 'resume' and all(map(is_name, words[1:3])) and is_name(words[3], 180):
+        return words
     if len(words) == 5 and words[0] == 'trace' and is_name(words[1]) and is_name(words[4], 180):
         if all(re.fullmatch(r'[0-9]{1,20}', word) for word in words[2:4]):
             if int(words[2]) < 2**40 and 1 <= int(words[3]) <= STEPS:
@@ -383,11 +388,13 @@ def parsed(name, parse, *arguments):
 
 
 def run_of(words, read):
-    """The job of a call that comes to a run, a trace or a frozen run, with its key changes, and its inputs' digests; or its answer."""
-    kind, name, *_, out = command_of(words)
+    """The job of a call that comes to a run, whole or in part, or to a trace, with its key changes, and its inputs' digests; or
+    its answer."""
+    command, name, *_, out = command_of(words)
     job = parsed(name, job_of, read_or_answer(name, read))
-    parsed(name, refuse_clash, job, name, out, *([f'{out}.{MORE[kind]}'] if kind in MORE else []))
-    if kind == 'freeze' and int(words[2]) > job.cycles:
+    names = words[1:3] if command == 'resume' else [name]
+    parsed(name, refuse_clash, job, names, out, *([f'{out}.{MORE[command]}'] if command in MORE else []))
+    if command == 'freeze' and int(words[2]) > job.cycles:
         raise Answer(5, f'job {name} line 0 Number')
     files = {}
     for console in job.consoles:
@@ -404,7 +411,21 @@ def run_of(words, read):
             if entry.digest not in (None, got):
                 raise Answer(7, f'digest {entry.name} stated {entry.digest} got {got}')
             files[entry.name] = got
+    if command == 'resume':
+        refuse_frozen(job, files, words[2], read_or_answer(words[2], read))
     return job, files
+
+
+def refuse_frozen(job, files, name, data):
+    refused = thawing.judged(data, thawing.setup_of(job, frozen_digest(job, files)))
+    if refused:
+        raise Answer(12, f'frozen {name} line {refused[0]} {refused[1]}')
+
+
+def frozen_digest(job, inputs):
+    """The digest by which a frozen file names its job: that of its log without the digests of its outputs."""
+    log = log_of(job, inputs, {output: '' for output, _ in outputs_of(job, '')}, '')
+    return hashlib.sha256(re.sub(rb'(?m)^(out [a-z]+) sha256 $', rb'\1', log)).hexdigest()
 
 
 def console_lines(job, k, inputs, outputs, out):
