@@ -29,8 +29,9 @@ class Answer:
 class Tally:
     """Counts what holds, and keeps what doesn't."""
 
-    def __init__(self, part):
+    def __init__(self, part, check='hostile'):
         self.part = part
+        self.check = check
         self.passed = 0
         self.failures = []
         self.left_out = []
@@ -42,11 +43,11 @@ class Tally:
         if is_right:
             self.passed += 1
         else:
-            self.failures.append(f'FAILED hostile {self.part}, {name}: {text}')
+            self.failures.append(f'FAILED {self.check} {self.part}, {name}: {text}')
         return is_right
 
     def leave_out(self, what):
-        self.left_out.append(f'hostile {self.part}: {what}')
+        self.left_out.append(f'{self.check} {self.part}: {what}')
 
     def add(self, other):
         self.passed += other.passed
