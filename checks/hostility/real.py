@@ -409,14 +409,22 @@ def strange_outputs(real):
 
 # ---- Limits ----------------------------------------------------------------------------------------------------------------
 
-def memory_limits(real):
-    """`ulimit -v` in rising steps: once the program starts, each call ends with 10, or with what it ends with ever."""
+def least_memory(real):
+    """The least limit on memory with which the program starts, or None."""
     least = 1 << 20
     while real.call(real.top, [], preexec_fn=room.limited(AS=least)).pair != (2, 'words\n'):
         least += 1 << 16
         if least > 1 << 30:
             real.tally.holds('limits on memory', False, '1 GiB is not enough for a start')
-            return
+            return None
+    return least
+
+
+def memory_limits(real):
+    """`ulimit -v` in rising steps: once the program starts, each call ends with 10, or with what it ends with ever."""
+    least = least_memory(real)
+    if least is None:
+        return
     keys = 'gbalink 2\ncycles 300000\n' + ''.join(f'console {k}\nbios b\nkeys k\nout state\n' for k in (0, 1)) + 'end\n'
     uses = {
         'run': (['run', 'j', 'g'], {'job': JOB.replace(str(CYCLES), '300000')}), 'keys': (['run', 'j', 'g'], {'job': keys, 'k': '5 3ff\n' * 150_000}),
@@ -534,6 +542,79 @@ def at_once(real):
     real.again('two runs at once', folder)
 
 
+# ---- Frozen files ----------------------------------------------------------------------------------------------------------
+
+def resumed(real):
+    """`resume` of what is no plain file or comes by a pipe, whole or cut, without room for its outputs, under limits on memory,
+    and stopped by a signal."""
+    job = JOB.replace(str(CYCLES), '300000')
+    folder = real.folder(job=job)
+    real.call(folder, ['freeze', 'j', '200000', 'z'])
+    text = room.read(os.path.join(folder, 'z.frozen'))
+    for entry in real.files(folder, 'z'):
+        os.remove(os.path.join(folder, entry))
+    answers = {'null': (12, 'frozen null line 1 Spelling'), 'zero': (12, 'frozen zero line 0 Spelling'), 'broken': (4, 'store broken'),
+               'folder': (4, 'store folder'), 'loop': (4, 'store loop'), 'nowhere': (3, 'absent nowhere')}
+    targets = {'null': '/dev/null', 'zero': '/dev/zero', 'broken': '/proc/self/mem', 'folder': '.', 'loop': 'loop', 'nowhere': 'nothing'}
+    for name, target in targets.items():
+        os.symlink(target, os.path.join(folder, name))
+    before = room.marks(folder)
+    for name, (status, report) in answers.items():
+        real.tally.agrees(f'resume {name}', real.call(folder, ['resume', 'j', name, 'g']).pair, (status, report + '\n'))
+        real.tally.agrees(f'resume {name}', room.marks(folder), before)
+    room.write(os.path.join(folder, 'x'), text)
+    real.tally.agrees('resume into no folder', real.call(folder, ['resume', 'j', 'x', 'none/g']).pair, (9, 'sink none/g.0.frames\n'))
+    shutil.rmtree(folder)
+    piped_text(real, job, text)
+    least = least_memory(real)
+    if least:
+        memory_limit(real, 'resume', ['resume', 'j', 'x', 'g'], {'job': job, 'x': text}, least)
+    stopped_resumes(real)
+
+
+def piped_text(real, job, text):
+    """The second reading says what the bytes that came by the pipe are."""
+    for length in (0, 1, len(text) // 2, len(text) - 1, len(text)):
+        folder = real.folder(job=job)
+        os.mkfifo(os.path.join(folder, 'x'))
+        writer = threading.Thread(target=feed, args=(os.path.join(folder, 'x'), text[:length], 5), daemon=True)
+        writer.start()
+        got = real.call(folder, ['resume', 'j', 'x', 'g'])
+        came = {'j': job.encode(), 'b': BIOS, 'x': text[:length]}
+        name = f'{length} bytes of a frozen file come by a pipe'
+        try:
+            reading.run_of(['resume', 'j', 'x', 'g'], came.get)
+            real.tally.agrees(name, (got.status, sorted(real.files(folder))), (0, sorted(set(FILES) - {'g.log'})))
+        except reading.Answer as answer:
+            real.tally.agrees(name, (got.pair, real.files(folder)), (answer.pair, {}))
+        shutil.rmtree(folder)
+
+
+def stopped_resumes(real, count=6):
+    """INT and TERM at random moments: each file is a front of what it would have been, and the same call again gives the whole."""
+    folder = real.folder()
+    real.call(folder, ['freeze', 'j', '100', 'z'])
+    words, ended = ['resume', 'j', 'z.frozen', 'g'], []
+    whole = real.call(folder, words)
+    wanted = real.files(folder)
+    for place in range(count):
+        for entry in real.files(folder):
+            os.remove(os.path.join(folder, entry))
+        number = (signal.SIGINT, signal.SIGTERM)[place % 2]
+        with subprocess.Popen([real.program, *words], cwd=folder, stdout=subprocess.PIPE) as child:
+            time.sleep(real.random.random() * real.seconds)
+            child.send_signal(number)
+            child.communicate(timeout=room.SECONDS)
+        ended.append(child.returncode)
+        real.tally.holds(f'{number.name} ends a resume', child.returncode in (0, -number), f'status {child.returncode}')
+        made = real.files(folder)
+        real.tally.holds(f'{number.name} ends a resume, fronts', all(wanted[entry].startswith(data) for entry, data in made.items()), lengths(made))
+        real.tally.agrees('a resume again', (real.call(folder, words).pair, real.files(folder) == wanted), (whole.pair, True))
+    real.tally.holds('signals end resumes', any(ended), f'they only end with {ended}')
+    shutil.rmtree(folder)
+
+
+FROZEN_PARTS = (resumed,)
 PARTS = (full_disks, refused_folder, refused_files, outputs, strange_inputs, piped_inputs, cut_inputs, strange_outputs,
          memory_limits, file_limits, signals, at_once)
 
