@@ -1,12 +1,13 @@
 -- A console that is off, and the step after which it may be on.
-use Rattle.std.proofs.Common.{◌≡◌, ℕ, ◌+◌, ◌-◌, ◌%◌, ◌<◌, ◌≤◌, ◌^◌, List, [], ◌∷◌, refl, sym, ap, ◌∙◌, subst, arith, length}
+use Rattle.std.proofs.Common.{◌≡◌, ℕ, ◌+◌, ◌-◌, ◌<◌, ◌≤◌, ◌^◌, List, [], ◌∷◌, refl, sym, ap, ◌∙◌, subst, arith, length}
 use Rattle.std.specs.Prelude.{Option}
 use Rattle.gba_devices.specs.State.{place_at_reset}
 use Rattle.gba_image.specs.declared.backup.Backup.{Backup}
 use Rattle.gba_io.specs.Base.{at_reset, begun_at, early_at}
-use Rattle.gba_io.specs.Board.{board_at_start, board_begun_at, board_emptied, board_from}
+use Rattle.gba_io.specs.Board.{base_of, board_at_start, board_begun_at, board_emptied, board_from}
 use Rattle.gba_io.specs.Core.{Core, core_begun, core_learned, core_rested}
-use Rattle.gba_io.specs.Drawing.{cycles_early, cycles_in, lines_drawn}
+use Rattle.gba_io.proofs.Drawing.{early-is}
+use Rattle.gba_io.specs.Drawing.{cycles_in, lines_drawn}
 use Rattle.gba_io.specs.declared.base.Base.{Base}
 use Rattle.gba_io.specs.declared.board.Board.{Board}
 use Rattle.gba_io.specs.declared.made.Room.{Room}
@@ -26,63 +27,81 @@ use Rattle.gba_console.proofs.Images.{HasImages, keyed-memory}
 use Rattle.gba_console.specs.declared.doing.What.TheVariants.{Off}
 
 -- 16 cycles pass
-pub rests-on : (off : ℕ) (b : Board) (core : Core) → IsResting off b → core.devices.clock ≡ b.core.devices.clock + 16
+base-at : Board → ℕ → Position → Base
+base-at b clock place = record {
+  clock = clock;
+  pairs = b.made.pairs;
+  frames = b.made.frame_count;
+  words = b.ended.count;
+  cycles = cycles_in place;
+}
+
+first-same : (off clock : ℕ) → clock < off → first_on off clock ≡ first_on off (clock + 16)
+first-same off clock below = omega (arith, below)
+
+pub rests-on : (off : ℕ) (b : Board) (core : Core) → IsResting off b → b.core.devices.clock < off
+    → core.devices.clock ≡ b.core.devices.clock + 16
     → core.devices.place ≡ b.core.devices.place → core.lines ≡ b.core.lines → core.serial.count ≡ b.core.serial.count
     → IsResting off (record b { core = core })
-rests-on off b core rest clock place lines count = record {
-  begins = rest.begins;
-  ends = rest.ends;
-  place = place ∙ rest.place;
-  drawn = lines ∙ rest.drawn;
-  frames = rest.frames;
-  samples = rest.samples;
-  words = rest.words;
-  frame_count = rest.frame_count;
-  pairs = rest.pairs;
-  count = rest.count;
-  seat = omega (arith, count, rest.seat);
-  turn = omega (arith, clock, rest.turn);
-}
+unfolding base-at
+rests-on off b core rest below clock place lines count =
+    let first : first_on off b.core.devices.clock ≡ first_on off core.devices.clock =
+    first-same off b.core.devices.clock below ∙ ap (first_on off) (sym clock) in
+    let same : begun_at (first_on off b.core.devices.clock) (base_of b)
+    ≡ begun_at (first_on off core.devices.clock) (base_of (record b { core = core })) =
+    ap (λ (n : ℕ). base-at b n b.core.devices.place) first ∙ ap (base-at b (first_on off core.devices.clock)) (sym place) in
+    record {
+      begins = rest.begins ∙ same;
+      ends = rest.ends ∙ same;
+      place = subst IsPosition (sym place) rest.place;
+      drawn = ap length lines ∙ rest.drawn ∙ ap lines_drawn (sym place);
+      frames = rest.frames;
+      samples = rest.samples;
+      words = rest.words;
+      few = rest.few;
+      seat = omega (arith, count, rest.seat);
+    }
 
 first-place : IsPosition place_at_reset
 first-place = record { line = omega arith; dot = omega arith }
 
--- The turn at which it is on: what it makes begins there.
-turn-is : (off clock : ℕ) → clock < off → clock % 16 ≡ 0 → off ≤ clock + 16 → clock + 16 ≡ first_on off
-turn-is off clock below turn on = omega (arith, below, turn, on)
+-- The turn with which it is on: what it makes begins there.
+first-here : (off clock : ℕ) → off ≤ clock → first_on off clock ≡ clock
+first-here off clock on = omega (arith, on)
 
-wakes-sound : (off was : ℕ) (b : Board) → IsResting off b → b.core.devices.clock ≤ was + 16
-    → b.core.devices.clock ≡ first_on off → b.core.devices.clock ≤ b.made.until + 511 → b.made.until ≤ 2 ^ 39
+pub wakes-sound : (off was : ℕ) (b : Board) → IsResting off b → b.core.devices.clock ≤ was + 512
+    → off ≤ b.core.devices.clock → b.core.devices.clock ≤ b.made.until + 511 → b.made.until ≤ 2 ^ 39
     → b.ended.until ≡ b.made.until → IsSound was b
-wakes-sound off was b rest after first clock few same =
-    let begun = ap (λ (base : Base). base.clock) rest.begins in
-    let ended = ap (λ (base : Base). base.clock) rest.ends in
-    let words = ap (λ (base : Base). base.words) rest.ends in
-    let pairs = ap (λ (base : Base). base.pairs) rest.begins in
-    let frames = ap (λ (base : Base). base.frames) rest.begins in
-    let cycles = ap (λ (base : Base). base.cycles) rest.begins in
-    let early = ap cycles_early rest.place in
-    let passed = ap cycles_in rest.place in
-    let early_cycles = ap early_at cycles in
+wakes-sound off was b rest after on clock few same =
+    let here = ap (λ (n : ℕ). begun_at n (base_of b)) (first-here off b.core.devices.clock on) in
+    let made = rest.begins ∙ here in
+    let over = rest.ends ∙ here in
+    let begun = ap (λ (base : Base). base.clock) made in
+    let ended = ap (λ (base : Base). base.clock) over in
+    let words = ap (λ (base : Base). base.words) over in
+    let pairs = ap (λ (base : Base). base.pairs) made in
+    let frames = ap (λ (base : Base). base.frames) made in
+    let cycles = ap (λ (base : Base). base.cycles) made in
+    let early = early-is b.core.devices.place rest.place ∙ sym (ap early_at cycles) in
     record {
       step = record {
-        place = subst (λ (p : Position). IsPosition p) (sym rest.place) first-place;
-        pairs = omega (arith, begun, pairs, first, rest.pairs);
-        frames = omega (arith, begun, frames, cycles, early, passed, early_cycles, first, rest.frame_count);
-        drawn = ap length rest.drawn ∙ sym (ap lines_drawn rest.place);
+        place = rest.place;
+        pairs = omega (arith, begun, pairs);
+        frames = omega (arith, begun, frames, cycles, early);
+        drawn = rest.drawn;
       };
       ends = record {
         apart = record {
-          past = omega (arith, rest.count);
-          next = omega (arith, rest.count);
-          since = omega (arith, rest.count, ended, words, after, first);
-          soon = λ some. absurd (omega (arith, some, rest.count));
-          recent = omega (arith, ended, after, first);
+          past = omega (arith, rest.few);
+          next = omega (arith, rest.few);
+          since = omega (arith, ended, words, after);
+          soon = λ some. absurd (omega (arith, some, words));
+          recent = omega (arith, ended, after);
         };
         seat = rest.seat;
         few = omega (arith, same, few);
       };
-      short = omega (arith, after);
+      short = after;
       clock = clock;
       few = few;
       same = same;
@@ -117,14 +136,12 @@ off-kept dues m core kept below early e =
     let lines = ap (λ (b : Core). b.lines) e ∙ (off-time dues m).lines in
     let count = ap (λ (b : Core). b.serial.count) e ∙ ap (λ (u : SerialUnit). u.count) (off-serial dues m) in
     let after : Board = record m.board { core = core } in
-    let then : IsResting m.off after = rests-on m.off m.board core rest clock place lines count in
-    let began : core.devices.clock ≤ core.devices.clock - 16 + 16 = omega (arith, clock) in
+    let then : IsResting m.off after = rests-on m.off m.board core rest below clock place lines count in
+    let began : core.devices.clock ≤ core.devices.clock - 16 + 512 = omega (arith, clock) in
     record {
       most = kept.most;
       on = λ on.
-          wakes-sound m.off (core.devices.clock - 16) after then began
-          (clock ∙ turn-is m.off (clock_of m) below rest.turn (omega (arith, on, clock)))
-          (omega (arith, clock, early)) kept.few kept.same;
+          wakes-sound m.off (core.devices.clock - 16) after then began on (omega (arith, clock, early)) kept.few kept.same;
       rests = λ _. then;
       short = omega (arith, clock);
       clock = omega (arith, clock, early);
@@ -133,37 +150,36 @@ off-kept dues m core kept below early e =
     }
 
 -- a console that is off and gets room for more
-pub more-kept : (off was until : ℕ) (b : Board) → IsKept off was b → b.core.devices.clock < off → b.made.until ≤ until
-    → until ≤ 2 ^ 39 → IsKept off was (board_begun_at (first_on off) until b)
+pub more-kept : (off was until : ℕ) (b : Board) → IsKept off was b → b.core.devices.clock < off
+    → b.core.devices.clock ≤ until + 511 → until ≤ 2 ^ 39
+    → IsKept off was (board_begun_at (first_on off b.core.devices.clock) until b)
 more-kept off was until b kept below later most =
     let rest = kept.rests below in
+    let first = first_on off b.core.devices.clock in
     record {
       most = kept.most;
       on = λ on. absurd (omega (arith, on, below));
       rests = λ _. record {
-        begins = ap (begun_at (first_on off)) rest.begins;
-        ends = ap (begun_at (first_on off)) rest.ends;
+        begins = ap (begun_at first) rest.begins;
+        ends = ap (begun_at first) rest.ends;
         place = rest.place;
         drawn = rest.drawn;
         frames = rest.frames;
         samples = rest.samples;
         words = rest.words;
-        frame_count = rest.frame_count;
-        pairs = rest.pairs;
-        count = rest.count;
+        few = rest.few;
         seat = rest.seat;
-        turn = rest.turn;
       };
       short = kept.short;
-      clock = omega (arith, kept.clock, later);
+      clock = later;
       few = most;
       same = refl;
     }
 
--- it forgets nothing, since it has made nothing
-pub rest-forgets : (off until : ℕ) (b : Board) → IsResting off b
-    → board_from at_reset 0 (board_begun_at (first_on off) until b) ≡ board_emptied (board_from at_reset 0 b)
-rest-forgets off until b rest =
+-- it forgets nothing, since its lists are empty
+pub rest-forgets : (off clock until : ℕ) (b : Board) → IsResting off b
+    → board_from at_reset 0 (board_begun_at (first_on off clock) until b) ≡ board_emptied (board_from at_reset 0 b)
+rest-forgets off clock until b rest =
     let plain = board_from at_reset 0 b in
     ap (λ (bytes : List ℕ). record plain { made = record plain.made { frames = bytes } }) rest.frames
     ∙ ap (λ (bytes : List ℕ). record plain { made = record plain.made { frames = []; samples = bytes } }) rest.samples
@@ -175,26 +191,23 @@ rest-forgets off until b rest =
 -- at reset
 pub reset-kept : (off was until : ℕ) (b : Board) (player count round : ℕ) (bios : List ℕ) (cart save : Option (List ℕ))
     (backup : Backup) (room : Room) → off ≤ 2 ^ 39 → was ≡ 0 → until ≤ 2 ^ 39 → player < count
-    → b ≡ board_begun_at (first_on off) until (board_at_start player count round bios cart save backup room) → IsKept off was b
+    → b ≡ board_begun_at (first_on off 0) until (board_at_start player count round bios cart save backup room) → IsKept off was b
 reset-kept off was until b player count round bios cart save backup room most first few seated e =
-    let start = board_begun_at (first_on off) until (board_at_start player count round bios cart save backup room) in
+    let start = board_begun_at (first_on off 0) until (board_at_start player count round bios cart save backup room) in
     let rest : IsResting off start = record {
       begins = refl;
       ends = refl;
-      place = refl;
+      place = first-place;
       drawn = refl;
       frames = refl;
       samples = refl;
       words = refl;
-      frame_count = refl;
-      pairs = refl;
-      count = refl;
+      few = omega arith;
       seat = omega (arith, seated);
-      turn = refl;
     } in
     subst (IsKept off was) (sym e) (record {
       most = most;
-      on = λ on. wakes-sound off was start rest (omega arith) (omega (arith, on)) (omega arith) few refl;
+      on = λ on. wakes-sound off was start rest (omega arith) on (omega arith) few refl;
       rests = λ _. rest;
       short = omega arith;
       clock = omega arith;

@@ -1,4 +1,4 @@
-use Rattle.std.specs.Prelude.{ℕ, ◌+◌, ◌*◌, ◌/◌, Bool, List, Option, drop, nat_lt}
+use Rattle.std.specs.Prelude.{ℕ, ◌+◌, ◌-◌, ◌*◌, ◌/◌, Bool, List, Option, drop, nat_lt}
 use Rattle.gba_psr.specs.RegisterFile.{reset_file}
 use Rattle.gba_io.specs.Base.{at_reset}
 use Rattle.gba_image.specs.declared.backup.Backup.{Backup}
@@ -48,9 +48,10 @@ board_without_limit b = board_from at_reset 0 b
 abbrev pub without_limit : Machine → Machine
 without_limit m = record m { board = board_without_limit m.board }
 
--- The clock of the first step of a console that is off below a clock: until then its clock rises by 16 cycles at a time.
-abbrev pub first_on : ℕ → ℕ
-first_on off = (off + 15) / 16 * 16
+-- The clock of the first step with which a console is on that is off below a clock, from another clock: up to it its clock rises by
+-- 16 cycles at a time. It is that clock itself where the console is on by then.
+abbrev pub first_on : ℕ → ℕ → ℕ
+first_on off clock = clock + (off - clock + 15) / 16 * 16
 
 -- a console at reset, from its player number, the number of consoles, the way from player 0 to player 1 and back, the clock below which it
 -- is off, a BIOS, a cartridge, a save, what it is kept in, the changes of its keys and what is to be kept of what it makes, which begins with
@@ -58,7 +59,7 @@ first_on off = (off + 15) / 16 * 16
 abbrev pub reset : ℕ → ℕ → ℕ → ℕ → List ℕ → Option (List ℕ) → Option (List ℕ) → Backup → List KeyState → Room → Machine
 reset player count round off bios cart save backup keys room = record {
   registers = reset_file;
-  board = board_begun_at (first_on off) room.until (board_at_start player count round bios cart save backup room);
+  board = board_begun_at (first_on off 0) room.until (board_at_start player count round bios cart save backup room);
   keys = keys;
   applied = 0;
   off = off;

@@ -1,5 +1,4 @@
-use Rattle.std.specs.Prelude.{◌≡◌, ℕ, ◌+◌, ◌%◌, ◌^◌, ◌<◌, ◌≤◌, nat_lt, List, [], length, if◌then◌else◌}
-use Rattle.gba_devices.specs.State.{place_at_reset}
+use Rattle.std.specs.Prelude.{◌≡◌, ℕ, ◌+◌, ◌^◌, ◌<◌, ◌≤◌, List, length}
 use Rattle.gba_io.specs.Board.{board_begun_at, board_poured}
 use Rattle.gba_io.specs.Core.{core_cleared, core_with_machine, core_with_part}
 use Rattle.gba_io.specs.Drawing.{lines_drawn}
@@ -14,19 +13,10 @@ use Rattle.gba_console.specs.declared.pouring.ConsoleParts.{ConsoleParts}
 
 -- A console whose numbers are replaced, as no step does it.
 
--- what a console needs of parts whose clock it is off at: nothing was made, and its clock has risen by 16 at a time
-pub record Rests (parts : BoardParts) (lines : List (List ℕ)) : Type 0 where
-  pub place : parts.devices.place ≡ place_at_reset
-  pub drawn : lines ≡ []
-  pub frames : parts.counts.frames ≡ 0
-  pub samples : parts.counts.samples ≡ 0
-  pub words : parts.counts.words ≡ 0
-  pub turn : parts.devices.clock % 16 ≡ 0
-
 -- What it needs of the parts of its board, its lines, the clock at which its last step began, and the end of its room: the last
 -- step took at most 512 cycles and began below that end, the lines are those that the picture's place says, and the counts
--- are below 2^40. A transfer may run whose end has passed, and the counts needn't be those of the clock.
-pub record CanPour (off was until : ℕ) (parts : BoardParts) (lines : List (List ℕ)) : Type 0 where
+-- are below 2^40. A transfer may run whose end has passed, and the counts needn't be those of the clock; nor of a console that is off.
+pub record CanPour (was until : ℕ) (parts : BoardParts) (lines : List (List ℕ)) : Type 0 where
   pub begun : was ≤ parts.devices.clock
   pub short : parts.devices.clock ≤ was + 512
   pub drawn : length lines ≡ lines_drawn parts.devices.place
@@ -36,13 +26,11 @@ pub record CanPour (off was until : ℕ) (parts : BoardParts) (lines : List (Lis
   pub few : until ≤ 2 ^ 39
   pub near : until ≤ parts.devices.clock + 16777216
   pub room : parts.devices.clock ≤ until + 511
-  pub rests : parts.devices.clock < off → Rests parts lines
 
--- The board of these parts. What it makes begins here, or with the first step of a console that is off below a clock.
+-- The board of these parts. What it makes begins with the first step with which the console is on that is off below a clock.
 abbrev pub board_poured_at : ℕ → BoardParts → List (List ℕ) → ℕ → Board → Board
 board_poured_at off parts lines until b =
-    let poured = board_poured parts lines until b in
-    if nat_lt parts.devices.clock off then board_begun_at (first_on off) until poured else poured
+    board_begun_at (first_on off parts.devices.clock) until (board_poured parts lines until b)
 
 -- The console of these parts, which stand beside its memories, all changes of its keys, and the clock below which it is off. Its
 -- lists are empty, and what its last step did isn't told.

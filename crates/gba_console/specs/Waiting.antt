@@ -1,10 +1,11 @@
-use Rattle.std.specs.Prelude.{ℕ, ◌≡◌, ◌+◌, ◌%◌, ◌^◌, ◌<◌, ◌≤◌, true, List, [], ◌∷◌}
-use Rattle.gba_devices.specs.State.{place_at_reset}
-use Rattle.gba_io.specs.Base.{at_reset, begun_at}
-use Rattle.gba_io.specs.Board.{IsInStep}
+use Rattle.std.specs.Prelude.{ℕ, ◌≡◌, ◌+◌, ◌^◌, ◌<◌, ◌≤◌, true, List, [], ◌∷◌, length}
+use Rattle.gba_io.specs.Base.{begun_at}
+use Rattle.gba_io.specs.Board.{IsInStep, base_of}
 use Rattle.gba_io.specs.Cable.{EndsFit, NextEndFits, board_taken}
 use Rattle.gba_io.specs.Core.{core_is_calm}
+use Rattle.gba_io.specs.Drawing.{lines_drawn}
 use Rattle.gba_io.specs.declared.board.Board.{Board}
+use Rattle.gba_ppu_reg.specs.Position.{IsPosition}
 use Rattle.gba_serial.specs.Apart.{next_end}
 use Rattle.link_node.specs.declared.signal.Incoming.{Incoming}
 use Rattle.gba_console.specs.Keys.{due_of}
@@ -32,21 +33,18 @@ pub record IsSound (was : ℕ) (b : Board) : Type 0 where
   pub few : b.made.until ≤ 2 ^ 39
   pub same : b.ended.until ≡ b.made.until
 
--- What holds of the board of a console that is off: nothing was made, no transfer has ended, and what it makes begins with
--- its first step.
+-- What holds of the board of a console that is off: its lists are empty, and begin with the first step with which it is on, at the
+-- place of the picture and with the counts that it has.
 pub record IsResting (off : ℕ) (b : Board) : Type 0 where
-  pub begins : b.made.base ≡ begun_at (first_on off) at_reset
-  pub ends : b.ended.base ≡ begun_at (first_on off) at_reset
-  pub place : b.core.devices.place ≡ place_at_reset
-  pub drawn : b.core.lines ≡ []
+  pub begins : b.made.base ≡ begun_at (first_on off b.core.devices.clock) (base_of b)
+  pub ends : b.ended.base ≡ begun_at (first_on off b.core.devices.clock) (base_of b)
+  pub place : IsPosition b.core.devices.place
+  pub drawn : length b.core.lines ≡ lines_drawn b.core.devices.place
   pub frames : b.made.frames ≡ []
   pub samples : b.made.samples ≡ []
   pub words : b.ended.words ≡ []
-  pub frame_count : b.made.frame_count ≡ 0
-  pub pairs : b.made.pairs ≡ 0
-  pub count : b.ended.count ≡ 0
+  pub few : b.ended.count < 2 ^ 40
   pub seat : 1 ≤ b.core.serial.count
-  pub turn : b.core.devices.clock % 16 ≡ 0
 
 -- what holds of either, where it is off below a clock
 pub record IsKept (off was : ℕ) (b : Board) : Type 0 where

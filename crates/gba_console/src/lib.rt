@@ -75,13 +75,16 @@ fn due_at(off: u64, clock: u64, changes: &[KeyState], applied: usize) -> u64
     }
 }
 
-/// The clock of the first step of a console that is off below a clock: until then its clock rises by 16 at a time.
-fn first_on(off: u64) -> u64
-    requires { off ≤ 2 ^ 39 }
-    ensures value { result ≡ first_on off }
-    ensures few { result ≤ 2 ^ 39 + 15 }
+/// The clock of the first step with which a console is on that is off below a clock, from another clock: up to it its clock rises
+/// by 16 at a time.
+fn first_on(off: u64, clock: u64) -> u64
+    requires off { off ≤ 2 ^ 39 }
+    requires clock { clock ≤ 2 ^ 39 + 511 }
+    ensures value { result ≡ first_on off clock }
+    ensures later { clock ≤ result }
+    ensures few { result ≤ 2 ^ 39 + 511 }
 {
-    (off + 15) / 16 * 16
+    clock + (off.saturating_sub(clock) + 15) / 16 * 16
 }
 
 /// A Game Boy Advance. Contracts see the record `Machine`.
@@ -169,7 +172,7 @@ impl Console {
             ≡ reset player count round off images.bios images.cart images.save images.backup keys.items room) }
     {
         let mut board = Board::new(alloc, player, count, round, images, room)?;
-        board.begin_at(first_on(off), room.until);
+        board.begin_at(first_on(off, 0), room.until);
         Ok(Console {
             registers: Registers::reset(),
             board,
@@ -311,17 +314,18 @@ impl Console {
     }
 
     /// Empties the lists of whole frames, pairs of samples and ended transfers, all of which stay counted, forgets what the
-    /// last step did, and makes `until` the end of its room: the clock below which the last step begins, no earlier than the
-    /// former one, and at most 2^24 cycles on.
+    /// last step did, and makes `until` the end of its room: the clock below which the last step begins, at most 511 cycles
+    /// back, and at most 2^24 cycles on.
     pub fn forget(&mut self, until: u64)
         requires most { until ≤ 2 ^ 39 }
-        requires later { limit_of self.old ≤ until }
+        requires later { clock_of self.old ≤ until + 511 }
         requires near { until ≤ clock_of self.old + 16777216 }
         ensures plain { without_limit self.new ≡ forgotten (without_limit self.old) }
         ensures limit { limit_of self.new ≡ until }
     {
         if self.is_off() {
-            self.board.begin_at(first_on(self.off), until);
+            let begin = first_on(self.off, self.clock());
+            self.board.begin_at(begin, until);
         } else {
             self.board.forget(until);
         }

@@ -42,14 +42,12 @@ fn pour_at(
     until: u64,
 )
     requires off { off ≤ 2 ^ 39 }
-    requires fit { CanPour off was until parts lines.now }
+    requires fit { CanPour was until parts lines.now }
     ensures { board.new ≡ board_poured_at off parts lines.now until board.old }
 {
-    let clock = parts.devices.clock();
+    let begin = first_on(off, parts.devices.clock());
     board.pour(parts, lines, until);
-    if clock < off {
-        board.begin_at(first_on(off), until);
-    }
+    board.begin_at(begin, until);
 }
 
 impl Console {
@@ -63,7 +61,7 @@ impl Console {
     /// room, as after [`Console::forget`]; which of them are kept stays. It takes no memory.
     pub fn pour(&mut self, parts: ConsoleParts, lines: &[[u8; 480]], until: u64)
         requires applied { parts.applied ≤ length self.old.keys }
-        requires fit { CanPour self.old.off parts.was until parts.board lines.now }
+        requires fit { CanPour parts.was until parts.board lines.now }
         ensures { self.new ≡ machine_poured parts lines.now until self.old }
     {
         let ConsoleParts {

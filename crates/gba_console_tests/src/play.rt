@@ -263,7 +263,7 @@ impl Play {
 
     /// Empties the lists of what it made, and makes this the end of their room.
     pub fn forget<R: Abort>(&mut self, rt: &R, until: u64) {
-        assert!(rt; self.console.until() <= until && until <= 1 << 25);
+        assert!(rt; until <= 1 << 25 && self.console.clock() <= until + 511);
         assert!(rt; until <= self.console.clock() + 16_777_216);
         self.console.forget(until);
     }
@@ -273,8 +273,8 @@ impl Play {
         self.console.until()
     }
 
-    /// Pours these devices and counts into a console that is on from the start, beside its own registers and serial unit, and makes
-    /// its last step one of four cycles. So many key changes are applied.
+    /// Pours these devices and counts into a console, beside its own registers and serial unit, and makes its last step one of four
+    /// cycles. So many key changes are applied.
     pub fn pour<R: Abort>(
         &mut self,
         rt: &R,
@@ -284,7 +284,7 @@ impl Play {
         lines: &[[u8; 480]],
     ) -> Result<(), Fail> {
         let clock = devices.clock();
-        assert!(rt; 4 <= clock && clock <= 1 << 24 && self.console.off() == 0);
+        assert!(rt; 4 <= clock && clock <= 1 << 24);
         assert!(rt; lines.len() == lines_at(&devices.place()));
         assert!(rt; counts.frames < 1 << 40 && counts.samples < 1 << 40 && counts.words < 1 << 40);
         assert!(rt; applied <= self.console.keys().len());

@@ -122,6 +122,29 @@ fn a_poured_console_goes_on(rt: HostRuntime) -> Result<(), Fail> {
     Ok(())
 }
 
+/// It is off below 1,010: with a step of 16 cycles it comes on at 1,016, and makes four pairs up to 3,000.
+const COMES_ON: [Move; 8] = [
+    Shows(Clock, 1_000),
+    Shows(Pairs, 11),
+    Steps(1),
+    Shows(Clock, 1_016),
+    Run(3_000),
+    Shows(Pairs, 15),
+    Shows(SampleBytes, 16),
+    Shows(Frames, 7),
+];
+
+/// A poured console that is off keeps its counts, and comes on with the first of its steps that ends where it may be on.
+#[test]
+fn a_poured_console_that_is_off_comes_on(rt: HostRuntime) -> Result<(), Fail> {
+    let images = images_of_source(rt.alloc(), SOURCE)?;
+    let mut console = Play::new(rt.alloc(), ALONE, 1_010, images, &KEYS, ROOM)?;
+    let devices = devices_at(&rt, 1_000);
+    console.pour(&rt, devices, COUNTS, 1, &[])?;
+    goes(&rt, &mut console, "comes on", &COMES_ON);
+    Ok(())
+}
+
 /// All bytes of these memories are 0.
 fn are_cleared<R: Abort>(rt: &R, console: &Play) {
     for name in [MemoryName::Iwram, MemoryName::Backup] {

@@ -13,10 +13,10 @@ invariant_of-result c =
     let room = c.args.room in
     let images = c.args.images in
     let start = board_at_start c.args.player c.args.count c.args.round images.bios images.cart images.save images.backup room in
-    let is : c.begin_at.new.self ≡ board_begun_at (first_on c.args.off) room.until start
+    let is : c.begin_at.new.self ≡ board_begun_at (first_on c.args.off 0) room.until start
     = c.begin_at.ensures
     ∙ ap (λ (n : ℕ). board_begun_at n room.until c.in_ok-board.board) c.first_on.ensures.value
-    ∙ ap (board_begun_at (first_on c.args.off) room.until) c.in_ok-board.ensures in
+    ∙ ap (board_begun_at (first_on c.args.off 0) room.until) c.in_ok-board.ensures in
     let clock = ap (λ (b : Board). b.core.devices.clock) is in (
       c.in_ok-words_of.ensures,
       c.in_ok-halves_of.ensures.length,

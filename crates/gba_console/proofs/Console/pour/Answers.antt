@@ -15,7 +15,7 @@ invariant_of-self c =
     let lines = c.args.lines.now in
     let after = c.pour_at.new.board in
     let applied = rw (← c.self.view_is) at c.requires.applied in
-    let fit = rw (← c.self.view_is) at c.requires.fit in
+    let fit = c.requires.fit in
     let core = poured-core inside.off c.args.until parts.board lines b after c.pour_at.ensures in
     let clock : after.core.devices.clock ≡ c.clock-clock.result
     = ap (λ (x : Core). x.devices.clock) core ∙ sym c.clock-clock.ensures.value in
