@@ -3,7 +3,7 @@ use Rattle.std.proofs.Common.{◌≡◌, ◌<◌, ◌≤◌, ◌∙◌, ℕ, Boo
 use Rattle.std.specs.List.{All}
 use Rattle.std.proofs.lemmas.List.{get_or-map, length-map, same_lists}
 use Rattle.gba_console.specs.Alone.{console_kind}
-use Rattle.gba_console.specs.Machine.{Machine, clock_of, limit_of, without_limit}
+use Rattle.gba_console.specs.Machine.{Machine, clock_of, without_limit}
 use Rattle.gba_console.specs.Segments.{LiveSegments, behind, forgotten_cut, joined}
 use Rattle.gba_session.proofs.Joining.{joined-forgotten, joined-get}
 use Rattle.gba_session.proofs.SameRun.{run-many}
@@ -20,9 +20,6 @@ later-end-after until clock early = omega (arith, early)
 
 pub later-end-within : (until clock : ℕ) → later_end until clock ≤ until
 later-end-within until clock = omega arith
-
-later-end-here : (until clock : ℕ) → clock ≤ until → clock ≤ later_end until clock
-later-end-here until clock within = omega (arith, within)
 
 -- whether a segment is the last one
 pub last-told : (end until : ℕ) → nat_le until end ≡ not (nat_lt end until)
@@ -80,8 +77,7 @@ module _ (law : LiveSegments) (start : Cut Machine) (from to until : ℕ) (playe
     (end : ℕ) (over : Bool) (held : IsSegmented (session_value start from to until players) cut players)
     (early : to < until) (is : end ≡ later_end until to)
     (ran : plain_cut without_limit later ≡ run_until end (forgotten_cut (plain_cut without_limit cut)))
-    (done : All (λ (m : Machine). end ≤ clock_of m) later.consoles)
-    (limits : All (λ limit. limit ≡ end) (map limit_of later.consoles)) where
+    (done : All (λ (m : Machine). end ≤ clock_of m) later.consoles) where
   now : Consoles
   now = session_value start from to until players
 
@@ -158,17 +154,11 @@ module _ (law : LiveSegments) (start : Cut Machine) (from to until : ℕ) (playe
         let m = one-of later.consoles (omega (arith, was, players-many)) in
         (taken.each k p m p was).room (held.rooms k p was)
 
-    new-limits : All (λ limit. limit ≤ later_end until end) (map limit_of later.consoles)
-    new-limits k d within =
-        let limit = limits k d within in
-        omega (arith, limit, later-end-here until end (omega (arith, is, later-end-within until to)))
-
     pub advances : IsSegmented (session_value start to end until new) later new
     unfolding then_
     advances = record {
       is = is-now;
       late = done;
-      limits = new-limits;
       begun = omega (arith, is, early, later-end-after until to early);
       within = omega (arith, is, later-end-within until to);
       most = held.most;

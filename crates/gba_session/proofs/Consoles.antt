@@ -86,14 +86,14 @@ kept-consoles job player said old new console one left rest all within here kept
 
 -- the limits of consoles of which one more is kept
 pub kept-limits : (until : ℕ) (old new : List Machine) (console : Machine) → new ≡ old ++ (console ∷ [])
-    → limit_of console ≡ until → All (λ limit. limit ≡ until) (map limit_of old)
-    → All (λ limit. limit ≡ until) (map limit_of new)
+    → limit_of console ≡ until → All (λ limit. until ≤ limit) (map limit_of old)
+    → All (λ limit. until ≤ limit) (map limit_of new)
 kept-limits until old new console kept is before =
-    let P : List ℕ → Type 0 = λ xs. All (λ limit. limit ≡ until) xs in
+    let P : List ℕ → Type 0 = λ xs. All (λ limit. until ≤ limit) xs in
     let whole : map limit_of new ≡ map limit_of old ++ (limit_of console ∷ []) =
     ap (map limit_of) kept ∙ map-append limit_of old (console ∷ []) in
-    subst P (sym whole) (All-append (λ limit. limit ≡ until) (map limit_of old) (limit_of console ∷ []) before
-    (all_cons (λ limit. limit ≡ until) (limit_of console) [] is (all_nil (λ limit. limit ≡ until))))
+    subst P (sym whole) (All-append (λ limit. until ≤ limit) (map limit_of old) (limit_of console ∷ []) before
+    (all_cons (λ limit. until ≤ limit) (limit_of console) [] (omega (arith, is)) (all_nil (λ limit. until ≤ limit))))
 
 pub consoles-none : (job : WholeJob) (player : ℕ) (left : List ConsoleJob) → consoles_from job player left [] ≡ []
 unfolding consoles_from

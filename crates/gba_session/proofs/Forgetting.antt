@@ -7,7 +7,7 @@ use Rattle.gba_session.proofs.SoFar.{SoFar}
 
 pub record Forgets (until k : ℕ) (old new : Machine) : Type 0 where
   pub plain : without_limit new ≡ forgotten (without_limit old)
-  pub limit : limit_of new ≡ until
+  pub limit : until ≤ limit_of new
 
 -- a machine of some
 first-of : (ms : List Machine) → 0 < length ms → Machine
@@ -28,12 +28,12 @@ module _ (until i : ℕ) (old new : List Machine) (over : length old ≤ i) (hel
       ∙ ap forgotten (sym (get_or-map without_limit old k d d was))
       ∙ sym (get_or-map forgotten (map without_limit old) k d d (omega (arith, was, length-map old without_limit))))
 
-  pub all-limits : All (λ limit. limit ≡ until) (map limit_of new)
+  pub all-limits : All (λ limit. until ≤ limit) (map limit_of new)
   all-limits k n within =
       let there : k < length new = omega (arith, within, length-map new limit_of) in
       let was : k < length old = omega (arith, there, held.many) in
       let d = first-of new (omega (arith, there)) in
-      get_or-map limit_of new k d n there ∙ (held.changed k d d (omega (arith, was, over)) was).limit
+      omega (arith, get_or-map limit_of new k d n there, (held.changed k d d (omega (arith, was, over)) was).limit)
 
 -- what a console's turn needs
 module _ (until i : ℕ) (old new : List Machine) (m : Machine) (held : SoFar (Forgets until) i old new)
@@ -43,11 +43,6 @@ module _ (until i : ℕ) (old new : List Machine) (m : Machine) (held : SoFar (F
 
   there : i < length old
   there = omega (arith, within, held.many)
-
-  pub limit-below : All (λ limit. limit ≤ until) (map limit_of old) → limit_of m ≤ until
-  limit-below all =
-      let limit = all i 0 (omega (arith, there, length-map old limit_of)) in
-      omega (arith, limit, get_or-map limit_of old i m 0 there, ap limit_of was)
 
   pub clock-near : All (λ (m : Machine). until ≤ clock_of m + 16777216) old → until ≤ clock_of m + 16777216
   clock-near all =

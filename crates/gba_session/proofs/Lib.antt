@@ -10,3 +10,4 @@ pub mod Taking
 pub mod Preparing
 pub mod SameRun
 pub mod SoFar
+pub mod Resuming

@@ -3,7 +3,7 @@ use Rattle.std.proofs.Common.{◌≡◌, ◌+◌, ◌<◌, ◌≤◌, ◌∙◌,
 use Rattle.std.specs.List.{All}
 use Rattle.std.proofs.lemmas.List.{get_or-map, length-map}
 use Rattle.gba_console.specs.Alone.{console_kind}
-use Rattle.gba_console.specs.Machine.{Machine, forgotten, limit_of, without_limit}
+use Rattle.gba_console.specs.Machine.{Machine, forgotten, without_limit}
 use Rattle.gba_console.specs.Segments.{forgotten_cut}
 use Rattle.gba_image.specs.declared.images.ConsoleImages.{ConsoleImages}
 use Rattle.gba_joblog.specs.Job.{ConsoleJob, WholeJob}
@@ -13,7 +13,7 @@ use Rattle.gba_joblog.specs.declared.outputs.PerKind.{PerKind}
 use Rattle.gba_session.proofs.Consoles.{consoles-empty, made-length, start-cable, start-sound}
 use Rattle.gba_session.specs.Files.{asks_of, output_bytes}
 use Rattle.gba_session.specs.Held.{CanRun, HasPieces, IsHashed, IsSegmented, IsUnused, asks_in, session_value}
-use Rattle.gba_session.specs.Session.{Consoles, is_over, later_end, prepared, segment_cut}
+use Rattle.gba_session.specs.Session.{Consoles, is_over, prepared, segment_cut}
 use Rattle.gba_session.specs.Start.{console_at, consoles_from, run_until, start_of}
 use Rattle.gba_session.specs.declared.player.Player.{Player}
 use Rattle.link_node.specs.declared.delays.Delays.{Delays}
@@ -98,7 +98,6 @@ module _ (job : WholeJob) (images : List ConsoleImages) (made : List Machine) (p
     (cut snap : Cut Machine) (sound : IsJob job) (whole : length images ≡ length job.consoles)
     (is : map without_limit made ≡ consoles_from job 0 job.consoles images)
     (made_cut : cut ≡ opening made job.delays) (snapped : snap ≡ cut)
-    (limits : All (λ limit. limit ≡ later_end job.cycles 0) (map limit_of made))
     (unused : All IsUnused players) (asks : map asks_in players ≡ map asks_of job.consoles) where
   consoles : List Machine
   consoles = consoles_from job 0 job.consoles images
@@ -167,17 +166,11 @@ module _ (job : WholeJob) (images : List ConsoleImages) (made : List Machine) (p
         words = λ asked. subst (Holds256 one.words_hasher) (sym (ap (output_bytes Words) at)) has.words_hasher;
       }
 
-  first-limits : All (λ limit. limit ≤ later_end job.cycles 0) (map limit_of cut.consoles)
-  first-limits =
-      subst (λ (ms : List Machine). All (λ limit. limit ≤ later_end job.cycles 0) (map limit_of ms)) (sym nodes)
-      (λ k d within. let limit = limits k d within in omega (arith, limit))
-
   begins-first : IsSegmented first cut players
   unfolding first
   begins-first = record {
     is = plain-is ∙ sym segment-is;
     late = λ k d within. omega arith;
-    limits = first-limits;
     begun = omega arith;
     within = omega arith;
     most = omega (arith, sound.few_cycles);

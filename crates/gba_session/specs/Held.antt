@@ -1,12 +1,12 @@
 use Rattle.std.specs.Prelude.{ℕ, ◌≡◌, ◌*◌, ◌^◌, ◌<◌, ◌≤◌, Bool, true, List, [], length, map, get_or, vec_capacity}
 use Rattle.std.specs.List.{All}
 use Rattle.gba_console.specs.Alone.{console_kind}
-use Rattle.gba_console.specs.Machine.{Machine, clock_of, limit_of, without_limit}
+use Rattle.gba_console.specs.Machine.{Machine, clock_of, without_limit}
 use Rattle.gba_console.specs.Segments.{behind}
 use Rattle.gba_joblog.specs.declared.outputs.OutKind.TheVariants.{Frames, Samples, Words, State, Save}
 use Rattle.gba_joblog.specs.declared.outputs.PerKind.{PerKind}
 use Rattle.gba_session.specs.Files.{output_bytes}
-use Rattle.gba_session.specs.Session.{Consoles, is_over, later_end, segment_cut}
+use Rattle.gba_session.specs.Session.{Consoles, is_over, segment_cut}
 use Rattle.gba_session.specs.Start.{run_until}
 use Rattle.gba_session.specs.declared.player.Player.{Player}
 use Rattle.link_order.specs.Cut.{Cut, HasDelays, IsSound, count, plain_cut}
@@ -71,7 +71,6 @@ session_value start from to until players =
 pub record IsSegmented (s : Consoles) (cut : Cut Machine) (players : List Player) : Type 0 where
   pub is : plain_cut without_limit cut ≡ segment_cut s
   pub late : All (λ (m : Machine). s.to ≤ clock_of m) cut.consoles
-  pub limits : All (λ limit. limit ≤ later_end s.until s.to) (map limit_of cut.consoles)
   pub begun : s.from ≤ s.to
   pub within : s.to ≤ s.until
   pub most : s.until ≤ 2 ^ 39

@@ -1,12 +1,14 @@
-use Rattle.std.specs.Prelude.{ℕ, ◌+◌, ◌*◌, ◌/◌, Bool, not, nat_lt, min, List, map, if◌then◌else◌}
-use Rattle.gba_console.specs.Machine.{Machine}
+use Rattle.std.specs.Prelude.{◌≡◌, ℕ, ◌+◌, ◌-◌, ◌*◌, ◌/◌, All, Bool, not, nat_lt, min, List, map, if◌then◌else◌}
+use Rattle.gba_console.specs.Alone.{console_kind}
+use Rattle.gba_console.specs.Machine.{Machine, forgotten, without_limit}
 use Rattle.gba_console.specs.Segments.{forgotten_cut}
 use Rattle.gba_image.specs.declared.images.ConsoleImages.{ConsoleImages}
 use Rattle.gba_joblog.specs.Job.{WholeJob}
 use Rattle.gba_joblog.specs.declared.outputs.PerKind.{PerKind}
 use Rattle.gba_session.specs.Files.{asks_of}
 use Rattle.gba_session.specs.Start.{run_until, start_of}
-use Rattle.link_order.specs.Cut.{Cut}
+use Rattle.link_order.specs.Cut.{Cut, clock_at}
+use Rattle.link_order.specs.GlobalOrder.{least}
 
 -- The consoles of a job, which run in segments. A segment ends at each multiple of 2^24 cycles before the job's end, and at
 -- that end; between two of them the lists of the consoles are emptied.
@@ -32,6 +34,27 @@ segment_cycles = 16777216
 -- the end of the segment that begins at a clock
 abbrev pub later_end : ℕ → ℕ → ℕ
 later_end until clock = min until ((clock / segment_cycles + 1) * segment_cycles)
+
+-- The clock at which the segment begins in which a clock is, or the last one where the clock has come to the end.
+abbrev pub segment_begin : ℕ → ℕ → ℕ
+segment_begin until clock = min clock (until - 1) / segment_cycles * segment_cycles
+
+-- A job's consoles that go on from where they stand on their cable: the first segment is the one in which the least of their clocks is.
+abbrev pub least_clock : Cut Machine → ℕ
+least_clock cut = clock_at console_kind cut (least console_kind cut)
+
+abbrev pub resumed : WholeJob → Cut Machine → Consoles
+resumed job start = record {
+  start = start;
+  from = segment_begin job.cycles (least_clock start);
+  to = segment_begin job.cycles (least_clock start);
+  until = job.cycles;
+  asks = map asks_of job.consoles;
+}
+
+-- Their lists are empty.
+abbrev pub AreEmpty : Cut Machine → Type 0
+AreEmpty cut = All (λ (m : Machine). without_limit m ≡ forgotten (without_limit m)) cut.consoles
 
 -- the same once the next segment is run; after the last one nothing more is
 abbrev pub advanced : Consoles → Consoles

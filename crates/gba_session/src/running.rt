@@ -5,7 +5,7 @@ ghost use Rattle.std.specs.List.{All};
 ghost use Rattle.gba_console.specs.Machine.{Machine, clock_of, forgotten, limit_of, without_limit};
 ghost use Rattle.gba_console.specs.Segments.{forgotten_cut};
 ghost use Rattle.gba_session.specs.Held.{HasRoom, HaveTaken};
-ghost use Rattle.gba_session.specs.Session.{later_end as end_after};
+ghost use Rattle.gba_session.specs.Session.{later_end as end_after, segment_begin as segment_begin_of};
 ghost use Rattle.gba_session.specs.Start.{run_until};
 ghost use Rattle.link_order.specs.Cut.{plain_cut};
 
@@ -30,26 +30,47 @@ pub fn later_end(until: u64, clock: u64) -> u64
     until.min((clock / SEGMENT + 1) * SEGMENT)
 }
 
-/// Empties the lists of consoles, which have room up to `until` from then on.
+/// The clock at which the segment begins in which a clock is, or the last segment where the clock has come to the end.
+pub(crate) fn segment_begin(until: u64, clock: u64) -> u64
+    requires { 1 ≤ until }
+    ensures { result ≡ segment_begin_of until clock }
+{
+    clock.min(until - 1) / SEGMENT * SEGMENT
+}
+
+/// The end of the room of a console in a segment that ends at `until`. One that is far ahead makes no step in it: its room ends
+/// 511 cycles before its clock.
+fn room_end(console: &Console, until: u64) -> u64
+    requires most { until ≤ 2 ^ 39 }
+    requires near { until ≤ clock_of console.now + 16777216 }
+    ensures reach { until ≤ result }
+    ensures most { result ≤ 2 ^ 39 }
+    ensures later { clock_of console.now ≤ result + 511 }
+    ensures near { result ≤ clock_of console.now + 16777216 }
+{
+    until.max(console.clock().saturating_sub(511))
+}
+
+/// Empties the lists of consoles, which have room up to `until` at least from then on.
 fn forget_each(consoles: &mut Vec<Console>, until: u64)
     requires most { until ≤ 2 ^ 39 }
-    requires limits { All (λ limit. limit ≤ until) (map limit_of consoles.old.items) }
     requires near { All (λ (m : Machine). until ≤ clock_of m + 16777216) consoles.old.items }
     ensures plain { map without_limit consoles.new.items ≡ map forgotten (map without_limit consoles.old.items) }
-    ensures limits { All (λ limit. limit ≡ until) (map limit_of consoles.new.items) }
+    ensures limits { All (λ limit. until ≤ limit) (map limit_of consoles.new.items) }
 {
     for player in 0..consoles.len() {
-        consoles[player].forget(until);
+        let console = &mut consoles[player];
+        let end = room_end(console, until);
+        console.forget(end);
     }
 }
 
-/// Empties the lists of the consoles of a cut, which have room up to `until` from then on.
+/// Empties the lists of the consoles of a cut, which have room up to `until` at least from then on.
 pub fn forget_all(cut: Cut<Console>, until: u64) -> Cut<Console>
     requires most { until ≤ 2 ^ 39 }
-    requires limits { All (λ limit. limit ≤ until) (map limit_of cut.consoles) }
     requires near { All (λ (m : Machine). until ≤ clock_of m + 16777216) cut.consoles }
     ensures plain { plain_cut without_limit result ≡ forgotten_cut (plain_cut without_limit cut) }
-    ensures limits { All (λ limit. limit ≡ until) (map limit_of result.consoles) }
+    ensures limits { All (λ limit. until ≤ limit) (map limit_of result.consoles) }
 {
     forgets();
     let (mut consoles, shell) = cut.part();
@@ -60,10 +81,9 @@ pub fn forget_all(cut: Cut<Console>, until: u64) -> Cut<Console>
 /// Runs a console that is alone on its cable by itself: nothing is ever due to it.
 fn run_alone(cut: Cut<Console>, until: u64) -> Cut<Console>
     requires one { length cut.consoles ≡ 1 }
-    requires limit { All (λ limit. limit ≡ until) (map limit_of cut.consoles) }
+    requires limit { All (λ limit. until ≤ limit) (map limit_of cut.consoles) }
     ensures run { plain_cut without_limit result ≡ run_until until (plain_cut without_limit cut) }
     ensures done { All (λ (m : Machine). until ≤ clock_of m) result.consoles }
-    ensures limits { map limit_of result.consoles ≡ map limit_of cut.consoles }
 {
     steps_pass();
     enough();
@@ -82,10 +102,9 @@ fn run_cut<R: Threads + Sync, G: Gate + Sync>(
     gate: &G,
     until: u64,
 ) -> Cut<Console>
-    requires limit { All (λ limit. limit ≡ until) (map limit_of cut.consoles) }
+    requires limit { All (λ limit. until ≤ limit) (map limit_of cut.consoles) }
     ensures run { plain_cut without_limit result ≡ run_until until (plain_cut without_limit cut) }
     ensures done { All (λ (m : Machine). until ≤ clock_of m) result.consoles }
-    ensures limits { map limit_of result.consoles ≡ map limit_of cut.consoles }
 {
     if cut.nodes().len() == 1 {
         return run_alone(cut, until);
@@ -102,11 +121,9 @@ pub(crate) fn run_segment<R: Threads + Sync, G: Gate + Sync>(
     until: u64,
 ) -> Cut<Console>
     requires most { until ≤ 2 ^ 39 }
-    requires limits { All (λ limit. limit ≤ until) (map limit_of cut.consoles) }
     requires near { All (λ (m : Machine). until ≤ clock_of m + 16777216) cut.consoles }
     ensures run { plain_cut without_limit result ≡ run_until until (forgotten_cut (plain_cut without_limit cut)) }
     ensures done { All (λ (m : Machine). until ≤ clock_of m) result.consoles }
-    ensures limits { All (λ limit. limit ≡ until) (map limit_of result.consoles) }
 {
     run_cut(rt, alloc, forget_all(cut, until), gate, until)
 }

@@ -7,7 +7,7 @@ ghost use Rattle.gba_console.specs.Machine.{without_limit};
 ghost use Rattle.gba_output.specs.StateFile.{summary_line};
 
 use crate::player::{Player, digest_in};
-use crate::running::{later_end, run_segment, take_pieces};
+use crate::running::{later_end, run_segment, segment_begin, take_pieces};
 use crate::starting::{players_of, start_cut};
 use gba_console::Console;
 use gba_console::laws::segments;
@@ -75,7 +75,7 @@ impl Session {
     ghost use Rattle.gba_joblog.specs.declared.outputs.PerKind.{PerKind};
     ghost use Rattle.gba_output.specs.StateFile.{summary_line};
     ghost use Rattle.gba_session.specs.Files.{grows, output_bytes};
-    ghost use Rattle.gba_session.specs.Session.{advanced, is_over, later_end as end_after, prepared};
+    ghost use Rattle.gba_session.specs.Session.{AreEmpty, advanced, is_over, later_end as end_after, prepared, resumed};
     ghost use Rattle.gba_session.specs.Session.{segment_cut, whole_cut};
     ghost use Rattle.gba_session.specs.Start.{FitJob};
     ghost use Rattle.link_order.specs.Cut.{plain_cut};
@@ -100,6 +100,27 @@ impl Session {
             cut,
             from: 0,
             to: 0,
+            until: job.cycles,
+            players,
+        })
+    }
+
+    /// The consoles of a job that go on from where they stand on their cable, with empty lists: as many as the job has, in the order
+    /// of their players. The first segment is the one in which the least of their clocks is. The memory is taken that the outputs of
+    /// a segment need.
+    pub fn resume(alloc: Global, job: &Job, cut: Cut<Console>) -> Result<Session, NoMemory>
+        requires sound { IsJob (job_value job.now) }
+        requires count { length cut.consoles ≡ length (job_value job.now).consoles }
+        requires empty { AreEmpty cut }
+        ensures { IfOk result (λ session. session ≡ resumed (job_value job.now) (plain_cut without_limit cut)) }
+    {
+        let players = players_of(alloc, job)?;
+        let begin = segment_begin(job.cycles, cut.least_clock());
+        Ok(Session {
+            start: Snapshot::of(&cut),
+            cut,
+            from: begin,
+            to: begin,
             until: job.cycles,
             players,
         })

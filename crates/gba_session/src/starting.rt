@@ -110,7 +110,7 @@ fn consoles_of(
     requires images { FitJob (job_value job.now) images.items }
     ensures consoles { IfOk result (λ consoles. map without_limit consoles.items
         ≡ consoles_from (job_value job.now) 0 (job_value job.now).consoles images.items) }
-    ensures limits { IfOk result (λ consoles. All (λ limit. limit ≡ end_after job.now.cycles 0)
+    ensures limits { IfOk result (λ consoles. All (λ limit. end_after job.now.cycles 0 ≤ limit)
         (map limit_of consoles.items)) }
 {
     let mut consoles = Vec::new(alloc);
@@ -135,7 +135,8 @@ pub fn start_cut(
     requires sound { IsJob (job_value job.now) }
     requires images { FitJob (job_value job.now) images.items }
     ensures start { IfOk result (λ cut. plain_cut without_limit cut ≡ start_of (job_value job.now) images.items) }
-    ensures limits { IfOk result (λ cut. All (λ limit. limit ≡ end_after job.now.cycles 0)
+    ensures many { IfOk result (λ cut. length cut.consoles ≡ length (job_value job.now).consoles) }
+    ensures limits { IfOk result (λ cut. All (λ limit. end_after job.now.cycles 0 ≤ limit)
         (map limit_of cut.consoles)) }
 {
     let consoles = consoles_of(alloc, job, images)?;

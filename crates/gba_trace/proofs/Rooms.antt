@@ -41,6 +41,6 @@ pub still-shown : (cut after : Cut Machine) → plain_cut without_limit after �
 still-shown cut after e = ap sheared e ∙ forgotten-sheared (plain_cut without_limit cut)
 
 -- the room of one of them
-pub room-of : (end i : ℕ) (consoles : List _) → All (λ limit. limit ≡ end) (map limit_of consoles) → i < length consoles
-    → get_or (map limit_of consoles) i 0 ≡ end
+pub room-of : (end i : ℕ) (consoles : List _) → All (λ limit. end ≤ limit) (map limit_of consoles) → i < length consoles
+    → end ≤ get_or (map limit_of consoles) i 0
 room-of end i consoles all within = all i 0 (omega (arith, within, length-map consoles limit_of))

@@ -1,4 +1,4 @@
-use Rattle.std.specs.Prelude.{◌≡◌, ℕ, map}
+use Rattle.std.specs.Prelude.{◌≡◌, ◌≤◌, ℕ, map}
 use Rattle.std.specs.List.{All}
 use Rattle.gba_console.specs.Machine.{Machine, limit_of, without_limit}
 use Rattle.gba_console.specs.Shorn.{shorn}
@@ -18,6 +18,6 @@ sheared cut = mapped (λ i. shorn) cut
 abbrev pub Shows : Cut Machine → Cut Machine → Type 0
 Shows plain cut = sheared (plain_cut without_limit cut) ≡ sheared plain
 
--- each of them has room up to a clock
+-- each of them has room up to a clock at least
 abbrev pub HaveRoom : ℕ → Cut Machine → Type 0
-HaveRoom end cut = All (λ limit. limit ≡ end) (map limit_of cut.consoles)
+HaveRoom end cut = All (λ limit. end ≤ limit) (map limit_of cut.consoles)

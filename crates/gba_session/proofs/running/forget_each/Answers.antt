@@ -1,20 +1,13 @@
 use Rattle.std.proofs.Common.{arith}
-use Rattle.gba_session.proofs.Forgetting.{all-forgotten, all-limits, clock-near, limit-below}
+use Rattle.gba_session.proofs.Forgetting.{all-forgotten, all-limits, clock-near}
 use Rattle.gba_session.proofs.running.forget_each.Goals as goal
 
-pub forget-requires-clause-later : goal.forget-requires-clause-later
-forget-requires-clause-later c =
-    limit-below c.args.until c.loop-player.player c.args.consoles.now.items c.loop-player.consoles.items
-    c.index_mut.result.now c.loop-player.invariant
-    (omega (arith, c.loop-player-test.true, c.len-player-end.ensures, c.loop-player.invariant.many))
-    c.index_mut.ensures.value c.requires.limits
-
-pub forget-requires-clause-near : goal.forget-requires-clause-near
-forget-requires-clause-near c =
+pub room_end-end-requires-clause-near : goal.room_end-end-requires-clause-near
+room_end-end-requires-clause-near c =
     clock-near c.args.until c.loop-player.player c.args.consoles.now.items c.loop-player.consoles.items
-    c.index_mut.result.now c.loop-player.invariant
+    c.index_mut-console.result.now c.loop-player.invariant
     (omega (arith, c.loop-player-test.true, c.len-player-end.ensures, c.loop-player.invariant.many))
-    c.index_mut.ensures.value c.requires.near
+    c.index_mut-console.ensures.value c.requires.near
 
 pub returns-clause-plain : goal.returns-clause-plain
 returns-clause-plain c =

@@ -1,4 +1,4 @@
-use Rattle.std.proofs.Common.{◌≡◌, ℕ, List, [], ◌∷◌, ◌∙◌, length, map, slice_set, ap, sym, subst, arith}
+use Rattle.std.proofs.Common.{◌≡◌, ◌≤◌, ℕ, List, [], ◌∷◌, ◌∙◌, length, map, slice_set, ap, sym, subst, arith}
 use Rattle.std.specs.List.{All}
 use Rattle.gba_console.specs.Alone.{alone, console_kind}
 use Rattle.gba_console.specs.Machine.{Machine, limit_of, without_limit}
@@ -20,10 +20,9 @@ run_to-requires c =
     let long : length xs ≡ 1 = omega (arith, ap length c.part-consoles.ensures.nodes, c.requires.one) in
     let all : c.args.cut.consoles ≡ m ∷ [] =
     sym c.part-consoles.ensures.nodes ∙ one-is xs m long ∙ ap (λ (x : Machine). x ∷ []) (sym c.index_mut.ensures.value) in
-    let limits : All (λ (limit : ℕ). limit ≡ c.args.until) (limit_of m ∷ []) =
-    subst (λ (ys : List Machine). All (λ (limit : ℕ). limit ≡ c.args.until) (map limit_of ys)) all c.requires.limit in
-    let is : limit_of m ≡ c.args.until = limits 0 0 (omega arith) in
-    omega (arith, is)
+    let limits : All (λ (limit : ℕ). c.args.until ≤ limit) (limit_of m ∷ []) =
+    subst (λ (ys : List Machine). All (λ (limit : ℕ). c.args.until ≤ limit) (map limit_of ys)) all c.requires.limit in
+    limits 0 0 (omega arith)
 
 pub join-requires-clause-sound : goal.join-requires-clause-sound
 join-requires-clause-sound c =

@@ -10,7 +10,7 @@ invariant_of-result c =
     let start = c.in_ok-cut.ensures.start in
     begins job c.args.images.items cut.consoles c.in_ok-players.players.items cut c.of.result.value c.requires.sound
     (fit-long _ _ c.requires.images) (plain-consoles job c.args.images.items cut start)
-    (opened job c.args.images.items cut start) c.of.ensures c.in_ok-cut.ensures.limits c.in_ok-players.ensures.unused
+    (opened job c.args.images.items cut start) c.of.ensures c.in_ok-players.ensures.unused
     c.in_ok-players.ensures.asks
 
 pub returns : goal.returns
@@ -20,5 +20,5 @@ returns c =
     let start = c.in_ok-cut.ensures.start in
     begins-prepared job c.args.images.items cut.consoles c.in_ok-players.players.items cut c.of.result.value c.requires.sound
     (fit-long _ _ c.requires.images) (plain-consoles job c.args.images.items cut start)
-    (opened job c.args.images.items cut start) c.of.ensures c.in_ok-cut.ensures.limits c.in_ok-players.ensures.unused
+    (opened job c.args.images.items cut start) c.of.ensures c.in_ok-players.ensures.unused
     c.in_ok-players.ensures.asks

@@ -17,7 +17,7 @@ take_pieces-requires-clause-many g c =
     let end = c.later_end-end in
     players-many c.segments.ensures.live _ s.from s.to s.until s.players.items s.players.items s.cut ran.result
     end.result false c.self.invariant (early-in _ _ c.self.view_is c.requires) end.ensures ran.ensures.run
-    ran.ensures.done ran.ensures.limits ∙ ap length (sym c.nodes.ensures.value)
+    ran.ensures.done ∙ ap length (sym c.nodes.ensures.value)
 
 pub invariant_of-result : goal.invariant_of-result
 invariant_of-result g c =
@@ -28,7 +28,7 @@ invariant_of-result g c =
     let over = nat_le s.until end.result in
     advances c.segments.ensures.live _ s.from s.to s.until s.players.items new s.cut ran.result end.result over
     c.self.invariant (early-in _ _ c.self.view_is c.requires) end.ensures ran.ensures.run ran.ensures.done
-    ran.ensures.limits (last-told end.result s.until)
+    (last-told end.result s.until)
     (subst (λ (ms : List Machine). HaveTaken over s.players.items ms new) c.nodes.ensures.value c.take_pieces.ensures)
 
 pub returns : goal.returns
@@ -40,6 +40,6 @@ returns g c =
     let over = nat_le s.until end.result in
     advances-to c.segments.ensures.live _ s.from s.to s.until s.players.items new s.cut ran.result end.result over
     c.self.invariant (early-in _ _ c.self.view_is c.requires) end.ensures ran.ensures.run ran.ensures.done
-    ran.ensures.limits (last-told end.result s.until)
+    (last-told end.result s.until)
     (subst (λ (ms : List Machine). HaveTaken over s.players.items ms new) c.nodes.ensures.value c.take_pieces.ensures)
     ∙ ap (λ (v : Consoles). record v { from = v.to; to = later_end v.until v.to }) c.self.view_is
