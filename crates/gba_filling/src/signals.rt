@@ -21,20 +21,21 @@ pub struct Signals {
 impl Model for Signals {
     ghost use Rattle.std.specs.Prelude.{◌≤◌};
     ghost use Rattle.std.specs.Vec.{vec_capacity};
-    ghost use Rattle.gba_filling.specs.Signals.{LiveSignals, most_signals};
+    ghost use Rattle.gba_filling.specs.Signals.{AllFit, LiveSignals, most_signals};
 
     ghost Value = { LiveSignals };
 
     ghost view = { λ s. record { sent = s.sent.items; more = s.more } };
 
-    ghost invariant = { λ s. most_signals ≤ vec_capacity s.sent };
+    ghost invariant = { λ s. (most_signals ≤ vec_capacity s.sent) × AllFit s.sent.items };
 }
 
 impl Signals {
     ghost use Rattle.std.specs.Prelude.{ℕ, ◌≤◌, List, [], ◌∷◌, ◌++◌};
     ghost use Rattle.std.specs.Vec.{vec_capacity};
     ghost use Rattle.link_node.specs.declared.signal.Signal.{Signal};
-    ghost use Rattle.gba_filling.specs.Signals.{AreSignals, most_signals};
+    ghost use Rattle.link_node.specs.Due.{FitsWidths};
+    ghost use Rattle.gba_filling.specs.Signals.{AllFit, AreSignals, most_signals};
 
     /// No signal yet. It takes the memory of all that are kept.
     pub fn new(alloc: Global) -> Result<Signals, AllocError>
@@ -48,6 +49,7 @@ impl Signals {
 
     /// One signal more, behind the others. It takes no memory.
     pub fn keep(&mut self, sender: u32, signal: Signal)
+        requires { FitsWidths signal }
         ensures { (sent : List (ℕ × Signal)) → AreSignals sent self.old → AreSignals (sent ++ (sender, signal) ∷ []) self.new }
     {
         if self.sent.len() >= MOST_SIGNALS {
@@ -59,7 +61,8 @@ impl Signals {
 
     /// The signals in the order of their lines, at most the first 16,384.
     pub fn sent(&self) -> &[Sent]
-        ensures { result.now ≡ self.now.sent }
+        ensures value { result.now ≡ self.now.sent }
+        ensures widths { AllFit result.now }
     {
         self.sent.as_slice()
     }

@@ -1,0 +1,10 @@
+pub mod Changes
+pub mod Follows
+pub mod Joins
+pub mod Loops
+pub mod Plain
+pub mod Pours
+pub mod Read
+pub mod Sound
+pub mod Thawed
+pub mod Wholes
