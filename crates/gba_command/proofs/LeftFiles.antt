@@ -7,7 +7,7 @@ use Rattle.std.proofs.lemmas.Slice.Eq.{bytes_eq-Decides}
 use Rattle.std.proofs.Common.{◌≡◌, ◌≢◌, ◌⊎◌, ℕ, zero, suc, ◌<◌, Bool, true, false, List, [], ◌∷◌, ◌++◌, length, map, Option, Some, Result, Ok, Err, refl, sym, ap, ◌∙◌, subst, inl, inr, arith}
 use Rattle.gba_store.specs.Files.{Files}
 use Rattle.gba_command.specs.Answer.{Closes, Concludes, Finishes}
-use Rattle.gba_command.specs.Cause.{Cause, NoCommand, Job, Image, Digest, Source, status_of}
+use Rattle.gba_command.specs.Cause.{Cause, NoCommand, Job, Image, Digest, Source, Frozen, status_of}
 use Rattle.gba_command.specs.LeftFiles.{standard_output, is_among, added, NamesDiffer, HasOwnFiles, with_summary, LeavesFiles, left_in, HasStopped, MayHold, LeavesFronts, LeavesPieces}
 use Rattle.gba_command.specs.Writing.{Output, Run, SinkState, WriteEnd, Wrote, SinkFails, SinkLacks, IsStopped, Call, Create, Append, Performs, PerformsAll, creation, addition, line_call, summary_calls, calls_of, at_once}
 
@@ -467,6 +467,7 @@ module _ (Tells : Type 0) where
   some-status (Image name error) h = absurd cc
   some-status (Digest name stated got) h = absurd cc
   some-status (Source name error) h = absurd cc
+  some-status (Frozen name error) h = absurd cc
 
   concluded : (end : Result (List ℕ) Cause) (mid new : SinkState) → Concludes Tells 0 end mid new
       → (summary : List ℕ) × (end ≡ Ok summary) × (new ≡ mid)

@@ -1,9 +1,12 @@
 use Rattle.std.specs.Prelude.{ℕ, List, ◌++◌, codes, decimal}
 use Rattle.hex.specs.Hex.{encode_lower}
 use Rattle.gba_asm_words.specs.Kinds.{AsmError, kind_name as asm_kind_name}
+use Rattle.gba_frozen.specs.Told.{kind_text}
+use Rattle.gba_frozen.specs.declared.kinds.ThawKind.{ThawKind}
 use Rattle.gba_image.specs.Names.{error_name}
 use Rattle.gba_image.specs.declared.error.ImageError.{ImageError}
 use Rattle.gba_joblog.specs.Kinds.{JobError, kind_name}
+use Rattle.gba_text.specs.declared.kinds.LineError.{LineError}
 
 -- why a command is refused, as its words and the files say
 pub data Cause : Type 0 where
@@ -17,6 +20,8 @@ pub data Cause : Type 0 where
   Digest : List ℕ → List ℕ → List ℕ → Cause
   -- the source of this name isn't of the assembly language: the first refused line, and its kind
   Source : List ℕ → AsmError → Cause
+  -- the first refused line of the frozen file of this name, and its kind
+  Frozen : List ℕ → LineError ThawKind → Cause
 
 abbrev pub status_of : Cause → ℕ
 status_of NoCommand = 2
@@ -24,6 +29,7 @@ status_of (Job name error) = 5
 status_of (Image name error) = 6
 status_of (Digest name stated got) = 7
 status_of (Source name error) = 8
+status_of (Frozen name error) = 12
 
 -- the line that is reported on standard output
 abbrev pub report_of : Cause → List ℕ
@@ -37,6 +43,8 @@ report_of (Digest name stated got) =
 report_of (Source name error) =
     codes "source " ++ name ++ codes " line " ++ decimal error.line ++ codes " " ++ asm_kind_name error.kind
     ++ codes "\n"
+report_of (Frozen name error) =
+    codes "frozen " ++ name ++ codes " line " ++ decimal error.line ++ codes " " ++ kind_text error.kind ++ codes "\n"
 
 -- why a command stops before anything is written: refused for a cause, the named file isn't there, the store failed in
 -- the read of the named file, or memory was wanting

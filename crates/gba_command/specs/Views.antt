@@ -8,14 +8,15 @@ use Rattle.gba_command.specs.declared.writing.WriteStop.{WriteStop}
 use Rattle.gba_command.specs.declared.writing.WriteStop.TheVariants as writing
 use Rattle.gba_command.specs.declared.outputs.OutputFile.{OutputFile}
 use Rattle.gba_command.specs.declared.outputs.Outputs.{Outputs}
-use Rattle.gba_command.specs.Cause.{Cause, NoCommand, Job, Image, Digest, Source, Stop, Refused, Absent, StoreFails, LacksMemory}
-use Rattle.gba_command.specs.Words.{Command, RunJob, Assemble, ListArm, ListThumb, Generate, Trace, Freeze, RunWords, FileWords, GenerateWords, TraceWords, FreezeWords}
+use Rattle.gba_command.specs.Cause.{Cause, NoCommand, Job, Image, Digest, Source, Frozen, Stop, Refused, Absent, StoreFails, LacksMemory}
+use Rattle.gba_command.specs.Words.{Command, RunJob, Assemble, ListArm, ListThumb, Generate, Trace, Freeze, Resume, RunWords, FileWords, GenerateWords, TraceWords, FreezeWords, ResumeWords}
 use Rattle.gba_command.specs.Writing.{Output, Run, WriteEnd, Wrote, SinkFails, SinkLacks, at_once}
 use Rattle.gba_command.specs.declared.words.Command.{Command as CommandText}
 use Rattle.gba_command.specs.declared.words.Command.TheVariants as command
 use Rattle.gba_command.specs.declared.words.FileWords.{FileWords as FileText}
 use Rattle.gba_command.specs.declared.words.FreezeWords.{FreezeWords as FreezeText}
 use Rattle.gba_command.specs.declared.words.GenerateWords.{GenerateWords as GenerateText}
+use Rattle.gba_command.specs.declared.words.ResumeWords.{ResumeWords as ResumeText}
 use Rattle.gba_command.specs.declared.words.RunWords.{RunWords as RunText}
 use Rattle.gba_command.specs.declared.words.TraceWords.{TraceWords as TraceText}
 
@@ -36,6 +37,9 @@ trace_words_value words = record { run = run_words_value words.run; first = word
 abbrev pub freeze_words_value : FreezeText → FreezeWords
 freeze_words_value words = record { run = run_words_value words.run; clock = words.clock }
 
+abbrev pub resume_words_value : ResumeText → ResumeWords
+resume_words_value words = record { run = run_words_value words.run; frozen = words.frozen.now }
+
 abbrev pub command_value : CommandText → Command
 command_value (command.RunJob words) = RunJob (run_words_value words)
 command_value (command.Assemble words) = Assemble (file_words_value words)
@@ -44,6 +48,7 @@ command_value (command.ListThumb words) = ListThumb (file_words_value words)
 command_value (command.Generate words) = Generate (generate_words_value words)
 command_value (command.Trace words) = Trace (trace_words_value words)
 command_value (command.Freeze words) = Freeze (freeze_words_value words)
+command_value (command.Resume words) = Resume (resume_words_value words)
 
 abbrev pub cause_value : CauseText → Cause
 cause_value cause.NoCommand = NoCommand
@@ -51,6 +56,7 @@ cause_value (cause.Job name error) = Job name.items error
 cause_value (cause.Image name error) = Image name.items error
 cause_value (cause.Digest name stated got) = Digest name.items stated got
 cause_value (cause.Source name error) = Source name.items error
+cause_value (cause.Frozen name error) = Frozen name.items error
 
 abbrev pub stop_value : Refusal → Stop
 stop_value (refusal.Refused of) = Refused (cause_value of)

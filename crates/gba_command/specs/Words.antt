@@ -31,6 +31,11 @@ pub record FreezeWords : Type 0 where
   pub run : RunWords
   pub clock : ℕ
 
+-- `resume JOB FROZEN OUT`
+pub record ResumeWords : Type 0 where
+  pub run : RunWords
+  pub frozen : List ℕ
+
 pub data Command : Type 0 where
   -- `run JOB OUT`: a job is run
   RunJob : RunWords → Command
@@ -46,6 +51,8 @@ pub data Command : Type 0 where
   Trace : TraceWords → Command
   -- `freeze JOB CLOCK OUT`: a job is run to a clock, and the state of its consoles there is written
   Freeze : FreezeWords → Command
+  -- `resume JOB FROZEN OUT`: a job is run on from where it was frozen
+  Resume : ResumeWords → Command
 
 -- OUT may have 180 bytes, so that the names of the written files are names too
 abbrev pub longest_out : ℕ
@@ -92,6 +99,13 @@ freezing (Some clock) (Some run) = Some (record { run = run; clock = clock })
 abbrev pub freeze_words : List ℕ → List ℕ → List ℕ → Option FreezeWords
 freeze_words job clock out = freezing (number_of 1 274877906944 clock) (run_words job out)
 
+abbrev pub resuming : List ℕ → Option RunWords → Option ResumeWords
+resuming frozen None = None
+resuming frozen (Some run) = Some (record { run = run; frozen = frozen })
+
+abbrev pub resume_words : List ℕ → List ℕ → List ℕ → Option ResumeWords
+resume_words job frozen out = if is_name frozen then resuming frozen (run_words job out) else None
+
 -- a command of three words
 abbrev pub command_of_three : List ℕ → List ℕ → List ℕ → Option Command
 command_of_three name from to =
@@ -106,6 +120,7 @@ abbrev pub command_of_four : List ℕ → List ℕ → List ℕ → List ℕ →
 command_of_four name one two out =
     if bytes_eq name (codes "gen") then option_map Generate (generate_words one two out)
     else if bytes_eq name (codes "freeze") then option_map Freeze (freeze_words one two out)
+    else if bytes_eq name (codes "resume") then option_map Resume (resume_words one two out)
     else None
 
 -- a command of five words
@@ -152,6 +167,10 @@ pub record AreFreezeWords (words : FreezeWords) : Type 0 where
   pub some_cycles : 1 ≤ words.clock
   pub few_cycles : words.clock ≤ 2 ^ 38
 
+pub record AreResumeWords (words : ResumeWords) : Type 0 where
+  pub run : AreRunWords words.run
+  pub frozen : length words.frozen ≤ 200
+
 abbrev pub IsCommand : Command → Type 0
 IsCommand (RunJob words) = AreRunWords words
 IsCommand (Assemble words) = AreFileWords words
@@ -160,3 +179,4 @@ IsCommand (ListThumb words) = AreFileWords words
 IsCommand (Generate words) = AreGenerateWords words
 IsCommand (Trace words) = AreTraceWords words
 IsCommand (Freeze words) = AreFreezeWords words
+IsCommand (Resume words) = AreResumeWords words

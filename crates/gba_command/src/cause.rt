@@ -3,11 +3,13 @@
 ghost use Rattle.std.specs.Prelude.{◌≡◌, ◌≤◌, ◌++◌, codes, decimal, length};
 ghost use Rattle.hex.specs.Hex.{encode_lower};
 ghost use Rattle.gba_asm_words.specs.Kinds.{kind_name as asm_kind_name};
+ghost use Rattle.gba_frozen.specs.Told.{kind_text as thaw_kind_name};
 ghost use Rattle.gba_image.specs.Names.{error_name};
 ghost use Rattle.gba_joblog.specs.Kinds.{kind_name};
 
 use crate::refusal::{Name, line_about};
 use gba_asm_words::{AsmError, AsmKind};
+use gba_frozen::{ThawError, ThawKind};
 use gba_image::ImageError;
 use gba_joblog::{JobError, JobKind, digits_of};
 use gba_text::{Line, add_text, line_of};
@@ -30,6 +32,8 @@ pub enum Cause {
     },
     /// The source of this name isn't of the assembly language: 8.
     Source(Name, AsmError),
+    /// No run of the job goes on from the frozen file of this name: 12.
+    Frozen(Name, ThawError),
 }
 
 #[tactic(auto, using(crate::proofs::KindNames::kind_name_short))]
@@ -54,6 +58,18 @@ fn asm_kind_text(kind: AsmKind) -> &'static [u8]
     ensures short { length result.now ≤ 8 }
 {
     kind.name().as_bytes()
+}
+
+fn thaw_kind_text(kind: ThawKind) -> &'static [u8]
+    ensures text { result.now ≡ thaw_kind_name kind }
+    ensures short { length result.now ≤ 8 }
+{
+    match kind {
+        ThawKind::Spelling => "Spelling".as_bytes(),
+        ThawKind::Number => "Number".as_bytes(),
+        ThawKind::Job => "Job".as_bytes(),
+        ThawKind::Unsound => "Unsound".as_bytes(),
+    }
 }
 
 fn image_line(name: &Name, error: ImageError) -> Line
@@ -109,6 +125,7 @@ impl Cause {
             Cause::Image(..) => 6,
             Cause::Digest { .. } => 7,
             Cause::Source(..) => 8,
+            Cause::Frozen(..) => 12,
         }
     }
 
@@ -131,6 +148,12 @@ impl Cause {
                 name,
                 error.line,
                 asm_kind_text(error.kind),
+            ),
+            Cause::Frozen(name, error) => refused_line(
+                b"frozen ",
+                name,
+                error.line,
+                thaw_kind_text(error.kind),
             ),
         }
     }

@@ -16,5 +16,7 @@ pub use cause::Cause;
 pub use outputs::{OutputFile, Outputs};
 pub use reading::read_file;
 pub use refusal::{Name, Refusal, name_in_report};
-pub use words::{Command, FileWords, FreezeWords, GenerateWords, RunWords, TraceWords, command_of};
+pub use words::{
+    Command, FileWords, FreezeWords, GenerateWords, ResumeWords, RunWords, TraceWords, command_of,
+};
 pub use writing::{WriteStop, append, append_files, create, create_files};

@@ -3,8 +3,8 @@
 ghost use Rattle.std.specs.Prelude.{◌≡◌, ◌≤◌, IfSome, length, map, option_map, string_bytes};
 ghost use Rattle.std.specs.Bool.{OnTrue};
 ghost use Rattle.gba_joblog.specs.Names.{is_name as is_name_said};
-ghost use Rattle.gba_command.specs.Views.{command_value, file_words_value, freeze_words_value, generate_words_value, run_words_value, trace_words_value};
-ghost use Rattle.gba_command.specs.Words.{AreFileWords, AreFreezeWords, AreGenerateWords, AreRunWords, AreTraceWords, IsCommand, IsOut, command_of as command_said, command_of_five, command_of_four, command_of_three, file_words as file_words_said, freeze_words as freeze_words_said, generate_words as generate_words_said, is_out as is_out_said, run_words as run_words_said, trace_words as trace_words_said};
+ghost use Rattle.gba_command.specs.Views.{command_value, file_words_value, freeze_words_value, generate_words_value, resume_words_value, run_words_value, trace_words_value};
+ghost use Rattle.gba_command.specs.Words.{AreFileWords, AreFreezeWords, AreGenerateWords, AreResumeWords, AreRunWords, AreTraceWords, IsCommand, IsOut, command_of as command_said, command_of_five, command_of_four, command_of_three, file_words as file_words_said, freeze_words as freeze_words_said, generate_words as generate_words_said, is_out as is_out_said, resume_words as resume_words_said, run_words as run_words_said, trace_words as trace_words_said};
 
 use gba_joblog::is_name;
 use gba_text::number_in;
@@ -68,6 +68,13 @@ pub struct FreezeWords<'a> {
     pub clock: u64,
 }
 
+/// The words JOB and OUT beside FROZEN.
+#[derive(Clone, Copy, Debug, PartialEq, Eq)]
+pub struct ResumeWords<'a> {
+    pub run: RunWords<'a>,
+    pub frozen: &'a str,
+}
+
 /// A command of the program. Names are those of the job language, and that of what is written has at most 180 bytes.
 /// This project's profile.
 #[derive(Clone, Copy, Debug, PartialEq, Eq)]
@@ -86,6 +93,8 @@ pub enum Command<'a> {
     Trace(TraceWords<'a>),
     /// `freeze JOB CLOCK OUT`: a job is run to a clock, and the state of its consoles there is written.
     Freeze(FreezeWords<'a>),
+    /// `resume JOB FROZEN OUT`: a job is run on from where it was frozen.
+    Resume(ResumeWords<'a>),
 }
 
 fn is_out(name: &str) -> bool
@@ -160,6 +169,17 @@ fn freeze_words<'a>(job: &'a str, clock: &str, out: &'a str) -> Option<FreezeWor
     Some(FreezeWords { run, clock })
 }
 
+fn resume_words<'a>(job: &'a str, frozen: &'a str, out: &'a str) -> Option<ResumeWords<'a>>
+    ensures words { option_map resume_words_value result ≡ resume_words_said job.now frozen.now out.now }
+    ensures sound { IfSome result (λ words. AreResumeWords (resume_words_value words)) }
+{
+    if !is_input(frozen) {
+        return None;
+    }
+    let run = run_words(job, out)?;
+    Some(ResumeWords { run, frozen })
+}
+
 fn command_of_words<'a>(name: &str, from: &'a str, to: &'a str) -> Option<Command<'a>>
     ensures command { option_map command_value result ≡ command_of_three name.now from.now to.now }
     ensures sound { IfSome result (λ command. IsCommand (command_value command)) }
@@ -173,13 +193,19 @@ fn command_of_words<'a>(name: &str, from: &'a str, to: &'a str) -> Option<Comman
     }
 }
 
-fn command_of_numbers<'a>(name: &str, one: &'a str, two: &str, out: &'a str) -> Option<Command<'a>>
+fn command_of_four_words<'a>(
+    name: &str,
+    one: &'a str,
+    two: &'a str,
+    out: &'a str,
+) -> Option<Command<'a>>
     ensures command { option_map command_value result ≡ command_of_four name.now one.now two.now out.now }
     ensures sound { IfSome result (λ command. IsCommand (command_value command)) }
 {
     match name {
         "gen" => generate_words(one, two, out).map(Command::Generate),
         "freeze" => freeze_words(one, two, out).map(Command::Freeze),
+        "resume" => resume_words(one, two, out).map(Command::Resume),
         _ => None,
     }
 }
@@ -208,7 +234,7 @@ pub fn command_of(words: &[String]) -> Option<Command<'_>>
     match words {
         [name, from, to] => command_of_words(name.as_str(), from.as_str(), to.as_str()),
         [name, one, two, out] => {
-            command_of_numbers(name.as_str(), one.as_str(), two.as_str(), out.as_str())
+            command_of_four_words(name.as_str(), one.as_str(), two.as_str(), out.as_str())
         }
         [name, job, first, count, out] => command_of_steps(
             name.as_str(),

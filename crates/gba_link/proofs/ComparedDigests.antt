@@ -2,7 +2,7 @@
 use Rattle.std.proofs.Common.{◌≡◌, ℕ, zero, suc, List, [], ◌∷◌, length, map, Result, Ok, Err, refl, sym, ◌∙◌, subst, arith}
 use Rattle.std.specs.List.{AllZip}
 use Rattle.std.specs.Prelude.{option_and_then, slice_get}
-use Rattle.gba_command.specs.Cause.{Cause, NoCommand, Job, Image, Digest, Source}
+use Rattle.gba_command.specs.Cause.{Cause, NoCommand, Job, Image, Digest, Source, Frozen}
 use Rattle.gba_command.specs.Plan.{outcome}
 use Rattle.gba_command.specs.Words.{RunWords}
 use Rattle.gba_command.specs.Writing.{Run}
@@ -52,6 +52,7 @@ module _ (out : List ℕ) (job other : WholeJob) (run : Run) (same : (place : Pl
   restated (Err (Job name error)) h = h
   restated (Err (Image name error)) h = h
   restated (Err (Source name error)) h = h
+  restated (Err (Frozen name error)) h = h
 
 pub run-compared : (out : List ℕ) (job : WholeJob) (inputs : List ConsoleInputs) → IsJob job
     → AllZip AreInputs job.consoles inputs

@@ -6,7 +6,7 @@ use Rattle.std.specs.Str.{bytes_eq}
 use Rattle.std.proofs.Math.Bool.{and-false}
 use Rattle.gba_command.proofs.Comes.{outcome-done, outcome-then}
 use Rattle.gba_command.proofs.LeftFiles.{names-apart}
-use Rattle.gba_command.specs.Cause.{Cause, NoCommand, Job, Image, Digest, Source}
+use Rattle.gba_command.specs.Cause.{Cause, NoCommand, Job, Image, Digest, Source, Frozen}
 use Rattle.gba_command.specs.Plan.{file, outcome}
 use Rattle.gba_command.specs.Words.{AreGenerateWords, GenerateWords}
 use Rattle.gba_command.specs.Writing.{Output, Run}
@@ -264,6 +264,7 @@ ends-well out one run (Err NoCommand) summary none compares is = absurd compares
 ends-well out one run (Err (Job name error)) summary none compares is = absurd compares
 ends-well out one run (Err (Image name error)) summary none compares is = absurd compares
 ends-well out one run (Err (Source name error)) summary none compares is = absurd compares
+ends-well out one run (Err (Frozen name error)) summary none compares is = absurd compares
 
 pub made-again : (files : Files) (words : GenerateWords) (out : List ℕ) → AreGenerateWords words → HasMade files words
     → RunsAsMade files words out

@@ -22,7 +22,7 @@ use Rattle.gba_text.proofs.Steps.{ok-is}
 use Rattle.gba_text.specs.Languages.{error_at}
 use Rattle.gba_joblog.proofs.LogLength.{log-short}
 use Rattle.gba_joblog.proofs.Sound.{sound}
-use Rattle.gba_joblog.specs.Clash.{clash_of, clash_with, log_file}
+use Rattle.gba_joblog.specs.Clash.{clash_of, log_file}
 use Rattle.gba_joblog.specs.Job.{WholeJob}
 use Rattle.gba_joblog.specs.Language.{job_of, longest_job}
 use Rattle.gba_joblog.specs.Log.{log_text}
@@ -31,7 +31,7 @@ use Rattle.gba_joblog.specs.declared.job.OutLine.{OutLine}
 use Rattle.gba_joblog.specs.declared.outputs.PerKind.{PerKind}
 use Rattle.gba_joblog.specs.declared.kinds.JobKind.TheVariants.{Long}
 use Rattle.gba_link.specs.AgainLaw.{HasLog, RunsAgain, SaysJob, bytes_of}
-use Rattle.gba_link.specs.RunPlan.{after_inputs, after_job, end_with, images_in, job_or_refusal, job_plan, job_refusal, result_of_run, run_plan, unless_clash, whole_run_plan, without_clash_with}
+use Rattle.gba_link.specs.RunPlan.{after_inputs, after_job, clash_for, end_with, images_in, job_or_refusal, job_plan, job_refusal, result_of_run, run_plan, unless_clash, whole_run_plan, without_clash_for}
 use Rattle.gba_session.proofs.SameRun.{RunsAlike, asks-alike, end-many, prepared-alike}
 use Rattle.gba_session.specs.Files.{all_files}
 use Rattle.gba_session.specs.Session.{Consoles, prepared}
@@ -53,10 +53,10 @@ unclashed : (words : RunWords) (job found : WholeJob) (clash : Option ℕ) → u
 unclashed words job found None h = ok-is found job h
 unclashed words job found (Some line) h = absurd cc
 
-pub said : (more : Option (List ℕ)) (words : RunWords) (job : WholeJob) (r : Result WholeJob JobError)
-    → without_clash_with more words r ≡ Ok job → r ≡ Ok job
-said more words job (Ok found) h = ap (λ j. Ok j) (unclashed words job found (clash_with found words.job words.out more) h)
-said more words job (Err error) h = absurd cc
+pub said : (frozen more : Option (List ℕ)) (words : RunWords) (job : WholeJob) (r : Result WholeJob JobError)
+    → without_clash_for frozen more words r ≡ Ok job → r ≡ Ok job
+said frozen more words job (Ok found) h = ap (λ j. Ok j) (unclashed words job found (clash_for frozen more words found) h)
+said frozen more words job (Err error) h = absurd cc
 
 pub file-there : (files : Files) (name : List ℕ) (most : ℕ) (long : Cause) (bytes : List ℕ)
     → outcome files (file name most long) ≡ Ok bytes → files name ≡ Some bytes
@@ -91,7 +91,7 @@ done files words run h =
       says = record {
         bytes = read.0;
         there = file-there files words.job longest_job long read.0 read.1;
-        says = said None words parts.0 (job_of read.0) (judged-ok files (job_or_refusal words read.0) parts.0 read.2);
+        says = said None None words parts.0 (job_of read.0) (judged-ok files (job_or_refusal words read.0) parts.0 read.2);
       };
       inputs = ran.0;
       passes = ran.1;

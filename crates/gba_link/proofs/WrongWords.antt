@@ -6,15 +6,17 @@ use Rattle.gba_store.specs.declared.outside.ReadError.{ReadError}
 use Rattle.gba_command.specs.Cause.{Cause, NoCommand, Digest, Stop, Refused, LacksMemory}
 use Rattle.gba_command.specs.Plan.{Plan, Done, Refuse, Read, bind, each, judgement}
 use Rattle.gba_command.specs.Reading.{GoesTo}
-use Rattle.gba_command.specs.Words.{Command, FileWords, FreezeWords, RunWords, TraceWords, RunJob, Assemble, ListArm, ListThumb, Generate, Trace, Freeze}
+use Rattle.gba_command.specs.Words.{Command, FileWords, FreezeWords, ResumeWords, RunWords, TraceWords, RunJob, Assemble, ListArm, ListThumb, Generate, Trace, Freeze, Resume}
 use Rattle.gba_command.specs.Writing.{Run}
 use Rattle.gba_command.proofs.Plans.{Names, refused-named, refuses-alone}
+use Rattle.gba_console.specs.Machine.{Machine}
+use Rattle.gba_frozen.specs.declared.kinds.ThawKind.{ThawKind}
 use Rattle.gba_image.specs.declared.backup.Backup.{Backup}
 use Rattle.gba_image.specs.declared.error.ImageError.{ImageError}
+use Rattle.gba_inputs.specs.Filled.{filled}
 use Rattle.gba_inputs.specs.Inputs.{ConsoleInputs, DigestedImage, digested}
 use Rattle.gba_inputs.specs.InputsPlan.{ImageForm, accepted, after_bios, after_cart, after_digest, after_keys, after_save, any_cart_plan, any_keys_plan, any_save_plan, bios_form, bios_plan, cart_form, cart_plan, compared_with, console_plan, found, image_plan, key_file_plan, keys_or_fault, keys_or_refusal, save_form, save_plan, unless_fault}
 use Rattle.gba_joblog.specs.Kinds.{JobError}
-use Rattle.gba_joblog.specs.Clash.{clash_with}
 use Rattle.gba_joblog.specs.Job.{ConsoleJob, NamedFile, WholeJob}
 use Rattle.gba_joblog.specs.KeyFile.{keys_of}
 use Rattle.gba_joblog.specs.declared.job.KeyChange.{KeyChange}
@@ -25,11 +27,14 @@ use Rattle.gba_dis.specs.declared.units.Set.{Set}
 use Rattle.gba_dis.specs.declared.units.Set.TheVariants.{Arm, Thumb}
 use Rattle.gba_link.specs.CommandPlan.{command_plan, plan_of_command}
 use Rattle.gba_link.specs.FreezePlan.{after_clock, after_inputs_frozen, clock_or_refusal, frozen_plan}
-use Rattle.gba_link.specs.RunPlan.{after_inputs, job_or_refusal_with, job_plan_with, job_refusal, run_plan, unless_clash, without_clash_with}
+use Rattle.gba_link.specs.ResumePlan.{after_inputs_resumed, resumed_plan, thawed_cut, thawed_run}
+use Rattle.gba_link.specs.RunPlan.{after_inputs, clash_for, job_or_refusal_for, job_plan_for, job_refusal, run_plan, unless_clash, without_clash_for}
 use Rattle.gba_link.specs.TracePlan.{after_inputs_traced, trace_file, traced_plan}
 use Rattle.gba_joblog.specs.declared.kinds.JobKind.TheVariants.{Number}
-use Rattle.gba_run_files.specs.Frozen.{frozen_name}
+use Rattle.gba_run_files.specs.Frozen.{frozen_name, job_unstated}
 use Rattle.gba_text.specs.Languages.{error_at}
+use Rattle.gba_text.specs.declared.kinds.LineError.{LineError}
+use Rattle.link_order.specs.Cut.{Cut}
 use Rattle.gba_translate.specs.Translation.{assembled, assembly_plan, listing_plan, after_assembly, unless_refused}
 
 abbrev refused_as : (X : Type 0) → Cause → Result X Cause
@@ -157,17 +162,35 @@ unclashing : (words : RunWords) (job : WholeJob) (clash : Option ℕ) → unless
 unclashing words job None h = cc
 unclashing words job (Some line) h = cc
 
-not-words : (more : Option (List ℕ)) (words : RunWords) (said : Result WholeJob JobError)
-    → without_clash_with more words said ≡ Err NoCommand → ⊥
-not-words more words (Ok job) h = unclashing words job (clash_with job words.job words.out more) h
-not-words more words (Err error) h = cc
+not-words : (frozen more : Option (List ℕ)) (words : RunWords) (said : Result WholeJob JobError)
+    → without_clash_for frozen more words said ≡ Err NoCommand → ⊥
+not-words frozen more words (Ok job) h = unclashing words job (clash_for frozen more words job) h
+not-words frozen more words (Err error) h = cc
 
-job-named : (more : Option (List ℕ)) (words : RunWords) (following : WholeJob → Plan Run)
-    → ((job : WholeJob) → Names NoCommand (following job) → ⊥) → Names NoCommand (bind (job_plan_with more words) following) → ⊥
+job-named : (frozen more : Option (List ℕ)) (words : RunWords) (following : WholeJob → Plan Run)
+    → ((job : WholeJob) → Names NoCommand (following job) → ⊥)
+    → Names NoCommand (bind (job_plan_for frozen more words) following) → ⊥
 unfolding Names
-job-named more words following rest (inl h) = cc
-job-named more words following rest (inr h) =
-    judgement-apart (job_or_refusal_with more words h.0) following (not-words more words (job_of h.0)) rest h.1
+job-named frozen more words following rest (inl h) = cc
+job-named frozen more words following rest (inr h) =
+    judgement-apart (job_or_refusal_for frozen more words h.0) following (not-words frozen more words (job_of h.0)) rest h.1
+
+-- a frozen file that is refused isn't refused for the words
+thawed-apart : (words : ResumeWords) (job : WholeJob) (said : Result (Cut Machine) (LineError ThawKind))
+    → Names NoCommand (judgement (thawed_run words job said)) → ⊥
+unfolding Names
+thawed-apart words job (Ok cut) h = h
+thawed-apart words job (Err error) h = cc
+
+frozen-apart : (words : ResumeWords) (job : WholeJob) (inputs : List ConsoleInputs)
+    → Names NoCommand (after_inputs_resumed words job inputs) → ⊥
+unfolding Names
+frozen-apart words job inputs (inl h) = cc
+frozen-apart words job inputs (inr h) =
+    thawed-apart words (job_unstated (filled job inputs)) (thawed_cut job inputs h.0) h.1
+
+resumed-named : (words : ResumeWords) (job : WholeJob) → Names NoCommand (resumed_plan words job) → ⊥
+resumed-named words job h = consoles-apart [] job.consoles (after_inputs_resumed words job) (frozen-apart words job) h
 
 -- nor does a source or an image
 source-apart : (name : List ℕ) (made : Result (List ℕ) AsmError) → unless_refused name made ≡ Err NoCommand → ⊥
@@ -188,15 +211,17 @@ listing-named set words (inr h) = h.1
 
 read-named : (command : Command) → Names NoCommand (plan_of_command command) → ⊥
 unfolding Names
-read-named (RunJob words) h = job-named None words (run_plan words) (run-named words) h
+read-named (RunJob words) h = job-named None None words (run_plan words) (run-named words) h
 read-named (Assemble words) h = assembly-named words h
 read-named (ListArm words) h = listing-named Arm words h
 read-named (ListThumb words) h = listing-named Thumb words h
 read-named (Generate words) h = h
 read-named (Trace words) h =
-    job-named (Some (trace_file words.run.out)) words.run (traced_plan words) (traced-named words) h
+    job-named None (Some (trace_file words.run.out)) words.run (traced_plan words) (traced-named words) h
 read-named (Freeze words) h =
-    job-named (Some (frozen_name words.run.out)) words.run (frozen_plan words) (frozen-named words) h
+    job-named None (Some (frozen_name words.run.out)) words.run (frozen_plan words) (frozen-named words) h
+read-named (Resume words) h =
+    job-named (Some words.frozen) None words.run (resumed_plan words) (resumed-named words) h
 
 module _ {Store : Type 0} (gives : List ℕ → ℕ → Result (List ℕ) ReadError → Store → Store → Type 0) where
   pub refused-words : (command : Option Command) (old new : Store) (end : Result Run Stop)

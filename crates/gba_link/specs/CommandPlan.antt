@@ -2,11 +2,12 @@
 use Rattle.std.specs.Prelude.{ℕ, List, Option, Some, None}
 use Rattle.gba_command.specs.Cause.{NoCommand}
 use Rattle.gba_command.specs.Plan.{Plan, Done, Refuse}
-use Rattle.gba_command.specs.Words.{Command, RunJob, Assemble, ListArm, ListThumb, Generate, Trace, Freeze, command_of}
+use Rattle.gba_command.specs.Words.{Command, RunJob, Assemble, ListArm, ListThumb, Generate, Trace, Freeze, Resume, command_of}
 use Rattle.gba_command.specs.Writing.{Run}
 use Rattle.gba_dis.specs.declared.units.Set.TheVariants.{Arm, Thumb}
 use Rattle.gba_link.specs.FreezePlan.{freeze_plan}
 use Rattle.gba_link.specs.GeneratedRun.{generated_run}
+use Rattle.gba_link.specs.ResumePlan.{resume_plan}
 use Rattle.gba_link.specs.RunPlan.{whole_run_plan}
 use Rattle.gba_link.specs.TracePlan.{trace_plan}
 use Rattle.gba_translate.specs.Translation.{assembly_plan, listing_plan}
@@ -20,6 +21,7 @@ plan_of_command (ListThumb words) = listing_plan Thumb words
 plan_of_command (Generate words) = Done (generated_run words)
 plan_of_command (Trace words) = trace_plan words
 plan_of_command (Freeze words) = freeze_plan words
+plan_of_command (Resume words) = resume_plan words
 
 abbrev pub command_plan : Option Command → Plan Run
 command_plan None = Refuse NoCommand

@@ -3,7 +3,7 @@ use Rattle.std.specs.Prelude.{◌≡◌, ℕ, List, ◌++◌, Ok}
 use Rattle.std.specs.List.{All}
 use Rattle.gba_command.specs.LeftFiles.{HasOwnFiles, NamesDiffer}
 use Rattle.gba_command.specs.Plan.{outcome}
-use Rattle.gba_command.specs.Words.{Command, RunJob, Assemble, ListArm, ListThumb, Generate, Trace, Freeze, IsCommand}
+use Rattle.gba_command.specs.Words.{Command, RunJob, Assemble, ListArm, ListThumb, Generate, Trace, Freeze, Resume, IsCommand}
 use Rattle.gba_command.specs.Writing.{Output, Run}
 use Rattle.gba_link.specs.CommandPlan.{plan_of_command}
 use Rattle.gba_store.specs.Files.{Files}
@@ -22,6 +22,7 @@ out_of (ListThumb words) = words.to
 out_of (Generate words) = words.out
 out_of (Trace words) = words.run.out
 out_of (Freeze words) = words.run.out
+out_of (Resume words) = words.run.out
 
 -- The files of a run under OUT: their names differ and begin with OUT, none is standard output, each piece is one of a file,
 -- and the pieces of a file, one after another, are its bytes.

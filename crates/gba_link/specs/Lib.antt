@@ -12,3 +12,4 @@ pub mod GeneratedLaw
 pub mod InputsLaw
 pub mod Work
 pub mod FilesLaw
+pub mod ResumePlan

@@ -11,7 +11,7 @@ use Rattle.gba_inputs.specs.Inputs.{ConsoleInputs}
 use Rattle.gba_inputs.specs.InputsPlan.{inputs_plan}
 use Rattle.gba_joblog.specs.Kinds.{JobError}
 use Rattle.gba_text.specs.Languages.{error_at}
-use Rattle.gba_joblog.specs.Clash.{clash_with}
+use Rattle.gba_joblog.specs.Clash.{clash_with, least}
 use Rattle.gba_joblog.specs.Job.{WholeJob}
 use Rattle.gba_joblog.specs.Language.{job_of, longest_job}
 use Rattle.gba_joblog.specs.declared.kinds.JobKind.TheVariants.{Long, Clash}
@@ -30,21 +30,40 @@ abbrev pub unless_clash : RunWords → WholeJob → Option ℕ → Result WholeJ
 unless_clash words job None = Ok job
 unless_clash words job (Some line) = Err (job_refusal words (error_at line Clash))
 
-abbrev pub without_clash_with : Option (List ℕ) → RunWords → Result WholeJob JobError → Result WholeJob Cause
-without_clash_with more words (Ok job) = unless_clash words job (clash_with job words.job words.out more)
-without_clash_with more words (Err error) = Err (job_refusal words error)
+-- nor may it be FROZEN, where a command reads one: that is line 0 as JOB is
+abbrev pub clash_for : Option (List ℕ) → Option (List ℕ) → RunWords → WholeJob → Option ℕ
+clash_for None more words job = clash_with job words.job words.out more
+clash_for (Some frozen) more words job =
+    least (clash_with job words.job words.out more) (clash_with job frozen words.out more)
+
+abbrev pub without_clash_for : Option (List ℕ) → Option (List ℕ) → RunWords → Result WholeJob JobError → Result WholeJob Cause
+without_clash_for frozen more words (Ok job) = unless_clash words job (clash_for frozen more words job)
+without_clash_for frozen more words (Err error) = Err (job_refusal words error)
 
 -- the job that the bytes of JOB say, or why it is refused
-abbrev pub job_or_refusal_with : Option (List ℕ) → RunWords → List ℕ → Result WholeJob Cause
-job_or_refusal_with more words bytes = without_clash_with more words (job_of bytes)
+abbrev pub job_or_refusal_for : Option (List ℕ) → Option (List ℕ) → RunWords → List ℕ → Result WholeJob Cause
+job_or_refusal_for frozen more words bytes = without_clash_for frozen more words (job_of bytes)
 
 -- What follows the bytes of JOB.
+abbrev pub after_job_for : Option (List ℕ) → Option (List ℕ) → RunWords → List ℕ → Plan WholeJob
+after_job_for frozen more words bytes = judgement (job_or_refusal_for frozen more words bytes)
+
+abbrev pub job_plan_for : Option (List ℕ) → Option (List ℕ) → RunWords → Plan WholeJob
+job_plan_for frozen more words =
+    bind (file words.job longest_job (job_refusal words (error_at 0 Long))) (after_job_for frozen more words)
+
+-- the same where no FROZEN is read
+abbrev pub without_clash_with : Option (List ℕ) → RunWords → Result WholeJob JobError → Result WholeJob Cause
+without_clash_with more words = without_clash_for None more words
+
+abbrev pub job_or_refusal_with : Option (List ℕ) → RunWords → List ℕ → Result WholeJob Cause
+job_or_refusal_with more words bytes = job_or_refusal_for None more words bytes
+
 abbrev pub after_job_with : Option (List ℕ) → RunWords → List ℕ → Plan WholeJob
-after_job_with more words bytes = judgement (job_or_refusal_with more words bytes)
+after_job_with more words bytes = after_job_for None more words bytes
 
 abbrev pub job_plan_with : Option (List ℕ) → RunWords → Plan WholeJob
-job_plan_with more words =
-    bind (file words.job longest_job (job_refusal words (error_at 0 Long))) (after_job_with more words)
+job_plan_with more words = job_plan_for None more words
 
 -- the same of `run`, which writes no file more
 abbrev pub without_clash : RunWords → Result WholeJob JobError → Result WholeJob Cause

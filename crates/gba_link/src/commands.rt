@@ -9,6 +9,7 @@ ghost use Rattle.gba_link.specs.Work.{work_value};
 
 use crate::freezing::freeze_command;
 use crate::generation::generate;
+use crate::resuming::resume_command;
 use crate::run::prepare_command;
 use crate::tracing::trace_command;
 use crate::work::{Work, made};
@@ -36,6 +37,7 @@ fn do_command<S: Store>(
         Command::Generate(words) => generate(alloc, words),
         Command::Trace(words) => made(trace_command(alloc, store, words)),
         Command::Freeze(words) => freeze_command(alloc, store, words),
+        Command::Resume(words) => resume_command(alloc, store, words),
     }
 }
 

@@ -45,7 +45,7 @@ fn checked_clock(words: &FreezeWords<'_>, job: Job) -> Result<Job, Refusal>
 }
 
 /// The job with what was read for it written in and no digest of an output stated, and its images.
-fn unstated_job(
+pub(crate) fn unstated_job(
     alloc: Global,
     job: Job,
     inputs: Vec<Inputs>,
@@ -114,6 +114,6 @@ pub(crate) fn freeze_command<S: Store>(
     let Ok(name) = frozen_name(alloc, words.run.out) else {
         return Err(Refusal::NoMemory);
     };
-    let job = read_job(alloc, store, &words.run, Some(name.as_str()))?;
+    let job = read_job(alloc, store, &words.run, None, Some(name.as_str()))?;
     freeze_job(alloc, store, words, job)
 }

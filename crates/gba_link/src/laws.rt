@@ -10,8 +10,11 @@ ghost use Rattle.gba_link.specs.InputsLaw.{SparesItsInputs};
 ghost use Rattle.gba_link.specs.Law.{RefusesWrongWords, TwoIsWrongWords};
 
 use gba_console::laws::counts_what_it_keeps;
-use gba_run_files::laws::{frozen_runs_have_own_files, runs_have_own_files};
+use gba_run_files::laws::{
+    frozen_runs_have_own_files, resumed_runs_have_own_files, runs_have_own_files,
+};
 use gba_store::{Sink, Store};
+use gba_thaw::laws::thaws_soundly;
 
 /// Words are refused just where they say no command, and then nothing is read. Want of memory may come before it.
 pub fn refuses_wrong_words<S: Store>()
@@ -67,4 +70,6 @@ pub fn commands_have_files()
 {
     runs_have_own_files();
     frozen_runs_have_own_files();
+    resumed_runs_have_own_files();
+    thaws_soundly();
 }

@@ -14,6 +14,7 @@ mod commands;
 mod freezing;
 mod generation;
 pub mod laws;
+mod resuming;
 mod run;
 mod tracing;
 mod work;
@@ -30,13 +31,14 @@ use std::thread::Threads;
 /// |---|---|---|
 /// | 0 | the summary | the command is done and its files are written |
 /// | 2 | `words` | the words are no command |
-/// | 3 | `absent NAME` | JOB, an image, a key file or a source, the next file to read, isn't there |
+/// | 3 | `absent NAME` | JOB, an image, a key file, FROZEN or a source, the next file to read, isn't there |
 /// | 4 | `store NAME` | the store failed in the read of the next file |
-/// | 5 | `job NAME line L KIND` | JOB or a key file isn't of its language, an output file would be JOB or an input, or CLOCK is above the job's cycles |
+/// | 5 | `job NAME line L KIND` | JOB or a key file isn't of its language, an output file would be JOB, FROZEN or an input, or CLOCK is above the job's cycles |
 /// | 6 | `image NAME KIND` | the image fails its check, or is too long to be listed; KIND is the first reason |
 /// | 7 | `digest NAME stated H got H` | a stated digest isn't that of the file that was read or made |
 /// | 8 | `source NAME line L KIND` | the source isn't of the assembly language, first at this line |
 /// | 9 | `sink NAME` | the sink failed |
+/// | 12 | `frozen NAME line L KIND` | no run goes on from FROZEN, which is first refused at this line; a longer file than 134,217,728 bytes has line 0 |
 /// | 10 | `memory` | memory was wanting; it may come in place of any other, and hides no absence and no fault |
 ///
 /// Two clauses say all of it, over every store and sink: `answer`, that the reads made are those of the plan of the

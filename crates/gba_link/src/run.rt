@@ -8,9 +8,10 @@ ghost use Rattle.gba_command.specs.Words.{AreRunWords};
 ghost use Rattle.gba_inputs.specs.Filled.{filled};
 ghost use Rattle.gba_inputs.specs.Law.{AreInputs};
 ghost use Rattle.gba_inputs.specs.Views.{images_of, inputs_value};
+ghost use Rattle.gba_joblog.specs.Clash.{least as least_of};
 ghost use Rattle.gba_joblog.specs.Soundness.{IsJob};
 ghost use Rattle.gba_joblog.specs.Views.{job_value};
-ghost use Rattle.gba_link.specs.RunPlan.{images_in, job_or_refusal_with, job_plan_with, result_of_run, run_plan, whole_run_plan};
+ghost use Rattle.gba_link.specs.RunPlan.{clash_for as clash_for_words, images_in, job_or_refusal_for, job_plan_for, result_of_run, run_plan, whole_run_plan};
 ghost use Rattle.gba_link.specs.Work.{work_value};
 ghost use Rattle.gba_run_files.specs.Written.{after_files};
 ghost use Rattle.gba_session.specs.Start.{FitJob};
@@ -25,16 +26,46 @@ use gba_store::Store;
 use gba_terms::NoMemory;
 use std::alloc::{AllocError, Global};
 
-/// The job that the bytes say, where no output file, and not the one file more, is JOB or one of the job's inputs.
+/// The lesser of two lines, where both are there.
+fn least(a: Option<u64>, b: Option<u64>) -> Option<u64>
+    ensures { result ≡ least_of a b }
+{
+    match (a, b) {
+        (Some(m), Some(n)) => { if m <= n { Some(m) } else { Some(n) } }
+        (Some(m), None) => Some(m),
+        (None, line) => line,
+    }
+}
+
+/// The line at which a job is refused, since an output file or the one file more is JOB, FROZEN or one of the job's inputs.
+fn clash_for(
+    job: &Job,
+    words: &RunWords<'_>,
+    frozen: Option<&str>,
+    more: Option<&str>,
+) -> Option<u64>
+    ensures { result ≡ clash_for_words (option_map (λ one. one.now) frozen.entry) (option_map (λ one. one.now) more.entry)
+        (run_words_value words.now) (job_value job.now) }
+{
+    let clash = job.clash(words.job, words.out, more);
+    match frozen {
+        Some(frozen) => least(clash, job.clash(frozen, words.out, more)),
+        None => clash,
+    }
+}
+
+/// The job that the bytes say, where no output file, and not the one file more, is JOB, FROZEN or one of the job's inputs.
 fn accepted_job(
     alloc: Global,
     words: &RunWords<'_>,
+    frozen: Option<&str>,
     more: Option<&str>,
     bytes: &[u8],
 ) -> Result<Job, Refusal>
     requires { length words.now.job.now ≤ 200 }
     ensures agrees { Agrees job_value
-        (job_or_refusal_with (option_map (λ one. one.now) more.entry) (run_words_value words.now) bytes.now) result }
+        (job_or_refusal_for (option_map (λ one. one.now) frozen.entry) (option_map (λ one. one.now) more.entry)
+        (run_words_value words.now) bytes.now) result }
     ensures sound { IfOk result (λ job. IsJob (job_value job)) }
 {
     let job = match Job::parse(alloc, bytes) {
@@ -45,7 +76,7 @@ fn accepted_job(
         ))),
         Err(ParseRefused::NoMemory) => return Err(Refusal::NoMemory),
     };
-    match job.clash(words.job, words.out, more) {
+    match clash_for(&job, words, frozen, more) {
         None => Ok(job),
         Some(line) => {
             let error = JobError {
@@ -120,16 +151,19 @@ fn prepare_job<S: Store>(
     }
 }
 
-/// Reads JOB, which may not be written by what its command does, nor be the one file more, nor name such an input.
+/// Reads JOB, which may not be written by what its command does, nor be the one file more, nor name such an input; nor may FROZEN be
+/// written.
 pub(crate) fn read_job<S: Store>(
     alloc: Global,
     store: &mut S,
     words: &RunWords<'_>,
+    frozen: Option<&str>,
     more: Option<&str>,
 ) -> Result<Job, Refusal>
     requires { AreRunWords (run_words_value words.now) }
     ensures goes { GoesTo S.gives
-        (job_plan_with (option_map (λ one. one.now) more.entry) (run_words_value words.now))
+        (job_plan_for (option_map (λ one. one.now) frozen.entry) (option_map (λ one. one.now) more.entry)
+        (run_words_value words.now))
         store.old store.new (end_of job_value result) }
     ensures sound { IfOk result (λ job. IsJob (job_value job)) }
 {
@@ -141,7 +175,7 @@ pub(crate) fn read_job<S: Store>(
         },
     );
     let bytes = read_file(alloc, store, words.job, LONGEST_JOB as u64, long)?;
-    accepted_job(alloc, words, more, bytes.as_slice())
+    accepted_job(alloc, words, frozen, more, bytes.as_slice())
 }
 
 /// Reads the job of a command and prepares its run.
@@ -154,6 +188,6 @@ pub(crate) fn prepare_command<S: Store>(
     ensures { GoesTo S.gives (whole_run_plan (run_words_value words.now))
         store.old store.new (end_of work_value result) }
 {
-    let job = read_job(alloc, store, words, None)?;
+    let job = read_job(alloc, store, words, None, None)?;
     prepare_job(alloc, store, words, job)
 }

@@ -113,7 +113,7 @@ pub(crate) fn trace_command<S: Store>(
     let Ok(name) = trace_name(alloc, words.run.out) else {
         return Err(Refusal::NoMemory);
     };
-    let job = read_job(alloc, store, &words.run, Some(name.as_str()))?;
+    let job = read_job(alloc, store, &words.run, None, Some(name.as_str()))?;
     let inputs = read_inputs(alloc, store, job.consoles.as_slice())?;
     match trace_inputs(alloc, words, name, job, inputs) {
         Ok(outputs) => Ok(outputs),

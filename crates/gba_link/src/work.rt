@@ -6,7 +6,7 @@ ghost use Rattle.gba_command.specs.Views.{end_of, run_value};
 ghost use Rattle.gba_link.specs.Work.{work_value};
 
 use gba_command::{Outputs, Refusal, answer};
-use gba_run_files::{PreparedFreeze, PreparedRun};
+use gba_run_files::{PreparedFreeze, PreparedResume, PreparedRun};
 use gba_store::{Gate, Sink};
 use std::alloc::Global;
 use std::thread::Threads;
@@ -20,6 +20,8 @@ pub(crate) enum Work {
     Ready(PreparedRun),
     /// The same of a run that is frozen at its end.
     Frozen(PreparedFreeze),
+    /// The consoles stand where they were frozen.
+    Resumed(PreparedResume),
 }
 
 /// What is made, or why it is refused.
@@ -46,6 +48,7 @@ pub(crate) fn answer_work<R: Threads + Sync, O: Sink, G: Gate + Sync>(
     match work {
         Ok(Work::Ready(run)) => run.write(rt, alloc, out, gate),
         Ok(Work::Frozen(run)) => run.write(rt, alloc, out, gate),
+        Ok(Work::Resumed(run)) => run.write(rt, alloc, out, gate),
         Ok(Work::Made(outputs)) => answer(out, &Ok(outputs)),
         Err(refusal) => answer(out, &Err(refusal)),
     }

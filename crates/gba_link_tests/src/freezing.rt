@@ -3,26 +3,26 @@
 use crate::{Answer, Content, Failing, bytes_of, call_with, stored, stored_all};
 use Content::{Code, Filled, Text};
 use gba_snapshot::laws::frozen_is_text;
-use std::alloc::Global;
+use std::alloc::{AllocError, Global};
 use std::process::Abort;
 use std::test::Fail;
 use std::thread::Threads;
 
 /// A branch to itself, and a save of zeros, of which a frozen file has no line.
-const BESIDE: &[(&str, Content<'static>)] = &[
+pub(crate) const BESIDE: &[(&str, Content<'static>)] = &[
     ("b", Code(&[0xEAFF_FFFE])),
     ("s", Filled(32_768, 0)),
 ];
 
-const JOB: &str =
+pub(crate) const JOB: &str =
     "gbalink 1\ncycles 2000\nconsole 0\nbios b\nsave s\nout samples\nout words\nout state\nend\n";
 
 /// The same with a stated digest of the samples, which is another one's.
-const STATED: &str =
+pub(crate) const STATED: &str =
     "gbalink 1\ncycles 2000\nconsole 0\nbios b\nsave s\nout samples sha256 0000000000000000000000000000000000000000000000000000000000000000\nout words\nout state\nend\n";
 
 /// After one step.
-const FROZEN_AT_ONCE: &str =
+pub(crate) const FROZEN_AT_ONCE: &str =
     "gbalink-frozen 1\njob 62ce591d915156529fd7aa61c8ed5a2c61f14f58b9fd747ab7f3ab9704fafd0d\ngbalink-state 1\nconsole 0\nclock 3\nhalted 0\nr0 00000000\nr1 00000000\nr2 00000000\nr3 00000000\nr4 00000000\nr5 00000000\nr6 00000000\nr7 00000000\nr8 00000000\nr9 00000000\nr10 00000000\nr11 00000000\nr12 00000000\nr13 00000000\nr14 00000000\nr15 00000000\nr8_fiq 00000000\nr9_fiq 00000000\nr10_fiq 00000000\nr11_fiq 00000000\nr12_fiq 00000000\nr13_fiq 00000000\nr14_fiq 00000000\nr13_irq 00000000\nr14_irq 00000000\nr13_svc 00000000\nr14_svc 00000000\nr13_abt 00000000\nr14_abt 00000000\nr13_und 00000000\nr14_und 00000000\ncpsr 000000d3\nspsr_fiq 00000000\nspsr_irq 00000000\nspsr_svc 00000000\nspsr_abt 00000000\nspsr_und 00000000\ntimer 0 0 0 0 0\ntimer 1 0 0 0 0\ntimer 2 0 0 0 0\ntimer 3 0 0 0 0\ndma 0 0 0 0 0 0\ndma 1 0 0 0 0 0\ndma 2 0 0 0 0 0\ndma 3 0 0 0 0 0\nqueue A 00 0 -\nqueue B 00 0 -\nsequencer 0\ntone 1 0 0 0 0 0 0 0 0\ntone 2 0 0 0 0 0 0 0 0\ntone 3 0 0 0 0 0 0 0 0\ntone 4 0 0 0 0 0 0 0 0\nwave 0 00000000000000000000000000000000\nwave 1 00000000000000000000000000000000\nposition 0 3\naffine 2 00000000 00000000\naffine 3 00000000 00000000\nserial 3 0 0 0 0 0 0\nknown 3 3 3 3\nmem io 000000 0000000004000000000000000000000000000000000000000000000000000000\nmem io 000080 0000000000000000000200000000000000000000000000000000000000000000\nmem io 000120 00000000000000000000000000000000ff030000008000000000000000000000\nwas 0\napplied 0\ncounts 0 0 0\nend\n";
 
 /// In the HBlank of the first line, which is drawn, behind a pair of samples.
@@ -114,15 +114,21 @@ static CASES: [Case<'static>; 9] = [
     },
 ];
 
+/// The name of a file under `g`.
+pub(crate) fn name_of(alloc: Global, ending: &str) -> Result<String, AllocError> {
+    let mut name = String::from_str(alloc, "g")?;
+    name.push_str(ending)?;
+    Ok(name)
+}
+
 /// The first file that isn't as it should be.
-fn first_wrong(
+pub(crate) fn first_wrong(
     alloc: Global,
     answer: &Answer,
     written: &'static [(&'static str, Option<Content<'static>>)],
 ) -> Result<Option<&'static str>, Fail> {
     for &(ending, expected) in written {
-        let mut name = String::from_str(alloc, "g")?;
-        name.push_str(ending)?;
+        let name = name_of(alloc, ending)?;
         let found = answer.bytes(name.as_str());
         let is_right = match expected {
             None => found.is_none(),

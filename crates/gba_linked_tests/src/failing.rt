@@ -266,8 +266,37 @@ append g.0.frames 4608000\nappend g.1.samples 131072\nappend g.3.samples 131072\
 append g.0.frames 844800\nappend g.1.samples 25176\nappend g.3.samples 25176\n\
 append g.frozen ";
 
+/// A console alone over the same segments.
+const HALTED_JOB: &str =
+    "gbalink 1\ncycles 33564432\nconsole 0\nbios b\nsave s\nout frames\nout samples\nout state\nout save\nend\n";
+
+/// Where it is frozen at the beginning of its 73rd frame: 72 times 280,896 cycles are 20,224,512, and each step of its halt ends 3 cycles
+/// past a multiple of 16. The digest is that of `sha256sum` for the log of its job.
+const HALTED: &str =
+    "gbalink-frozen 1\njob 0669642147f4e141bccf5d8e74c6021de575773ac69917b104ae841d0dad6610\n\
+gbalink-state 1\nconsole 0\nclock 20224515\nhalted 1\n\
+r0 04000000\nr1 00000000\nr2 00000000\nr3 00000000\nr4 00000000\nr5 00000000\nr6 00000000\nr7 00000000\n\
+r8 00000000\nr9 00000000\nr10 00000000\nr11 00000000\nr12 00000000\nr13 00000000\nr14 00000000\nr15 00000008\n\
+r8_fiq 00000000\nr9_fiq 00000000\nr10_fiq 00000000\nr11_fiq 00000000\nr12_fiq 00000000\nr13_fiq 00000000\nr14_fiq 00000000\n\
+r13_irq 00000000\nr14_irq 00000000\nr13_svc 00000000\nr14_svc 00000000\nr13_abt 00000000\nr14_abt 00000000\n\
+r13_und 00000000\nr14_und 00000000\ncpsr 000000d3\n\
+spsr_fiq 00000000\nspsr_irq 00000000\nspsr_svc 00000000\nspsr_abt 00000000\nspsr_und 00000000\n\
+timer 0 0 0 0 0\ntimer 1 0 0 0 0\ntimer 2 0 0 0 0\ntimer 3 0 0 0 0\n\
+dma 0 0 0 0 0 0\ndma 1 0 0 0 0 0\ndma 2 0 0 0 0 0\ndma 3 0 0 0 0 0\nqueue A 00 0 -\nqueue B 00 0 -\nsequencer 0\n\
+tone 1 0 0 0 0 0 0 0 0\ntone 2 0 0 0 0 0 0 0 0\ntone 3 0 0 0 0 0 0 0 0\ntone 4 0 0 0 0 0 0 0 0\n\
+wave 0 00000000000000000000000000000000\nwave 1 00000000000000000000000000000000\n\
+position 0 3\naffine 2 00000000 00000000\naffine 3 00000000 00000000\nserial 3 0 0 0 0 0 0\nknown 3 3 3 3\n\
+mem io 000000 0000000004000000000000000000000000000000000000000000000000000000\n\
+mem io 000080 0000000000000000000200000000000000000000000000000000000000000000\n\
+mem io 000120 00000000000000000000000000000000ff030000008000000000000000000000\n\
+was 20224499\napplied 0\ncounts 72 39501 0\nend\n";
+
+/// In the second segment 47 frames and 26,035 pairs of samples are left, and in the third one there are 19 pairs. There is no log.
+const RESUMED: &str = "create g.0.frames\ncreate g.0.samples\ncreate g.0.state\ncreate g.0.save\n\
+append g.0.frames 3609600\nappend g.0.samples 104140\nappend g.0.samples 76\nappend g.0.state ";
+
 /// A statement is four bytes; of eight bytes FFh a listing has two lines `.word 0xffffffff`.
-static COMMANDS: [Command<'static>; 6] = [
+static COMMANDS: [Command<'static>; 7] = [
     Command {
         words: &["run", "j", "g"],
         files: &[("j", Text(JOB)), ("b", Code(&HALTS))],
@@ -277,6 +306,16 @@ static COMMANDS: [Command<'static>; 6] = [
         words: &["freeze", "j", "20000000", "g"],
         files: &[("j", Text(JOB)), ("b", Code(&HALTS))],
         calls: FROZEN,
+    },
+    Command {
+        words: &["resume", "j", "f", "g"],
+        files: &[
+            ("j", Text(HALTED_JOB)),
+            ("b", Code(&HALTS)),
+            ("s", Filled(32_768, 0)),
+            ("f", Text(HALTED)),
+        ],
+        calls: RESUMED,
     },
     Command {
         words: &["trace", "j", "0", "9", "g"],
@@ -300,9 +339,9 @@ static COMMANDS: [Command<'static>; 6] = [
     },
 ];
 
-/// Each create and each append fails, of a run over three segments, of what is frozen in the second one, of `trace`, `gen`,
-/// `asm` and `dis`: the file of that call is
-/// told, what was added before is there, half of the piece of that call, and no call comes after it but the report.
+/// Each create and each append fails, of a run over three segments, of what is frozen in the second one, of what goes on there, of
+/// `trace`, `gen`, `asm` and `dis`: the file of that call is told, what was added before is there, half of the piece of that call, and no
+/// call comes after it but the report.
 #[test]
 fn each_call_of_the_sink_fails(rt: HostRuntime) -> Result<(), Fail> {
     for command in &COMMANDS {

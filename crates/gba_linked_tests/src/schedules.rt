@@ -1,7 +1,9 @@
 //! A thousand schedules of cable jobs, each with one result.
 
-use crate::linked::{AWAITS_BYTE, AWAITS_MULTI, STARTS_BYTE, STARTS_MULTI, name_of};
-use gba_link_tests::{Answer, Content, call, call_through, stored, stored_all};
+use crate::linked::{AWAITS_BYTE, STARTS_BYTE, name_of};
+use gba_link_tests::{
+    AWAITS_MULTI, Answer, Content, STARTS_MULTI, call, call_through, stored, stored_all,
+};
 use gba_store::{Gate, StoredFile};
 use std::alloc::{AllocError, Global};
 use std::process::Abort;

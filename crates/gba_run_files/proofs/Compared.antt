@@ -2,7 +2,7 @@
 use Rattle.std.proofs.Common.{◌≡◌, ◌≢◌, ◌⊎◌, ◌<◌, ℕ, zero, suc, ◌+◌, List, [], ◌∷◌, ◌++◌, length, Option, Some, None, Err, refl, sym, ap, ◌∙◌, subst, inl, inr, arith}
 use Rattle.std.specs.Prelude.{option_and_then, slice_get}
 use Rattle.sha2.specs.Sha256.{sha256}
-use Rattle.gba_command.specs.Cause.{Cause, NoCommand, Job, Image, Digest, Source}
+use Rattle.gba_command.specs.Cause.{Cause, NoCommand, Job, Image, Digest, Source, Frozen}
 use Rattle.gba_command.specs.Writing.{Output, Run}
 use Rattle.gba_joblog.specs.Clash.{output_file}
 use Rattle.gba_joblog.specs.Job.{ConsoleJob, WholeJob}
@@ -221,6 +221,7 @@ module _ (out : List ℕ) where
     found (Job name error) f = let is = f.is in absurd cc
     found (Image name error) f = let is = f.is in absurd cc
     found (Source name error) f = let is = f.is in absurd cc
+    found (Frozen name error) f = let is = f.is in absurd cc
 
     pub written-compared : Compares out job run run.end
     written-compared = by (difference_from 0 count job.consoles files) refl where

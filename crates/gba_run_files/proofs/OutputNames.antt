@@ -163,6 +163,31 @@ written-differ out count job files lines pieces few =
           (apart-under out plain (run_file_names count) part n.1),
     )
 
+-- ---- the names of a run that writes no file more
+
+player-names : (count : ℕ) → count ≤ 4 → (all_differ (player_names 0 count) ≡ true) × (all_long (player_names 0 count) ≡ true)
+unfolding player_names all_differ has_name all_long
+player-names zero few = (refl, refl)
+player-names (suc zero) few = (refl, refl)
+player-names (suc (suc zero)) few = (refl, refl)
+player-names (suc (suc (suc zero))) few = (refl, refl)
+player-names (suc (suc (suc (suc zero)))) few = (refl, refl)
+player-names (suc (suc (suc (suc (suc n))))) few = absurd (omega (arith, few))
+
+pub outputs-differ : (out : List ℕ) (count : ℕ) (consoles : List ConsoleJob) (files : List (PerKind (List ℕ))) → count ≤ 4
+    → NamesDiffer (outputs_of (names_from out 0 count) consoles files)
+    × (is_among standard_output (outputs_of (names_from out 0 count) consoles files) ≡ false)
+outputs-differ out count consoles files few =
+    let plain : List Output = outputs_of (names_from [] 0 count) consoles files in
+    let part : ArePart plain (player_names 0 count) = outputs-part 0 count consoles files (omega (arith, few)) in
+    let n = player-names count few in
+    let is = outputs-under out 0 count consoles files in (
+      subst (λ (l : List Output). NamesDiffer l) (sym is)
+          (differ-under out plain (part-differ plain (player_names 0 count) part n.0)),
+      subst (λ (l : List Output). is_among standard_output l ≡ false) (sym is)
+          (apart-under out plain (player_names 0 count) part n.1),
+    )
+
 -- ---- the names of a run that is frozen
 
 abbrev frozen_file_names : ℕ → List (List ℕ)

@@ -1,5 +1,5 @@
 -- Each file of a job's run is the join of its pieces, and each piece is one of a file.
-use Rattle.std.proofs.Common.{◌≡◌, ◌≢◌, ℕ, zero, suc, ◌+◌, ◌<◌, ◌∙◌, Bool, true, false, ◌||◌, List, [], ◌∷◌, ◌++◌, length, get_or, map, Result, Ok, refl, sym, ap, subst, arith, if◌then◌else◌}
+use Rattle.std.proofs.Common.{◌≡◌, ◌≢◌, ℕ, zero, suc, ◌+◌, ◌<◌, ◌≤◌, ◌∙◌, Bool, true, false, ◌||◌, List, [], ◌∷◌, ◌++◌, length, get_or, map, Result, Ok, refl, sym, ap, subst, arith, if◌then◌else◌}
 use Rattle.std.specs.List.{All, flat_map}
 use Rattle.std.specs.Str.{bytes_eq}
 use Rattle.std.proofs.lemmas.List.{append-nil, get_or-map, length-map}
@@ -22,10 +22,11 @@ use Rattle.gba_joblog.specs.declared.outputs.OutKind.{OutKind}
 use Rattle.gba_joblog.specs.declared.outputs.OutKind.TheVariants.{Frames, Samples, Words, State, Save}
 use Rattle.gba_joblog.specs.declared.outputs.PerKind.{PerKind}
 use Rattle.gba_run_files.proofs.Named.{added-append, frozen-apart, log-apart}
-use Rattle.gba_run_files.proofs.OutputNames.{frozen-differ, written-differ}
+use Rattle.gba_run_files.proofs.OutputNames.{frozen-differ, outputs-differ, written-differ}
 use Rattle.gba_run_files.proofs.Segmented.{advances}
 use Rattle.gba_run_files.proofs.Whole.{other-added-none, output-added}
 use Rattle.gba_run_files.specs.Frozen.{freeze_names, frozen_run}
+use Rattle.gba_run_files.specs.Law.{ResumedRunsHaveOwnFiles}
 use Rattle.gba_run_files.specs.Names.{names_from, names_of, run_names}
 use Rattle.gba_run_files.specs.Outputs.{console_outputs, kind_output, outputs_of}
 use Rattle.gba_run_files.specs.Pieces.{console_pieces, cut_pieces, growing_kinds, kind_piece, lasting_kinds, later_segments, piece_if, run_pieces, segment_pieces}
@@ -33,10 +34,13 @@ use Rattle.gba_run_files.specs.Written.{after_files, files_at, log_of, log_outpu
 use Rattle.gba_snapshot.specs.File.{frozen_file}
 use Rattle.gba_session.proofs.Preparing.{reset-empty, start-can, start-long}
 use Rattle.gba_session.proofs.Advancing.{until-many}
+use Rattle.gba_session.proofs.Resuming.{begins-before, begins-below, no-steps}
+use Rattle.gba_session.specs.Held.{CanRun}
+use Rattle.link_order.specs.Cut.{Cut}
 use Rattle.gba_session.specs.Files.{all_files, asks_of, bytes_if, files_of, output_bytes}
 use Rattle.gba_session.proofs.Consoles.{files-long}
 use Rattle.gba_session.specs.Start.{run_until}
-use Rattle.gba_session.specs.Session.{Consoles, advanced, is_over, prepared, segment_cut, whole_cut}
+use Rattle.gba_session.specs.Session.{Consoles, advanced, is_over, least_clock, prepared, resumed, segment_cut, whole_cut}
 
 -- ---- what holds of each output, and of each piece
 
@@ -268,11 +272,11 @@ added-own : (last : Output) → added last.name (last ∷ []) ≡ last.bytes
 unfolding added
 added-own last = rw (own-name last.name) (append-nil last.bytes)
 
-module _ (law : LiveSegments) (out : List ℕ) (job : WholeJob) (images : List ConsoleImages) (sound : IsJob job)
-    (many : length images ≡ length job.consoles) where
-  abbrev s : Consoles
-  s = prepared job images
-
+-- of consoles that run in segments, from a start at which their lists are empty
+module _ (law : LiveSegments) (out : List ℕ) (job : WholeJob) (sound : IsJob job) (s : Consoles) (asked : s.asks ≡ map asks_of job.consoles)
+    (started : length s.start.consoles ≡ length job.consoles) (can : CanRun s.start) (within : s.to ≤ s.until)
+    (reset : (k : ℕ) (m : Machine) → k < length job.consoles
+    → get_or (run_until s.to s.start).consoles k m ≡ forgotten (get_or s.start.consoles k m)) where
   abbrev count : ℕ
   count = length job.consoles
 
@@ -286,23 +290,54 @@ module _ (law : LiveSegments) (out : List ℕ) (job : WholeJob) (images : List C
   pieces = run_pieces (names_from out 0 count) s
 
   asks-long : length s.asks ≡ count
-  asks-long = length-map job.consoles asks_of
+  asks-long = ap (λ (asks : List (PerKind Bool)). length asks) asked ∙ length-map job.consoles asks_of
 
   start-many : length s.start.consoles ≡ length s.asks
-  start-many = start-long job images sound many ∙ sym asks-long
+  start-many = started ∙ sym asks-long
 
   machines-many : length machines ≡ count
-  machines-many = until-many s.until s.start ∙ start-long job images sound many
+  machines-many = until-many s.until s.start ∙ started
 
   asks-are : (j : ℕ) (kind : OutKind) (c : ConsoleJob) (a : PerKind Bool) → j < count
       → at_kind (get_or s.asks j a) kind ≡ asks_for (get_or job.consoles j c) kind
-  asks-are j kind c a within =
-      ap (λ (asks : PerKind Bool). at_kind asks kind) (get_or-map asks_of job.consoles j c a within)
+  asks-are j kind c a less =
+      ap (λ (all : List (PerKind Bool)). at_kind (get_or all j a) kind) asked
+      ∙ ap (λ (asks : PerKind Bool). at_kind asks kind) (get_or-map asks_of job.consoles j c a less)
       ∙ at-per_kind (asks_for (get_or job.consoles j c)) kind
 
-  reset : (k : ℕ) (m : Machine) → k < count
-      → get_or (run_until 0 s.start).consoles k m ≡ forgotten (get_or s.start.consoles k m)
-  reset k m within = reset-empty job images k m (omega (arith, within, start-long job images sound many))
+  added-to : (j : ℕ) (kind : OutKind) (c : ConsoleJob) (m : Machine) → j < count
+      → asks_for (get_or job.consoles j c) kind ≡ true
+      → added (output_file out j kind) pieces ≡ output_bytes kind (get_or machines j m)
+  added-to j kind c m less asks =
+      let a = asks_of c in
+      output-added law out s count sound.few_consoles can within (sym asks-long) start-many reset j kind less a m
+      (asks-are j kind c a less ∙ asks)
+
+  files_long : length (files_at job (whole_cut s)) ≡ count
+  files_long =
+      files-long (map asks_of job.consoles) machines
+      (omega (arith, length-map job.consoles asks_of, machines-many)) ∙ length-map job.consoles asks_of
+
+  among-outputs : (j : ℕ) (kind : OutKind) (a : PerKind Bool) → j < count → at_kind (get_or s.asks j a) kind ≡ true
+      → is_among (output_file out j kind) outputs ≡ true
+  among-outputs j kind a less asks =
+      let c = one-console job.consoles sound.some_consoles in
+      output-among out 0 j j job.consoles (files_at job (whole_cut s)) c kind (omega arith) files_long less
+      (sym (asks-are j kind c a less) ∙ asks)
+
+  -- the files of a run that writes no more than these
+  pub lone-files : (end : Result (List ℕ) Cause) → HasOwnFiles (record { outputs = outputs; pieces = pieces; end = end })
+  lone-files end =
+      let P : Output → Type 0 = λ piece. is_among piece.name outputs ≡ true in
+      let Q : Output → Type 0 = λ output. added output.name pieces ≡ output.bytes in
+      record {
+        apart = (outputs-differ out count job.consoles (files_at job (whole_cut s)) sound.few_consoles).1;
+        own = pieces-hold P out count s (λ j kind a less inside asks some. among-outputs j kind a less asks);
+        whole = outputs-hold Q out 0 job.consoles machines machines-many (λ j kind c m less asks.
+            let here : j ≡ 0 + j = omega arith in
+            subst (λ (k : ℕ). added (output_file out k kind) pieces ≡ output_bytes kind (get_or machines j m)) here
+            (added-to j kind c m less asks));
+      }
 
   -- the files of a run that writes one more behind these, by a name of its own
   module _ (last : Output) (apart : (player : ℕ) (kind : OutKind) → player < 10 → output_file out player kind ≢ last.name)
@@ -310,15 +345,12 @@ module _ (law : LiveSegments) (out : List ℕ) (job : WholeJob) (images : List C
     output-whole : (j : ℕ) (kind : OutKind) (c : ConsoleJob) (m : Machine) → j < count
         → asks_for (get_or job.consoles j c) kind ≡ true
         → added (output_file out (0 + j) kind) (pieces ++ last ∷ []) ≡ output_bytes kind (get_or machines j m)
-    output-whole j kind c m within asked =
+    output-whole j kind c m less asks =
         let here : 0 + j ≡ j = omega arith in
-        let a = asks_of c in
-        let few : j < 10 = omega (arith, within, sound.few_consoles) in
+        let few : j < 10 = omega (arith, less, sound.few_consoles) in
         ap (λ (k : ℕ). added (output_file out k kind) (pieces ++ last ∷ [])) here
         ∙ added-append (output_file out j kind) pieces (last ∷ [])
-        ∙ ap (λ (bytes : List ℕ). bytes ++ added (output_file out j kind) (last ∷ []))
-        (output-added law out s count sound.few_consoles (start-can job images sound many) refl (sym asks-long) start-many reset
-        j kind within a m (asks-are j kind c a within ∙ asked))
+        ∙ ap (λ (bytes : List ℕ). bytes ++ added (output_file out j kind) (last ∷ [])) (added-to j kind c m less asks)
         ∙ ap (λ (bytes : List ℕ). output_bytes kind (get_or machines j m) ++ bytes)
         (added-last (output_file out j kind) last
         (names-apart last.name (output_file out j kind) (λ same. apart j kind few (sym same))))
@@ -328,49 +360,81 @@ module _ (law : LiveSegments) (out : List ℕ) (job : WholeJob) (images : List C
     last-whole =
         added-append last.name pieces (last ∷ [])
         ∙ ap (λ (bytes : List ℕ). bytes ++ added last.name (last ∷ []))
-        (other-added-none law out s count sound.few_consoles (start-can job images sound many) refl (sym asks-long) start-many reset
-        last.name apart)
+        (other-added-none law out s count sound.few_consoles can within (sym asks-long) start-many reset last.name apart)
         ∙ added-own last
 
     pub own-files : HasOwnFiles (record { outputs = outputs ++ last ∷ []; pieces = pieces ++ last ∷ []; end = end })
     own-files =
         let P : Output → Type 0 = λ piece. is_among piece.name (outputs ++ last ∷ []) ≡ true in
         let Q : Output → Type 0 = λ output. added output.name (pieces ++ last ∷ []) ≡ output.bytes in
-        let c = one-console job.consoles sound.some_consoles in
-        let files_long : length (files_at job (whole_cut s)) ≡ count =
-        files-long (map asks_of job.consoles) machines (omega (arith, asks-long, machines-many)) ∙ asks-long in
         record {
           apart = none;
           own = All-append P pieces (last ∷ [])
-              (pieces-hold P out count s (λ j kind a less within asked some.
-              among-first (output_file out j kind) outputs (last ∷ [])
-              (output-among out 0 j j job.consoles (files_at job (whole_cut s)) c kind (omega arith) files_long less
-              (sym (asks-are j kind c a less) ∙ asked))))
+              (pieces-hold P out count s (λ j kind a less inside asks some.
+              among-first (output_file out j kind) outputs (last ∷ []) (among-outputs j kind a less asks)))
               (All-cons P last [] (last-among outputs last) (All-nil P));
           whole = All-append Q outputs (last ∷ [])
               (outputs-hold Q out 0 job.consoles machines machines-many output-whole)
               (All-cons Q last [] last-whole (All-nil Q));
         }
 
-  -- those of a job's run, which writes its log there
+-- those of a job's run from reset
+module _ (law : LiveSegments) (out : List ℕ) (job : WholeJob) (images : List ConsoleImages) (sound : IsJob job)
+    (many : length images ≡ length job.consoles) where
+  abbrev first : Consoles
+  first = prepared job images
+
+  reset : (k : ℕ) (m : Machine) → k < length job.consoles
+      → get_or (run_until 0 first.start).consoles k m ≡ forgotten (get_or first.start.consoles k m)
+  reset k m less = reset-empty job images k m (omega (arith, less, start-long job images sound many))
+
+  job-files : (last : Output) → ((player : ℕ) (kind : OutKind) → player < 10 → output_file out player kind ≢ last.name)
+      → is_among standard_output
+      (outputs_of (names_from out 0 (length job.consoles)) job.consoles (files_at job (whole_cut first)) ++ last ∷ []) ≡ false
+      → (end : Result (List ℕ) Cause) → HasOwnFiles (record {
+        outputs = outputs_of (names_from out 0 (length job.consoles)) job.consoles (files_at job (whole_cut first)) ++ last ∷ [];
+        pieces = run_pieces (names_from out 0 (length job.consoles)) first ++ last ∷ [];
+        end = end;
+      })
+  job-files last apart none end =
+      own-files law out job sound first refl (start-long job images sound many) (start-can job images sound many) (omega arith) reset
+      last apart none end
+
+  -- it writes its log there
   abbrev log : Output
-  log = log_output (run_names out count) (log_of job (files_at job (whole_cut s)))
+  log = log_output (run_names out (length job.consoles)) (log_of job (files_at job (whole_cut first)))
 
-  pub run-own-files : HasOwnFiles (run_of (run_names out count) job s)
+  pub run-own-files : HasOwnFiles (run_of (run_names out (length job.consoles)) job first)
   run-own-files =
-      own-files log (log-apart out)
-      (written-differ out count job (files_at job (whole_cut s)) (summary_lines machines) pieces sound.few_consoles).1
-      (run_of (run_names out count) job s).end
+      let names = run_names out (length job.consoles) in
+      job-files log (log-apart out)
+      (written-differ out (length job.consoles) job (files_at job (whole_cut first)) (summary_lines (whole_cut first).consoles)
+      (run_pieces names.consoles first) sound.few_consoles).1
+      (run_of names job first).end
 
-  -- and those of one that is frozen at its end
+  -- and one that is frozen at its end its frozen file
   abbrev frozen : List ℕ → Output
-  frozen digest = log_output (freeze_names out count) (frozen_file digest (whole_cut s))
+  frozen digest = log_output (freeze_names out (length job.consoles)) (frozen_file digest (whole_cut first))
 
-  pub frozen-own-files : (digest : List ℕ) → HasOwnFiles (frozen_run (freeze_names out count) job digest s)
+  pub frozen-own-files : (digest : List ℕ) → HasOwnFiles (frozen_run (freeze_names out (length job.consoles)) job digest first)
   frozen-own-files digest =
-      own-files (frozen digest) (frozen-apart out)
-      (frozen-differ out count job.consoles (files_at job (whole_cut s)) (frozen_file digest (whole_cut s)) sound.few_consoles).1
-      (Ok (summary_lines machines))
+      job-files (frozen digest) (frozen-apart out)
+      (frozen-differ out (length job.consoles) job.consoles (files_at job (whole_cut first)) (frozen_file digest (whole_cut first))
+      sound.few_consoles).1
+      (Ok (summary_lines (whole_cut first).consoles))
+
+-- those of a run that goes on from a cut, which writes no more
+pub resumed-own-files : LiveSegments → ResumedRunsHaveOwnFiles
+resumed-own-files law out job start sound many can awaited empty =
+    let s = resumed job start in
+    let past = begins-below job.cycles (least_clock start) in
+    let stays : run_until s.to start ≡ start = no-steps start s.to awaited past in
+    lone-files law out job sound s refl many can (omega (arith, begins-before job.cycles (least_clock start) sound.some_cycles))
+    (λ k m less.
+    ap (λ (c : Cut Machine). get_or c.consoles k m) stays
+    ∙ ap (λ (ms : List Machine). get_or ms k m) (sym empty)
+    ∙ get_or-map forgotten start.consoles k m m (omega (arith, less, many)))
+    (Ok (summary_lines (whole_cut s).consoles))
 
 -- ---- a run with files before its own
 

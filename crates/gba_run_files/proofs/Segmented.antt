@@ -3,7 +3,7 @@ use Rattle.std.proofs.Common.{subst, ◌≡◌, ℕ, zero, suc, ◌+◌, ◌-◌
 use Rattle.std.proofs.lemmas.Bool.Decides.{nat_tests}
 use Rattle.gba_console.specs.Machine.{Machine, forgotten}
 use Rattle.gba_joblog.specs.declared.outputs.PerKind.{PerKind}
-use Rattle.gba_session.specs.Session.{Consoles, advanced, is_over, later_end, segment_cut, segment_cycles, whole_cut}
+use Rattle.gba_session.specs.Session.{Consoles, advanced, is_over, resumed, segment_cut, segment_cycles, whole_cut}
 use Rattle.gba_run_files.specs.Pieces.{console_pieces, cut_pieces, growing_kinds, lasting_kinds, later_segments, left_pieces, run_pieces, segment_pieces}
 use Rattle.gba_run_files.specs.Ready.{IsLast, IsReady}
 use Rattle.gba_run_files.specs.Written.{files_at}
@@ -59,8 +59,8 @@ advances s = by (nat_lt s.to s.until) refl where
 abbrev pub HasCome : ℕ → Consoles → Type 0
 HasCome i s = min s.until ((i + 1) * segment_cycles) ≤ s.to
 
-pub comes-first : (s : Consoles) → s.to ≡ later_end s.until 0 → HasCome 0 s
-comes-first s is = omega (arith, is)
+pub comes-first : (s : Consoles) → min s.until segment_cycles ≤ s.to → HasCome 0 s
+comes-first s come = omega (arith, come)
 
 pub comes-next : (i : ℕ) (s : Consoles) → is_over s ≡ false → HasCome i s → HasCome (i + 1) (advanced s)
 comes-next i s left come =
@@ -144,3 +144,8 @@ lasting-same (n ∷ names) (a ∷ asks) (m ∷ ms) (w ∷ ws) same =
     (lasting-one n a m w (heads (forgotten m) (forgotten w) (map forgotten ms) (map forgotten ws) same))
     ∙ ap (λ pieces. console_pieces lasting_kinds n a w ++ pieces)
     (lasting-same names asks ms ws (tails (forgotten m) (forgotten w) (map forgotten ms) (map forgotten ws) same))
+
+-- a session that goes on from a cut has a segment left
+pub begin-before : (job : WholeJob) (start : Cut Machine) (s : Consoles) → s ≡ resumed job start → 1 ≤ job.cycles → s.to < s.until
+begin-before job start s is some =
+    omega (arith, ap (λ (x : Consoles). x.to) is, ap (λ (x : Consoles). x.until) is, some)

@@ -211,9 +211,9 @@ segments-other name out count none (suc most) s = by (is_over s) refl (segments-
 -- ---- the pieces of a whole run
 
 module _ (law : LiveSegments) (out : List ℕ) (s : Consoles) (count : ℕ) (few : count ≤ 4) (can : CanRun s.start)
-    (begun : s.to ≡ 0) (all : count ≡ length s.asks) (long : length s.start.consoles ≡ length s.asks)
+    (within : s.to ≤ s.until) (all : count ≡ length s.asks) (long : length s.start.consoles ≡ length s.asks)
     (reset : (k : ℕ) (m : Machine) → k < count
-    → get_or (run_until 0 s.start).consoles k m ≡ forgotten (get_or s.start.consoles k m)) where
+    → get_or (run_until s.to s.start).consoles k m ≡ forgotten (get_or s.start.consoles k m)) where
   abbrev names : List (PerKind (List ℕ))
   names = names_from out 0 count
 
@@ -232,11 +232,10 @@ module _ (law : LiveSegments) (out : List ℕ) (s : Consoles) (count : ℕ) (few
         let most = suc (later_segments s) in
         let last = cut_pieces lasting_kinds names s.asks (whole_cut s).consoles in
         let none : output_bytes kind (get_or (run_until s.to s.start).consoles k m) ≡ [] =
-        ap (λ (n : ℕ). output_bytes kind (get_or (run_until n s.start).consoles k m)) begun
-        ∙ ap (output_bytes kind) (reset k m player) ∙ none-made kind grow (get_or s.start.consoles k m) in
+        ap (output_bytes kind) (reset k m player) ∙ none-made kind grow (get_or s.start.consoles k m) in
         let grown : added name (segment_pieces most names s) ≡ at_end =
         ap (λ (bytes : List ℕ). bytes ++ added name (segment_pieces most names s)) (sym none)
-        ∙ segments-add law out count k kind grow few player a m most 0 s can (omega (arith, begun)) (omega arith) (omega arith)
+        ∙ segments-add law out count k kind grow few player a m most 0 s can within (omega arith) (omega arith)
         (omega (arith, all)) long asked in
         let rest : added name last ≡ [] =
         cut-own out kind lasting_kinds 0 count k k s.asks (whole_cut s).consoles a m (omega arith) player (omega (arith, few))

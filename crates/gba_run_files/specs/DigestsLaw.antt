@@ -1,7 +1,7 @@
 -- What comes of the digests that a job states of its outputs.
 use Rattle.std.specs.Prelude.{◌≡◌, ◌≢◌, ◌⊎◌, ◌<◌, ℕ, List, Option, Some, Result, Ok, Err, Contains, option_and_then, slice_get}
 use Rattle.sha2.specs.Sha256.{sha256}
-use Rattle.gba_command.specs.Cause.{Cause, NoCommand, Job, Image, Digest, Source}
+use Rattle.gba_command.specs.Cause.{Cause, NoCommand, Job, Image, Digest, Source, Frozen}
 use Rattle.gba_command.specs.Writing.{Output, Run}
 use Rattle.gba_joblog.specs.Clash.{output_file}
 use Rattle.gba_joblog.specs.Job.{ConsoleJob, WholeJob}
@@ -73,3 +73,4 @@ Compares out job run (Err NoCommand) = ⊥
 Compares out job run (Err (Job name error)) = ⊥
 Compares out job run (Err (Image name error)) = ⊥
 Compares out job run (Err (Source name error)) = ⊥
+Compares out job run (Err (Frozen name error)) = ⊥

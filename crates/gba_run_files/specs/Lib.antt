@@ -8,3 +8,4 @@ pub mod Ready
 pub mod Views
 pub mod Written
 pub mod Frozen
+pub mod Resumed

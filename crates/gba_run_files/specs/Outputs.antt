@@ -32,6 +32,11 @@ outputs_of (name ∷ names) (console ∷ consoles) [] = []
 outputs_of (name ∷ names) (console ∷ consoles) (one ∷ files) =
     console_outputs name console one ++ outputs_of names consoles files
 
+-- the file that a run writes behind all outputs, where it writes one
+abbrev pub last_output : Option (List ℕ) → List ℕ → List Output
+last_output None bytes = []
+last_output (Some name) bytes = record { name = name; bytes = bytes } ∷ []
+
 -- the line of an output with the digest of its bytes stated, where it is asked for
 abbrev pub stated_out : Option OutLine → List ℕ → Option OutLine
 stated_out None bytes = None

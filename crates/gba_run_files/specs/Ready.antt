@@ -1,13 +1,13 @@
-use Rattle.std.specs.Prelude.{◌≡◌, true, length, map}
+use Rattle.std.specs.Prelude.{◌≡◌, ◌<◌, true, length, map}
 use Rattle.gba_joblog.specs.Job.{WholeJob}
 use Rattle.gba_session.specs.Files.{asks_of}
 use Rattle.gba_session.specs.Session.{Consoles, is_over}
 
--- the consoles of a job of which no segment is run yet
+-- the consoles of a job of which no segment is run yet, and one is to be
 pub record IsReady (job : WholeJob) (s : Consoles) : Type 0 where
   pub asks : s.asks ≡ map asks_of job.consoles
   pub until : s.until ≡ job.cycles
-  pub begun : s.to ≡ 0
+  pub left : s.to < s.until
   pub many : length s.start.consoles ≡ length job.consoles
 
 -- the same consoles, once the last segment is run

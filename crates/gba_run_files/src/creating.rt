@@ -1,11 +1,11 @@
 //! The files of a run are made empty.
 
-ghost use Rattle.std.specs.Prelude.{◌≡◌, ◌≤◌, ◌++◌, ◌∷◌, [], ℕ, List, length, map, string_bytes, string_len};
+ghost use Rattle.std.specs.Prelude.{◌≡◌, ◌≤◌, ◌++◌, ℕ, List, IfSome, length, map, option_map, string_bytes, string_len};
 ghost use Rattle.gba_command.specs.Views.{output_value, write_end};
 ghost use Rattle.gba_command.specs.Writing.{PerformsAll, creation};
 ghost use Rattle.gba_joblog.specs.Views.{console_value};
 ghost use Rattle.gba_joblog.specs.declared.outputs.PerKind.{PerKind};
-ghost use Rattle.gba_run_files.specs.Outputs.{console_outputs, output_if, outputs_of};
+ghost use Rattle.gba_run_files.specs.Outputs.{console_outputs, last_output, output_if, outputs_of};
 ghost use Rattle.gba_run_files.specs.Views.{names_value};
 
 use crate::names::Names;
@@ -59,23 +59,35 @@ fn create_outputs<O: Sink>(
     Ok(())
 }
 
-/// Makes all files of a run empty: those that come before its own, those of its outputs, and the log.
+/// Makes the last file of a run empty, where there is one.
+fn create_last<O: Sink>(out: &mut O, name: Option<&str>) -> Result<(), WriteStop>
+    requires { IfSome name (λ name. length name.now ≤ 200) }
+    ensures { (bytes : List ℕ) → PerformsAll O.Tells (map creation (last_output (option_map (λ name. name.now) name.entry) bytes))
+        (O.state out.old) (O.state out.new) (write_end result) }
+{
+    match name {
+        Some(name) => create(out, name),
+        None => Ok(()),
+    }
+}
+
+/// Makes all files of a run empty: those that come before its own, those of its outputs, and the last one, where there is one.
 pub(crate) fn create_all<O: Sink>(
     out: &mut O,
     first: &[OutputFile],
     names: &[Names],
     consoles: &[JobConsole],
-    log_name: &String,
+    last: Option<&str>,
 ) -> Result<(), WriteStop>
     requires names { length names.now ≡ length consoles.now }
-    requires short { string_len log_name.now ≤ 200 }
-    ensures { (files : List (PerKind (List ℕ))) (log : List ℕ) → length files ≡ length consoles.now
+    requires short { IfSome last (λ name. length name.now ≤ 200) }
+    ensures { (files : List (PerKind (List ℕ))) (bytes : List ℕ) → length files ≡ length consoles.now
         → PerformsAll O.Tells (map creation (map output_value first.now
         ++ (outputs_of (map names_value names.now) (map console_value consoles.now) files
-        ++ record { name = string_bytes log_name.now; bytes = log } ∷ [])))
+        ++ last_output (option_map (λ name. name.now) last.entry) bytes)))
         (O.state out.old) (O.state out.new) (write_end result) }
 {
     create_files(out, first)?;
     create_outputs(out, names, consoles)?;
-    create(out, log_name.as_str())
+    create_last(out, last)
 }

@@ -116,7 +116,7 @@ impl PreparedFreeze {
             first.as_slice(),
             names.as_slice(),
             &job,
-            &name,
+            Some(name.as_str()),
             self.session,
             gate,
         )?;

@@ -1,6 +1,6 @@
 //! Laws over the definitions. Each is the contract of a function that takes no value.
 
-ghost use Rattle.gba_run_files.specs.Law.{FrozenRunsHaveOwnFiles, LogsHaveRoom, OutputsDiffer, RunsHaveOwnFiles};
+ghost use Rattle.gba_run_files.specs.Law.{FrozenRunsHaveOwnFiles, LogsHaveRoom, OutputsDiffer, ResumedRunsHaveOwnFiles, RunsHaveOwnFiles};
 
 use gba_console::laws::segments;
 
@@ -24,6 +24,13 @@ pub fn runs_have_own_files()
 /// The same of a run that is frozen at its end.
 pub fn frozen_runs_have_own_files()
     ensures { FrozenRunsHaveOwnFiles }
+{
+    segments();
+}
+
+/// The same of a run that goes on from where its consoles were frozen.
+pub fn resumed_runs_have_own_files()
+    ensures { ResumedRunsHaveOwnFiles }
 {
     segments();
 }

@@ -10,6 +10,7 @@ mod names;
 mod naming;
 mod pieces;
 mod prepared;
+mod resuming;
 mod stating;
 mod writing;
 
@@ -17,3 +18,4 @@ pub use early::{log_digest, until_clock, without_digests};
 pub use freezing::PreparedFreeze;
 pub use naming::frozen_name;
 pub use prepared::PreparedRun;
+pub use resuming::PreparedResume;

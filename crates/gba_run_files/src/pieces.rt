@@ -1,13 +1,13 @@
 //! The pieces that a run adds to the files of its outputs.
 
-ghost use Rattle.std.specs.Prelude.{◌≡◌, ◌≤◌, ◌++◌, ◌∷◌, [], ℕ, List, IfOk, Some, false, length, map, slice_get, string_bytes, string_len, true};
+ghost use Rattle.std.specs.Prelude.{◌≡◌, ◌≤◌, ◌++◌, ◌∷◌, [], ℕ, List, IfOk, Some, false, length, map, min, slice_get, string_bytes, string_len, true};
 ghost use Rattle.std.specs.List.{All};
 ghost use Rattle.gba_command.specs.Views.{output_value, write_end};
 ghost use Rattle.gba_command.specs.Writing.{PerformsAll, addition};
 ghost use Rattle.gba_console.specs.Machine.{Machine};
 ghost use Rattle.gba_joblog.specs.Views.{console_value};
 ghost use Rattle.gba_session.specs.Files.{asks_of, grows};
-ghost use Rattle.gba_session.specs.Session.{is_over, later_end, segment_cut, whole_cut};
+ghost use Rattle.gba_session.specs.Session.{is_over, segment_cut, whole_cut};
 ghost use Rattle.gba_run_files.specs.Pieces.{console_pieces, cut_pieces, growing_kinds, kind_piece, lasting_kinds, left_pieces, piece_if};
 ghost use Rattle.gba_run_files.specs.Ready.{IsLast};
 ghost use Rattle.gba_run_files.specs.Views.{names_value};
@@ -151,7 +151,7 @@ pub(crate) fn append_segments<R: Threads + Sync, O: Sink, G: Gate + Sync>(
     requires names { length names.now ≡ length consoles.now }
     requires asks { first.asks ≡ map asks_of (map console_value consoles.now) }
     requires until { first.until ≡ until }
-    requires begun { first.to ≡ later_end until 0 }
+    requires begun { min until 16777216 ≤ first.to }
     ensures pieces { PerformsAll O.Tells (map addition (left_pieces (map names_value names.now) first))
         (O.state out.old) (O.state out.new) (write_end result) }
     ensures last { IfOk result (IsLast first) }

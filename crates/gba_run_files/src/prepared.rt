@@ -182,7 +182,7 @@ impl PreparedRun {
             first.as_slice(),
             names,
             &job,
-            &log_name,
+            Some(log_name.as_str()),
             self.session,
             gate,
         )?;

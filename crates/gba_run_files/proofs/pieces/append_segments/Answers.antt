@@ -2,7 +2,7 @@ use Rattle.std.proofs.Common.{◌≡◌, ◌+◌, ◌-◌, ◌/◌, ◌∙◌, �
 use Rattle.std.proofs.lemmas.Result.{err_from_is_err_and}
 use Rattle.gba_command.proofs.Calls.{Leads, files-stopped, leads-broken, leads-files, leads-first, leads-none, stopped}
 use Rattle.gba_command.specs.Writing.{addition}
-use Rattle.gba_session.specs.Session.{Consoles, is_over, later_end, segment_cut}
+use Rattle.gba_session.specs.Session.{Consoles, is_over, segment_cut}
 use Rattle.gba_run_files.proofs.Segmented.{HasCome, advances, advances-on, comes-first, comes-next, comes-over, is-last, next-at, over-none}
 use Rattle.gba_run_files.specs.Pieces.{cut_pieces, growing_kinds, later_segments, left_pieces, segment_pieces}
 use Rattle.gba_run_files.specs.Views.{names_value}
@@ -29,7 +29,7 @@ loop-later-init g c =
           (cut_pieces growing_kinds names s.asks (segment_cut s).consoles) (segment_pieces (later_segments s) names s) _ _ refl
           (leads-first g.O.Sink.Tells (map addition (left_pieces names s)) _) _ c.in_ok-append_segment.ensures),
       record { start = refl; until = refl; asks = refl },
-      comes-first s (c.requires.begun ∙ ap (λ (u : ℕ). later_end u 0) (sym c.requires.until)),
+      comes-first s (omega (arith, c.requires.begun, c.requires.until)),
     )
 
 pub append_segment-requires-in-loop-later-clause-asks : goal.append_segment-requires-in-loop-later-clause-asks

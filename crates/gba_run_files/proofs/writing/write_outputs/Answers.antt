@@ -1,5 +1,5 @@
-use Rattle.std.proofs.Common.{◌≡◌, ◌++◌, ◌∷◌, [], ◌∙◌, List, length, map, sym, ap, subst, arith}
-use Rattle.std.specs.Prelude.{string_bytes}
+use Rattle.std.proofs.Common.{◌≡◌, ◌++◌, ◌∙◌, List, length, map, sym, ap, subst}
+use Rattle.std.specs.Prelude.{option_map}
 use Rattle.std.proofs.lemmas.List.{length-map}
 use Rattle.std.proofs.lemmas.Result.{err_from_is_err_and}
 use Rattle.gba_command.proofs.Calls.{stopped}
@@ -9,7 +9,7 @@ use Rattle.gba_console.specs.Machine.{Machine}
 use Rattle.gba_joblog.specs.Views.{console_value, job_value}
 use Rattle.gba_run_files.proofs.Segmented.{advances, first-pieces, last-asks, last-whole}
 use Rattle.gba_run_files.proofs.WholeRun.{grown-added, stopped-creating, stopped-first, stopped-growing}
-use Rattle.gba_run_files.specs.Outputs.{outputs_of}
+use Rattle.gba_run_files.specs.Outputs.{last_output, outputs_of}
 use Rattle.gba_run_files.specs.Pieces.{cut_pieces, lasting_kinds, left_pieces, run_pieces}
 use Rattle.gba_run_files.specs.Views.{names_value}
 use Rattle.gba_session.specs.Session.{Consoles, advanced, whole_cut}
@@ -30,9 +30,9 @@ returns-in_err-create_all-clause-calls g c =
     let old = g.O.Sink.state c.args.out.now in
     let consoles_are : map console_value c.as_slice-consoles.result.now ≡ job.consoles = ap (map console_value) c.as_slice-consoles.ensures.value in
     λ files bytes long.
-    let made : List Output = first ++ (outputs_of names job.consoles files ++ record { name = string_bytes c.args.last_name.now; bytes = bytes } ∷ []) in
+    let made : List Output = first ++ (outputs_of names job.consoles files ++ last_output (option_map (λ name. name.now) c.args.last) bytes) in
     let pieces : run_pieces names s ≡ grown ++ last =
-    first-pieces names s (omega (arith, c.requires.ready.begun, c.requires.ready.until, c.requires.sound.some_cycles)) in
+    first-pieces names s c.requires.ready.left in
     let many : length files ≡ length c.as_slice-consoles.result.now =
     long ∙ sym (ap length consoles_are) ∙ length-map c.as_slice-consoles.result.now console_value in
     subst (λ (ps : List Output). PerformsAll Tells (map creation made ++ map addition (first ++ ps)) old
@@ -55,9 +55,9 @@ returns-in_err-append_files-clause-calls g c =
     let old = g.O.Sink.state c.args.out.now in
     let consoles_are : map console_value c.as_slice-consoles.result.now ≡ job.consoles = ap (map console_value) c.as_slice-consoles.ensures.value in
     λ files bytes long.
-    let made : List Output = first ++ (outputs_of names job.consoles files ++ record { name = string_bytes c.args.last_name.now; bytes = bytes } ∷ []) in
+    let made : List Output = first ++ (outputs_of names job.consoles files ++ last_output (option_map (λ name. name.now) c.args.last) bytes) in
     let pieces : run_pieces names s ≡ grown ++ last =
-    first-pieces names s (omega (arith, c.requires.ready.begun, c.requires.ready.until, c.requires.sound.some_cycles)) in
+    first-pieces names s c.requires.ready.left in
     let many : length files ≡ length c.as_slice-consoles.result.now =
     long ∙ sym (ap length consoles_are) ∙ length-map c.as_slice-consoles.result.now console_value in
     let created : PerformsAll Tells (map creation made) old (g.O.Sink.state c.create_all.new.out) Wrote =
@@ -82,9 +82,9 @@ returns-in_err-session-clause-calls g c =
     let old = g.O.Sink.state c.args.out.now in
     let consoles_are : map console_value c.as_slice-consoles.result.now ≡ job.consoles = ap (map console_value) c.as_slice-consoles.ensures.value in
     λ files bytes long.
-    let made : List Output = first ++ (outputs_of names job.consoles files ++ record { name = string_bytes c.args.last_name.now; bytes = bytes } ∷ []) in
+    let made : List Output = first ++ (outputs_of names job.consoles files ++ last_output (option_map (λ name. name.now) c.args.last) bytes) in
     let pieces : run_pieces names s ≡ grown ++ last =
-    first-pieces names s (omega (arith, c.requires.ready.begun, c.requires.ready.until, c.requires.sound.some_cycles)) in
+    first-pieces names s c.requires.ready.left in
     let many : length files ≡ length c.as_slice-consoles.result.now =
     long ∙ sym (ap length consoles_are) ∙ length-map c.as_slice-consoles.result.now console_value in
     let created : PerformsAll Tells (map creation made) old (g.O.Sink.state c.create_all.new.out) Wrote =
@@ -111,9 +111,9 @@ returns-in_err-append_last-clause-calls g c =
     let old = g.O.Sink.state c.args.out.now in
     let consoles_are : map console_value c.as_slice-consoles.result.now ≡ job.consoles = ap (map console_value) c.as_slice-consoles.ensures.value in
     λ files bytes long.
-    let made : List Output = first ++ (outputs_of names job.consoles files ++ record { name = string_bytes c.args.last_name.now; bytes = bytes } ∷ []) in
+    let made : List Output = first ++ (outputs_of names job.consoles files ++ last_output (option_map (λ name. name.now) c.args.last) bytes) in
     let pieces : run_pieces names s ≡ grown ++ last =
-    first-pieces names s (omega (arith, c.requires.ready.begun, c.requires.ready.until, c.requires.sound.some_cycles)) in
+    first-pieces names s c.requires.ready.left in
     let many : length files ≡ length c.as_slice-consoles.result.now =
     long ∙ sym (ap length consoles_are) ∙ length-map c.as_slice-consoles.result.now console_value in
     let created : PerformsAll Tells (map creation made) old (g.O.Sink.state c.create_all.new.out) Wrote =
@@ -147,9 +147,9 @@ returns-clause-calls g c =
     let old = g.O.Sink.state c.args.out.now in
     let consoles_are : map console_value c.as_slice-consoles.result.now ≡ job.consoles = ap (map console_value) c.as_slice-consoles.ensures.value in
     λ files bytes long.
-    let made : List Output = first ++ (outputs_of names job.consoles files ++ record { name = string_bytes c.args.last_name.now; bytes = bytes } ∷ []) in
+    let made : List Output = first ++ (outputs_of names job.consoles files ++ last_output (option_map (λ name. name.now) c.args.last) bytes) in
     let pieces : run_pieces names s ≡ grown ++ last =
-    first-pieces names s (omega (arith, c.requires.ready.begun, c.requires.ready.until, c.requires.sound.some_cycles)) in
+    first-pieces names s c.requires.ready.left in
     let many : length files ≡ length c.as_slice-consoles.result.now =
     long ∙ sym (ap length consoles_are) ∙ length-map c.as_slice-consoles.result.now console_value in
     let created : PerformsAll Tells (map creation made) old (g.O.Sink.state c.create_all.new.out) Wrote =

@@ -36,7 +36,7 @@ returns-in_err-session-clause-files g c =
     let calls : file_calls c.args.self ≡ file_calls (frozen_run names job digest s) = ap file_calls (sym c.self.view_is) in
     let done : PerformsAll Tells (map creation made ++ map addition pieces) old (g.O.Sink.state c.write_outputs.new.out)
     (write_stop_value c.in_err-session.field-0.0) =
-    rw (c.as_slice.ensures.value, c.new-first.ensures.items, c.as_slice-2.ensures.value) at
+    rw (c.as_slice.ensures.value, c.new-first.ensures.items, c.as_slice-2.ensures.value, c.as_str.ensures.value) at
     (c.in_err-session.ensures.calls files text (files-many job s c.self.invariant.1)) in
     let p = err_from_is_err_and c.from_residual.result c.from_residual.ensures.1 in
     rw (p.1, p.2) (
@@ -60,7 +60,7 @@ returns-in_err-append-clause-files g c =
     let old = g.O.Sink.state c.args.out.now in
     let calls : file_calls c.args.self ≡ file_calls (frozen_run names job digest s) = ap file_calls (sym c.self.view_is) in
     let done : PerformsAll Tells (map creation made ++ map addition pieces) old (g.O.Sink.state c.write_outputs.new.out) Wrote =
-    rw (c.as_slice.ensures.value, c.new-first.ensures.items, c.as_slice-2.ensures.value) at
+    rw (c.as_slice.ensures.value, c.new-first.ensures.items, c.as_slice-2.ensures.value, c.as_str.ensures.value) at
     (c.in_ok-session.ensures.calls files text (files-many job s c.self.invariant.1)) in
     let t = c.in_ok-session.session in
     let text_is : c.as_slice-3.result.now ≡ text =
@@ -74,7 +74,7 @@ returns-in_err-append-clause-files g c =
     rw (p.1, p.2) (
     subst (λ (all : List Call). PerformsAll Tells all old (g.O.Sink.state c.append.new.out) (write_stop_value c.in_err-append.field-0.0)) (sym calls)
     (last-added Tells made pieces entry old (g.O.Sink.state c.write_outputs.new.out) done (g.O.Sink.state c.append.new.out)
-    (write_stop_value c.in_err-append.field-0.0) (rw (c.as_str.ensures.value, text_is) at c.in_err-append.ensures))
+    (write_stop_value c.in_err-append.field-0.0) (rw (c.as_str-2.ensures.value, text_is) at c.in_err-append.ensures))
     )
 
 pub returns-clause-files : goal.returns-clause-files
@@ -92,7 +92,7 @@ returns-clause-files g c =
     let old = g.O.Sink.state c.args.out.now in
     let calls : file_calls c.args.self ≡ file_calls (frozen_run names job digest s) = ap file_calls (sym c.self.view_is) in
     let done : PerformsAll Tells (map creation made ++ map addition pieces) old (g.O.Sink.state c.write_outputs.new.out) Wrote =
-    rw (c.as_slice.ensures.value, c.new-first.ensures.items, c.as_slice-2.ensures.value) at
+    rw (c.as_slice.ensures.value, c.new-first.ensures.items, c.as_slice-2.ensures.value, c.as_str.ensures.value) at
     (c.in_ok-session.ensures.calls files text (files-many job s c.self.invariant.1)) in
     let t = c.in_ok-session.session in
     let text_is : c.as_slice-3.result.now ≡ text =
@@ -104,7 +104,7 @@ returns-clause-files g c =
     ∙ ap (λ (cut : Cut Machine). frozen_file digest cut) (same-whole s t c.in_ok-session.ensures.last) in
     subst (λ (all : List Call). PerformsAll Tells all old (g.O.Sink.state c.append.new.out) (Wrote)) (sym calls)
     (last-added Tells made pieces entry old (g.O.Sink.state c.write_outputs.new.out) done (g.O.Sink.state c.append.new.out) Wrote
-    (rw (c.as_str.ensures.value, text_is) at c.in_ok-append.ensures))
+    (rw (c.as_str-2.ensures.value, text_is) at c.in_ok-append.ensures))
 
 pub returns-clause-end : goal.returns-clause-end
 returns-clause-end g c =

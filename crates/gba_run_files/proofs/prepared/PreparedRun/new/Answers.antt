@@ -14,7 +14,12 @@ invariant_of-result c =
       record {
         asks = ap (λ (s : Consoles). s.asks) c.in_ok-session.ensures;
         until = ap (λ (s : Consoles). s.until) c.in_ok-session.ensures;
-        begun = ap (λ (s : Consoles). s.to) c.in_ok-session.ensures;
+        left = omega (
+          arith,
+          ap (λ (s : Consoles). s.to) c.in_ok-session.ensures,
+          ap (λ (s : Consoles). s.until) c.in_ok-session.ensures,
+          c.requires.sound.some_cycles,
+        );
         many = ap (λ (s : Consoles). length s.start.consoles) c.in_ok-session.ensures
             ∙ consoles-length (job_value c.args.job) 0 (job_value c.args.job).consoles c.args.images.items
             (fit-long (job_value c.args.job).consoles c.args.images.items c.requires.images);

@@ -35,7 +35,7 @@ returns-in_err-session-clause-files g c =
     ap (λ (ps : List Output). map creation made ++ map addition ps) (append_assoc first (run_pieces names.consoles s) (entry ∷ [])) in
     let done : PerformsAll Tells (map creation made ++ map addition pieces) old (g.O.Sink.state c.write_outputs.new.out)
     (write_stop_value c.in_err-session.field-0.0) =
-    rw (c.as_slice.ensures.value, c.as_slice-names.ensures.value) at
+    rw (c.as_slice.ensures.value, c.as_slice-names.ensures.value, c.as_str.ensures.value) at
     (c.in_err-session.ensures.calls files log (files-many job s c.self.invariant.1)) in
     let p = err_from_is_err_and c.from_residual.result c.from_residual.ensures.1 in
     rw (p.1, p.2) (
@@ -61,7 +61,7 @@ returns-in_err-append-clause-files g c =
     let assoc : map creation made ++ map addition (pieces ++ entry ∷ []) ≡ file_calls (after_files first (run_of names job s)) =
     ap (λ (ps : List Output). map creation made ++ map addition ps) (append_assoc first (run_pieces names.consoles s) (entry ∷ [])) in
     let done : PerformsAll Tells (map creation made ++ map addition pieces) old (g.O.Sink.state c.write_outputs.new.out) Wrote =
-    rw (c.as_slice.ensures.value, c.as_slice-names.ensures.value) at
+    rw (c.as_slice.ensures.value, c.as_slice-names.ensures.value, c.as_str.ensures.value) at
     (c.in_ok-session.ensures.calls files log (files-many job s c.self.invariant.1)) in
     let t = c.in_ok-session.session in
     let log_is : c.as_slice-2.result.now ≡ log =
@@ -71,7 +71,7 @@ returns-in_err-append-clause-files g c =
     rw (p.1, p.2) (
     subst (λ (all : List Call). PerformsAll Tells all old (g.O.Sink.state c.append.new.out) (write_stop_value c.in_err-append.field-0.0)) (assoc ∙ sym calls)
     (last-added Tells made pieces entry old (g.O.Sink.state c.write_outputs.new.out) done (g.O.Sink.state c.append.new.out)
-    (write_stop_value c.in_err-append.field-0.0) (rw (c.as_str.ensures.value, log_is) at c.in_err-append.ensures))
+    (write_stop_value c.in_err-append.field-0.0) (rw (c.as_str-2.ensures.value, log_is) at c.in_err-append.ensures))
     )
 
 pub returns-clause-files : goal.returns-clause-files
@@ -91,7 +91,7 @@ returns-clause-files g c =
     let assoc : map creation made ++ map addition (pieces ++ entry ∷ []) ≡ file_calls (after_files first (run_of names job s)) =
     ap (λ (ps : List Output). map creation made ++ map addition ps) (append_assoc first (run_pieces names.consoles s) (entry ∷ [])) in
     let done : PerformsAll Tells (map creation made ++ map addition pieces) old (g.O.Sink.state c.write_outputs.new.out) Wrote =
-    rw (c.as_slice.ensures.value, c.as_slice-names.ensures.value) at
+    rw (c.as_slice.ensures.value, c.as_slice-names.ensures.value, c.as_str.ensures.value) at
     (c.in_ok-session.ensures.calls files log (files-many job s c.self.invariant.1)) in
     let t = c.in_ok-session.session in
     let log_is : c.as_slice-2.result.now ≡ log =
@@ -99,7 +99,7 @@ returns-clause-files g c =
     ∙ ap (λ (cut : Cut Machine). log_of job (files_at job cut)) (same-whole s t c.in_ok-session.ensures.last) in
     subst (λ (all : List Call). PerformsAll Tells all old (g.O.Sink.state c.append.new.out) (Wrote)) (assoc ∙ sym calls)
     (last-added Tells made pieces entry old (g.O.Sink.state c.write_outputs.new.out) done (g.O.Sink.state c.append.new.out) Wrote
-    (rw (c.as_str.ensures.value, log_is) at c.in_ok-append.ensures))
+    (rw (c.as_str-2.ensures.value, log_is) at c.in_ok-append.ensures))
 
 pub returns-clause-end : goal.returns-clause-end
 returns-clause-end g c =
