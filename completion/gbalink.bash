@@ -24,8 +24,9 @@ _gbalink_runs() {
 
 _gbalink() {
   case "$COMP_CWORD:${COMP_WORDS[1]}" in
-  1:*) _gbalink_words run asm dis tdis gen trace freeze bios --job --help --version ;;
-  2:run | 2:trace | 2:freeze) _gbalink_files '*.job' '*.log' ;;
+  1:*) _gbalink_words run asm dis tdis gen trace freeze resume bios --job --help --version ;;
+  2:run | 2:trace | 2:freeze | 2:resume) _gbalink_files '*.job' '*.log' ;;
+  3:resume) _gbalink_files '*.frozen' ;;
   2:asm) _gbalink_files '*.s' ;;
   2:dis | 2:tdis) _gbalink_files '*.bios' '*.gba' '*.bin' ;;
   *:--job)
