@@ -8,14 +8,15 @@ abbrev pub has_bits : ℕ → ℕ → List ℕ → Bool
 has_bits offset bits io = bit_and (half_at offset io) bits == half_at offset io
 
 -- of the picture: DISPCNT, BG0CNT and BG1CNT, the scrolls, the upper halves of the reference points, WININ and WINOUT, BLDCNT, BLDALPHA
--- and BLDY (GBATEK, LCD I/O Registers)
+-- and BLDY; the halfwords 002h, 04Ch and 04Eh between them have none (GBATEK, LCD I/O Registers)
 unfoldable pub is_picture_stored : List ℕ → Bool
 is_picture_stored io =
-    has_bits 0x000 0xfff7 io && has_bits 0x008 0xdfff io && has_bits 0x00a 0xdfff io && has_bits 0x010 0x01ff io
-    && has_bits 0x012 0x01ff io && has_bits 0x014 0x01ff io && has_bits 0x016 0x01ff io && has_bits 0x018 0x01ff io
-    && has_bits 0x01a 0x01ff io && has_bits 0x01c 0x01ff io && has_bits 0x01e 0x01ff io && has_bits 0x02a 0x0fff io
-    && has_bits 0x02e 0x0fff io && has_bits 0x03a 0x0fff io && has_bits 0x03e 0x0fff io && has_bits 0x048 0x3f3f io
-    && has_bits 0x04a 0x3f3f io && has_bits 0x050 0x3fff io && has_bits 0x052 0x1f1f io && has_bits 0x054 0x001f io
+    has_bits 0x000 0xfff7 io && has_bits 0x002 0 io && has_bits 0x008 0xdfff io && has_bits 0x00a 0xdfff io
+    && has_bits 0x010 0x01ff io && has_bits 0x012 0x01ff io && has_bits 0x014 0x01ff io && has_bits 0x016 0x01ff io
+    && has_bits 0x018 0x01ff io && has_bits 0x01a 0x01ff io && has_bits 0x01c 0x01ff io && has_bits 0x01e 0x01ff io
+    && has_bits 0x02a 0x0fff io && has_bits 0x02e 0x0fff io && has_bits 0x03a 0x0fff io && has_bits 0x03e 0x0fff io
+    && has_bits 0x048 0x3f3f io && has_bits 0x04a 0x3f3f io && has_bits 0x04c 0 io && has_bits 0x04e 0 io
+    && has_bits 0x050 0x3fff io && has_bits 0x052 0x1f1f io && has_bits 0x054 0x001f io
 
 -- of the sound: the channels, SOUNDCNT_L, SOUNDCNT_H, SOUNDCNT_X with what it shows of the channels, and SOUNDBIAS (GBATEK, GBA Sound
 -- Controller)

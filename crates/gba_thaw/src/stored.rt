@@ -19,6 +19,7 @@ fn is_picture_stored(io: &[u8; 1024]) -> bool
     ensures { result ≡ is_picture_stored_of io.now }
 {
     has_bits(io, 0x000, 0xFFF7)
+        && has_bits(io, 0x002, 0)
         && has_bits(io, 0x008, 0xDFFF)
         && has_bits(io, 0x00A, 0xDFFF)
         && has_bits(io, 0x010, 0x01FF)
@@ -35,6 +36,8 @@ fn is_picture_stored(io: &[u8; 1024]) -> bool
         && has_bits(io, 0x03E, 0x0FFF)
         && has_bits(io, 0x048, 0x3F3F)
         && has_bits(io, 0x04A, 0x3F3F)
+        && has_bits(io, 0x04C, 0)
+        && has_bits(io, 0x04E, 0)
         && has_bits(io, 0x050, 0x3FFF)
         && has_bits(io, 0x052, 0x1F1F)
         && has_bits(io, 0x054, 0x001F)
