@@ -12,7 +12,7 @@ use gba_joblog::Job;
 use gba_session::Session;
 use gba_snapshot::{FROZEN_ROOM, freeze};
 use gba_store::NoGate;
-use gba_thaw::laws::thaws_soundly;
+use gba_thaw::laws::{thaws_plainly, thaws_soundly};
 use gba_thaw::{ThawRefused, thaw};
 use link_core::Cut;
 use std::alloc::Global;
@@ -155,4 +155,11 @@ pub(crate) fn play_all<R: Abort + Threads + Sync>(
         comes_to(rt, alloc, case.name, case.job, file.as_str(), case.outcome)?;
     }
     Ok(())
+}
+
+// A law answers nothing: that it holds is its contract.
+#[test]
+fn the_laws_are_stated() {
+    thaws_soundly();
+    thaws_plainly();
 }
