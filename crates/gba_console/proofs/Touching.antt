@@ -5,7 +5,7 @@ use Rattle.gba_terms.specs.Bits.{field}
 use Rattle.gba_bus.specs.Regions.{region_of}
 use Rattle.gba_bus.specs.declared.width.Width.{Width}
 use Rattle.gba_bus.specs.declared.width.Width.TheVariants.{Byte, Half, Word}
-use Rattle.gba_devices.specs.Registers.{merged}
+use Rattle.gba_register.specs.Accesses.{merged}
 use Rattle.gba_devices.proofs.Keeping.{writes-keep}
 use Rattle.gba_dma.specs.Channels.{next_unit}
 use Rattle.gba_dma.specs.declared.unit.Unit.{Unit as DmaUnit}

@@ -1,10 +1,9 @@
-use Rattle.std.proofs.Common.{◌≡◌, ℕ, Bool, true, false, ◌+◌, ◌-◌, ◌*◌, ◌%◌, ◌^◌, ◌==◌, refl, ◌∙◌, arith, if◌then◌else◌}
-use Rattle.gba_terms.specs.Bits.{field}
+use Rattle.std.proofs.Common.{◌≡◌, ℕ, Bool, Option, None, Some, true, false, ◌==◌, refl, ◌∙◌, arith, if◌then◌else◌}
 use Rattle.gba_bus.specs.declared.width.Width.{Width}
-use Rattle.gba_bus.specs.declared.width.Width.TheVariants.{Byte, Half, Word}
+use Rattle.gba_register.specs.Accesses.{merged}
+use Rattle.gba_register.proofs.Accesses.{written-keeps}
 use Rattle.gba_devices.specs.Keeping.{CalmHasBegun, WritesKeep}
-use Rattle.gba_sound.specs.Queues.{after_word}
-use Rattle.gba_devices.specs.Registers.{half_kept, half_written, halves_written, io_stored, is_queue, merged, owner_of, queue_of, with_key_control, word_written, written_of}
+use Rattle.gba_devices.specs.Registers.{half_kept, half_written, io_stored, owner_of, queue_of, stored_in, whole_written, with_key_control, written_of}
 use Rattle.gba_devices.specs.State.{Devices, begun}
 use Rattle.gba_devices.specs.declared.registers.Owner.{Owner}
 use Rattle.gba_devices.specs.declared.registers.Owner.TheVariants.{PictureBlock, ToneBlock, SoundBlock, DmaBlock, TimerBlock, KeyBlock, InterruptBlock, WaitControl, PostFlag, Nobody}
@@ -36,38 +35,28 @@ owner-keeps WaitControl offset value lanes d = record { clock = refl; place = re
 owner-keeps PostFlag offset value lanes d = record { clock = refl; place = refl; priced = refl }
 owner-keeps Nobody offset value lanes d = record { clock = refl; place = refl; priced = refl }
 
-half-keeps : (offset value lanes : ℕ) (d : Devices) → Keeps d (half_written offset value lanes d)
-unfolding half_written
-half-keeps offset value lanes d =
-    owner-keeps (owner_of offset) offset (merged (half_kept offset d) value lanes) lanes d
+whole-keeps : (offset value lanes : ℕ) (d : Devices) → Keeps d (whole_written offset value lanes d)
+unfolding whole_written
+whole-keeps offset value lanes d = owner-keeps (owner_of offset) offset value lanes d
 
-halves-keep : (offset value : ℕ) (d : Devices) → Keeps d (halves_written offset value d)
-halves-keep offset value d =
-    let low = half_written offset (field value 0 16) 0xffff d in
-    let first = half-keeps offset (field value 0 16) 0xffff d in
-    let second = half-keeps (offset + 2) (field value 16 16) 0xffff low in
+half-keeps : (d : Devices) (offset value lanes : ℕ) (s : Devices) → Keeps d s → Keeps d (half_written offset value lanes s)
+half-keeps d offset value lanes s before =
+    let last = whole-keeps offset (merged (half_kept offset s) value lanes) lanes s in
     record {
-      clock = second.clock ∙ first.clock;
-      place = second.place ∙ first.place;
-      priced = second.priced
-          ∙ first.priced;
+      clock = last.clock ∙ before.clock;
+      place = last.place ∙ before.place;
+      priced = last.priced ∙ before.priced;
     }
 
-word-keeps : (offset value : ℕ) (d : Devices) → Keeps d (word_written offset value d)
-word-keeps offset value d =
-    either-keeps (is_queue offset) d
-    (record d { sound = after_word (queue_of offset) (field value 0 32) d.sound }) (halves_written offset value d)
-    (record { clock = refl; place = refl; priced = refl }) (halves-keep offset value d)
+into-keeps : (queue : Option ℕ) (offset : ℕ) (width : Width) (value : ℕ) (d : Devices)
+    → Keeps d (stored_in queue offset width value d)
+into-keeps (Some queue) offset width value d = record { clock = refl; place = refl; priced = refl }
+into-keeps None offset width value d =
+    written-keeps (Keeps d) half_written (half-keeps d) offset width value d
+    (record { clock = refl; place = refl; priced = refl })
 
 access-keeps : (offset : ℕ) (width : Width) (value : ℕ) (d : Devices) → Keeps d (io_stored offset width value d)
-access-keeps offset Byte value d =
-    either-keeps (offset % 2 == 0) d
-    (half_written offset (field value 0 8) 0x00ff d)
-    (half_written (offset - 1) (2 ^ 8 * field value 0 8) 0xff00 d)
-    (half-keeps offset (field value 0 8) 0x00ff d)
-    (half-keeps (offset - 1) (2 ^ 8 * field value 0 8) 0xff00 d)
-access-keeps offset Half value d = half-keeps (offset - offset % 2) (field value 0 16) 0xffff d
-access-keeps offset Word value d = word-keeps (offset - offset % 4) value d
+access-keeps offset width value d = into-keeps (queue_of offset width) offset width value d
 
 pub writes-keep : WritesKeep
 writes-keep = record {

@@ -1,5 +1,4 @@
 pub mod Cycles
-pub mod Fits
 pub mod Keeping
 pub mod Parts
 pub mod Registers

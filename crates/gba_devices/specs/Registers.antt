@@ -1,7 +1,8 @@
-use Rattle.std.specs.Prelude.{ℕ, Bool, ◌+◌, ◌-◌, ◌*◌, ◌%◌, ◌^◌, ◌==◌, ◌||◌, nat_le, nat_lt, ◌&&◌, List, [], ◌∷◌, bit_and, bit_or, if◌then◌else◌}
+use Rattle.std.specs.Prelude.{ℕ, Bool, Option, None, Some, ◌-◌, ◌%◌, ◌^◌, ◌==◌, ◌||◌, nat_le, nat_lt, ◌&&◌, List, [], ◌∷◌, bit_and, bit_or, if◌then◌else◌}
 use Rattle.gba_terms.specs.Bits.{bit, field}
 use Rattle.gba_bus.specs.declared.width.Width.{Width}
-use Rattle.gba_bus.specs.declared.width.Width.TheVariants.{Byte, Half, Word}
+use Rattle.gba_bus.specs.declared.width.Width.TheVariants.{Word}
+use Rattle.gba_register.specs.Accesses.{loaded_by_halves, put_by, written_by_halves}
 use Rattle.gba_register.specs.Rows.{Row, row, row_at}
 use Rattle.gba_dma.specs.Channels.{dma_kept, dma_read, dma_written}
 use Rattle.gba_irq.specs.Interrupts.{interrupt_kept, interrupt_read, interrupt_written, with_request_if}
@@ -52,10 +53,8 @@ read_of WaitControl offset d = bit_and d.waits (row_at system_rows 0x204).read_m
 read_of PostFlag offset d = bit_and (truth_number d.posted) (row_at system_rows 0x300).read_mask
 read_of Nobody offset d = 0
 
--- The record may have any numbers, and a halfword is cut to its 16 bits, since every state of a bus has to read what
--- fits. Of the devices' own numbers the cut takes nothing, as the clauses `whole` of what reads a halfword say.
 unfoldable pub half_read : ℕ → Devices → ℕ
-half_read offset d = read_of (owner_of offset) offset d % 2 ^ 16
+half_read offset d = read_of (owner_of offset) offset d
 
 -- what a write of one byte keeps of the halfword's other byte: of a timer's first halfword that of the reload, of IF
 -- and of SOUNDCNT_H's reset bits nothing, and else what is stored
@@ -84,7 +83,7 @@ stored_of DmaBlock offset d = dma_kept offset d.channels
 stored_of TimerBlock offset d = timer_kept offset d.timers
 stored_of owner offset d = read_of owner offset d
 
--- cut as `half_read` is, so that the state file has 16 bits of every record
+-- cut as what an access reads is, so that the state file has 16 bits of every record
 unfoldable pub half_stored : ℕ → Devices → ℕ
 half_stored offset d = stored_of (owner_of offset) offset d % 2 ^ 16
 
@@ -121,42 +120,30 @@ written_of WaitControl offset value lanes d =
 written_of PostFlag offset value lanes d = record d { posted = bit value 0; halted = d.halted || bit lanes 8 }
 written_of Nobody offset value lanes d = d
 
--- the bytes that are written, and the halfword's others as they are kept
-abbrev pub merged : ℕ → ℕ → ℕ → ℕ
-merged kept value lanes = bit_or (bit_and kept (2 ^ 16 - 1 - lanes)) (bit_and value lanes)
+unfoldable pub whole_written : ℕ → ℕ → ℕ → Devices → Devices
+whole_written offset value lanes d = written_of (owner_of offset) offset value lanes d
 
-unfoldable pub half_written : ℕ → ℕ → ℕ → Devices → Devices
-half_written offset value lanes d =
-    written_of (owner_of offset) offset (merged (half_kept offset d) value lanes) lanes d
+-- the same of the bytes that are written alone: the halfword's others are as they are kept
+abbrev pub half_written : ℕ → ℕ → ℕ → Devices → Devices
+half_written offset value lanes d = put_by half_kept whole_written offset value lanes d
 
--- What an access reads. Wider ones are their halfwords, the lower first.
+-- what an access reads
 abbrev pub io_loaded : ℕ → Width → Devices → ℕ
-io_loaded offset Byte d = field (half_read (offset - offset % 2) d) (8 * (offset % 2)) 8
-io_loaded offset Half d = half_read (offset - offset % 2) d
-io_loaded offset Word d = half_read (offset - offset % 4) d + 2 ^ 16 * half_read (offset - offset % 4 + 2) d
+io_loaded offset width d = loaded_by_halves (λ place. half_read place d) offset width
 
--- A word that is written at 0A0h or 0A4h goes into queue A or B; narrower writes there are dropped (this project's
--- profile).
-abbrev pub is_queue : ℕ → Bool
-is_queue offset = (offset == 0x0a0) || (offset == 0x0a4)
+-- The queue that an access writes: words at 0A0h go into queue A, 0, and those at 0A4h into queue B, 1. Narrower writes there
+-- are dropped (this project's profile).
+abbrev pub queue_of : ℕ → Width → Option ℕ
+queue_of offset Word =
+    if offset - offset % 4 == 0x0a0 then Some 0
+    else if offset - offset % 4 == 0x0a4 then Some 1
+    else None
+queue_of offset width = None
 
-abbrev pub queue_of : ℕ → ℕ
-queue_of offset = if offset == 0x0a0 then 0 else 1
+-- what an access leaves
+abbrev pub stored_in : Option ℕ → ℕ → Width → ℕ → Devices → Devices
+stored_in (Some queue) offset width value d = record d { sound = after_word queue (field value 0 32) d.sound }
+stored_in None offset width value d = written_by_halves half_written offset width value d
 
-abbrev pub halves_written : ℕ → ℕ → Devices → Devices
-halves_written offset value d =
-    half_written (offset + 2) (field value 16 16) 0xffff (half_written offset (field value 0 16) 0xffff d)
-
-abbrev pub word_written : ℕ → ℕ → Devices → Devices
-word_written offset value d =
-    if is_queue offset
-    then record d { sound = after_word (queue_of offset) (field value 0 32) d.sound }
-    else halves_written offset value d
-
--- what an access of this width leaves
 abbrev pub io_stored : ℕ → Width → ℕ → Devices → Devices
-io_stored offset Byte value d =
-    if offset % 2 == 0 then half_written offset (field value 0 8) 0x00ff d
-    else half_written (offset - 1) (2 ^ 8 * field value 0 8) 0xff00 d
-io_stored offset Half value d = half_written (offset - offset % 2) (field value 0 16) 0xffff d
-io_stored offset Word value d = word_written (offset - offset % 4) value d
+io_stored offset width value d = stored_in (queue_of offset width) offset width value d

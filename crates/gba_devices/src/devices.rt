@@ -11,6 +11,7 @@ use gba_bus::Width;
 use gba_dma::{Channel, Unit};
 use gba_ppu_reg::{PictureRegisters, Position, Reference};
 use gba_psg::{Tone, Tones};
+use gba_register::load;
 use gba_timer::{Timer, Timers};
 use std::marker::Model;
 
@@ -323,7 +324,7 @@ impl Devices {
         self.debt = 0;
         self.horizon = self.set.quiet();
         self.silence = self.horizon.min(self.set.pairless());
-        self.set.load(offset, width)
+        load(&self.set, offset, width)
     }
 
     /// Writes the low bits of a value, as many as the width has, at an offset from 04000000h, which is below 400h.

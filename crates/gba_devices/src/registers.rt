@@ -1,7 +1,9 @@
-//! Whose halfword an offset is, and how bytes make halfwords.
+//! Whose halfword an offset is, and which words go into the sound queues.
 
-ghost use Rattle.std.specs.Prelude.{◌≡◌};
-ghost use Rattle.gba_devices.specs.Registers.{merged, owner_of};
+ghost use Rattle.std.specs.Prelude.{◌≡◌, ◌<◌, IfSome};
+ghost use Rattle.gba_devices.specs.Registers.{owner_of, queue_of};
+
+use gba_bus::Width;
 
 /// Which device a halfword of the I/O registers belongs to.
 #[derive(Clone, Copy, Debug, PartialEq, Eq)]
@@ -48,9 +50,17 @@ pub(crate) fn owner_of(offset: u32) -> Owner
     }
 }
 
-/// A halfword of which the bits in `lanes` are written, and the others are kept.
-pub(crate) fn merged(kept: u16, value: u16, lanes: u16) -> u16
-    ensures { result ≡ merged kept value lanes }
+/// The sound queue that an access writes, A or B as 0 or 1: those of words at 0A0h and at 0A4h.
+pub(crate) fn queue_of(offset: u32, width: Width) -> Option<u32>
+    ensures value { result ≡ queue_of offset width }
+    ensures few { IfSome result (λ queue. queue < 2) }
 {
-    kept & !lanes | value & lanes
+    match width {
+        Width::Word => match offset - offset % 4 {
+            0x0A0 => Some(0),
+            0x0A4 => Some(1),
+            _ => None,
+        },
+        _ => None,
+    }
 }

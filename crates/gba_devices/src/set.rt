@@ -7,12 +7,13 @@ ghost use Rattle.gba_register.specs.Rows.{row_at};
 use crate::laws::skips_cycles;
 use crate::parts::DeviceParts;
 use crate::place::{FARTHEST, Place};
-use crate::registers::{Owner, merged, owner_of};
+use crate::registers::{Owner, owner_of, queue_of};
 use gba_bus::Width;
 use gba_dma::{Channel, Channels, DmaEvent, Unit};
 use gba_irq::{Halt, Interrupts, Keypad};
 use gba_ppu_reg::{PictureRegisters, Position, Reference};
 use gba_psg::Tones;
+use gba_register::{Halfwords, store};
 use gba_sound::Queues;
 use gba_timer::{Timer, Timers};
 use gba_word::{bit, bits};
@@ -89,7 +90,6 @@ impl Model for DeviceSet {
 impl DeviceSet {
     ghost use Rattle.std.specs.Prelude.{◌≡◌, ◌+◌, ◌*◌, ◌^◌, ◌≤◌, ◌<◌, true, ◌||◌, bit_or, length, IfSome};
     ghost use Rattle.gba_terms.specs.Bits.{bit};
-    ghost use Rattle.gba_bus.specs.declared.width.Width.TheVariants.{Byte};
     ghost use Rattle.gba_dma.specs.Channels.{channel_at, next_unit};
     ghost use Rattle.gba_irq.specs.Interrupts.{is_pending, with_request, with_request_if};
     ghost use Rattle.gba_ppu_reg.specs.Position.{IsPosition, after_cycles as place_after};
@@ -100,7 +100,7 @@ impl DeviceSet {
     ghost use Rattle.gba_timer.specs.Timers.{requests};
     ghost use Rattle.gba_devices.specs.Cycles.{asked_by, at_hblank, at_line, at_place, device_cycle, pairless, placed, quiet, rung, skipped, sounded, status_of, with_timer_requests};
     ghost use Rattle.gba_devices.specs.Parts.{devices_of};
-    ghost use Rattle.gba_devices.specs.Registers.{half_kept, half_read, half_stored, half_written, halves_written, io_loaded, io_stored, keyed, owner_of as owner_in, read_of, stored_of, with_key_control, word_written};
+    ghost use Rattle.gba_devices.specs.Registers.{half_stored, io_stored, keyed, owner_of as owner_in, stored_of, with_key_control};
     ghost use Rattle.gba_devices.specs.Samples.{left_sample, right_sample};
     ghost use Rattle.gba_devices.specs.State.{after_dma_unit, asks_entry, begun, devices_at_reset, is_calm, is_idle, rested, woken};
 
@@ -372,45 +372,6 @@ impl DeviceSet {
         self.request_if(rose, 12);
     }
 
-    /// What a halfword reads.
-    #[tactic(auto, unfolding(crate::specs::Registers::half_read))]
-    fn half_read(&self, offset: u32) -> u16
-        ensures value { result ≡ half_read offset self.now }
-        ensures whole { result ≡ read_of (owner_in offset) offset self.now }
-    {
-        match owner_of(offset) {
-            Owner::PictureBlock => self.picture.read_at(offset, &self.place.at()),
-            Owner::ToneBlock => self.tones.read(offset),
-            Owner::SoundBlock => self.queues.read(offset) | self.tones.read(offset),
-            Owner::DmaBlock => self.channels.read(offset),
-            Owner::TimerBlock => self.timers.read(offset),
-            Owner::KeyBlock => self.keypad.read(offset),
-            Owner::InterruptBlock => self.interrupts.read(offset),
-            Owner::WaitControl => self.waits & wait_bits(),
-            Owner::PostFlag => u16::from(self.posted) & post_bits(),
-            Owner::Nobody => 0,
-        }
-    }
-
-    /// What a write of one byte keeps of the halfword's other byte.
-    #[tactic(auto, unfolding(crate::specs::Registers::half_kept))]
-    fn half_kept(&self, offset: u32) -> u16
-        ensures { result ≡ half_kept offset self.now }
-    {
-        match owner_of(offset) {
-            Owner::PictureBlock => self.picture.kept(offset),
-            Owner::ToneBlock => self.tones.kept(offset),
-            Owner::SoundBlock => self.queues.read(offset),
-            Owner::DmaBlock => self.channels.kept(offset),
-            Owner::TimerBlock => self.timers.kept(offset),
-            Owner::KeyBlock => self.keypad.read(offset),
-            Owner::InterruptBlock => self.interrupts.kept(offset),
-            Owner::WaitControl => self.waits,
-            Owner::PostFlag => u16::from(self.posted),
-            Owner::Nobody => 0,
-        }
-    }
-
     /// What is stored at a halfword of the picture's registers while the picture is at a place, and of bits that are only
     /// read what they read.
     pub(crate) fn picture_stored(&self, offset: u32, at: &Position) -> u16
@@ -468,97 +429,15 @@ impl DeviceSet {
         self.tones.write(offset, value);
     }
 
-    /// Writes the bytes of a halfword that `lanes` has.
-    #[tactic(auto, unfolding(crate::specs::Registers::half_written))]
-    fn half_write(&mut self, offset: u32, value: u16, lanes: u16)
-        ensures { self.new ≡ half_written offset value lanes self.old }
-    {
-        let value = merged(self.half_kept(offset), value, lanes);
-        match owner_of(offset) {
-            Owner::PictureBlock => self.picture.write(offset, value),
-            Owner::ToneBlock => self.tones.write(offset, value),
-            Owner::SoundBlock => self.write_sound(offset, value),
-            Owner::DmaBlock => self.channels.write(offset, value),
-            Owner::TimerBlock => self.timers.write(offset, value),
-            Owner::KeyBlock => {
-                if offset == 0x132 {
-                    self.control_keys(value);
-                }
-            }
-            Owner::InterruptBlock => self.interrupts.write(offset, value),
-            Owner::WaitControl => self.waits = value & wait_bits(),
-            Owner::PostFlag => self.write_post(value, lanes),
-            Owner::Nobody => {}
-        }
-    }
-
-    /// What an access reads.
-    pub(crate) fn load(&self, offset: u32, width: Width) -> u32
-        requires { offset < 0x400 }
-        ensures { result ≡ io_loaded offset width self.now }
-    {
-        match width {
-            Width::Byte => bits(
-                u32::from(self.half_read(offset - offset % 2)),
-                8 * (offset % 2),
-                8,
-            ),
-            Width::Half => u32::from(self.half_read(offset - offset % 2)),
-            Width::Word => {
-                let low = u32::from(self.half_read(offset - offset % 4));
-                let high = u32::from(self.half_read(offset - offset % 4 + 2));
-                low + 0x1_0000 * high
-            }
-        }
-    }
-
-    /// Writes a byte.
-    fn store_byte(&mut self, offset: u32, value: u32)
-        requires { offset < 0x400 }
-        ensures { self.new ≡ io_stored offset Byte value self.old }
-    {
-        let byte = bits(value, 0, 8) as u16;
-        if offset % 2 == 0 {
-            self.half_write(offset, byte, 0x00FF);
-        } else {
-            self.half_write(offset - 1, 0x100 * byte, 0xFF00);
-        }
-    }
-
-    /// Writes a word as two halfwords, the lower first.
-    fn store_halves(&mut self, offset: u32, value: u32)
-        requires { offset < 0x400 }
-        ensures { self.new ≡ halves_written offset value self.old }
-    {
-        self.half_write(offset, bits(value, 0, 16) as u16, 0xFFFF);
-        self.half_write(offset + 2, bits(value, 16, 16) as u16, 0xFFFF);
-    }
-
-    /// Writes a word at an aligned offset, which goes into a queue at its address.
-    fn store_word(&mut self, offset: u32, value: u32)
-        requires { offset < 0x400 }
-        ensures { self.new ≡ word_written offset value self.old }
-    {
-        match offset {
-            0x0A0 => {
-                self.queues.push_word(0, value);
-            }
-            0x0A4 => {
-                self.queues.push_word(1, value);
-            }
-            _ => self.store_halves(offset, value),
-        }
-    }
-
-    /// Writes the low bits of a value, as many as the width has.
+    /// Writes the low bits of a value, as many as the width has. A word that is a queue's goes into it.
     pub(crate) fn store(&mut self, offset: u32, width: Width, value: u32)
-        requires { offset < 0x400 }
         ensures { self.new ≡ io_stored offset width value self.old }
     {
-        match width {
-            Width::Byte => self.store_byte(offset, value),
-            Width::Half => self.half_write(offset - offset % 2, bits(value, 0, 16) as u16, 0xFFFF),
-            Width::Word => self.store_word(offset - offset % 4, value),
+        match queue_of(offset, width) {
+            Some(queue) => {
+                self.queues.push_word(queue, value);
+            }
+            None => store(self, (), offset, width, value),
         }
     }
 
@@ -701,5 +580,77 @@ impl DeviceSet {
         self.timers.skip(count);
         self.tones.advance(count);
         self.place.skip(count);
+    }
+}
+
+impl Halfwords for DeviceSet {
+    ghost use Rattle.std.specs.Prelude.{⊤};
+    ghost use Rattle.gba_devices.specs.Registers.{half_kept, half_read, whole_written};
+    ghost use Rattle.gba_devices.specs.State.{Devices};
+
+    type Moment = ();
+
+    ghost State = { Devices };
+
+    ghost state = { λ d. d };
+
+    ghost read_of = { half_read };
+
+    ghost kept_of = { half_kept };
+
+    ghost can_write = { λ _. ⊤ };
+
+    ghost write_of = { λ _. whole_written };
+
+    #[tactic(auto, unfolding(crate::specs::Registers::half_read))]
+    fn half_read(&self, offset: u32) -> u16 {
+        match owner_of(offset) {
+            Owner::PictureBlock => self.picture.read_at(offset, &self.place.at()),
+            Owner::ToneBlock => self.tones.read(offset),
+            Owner::SoundBlock => self.queues.read(offset) | self.tones.read(offset),
+            Owner::DmaBlock => self.channels.read(offset),
+            Owner::TimerBlock => self.timers.read(offset),
+            Owner::KeyBlock => self.keypad.read(offset),
+            Owner::InterruptBlock => self.interrupts.read(offset),
+            Owner::WaitControl => self.waits & wait_bits(),
+            Owner::PostFlag => u16::from(self.posted) & post_bits(),
+            Owner::Nobody => 0,
+        }
+    }
+
+    #[tactic(auto, unfolding(crate::specs::Registers::half_kept))]
+    fn half_kept(&self, offset: u32) -> u16 {
+        match owner_of(offset) {
+            Owner::PictureBlock => self.picture.kept(offset),
+            Owner::ToneBlock => self.tones.kept(offset),
+            Owner::SoundBlock => self.queues.read(offset),
+            Owner::DmaBlock => self.channels.kept(offset),
+            Owner::TimerBlock => self.timers.kept(offset),
+            Owner::KeyBlock => self.keypad.read(offset),
+            Owner::InterruptBlock => self.interrupts.kept(offset),
+            Owner::WaitControl => self.waits,
+            Owner::PostFlag => u16::from(self.posted),
+            Owner::Nobody => 0,
+        }
+    }
+
+    #[tactic(auto, unfolding(crate::specs::Registers::whole_written))]
+    fn half_write(&mut self, _: (), offset: u32, value: u16, lanes: u16) {
+        match owner_of(offset) {
+            Owner::PictureBlock => self.picture.write(offset, value),
+            Owner::ToneBlock => self.tones.write(offset, value),
+            Owner::SoundBlock => self.write_sound(offset, value),
+            Owner::DmaBlock => self.channels.write(offset, value),
+            Owner::TimerBlock => self.timers.write(offset, value),
+            Owner::KeyBlock => {
+                if offset == 0x132 {
+                    self.control_keys(value);
+                }
+            }
+            Owner::InterruptBlock => self.interrupts.write(offset, value),
+            Owner::WaitControl => self.waits = value & wait_bits(),
+            Owner::PostFlag => self.write_post(value, lanes),
+            Owner::Nobody => {}
+        }
     }
 }

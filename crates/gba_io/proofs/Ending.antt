@@ -1,12 +1,11 @@
 -- There is room for all transfers that end.
-use Rattle.std.proofs.Common.{◌≡◌, ℕ, ◌+◌, ◌-◌, ◌*◌, ◌%◌, ◌^◌, ◌<◌, ◌≤◌, Bool, true, false, Option, None, Some, ◌⊎◌, inl, inr, refl, ◌∙◌, arith, if◌then◌else◌}
-use Rattle.std.specs.Prelude.{◌==◌, nat_le}
+use Rattle.std.proofs.Common.{◌≡◌, ℕ, ◌+◌, ◌-◌, ◌*◌, ◌^◌, ◌<◌, ◌≤◌, Bool, true, false, Option, None, Some, ◌⊎◌, inl, inr, refl, ◌∙◌, arith, if◌then◌else◌}
+use Rattle.std.specs.Prelude.{nat_le}
 use Rattle.std.proofs.lemmas.Bool.Decides.{nat_tests}
-use Rattle.gba_terms.specs.Bits.{field}
 use Rattle.gba_bus.specs.Regions.{region_of}
 use Rattle.gba_bus.specs.declared.width.Width.{Width}
-use Rattle.gba_bus.specs.declared.width.Width.TheVariants.{Byte, Half, Word}
-use Rattle.gba_devices.specs.Registers.{merged}
+use Rattle.gba_register.specs.Accesses.{merged}
+use Rattle.gba_register.proofs.Accesses.{written-keeps}
 use Rattle.gba_io.specs.Base.{words_from}
 use Rattle.gba_io.specs.Bus.{core_written, io_offset, is_io, register_stored}
 use Rattle.gba_io.specs.Cable.{AreApart, EndsFit, EndsStayFit, NextEndFits, WritesKeepEnds, board_ended, board_taken}
@@ -24,16 +23,6 @@ use Rattle.gba_serial.specs.Take.{taken}
 use Rattle.gba_serial.specs.declared.transfer.Running.{Running}
 use Rattle.gba_serial.specs.declared.transfer.Transfer.{Transfer}
 use Rattle.link_node.specs.declared.signal.Incoming.{Incoming}
-
-either-next : (bound : ℕ) (test : Bool) (one other : SerialUnit) → bound ≤ next_end one → bound ≤ next_end other
-    → bound ≤ next_end (if test then one else other)
-either-next bound true one other a b = a
-either-next bound false one other a b = b
-
-either-count : (count : ℕ) (test : Bool) (one other : SerialUnit) → one.count ≡ count → other.count ≡ count
-    → (if test then one else other).count ≡ count
-either-count count true one other a b = a
-either-count count false one other a b = b
 
 either-core : (P : SerialUnit → Type 0) (test : Bool) (one other : Core) → P one.serial → P other.serial
     → P (if test then one else other).serial
@@ -54,25 +43,18 @@ module _ (apart : EndsApart) (seats : StaysSeated) where
 
   stored-count : (clock offset : ℕ) (width : Width) (value : ℕ) (u : SerialUnit)
       → (serial_stored_at clock offset width value u).count ≡ u.count
-  stored-count clock offset Byte value u =
-      either-count u.count (offset % 2 == 0) _ _ (put-count clock offset _ _ u) (put-count clock (offset - 1) _ _ u)
-  stored-count clock offset Half value u = put-count clock (offset - offset % 2) _ _ u
-  stored-count clock offset Word value u =
-      put-count clock (offset - offset % 4 + 2) _ _ _ ∙ put-count clock (offset - offset % 4) _ _ u
+  stored-count clock offset width value u =
+      written-keeps (λ v. v.count ≡ u.count) (serial_put clock)
+      (λ place bits lanes v before. put-count clock place bits lanes v ∙ before) offset width value u refl
 
   stored-next : (clock offset : ℕ) (width : Width) (value bound : ℕ) (u : SerialUnit) → 1 ≤ u.count
       → bound ≤ clock + 512 → bound ≤ next_end u → bound ≤ next_end (serial_stored_at clock offset width value u)
-  stored-next clock offset Byte value bound u one soon before =
-      either-next bound (offset % 2 == 0) _ _
-      (put-next clock offset _ _ bound u one soon before) (put-next clock (offset - 1) _ _ bound u one soon before)
-  stored-next clock offset Half value bound u one soon before =
-      put-next clock (offset - offset % 2) _ _ bound u one soon before
-  stored-next clock offset Word value bound u one soon before =
-      let low = offset - offset % 4 in
-      let first = serial_put clock low (field value 0 16) 0xffff u in
-      let same = put-count clock low (field value 0 16) 0xffff u in
-      put-next clock (low + 2) (field value 16 16) 0xffff bound first (omega (arith, same)) soon
-      (put-next clock low (field value 0 16) 0xffff bound u one soon before)
+  stored-next clock offset width value bound u one soon before =
+      (written-keeps (λ v. (1 ≤ v.count) × (bound ≤ next_end v)) (serial_put clock)
+      (λ place bits lanes v kept.
+      let same = put-count clock place bits lanes v in
+      (omega (arith, same, kept.0), put-next clock place bits lanes bound v kept.0 soon kept.1))
+      offset width value u (one, before)).1
 
   register-count : (offset : ℕ) (width : Width) (value : ℕ) (c : Core)
       → (register_stored offset width value c).serial.count ≡ c.serial.count

@@ -4,13 +4,14 @@ use Rattle.gba_bus.specs.PriceLaws.{price-within}
 use Rattle.gba_bus.specs.Regions.{region_of}
 use Rattle.gba_bus.specs.Widths.{FitsWidth}
 use Rattle.gba_bus.specs.declared.width.Width.{Width}
-use Rattle.gba_devices.specs.Fits.{reads-fit}
-use Rattle.gba_devices.specs.Registers.{io_loaded}
+use Rattle.gba_devices.specs.Registers.{half_read, io_loaded}
 use Rattle.gba_mem.specs.Fits.{load-fits}
 use Rattle.gba_mem.specs.Loads.{load}
+use Rattle.gba_register.specs.Fits.{loads-fit}
+use Rattle.gba_serial.specs.Registers.{serial_read}
 use Rattle.gba_io.specs.Core.{Core}
 use Rattle.gba_io.specs.Bus.{core_code, core_load, core_price, core_read, core_store, io_offset, is_io, register_loaded}
-use Rattle.gba_io.specs.SerialRegisters.{is_serial, serial-fits, serial_loaded}
+use Rattle.gba_io.specs.SerialRegisters.{is_serial, serial_loaded}
 
 -- That a core keeps what every bus keeps, for the laws of the trait.
 
@@ -33,7 +34,8 @@ register-fits : (offset : ℕ) (width : Width) (b : Core) → FitsWidth width (r
 unfolding register_loaded
 register-fits offset width b =
     either-fits (is_serial offset) width (serial_loaded offset width b.serial) (io_loaded offset width b.devices)
-    (serial-fits offset width b.serial) (reads-fit offset width b.devices)
+    (loads-fit (λ place. serial_read place b.serial) offset width)
+    (loads-fit (λ place. half_read place b.devices) offset width)
 
 read-fits : (b : Core) (from address : ℕ) (width : Width) → FitsWidth width (core_read b from address width)
 unfolding core_read

@@ -7,9 +7,10 @@ ghost use Rattle.gba_mem.specs.Loads.{is_bios, is_inner, is_rom};
 
 use crate::Core;
 use crate::parts::is_calm;
-use crate::serial::{self, is_serial};
+use crate::serial::is_serial;
 use gba_bus::{Bus, Region, Width, region_of};
 use gba_devices::laws::writes_keep;
+use gba_register::{load, store};
 
 /// What an access to the inner RAM costs, of any kind: it is quick enough to be told without a look at the prices.
 const INNER_PRICE: u32 = 1;
@@ -76,14 +77,14 @@ impl Core {
         ensures same { self.new ≡ self.old }
     {
         if is_serial(offset) {
-            serial::load(&self.serial, offset, width)
+            load(&self.serial, offset, width)
         } else {
             self.devices.load(offset, width)
         }
     }
 
     /// Writes a register. The serial unit's are written at the clock of the step.
-    #[tactic(auto, unfolding(crate::specs::Bus::register_stored))]
+    #[tactic(auto, unfolding(crate::specs::Bus::register_stored, crate::specs::SerialRegisters::serial_put))]
     fn store_register(&mut self, offset: u32, width: Width, value: u32)
         requires { offset < 0x400 }
         ensures { self.new ≡ register_stored offset width value self.old }
@@ -91,7 +92,7 @@ impl Core {
         writes_keep();
         if is_serial(offset) {
             let clock = self.devices.clock();
-            serial::store(&mut self.serial, clock, offset, width, value);
+            store(&mut self.serial, clock, offset, width, value);
         } else {
             self.devices.store(offset, width, value);
         }

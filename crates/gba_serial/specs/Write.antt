@@ -98,3 +98,7 @@ put_at clock offset bits u =
 -- what a halfword write at a clock leaves
 abbrev pub written : ℕ → ℕ → ℕ → SerialUnit → SerialUnit
 written clock offset value u = put_at clock offset (bit_and value (row_at serial_rows offset).write_mask) u
+
+-- the same, whichever of the halfword's bytes the access covers
+abbrev pub half_written : ℕ → ℕ → ℕ → ℕ → SerialUnit → SerialUnit
+half_written clock offset value lanes u = written clock offset value u

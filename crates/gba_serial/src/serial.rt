@@ -1,6 +1,7 @@
 //! One console's serial unit.
 
 mod ending;
+mod halfwords;
 mod making;
 mod numbers;
 mod registers;
