@@ -4,6 +4,7 @@ use Rattle.std.specs.Int.{w32, rotate_left}
 use Rattle.std.specs.Str.{bytes_eq}
 use Rattle.gba_word.specs.declared.kinds.Shift.{Shift}
 use Rattle.gba_word.specs.declared.kinds.Shift.TheVariants.{Lsl, Lsr, Asr, Ror}
+use Rattle.gba_word.specs.Weights.{weight}
 use Rattle.gba_arm_table.specs.declared.operation.Operand.{Operand}
 use Rattle.gba_arm_table.specs.declared.operation.Operand.TheVariants as operand
 use Rattle.gba_arm_table.specs.declared.operation.Source.{Source}
@@ -118,9 +119,6 @@ abbrev pub past_letter : ℕ → List ℕ → List ℕ
 past_letter letter [] = []
 past_letter letter (first ∷ letters) = if first == letter then letters else first ∷ letters
 
-abbrev pub weight : Bool → ℕ → ℕ
-weight set number = if set then number else 0
-
 abbrev pub ended : ℕ → List ℕ → Option ℕ
 ended fields [] = if fields == 0 then None else Some fields
 ended fields (_ ∷ _) = None
@@ -128,16 +126,16 @@ ended fields (_ ∷ _) = None
 -- The fields that letters name: `f` (102), `s` (115), `x` (120) and `c` (99) in this order, each at most once and at
 -- least one of them.
 abbrev pub fields_c : ℕ → List ℕ → Option ℕ
-fields_c fields letters = ended (fields + weight (has_letter 99 letters) 1) (past_letter 99 letters)
+fields_c fields letters = ended (fields + weight 1 (has_letter 99 letters)) (past_letter 99 letters)
 
 abbrev pub fields_x : ℕ → List ℕ → Option ℕ
-fields_x fields letters = fields_c (fields + weight (has_letter 120 letters) 2) (past_letter 120 letters)
+fields_x fields letters = fields_c (fields + weight 2 (has_letter 120 letters)) (past_letter 120 letters)
 
 abbrev pub fields_s : ℕ → List ℕ → Option ℕ
-fields_s fields letters = fields_x (fields + weight (has_letter 115 letters) 4) (past_letter 115 letters)
+fields_s fields letters = fields_x (fields + weight 4 (has_letter 115 letters)) (past_letter 115 letters)
 
 unfoldable pub fields_of : List ℕ → Option ℕ
-fields_of letters = fields_s (weight (has_letter 102 letters) 8) (past_letter 102 letters)
+fields_of letters = fields_s (weight 8 (has_letter 102 letters)) (past_letter 102 letters)
 
 -- whether a word names the SPSR, and not the CPSR
 unfoldable pub saved_of : List ℕ → Option Bool

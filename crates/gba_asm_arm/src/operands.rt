@@ -2,11 +2,11 @@
 
 ghost use Rattle.std.specs.Prelude.{◌≡◌, ◌≤◌, ◌<◌, ◌+◌, ◌^◌, IfSome, Some, option_map};
 ghost use Rattle.gba_text.specs.Answers.{Takes};
-ghost use Rattle.gba_asm_arm.specs.Operands.{amount_from_0 as amount_from_0_of, amount_from_1 as amount_from_1_of, amount_of, ended as ended_of, fields_c as fields_c_of, fields_of, fields_s as fields_s_of, fields_x as fields_x_of, has_letter, immediate_operand as immediate_operand_of, immediate_source as immediate_source_of, next_second_at, past_letter, register_operand, saved_at, saved_of, second_at, shift_name_at, shift_name_of, shifted_as, shifted_by, source_at, status_at, status_by, status_of, least_turn as least_turn_of, weight as weight_of};
+ghost use Rattle.gba_asm_arm.specs.Operands.{amount_from_0 as amount_from_0_of, amount_from_1 as amount_from_1_of, amount_of, ended as ended_of, fields_c as fields_c_of, fields_of, fields_s as fields_s_of, fields_x as fields_x_of, has_letter, immediate_operand as immediate_operand_of, immediate_source as immediate_source_of, next_second_at, past_letter, register_operand, saved_at, saved_of, second_at, shift_name_at, shift_name_of, shifted_as, shifted_by, source_at, status_at, status_by, status_of, least_turn as least_turn_of};
 
 use gba_arm_table::{Operand, Source};
 use gba_asm_words::{AsmKind, Tokens};
-use gba_word::Shift;
+use gba_word::{Shift, weight_byte};
 
 /// Eight bits, and half of what they are rotated right by.
 #[derive(Clone, Copy)]
@@ -230,13 +230,6 @@ fn split_letter(letter: u8, letters: &[u8]) -> (bool, &[u8])
     }
 }
 
-fn weight(set: bool, number: u8) -> u8
-    ensures value { result ≡ weight_of set number }
-    ensures most { result ≤ number }
-{
-    if set { number } else { 0 }
-}
-
 fn ended(fields: u8, letters: &[u8]) -> Option<u8>
     ensures { result ≡ ended_of fields letters.now }
 {
@@ -251,7 +244,7 @@ fn fields_c(fields: u8, letters: &[u8]) -> Option<u8>
     ensures { result ≡ fields_c_of fields letters.now }
 {
     let (has, rest) = split_letter(b'c', letters);
-    ended(fields + weight(has, 1), rest)
+    ended(fields + weight_byte(1, has), rest)
 }
 
 fn fields_x(fields: u8, letters: &[u8]) -> Option<u8>
@@ -259,7 +252,7 @@ fn fields_x(fields: u8, letters: &[u8]) -> Option<u8>
     ensures { result ≡ fields_x_of fields letters.now }
 {
     let (has, rest) = split_letter(b'x', letters);
-    fields_c(fields + weight(has, 2), rest)
+    fields_c(fields + weight_byte(2, has), rest)
 }
 
 fn fields_s(fields: u8, letters: &[u8]) -> Option<u8>
@@ -267,7 +260,7 @@ fn fields_s(fields: u8, letters: &[u8]) -> Option<u8>
     ensures { result ≡ fields_s_of fields letters.now }
 {
     let (has, rest) = split_letter(b's', letters);
-    fields_x(fields + weight(has, 4), rest)
+    fields_x(fields + weight_byte(4, has), rest)
 }
 
 /// The fields that letters name.
@@ -276,7 +269,7 @@ fn fields_in(letters: &[u8]) -> Option<u8>
     ensures { result ≡ fields_of letters.now }
 {
     let (has, rest) = split_letter(b'f', letters);
-    fields_s(weight(has, 8), rest)
+    fields_s(weight_byte(8, has), rest)
 }
 
 #[tactic(auto, unfolding(crate::specs::Operands::saved_of))]

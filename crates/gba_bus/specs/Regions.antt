@@ -1,4 +1,4 @@
-use Rattle.std.specs.Prelude.{ℕ, ◌/◌, ◌^◌, ◌==◌, nat_lt, if◌then◌else◌}
+use Rattle.std.specs.Prelude.{ℕ, Bool, true, false, ◌/◌, ◌^◌, ◌==◌, nat_lt, if◌then◌else◌}
 use Rattle.gba_bus.specs.declared.region.Region.{Region}
 use Rattle.gba_bus.specs.declared.region.Region.TheVariants.{Bios, Work, Inner, Io, Palette, Vram, Oam, Rom0, Rom1, Rom2, Sram, Other}
 
@@ -25,3 +25,26 @@ region_in_block block address =
 
 unfoldable pub region_of : ℕ → Region
 region_of address = region_in_block (address / 2 ^ 24) address
+
+-- whether a region is the BIOS, the inner RAM, the I/O registers, a view of the ROM, and that of the SRAM or the flash
+abbrev pub is_bios : Region → Bool
+is_bios Bios = true
+is_bios _ = false
+
+abbrev pub is_inner : Region → Bool
+is_inner Inner = true
+is_inner _ = false
+
+abbrev pub is_io : Region → Bool
+is_io Io = true
+is_io _ = false
+
+abbrev pub is_rom : Region → Bool
+is_rom Rom0 = true
+is_rom Rom1 = true
+is_rom Rom2 = true
+is_rom _ = false
+
+abbrev pub is_sram : Region → Bool
+is_sram Sram = true
+is_sram _ = false

@@ -10,7 +10,7 @@ mod region;
 mod width;
 
 pub use bus::Bus;
-pub use map::region_of;
+pub use map::{is_in_bios, is_in_inner, is_in_io, is_in_rom, region_of};
 pub use prices::{WaitControl, price};
 pub use region::Region;
 pub use width::Width;

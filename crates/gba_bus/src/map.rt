@@ -1,7 +1,7 @@
 //! Which region an address belongs to.
 
 ghost use Rattle.std.specs.Prelude.{◌≡◌};
-ghost use Rattle.gba_bus.specs.Regions.{region_of};
+ghost use Rattle.gba_bus.specs.Regions.{is_bios, is_inner, is_io, is_rom, region_of};
 
 use crate::Region;
 
@@ -35,5 +35,45 @@ pub fn region_of(address: u32) -> Region
         0xC | 0xD => Region::Rom2,
         0xE | 0xF => Region::Sram,
         _ => Region::Other,
+    }
+}
+
+/// Whether an address is in the BIOS.
+#[tactic(auto, unfolding(crate::specs::Regions::region_of))]
+#[inline]
+pub fn is_in_bios(address: u32) -> bool
+    ensures { result ≡ is_bios (region_of address) }
+{
+    address < 0x4000
+}
+
+/// Whether an address is in the inner RAM.
+#[tactic(auto, unfolding(crate::specs::Regions::region_of))]
+#[inline]
+pub fn is_in_inner(address: u32) -> bool
+    ensures { result ≡ is_inner (region_of address) }
+{
+    address >> 24 == 0x3
+}
+
+/// Whether an address is one of the I/O registers.
+pub fn is_in_io(address: u32) -> bool
+    ensures { result ≡ is_io (region_of address) }
+{
+    match region_of(address) {
+        Region::Io => true,
+        _ => false,
+    }
+}
+
+/// Whether an address is in a view of the ROM.
+#[tactic(auto, unfolding(crate::specs::Regions::region_of))]
+#[inline]
+pub fn is_in_rom(address: u32) -> bool
+    ensures { result ≡ is_rom (region_of address) }
+{
+    match address >> 24 {
+        0x8..=0xD => true,
+        _ => false,
     }
 }

@@ -3,7 +3,7 @@ use Rattle.std.proofs.Common.{ℕ, ◌≡◌, ◌+◌, Bool, true, false, List, 
 use Rattle.std.proofs.Math.Seq.{take-append_seam}
 use Rattle.std.specs.Prelude.{All, Option, None, Some, nat_le, nat_lt}
 use Rattle.gba_terms.specs.Bits.{field}
-use Rattle.gba_bus.specs.Regions.{region_of}
+use Rattle.gba_bus.specs.Regions.{is_bios, is_io, region_of}
 use Rattle.gba_bus.specs.Widths.{aligned}
 use Rattle.gba_bus.specs.declared.region.Region.{Region}
 use Rattle.gba_bus.specs.declared.region.Region.TheVariants.{Bios, Work, Inner, Io, Palette, Vram, Oam, Rom0, Rom1, Rom2, Sram, Other}
@@ -17,12 +17,11 @@ use Rattle.gba_thumb_exec.proofs.Keeping.{kept-execution as kept-half_execution}
 use Rattle.gba_dma.specs.Channels.{next_unit}
 use Rattle.gba_dma.specs.declared.unit.Unit.{Unit as DmaUnit}
 use Rattle.gba_io.specs.Board.{BoardPasses, board_after}
-use Rattle.gba_io.specs.Bus.{core_load, core_price, core_read, core_store, core_written, io_offset, is_io, register_stored}
+use Rattle.gba_io.specs.Bus.{core_load, core_price, core_read, core_store, core_written, io_offset, register_stored}
 use Rattle.gba_io.specs.Core.{Core, core_keyed, core_woken}
 use Rattle.gba_io.specs.SerialRegisters.{is_serial}
 use Rattle.gba_io.specs.Units.{core_after_unit, unit_value}
 use Rattle.gba_io.specs.declared.board.Board.{Board}
-use Rattle.gba_mem.specs.Loads.{is_bios}
 use Rattle.gba_mem.specs.Memories.{Memories}
 use Rattle.gba_mem.specs.Places.{sprite_part, vram_place}
 use Rattle.gba_mem.specs.Stores.{store, stored_in, with_both, with_byte, with_byte_in, with_number}

@@ -2,7 +2,7 @@
 use Rattle.std.proofs.Common.{ℕ, ◌≡◌, ◌<◌, ◌≤◌, ◌-◌, ◌+◌, ◌*◌, ◌%◌, ◌^◌, Bool, true, false, List, [], ◌∷◌, Option, None, Some, refl, ap, sym, subst, ◌∙◌, arith, if◌then◌else◌}
 use Rattle.std.specs.Prelude.{◌==◌}
 use Rattle.gba_terms.specs.Bits.{field}
-use Rattle.gba_bus.specs.Regions.{region_of}
+use Rattle.gba_bus.specs.Regions.{is_io, region_of}
 use Rattle.gba_bus.specs.declared.width.Width.{Width}
 use Rattle.gba_bus.specs.declared.width.Width.TheVariants.{Byte, Half, Word}
 use Rattle.gba_register.specs.Accesses.{merged}
@@ -15,7 +15,7 @@ use Rattle.gba_exec_transfers.proofs.Keeping.{kept-word}
 use Rattle.gba_arm_exec.proofs.Keeping.{kept-execution as kept-word_execution}
 use Rattle.gba_thumb_exec.proofs.Keeping.{kept-execution as kept-half_execution}
 use Rattle.gba_io.specs.Board.{BoardPasses}
-use Rattle.gba_io.specs.Bus.{core_load, core_price, core_store, core_written, io_offset, is_io, register_stored}
+use Rattle.gba_io.specs.Bus.{core_load, core_price, core_store, core_written, io_offset, register_stored}
 use Rattle.gba_io.specs.Core.{Core, core_woken}
 use Rattle.gba_io.specs.SerialRegisters.{is_serial, serial_put, serial_stored_at}
 use Rattle.gba_io.specs.Units.{core_after_unit, unit_stored, unit_value}

@@ -3,7 +3,7 @@ use Rattle.gba_bus.specs.declared.region.Region.{Region}
 use Rattle.gba_bus.specs.declared.width.Width.TheVariants.{Half}
 use Rattle.gba_io.specs.Bus.{core_read}
 use Rattle.gba_io.specs.Core.{Core}
-use Rattle.gba_mem.specs.Loads.{is_bios, is_rom}
+use Rattle.gba_bus.specs.Regions.{is_bios, is_rom}
 use Rattle.gba_console.specs.declared.fixed.KeptHalf.{KeptHalf}
 
 -- What stands in the BIOS and in the ROM never changes. Only private functions cite these two.

@@ -1,5 +1,6 @@
-use Rattle.std.specs.Prelude.{ℕ, Bool, Option, None, Some, ◌-◌, ◌%◌, ◌^◌, ◌==◌, ◌||◌, nat_le, nat_lt, ◌&&◌, List, [], ◌∷◌, bit_and, bit_or, if◌then◌else◌}
+use Rattle.std.specs.Prelude.{ℕ, Option, None, Some, ◌-◌, ◌%◌, ◌^◌, ◌==◌, ◌||◌, nat_le, nat_lt, ◌&&◌, List, [], ◌∷◌, bit_and, bit_or, if◌then◌else◌}
 use Rattle.gba_terms.specs.Bits.{bit, field}
+use Rattle.gba_word.specs.Sums.{flag_number}
 use Rattle.gba_bus.specs.declared.width.Width.{Width}
 use Rattle.gba_bus.specs.declared.width.Width.TheVariants.{Word}
 use Rattle.gba_register.specs.Accesses.{loaded_by_halves, put_by, written_by_halves}
@@ -36,9 +37,6 @@ owner_of offset =
     else if offset == 0x300 then PostFlag
     else Nobody
 
-abbrev pub truth_number : Bool → ℕ
-truth_number set = if set then 1 else 0
-
 -- What a halfword reads. SOUNDCNT_H and SOUNDCNT_X are of direct sound and of the tone channels, each of which shows
 -- its bits.
 abbrev pub read_of : Owner → ℕ → Devices → ℕ
@@ -50,7 +48,7 @@ read_of TimerBlock offset d = timer_read offset d.timers
 read_of KeyBlock offset d = keypad_read offset d.keys
 read_of InterruptBlock offset d = interrupt_read offset d.interrupts
 read_of WaitControl offset d = bit_and d.waits (row_at system_rows 0x204).read_mask
-read_of PostFlag offset d = bit_and (truth_number d.posted) (row_at system_rows 0x300).read_mask
+read_of PostFlag offset d = bit_and (flag_number d.posted) (row_at system_rows 0x300).read_mask
 read_of Nobody offset d = 0
 
 unfoldable pub half_read : ℕ → Devices → ℕ
@@ -67,7 +65,7 @@ kept_of TimerBlock offset d = timer_kept offset d.timers
 kept_of KeyBlock offset d = keypad_read offset d.keys
 kept_of InterruptBlock offset d = interrupt_kept offset d.interrupts
 kept_of WaitControl offset d = d.waits
-kept_of PostFlag offset d = truth_number d.posted
+kept_of PostFlag offset d = flag_number d.posted
 kept_of Nobody offset d = 0
 
 unfoldable pub half_kept : ℕ → Devices → ℕ

@@ -1,5 +1,5 @@
 -- A run that goes on is one of an enabled channel, whatever the channel's other numbers are.
-use Rattle.std.proofs.Common.{◌≡◌, ℕ, Bool, true, false, arith}
+use Rattle.std.proofs.Common.{ℕ, Bool, true, false, arith}
 use Rattle.std.specs.Prelude.{if◌then◌else◌, nat_eq}
 use Rattle.gba_dma.specs.declared.channel.Channel.{Channel}
 use Rattle.gba_dma.specs.declared.event.DmaEvent.{DmaEvent}

@@ -1,7 +1,6 @@
 //! One channel.
 
 ghost use Rattle.std.specs.Prelude.{◌≡◌};
-ghost use Rattle.gba_bus.specs.Widths.{size as size_of};
 ghost use Rattle.gba_dma.specs.Channel.{moved as moved_by, with_high as high_replaced, with_low as low_replaced};
 
 use crate::{DmaEvent, Unit};
@@ -65,16 +64,6 @@ fn moved(step: u32, bytes: u32, address: u32) -> u32
         1 => address.wrapping_sub(bytes),
         2 => address,
         _ => address.wrapping_add(bytes),
-    }
-}
-
-fn size(width: Width) -> u32
-    ensures { result ≡ size_of width }
-{
-    match width {
-        Width::Byte => 1,
-        Width::Half => 2,
-        Width::Word => 4,
     }
 }
 
@@ -185,7 +174,7 @@ impl Channel {
         ensures { result ≡ next_source number self.now }
     {
         let step = bits(u32::from(self.control), 7, 2);
-        moved(step, size(self.unit_width(number)), self.inner_source)
+        moved(step, self.unit_width(number).size(), self.inner_source)
     }
 
     fn target_step(&self) -> u32
@@ -202,7 +191,7 @@ impl Channel {
         }
         moved(
             self.target_step(),
-            size(self.unit_width(number)),
+            self.unit_width(number).size(),
             self.inner_target,
         )
     }

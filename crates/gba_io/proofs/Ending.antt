@@ -2,12 +2,12 @@
 use Rattle.std.proofs.Common.{◌≡◌, ℕ, ◌+◌, ◌-◌, ◌*◌, ◌^◌, ◌<◌, ◌≤◌, Bool, true, false, Option, None, Some, ◌⊎◌, inl, inr, refl, ◌∙◌, arith, if◌then◌else◌}
 use Rattle.std.specs.Prelude.{nat_le}
 use Rattle.std.proofs.lemmas.Bool.Decides.{nat_tests}
-use Rattle.gba_bus.specs.Regions.{region_of}
+use Rattle.gba_bus.specs.Regions.{is_io, region_of}
 use Rattle.gba_bus.specs.declared.width.Width.{Width}
 use Rattle.gba_register.specs.Accesses.{merged}
 use Rattle.gba_register.proofs.Accesses.{written-keeps}
 use Rattle.gba_io.specs.Base.{words_from}
-use Rattle.gba_io.specs.Bus.{core_written, io_offset, is_io, register_stored}
+use Rattle.gba_io.specs.Bus.{core_written, io_offset, register_stored}
 use Rattle.gba_io.specs.Cable.{AreApart, EndsFit, EndsStayFit, NextEndFits, WritesKeepEnds, board_ended, board_taken}
 use Rattle.gba_io.specs.Core.{Core}
 use Rattle.gba_io.specs.Ended.{Ended, count_with}

@@ -1,10 +1,10 @@
 use Rattle.std.proofs.Common.{◌≡◌, ℕ, Bool, true, false, refl, if◌then◌else◌}
-use Rattle.gba_bus.specs.Regions.{region_of}
+use Rattle.gba_bus.specs.Regions.{is_io, region_of}
 use Rattle.gba_bus.specs.declared.width.Width.{Width}
 use Rattle.gba_devices.specs.Keeping.{WritesKeep}
 use Rattle.gba_devices.specs.State.{Devices, after_dma_unit}
 use Rattle.gba_io.specs.Core.{Core}
-use Rattle.gba_io.specs.Bus.{core_written, io_offset, is_io, register_stored}
+use Rattle.gba_io.specs.Bus.{core_written, io_offset, register_stored}
 use Rattle.gba_io.specs.SerialRegisters.{is_serial}
 use Rattle.gba_io.specs.Keeping.{IsSameTime, WritesKeepTime}
 

@@ -1,14 +1,14 @@
 use Rattle.std.proofs.Common.{◌≡◌, ℕ, Bool, true, false, refl}
 use Rattle.gba_bus.specs.Prices.{price}
-use Rattle.gba_bus.specs.Regions.{region_of}
+use Rattle.gba_bus.specs.Regions.{is_bios, is_inner, is_io, is_rom, region_of}
 use Rattle.gba_bus.specs.declared.region.Region.{Region}
 use Rattle.gba_bus.specs.declared.region.Region.TheVariants.{Bios, Inner, Rom0, Rom1, Rom2}
 use Rattle.gba_bus.specs.declared.width.Width.{Width}
 use Rattle.gba_ppu_reg.specs.Registers.{picture_mode}
-use Rattle.gba_mem.specs.Loads.{is_bios, is_inner, is_rom, load}
+use Rattle.gba_mem.specs.Loads.{load}
 use Rattle.gba_mem.specs.Stores.{store}
 use Rattle.gba_io.specs.Core.{Core}
-use Rattle.gba_io.specs.Bus.{core_read, core_written, is_io}
+use Rattle.gba_io.specs.Bus.{core_read, core_written}
 
 -- What is read and written where a test has told that an address is no register's.
 

@@ -1,9 +1,7 @@
-use Rattle.std.specs.Prelude.{ℕ, Bool, true, false, ◌-◌, if◌then◌else◌}
+use Rattle.std.specs.Prelude.{ℕ, ◌-◌, if◌then◌else◌}
 use Rattle.gba_bus.specs.Meanings.{Code, Load, Price, Store}
 use Rattle.gba_bus.specs.Prices.{price}
-use Rattle.gba_bus.specs.Regions.{region_of}
-use Rattle.gba_bus.specs.declared.region.Region.{Region}
-use Rattle.gba_bus.specs.declared.region.Region.TheVariants.{Io}
+use Rattle.gba_bus.specs.Regions.{is_io, region_of}
 use Rattle.gba_bus.specs.declared.width.Width.{Width}
 use Rattle.gba_devices.specs.Registers.{io_loaded, io_stored}
 use Rattle.gba_ppu_reg.specs.Registers.{picture_mode}
@@ -15,10 +13,6 @@ use Rattle.gba_io.specs.SerialRegisters.{is_serial, serial_loaded, serial_stored
 -- The core of a board as a bus (GBATEK, GBA Memory Map): the I/O registers are those of the devices and of the serial
 -- unit, and all else is memory, in whose VRAM the sprites' part begins where the picture's mode says. Prices are those of WAITCNT as it was at
 -- the start of the step (this project's profile).
-
-abbrev pub is_io : Region → Bool
-is_io Io = true
-is_io _ = false
 
 -- where a register stands: its offset from 04000000h
 abbrev pub io_offset : ℕ → ℕ

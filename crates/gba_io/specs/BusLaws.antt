@@ -1,7 +1,7 @@
 use Rattle.std.proofs.Common.{ℕ, Bool, true, false, if◌then◌else◌}
 use Rattle.gba_bus.specs.Meanings.{CodeFits, CodePriced, LoadsFit, LoadsPriced, StoresPriced}
 use Rattle.gba_bus.specs.PriceLaws.{price-within}
-use Rattle.gba_bus.specs.Regions.{region_of}
+use Rattle.gba_bus.specs.Regions.{is_io, region_of}
 use Rattle.gba_bus.specs.Widths.{FitsWidth}
 use Rattle.gba_bus.specs.declared.width.Width.{Width}
 use Rattle.gba_devices.specs.Registers.{half_read, io_loaded}
@@ -10,7 +10,7 @@ use Rattle.gba_mem.specs.Loads.{load}
 use Rattle.gba_register.specs.Fits.{loads-fit}
 use Rattle.gba_serial.specs.Registers.{serial_read}
 use Rattle.gba_io.specs.Core.{Core}
-use Rattle.gba_io.specs.Bus.{core_code, core_load, core_price, core_read, core_store, io_offset, is_io, register_loaded}
+use Rattle.gba_io.specs.Bus.{core_code, core_load, core_price, core_read, core_store, io_offset, register_loaded}
 use Rattle.gba_io.specs.SerialRegisters.{is_serial, serial_loaded}
 
 -- That a core keeps what every bus keeps, for the laws of the trait.

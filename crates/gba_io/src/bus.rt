@@ -1,59 +1,18 @@
 //! The core of a board as a bus.
 
 ghost use Rattle.std.specs.Prelude.{◌≡◌, ◌<◌, true};
-ghost use Rattle.gba_bus.specs.Regions.{region_of};
-ghost use Rattle.gba_io.specs.Bus.{core_read, core_written, io_offset, is_io};
-ghost use Rattle.gba_mem.specs.Loads.{is_bios, is_inner, is_rom};
+ghost use Rattle.gba_bus.specs.Regions.{is_bios, is_inner, is_io, is_rom, region_of};
+ghost use Rattle.gba_io.specs.Bus.{core_read, core_written, io_offset};
 
 use crate::Core;
 use crate::parts::is_calm;
 use crate::serial::is_serial;
-use gba_bus::{Bus, Region, Width, region_of};
+use gba_bus::{Bus, Width, is_in_bios, is_in_inner, is_in_io, is_in_rom};
 use gba_devices::laws::writes_keep;
 use gba_register::{load, store};
 
 /// What an access to the inner RAM costs, of any kind: it is quick enough to be told without a look at the prices.
 const INNER_PRICE: u32 = 1;
-
-/// Whether an address is one of the I/O registers.
-fn is_in_io(address: u32) -> bool
-    ensures { result ≡ is_io (region_of address) }
-{
-    match region_of(address) {
-        Region::Io => true,
-        _ => false,
-    }
-}
-
-/// Whether an address is in the inner RAM.
-#[tactic(auto, unfolding(gba_bus::specs::Regions::region_of))]
-#[inline]
-fn is_in_inner(address: u32) -> bool
-    ensures { result ≡ is_inner (region_of address) }
-{
-    address >> 24 == 0x3
-}
-
-/// Whether an address is in the BIOS.
-#[tactic(auto, unfolding(gba_bus::specs::Regions::region_of))]
-#[inline]
-fn is_in_bios(address: u32) -> bool
-    ensures { result ≡ is_bios (region_of address) }
-{
-    address < 0x4000
-}
-
-/// Whether an address is in a view of the ROM.
-#[tactic(auto, unfolding(gba_bus::specs::Regions::region_of))]
-#[inline]
-fn is_in_rom(address: u32) -> bool
-    ensures { result ≡ is_rom (region_of address) }
-{
-    match address >> 24 {
-        0x8..=0xD => true,
-        _ => false,
-    }
-}
 
 /// The offset of an I/O register from 04000000h.
 #[tactic(auto, unfolding(gba_bus::specs::Regions::region_of))]

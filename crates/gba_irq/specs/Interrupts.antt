@@ -1,5 +1,6 @@
 use Rattle.std.specs.Prelude.{ℕ, ◌-◌, ◌^◌, ◌==◌, Bool, not, List, [], ◌∷◌, bit_and, bit_or, if◌then◌else◌}
 use Rattle.gba_terms.specs.Bits.{bit}
+use Rattle.gba_word.specs.Sums.{flag_number}
 use Rattle.gba_register.specs.Rows.{Row, row, row_at}
 use Rattle.gba_irq.specs.declared.interrupts.Interrupts.{Interrupts}
 
@@ -27,15 +28,12 @@ without_requests mask i = record i { raised = bit_and i.raised (2 ^ 16 - 1 - mas
 abbrev pub is_pending : Interrupts → Bool
 is_pending i = not (bit_and i.enabled i.raised == 0)
 
-abbrev pub truth_number : Bool → ℕ
-truth_number set = if set then 1 else 0
-
 -- what stands at a halfword, and what a byte write keeps of its other byte: nothing of IF, where a 0 clears nothing
 abbrev pub interrupt_shown : ℕ → Interrupts → ℕ
 interrupt_shown offset i =
     if offset == 0x200 then i.enabled
     else if offset == 0x202 then i.raised
-    else if offset == 0x208 then truth_number i.master
+    else if offset == 0x208 then flag_number i.master
     else 0
 
 abbrev pub interrupt_kept : ℕ → Interrupts → ℕ

@@ -2,7 +2,7 @@
 use Rattle.std.proofs.Common.{◌≡◌, ℕ, ◌%◌, ◌^◌, ◌<◌, ◌==◌, ◌∙◌, ap, Bool, true, false, List, arith, refl}
 use Rattle.std.proofs.Math.Nat.{mod-eq_of_lt}
 use Rattle.std.proofs.lemmas.Bool.Decides.{nat_tests}
-use Rattle.gba_devices.specs.Registers.{truth_number}
+use Rattle.gba_word.specs.Sums.{flag_number}
 use Rattle.gba_dma.specs.Channels.{channel_at}
 use Rattle.gba_io.specs.Core.{Core}
 use Rattle.gba_loose_devices.specs.Devices.{channel_poured, timer_poured, timers_poured}
@@ -22,7 +22,7 @@ use Rattle.gba_loose.specs.Again.{AreInRange, AreNumbersOf, IsSameRun, MadeAgain
 pub cut-again : (width x v : ℕ) → v ≡ x → x < 2 ^ width → v % 2 ^ width ≡ x
 cut-again width x v same small = ap (λ (v : ℕ). v % 2 ^ width) same ∙ mod-eq_of_lt small
 
-pub truth-again : (set : Bool) (v : ℕ) → v ≡ truth_number set → (v == 1) ≡ set
+pub truth-again : (set : Bool) (v : ℕ) → v ≡ flag_number set → (v == 1) ≡ set
 truth-again true v same = ap (λ (v : ℕ). v == 1) same
 truth-again false v same = ap (λ (v : ℕ). v == 1) same
 

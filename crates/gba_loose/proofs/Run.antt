@@ -8,7 +8,7 @@ use Rattle.gba_numbers.specs.Ranges.{board_fits}
 use Rattle.gba_numbers.specs.declared.fields.BoardField.TheVariants as board
 use Rattle.gba_serial.specs.Making.{players_of}
 use Rattle.gba_serial.specs.Numbers.{is_starter_of, received_mask, running_number}
-use Rattle.gba_serial.specs.Registers.{weight}
+use Rattle.gba_word.specs.Weights.{weight}
 use Rattle.gba_serial.specs.SerialUnit.{was_received}
 use Rattle.gba_serial.specs.declared.transfer.Running.{Running}
 use Rattle.gba_loose.specs.Again.{AreInRange, RunAgain}

@@ -1,5 +1,5 @@
 use Rattle.std.specs.Prelude.{ℕ, ◌-◌, ◌==◌, length, slice_index, if◌then◌else◌}
-use Rattle.gba_devices.specs.Registers.{truth_number}
+use Rattle.gba_word.specs.Sums.{flag_number}
 use Rattle.gba_dma.specs.Channels.{channel_at}
 use Rattle.gba_io.specs.Core.{Core}
 use Rattle.gba_numbers.specs.declared.fields.BoardField.{BoardField}
@@ -18,7 +18,7 @@ use Rattle.link_node.specs.Packing.{mode_number}
 -- a part of a tone, by its place among the eight
 abbrev pub tone_part : ℕ → Tone → ℕ
 tone_part part t =
-    if part == 0 then truth_number t.on
+    if part == 0 then flag_number t.on
     else if part == 1 then t.place
     else if part == 2 then t.wait
     else if part == 3 then t.left
@@ -29,13 +29,13 @@ tone_part part t =
 
 -- Each number of a board. Tone channels count from 1 here; a byte of the wave is one of the bank whose number stands in its name.
 unfoldable pub board_number : BoardField → Core → ℕ
-board_number board.Halted b = truth_number b.devices.halted
+board_number board.Halted b = flag_number b.devices.halted
 board_number (board.TimerCounter timer) b = (timer_at timer b.devices.timers).counter
 board_number (board.TimerReload timer) b = (timer_at timer b.devices.timers).reload
 board_number (board.TimerControl timer) b = (timer_at timer b.devices.timers).control
 board_number (board.TimerPhase timer) b = (timer_at timer b.devices.timers).phase
-board_number (board.DmaActive channel) b = truth_number (channel_at channel b.devices.channels).active
-board_number (board.DmaFirst channel) b = truth_number (channel_at channel b.devices.channels).first
+board_number (board.DmaActive channel) b = flag_number (channel_at channel b.devices.channels).active
+board_number (board.DmaFirst channel) b = flag_number (channel_at channel b.devices.channels).first
 board_number (board.DmaSource channel) b = (channel_at channel b.devices.channels).inner_source
 board_number (board.DmaTarget channel) b = (channel_at channel b.devices.channels).inner_target
 board_number (board.DmaLeft channel) b = (channel_at channel b.devices.channels).left
@@ -50,8 +50,8 @@ board_number board.Dot b = b.devices.place.dot
 board_number (board.ReferenceX background) b = (reference_of background b.devices.picture).x
 board_number (board.ReferenceY background) b = (reference_of background b.devices.picture).y
 board_number board.SerialMode b = mode_number (mode_of b.serial)
-board_number board.SerialRunning b = truth_number (is_running b.serial)
-board_number board.SerialStarted b = truth_number (is_starter b.serial)
+board_number board.SerialRunning b = flag_number (is_running b.serial)
+board_number board.SerialStarted b = flag_number (is_starter b.serial)
 board_number board.SerialEnd b = end_number b.serial
 board_number board.SerialGot b = received_number b.serial
 board_number board.SerialSent b = sent_number b.serial

@@ -1,7 +1,6 @@
 //! The numbers of a board.
 
 ghost use Rattle.std.specs.Prelude.{◌≡◌, ◌<◌, true};
-ghost use Rattle.gba_devices.specs.Registers.{truth_number as truth_of};
 ghost use Rattle.gba_numbers.specs.Fields.{is_board_field};
 ghost use Rattle.link_node.specs.Packing.{mode_number as number_of_mode};
 ghost use Rattle.gba_loose.specs.Numbers.{board_number, tone_part as tone_part_of};
@@ -10,12 +9,6 @@ use gba_io::Core;
 use gba_numbers::BoardField;
 use gba_psg::Tone;
 use link_node::LinkMode;
-
-fn truth_number(set: bool) -> u64
-    ensures { result ≡ truth_of set }
-{
-    if set { 1 } else { 0 }
-}
 
 fn mode_number(mode: LinkMode) -> u64
     ensures { result ≡ number_of_mode mode }
@@ -33,7 +26,7 @@ fn tone_part(part: u32, tone: Tone) -> u64
     ensures { result ≡ tone_part_of part tone }
 {
     match part {
-        0 => truth_number(tone.on),
+        0 => u64::from(tone.on),
         1 => u64::from(tone.place),
         2 => u64::from(tone.wait),
         3 => u64::from(tone.left),
@@ -52,13 +45,13 @@ pub fn number_of(core: &Core, field: BoardField) -> u64
 {
     let devices = core.devices();
     match field {
-        BoardField::Halted => truth_number(devices.halted()),
+        BoardField::Halted => u64::from(devices.halted()),
         BoardField::TimerCounter(timer) => u64::from(devices.timer(timer).counter),
         BoardField::TimerReload(timer) => u64::from(devices.timer(timer).reload),
         BoardField::TimerControl(timer) => u64::from(devices.timer(timer).control),
         BoardField::TimerPhase(timer) => u64::from(devices.timer(timer).phase),
-        BoardField::DmaActive(channel) => truth_number(devices.channel(channel).active),
-        BoardField::DmaFirst(channel) => truth_number(devices.channel(channel).first),
+        BoardField::DmaActive(channel) => u64::from(devices.channel(channel).active),
+        BoardField::DmaFirst(channel) => u64::from(devices.channel(channel).first),
         BoardField::DmaSource(channel) => u64::from(devices.channel(channel).inner_source),
         BoardField::DmaTarget(channel) => u64::from(devices.channel(channel).inner_target),
         BoardField::DmaLeft(channel) => u64::from(devices.channel(channel).left),
@@ -72,8 +65,8 @@ pub fn number_of(core: &Core, field: BoardField) -> u64
         BoardField::ReferenceX(background) => u64::from(devices.reference(background).x),
         BoardField::ReferenceY(background) => u64::from(devices.reference(background).y),
         BoardField::SerialMode => mode_number(core.serial().mode()),
-        BoardField::SerialRunning => truth_number(core.serial().running()),
-        BoardField::SerialStarted => truth_number(core.serial().started()),
+        BoardField::SerialRunning => u64::from(core.serial().running()),
+        BoardField::SerialStarted => u64::from(core.serial().started()),
         BoardField::SerialEnd => core.serial().end(),
         BoardField::SerialGot => u64::from(core.serial().got()),
         BoardField::SerialSent => u64::from(core.serial().sent()),

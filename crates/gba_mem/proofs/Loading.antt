@@ -1,12 +1,12 @@
 use Rattle.std.proofs.Common.{◌≡◌, ℕ, ◌+◌, ◌%◌, ◌^◌, ◌<◌, ◌≤◌, Bool, true, false, nat_le, List, length, slice_index, if◌then◌else◌, refl, sym, ◌∙◌, ap, add-zero, arith}
 use Rattle.std.proofs.lemmas.Bool.Decides.{nat_tests}
-use Rattle.gba_bus.specs.Regions.{region_of}
+use Rattle.gba_bus.specs.Regions.{is_bios, is_sram, region_of}
 use Rattle.gba_bus.specs.Widths.{aligned, size}
 use Rattle.gba_bus.specs.declared.region.Region.{Region}
 use Rattle.gba_bus.specs.declared.region.Region.TheVariants.{Bios, Work, Inner, Io, Palette, Vram, Oam, Rom0, Rom1, Rom2, Sram, Other}
 use Rattle.gba_bus.specs.declared.width.Width.{Width}
 use Rattle.gba_bus.specs.declared.width.Width.TheVariants.{Byte, Half, Word}
-use Rattle.gba_mem.specs.Loads.{byte_at, byte_in, is_bios, is_sram, load, number_of, rom_byte}
+use Rattle.gba_mem.specs.Loads.{byte_at, byte_in, load, number_of, rom_byte}
 use Rattle.gba_mem.specs.Memories.{Memories}
 use Rattle.gba_mem.specs.Places.{inner_place, oam_place, palette_place, rom_place, vram_place, work_place}
 use Rattle.gba_mem.specs.Wide.{wide_load, wide_rom}

@@ -3,7 +3,7 @@ use Rattle.gba_bus.specs.Widths.{aligned}
 use Rattle.gba_bus.specs.declared.region.Region.{Region}
 use Rattle.gba_bus.specs.declared.region.Region.TheVariants.{Bios, Inner, Rom0, Rom1, Rom2}
 use Rattle.gba_bus.specs.declared.width.Width.{Width}
-use Rattle.gba_mem.specs.Loads.{is_bios, is_inner, is_rom}
+use Rattle.gba_bus.specs.Regions.{is_bios, is_inner, is_rom}
 use Rattle.gba_mem.specs.Memories.{Memories}
 use Rattle.gba_mem.specs.Places.{inner_place}
 use Rattle.gba_mem.specs.Wide.{wide_load, wide_number, wide_rom, wide_store, with_inner}

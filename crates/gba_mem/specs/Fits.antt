@@ -1,9 +1,9 @@
 use Rattle.std.proofs.Common.{◌≡◌, ℕ, ◌+◌, ◌*◌, ◌^◌, ◌<◌, Bool, true, false, if◌then◌else◌, arith}
-use Rattle.gba_bus.specs.Regions.{region_of}
+use Rattle.gba_bus.specs.Regions.{is_bios, is_sram, region_of}
 use Rattle.gba_bus.specs.Widths.{FitsWidth, aligned}
 use Rattle.gba_bus.specs.declared.width.Width.{Width}
 use Rattle.gba_bus.specs.declared.width.Width.TheVariants.{Byte, Half, Word}
-use Rattle.gba_mem.specs.Loads.{byte_at, is_bios, is_sram, load, number_of}
+use Rattle.gba_mem.specs.Loads.{byte_at, load, number_of}
 use Rattle.gba_mem.specs.Memories.{Memories}
 
 -- That what is read has zeros above its width, for the laws of the buses above. The cut in `number_of` sees to it,

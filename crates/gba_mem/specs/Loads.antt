@@ -1,7 +1,7 @@
 use Rattle.std.specs.Int.{w16, w32, from_le_bytes}
-use Rattle.std.specs.Prelude.{ℕ, Bool, true, false, ◌+◌, ◌*◌, ◌/◌, ◌%◌, ◌^◌, nat_lt, List, [], ◌∷◌, length, slice_index, if◌then◌else◌}
+use Rattle.std.specs.Prelude.{ℕ, Bool, false, ◌+◌, ◌*◌, ◌/◌, ◌%◌, ◌^◌, nat_lt, List, [], ◌∷◌, length, slice_index, if◌then◌else◌}
 use Rattle.gba_terms.specs.Bits.{field}
-use Rattle.gba_bus.specs.Regions.{region_of}
+use Rattle.gba_bus.specs.Regions.{is_bios, is_sram, region_of}
 use Rattle.gba_bus.specs.Widths.{aligned}
 use Rattle.gba_bus.specs.declared.region.Region.{Region}
 use Rattle.gba_bus.specs.declared.region.Region.TheVariants.{Bios, Work, Inner, Io, Palette, Vram, Oam, Rom0, Rom1, Rom2, Sram, Other}
@@ -49,26 +49,6 @@ number_of byte Byte address = byte address % 2 ^ 8
 number_of byte Half address = from_le_bytes w16 (byte address ∷ byte (address + 1) ∷ []) % 2 ^ 16
 number_of byte Word address =
     from_le_bytes w32 (byte address ∷ byte (address + 1) ∷ byte (address + 2) ∷ byte (address + 3) ∷ []) % 2 ^ 32
-
--- whether a region is the BIOS, and that of the SRAM or the flash
-abbrev pub is_bios : Region → Bool
-is_bios Bios = true
-is_bios _ = false
-
-abbrev pub is_sram : Region → Bool
-is_sram Sram = true
-is_sram _ = false
-
--- whether a region is the inner RAM, and a view of the ROM
-abbrev pub is_inner : Region → Bool
-is_inner Inner = true
-is_inner _ = false
-
-abbrev pub is_rom : Region → Bool
-is_rom Rom0 = true
-is_rom Rom1 = true
-is_rom Rom2 = true
-is_rom _ = false
 
 -- What an access reads at its aligned address. The SRAM and the flash have one byte at a time, which a wider access
 -- reads in every place (this project's profile).

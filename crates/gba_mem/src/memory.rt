@@ -1,18 +1,17 @@
 //! The memories of a console.
 
 ghost use Rattle.std.specs.Prelude.{◌≡◌, ◌≤◌, [], unwrap_or, vec_len};
-ghost use Rattle.gba_bus.specs.Regions.{region_of};
-ghost use Rattle.gba_mem.specs.Loads.{is_bios, is_inner, is_rom};
+ghost use Rattle.gba_bus.specs.Regions.{is_bios, is_inner, is_rom, region_of};
 
 mod replacing;
 
 use crate::backup::{BackupChip, saved};
-use crate::numbers::{length_of, number, put, put_twice, repeated};
+use crate::numbers::{number, put, put_twice, repeated};
 use crate::places;
 use crate::start::{
     filled, length_of_inner, length_of_oam, length_of_palette, length_of_vram, length_of_work,
 };
-use gba_bus::{Region, Width, region_of};
+use gba_bus::{Region, Width, is_in_bios, is_in_inner, is_in_rom, region_of};
 use gba_flash::FlashMachine;
 use gba_image::{Backup, Cartridge, ConsoleImages};
 use gba_terms::NoMemory;
@@ -28,37 +27,6 @@ fn rom_of(alloc: Global, cart: Option<Cartridge>) -> Vec<u8>
     match cart {
         Some(cart) => cart.into_bytes(),
         None => Vec::new(alloc),
-    }
-}
-
-/// Whether an address is in the BIOS.
-fn is_in_bios(address: u32) -> bool
-    ensures { result ≡ is_bios (region_of address) }
-{
-    match region_of(address) {
-        Region::Bios => true,
-        _ => false,
-    }
-}
-
-/// Whether an address is in the inner RAM.
-fn is_in_inner(address: u32) -> bool
-    ensures { result ≡ is_inner (region_of address) }
-{
-    match region_of(address) {
-        Region::Inner => true,
-        _ => false,
-    }
-}
-
-/// Whether an address is in a view of the ROM.
-#[tactic(auto, unfolding(gba_bus::specs::Regions::region_of))]
-fn is_in_rom(address: u32) -> bool
-    ensures { result ≡ is_rom (region_of address) }
-{
-    match address >> 24 {
-        0x8..=0xD => true,
-        _ => false,
     }
 }
 
@@ -103,13 +71,13 @@ impl Model for Memory {
 
 impl Memory {
     ghost use Rattle.std.specs.Prelude.{◌≡◌, ℕ, ◌+◌, ◌^◌, ◌≤◌, IfOk, IfSome, true, length};
-    ghost use Rattle.gba_bus.specs.Regions.{region_of};
+    ghost use Rattle.gba_bus.specs.Regions.{is_bios, is_inner, is_rom, region_of};
     ghost use Rattle.gba_bus.specs.Widths.{aligned, size};
     ghost use Rattle.gba_flash.specs.Soundness.{IsSoundMachine};
     ghost use Rattle.gba_image.specs.Backups.{backup_length};
     ghost use Rattle.gba_image.specs.Checks.{SaveFits};
     ghost use Rattle.gba_mem.specs.Backups.{backup_bytes as bytes_of_backup, backup_of, flash_machine as machine_of_flash, with_machine};
-    ghost use Rattle.gba_mem.specs.Loads.{is_bios, is_inner, is_rom, load, number_of, rom_byte};
+    ghost use Rattle.gba_mem.specs.Loads.{load, number_of, rom_byte};
     ghost use Rattle.gba_mem.specs.Memories.{at_start};
     ghost use Rattle.gba_mem.specs.Stores.{store};
     ghost use Rattle.gba_mem.specs.Places.{inner_place};
@@ -263,7 +231,7 @@ impl Memory {
         ensures { result ≡ wide_rom self.now.rom width address }
     {
         let place = (address % 0x0200_0000) as usize;
-        if place + length_of(width) <= self.rom.len() {
+        if place + width.size() as usize <= self.rom.len() {
             number(self.rom.as_slice(), width, place)
         } else {
             self.number_of_rom(width, address)

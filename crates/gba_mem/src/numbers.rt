@@ -8,18 +8,6 @@ ghost use Rattle.gba_mem.specs.Wide.{put_both, put_number, wide_number};
 use gba_bus::Width;
 use gba_word::bits;
 
-/// How many bytes an access has.
-pub(crate) fn length_of(width: Width) -> usize
-    ensures value { result ≡ size width }
-    ensures most { result ≤ 4 }
-{
-    match width {
-        Width::Byte => 1,
-        Width::Half => 2,
-        Width::Word => 4,
-    }
-}
-
 /// The number of an access at a place.
 pub(crate) fn number(bytes: &[u8], width: Width, place: usize) -> u32
     requires { place + size width ≤ length bytes.now }

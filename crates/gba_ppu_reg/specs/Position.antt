@@ -1,6 +1,7 @@
 use Rattle.std.specs.Prelude.{ℕ, zero, suc, ◌+◌, ◌-◌, ◌<◌, ◌==◌, Bool, ◌&&◌, nat_le, nat_lt, Option, None, Some, if◌then◌else◌}
 use Rattle.std.specs.Option.{option_or}
 use Rattle.gba_terms.specs.Bits.{field}
+use Rattle.gba_word.specs.Weights.{weight}
 use Rattle.gba_ppu_reg.specs.declared.position.Position.{Position}
 use Rattle.gba_ppu_reg.specs.declared.position.PictureEvents.{PictureEvents}
 
@@ -58,9 +59,6 @@ is_hblank p = nat_le 1006 p.dot
 
 abbrev pub is_matched : ℕ → Position → Bool
 is_matched status p = p.line == field status 8 8
-
-abbrev pub weight : ℕ → Bool → ℕ
-weight n set = if set then n else 0
 
 -- DISPSTAT's bits 0 to 2
 abbrev pub flags : ℕ → Position → ℕ

@@ -1,9 +1,8 @@
 //! The place of the picture.
 
 ghost use Rattle.std.specs.Prelude.{◌≡◌, ◌≤◌};
-ghost use Rattle.gba_ppu_reg.specs.Position.{weight as weighed};
 
-use gba_word::bits;
+use gba_word::{bits, weight_half};
 
 /// The place of the picture (GBATEK, LCD Dimensions and Timings): the line, from 0 to 227, of which 0 to 159 are drawn, and
 /// the dot, which is the cycle in the line, from 0 to 1,231. Both are 0 at reset.
@@ -18,13 +17,6 @@ pub struct Position {
 pub struct PictureEvents {
     pub hblank: Option<u32>,
     pub line_start: Option<u32>,
-}
-
-fn weight(place: u16, set: bool) -> u16
-    ensures value { result ≡ weighed place set }
-    ensures most { result ≤ place }
-{
-    if set { place } else { 0 }
 }
 
 impl Position {
@@ -149,8 +141,8 @@ impl Position {
         ensures most { result ≤ 7 }
     {
         let matched = self.line == bits(u32::from(status), 8, 8);
-        weight(1, self.line >= 160 && self.line < 227)
-            + weight(2, self.dot >= 1006)
-            + weight(4, matched)
+        weight_half(1, self.line >= 160 && self.line < 227)
+            + weight_half(2, self.dot >= 1006)
+            + weight_half(4, matched)
     }
 }

@@ -2,9 +2,10 @@
 use Rattle.std.proofs.Common.{◌≡◌, ℕ, ◌+◌, ◌≤◌, Bool, true, false, refl, arith}
 use Rattle.std.specs.Prelude.{nat_eq}
 use Rattle.gba_terms.specs.Bits.{bit}
+use Rattle.gba_word.specs.Weights.{weight}
 use Rattle.gba_psg.specs.declared.four.FourTones.{FourTones}
 use Rattle.gba_psg.specs.Numbers.{MadeAgain, halves_of, numbers_of, tones_of}
-use Rattle.gba_psg.specs.Tones.{channels_on, weight}
+use Rattle.gba_psg.specs.Tones.{channels_on}
 
 on-again : (on : Bool) → nat_eq (weight 1 on) 1 ≡ on
 on-again true = refl

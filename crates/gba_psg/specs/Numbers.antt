@@ -1,8 +1,8 @@
 use Rattle.std.specs.Prelude.{◌≡◌, ℕ, ◌+◌, ◌==◌, List, [], ◌∷◌, ◌++◌, slice_index}
 use Rattle.gba_terms.specs.Bits.{bit}
+use Rattle.gba_word.specs.Weights.{weight}
 use Rattle.gba_psg.specs.declared.tone.Tone.{Tone}
 use Rattle.gba_psg.specs.declared.four.FourTones.{FourTones}
-use Rattle.gba_psg.specs.Tones.{weight}
 use Rattle.gba_psg.specs.Registers.{tones_kept}
 
 -- What the tones say of themselves: 33 numbers, which are the sequencer and then eight of each channel; the bytes of the two

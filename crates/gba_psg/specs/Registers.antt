@@ -1,11 +1,12 @@
 use Rattle.std.specs.Prelude.{ℕ, ◌+◌, ◌-◌, ◌%◌, ◌==◌, Bool, true, false, ◌&&◌, nat_le, nat_lt, List, [], ◌∷◌, bit_and, if◌then◌else◌}
 use Rattle.gba_terms.specs.Bits.{bit}
+use Rattle.gba_word.specs.Weights.{weight}
 use Rattle.gba_register.specs.Rows.{Row, row, row_at}
 use Rattle.gba_psg.specs.Square.{square_at_reset, square_controlled}
 use Rattle.gba_psg.specs.Wave.{wave_cleared, wave_controlled, wave_half, with_wave_half}
 use Rattle.gba_psg.specs.Noise.{noise_at_reset, noise_controlled}
 use Rattle.gba_psg.specs.declared.four.FourTones.{FourTones}
-use Rattle.gba_psg.specs.Tones.{channels_on, weight}
+use Rattle.gba_psg.specs.Tones.{channels_on}
 
 -- The registers of the tone channels (GBATEK, GBA Sound Controller): channel 1 at 060h to 064h, channel 2 at 068h and 06Ch,
 -- channel 3 at 070h to 074h and its bytes at 090h to 09Eh, channel 4 at 078h and 07Ch, SOUNDCNT_L 080h, of SOUNDCNT_H 082h

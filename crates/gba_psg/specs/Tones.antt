@@ -1,4 +1,5 @@
-use Rattle.std.specs.Prelude.{ℕ, zero, suc, ◌+◌, ◌%◌, ◌==◌, Bool, false, if◌then◌else◌}
+use Rattle.std.specs.Prelude.{ℕ, zero, suc, ◌+◌, ◌%◌, ◌==◌, false, if◌then◌else◌}
+use Rattle.gba_word.specs.Weights.{weight}
 use Rattle.gba_psg.specs.declared.tone.Tone.{Tone}
 use Rattle.gba_psg.specs.declared.four.FourTones.{FourTones}
 use Rattle.gba_psg.specs.Tone.{after_envelope, after_length}
@@ -71,9 +72,6 @@ tone_at number ts =
     else ts.noise.tone
 
 -- the channels that are on, in bits 0 to 3
-abbrev pub weight : ℕ → Bool → ℕ
-weight n set = if set then n else 0
-
 abbrev pub channels_on : FourTones → ℕ
 channels_on ts =
     weight 1 ts.square1.tone.on + weight 2 ts.square2.tone.on + weight 4 ts.wave.tone.on + weight 8 ts.noise.tone.on

@@ -3,13 +3,12 @@
 ghost use Rattle.std.specs.Prelude.{◌≡◌, ◌<◌, ◌≤◌, ◌+◌, ◌%◌, true, pos};
 ghost use Rattle.gba_psg.specs.Amount.{factor as factor_of, sent as sent_of};
 ghost use Rattle.gba_psg.specs.Registers.{is_wave_offset};
-ghost use Rattle.gba_psg.specs.Tones.{weight as weighed};
 
 use crate::noise::{IDLE_NOISE, Noise};
 use crate::square::{IDLE_SQUARE, Square};
 use crate::tone::Tone;
 use crate::wave::{IDLE_WAVE, Wave};
-use gba_word::{bit, bits};
+use gba_word::{bit, bits, weight_half};
 
 /// The tone channels (GBATEK, GBA Sound Controller): the master enable; the sequencer, which counts cycles modulo 262,144;
 /// the halfword of channel 1's sweep; channels 1 to 4; SOUNDCNT_L; bits 0 and 1 of SOUNDCNT_H.
@@ -47,13 +46,6 @@ pub(crate) const RESET: FourTones = FourTones {
     mixer: 0,
     ratio: 0,
 };
-
-fn weight(place: u16, set: bool) -> u16
-    ensures value { result ≡ weighed place set }
-    ensures most { result ≤ place }
-{
-    if set { place } else { 0 }
-}
 
 /// What a side gets of an amount that is sent there or not.
 fn sent(is_sent: bool, amount: u32) -> u32
@@ -108,10 +100,10 @@ impl FourTones {
         ensures value { result ≡ channels_on self.now }
         ensures most { result ≤ 15 }
     {
-        weight(1, self.square1.tone.on)
-            + weight(2, self.square2.tone.on)
-            + weight(4, self.wave.tone.on)
-            + weight(8, self.noise.tone.on)
+        weight_half(1, self.square1.tone.on)
+            + weight_half(2, self.square2.tone.on)
+            + weight_half(4, self.wave.tone.on)
+            + weight_half(8, self.noise.tone.on)
     }
 
     /// Moves each channel by 1,024 cycles at most, in which nothing ticks.
@@ -331,7 +323,7 @@ impl FourTones {
             0x07C => self.noise.control,
             0x080 => self.mixer,
             0x082 => self.ratio,
-            0x084 => weight(0x80, self.is_on) + self.channels_on(),
+            0x084 => weight_half(0x80, self.is_on) + self.channels_on(),
             _ => 0,
         }
     }

@@ -8,7 +8,7 @@ use Rattle.gba_bus.specs.declared.region.Region.{Region}
 use Rattle.gba_bus.specs.declared.region.Region.TheVariants.{Inner}
 use Rattle.gba_flash.specs.declared.machine.FlashMachine.{FlashMachine}
 use Rattle.gba_mem.specs.Backups.{with_machine}
-use Rattle.gba_mem.specs.Loads.{is_inner}
+use Rattle.gba_bus.specs.Regions.{is_inner}
 use Rattle.gba_mem.specs.Memories.{Memories}
 use Rattle.gba_mem.specs.Video.{IsSameVideo, is_video}
 use Rattle.gba_ppu_reg.specs.Registers.{Picture, picture_at_reset}

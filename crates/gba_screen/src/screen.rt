@@ -82,8 +82,7 @@ impl Model for Screen {
 impl Screen {
     ghost use Rattle.std.specs.Prelude.{◌≡◌, ℕ, ◌+◌, ◌<◌, ◌≤◌, ◌++◌, [], true, false, IfOk, length, slice_index_or, vec_len, vec_capacity};
     ghost use Rattle.std.specs.List.{concat};
-    ghost use Rattle.gba_bus.specs.Regions.{region_of};
-    ghost use Rattle.gba_mem.specs.Loads.{is_inner};
+    ghost use Rattle.gba_bus.specs.Regions.{is_inner, region_of};
     ghost use Rattle.gba_mem.specs.Video.{is_video};
     ghost use Rattle.gba_mem.specs.Replacing.{part_length};
     ghost use Rattle.gba_mem.specs.Backups.{backup_of};

@@ -4,7 +4,7 @@ use Rattle.std.proofs.lemmas.Bool.Decides.{nat_tests}
 use Rattle.gba_terms.specs.Bits.{bit}
 use Rattle.gba_serial.specs.Making.{MadeAgain, players_of}
 use Rattle.gba_serial.specs.Numbers.{received_mask}
-use Rattle.gba_serial.specs.Registers.{weight}
+use Rattle.gba_word.specs.Weights.{weight}
 use Rattle.gba_serial.specs.declared.transfer.Running.{Running}
 
 weight-bit : (mask place : ℕ) → weight (2 ^ place) (bit mask place) ≡ 2 ^ place * (mask / 2 ^ place % 2)

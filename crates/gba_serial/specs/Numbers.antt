@@ -1,6 +1,6 @@
 use Rattle.std.specs.Prelude.{ℕ, ◌+◌, Bool, false, Option, None, Some}
 use Rattle.gba_serial.specs.SerialUnit.{SerialUnit, was_received}
-use Rattle.gba_serial.specs.Registers.{weight}
+use Rattle.gba_word.specs.Weights.{weight}
 use Rattle.gba_serial.specs.declared.transfer.Running.{Running}
 
 -- The numbers of the transfer that runs, for the state file (this project's profile): 0 where none runs

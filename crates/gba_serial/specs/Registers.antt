@@ -1,5 +1,6 @@
-use Rattle.std.specs.Prelude.{ℕ, ◌+◌, ◌*◌, ◌==◌, Bool, not, List, [], ◌∷◌, bit_and, if◌then◌else◌, slice_index}
+use Rattle.std.specs.Prelude.{ℕ, ◌+◌, ◌*◌, ◌==◌, not, List, [], ◌∷◌, bit_and, if◌then◌else◌, slice_index}
 use Rattle.gba_terms.specs.Bits.{field}
+use Rattle.gba_word.specs.Weights.{weight}
 use Rattle.gba_register.specs.Rows.{Row, row, row_at}
 use Rattle.gba_serial.specs.Timing.{is_multi}
 use Rattle.gba_serial.specs.SerialUnit.{SerialUnit, all_ready, is_running, mode_of}
@@ -10,9 +11,6 @@ unfoldable pub serial_rows : List Row
 serial_rows =
     row 0x120 0xffff 0xffff ∷ row 0x122 0xffff 0xffff ∷ row 0x124 0xffff 0xffff ∷ row 0x126 0xffff 0xffff
     ∷ row 0x128 0x70ff 0x708b ∷ row 0x12a 0xffff 0xffff ∷ row 0x134 0xc000 0xc000 ∷ []
-
-abbrev pub weight : ℕ → Bool → ℕ
-weight n set = if set then n else 0
 
 -- whether this console isn't the first, SIOCNT's bit 2, and its player number, bits 4 and 5, which only Multi shows
 abbrev pub shown_player : SerialUnit → ℕ

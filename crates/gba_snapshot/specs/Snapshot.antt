@@ -1,7 +1,7 @@
 -- The numbers that a frozen file has of a console.
 use Rattle.std.specs.Prelude.{ℕ, zero, suc, ◌+◌, List, [], ◌∷◌, ◌++◌, map, slice_index, Option, Some, None}
 use Rattle.gba_console.specs.Machine.{Machine, clock_of}
-use Rattle.gba_devices.specs.Registers.{truth_number}
+use Rattle.gba_word.specs.Sums.{flag_number}
 use Rattle.gba_flash.specs.declared.machine.FlashMachine.{FlashMachine}
 use Rattle.gba_flash.specs.declared.machine.FlashState.{FlashState}
 use Rattle.gba_flash.specs.declared.machine.FlashState.TheVariants.{Ready, First, Second, Program, Bank}
@@ -25,7 +25,7 @@ state_number Bank = 4
 abbrev pub flash_numbers : Option FlashMachine → List ℕ
 flash_numbers None = 0 ∷ 0 ∷ 0 ∷ 0 ∷ []
 flash_numbers (Some machine) =
-    state_number machine.state ∷ truth_number machine.armed ∷ truth_number machine.identify ∷ machine.bank ∷ []
+    state_number machine.state ∷ flag_number machine.armed ∷ flag_number machine.identify ∷ machine.bank ∷ []
 
 abbrev pub flash_number : ℕ → Machine → ℕ
 flash_number part m = slice_index (flash_numbers (flash_machine m.board.core.memory.backup)) part

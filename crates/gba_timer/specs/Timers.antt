@@ -1,5 +1,6 @@
 use Rattle.std.specs.Prelude.{ℕ, zero, suc, ◌+◌, ◌==◌, Bool, false, List, [], ◌∷◌, bit_and, slice_set, if◌then◌else◌}
 use Rattle.gba_terms.specs.Bits.{bit}
+use Rattle.gba_word.specs.Weights.{weight}
 use Rattle.gba_register.specs.Rows.{Row, row, row_at}
 use Rattle.gba_timer.specs.declared.timer.Timer.{Timer}
 use Rattle.gba_timer.specs.Timer.{timer_after, asks_interrupt, overflows, with_control, with_reload}
@@ -32,9 +33,6 @@ cycle ts = record {
   timer2 = timer_after (overflow1 ts) ts.timer2;
   timer3 = timer_after (overflow2 ts) ts.timer3;
 }
-
-abbrev pub weight : ℕ → Bool → ℕ
-weight n set = if set then n else 0
 
 -- the mark of a cycle: bit k is set where timer k overflows in it
 unfoldable pub overflow_mark : FourTimers → ℕ

@@ -2,10 +2,10 @@
 
 ghost use Rattle.std.specs.Prelude.{◌≡◌, ◌≤◌};
 ghost use Rattle.gba_register.specs.Rows.{row_at};
-ghost use Rattle.gba_timer.specs.Timers.{timer_rows, weight as weighed};
+ghost use Rattle.gba_timer.specs.Timers.{timer_rows};
 
 use crate::timer::{IDLE, Timer};
-use gba_word::bit;
+use gba_word::{bit, weight_byte};
 use std::marker::Model;
 
 /// The four timers (GBATEK, GBA Timers). All numbers are 0 at reset.
@@ -39,13 +39,6 @@ fn mask(offset: u32) -> u16
         0x106 | 0x10A | 0x10E => 0x00C7,
         _ => 0,
     }
-}
-
-fn weight(place: u8, set: bool) -> u8
-    ensures value { result ≡ weighed place set }
-    ensures most { result ≤ place }
-{
-    if set { place } else { 0 }
 }
 
 impl Timers {
@@ -155,7 +148,10 @@ impl Timers {
         let overflow1 = self.timer1.tick(overflow0);
         let overflow2 = self.timer2.tick(overflow1);
         let overflow3 = self.timer3.tick(overflow2);
-        weight(1, overflow0) + weight(2, overflow1) + weight(4, overflow2) + weight(8, overflow3)
+        weight_byte(1, overflow0)
+            + weight_byte(2, overflow1)
+            + weight_byte(4, overflow2)
+            + weight_byte(8, overflow3)
     }
 
     /// Moves the timers by 512 cycles at most. Each cycle's entry of `mark` gets its mark, and the entries after these
@@ -176,10 +172,10 @@ impl Timers {
         ensures { result ≡ requests mark self.now }
     {
         let mark = u32::from(mark);
-        weight(1, bit(mark, 0) && self.timer0.asks_interrupt())
-            + weight(2, bit(mark, 1) && self.timer1.asks_interrupt())
-            + weight(4, bit(mark, 2) && self.timer2.asks_interrupt())
-            + weight(8, bit(mark, 3) && self.timer3.asks_interrupt())
+        weight_byte(1, bit(mark, 0) && self.timer0.asks_interrupt())
+            + weight_byte(2, bit(mark, 1) && self.timer1.asks_interrupt())
+            + weight_byte(4, bit(mark, 2) && self.timer2.asks_interrupt())
+            + weight_byte(8, bit(mark, 3) && self.timer3.asks_interrupt())
     }
 
     /// The greatest number of cycles from now on, so many at most, in none of which a timer overflows.

@@ -1,3 +1,4 @@
 pub mod Extension
 pub mod Shifts
 pub mod Sums
+pub mod Weights

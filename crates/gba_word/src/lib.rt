@@ -10,10 +10,12 @@ pub mod hexadecimal;
 mod kinds;
 mod shifter;
 mod sums;
+mod weights;
 
 pub use kinds::Shift;
 pub use shifter::{rotate, rotate_immediate, shift, shift_fixed, shift_within};
 pub use sums::{Sum, add_carry, add_plain, subtract};
+pub use weights::{weight_byte, weight_half, weight_word};
 
 /// The number in the `width` bits of `value` from bit `low` up.
 pub fn bits(value: u32, low: u32, width: u32) -> u32

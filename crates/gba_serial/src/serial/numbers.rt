@@ -1,24 +1,20 @@
 //! The numbers of the transfer that runs, for the state file.
 
 ghost use Rattle.std.specs.Prelude.{◌≡◌, ◌<◌, ◌≤◌};
-ghost use Rattle.gba_serial.specs.Registers.{weight as weighed};
 ghost use Rattle.gba_serial.specs.Numbers.{received_mask};
 
 use super::Serial;
 use crate::transfer::Running;
-
-fn weight(place: u32, set: bool) -> u32
-    ensures value { result ≡ weighed place set }
-    ensures most { result ≤ place }
-{
-    if set { place } else { 0 }
-}
+use gba_word::weight_word;
 
 fn received_mask(run: Running) -> u32
     ensures value { result ≡ received_mask run }
     ensures small { result < 16 }
 {
-    weight(1, run.got[0]) + weight(2, run.got[1]) + weight(4, run.got[2]) + weight(8, run.got[3])
+    weight_word(1, run.got[0])
+        + weight_word(2, run.got[1])
+        + weight_word(4, run.got[2])
+        + weight_word(8, run.got[3])
 }
 
 impl Serial {

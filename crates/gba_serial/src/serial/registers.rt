@@ -2,11 +2,11 @@
 
 ghost use Rattle.std.specs.Prelude.{◌≡◌, ◌≤◌};
 ghost use Rattle.gba_register.specs.Rows.{row_at};
-ghost use Rattle.gba_serial.specs.Registers.{serial_rows, weight as weighed};
+ghost use Rattle.gba_serial.specs.Registers.{serial_rows};
 
 use super::Serial;
 use crate::timing::is_multi;
-use gba_word::bits;
+use gba_word::{bits, weight_half};
 use link_node::LinkMode;
 
 /// The bits of a halfword that can read.
@@ -20,13 +20,6 @@ fn read_mask(offset: u32) -> u16
         0x134 => 0xC000,
         _ => 0,
     }
-}
-
-fn weight(place: u16, set: bool) -> u16
-    ensures value { result ≡ weighed place set }
-    ensures most { result ≤ place }
-{
-    if set { place } else { 0 }
 }
 
 impl Serial {
@@ -65,7 +58,7 @@ impl Serial {
         ensures most { result ≤ 52 }
     {
         if is_multi(self.mode()) {
-            weight(4, self.player != 0) + 16 * bits(self.player, 0, 2) as u16
+            weight_half(4, self.player != 0) + 16 * bits(self.player, 0, 2) as u16
         } else {
             0
         }
@@ -75,8 +68,8 @@ impl Serial {
         ensures { result ≡ multi_control self.now }
     {
         let stored = self.control & 0x7003;
-        let shown = self.shown_player() + weight(8, self.all_ready());
-        stored + shown + weight(64, self.error) + weight(128, self.running())
+        let shown = self.shown_player() + weight_half(8, self.all_ready());
+        stored + shown + weight_half(64, self.error) + weight_half(128, self.running())
     }
 
     fn control_shown(&self) -> u16
@@ -92,7 +85,7 @@ impl Serial {
     fn control_stored(&self) -> u16
         ensures { result ≡ control_stored self.now }
     {
-        (self.control & 0x708B) + self.shown_player() + weight(64, self.error)
+        (self.control & 0x708B) + self.shown_player() + weight_half(64, self.error)
     }
 
     fn halfword_at(&self, offset: u32, control: u16) -> u16

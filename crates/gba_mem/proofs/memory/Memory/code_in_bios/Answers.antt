@@ -1,6 +1,5 @@
 use Rattle.std.proofs.Common.{sym, ◌∙◌}
-use Rattle.gba_bus.specs.Regions.{region_of}
-use Rattle.gba_mem.specs.Loads.{is_bios}
+use Rattle.gba_bus.specs.Regions.{is_bios, region_of}
 use Rattle.gba_mem.proofs.Loading.{load-wide}
 use Rattle.gba_mem.proofs.Telling.{bios_code}
 use Rattle.gba_mem.proofs.memory.Memory.code_in_bios.Goals as goal
