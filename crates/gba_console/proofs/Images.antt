@@ -17,7 +17,7 @@ use Rattle.gba_thumb_exec.proofs.Keeping.{kept-execution as kept-half_execution}
 use Rattle.gba_dma.specs.Channels.{next_unit}
 use Rattle.gba_dma.specs.declared.unit.Unit.{Unit as DmaUnit}
 use Rattle.gba_io.specs.Board.{BoardPasses, board_after}
-use Rattle.gba_io.specs.Bus.{core_load, core_price, core_read, core_store, core_written, io_offset, register_stored}
+use Rattle.gba_io.specs.Bus.{core_load, core_price, core_read, core_store, core_written, io_offset, register_written}
 use Rattle.gba_io.specs.Core.{Core, core_keyed, core_woken}
 use Rattle.gba_io.specs.SerialRegisters.{is_serial}
 use Rattle.gba_io.specs.Units.{core_after_unit, unit_value}
@@ -107,8 +107,8 @@ module _ (bios rom : List ℕ) where
   either-keeps false one other here there = there
 
   register-keeps : (offset : ℕ) (width : Width) (value : ℕ) (b : Core) → Keeps b
-      → Keeps (register_stored offset width value b)
-  unfolding register_stored
+      → Keeps (register_written offset width value b)
+  unfolding register_written
   register-keeps offset width value b has = either-keeps (is_serial offset) _ _ has has
 
   written-keeps : (b : Core) (address : ℕ) (width : Width) (value : ℕ) → Keeps b

@@ -15,10 +15,10 @@ use Rattle.gba_exec_transfers.proofs.Keeping.{kept-word}
 use Rattle.gba_arm_exec.proofs.Keeping.{kept-execution as kept-word_execution}
 use Rattle.gba_thumb_exec.proofs.Keeping.{kept-execution as kept-half_execution}
 use Rattle.gba_io.specs.Board.{BoardPasses}
-use Rattle.gba_io.specs.Bus.{core_load, core_price, core_store, core_written, io_offset, register_stored}
+use Rattle.gba_io.specs.Bus.{core_load, core_price, core_store, core_written, io_offset, register_written}
 use Rattle.gba_io.specs.Core.{Core, core_woken}
-use Rattle.gba_io.specs.SerialRegisters.{is_serial, serial_put, serial_stored_at}
-use Rattle.gba_io.specs.Units.{core_after_unit, unit_stored, unit_value}
+use Rattle.gba_io.specs.SerialRegisters.{is_serial, serial_put, serial_written_at}
+use Rattle.gba_io.specs.Units.{core_after_unit, unit_written, unit_value}
 use Rattle.gba_io.specs.declared.board.Board.{Board}
 use Rattle.gba_io.proofs.Keeping.{unit-keeps-clock, writes-keep-time}
 use Rattle.gba_serial.specs.SerialUnit.{SerialUnit}
@@ -69,7 +69,7 @@ put-writes clock offset value lanes u v before =
 
 -- an access is one write, or two
 stored-writes : (clock offset : ℕ) (width : Width) (value : ℕ) (u v : SerialUnit) → ComesOfWrites clock u v
-    → ComesOfWrites clock u (serial_stored_at clock offset width value v)
+    → ComesOfWrites clock u (serial_written_at clock offset width value v)
 stored-writes clock offset Byte value u v before =
     either-writes clock u (offset % 2 == 0) _ _ (put-writes clock offset (field value 0 8) 0x00ff u v before)
     (put-writes clock (offset - 1) (2 ^ 8 * field value 0 8) 0xff00 u v before)
@@ -86,11 +86,11 @@ module _ (clock : ℕ) (u : SerialUnit) where
   Comes c = ComesOfWrites clock u c.serial
 
   register-comes : (offset : ℕ) (width : Width) (value : ℕ) (c : Core) → c.devices.clock ≡ clock → Comes c
-      → Comes (register_stored offset width value c)
-  unfolding register_stored
+      → Comes (register_written offset width value c)
+  unfolding register_written
   register-comes offset width value c now before =
       either Comes (is_serial offset) _ _
-      (subst (λ n. ComesOfWrites clock u (serial_stored_at n offset width value c.serial)) (sym now)
+      (subst (λ n. ComesOfWrites clock u (serial_written_at n offset width value c.serial)) (sym now)
       (stored-writes clock offset width value u c.serial before))
       before
 
@@ -122,7 +122,7 @@ module _ (clock : ℕ) (u : SerialUnit) where
   after-unit unit c is =
       let stored = after-write c unit.target unit.width (unit_value unit c) is in
       record {
-        clock_is = unit-keeps-clock unit.channel (unit_stored unit c).devices ∙ stored.clock_is;
+        clock_is = unit-keeps-clock unit.channel (unit_written unit c).devices ∙ stored.clock_is;
         writes = stored.writes;
         serial_is = stored.serial_is;
       }

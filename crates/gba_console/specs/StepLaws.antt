@@ -14,7 +14,7 @@ use Rattle.gba_exec_transfers.specs.Done.{Done, IsStepLength}
 use Rattle.gba_exec_transfers.specs.Keeping.{LoadsKeep, Passing, StoresKeep}
 use Rattle.gba_io.specs.Board.{BoardPasses}
 use Rattle.gba_io.specs.Core.{Core, core_begun, core_keyed, core_learned, core_woken}
-use Rattle.gba_io.specs.Units.{core_after_unit, start_cycles, unit_ended, unit_stored, unit_value}
+use Rattle.gba_io.specs.Units.{core_after_unit, start_cycles, unit_ended, unit_written, unit_value}
 use Rattle.gba_io.specs.declared.board.Board.{Board}
 use Rattle.gba_io.specs.Bus.{core_load, core_store, core_written}
 use Rattle.gba_io.specs.BusLaws.{core_code_prices}
@@ -306,9 +306,9 @@ unit-ends : WritesKeepTime → WritesKeepEnds → (unit : DmaUnit) (b : Core) �
 unfolding core_after_unit
 unit-ends writes ends unit b = record {
   place =
-      unit-place unit.channel (unit_stored unit b) ∙ (writes b unit.target unit.width (unit_value unit b)).place;
+      unit-place unit.channel (unit_written unit b) ∙ (writes b unit.target unit.width (unit_value unit b)).place;
   lines =
-      unit-lines unit.channel (unit_stored unit b) ∙ (writes b unit.target unit.width (unit_value unit b)).lines;
+      unit-lines unit.channel (unit_written unit b) ∙ (writes b unit.target unit.width (unit_value unit b)).lines;
   next = λ bound seat soon before. ends.next bound b unit.target unit.width (unit_value unit b) seat soon before;
   seat = λ seat. omega (arith, ends.count b unit.target unit.width (unit_value unit b), seat);
 }
@@ -324,7 +324,7 @@ unit-passes writes ends unit file b =
         most = omega (arith, read.most, written.most, start-few unit.first);
       };
       clock =
-          unit-clock unit.channel (unit_stored unit b) ∙ (writes b unit.target unit.width (unit_value unit b)).clock;
+          unit-clock unit.channel (unit_written unit b) ∙ (writes b unit.target unit.width (unit_value unit b)).clock;
       course = unit-ends writes ends unit b;
     }
 

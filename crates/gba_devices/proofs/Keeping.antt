@@ -3,7 +3,7 @@ use Rattle.gba_bus.specs.declared.width.Width.{Width}
 use Rattle.gba_register.specs.Accesses.{merged}
 use Rattle.gba_register.proofs.Accesses.{written-keeps}
 use Rattle.gba_devices.specs.Keeping.{CalmHasBegun, WritesKeep}
-use Rattle.gba_devices.specs.Registers.{half_kept, half_written, io_stored, owner_of, queue_of, stored_in, whole_written, with_key_control, written_of}
+use Rattle.gba_devices.specs.Registers.{half_kept, half_written, io_written, owner_of, queue_of, written_in, whole_written, with_key_control, written_of}
 use Rattle.gba_devices.specs.State.{Devices, begun}
 use Rattle.gba_devices.specs.declared.registers.Owner.{Owner}
 use Rattle.gba_devices.specs.declared.registers.Owner.TheVariants.{PictureBlock, ToneBlock, SoundBlock, DmaBlock, TimerBlock, KeyBlock, InterruptBlock, WaitControl, PostFlag, Nobody}
@@ -49,13 +49,13 @@ half-keeps d offset value lanes s before =
     }
 
 into-keeps : (queue : Option ℕ) (offset : ℕ) (width : Width) (value : ℕ) (d : Devices)
-    → Keeps d (stored_in queue offset width value d)
+    → Keeps d (written_in queue offset width value d)
 into-keeps (Some queue) offset width value d = record { clock = refl; place = refl; priced = refl }
 into-keeps None offset width value d =
     written-keeps (Keeps d) half_written (half-keeps d) offset width value d
     (record { clock = refl; place = refl; priced = refl })
 
-access-keeps : (offset : ℕ) (width : Width) (value : ℕ) (d : Devices) → Keeps d (io_stored offset width value d)
+access-keeps : (offset : ℕ) (width : Width) (value : ℕ) (d : Devices) → Keeps d (io_written offset width value d)
 access-keeps offset width value d = into-keeps (queue_of offset width) offset width value d
 
 pub writes-keep : WritesKeep

@@ -73,17 +73,17 @@ half_kept offset d = kept_of (owner_of offset) offset d
 
 -- what is stored at a halfword, also where it doesn't read, and of bits that are only read what they read; of a timer's
 -- first halfword that is the reload
-abbrev pub stored_of : Owner → ℕ → Devices → ℕ
-stored_of PictureBlock offset d =
+abbrev pub listed_of : Owner → ℕ → Devices → ℕ
+listed_of PictureBlock offset d =
     bit_or (picture_kept offset d.picture) (picture_read_at offset d.place d.picture)
-stored_of ToneBlock offset d = tones_kept offset d.tones
-stored_of DmaBlock offset d = dma_kept offset d.channels
-stored_of TimerBlock offset d = timer_kept offset d.timers
-stored_of owner offset d = read_of owner offset d
+listed_of ToneBlock offset d = tones_kept offset d.tones
+listed_of DmaBlock offset d = dma_kept offset d.channels
+listed_of TimerBlock offset d = timer_kept offset d.timers
+listed_of owner offset d = read_of owner offset d
 
 -- cut as what an access reads is, so that the state file has 16 bits of every record
-unfoldable pub half_stored : ℕ → Devices → ℕ
-half_stored offset d = stored_of (owner_of offset) offset d % 2 ^ 16
+unfoldable pub half_listed : ℕ → Devices → ℕ
+half_listed offset d = listed_of (owner_of offset) offset d % 2 ^ 16
 
 -- Other keys are pressed. The keypad's interrupt is requested where its condition went from false to true (that it is
 -- tested after each key change and each write of KEYCNT is this project's profile).
@@ -139,9 +139,9 @@ queue_of offset Word =
 queue_of offset width = None
 
 -- what an access leaves
-abbrev pub stored_in : Option ℕ → ℕ → Width → ℕ → Devices → Devices
-stored_in (Some queue) offset width value d = record d { sound = after_word queue (field value 0 32) d.sound }
-stored_in None offset width value d = written_by_halves half_written offset width value d
+abbrev pub written_in : Option ℕ → ℕ → Width → ℕ → Devices → Devices
+written_in (Some queue) offset width value d = record d { sound = after_word queue (field value 0 32) d.sound }
+written_in None offset width value d = written_by_halves half_written offset width value d
 
-abbrev pub io_stored : ℕ → Width → ℕ → Devices → Devices
-io_stored offset width value d = stored_in (queue_of offset width) offset width value d
+abbrev pub io_written : ℕ → Width → ℕ → Devices → Devices
+io_written offset width value d = written_in (queue_of offset width) offset width value d

@@ -52,7 +52,7 @@ impl Devices {
     ghost use Rattle.gba_timer.specs.Timers.{timer_at};
     ghost use Rattle.gba_devices.specs.Cycles.{after_cycles, device_cycle, draws_line, draws_within, makes_pair, makes_within, quiet, skipped};
     ghost use Rattle.gba_devices.specs.Parts.{devices_of};
-    ghost use Rattle.gba_devices.specs.Registers.{half_stored, io_loaded, io_stored, keyed};
+    ghost use Rattle.gba_devices.specs.Registers.{half_listed, io_loaded, io_written, keyed};
     ghost use Rattle.gba_devices.specs.Samples.{left_sample, right_sample};
     ghost use Rattle.gba_devices.specs.State.{after_dma_unit, begun, devices_at_reset, is_calm, is_idle, rested, woken};
 
@@ -278,16 +278,16 @@ impl Devices {
     }
 
     /// What is stored at the halfword of an offset from 04000000h; of bits that are only read, what they read.
-    #[tactic(auto, unfolding(crate::specs::Registers::half_stored))]
-    pub fn half_stored(&self, offset: u32) -> u16
-        ensures { result ≡ half_stored offset self.now }
+    #[tactic(auto, unfolding(crate::specs::Registers::half_listed))]
+    pub fn half_listed(&self, offset: u32) -> u16
+        ensures { result ≡ half_listed offset self.now }
     {
         match owner_of(offset) {
             Owner::TimerBlock => self.timers().kept(offset),
-            Owner::PictureBlock => self.set.picture_stored(offset, &self.place()),
+            Owner::PictureBlock => self.set.picture_listed(offset, &self.place()),
             Owner::ToneBlock => self.tones().kept(offset),
-            Owner::SoundBlock => self.set.sound_stored(offset, &self.tones()),
-            _ => self.set.half_stored(offset),
+            Owner::SoundBlock => self.set.sound_listed(offset, &self.tones()),
+            _ => self.set.half_listed(offset),
         }
     }
 
@@ -331,7 +331,7 @@ impl Devices {
     #[inline(never)]
     pub fn store(&mut self, offset: u32, width: Width, value: u32)
         requires { offset < 0x400 }
-        ensures { self.new ≡ io_stored offset width value self.old }
+        ensures { self.new ≡ io_written offset width value self.old }
     {
         skips_cycles();
         writes_keep();

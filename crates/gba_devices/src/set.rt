@@ -100,7 +100,7 @@ impl DeviceSet {
     ghost use Rattle.gba_timer.specs.Timers.{requests};
     ghost use Rattle.gba_devices.specs.Cycles.{asked_by, at_hblank, at_line, at_place, device_cycle, pairless, placed, quiet, rung, skipped, sounded, status_of, with_timer_requests};
     ghost use Rattle.gba_devices.specs.Parts.{devices_of};
-    ghost use Rattle.gba_devices.specs.Registers.{half_stored, io_stored, keyed, owner_of as owner_in, stored_of, with_key_control};
+    ghost use Rattle.gba_devices.specs.Registers.{half_listed, io_written, keyed, owner_of as owner_in, listed_of, with_key_control};
     ghost use Rattle.gba_devices.specs.Samples.{left_sample, right_sample};
     ghost use Rattle.gba_devices.specs.State.{after_dma_unit, asks_entry, begun, devices_at_reset, is_calm, is_idle, rested, woken};
 
@@ -374,7 +374,7 @@ impl DeviceSet {
 
     /// What is stored at a halfword of the picture's registers while the picture is at a place, and of bits that are only
     /// read what they read.
-    pub(crate) fn picture_stored(&self, offset: u32, at: &Position) -> u16
+    pub(crate) fn picture_listed(&self, offset: u32, at: &Position) -> u16
         ensures { result ≡ bit_or (picture_kept offset self.now.picture)
             (picture_read_at offset at.now self.now.picture) }
     {
@@ -382,20 +382,20 @@ impl DeviceSet {
     }
 
     /// What reads at SOUNDCNT_H, SOUNDCNT_X or SOUNDBIAS while the tone channels are these.
-    pub(crate) fn sound_stored(&self, offset: u32, tones: &Tones) -> u16
+    pub(crate) fn sound_listed(&self, offset: u32, tones: &Tones) -> u16
         ensures { result ≡ bit_or (sound_read offset self.now.sound) (tones_read offset tones.now) }
     {
         self.queues.read(offset) | tones.read(offset)
     }
 
     /// What is stored at a halfword, for the state file.
-    #[tactic(auto, unfolding(crate::specs::Registers::half_stored, crate::specs::Registers::half_read))]
-    pub(crate) fn half_stored(&self, offset: u32) -> u16
-        ensures value { result ≡ half_stored offset self.now }
-        ensures whole { result ≡ stored_of (owner_in offset) offset self.now }
+    #[tactic(auto, unfolding(crate::specs::Registers::half_listed, crate::specs::Registers::half_read))]
+    pub(crate) fn half_listed(&self, offset: u32) -> u16
+        ensures value { result ≡ half_listed offset self.now }
+        ensures whole { result ≡ listed_of (owner_in offset) offset self.now }
     {
         match owner_of(offset) {
-            Owner::PictureBlock => self.picture_stored(offset, &self.place.at()),
+            Owner::PictureBlock => self.picture_listed(offset, &self.place.at()),
             Owner::ToneBlock => self.tones.kept(offset),
             Owner::SoundBlock => self.queues.read(offset) | self.tones.read(offset),
             Owner::DmaBlock => self.channels.kept(offset),
@@ -431,7 +431,7 @@ impl DeviceSet {
 
     /// Writes the low bits of a value, as many as the width has. A word that is a queue's goes into it.
     pub(crate) fn store(&mut self, offset: u32, width: Width, value: u32)
-        ensures { self.new ≡ io_stored offset width value self.old }
+        ensures { self.new ≡ io_written offset width value self.old }
     {
         match queue_of(offset, width) {
             Some(queue) => {

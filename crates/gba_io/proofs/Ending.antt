@@ -7,11 +7,11 @@ use Rattle.gba_bus.specs.declared.width.Width.{Width}
 use Rattle.gba_register.specs.Accesses.{merged}
 use Rattle.gba_register.proofs.Accesses.{written-keeps}
 use Rattle.gba_io.specs.Base.{words_from}
-use Rattle.gba_io.specs.Bus.{core_written, io_offset, register_stored}
+use Rattle.gba_io.specs.Bus.{core_written, io_offset, register_written}
 use Rattle.gba_io.specs.Cable.{AreApart, EndsFit, EndsStayFit, NextEndFits, WritesKeepEnds, board_ended, board_taken}
 use Rattle.gba_io.specs.Core.{Core}
 use Rattle.gba_io.specs.Ended.{Ended, count_with}
-use Rattle.gba_io.specs.SerialRegisters.{is_serial, serial_put, serial_stored_at}
+use Rattle.gba_io.specs.SerialRegisters.{is_serial, serial_put, serial_written_at}
 use Rattle.gba_io.specs.declared.base.Base.{Base}
 use Rattle.gba_io.specs.declared.board.Board.{Board}
 use Rattle.gba_serial.specs.Apart.{EndsApart, next_end, next_end_of}
@@ -41,15 +41,15 @@ module _ (apart : EndsApart) (seats : StaysSeated) where
   put-next clock offset value lanes bound u one soon before =
       apart.written clock offset (merged (serial_kept offset u) value lanes) bound u one soon before
 
-  stored-count : (clock offset : ℕ) (width : Width) (value : ℕ) (u : SerialUnit)
-      → (serial_stored_at clock offset width value u).count ≡ u.count
-  stored-count clock offset width value u =
+  access-count : (clock offset : ℕ) (width : Width) (value : ℕ) (u : SerialUnit)
+      → (serial_written_at clock offset width value u).count ≡ u.count
+  access-count clock offset width value u =
       written-keeps (λ v. v.count ≡ u.count) (serial_put clock)
       (λ place bits lanes v before. put-count clock place bits lanes v ∙ before) offset width value u refl
 
-  stored-next : (clock offset : ℕ) (width : Width) (value bound : ℕ) (u : SerialUnit) → 1 ≤ u.count
-      → bound ≤ clock + 512 → bound ≤ next_end u → bound ≤ next_end (serial_stored_at clock offset width value u)
-  stored-next clock offset width value bound u one soon before =
+  access-next : (clock offset : ℕ) (width : Width) (value bound : ℕ) (u : SerialUnit) → 1 ≤ u.count
+      → bound ≤ clock + 512 → bound ≤ next_end u → bound ≤ next_end (serial_written_at clock offset width value u)
+  access-next clock offset width value bound u one soon before =
       (written-keeps (λ v. (1 ≤ v.count) × (bound ≤ next_end v)) (serial_put clock)
       (λ place bits lanes v kept.
       let same = put-count clock place bits lanes v in
@@ -57,19 +57,19 @@ module _ (apart : EndsApart) (seats : StaysSeated) where
       offset width value u (one, before)).1
 
   register-count : (offset : ℕ) (width : Width) (value : ℕ) (c : Core)
-      → (register_stored offset width value c).serial.count ≡ c.serial.count
-  unfolding register_stored
+      → (register_written offset width value c).serial.count ≡ c.serial.count
+  unfolding register_written
   register-count offset width value c =
       either-core (λ u. u.count ≡ c.serial.count) (is_serial offset) _ _
-      (stored-count c.devices.clock offset width value c.serial) refl
+      (access-count c.devices.clock offset width value c.serial) refl
 
   register-next : (offset : ℕ) (width : Width) (value bound : ℕ) (c : Core) → 1 ≤ c.serial.count
       → bound ≤ c.devices.clock + 512 → bound ≤ next_end c.serial
-      → bound ≤ next_end (register_stored offset width value c).serial
-  unfolding register_stored
+      → bound ≤ next_end (register_written offset width value c).serial
+  unfolding register_written
   register-next offset width value bound c one soon before =
       either-core (λ u. bound ≤ next_end u) (is_serial offset) _ _
-      (stored-next c.devices.clock offset width value bound c.serial one soon before) before
+      (access-next c.devices.clock offset width value bound c.serial one soon before) before
 
   written-count : (c : Core) (address : ℕ) (width : Width) (value : ℕ)
       → (core_written c address width value).serial.count ≡ c.serial.count

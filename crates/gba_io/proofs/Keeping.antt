@@ -4,7 +4,7 @@ use Rattle.gba_bus.specs.declared.width.Width.{Width}
 use Rattle.gba_devices.specs.Keeping.{WritesKeep}
 use Rattle.gba_devices.specs.State.{Devices, after_dma_unit}
 use Rattle.gba_io.specs.Core.{Core}
-use Rattle.gba_io.specs.Bus.{core_written, io_offset, register_stored}
+use Rattle.gba_io.specs.Bus.{core_written, io_offset, register_written}
 use Rattle.gba_io.specs.SerialRegisters.{is_serial}
 use Rattle.gba_io.specs.Keeping.{IsSameTime, WritesKeepTime}
 
@@ -16,8 +16,8 @@ either-time true b one other here there = here
 either-time false b one other here there = there
 
 register-keeps-time : WritesKeep → (offset : ℕ) (width : Width) (value : ℕ) (b : Core)
-    → IsSameTime b (register_stored offset width value b)
-unfolding register_stored
+    → IsSameTime b (register_written offset width value b)
+unfolding register_written
 register-keeps-time keep offset width value b =
     either-time (is_serial offset) b _ _
     (record { clock = refl; place = refl; lines = refl })

@@ -1,5 +1,5 @@
 use Rattle.std.specs.Prelude.{ℕ, Bool, not, ◌&&◌, List, [], Option, if◌then◌else◌}
-use Rattle.gba_devices.specs.Registers.{half_stored, keyed}
+use Rattle.gba_devices.specs.Registers.{half_listed, keyed}
 use Rattle.gba_devices.specs.State.{Devices, begun, devices_at_reset, is_calm, is_idle, rested, woken}
 use Rattle.gba_devices.specs.Cycles.{after_cycles, device_cycle}
 use Rattle.gba_image.specs.Backups.{backup_length}
@@ -10,7 +10,7 @@ use Rattle.gba_mem.specs.Memories.{Memories, at_start}
 use Rattle.gba_mem.specs.Replacing.{cleared, with_part}
 use Rattle.gba_mem.specs.declared.part.MemoryPart.{MemoryPart}
 use Rattle.gba_io.specs.SerialRegisters.{is_serial}
-use Rattle.gba_serial.specs.Registers.{serial_stored}
+use Rattle.gba_serial.specs.Registers.{serial_listed}
 use Rattle.gba_serial.specs.SerialUnit.{SerialUnit, serial_at_reset}
 use Rattle.gba_serial.specs.Take.{learned}
 use Rattle.gba_serial.specs.Tell.{has_news, silent}
@@ -50,8 +50,8 @@ abbrev pub core_is_idle : Core → Bool
 core_is_idle b = is_idle b.devices && not (has_news b.serial)
 
 -- what is stored at a halfword of the I/O registers
-unfoldable pub core_half_stored : ℕ → Core → ℕ
-core_half_stored offset b = if is_serial offset then serial_stored offset b.serial else half_stored offset b.devices
+unfoldable pub core_half_listed : ℕ → Core → ℕ
+core_half_listed offset b = if is_serial offset then serial_listed offset b.serial else half_listed offset b.devices
 
 -- While its console is off, so many cycles pass in which no device moves, and a signal only tells its sender's mode.
 abbrev pub core_rested : ℕ → Core → Core

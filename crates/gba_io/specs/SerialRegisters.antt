@@ -24,5 +24,5 @@ unfoldable pub serial_put : ℕ → ℕ → ℕ → ℕ → SerialUnit → Seria
 serial_put clock offset value lanes u = put_by serial_kept (half_written clock) offset value lanes u
 
 -- what a write of an access's width leaves
-abbrev pub serial_stored_at : ℕ → ℕ → Width → ℕ → SerialUnit → SerialUnit
-serial_stored_at clock offset width value u = written_by_halves (serial_put clock) offset width value u
+abbrev pub serial_written_at : ℕ → ℕ → Width → ℕ → SerialUnit → SerialUnit
+serial_written_at clock offset width value u = written_by_halves (serial_put clock) offset width value u

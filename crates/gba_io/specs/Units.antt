@@ -12,14 +12,14 @@ outside_bios = 0x4000
 abbrev pub unit_value : DmaUnit → Core → ℕ
 unit_value unit b = core_read b outside_bios unit.source unit.width
 
-abbrev pub unit_stored : DmaUnit → Core → Core
-unit_stored unit b = core_written b unit.target unit.width (unit_value unit b)
+abbrev pub unit_written : DmaUnit → Core → Core
+unit_written unit b = core_written b unit.target unit.width (unit_value unit b)
 
 abbrev pub unit_ended : ℕ → Core → Core
 unit_ended channel b = record b { devices = after_dma_unit channel b.devices }
 
 unfoldable pub core_after_unit : DmaUnit → Core → Core
-core_after_unit unit b = unit_ended unit.channel (unit_stored unit b)
+core_after_unit unit b = unit_ended unit.channel (unit_written unit b)
 
 -- It costs its two accesses, which are non-sequential in the first unit of a run and sequential after it, and the first
 -- unit 2 cycles more (this project's profile).

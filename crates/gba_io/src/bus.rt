@@ -26,7 +26,7 @@ fn offset_of(address: u32) -> u32
 
 impl Core {
     ghost use Rattle.std.specs.Prelude.{◌≡◌, ◌<◌};
-    ghost use Rattle.gba_io.specs.Bus.{core_load, core_read, core_store, core_written, register_loaded, register_stored};
+    ghost use Rattle.gba_io.specs.Bus.{core_load, core_read, core_store, core_written, register_loaded, register_written};
 
     /// What a register reads.
     #[tactic(auto, unfolding(crate::specs::Bus::register_loaded))]
@@ -43,10 +43,10 @@ impl Core {
     }
 
     /// Writes a register. The serial unit's are written at the clock of the step.
-    #[tactic(auto, unfolding(crate::specs::Bus::register_stored, crate::specs::SerialRegisters::serial_put))]
+    #[tactic(auto, unfolding(crate::specs::Bus::register_written, crate::specs::SerialRegisters::serial_put))]
     fn store_register(&mut self, offset: u32, width: Width, value: u32)
         requires { offset < 0x400 }
-        ensures { self.new ≡ register_stored offset width value self.old }
+        ensures { self.new ≡ register_written offset width value self.old }
     {
         writes_keep();
         if is_serial(offset) {

@@ -82,7 +82,7 @@ impl Core {
     ghost use Rattle.gba_devices.specs.Samples.{left_sample, right_sample};
     ghost use Rattle.gba_devices.specs.State.{is_idle};
     ghost use Rattle.gba_image.specs.Checks.{SaveFits};
-    ghost use Rattle.gba_io.specs.Core.{core_after, core_at_start, core_begun, core_cycled, core_half_stored, core_is_calm, core_is_idle, core_keyed, core_learned, core_rested, core_woken, length_named, memory_named};
+    ghost use Rattle.gba_io.specs.Core.{core_after, core_at_start, core_begun, core_cycled, core_half_listed, core_is_calm, core_is_idle, core_keyed, core_learned, core_rested, core_woken, length_named, memory_named};
     ghost use Rattle.gba_io.specs.Base.{frames_from};
     ghost use Rattle.gba_io.specs.Board.{lines_with};
     ghost use Rattle.gba_io.specs.Made.{with_frame};
@@ -348,14 +348,14 @@ impl Core {
     }
 
     /// What is stored at the halfword of an offset from 04000000h; of bits that are only read, what they read.
-    #[tactic(auto, unfolding(crate::specs::Core::core_half_stored))]
+    #[tactic(auto, unfolding(crate::specs::Core::core_half_listed))]
     pub fn io_half(&self, offset: u32) -> u16
-        ensures { result ≡ core_half_stored offset self.now }
+        ensures { result ≡ core_half_listed offset self.now }
     {
         if is_serial(offset) {
-            self.serial.stored(offset)
+            self.serial.listed(offset)
         } else {
-            self.devices.half_stored(offset)
+            self.devices.half_listed(offset)
         }
     }
 

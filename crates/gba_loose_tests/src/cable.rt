@@ -54,9 +54,9 @@ fn is_made_of_numbers(rt: HostRuntime) -> Result<(), Fail> {
             round: 2,
         };
         let unit = serial(seat, &numbers, &io);
-        assert_eq!(rt; unit.stored(0x128), control);
+        assert_eq!(rt; unit.listed(0x128), control);
         for &(offset, half) in &HALVES {
-            assert_eq!(rt; unit.stored(offset), half);
+            assert_eq!(rt; unit.listed(offset), half);
         }
         assert_eq!(rt; unit.mode(), LinkMode::Multi);
         assert!(rt; unit.running() && unit.started() && !unit.has_news());

@@ -113,7 +113,7 @@ fn show_what_they_are_made_of(rt: HostRuntime) -> Result<(), Fail> {
     for offset in 0..512 {
         let place = 2 * offset as usize;
         let half = u16::from_le_bytes([io[place], io[place + 1]]);
-        assert_eq!(rt; made.half_stored(2 * offset), half);
+        assert_eq!(rt; made.half_listed(2 * offset), half);
     }
     assert_eq!(rt; made.clock(), 123_456);
     assert!(rt; made.halted() && made.master() && made.pending());

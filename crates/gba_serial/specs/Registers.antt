@@ -27,8 +27,8 @@ abbrev pub control_shown : SerialUnit → ℕ
 control_shown u = if is_multi (mode_of u) then multi_control u else u.control
 
 -- SIOCNT in the state file: its stored bits, the error in every mode, and in Multi the player
-abbrev pub control_stored : SerialUnit → ℕ
-control_stored u = bit_and u.control 0x708b + shown_player u + weight 64 u.error
+abbrev pub control_listed : SerialUnit → ℕ
+control_listed u = bit_and u.control 0x708b + shown_player u + weight 64 u.error
 
 -- what stands at a halfword whose SIOCNT is given
 abbrev pub halfword_at : ℕ → ℕ → SerialUnit → ℕ
@@ -51,5 +51,5 @@ abbrev pub serial_kept : ℕ → SerialUnit → ℕ
 serial_kept offset u = halfword_at offset u.control u
 
 -- a halfword of the state file
-abbrev pub serial_stored : ℕ → SerialUnit → ℕ
-serial_stored offset u = halfword_at offset (control_stored u) u
+abbrev pub serial_listed : ℕ → SerialUnit → ℕ
+serial_listed offset u = halfword_at offset (control_listed u) u

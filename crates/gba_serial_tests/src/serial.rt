@@ -186,7 +186,7 @@ fn tell<R: Abort>(rt: &R, unit: &mut Serial, one: Move) {
 fn show<R: Abort>(rt: &R, unit: &Serial, one: Move) {
     match one {
         Reads(offset, value) => equal(rt, u64::from(unit.read(offset)), u64::from(value)),
-        Stored(value) => equal(rt, u64::from(unit.stored(SIOCNT)), u64::from(value)),
+        Stored(value) => equal(rt, u64::from(unit.listed(SIOCNT)), u64::from(value)),
         Runs(started, end, got, sent, word) => runs(rt, unit, started, [end, got, sent, word]),
         Idle => runs(rt, unit, false, [0; 4]),
         _ => {}

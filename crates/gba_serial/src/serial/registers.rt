@@ -25,7 +25,7 @@ fn read_mask(offset: u32) -> u16
 impl Serial {
     ghost use Rattle.std.specs.Prelude.{◌≡◌, ◌<◌, ◌≤◌};
     ghost use Rattle.gba_serial.specs.SerialUnit.{all_ready, is_ready, known_mode};
-    ghost use Rattle.gba_serial.specs.Registers.{control_shown, control_stored, halfword_at, multi_control, serial_kept, serial_read, serial_stored, shown_player};
+    ghost use Rattle.gba_serial.specs.Registers.{control_shown, control_listed, halfword_at, multi_control, serial_kept, serial_read, serial_listed, shown_player};
 
     /// The mode that a player below 4 last told. That of this console itself, and of a player that isn't there, is Other.
     pub fn known(&self, player: u32) -> LinkMode
@@ -82,8 +82,8 @@ impl Serial {
         }
     }
 
-    fn control_stored(&self) -> u16
-        ensures { result ≡ control_stored self.now }
+    fn control_listed(&self) -> u16
+        ensures { result ≡ control_listed self.now }
     {
         (self.control & 0x708B) + self.shown_player() + weight_half(64, self.error)
     }
@@ -119,9 +119,9 @@ impl Serial {
     }
 
     /// The halfword in the state file: the stored bits, of SIOCNT also the error as bit 6 and in Multi the player.
-    pub fn stored(&self, offset: u32) -> u16
-        ensures { result ≡ serial_stored offset self.now }
+    pub fn listed(&self, offset: u32) -> u16
+        ensures { result ≡ serial_listed offset self.now }
     {
-        self.halfword_at(offset, self.control_stored())
+        self.halfword_at(offset, self.control_listed())
     }
 }
