@@ -3,8 +3,8 @@ use Rattle.std.proofs.Common.{◌≡◌, ℕ, ◌+◌, ◌-◌, ◌<◌, ◌≤�
 use Rattle.std.specs.Prelude.{Option}
 use Rattle.gba_devices.specs.State.{place_at_reset}
 use Rattle.gba_image.specs.declared.backup.Backup.{Backup}
-use Rattle.gba_io.specs.Base.{at_reset, begun_at, early_at}
-use Rattle.gba_io.specs.Board.{base_of, board_at_start, board_begun_at, board_emptied, board_from}
+use Rattle.gba_io.specs.Base.{begun_at, early_at}
+use Rattle.gba_io.specs.Board.{base_of, board_at_start, board_begun_at}
 use Rattle.gba_io.specs.Core.{Core, core_begun, core_learned, core_rested}
 use Rattle.gba_io.proofs.Drawing.{early-is}
 use Rattle.gba_io.specs.Drawing.{cycles_in, lines_drawn}
@@ -15,7 +15,6 @@ use Rattle.gba_mem.specs.Memories.{Memories}
 use Rattle.gba_ppu_reg.specs.Position.{IsPosition}
 use Rattle.gba_ppu_reg.specs.declared.position.Position.{Position}
 use Rattle.gba_serial.specs.SerialUnit.{SerialUnit}
-use Rattle.gba_serial.specs.declared.transfer.Transfer.{Transfer}
 use Rattle.link_node.specs.declared.signal.Incoming.{Incoming}
 use Rattle.gba_console.specs.Keys.{after_keys}
 use Rattle.gba_console.specs.Machine.{Machine, clock_of, first_on, left_of}
@@ -148,45 +147,6 @@ off-kept dues m core kept below early e =
       few = kept.few;
       same = kept.same;
     }
-
--- a console that is off and gets room for more
-pub more-kept : (off was until : ℕ) (b : Board) → IsKept off was b → b.core.devices.clock < off
-    → b.core.devices.clock ≤ until + 511 → until ≤ 2 ^ 39
-    → IsKept off was (board_begun_at (first_on off b.core.devices.clock) until b)
-more-kept off was until b kept below later most =
-    let rest = kept.rests below in
-    let first = first_on off b.core.devices.clock in
-    record {
-      most = kept.most;
-      on = λ on. absurd (omega (arith, on, below));
-      rests = λ _. record {
-        begins = ap (begun_at first) rest.begins;
-        ends = ap (begun_at first) rest.ends;
-        place = rest.place;
-        drawn = rest.drawn;
-        frames = rest.frames;
-        samples = rest.samples;
-        words = rest.words;
-        few = rest.few;
-        seat = rest.seat;
-      };
-      short = kept.short;
-      clock = later;
-      few = most;
-      same = refl;
-    }
-
--- it forgets nothing, since its lists are empty
-pub rest-forgets : (off clock until : ℕ) (b : Board) → IsResting off b
-    → board_from at_reset 0 (board_begun_at (first_on off clock) until b) ≡ board_emptied (board_from at_reset 0 b)
-rest-forgets off clock until b rest =
-    let plain = board_from at_reset 0 b in
-    ap (λ (bytes : List ℕ). record plain { made = record plain.made { frames = bytes } }) rest.frames
-    ∙ ap (λ (bytes : List ℕ). record plain { made = record plain.made { frames = []; samples = bytes } }) rest.samples
-    ∙ ap (λ (words : List Transfer). record plain {
-      made = record plain.made { frames = []; samples = [] };
-      ended = record plain.ended { words = words };
-    }) rest.words
 
 -- at reset
 pub reset-kept : (off was until : ℕ) (b : Board) (player count round : ℕ) (bios : List ℕ) (cart save : Option (List ℕ))
