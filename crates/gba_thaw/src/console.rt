@@ -155,7 +155,7 @@ fn pour_all(
 
 /// Lets a console at its start go on from what the lines of a frozen file say of it, in a job of so many cycles; false where no run
 /// can, and then nothing is promised of the console. It takes no memory.
-pub fn thaw_console(console: &mut Console, filled: &Filled, until: u64) -> bool
+pub(crate) fn thaw_console(console: &mut Console, filled: &Filled, until: u64) -> bool
     requires until { until ≤ 2 ^ 39 }
     requires lengths { HaveLengths (backup_in console.old) filled.now.memories }
     ensures { console_thawed until console.old filled.now.numbers (λ name. bytes_of name filled.now.memories) filled.now.drawn

@@ -8,5 +8,4 @@ mod file;
 pub mod laws;
 mod stored;
 
-pub use console::thaw_console;
 pub use file::{ThawRefused, thaw};
