@@ -1,4 +1,4 @@
-use Rattle.std.specs.Prelude.{ℕ, zero, suc, ◌+◌, List, [], ◌∷◌, ◌++◌, codes, decimal}
+use Rattle.std.specs.Prelude.{ℕ, zero, suc, ◌+◌, List, [], ◌++◌, codes, decimal}
 use Rattle.gba_terms.specs.Hexadecimal.{hex}
 use Rattle.gba_psr.specs.RegisterFile.{register, status}
 use Rattle.gba_console.specs.Machine.{Machine, player_of}

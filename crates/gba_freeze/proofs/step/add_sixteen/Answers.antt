@@ -1,5 +1,5 @@
 use Rattle.std.proofs.Common.{◌-◌, ◌++◌, ◌∙◌, ap, arith}
-use Rattle.gba_freeze.specs.StepLine.{registers_from, word_text}
+use Rattle.gba_freeze.specs.StepLine.{word_text}
 use Rattle.gba_freeze.proofs.Registers.{added, none_left}
 use Rattle.gba_freeze.proofs.step.add_sixteen.Goals as goal
 
