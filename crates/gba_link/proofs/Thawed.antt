@@ -1,16 +1,12 @@
 -- What a frozen file comes to, from a start of the same consoles, and the run that goes on from there.
-use Rattle.std.proofs.Common.{◌≡◌, ℕ, List, Result, Ok, Err, sym, ap, ◌∙◌}
+use Rattle.std.proofs.Common.{◌≡◌, ℕ, List, Result, Err, sym, ap, ◌∙◌}
 use Rattle.gba_command.specs.Cause.{Cause}
-use Rattle.gba_command.specs.Words.{ResumeWords}
 use Rattle.gba_command.specs.Writing.{Run}
 use Rattle.gba_console.specs.Machine.{Machine, without_limit}
-use Rattle.gba_frozen.specs.declared.kinds.ThawKind.{ThawKind}
 use Rattle.gba_image.specs.declared.images.ConsoleImages.{ConsoleImages}
 use Rattle.gba_joblog.specs.Job.{WholeJob}
 use Rattle.gba_joblog.specs.Log.{log_text}
-use Rattle.gba_link.specs.ResumePlan.{thawed_run}
 use Rattle.gba_session.specs.Start.{start_of}
-use Rattle.gba_text.specs.declared.kinds.LineError.{LineError}
 use Rattle.gba_thaw.specs.Cut.{thaw_of}
 use Rattle.gba_thaw.specs.Law.{ThawsPlainly}
 use Rattle.link_order.specs.Cut.{Cut, plain_cut}
@@ -27,14 +23,6 @@ thawed-as plainly job said images read digest bytes start same seen digested beg
     ∙ ap (λ (one : List ℕ). thaw_of one job.cycles (plain_cut without_limit start) bytes) (sym digested)
     ∙ plainly digest job.cycles start bytes
 
--- what comes of it
-pub thawed-comes : (words : ResumeWords) (job said : WholeJob) (one other : Result (Cut Machine) (LineError ThawKind))
-    → job ≡ said → other ≡ one → thawed_run words said other ≡ thawed_run words job one
-thawed-comes words job said one other same is =
-    ap (thawed_run words said) is ∙ ap (λ (j : WholeJob). thawed_run words j one) (sym same)
-
+-- a run that is refused
 abbrev pub refused_run : Cause → Result Run Cause
 refused_run cause = Err cause
-
-abbrev pub ready_run : Run → Result Run Cause
-ready_run run = Ok run

@@ -55,8 +55,8 @@ pub fn gba_link<R: Threads + Sync, S: Store, O: Sink, G: Gate + Sync>(
     gate: &G,
 ) -> u8
     ensures answer { (end : Result Run Stop)
-        × GoesTo S.gives (plan_of (map string_bytes words.now))
-        store.old store.new end × Answers O.Tells result end (O.state out.old) (O.state out.new) }
+        × GoesTo S.gives (plan_of (map string_bytes words.now)) store.old store.new end
+        × Answers O.Tells result end (O.state out.old) (O.state out.new) }
     ensures complete { S.Tells
         → (Rose (S.absences store.old) (S.absences store.new) → ⊥)
         → (Rose (S.faults store.old) (S.faults store.new) → ⊥)

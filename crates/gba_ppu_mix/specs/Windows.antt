@@ -19,8 +19,9 @@ is_on_side side place = nat_le side.start place && nat_lt place side.end
 -- Window 0 or 1 on a line: whether it has a part there, which columns that part has, and what shows in it.
 abbrev pub window_of : Picture → ℕ → ℕ → Window
 window_of r number y = record {
-  on_line = bit (picture_kept 0x000 r) (13 + number) && is_on_side
-      (side_of (picture_kept (0x044 + 2 * number) r) 160) y;
+  on_line =
+      bit (picture_kept 0x000 r) (13 + number)
+      && is_on_side (side_of (picture_kept (0x044 + 2 * number) r) 160) y;
   columns = side_of (picture_kept (0x040 + 2 * number) r) 240;
   shows = field (picture_kept 0x048 r) (8 * number) 6;
 }

@@ -24,5 +24,5 @@ parameter_of oam group number = sign_extension (half_at oam (32 * group + 8 * nu
 -- above it stands for itself plus 2 ^ 24, which is past every picture's edge.
 unfoldable pub turned_place : ℕ → ℕ → ℕ → ℕ → ℕ → ℕ → ℕ → ℕ
 turned_place across down box_wide box_high side p q =
-    ((across * (p + (2 ^ 32 - box_wide / 2)) + down *
-    (q + (2 ^ 32 - box_high / 2))) % 2 ^ 32 / 2 ^ 8 + side / 2) % 2 ^ 24
+    ((across * (p + (2 ^ 32 - box_wide / 2)) + down * (q + (2 ^ 32 - box_high / 2))) % 2 ^ 32 / 2 ^ 8 + side / 2)
+    % 2 ^ 24

@@ -68,10 +68,10 @@ fn end_log(
     requires empty { log.old.items ≡ [] }
     requires room { length (log_text (job_value job.old)) + digests_room ≤ vec_capacity log.old }
     ensures log { log.new.items ≡ log_of (job_value job.old) (files_at (job_value job.old) (whole_cut session.now)) }
-    ensures end { conclusion_value result ≡ conclusion
-        (difference_of (map names_value names.now) (job_value job.old).consoles
-        (files_at (job_value job.old) (whole_cut session.now)))
-        (summary_lines (whole_cut session.now).consoles ++ log_line log.new.items) }
+    ensures end { let files = files_at (job_value job.old) (whole_cut session.now) in
+        let cause = difference_of (map names_value names.now) (job_value job.old).consoles files in
+        conclusion_value result
+        ≡ conclusion cause (summary_lines (whole_cut session.now).consoles ++ log_line log.new.items) }
 {
     let cause = state_consoles(job.consoles.as_mut_slice(), names, session);
     print(job, log);

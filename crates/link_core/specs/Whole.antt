@@ -36,8 +36,9 @@ is_allowed between clock one i = i == one.sender || nat_lt one.signal.clock (clo
 
 abbrev pub is_sound_signal : (ℕ → ℕ → ℕ) → (ℕ → ℕ) → ℕ → Sent → Bool
 is_sound_signal between clock count one =
-    nat_lt one.sender count && nat_lt one.signal.clock (clock one.sender) && all_below
-    (is_allowed between clock one) count
+    nat_lt one.sender count
+    && nat_lt one.signal.clock (clock one.sender)
+    && all_below (is_allowed between clock one) count
 
 -- one after another
 abbrev pub is_behind : Sent → List Sent → Bool

@@ -170,8 +170,8 @@ pub(crate) fn is_awaited_by<N: Node>(nodes: &[N], delays: &Delays, one: &Sent) -
 
 /// Drops the signals that nobody can take any more.
 pub(crate) fn drop_dead<N: Node>(sent: &mut Vec<Sent>, nodes: &[N], delays: &Delays)
-    ensures items { sent.new.items ≡ filter
-        (is_awaited (hop_of delays.now) (slice_index (map N.was (map N.plain nodes.now))) (length nodes.now))
+    ensures items { sent.new.items
+        ≡ filter (is_awaited (hop_of delays.now) (slice_index (map N.was (map N.plain nodes.now))) (length nodes.now))
         sent.old.items }
     ensures room { vec_capacity sent.new ≡ vec_capacity sent.old }
 {

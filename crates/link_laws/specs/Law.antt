@@ -29,8 +29,8 @@ pub record GoesOn {C : Type 0} (kind : NodeKind C) (cut : Cut C) (until : ℕ) (
 
 -- consoles that a list of actions has reached: each is the global order's after as many of its steps, and
 -- the cut goes on
-pub record IsEqual {C : Type 0} (kind : NodeKind C) (cut : Cut C) (until : ℕ) (actions : List Action) (d : Cut C) : Type
-    0
+pub record IsEqual {C : Type 0} (kind : NodeKind C) (cut : Cut C) (until : ℕ) (actions : List Action)
+    (d : Cut C) : Type 0
   where
     pub each : (i : ℕ) → i < count cut → IsAfter kind cut until d i (steps_of i actions)
     pub goes_on : GoesOn kind cut until d

@@ -13,8 +13,8 @@ use Rattle.link_order.specs.Way.{console_after}
 -- this project's profile: the steps of a trace, one by one. They are numbered from 0, each console's apart
 
 -- Step k of player i in the trace to `until`: the console stands as x, and takes these signals.
-pub record MakesStep {C : Type 0} (kind : NodeKind C) (cut : Cut C) (until i k : ℕ) (x : C) (dues : List Incoming) : Type
-    0
+pub record MakesStep {C : Type 0} (kind : NodeKind C) (cut : Cut C) (until i k : ℕ) (x : C)
+    (dues : List Incoming) : Type 0
   where
     pub player : i < count cut
     pub made : k < count_of i (trace kind cut until)

@@ -68,8 +68,8 @@ IsRest s old new i j sent None = (slice_index old.fetched (pair_place i j) ≡ s
 IsRest s old new i j sent (Some signal) =
     (slice_index old.fetched (pair_place i j) < sent)
     × (slice_get (told s j) (slice_index old.fetched (pair_place i j)) ≡ Some signal)
-    × (new ≡ with_fetched old
-    (slice_set old.fetched (pair_place i j) (slice_index old.fetched (pair_place i j) + 1)))
+    × (new
+    ≡ with_fetched old (slice_set old.fetched (pair_place i j) (slice_index old.fetched (pair_place i j) + 1)))
 
 -- the same, where player j's progress is known
 abbrev pub Rested : {K : Type 0} → Script → JoinedState K → JoinedState K → ℕ → ℕ → Option Signal → Type 0
