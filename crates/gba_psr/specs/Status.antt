@@ -29,6 +29,10 @@ status_with_flags status flags =
     flag_number flags.negative * 2 ^ 31 + flag_number flags.zero * 2 ^ 30 + flag_number flags.carry * 2 ^ 29
     + flag_number flags.overflow * 2 ^ 28 + field status 0 28
 
+-- the bytes of an instruction: of a halfword where T, bit 5, is set, and else of a word (ARM Architecture Reference Manual, A2.5)
+abbrev pub unit_bytes : ℕ → ℕ
+unit_bytes status = if bit status 5 then 2 else 4
+
 -- what CPSR always is: no bit but the stored ones, and one of the seven modes
 pub record IsStatus (status : ℕ) : Type 0 where
   pub stored : kept_status status ≡ status

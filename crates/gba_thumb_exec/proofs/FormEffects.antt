@@ -289,7 +289,7 @@ narrowed-fits (quick.StoreByte rn rd offset) fits = fits
 narrowed-fits (quick.Branch distance) fits = fits
 narrowed-fits _ fits = fits
 
-meaning-fits : (one : ThumbOp) → thumb.Fits one → MeaningFits (meaning_of one)
+pub meaning-fits : (one : ThumbOp) → thumb.Fits one → MeaningFits (meaning_of one)
 meaning-fits (op.Format1 op o5 rs rd) fits =
     let zero : 0 < 16 = omega arith in
     (record {

@@ -1,0 +1,6 @@
+use Rattle.gba_exec_laws.proofs.Halves.{sound-word-execution}
+use Rattle.gba_exec_laws.proofs.laws.words_stay_sound.Goals as goal
+
+pub returns : goal.returns
+returns g c =
+    sound-word-execution g.B.Bus.code_price_of g.B.Bus.load_of g.B.Bus.store_of c.operations_fit.ensures
