@@ -1,4 +1,4 @@
-use Rattle.std.specs.Prelude.{ℕ, ◌+◌, ◌*◌, ◌==◌, Bool, true, false, max, if◌then◌else◌}
+use Rattle.std.specs.Prelude.{ℕ, ◌+◌, ◌*◌, ◌^◌, ◌==◌, nat_lt, Bool, true, false, max, if◌then◌else◌}
 use Rattle.gba_terms.specs.Bits.{bit, field}
 use Rattle.link_node.specs.declared.signal.LinkMode.{LinkMode}
 use Rattle.link_node.specs.declared.signal.LinkMode.TheVariants.{Normal8, Normal32, Multi, Other}
@@ -37,6 +37,13 @@ word_width Normal8 = 8
 word_width Normal32 = 32
 word_width Multi = 16
 word_width Other = 0
+
+-- whether a number is a word of a transfer in a mode, which has transfers
+unfoldable pub is_word_of : LinkMode → ℕ → Bool
+is_word_of Normal8 word = nat_lt word 0x100
+is_word_of Normal32 word = nat_lt word (2 ^ 32)
+is_word_of Multi word = nat_lt word 0x10000
+is_word_of Other word = false
 
 -- what a transfer of a mode takes of a word
 abbrev pub cut_word : LinkMode → ℕ → ℕ

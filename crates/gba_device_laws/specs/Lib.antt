@@ -1,0 +1,3 @@
+pub mod Cable
+pub mod Holding
+pub mod Staying
