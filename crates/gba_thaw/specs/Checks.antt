@@ -1,7 +1,6 @@
 -- What a frozen file has to say of a console beside each number's range, so that a run can go on from it. Each is a test of
 -- numbers, of the bytes of the I/O registers, and of the devices and the serial unit that they make.
-use Rattle.std.specs.Prelude.{ℕ, ◌+◌, ◌-◌, ◌%◌, ◌^◌, ◌==◌, Bool, false, not, ◌&&◌, ◌||◌, nat_le, nat_lt, List, length, slice_index, slice_index_or, if◌then◌else◌}
-use Rattle.gba_terms.specs.Bits.{bit}
+use Rattle.std.specs.Prelude.{ℕ, ◌+◌, ◌-◌, ◌%◌, ◌^◌, ◌==◌, Bool, not, ◌&&◌, ◌||◌, nat_le, nat_lt, List, length, slice_index, slice_index_or, if◌then◌else◌}
 use Rattle.gba_dma.specs.Channels.{FourChannels}
 use Rattle.gba_dma.specs.declared.channel.Channel.{Channel}
 use Rattle.gba_console.specs.Keys.{due_count}
@@ -15,16 +14,13 @@ use Rattle.gba_numbers.specs.Numbers.{ConsoleNumbers, value_of}
 use Rattle.gba_numbers.specs.declared.fields.BoardField.TheVariants as board
 use Rattle.gba_numbers.specs.declared.fields.Field.TheVariants.{Applied, Board, Clock, Frames, Samples, Was, Words}
 use Rattle.gba_ppu_reg.specs.declared.position.Position.{Position}
+use Rattle.gba_psr.specs.Status.{unit_bytes}
 use Rattle.gba_serial.specs.SerialUnit.{SerialUnit, is_running, known_mode, mode_of}
 use Rattle.gba_serial.specs.Numbers.{sent_number, word_number}
+use Rattle.gba_serial.specs.Timing.{is_word_of}
 use Rattle.link_node.specs.Packing.{mode_number}
-use Rattle.link_node.specs.declared.signal.LinkMode.{LinkMode}
-use Rattle.link_node.specs.declared.signal.LinkMode.TheVariants.{Normal8, Normal32, Multi, Other}
 
 -- r15 is the address of an instruction: of a halfword where T, bit 5 of CPSR, is set, and else of a word
-abbrev pub unit_bytes : ℕ → ℕ
-unit_bytes status = if bit status 5 then 2 else 4
-
 unfoldable pub is_aligned : List ℕ → Bool
 is_aligned registers = slice_index registers 15 % unit_bytes (slice_index registers 31) == 0
 
@@ -66,14 +62,7 @@ is_idle n =
     && (value_of (Board board.SerialGot) n == 0) && (value_of (Board board.SerialSent) n == 0)
     && (value_of (Board board.SerialWord) n == 0)
 
--- a transfer runs in a mode that has transfers, and its words are of that mode's width
-unfoldable pub is_word_of : LinkMode → ℕ → Bool
-is_word_of Normal8 word = nat_lt word 0x100
-is_word_of Normal32 word = nat_lt word (2 ^ 32)
-is_word_of Multi word = nat_lt word 0x10000
-is_word_of Other word = false
-
--- One runs only while the console is on.
+-- A transfer runs in a mode that has transfers, its words are of that mode's width, and one runs only while the console is on.
 unfoldable pub runs_rightly : ℕ → ConsoleNumbers → SerialUnit → Bool
 runs_rightly off n u =
     if is_running u

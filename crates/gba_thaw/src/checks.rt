@@ -10,7 +10,8 @@ ghost use Rattle.gba_loose_devices.specs.Devices.{keys_poured};
 ghost use Rattle.link_node.specs.Packing.{mode_number as number_of_mode};
 ghost use Rattle.gba_numbers.specs.Fields.{is_field, place_of};
 ghost use Rattle.gba_numbers.specs.Numbers.{value_of};
-ghost use Rattle.gba_thaw.specs.Checks.{are_applied as are_applied_of, are_drawn as are_drawn_of, are_known as are_known_of, has_left as has_left_of, has_mode as has_mode_of, is_aligned as is_aligned_of, is_idle as is_idle_of, is_known as is_known_of, is_sound_flash as is_sound_flash_of, is_timed as is_timed_of, is_word_of as is_word_of_mode, pressed_after as pressed_after_of, runs_rightly as runs_rightly_of};
+ghost use Rattle.gba_serial.specs.Timing.{is_word_of as is_word_of_mode};
+ghost use Rattle.gba_thaw.specs.Checks.{are_applied as are_applied_of, are_drawn as are_drawn_of, are_known as are_known_of, has_left as has_left_of, has_mode as has_mode_of, is_aligned as is_aligned_of, is_idle as is_idle_of, is_known as is_known_of, is_sound_flash as is_sound_flash_of, is_timed as is_timed_of, pressed_after as pressed_after_of, runs_rightly as runs_rightly_of};
 
 use gba_console::KeyState;
 use gba_dma::Channel;
@@ -153,7 +154,7 @@ fn is_idle(numbers: &Numbers) -> bool
 }
 
 /// Whether a word is one of a transfer in a mode.
-#[tactic(auto, unfolding(crate::specs::Checks::is_word_of))]
+#[tactic(auto, unfolding(gba_serial::specs::Timing::is_word_of))]
 fn is_word_of(mode: LinkMode, word: u32) -> bool
     ensures { result ≡ is_word_of_mode mode word }
 {

@@ -1,0 +1,322 @@
+-- What a step keeps of a console.
+use Rattle.std.proofs.Common.{ℕ, ◌≡◌, ◌≢◌, ◌<◌, ◌≤◌, ◌+◌, ◌-◌, ◌%◌, ◌^◌, zero, suc, Bool, true, false, List, [], ◌∷◌, length, drop, replicate, get_or, refl, ap, sym, subst, ◌∙◌, ◌⊎◌, inl, inr, arith, if◌then◌else◌}
+use Rattle.std.specs.Prelude.{All, Option, None, Some, nat_le, nat_lt, unwrap_or, is_some}
+use Rattle.std.proofs.lemmas.Bool.{cases_lt, false≢true}
+use Rattle.std.proofs.lemmas.Bool.Decides.{nat_tests}
+use Rattle.std.proofs.lemmas.List.{length-replicate, get_or-replicate, get_or-set_other, get_or_past}
+use Rattle.gba_terms.specs.Bits.{bit}
+use Rattle.gba_psr.specs.Entry.{after_entry}
+use Rattle.gba_psr.specs.RegisterFile.{IsRegisterFile, mode, register, reset_file, status}
+use Rattle.gba_psr.specs.Modes.{place}
+use Rattle.gba_psr.specs.Status.{kept_status}
+use Rattle.gba_psr.specs.declared.exceptions.Exception.TheVariants.{Interrupt}
+use Rattle.gba_exec_laws.specs.Sound.{IsSoundFile, IsStoredFile}
+use Rattle.gba_exec_laws.proofs.Files.{sound-entry}
+use Rattle.gba_exec_transfers.specs.Done.{Done}
+use Rattle.gba_device_laws.specs.Cable.{SerialHolds, SerialStays, last_clock}
+use Rattle.gba_device_laws.specs.Holding.{DevicesHold}
+use Rattle.gba_device_laws.specs.Staying.{DevicesStay}
+use Rattle.gba_devices.specs.Keeping.{WritesKeep}
+use Rattle.gba_dma.specs.Channels.{next_unit}
+use Rattle.gba_dma.specs.declared.unit.Unit.{Unit as DmaUnit}
+use Rattle.gba_flash.specs.Flash.{flash_at_first}
+use Rattle.gba_image.specs.Backups.{backup_length}
+use Rattle.gba_image.specs.declared.backup.Backup.{Backup}
+use Rattle.gba_image.specs.declared.backup.Backup.TheVariants.{Sram, Flash64, Flash128}
+use Rattle.gba_io.specs.Board.{BoardPasses, board_after}
+use Rattle.gba_io.specs.Core.{Core, core_begun, core_learned, core_woken}
+use Rattle.gba_io.specs.declared.board.Board.{Board}
+use Rattle.gba_io.specs.declared.made.Room.{Room}
+use Rattle.gba_mem.specs.BackupLaw.{BackupsStaySound, IsSoundBackup}
+use Rattle.gba_mem.specs.Backups.{backup_at_start}
+use Rattle.gba_mem.specs.Memories.{at_start, inner_length, oam_length, palette_length, saved_bytes, vram_length, work_length}
+use Rattle.gba_serial.specs.SerialUnit.{SerialUnit, is_peer, is_running}
+use Rattle.gba_serial.specs.Take.{learned, with_known}
+use Rattle.link_node.specs.declared.signal.Incoming.{Incoming}
+use Rattle.gba_console.specs.Counted.{CountsAlways}
+use Rattle.gba_console.specs.Keys.{after_keys, due_count}
+use Rattle.gba_console.specs.Machine.{Machine, clock_of, is_off, left_of, reset}
+use Rattle.gba_console.specs.Run.{StepPasses}
+use Rattle.gba_console.specs.Step.{acted, acted_for, all_learned, all_taken, applied_in, awake_done, board_begun, done_in, enters, entry_done, execution_of_half, execution_of_word, half_done, heard, idle_done, idles, in_thumb, instruction_done, prepared, prepared_off, stepped, stepped_off, stepped_on, word_done}
+use Rattle.gba_console.specs.StepLaws.{keys-serial}
+use Rattle.gba_console.specs.declared.keys.KeyState.{KeyState}
+use Rattle.gba_run_laws.specs.Holding.{AreNear, ChangesHold, HaveLengths, Holds, StepsHold}
+use Rattle.gba_run_laws.proofs.Cores.{CoreHolds, after-acted, after-cycles, after-keys, after-learning, begun-holds, heard-core}
+
+-- ---- the changes of the keys
+
+due-step : (applied clock : ℕ) (changes : List KeyState) (test : Bool) → suc applied ≤ (if test then 1 + due_count clock changes else 0)
+    → (applied ≤ due_count clock changes → applied + due_count clock (drop applied changes) ≡ due_count clock changes)
+    → suc applied + due_count clock (drop applied changes) ≡ (if test then 1 + due_count clock changes else 0)
+due-step applied clock changes true some rest = let same = rest (omega (arith, some)) in omega (arith, same)
+due-step applied clock changes false none rest = absurd (omega (arith, none))
+
+-- those that are applied and those that are due then are all that are due
+due-more : (applied clock : ℕ) (changes : List KeyState) → applied ≤ due_count clock changes
+    → applied + due_count clock (drop applied changes) ≡ due_count clock changes
+unfolding due_count
+due-more zero clock changes within = omega arith
+due-more (suc applied) clock [] within = absurd (omega (arith, within))
+due-more (suc applied) clock (change ∷ changes) within =
+    due-step applied clock changes (nat_le change.clock clock) within (due-more applied clock changes)
+
+due-later : (early late : ℕ) (changes : List KeyState) → early ≤ late → due_count early changes ≤ due_count late changes
+unfolding due_count
+due-later early late [] before = omega arith
+due-later early late (change ∷ changes) before =
+    let rest = due-later early late changes before in
+    grind (arith, nat_tests, rest, before)
+
+-- ---- the registers
+
+module _ (words : (word : ℕ) (file : List ℕ) (b : Core) → IsSoundFile file
+      → IsSoundFile (execution_of_word word file b).registers)
+    (halves : (half : ℕ) (file : List ℕ) (b : Core) → IsSoundFile file → bit (status file) 5 ≡ true
+      → IsSoundFile (execution_of_half half file b).registers) where
+  instruction-sound : (file : List ℕ) (b : Core) → IsSoundFile file → IsSoundFile (instruction_done file b).registers
+  unfolding instruction_done
+  instruction-sound file b is =
+      by_state (in_thumb file) refl
+    where
+      by_state : (test : Bool) → in_thumb file ≡ test → IsSoundFile (if test then half_done file b else word_done file b).registers
+      by_state true thumb = halves _ file b is thumb
+      by_state false arm = words _ file b is
+
+  either-sound : (test : Bool) (one other : Done Core) → IsSoundFile one.registers → IsSoundFile other.registers
+      → IsSoundFile (if test then one else other).registers
+  either-sound true one other here there = here
+  either-sound false one other here there = there
+
+  awake-sound : (file : List ℕ) (b : Core) → IsSoundFile file → IsSoundFile (awake_done file b).registers
+  awake-sound file b is =
+      either-sound (enters file b) (entry_done file b) (instruction_done file b)
+      (sound-entry Interrupt ((register file 15 + 4) % 2 ^ 32) file is.stored) (instruction-sound file b is)
+
+  acting-sound : (unit : Option DmaUnit) (file : List ℕ) (b : Core) → IsSoundFile file → IsSoundFile (acted_for unit file b).registers
+  acting-sound (Some unit) file b is = is
+  acting-sound None file b is =
+      either-sound (idles b) (idle_done file b) (awake_done file (core_woken b)) is (awake-sound file (core_woken b) is)
+
+  pub acted-sound : (file : List ℕ) (b : Core) → IsSoundFile file → IsSoundFile (acted file b).registers
+  unfolding acted
+  acted-sound file b is = acting-sound (next_unit b.devices.channels) file b is
+
+-- ---- a console that is off
+
+run-same : (dues : List Incoming) (b : Core) → is_running (all_learned dues b).serial ≡ is_running b.serial
+run-same [] b = refl
+run-same (due ∷ dues) b =
+    run-same dues (core_learned due b) ∙ learned-run due b.serial (is_peer due.sender b.serial)
+  where
+    learned-run : (one : Incoming) (u : SerialUnit) (test : Bool) → is_running (if test then with_known one u else u) ≡ is_running u
+    learned-run one u true = refl
+    learned-run one u false = refl
+
+off-running : (dues : List Incoming) (m : Machine) → is_running (prepared_off dues m).serial ≡ is_running m.board.core.serial
+off-running dues m =
+    ap is_running (keys-serial (clock_of m) (left_of m) (all_learned dues (core_begun m.board.core)))
+    ∙ run-same dues (core_begun m.board.core)
+
+since-on : (clock off : ℕ) → nat_lt clock off ≡ false → off ≤ clock
+since-on clock off on = grind (arith, nat_tests, on)
+
+-- ---- a step
+
+-- what keeps to its rules whatever the counts and the clocks are
+record Parts (m : Machine) : Type 0 where
+  registers : IsSoundFile m.registers
+  lengths : HaveLengths m.board.core.memory
+  backup : IsSoundBackup m.board.core.memory.backup
+  devices : DevicesHold m.board.core.devices
+  serial : SerialHolds m.board.core.serial
+
+either-parts : (test : Bool) (one other : Machine) → Parts one → Parts other → Parts (if test then one else other)
+either-parts true one other here there = here
+either-parts false one other here there = there
+
+module _ (words : (word : ℕ) (file : List ℕ) (b : Core) → IsSoundFile file
+      → IsSoundFile (execution_of_word word file b).registers)
+    (halves : (half : ℕ) (file : List ℕ) (b : Core) → IsSoundFile file → bit (status file) 5 ≡ true
+      → IsSoundFile (execution_of_half half file b).registers)
+    (backups : BackupsStaySound) (passes : (cycles : ℕ) (b : Board) → BoardPasses cycles b) (counts : CountsAlways)
+    (devices : DevicesStay) (serial : SerialStays) (follows : (dues : List Incoming) (m : Machine) → StepPasses dues m)
+    (writes : WritesKeep) where
+  core-of : (m : Machine) → clock_of m ≤ last_clock → Holds m → CoreHolds m.board.core
+  core-of m near is = record { near = near; lengths = is.lengths; backup = is.backup; devices = is.devices; serial = is.serial }
+
+  begun-core : (m : Machine) → clock_of m ≤ last_clock → Holds m → CoreHolds (core_begun m.board.core)
+  begun-core m near is = begun-holds backups devices serial writes m.board.core (core-of m near is)
+
+  prepared-core : (dues : List Incoming) (m : Machine) → clock_of m ≤ last_clock → AreNear dues → Holds m → CoreHolds (prepared dues m)
+  prepared-core dues m near all is =
+      after-keys backups devices serial writes (clock_of m) (left_of m) (heard dues m).core
+      (heard-core backups devices serial writes (clock_of m) dues (board_begun m.board) all (begun-core m near is))
+
+  done-core : (dues : List Incoming) (m : Machine) → clock_of m ≤ last_clock → AreNear dues → Holds m → CoreHolds (done_in dues m).bus
+  done-core dues m near all is =
+      after-acted backups devices serial writes m.registers (prepared dues m) (prepared-core dues m near all is)
+
+  on-parts : (dues : List Incoming) (m : Machine) → clock_of m ≤ last_clock → AreNear dues → Holds m → Parts (stepped_on dues m)
+  unfolding stepped_on
+  on-parts dues m near all is =
+      let done = done_in dues m in
+      let core = done-core dues m near all is in
+      let board = record (heard dues m) { core = done.bus } in
+      let passed = passes done.cycles board in
+      record {
+        registers = acted-sound words halves m.registers (prepared dues m) is.registers;
+        lengths = rw passed.memory core.lengths;
+        backup = rw passed.memory core.backup;
+        devices = rw passed.devices (after-cycles backups devices serial writes done.cycles done.bus.devices core.devices);
+        serial = rw passed.serial core.serial;
+      }
+
+  off-core : (dues : List Incoming) (m : Machine) → clock_of m ≤ last_clock → Holds m → CoreHolds (prepared_off dues m)
+  off-core dues m near is =
+      after-keys backups devices serial writes (clock_of m) (left_of m) (all_learned dues (core_begun m.board.core))
+      (after-learning backups devices serial writes dues (core_begun m.board.core) (begun-core m near is))
+
+  off-parts : (dues : List Incoming) (m : Machine) → clock_of m ≤ last_clock → Holds m → Parts (stepped_off dues m)
+  unfolding stepped_off
+  off-parts dues m near is =
+      let core = off-core dues m near is in
+      record {
+        registers = is.registers;
+        lengths = core.lengths;
+        backup = core.backup;
+        devices = devices.rests 16 (prepared_off dues m).devices core.devices;
+        serial = core.serial;
+      }
+
+  step-parts : (dues : List Incoming) (m : Machine) → clock_of m ≤ last_clock → AreNear dues → Holds m → Parts (stepped dues m)
+  unfolding stepped
+  step-parts dues m near all is =
+      either-parts (is_off m) (stepped_off dues m) (stepped_on dues m) (off-parts dues m near is) (on-parts dues m near all is)
+
+  step-applied : (dues : List Incoming) (m : Machine) → (stepped dues m).applied ≡ applied_in m
+  unfolding stepped stepped_on stepped_off
+  step-applied dues m = by_off (is_off m)
+    where
+      by_off : (test : Bool) → (if test then stepped_off dues m else stepped_on dues m).applied ≡ applied_in m
+      by_off true = refl
+      by_off false = refl
+
+  step-keys : (dues : List Incoming) (m : Machine) → (stepped dues m).keys ≡ m.keys
+  unfolding stepped stepped_on stepped_off
+  step-keys dues m = by_off (is_off m)
+    where
+      by_off : (test : Bool) → (if test then stepped_off dues m else stepped_on dues m).keys ≡ m.keys
+      by_off true = refl
+      by_off false = refl
+
+  step-on : (dues : List Incoming) (m : Machine) → Holds m → is_running (stepped dues m).board.core.serial ≡ true → m.off ≤ clock_of m
+  unfolding stepped stepped_off
+  step-on dues m is = by_off (is_off m) refl
+    where
+      by_off : (test : Bool) → is_off m ≡ test
+          → is_running (if test then stepped_off dues m else stepped_on dues m).board.core.serial ≡ true → m.off ≤ clock_of m
+      by_off true off runs = is.on (sym (off-running dues m) ∙ runs)
+      by_off false on runs = since-on (clock_of m) m.off on
+
+  step-holds : (dues : List Incoming) (m : Machine) → clock_of m ≤ last_clock → AreNear dues → Holds m → Holds (stepped dues m)
+  step-holds dues m near all is =
+      let parts = step-parts dues m near all is in
+      let after = follows dues m in
+      let applied : applied_in m ≡ due_count (clock_of m) m.keys = due-more m.applied (clock_of m) m.keys is.changes.within in
+      let all_due : (stepped dues m).applied ≡ due_count (clock_of m) (stepped dues m).keys =
+          step-applied dues m ∙ applied ∙ sym (ap (due_count (clock_of m)) (step-keys dues m)) in
+      let raised = after.raised in
+      record {
+        registers = parts.registers;
+        lengths = parts.lengths;
+        backup = parts.backup;
+        devices = parts.devices;
+        serial = parts.serial;
+        counts = counts.steps dues m is.counts;
+        changes = record {
+          within =
+              let later = due-later (clock_of m) (clock_of (stepped dues m)) (stepped dues m).keys (omega (arith, raised)) in
+              omega (arith, later, all_due);
+          due = λ moved. all_due ∙ sym (ap (λ clock. due_count clock (stepped dues m).keys) after.was);
+        };
+        begun = omega (arith, after.was, raised);
+        short = omega (arith, after.was, after.short);
+        on = λ runs. let started = step-on dues m is runs in omega (arith, started, raised, after.off);
+      }
+
+  -- ---- at reset
+
+  reset-saved : (place : ℕ) → 31 < place → kept_status (get_or reset_file place 0) ≡ get_or reset_file place 0
+  unfolding reset_file
+  reset-saved place high =
+      let zeros : get_or reset_file place 0 ≡ 0 =
+          get_or-set_other (replicate 37 0) 31 place 0xd3 0 (omega (arith, high)) ∙ none (cases_lt place 37) in
+      rw zeros refl
+    where
+      blank : List ℕ
+      blank = replicate 37 0
+
+      none : (place < 37) ⊎ (37 ≤ place) → get_or blank place 0 ≡ 0
+      none (inl within) = get_or-replicate {A = ℕ} 37 place 0 0 within
+      none (inr past) = get_or_past blank place 0 (omega (arith, past))
+
+  reset-sound : IsSoundFile reset_file
+  unfolding reset_file register status mode place
+  reset-sound = record {
+    stored = record {
+      whole = record { count = refl; status_kept = record { stored = refl; mode = refl } };
+      saved = reset-saved;
+    };
+    aligned = refl;
+  }
+
+  lengths-at-start : (bios : List ℕ) (cart save : Option (List ℕ)) (backup : Backup) → HaveLengths (at_start bios cart save backup)
+  unfolding at_start work_length inner_length palette_length vram_length oam_length
+  lengths-at-start bios cart save backup = record {
+    work = length-replicate {A = ℕ} 0x40000 0;
+    inner = length-replicate {A = ℕ} 0x8000 0;
+    palette = length-replicate {A = ℕ} 0x400 0;
+    vram = length-replicate {A = ℕ} 0x18000 0;
+    oam = length-replicate {A = ℕ} 0x400 0;
+  }
+
+  saved-length : (save : Option (List ℕ)) (backup : Backup) → ((bytes : List ℕ) → save ≡ Some bytes → length bytes ≡ backup_length backup)
+      → length (saved_bytes save backup) ≡ backup_length backup
+  saved-length None backup fits = length-replicate {A = ℕ} (backup_length backup) 0xff
+  saved-length (Some bytes) backup fits = fits bytes refl
+
+  backup-sound : (backup : Backup) (bytes : List ℕ) → length bytes ≡ backup_length backup → IsSoundBackup (backup_at_start backup bytes)
+  backup-sound Sram bytes long = long
+  backup-sound Flash64 bytes long = record {
+    flash = refl;
+    bytes = long;
+    machine = record { bank = omega arith; one_bank = λ none. refl; no_choice = λ none. refl };
+  }
+  backup-sound Flash128 bytes long = record {
+    flash = refl;
+    bytes = long;
+    machine = record { bank = omega arith; one_bank = λ none. refl; no_choice = λ none. refl };
+  }
+
+  backup-start : (bios : List ℕ) (cart save : Option (List ℕ)) (backup : Backup)
+      → ((bytes : List ℕ) → save ≡ Some bytes → length bytes ≡ backup_length backup)
+      → IsSoundBackup (at_start bios cart save backup).backup
+  unfolding at_start
+  backup-start bios cart save backup fits = backup-sound backup (saved_bytes save backup) (saved-length save backup fits)
+
+  pub steps-hold : StepsHold
+  steps-hold = record {
+    begins = λ player count round off bios cart save backup keys room seated few short fits. record {
+      registers = reset-sound;
+      lengths = lengths-at-start bios cart save backup;
+      backup = backup-start bios cart save backup fits;
+      devices = devices.reset;
+      serial = serial.reset player count round seated few short;
+      counts = counts.begins player count round off bios cart save backup keys room;
+      changes = record { within = omega arith; due = λ moved. absurd (omega (arith, moved)) };
+      begun = omega arith;
+      short = omega arith;
+      on = λ runs. absurd (false≢true runs);
+    };
+    steps = step-holds;
+  }
