@@ -1,0 +1,4 @@
+pub mod Holds
+pub mod Said
+pub mod Laws
+pub mod Text

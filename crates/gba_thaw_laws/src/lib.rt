@@ -1,0 +1,4 @@
+#![tactic(auto)]
+//! What a frozen file says of a console makes it again.
+
+pub mod laws;
