@@ -19,3 +19,4 @@ pub mod Console
 pub mod Bytes
 pub mod Spelled
 pub mod Lines
+pub mod Reset

@@ -1,6 +1,7 @@
 //! Laws over the definitions. Each is the contract of a function that takes no value.
 
 ghost use Rattle.gba_thaw_laws.specs.Laws.{BitsAreStored, ChannelsThawAgain, ControlThawsAgain, DevicesThawAgain, HalvesAgain, PictureThawsAgain, SaysItself, SerialThawsAgain, SoundThawsAgain, ThawsAgain};
+ghost use Rattle.gba_thaw_laws.specs.Reset.{HoldsAtReset, SpelledAtReset};
 ghost use Rattle.gba_thaw_laws.specs.Text.{LinesStand, LinesThawAgain};
 
 /// The bytes of a core's I/O registers, read as halfwords, are what is stored there.
@@ -63,4 +64,14 @@ pub fn lines_stand()
 /// What these lines say makes the console again of one at the start of its job, but for what no step looks at.
 pub fn lines_thaw_again()
     ensures { LinesThawAgain }
+{}
+
+/// A console at reset keeps the rules, whatever its images, its seat and the changes of its keys are.
+pub fn holds_at_reset()
+    ensures { HoldsAtReset }
+{}
+
+/// Its bytes are bytes, where those of its save are.
+pub fn spelled_at_reset()
+    ensures { SpelledAtReset }
 {}
