@@ -20,3 +20,5 @@ pub mod Bytes
 pub mod Spelled
 pub mod Lines
 pub mod Reset
+pub mod Setups
+pub mod Cut

@@ -146,7 +146,7 @@ tone-below (suc (suc (suc (suc (suc more))))) part b h least most inside = absur
 
 -- ---- the serial unit
 
-mode-below : (mode : LinkMode) → nat_lt (mode_number mode) 4 ≡ true
+pub mode-below : (mode : LinkMode) → nat_lt (mode_number mode) 4 ≡ true
 mode-below Normal8 = refl
 mode-below Normal32 = refl
 mode-below Multi = refl

@@ -3,3 +3,4 @@ pub mod Said
 pub mod Laws
 pub mod Text
 pub mod Reset
+pub mod Cut

@@ -1,5 +1,6 @@
 //! Laws over the definitions. Each is the contract of a function that takes no value.
 
+ghost use Rattle.gba_thaw_laws.specs.Cut.{FilesThawAgain};
 ghost use Rattle.gba_thaw_laws.specs.Laws.{BitsAreStored, ChannelsThawAgain, ControlThawsAgain, DevicesThawAgain, HalvesAgain, PictureThawsAgain, SaysItself, SerialThawsAgain, SoundThawsAgain, ThawsAgain};
 ghost use Rattle.gba_thaw_laws.specs.Reset.{HoldsAtReset, SpelledAtReset};
 ghost use Rattle.gba_thaw_laws.specs.Text.{LinesStand, LinesThawAgain};
@@ -74,4 +75,10 @@ pub fn holds_at_reset()
 /// Its bytes are bytes, where those of its save are.
 pub fn spelled_at_reset()
     ensures { SpelledAtReset }
+{}
+
+/// The frozen file of consoles that keep their rules on the cable of their job, if it isn't too long, is thawed: each console, but for
+/// what no step looks at, the cable and the signals on their way are those that were frozen.
+pub fn files_thaw_again()
+    ensures { FilesThawAgain }
 {}
