@@ -18,7 +18,8 @@ use Rattle.gba_thaw_laws.specs.Holds.{HasStoredBits}
 abbrev pub is_half_row : Row → Bool
 is_half_row r = nat_lt r.write_mask 0x10000
 
-mask-small : (rows : List Row) → list_all is_half_row rows ≡ true → (offset : ℕ) → (row_at rows offset).write_mask < 0x10000
+mask-small : (rows : List Row) → list_all is_half_row rows ≡ true → (offset : ℕ)
+    → (row_at rows offset).write_mask < 0x10000
 unfolding row_at
 mask-small [] all offset = lit< tt
 mask-small (r ∷ rows) all offset =
@@ -27,7 +28,8 @@ mask-small (r ∷ rows) all offset =
     (λ _. ltb-true r.write_mask 0x10000 both.0) (λ _. mask-small rows both.1 offset)
 
 -- what has stored bits only is a halfword
-pub stored-small : (rows : List Row) (kept : ℕ → ℕ) → list_all is_half_row rows ≡ true → HasStoredBits rows kept → (offset : ℕ)
+pub stored-small : (rows : List Row) (kept : ℕ → ℕ) → list_all is_half_row rows ≡ true → HasStoredBits rows kept
+    → (offset : ℕ)
     → kept offset < 2 ^ 16
 stored-small rows kept all stored offset =
     let mask = mask-small rows all offset in
@@ -44,7 +46,8 @@ pub uncut : (half value : ℕ) → half ≡ value % 2 ^ 16 → value < 2 ^ 16 �
 uncut half value is small = is ∙ mod-eq_of_lt small
 
 -- one of which the bits are shown that a write stores
-pub unmasked : (half value mask : ℕ) → half ≡ bit_and value mask % 2 ^ 16 → bit_and value mask ≡ value → mask < 2 ^ 16 → half ≡ value
+pub unmasked : (half value mask : ℕ) → half ≡ bit_and value mask % 2 ^ 16 → bit_and value mask ≡ value → mask < 2 ^ 16
+    → half ≡ value
 unmasked half value mask is stored small =
     is ∙ ap (λ (v : ℕ). v % 2 ^ 16) stored ∙ mod-eq_of_lt (mask-bound value mask stored small)
 
@@ -102,7 +105,8 @@ status-again kept a b c stored =
     ∙ ap (λ (v : ℕ). v % 2 ^ 16)
     (and-or kept shown 0xff38
     ∙ ap (λ (v : ℕ). bit_or v (bit_and shown 0xff38)) stored
-    ∙ ap (λ (v : ℕ). bit_or kept v) (and_or_apart 0xff38 (bit_and kept 0xff3f) flags (flags-apart a b c) ∙ and_assoc 0xff38 kept 0xff3f)
+    ∙ ap (λ (v : ℕ). bit_or kept v)
+    (and_or_apart 0xff38 (bit_and kept 0xff3f) flags (flags-apart a b c) ∙ and_assoc 0xff38 kept 0xff3f)
     ∙ or-and-self kept (bit_and 0xff3f 0xff38))
     ∙ mod-eq_of_lt small
 
@@ -123,13 +127,19 @@ pub master-again : (on : Bool) (channels : ℕ) → channels < 16 → master_sho
 master-again true channels small =
     eqb-true _ _ (agree_below_at (λ c. master_shown true c == weight 0x80 true + c) (λ _. true) 16 channels refl small)
 master-again false channels small =
-    eqb-true _ _ (agree_below_at (λ c. master_shown false c == weight 0x80 false + c) (λ _. true) 16 channels refl small)
+    eqb-true _ _
+    (agree_below_at (λ c. master_shown false c == weight 0x80 false + c) (λ _. true) 16 channels refl small)
 
-pub master-stored : (on : Bool) (channels : ℕ) → channels < 16 → bit_and (weight 0x80 on + channels) 0x8f ≡ weight 0x80 on + channels
+pub master-stored : (on : Bool) (channels : ℕ) → channels < 16
+    → bit_and (weight 0x80 on + channels) 0x8f ≡ weight 0x80 on + channels
 master-stored true channels small =
-    eqb-true _ _ (agree_below_at (λ c. bit_and (weight 0x80 true + c) 0x8f == weight 0x80 true + c) (λ _. true) 16 channels refl small)
+    eqb-true _ _
+    (agree_below_at (λ c. bit_and (weight 0x80 true + c) 0x8f == weight 0x80 true + c) (λ _. true) 16 channels refl
+    small)
 master-stored false channels small =
-    eqb-true _ _ (agree_below_at (λ c. bit_and (weight 0x80 false + c) 0x8f == weight 0x80 false + c) (λ _. true) 16 channels refl small)
+    eqb-true _ _
+    (agree_below_at (λ c. bit_and (weight 0x80 false + c) 0x8f == weight 0x80 false + c) (λ _. true) 16 channels refl
+    small)
 
 -- ---- SIOCNT, in which the player and the error stand beside the stored bits
 
@@ -164,30 +174,38 @@ one-again : (n : ℕ) (set : Bool) → n ≡ weight 1 set → (n == 1) ≡ set
 one-again n true is = ap (λ (v : ℕ). v == 1) is
 one-again n false is = ap (λ (v : ℕ). v == 1) is
 
-control-by : (half control shown : ℕ) (error : Bool) → half ≡ bit_and control 0x708b + shown → bit_and control 0x708b ≡ control
+control-by : (half control shown : ℕ) (error : Bool) → half ≡ bit_and control 0x708b + shown
+    → bit_and control 0x708b ≡ control
     → IsApart shown error → ControlAgain half control error
 control-by half control shown error is stored a =
     let none : bit_and control shown ≡ 0 =
     ap (λ (c : ℕ). bit_and c shown) (sym stored) ∙ and_assoc shown control 0x708b
     ∙ ap (λ (v : ℕ). bit_and control v) (and_comm 0x708b shown ∙ a.apart) ∙ and_zero_r control in
-    let joined : half ≡ bit_or control shown = is ∙ ap (λ (c : ℕ). c + shown) stored ∙ sym (or_disjoint control shown none) in
+    let joined : half ≡ bit_or control shown =
+    is ∙ ap (λ (c : ℕ). c + shown) stored ∙ sym (or_disjoint control shown none) in
     let whole = bit_at_or control shown 6 in
     let of_control : bit_at control 6 ≡ 0 =
     ap (λ (c : ℕ). bit_at c 6) (sym stored) ∙ bit_at_and control 0x708b 6 ∙ omega arith in
     record {
       stored = ap (λ (h : ℕ). bit_and h 0x708b) joined ∙ and_or_apart 0x708b control shown a.apart ∙ stored;
-      failed = one-again (bit_at half 6) error (ap (λ (h : ℕ). bit_at h 6) joined ∙ omega (arith, whole, of_control, a.sixth));
+      failed =
+          one-again (bit_at half 6) error
+          (ap (λ (h : ℕ). bit_at h 6) joined ∙ omega (arith, whole, of_control, a.sixth));
     }
 
 pub control-again : (half control player : ℕ) (is_multi error : Bool)
-    → half ≡ bit_and control 0x708b + (if is_multi then weight 4 (not (player == 0)) + 16 * field player 0 2 else 0) + weight 64 error
+    → half
+    ≡ bit_and control 0x708b + (if is_multi then weight 4 (not (player == 0)) + 16 * field player 0 2 else 0)
+    + weight 64 error
     → bit_and control 0x708b ≡ control → player < 4 → ControlAgain half control error
 control-again half control player is_multi error is stored few =
-    control-by half control (seat_shown is_multi player error) error (is ∙ omega arith) stored (seat-apart is_multi error player few)
+    control-by half control (seat_shown is_multi player error) error (is ∙ omega arith) stored
+    (seat-apart is_multi error player few)
 
 -- ---- KEYINPUT, in which a pressed key is 0
 
-pub pressed-again : (half pressed : ℕ) → half ≡ bit_and (2 ^ 10 - 1 - field pressed 0 10) 0x3ff % 2 ^ 16 → pressed < 2 ^ 10
+pub pressed-again : (half pressed : ℕ) → half ≡ bit_and (2 ^ 10 - 1 - field pressed 0 10) 0x3ff % 2 ^ 16
+    → pressed < 2 ^ 10
     → 2 ^ 10 - 1 - field half 0 10 ≡ pressed
 pressed-again half pressed is few =
     let cut : bit_and (2 ^ 10 - 1 - field pressed 0 10) 0x3ff ≡ (2 ^ 10 - 1 - field pressed 0 10) % 2 ^ 10 =

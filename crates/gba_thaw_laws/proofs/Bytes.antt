@@ -28,7 +28,8 @@ use Rattle.gba_thaw_laws.proofs.Ranges.{byte-below, weight-most}
 pub below-bytes : (bytes : List ℕ) → AreBytes bytes → AreBelow 2 bytes
 unfolding AreBelow
 below-bytes [] are = tt
-below-bytes (b ∷ bytes) are = (are 0 (omega arith), below-bytes bytes (λ place inside. are (suc place) (omega (arith, inside))))
+below-bytes (b ∷ bytes) are =
+    (are 0 (omega arith), below-bytes bytes (λ place inside. are (suc place) (omega (arith, inside))))
 
 below-append : (width : ℕ) (xs ys : List ℕ) → AreBelow width xs → AreBelow width ys → AreBelow width (xs ++ ys)
 unfolding AreBelow
@@ -74,7 +75,8 @@ serial-small offset u holds =
 half-small : (offset : ℕ) (b : Core) → SerialHolds b.serial → core_half_stored offset b < 0x10000
 unfolding core_half_stored half_stored
 half-small offset b holds =
-    cond_both (is_serial offset) _ _ (λ (v : ℕ). v < 0x10000) (λ _. serial-small offset b.serial holds) (λ _. omega arith)
+    cond_both (is_serial offset) _ _ (λ (v : ℕ). v < 0x10000) (λ _. serial-small offset b.serial holds)
+    (λ _. omega arith)
 
 pub io-below : (halves : ℕ) (b : Core) → SerialHolds b.serial → AreBelow 2 (io_bytes halves b)
 unfolding io_bytes AreBelow
@@ -112,13 +114,15 @@ colours-from : (bytes : List ℕ) → AreBytes bytes → (from count : ℕ) → 
     → colours_bytes (map (λ place. half_at (2 * place) bytes) (range_with_len from count)) ≡ drop (2 * from) bytes
 colours-from bytes are from zero long = sym (drop_all (2 * from) bytes (omega (arith, long)))
 colours-from bytes are from (suc count) long =
-    let one = colour-again (slice_index bytes (2 * from)) (slice_index bytes (2 * from + 1)) (byte-below bytes are (2 * from))
+    let one =
+    colour-again (slice_index bytes (2 * from)) (slice_index bytes (2 * from + 1)) (byte-below bytes are (2 * from))
     (byte-below bytes are (2 * from + 1)) in
     let rest = colours-from bytes are (from + 1) count (omega (arith, long)) in
     let first = drop_more bytes (2 * from) 0 (omega (arith, long)) in
     let second = drop_more bytes (2 * from + 1) 0 (omega (arith, long)) in
     let next : 2 * (from + 1) ≡ 2 * from + 1 + 1 = omega arith in
-    (λ i. one i ++ rest i) ∙ ap (λ (k : ℕ). slice_index bytes (2 * from) ∷ slice_index bytes (2 * from + 1) ∷ drop k bytes) next
+    (λ i. one i ++ rest i)
+    ∙ ap (λ (k : ℕ). slice_index bytes (2 * from) ∷ slice_index bytes (2 * from + 1) ∷ drop k bytes) next
     ∙ ap (λ (xs : List ℕ). slice_index bytes (2 * from) ∷ xs) (sym second) ∙ sym first
 
 pub colours-again : (line : List ℕ) → LineHolds line → colours_bytes (colours_of line) ≡ line

@@ -101,8 +101,16 @@ channels-again b n io says holds =
     let run = (made-again b n says.numbers says.range).runs in
     let small = dma-small cs holds in
     λ i. record {
-      channel0 = channel-again 0 cs.channel0 n io (said0 b io says.halves) (run 0 io (lit< tt)) holds.channel0 (small 0x0b8) (small 0x0ba) i;
-      channel1 = channel-again 1 cs.channel1 n io (said1 b io says.halves) (run 1 io (lit< tt)) holds.channel1 (small 0x0c4) (small 0x0c6) i;
-      channel2 = channel-again 2 cs.channel2 n io (said2 b io says.halves) (run 2 io (lit< tt)) holds.channel2 (small 0x0d0) (small 0x0d2) i;
-      channel3 = channel-again 3 cs.channel3 n io (said3 b io says.halves) (run 3 io (lit< tt)) holds.channel3 (small 0x0dc) (small 0x0de) i;
+      channel0 =
+          channel-again 0 cs.channel0 n io (said0 b io says.halves) (run 0 io (lit< tt)) holds.channel0 (small 0x0b8)
+          (small 0x0ba) i;
+      channel1 =
+          channel-again 1 cs.channel1 n io (said1 b io says.halves) (run 1 io (lit< tt)) holds.channel1 (small 0x0c4)
+          (small 0x0c6) i;
+      channel2 =
+          channel-again 2 cs.channel2 n io (said2 b io says.halves) (run 2 io (lit< tt)) holds.channel2 (small 0x0d0)
+          (small 0x0d2) i;
+      channel3 =
+          channel-again 3 cs.channel3 n io (said3 b io says.halves) (run 3 io (lit< tt)) holds.channel3 (small 0x0dc)
+          (small 0x0de) i;
     }

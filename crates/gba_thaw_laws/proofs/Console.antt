@@ -26,7 +26,8 @@ own-bytes bytes = (bytes_eq-Decides bytes bytes).1 refl
 abbrev thawed : Machine → Machine → Machine
 thawed start m = machine_thawed start (numbers_of m) (memory_bytes m.board.core) m.board.core.lines
 
-says-again : (start m : Machine) → IsStartOf m start → Holds m → says_io (memory_bytes m.board.core) (thawed start m) ≡ true
+says-again : (start m : Machine) → IsStartOf m start → Holds m
+    → says_io (memory_bytes m.board.core) (thawed start m) ≡ true
 says-again start m same holds =
     let parts = parts-again start m same holds in
     let alike : IsAlike m.board.core (thawed start m).board.core =
@@ -34,7 +35,8 @@ says-again start m same holds =
       devices = ap (λ (p : ConsoleParts). p.board.devices) parts;
       serial = ap (λ (p : ConsoleParts). p.board.serial) parts;
     } in
-    ap (λ (bytes : List ℕ). bytes_eq bytes (io_bytes 512 m.board.core)) (io-unseen 512 m.board.core (thawed start m).board.core alike)
+    ap (λ (bytes : List ℕ). bytes_eq bytes (io_bytes 512 m.board.core))
+    (io-unseen 512 m.board.core (thawed start m).board.core alike)
     ∙ own-bytes (io_bytes 512 m.board.core)
 
 shorn-again : (start m : Machine) → IsStartOf m start → Holds m → shorn (thawed start m) ≡ shorn m
@@ -46,7 +48,8 @@ shorn-again start m same holds =
 
 thawed-by : (test : Bool) (made m : Machine) → test ≡ true → shorn made ≡ shorn m
     → option_map shorn (if test then Some made else None) ≡ Some (shorn m)
-thawed-by test made m passed same = (λ i. option_map shorn (if passed i then Some made else None)) ∙ ap (λ (n : Machine). Some n) same
+thawed-by test made m passed same =
+    (λ i. option_map shorn (if passed i then Some made else None)) ∙ ap (λ (n : Machine). Some n) same
 
 pub thaws-again : ThawsAgain
 unfolding console_thawed

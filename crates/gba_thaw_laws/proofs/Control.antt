@@ -16,7 +16,8 @@ truth-again : (set : Bool) → bit (bit_and (truth_number set) 0x0001 % 2 ^ 16) 
 truth-again true = refl
 truth-again false = refl
 
-pub truth-stored : (set : Bool) → bit_and (bit_and (truth_number set) 0x0001 % 2 ^ 16) 0x0001 ≡ bit_and (truth_number set) 0x0001 % 2 ^ 16
+pub truth-stored : (set : Bool)
+    → bit_and (bit_and (truth_number set) 0x0001 % 2 ^ 16) 0x0001 ≡ bit_and (truth_number set) 0x0001 % 2 ^ 16
 truth-stored true = refl
 truth-stored false = refl
 
@@ -24,12 +25,14 @@ module _ (b : Core) (io : List ℕ) (halves : AreHalvesOf b io) (holds : Devices
   pub enabled-half : half_at 0x200 io ≡ b.devices.interrupts.enabled
   unfolding core_half_stored half_stored owner_of interrupt_rows row_at
   enabled-half =
-      unmasked (half_at 0x200 io) b.devices.interrupts.enabled 0x3fff (halves 0x100 (lit< tt)) (holds.interrupts 0x200) (lit< tt)
+      unmasked (half_at 0x200 io) b.devices.interrupts.enabled 0x3fff (halves 0x100 (lit< tt)) (holds.interrupts 0x200)
+      (lit< tt)
 
   pub raised-half : half_at 0x202 io ≡ b.devices.interrupts.raised
   unfolding core_half_stored half_stored owner_of interrupt_rows row_at
   raised-half =
-      unmasked (half_at 0x202 io) b.devices.interrupts.raised 0x3fff (halves 0x101 (lit< tt)) (holds.interrupts 0x202) (lit< tt)
+      unmasked (half_at 0x202 io) b.devices.interrupts.raised 0x3fff (halves 0x101 (lit< tt)) (holds.interrupts 0x202)
+      (lit< tt)
 
   pub master-half : half_at 0x208 io ≡ bit_and (truth_number b.devices.interrupts.master) 0x0001 % 2 ^ 16
   unfolding core_half_stored half_stored owner_of interrupt_rows row_at

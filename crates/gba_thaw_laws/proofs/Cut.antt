@@ -1,9 +1,12 @@
 -- Consoles on their cable.
-use Rattle.std.proofs.Common.{◌≡◌, ℕ, ◌≤◌, ◌∙◌, ap, sym, subst, Bool, true, ◌&&◌, List, [], ◌∷◌, length, map, Option, Some, None, option_map, slice_index, if◌then◌else◌, refl, le-leb}
+use Rattle.std.proofs.Common.{suc, ◌≡◌, ℕ, ◌≤◌, ◌∙◌, ap, sym, subst, Bool, true, ◌&&◌, List, [], ◌∷◌, length, map, Option, Some, None, option_map, slice_index, if◌then◌else◌, refl, le-leb, All, Ok, arith}
 use Rattle.std.proofs.lemmas.List.{length-map}
 use Rattle.gba_console.specs.Alone.{console_kind}
-use Rattle.gba_console.specs.Machine.{Machine, clock_of, without_limit}
-use Rattle.gba_console.specs.Shorn.{shorn}
+use Rattle.gba_console.specs.Machine.{Machine, clock_of, forgotten, without_limit}
+use Rattle.gba_console.specs.Segments.{forgotten_cut}
+use Rattle.gba_console.specs.Shorn.{rested, shorn}
+use Rattle.gba_console.specs.Step.{stepped, stepped_off, stepped_on, told, told_on}
+use Rattle.gba_console.proofs.Unlimited.{stepped-unlimited, told-unlimited}
 use Rattle.gba_filling.specs.Signals.{most_signals}
 use Rattle.gba_frozen.specs.Reading.{frozen_language, judged, longest_file}
 use Rattle.gba_frozen_text.specs.Text.{frozen_lines, frozen_text}
@@ -14,12 +17,16 @@ use Rattle.gba_snapshot.specs.Laws.{cut_draft}
 use Rattle.gba_text.specs.Languages.{answer_of}
 use Rattle.gba_thaw.specs.Cut.{can_run, consoles_thawed, cut_if, draft_thawed, in_front, joined, setup_of, thaw_of, whole_of}
 use Rattle.gba_thaw.proofs.Read.{thawed-as}
-use Rattle.gba_thaw_laws.specs.Cut.{AreReady, CanBeFrozen, FilesThawAgain, IsAgain}
+use Rattle.gba_thaw.proofs.Sound.{thaws-soundly}
+use Rattle.gba_thaw_laws.specs.Cut.{AreReady, CanBeFrozen, FilesThawAgain, IsAgain, as_it_runs}
 use Rattle.gba_thaw_laws.proofs.Lines.{lines-thaw-again}
 use Rattle.gba_thaw_laws.proofs.Setups.{draft-whole, file-is-text, signals-again}
 use Rattle.link_core.specs.Whole.{IsWhole, is_whole, is_whole_by}
 use Rattle.link_core.proofs.Wholeness.{whole-tested}
+use Rattle.link_mapped.specs.Mapped.{IsUnseen, each_mapped, mapped}
+use Rattle.link_mapped.proofs.Running.{runs-alike}
 use Rattle.link_node.specs.Delays.{hop_of}
+use Rattle.link_node.specs.declared.signal.Incoming.{Incoming}
 use Rattle.link_node.specs.declared.delays.Delays.{Delays}
 use Rattle.link_order.specs.Cut.{Cut, plain_cut}
 use Rattle.link_order.specs.declared.sent.Sent.{Sent}
@@ -82,8 +89,12 @@ goes-on : (delays : Delays) (sent : List Sent) (made ms : List Machine) → map 
     → can_run (joined delays sent made) ≡ true
 unfolding is_whole
 goes-on delays sent made ms same few whole =
-    let clocks = map-plain clock_of (λ m. refl) made ∙ ap (λ (xs : List Machine). map clock_of xs) same ∙ map-shorn clock_of (λ m. refl) ms in
-    let begun = map-plain (λ (m : Machine). m.was) (λ m. refl) made ∙ ap (λ (xs : List Machine). map (λ (m : Machine). m.was) xs) same
+    let clocks =
+    map-plain clock_of (λ m. refl) made ∙ ap (λ (xs : List Machine). map clock_of xs) same
+    ∙ map-shorn clock_of (λ m. refl) ms in
+    let begun =
+    map-plain (λ (m : Machine). m.was) (λ m. refl) made
+    ∙ ap (λ (xs : List Machine). map (λ (m : Machine). m.was) xs) same
     ∙ map-shorn (λ (m : Machine). m.was) (λ m. refl) ms in
     let many = length-map made without_limit ∙ sym (length-map made shorn) ∙ ap (λ (xs : List Machine). length xs) same
     ∙ length-map ms shorn in
@@ -101,28 +112,79 @@ whole-again : (until : ℕ) (start cut : Cut Machine) → CanBeFrozen until star
 unfolding whole_of
 whole-again until start cut can made =
     let delays = can.delays in
-    let whole : IsWhole console_kind (let c : Cut Machine = record { consoles = cut.consoles; delays = start.delays; sent = cut.sent } in c) =
-    subst (λ (d : Delays). IsWhole console_kind (let c : Cut Machine = record { consoles = cut.consoles; delays = d; sent = cut.sent } in c))
+    let whole : IsWhole console_kind
+    (let c : Cut Machine = record { consoles = cut.consoles; delays = start.delays; sent = cut.sent } in c) =
+    subst
+    (λ (d : Delays). IsWhole console_kind
+    (let c : Cut Machine = record { consoles = cut.consoles; delays = d; sent = cut.sent } in c))
     (sym delays) can.whole in
     let goes = goes-on start.delays cut.sent made.made cut.consoles made.same can.signals whole in
     let signals = signals-again cut.sent in
     (λ i. cut_if start.delays (signals i) (made.thawed i))
     ∙ ap (λ (test : Bool). if test then Some (joined start.delays cut.sent made.made) else None) goes
 
+-- ---- its run
+
+each-mapped : (f : Machine → Machine) (ms : List Machine) → each_mapped (λ i. f) ms ≡ map f ms
+each-mapped f [] = refl
+each-mapped f (m ∷ ms) = ap (λ (rest : List Machine). f m ∷ rest) (each-mapped f ms)
+
+stepped-alike : (dues : List Incoming) (m : Machine) → stepped dues (as_it_runs m) ≡ without_limit (stepped dues m)
+unfolding stepped stepped_off stepped_on
+stepped-alike dues m = stepped-unlimited dues m
+
+told-alike : (dues : List Incoming) (m : Machine) → told dues (as_it_runs m) ≡ told dues m
+unfolding told told_on
+told-alike dues m = told-unlimited dues m
+
+runs-unseen : IsUnseen console_kind (λ i. as_it_runs) (λ i. as_it_runs)
+runs-unseen = record {
+  clocks = record {
+    clock = λ i x y same. ap clock_of same;
+    was = λ i x y same. ap (λ (m : Machine). m.was) same;
+  };
+  next = λ i x y dues same.
+      ap rested (sym (stepped-alike dues x)) ∙ ap (λ (m : Machine). rested (stepped dues m)) same
+      ∙ ap rested (stepped-alike dues y);
+  tells = λ i x y dues same. sym (told-alike dues x) ∙ ap (told dues) same ∙ told-alike dues y;
+}
+
+-- consoles with empty lists are what was shorn of them, and what was forgotten is so
+empty-runs : (ms : List Machine) → All (λ (m : Machine). without_limit m ≡ forgotten (without_limit m)) ms
+    → map as_it_runs ms ≡ map shorn ms
+empty-runs [] empty = refl
+empty-runs (m ∷ ms) empty =
+    let one = ap rested (empty 0 m (omega arith)) in
+    let rest = empty-runs ms (λ k d inside. empty (suc k) d (omega (arith, inside))) in
+    λ i. one i ∷ rest i
+
+forgotten-runs : (ms : List Machine) → map as_it_runs (map forgotten ms) ≡ map shorn ms
+forgotten-runs [] = refl
+forgotten-runs (m ∷ ms) = ap (λ (rest : List Machine). shorn m ∷ rest) (forgotten-runs ms)
+
+mapped-by : (f : Machine → Machine) (one other : Cut Machine) → map f one.consoles ≡ map f other.consoles
+    → one.delays ≡ other.delays → one.sent ≡ other.sent → mapped (λ i. f) one ≡ mapped (λ i. f) other
+mapped-by f one other same delays sent =
+    let consoles = each-mapped f one.consoles ∙ same ∙ sym (each-mapped f other.consoles) in
+    λ i. record { consoles = consoles i; delays = delays i; sent = sent i }
+
 again-by : (until : ℕ) (start cut : Cut Machine) → CanBeFrozen until start cut
     → (made : AreMade cut.consoles (consoles_thawed until start.consoles (map draft_of cut.consoles)))
     → (digest : List ℕ)
-    → thaw_of digest until start (frozen_file digest cut)
-    ≡ judged (length (frozen_lines (setup_of digest until start.consoles) (cut_draft cut))) (whole_of until start (cut_draft cut))
+    → thaw_of digest until start (frozen_file digest cut) ≡ Ok (joined start.delays cut.sent made.made)
     → IsAgain cut (thaw_of digest until start (frozen_file digest cut))
-again-by until start cut can made digest comes = record {
-  made = joined start.delays cut.sent made.made;
-  thawed = comes
-      ∙ ap (judged (length (frozen_lines (setup_of digest until start.consoles) (cut_draft cut)))) (whole-again until start cut can made);
-  consoles = made.same;
-  delays = can.delays;
-  sent = refl;
-}
+again-by until start cut can made digest comes =
+    let new = joined start.delays cut.sent made.made in
+    let empty = (thaws-soundly digest until start new (frozen_file digest cut) comes).empty in
+    let runs = empty-runs made.made empty ∙ made.same ∙ sym (forgotten-runs cut.consoles) in
+    record {
+      made = new;
+      thawed = comes;
+      same = mapped-by shorn new cut made.same can.delays refl;
+      runs =
+          λ clock. runs-alike console_kind (λ i. as_it_runs) (λ i. as_it_runs) new (forgotten_cut cut) clock runs-unseen
+          (mapped-by as_it_runs new (forgotten_cut cut) runs can.delays refl);
+    }
 
 pub files-thaw-again : FilesThawAgain
 files-thaw-again digest until start cut long bytes can short =
@@ -132,6 +194,9 @@ files-thaw-again digest until start cut long bytes can short =
     let whole = draft-whole digest until start cut long bytes can in
     let fits : length (frozen_text S d) ≤ longest_file = subst (λ (xs : List ℕ). length xs ≤ longest_file) text short in
     let comes = thawed-as S S (whole_of until start) (frozen_file digest cut) (length (frozen_lines S d)) d refl
-    (λ whole_to. subst (λ (xs : List ℕ). answer_of (frozen_language S whole_to) xs ≡ judged (length (frozen_lines S d)) (whole_to d))
+    (λ whole_to. subst
+    (λ (xs : List ℕ). answer_of (frozen_language S whole_to) xs ≡ judged (length (frozen_lines S d)) (whole_to d))
     (sym text) (files-again S d whole_to whole fits)) in
-    again-by until start cut can (consoles-made until start.consoles cut.consoles can.consoles) digest comes
+    let made = consoles-made until start.consoles cut.consoles can.consoles in
+    again-by until start cut can made digest
+    (comes ∙ ap (judged (length (frozen_lines S d))) (whole-again until start cut can made))

@@ -40,7 +40,8 @@ use Rattle.link_node.specs.declared.signal.LinkMode.TheVariants.{Other}
 
 -- ---- the processor, the clock and the keys
 
-aligned-by : (registers : List ℕ) → slice_index registers 15 % unit_bytes (slice_index registers 31) ≡ 0 → is_aligned registers ≡ true
+aligned-by : (registers : List ℕ) → slice_index registers 15 % unit_bytes (slice_index registers 31) ≡ 0
+    → is_aligned registers ≡ true
 unfolding is_aligned
 aligned-by registers aligned = eq-eqb _ _ aligned
 
@@ -58,17 +59,20 @@ timed-by until m h early =
     let d = lt-ltb m.board.made.frame_count (2 ^ 40) h.frames in
     let e = lt-ltb m.board.made.pairs (2 ^ 40) h.samples in
     let f = lt-ltb m.board.ended.count (2 ^ 40) h.words in
-    (λ i. nat_le (was i) (clock i) && nat_le (clock i) (was i + 512) && nat_le (clock i) (until + 511) && nat_lt (frames i) (2 ^ 40)
+    (λ i. nat_le (was i) (clock i) && nat_le (clock i) (was i + 512) && nat_le (clock i) (until + 511) && nat_lt
+    (frames i) (2 ^ 40)
     && nat_lt (samples i) (2 ^ 40) && nat_lt (words i) (2 ^ 40))
     ∙ (λ i. a i && b i && c i && d i && e i && f i)
 
-due-by : (was clock applied due : ℕ) → was ≤ clock → (was < clock → applied ≡ due) → ((was == clock) || (applied == due)) ≡ true
+due-by : (was clock applied due : ℕ) → was ≤ clock → (was < clock → applied ≡ due)
+    → ((was == clock) || (applied == due)) ≡ true
 due-by was clock applied due begun is = by (cases_lt was clock) where
   by : (was < clock) ⊎ (clock ≤ was) → ((was == clock) || (applied == due)) ≡ true
   by (inl before) = or_right (was == clock) (applied == due) (eq-eqb applied due (is before))
   by (inr past) = or_left (was == clock) (applied == due) (eq-eqb was clock (omega (arith, begun, past)))
 
-applied-by : (keys : List KeyState) (pressed : ℕ) (m : Machine) → keys ≡ m.keys → pressed ≡ m.board.core.devices.keys.pressed
+applied-by : (keys : List KeyState) (pressed : ℕ) (m : Machine) → keys ≡ m.keys
+    → pressed ≡ m.board.core.devices.keys.pressed
     → TimesHold m → ChangesHold m → are_applied keys pressed (numbers_of m) ≡ true
 unfolding are_applied
 applied-by keys pressed m same now times h =
@@ -124,7 +128,8 @@ known-all u h =
 rightly-by : (off clock : ℕ) (u : SerialUnit) (idle : Bool) (run : Option Running) → (is_some run ≡ true → off ≤ clock)
     → IfSome run (RunHolds u) → (run ≡ None → idle ≡ true)
     → (if is_some run
-    then nat_le off clock && is_word_of (mode_of u) (running_number (λ r. r.sent) run) && is_word_of (mode_of u) (running_number (λ r. r.word) run)
+    then nat_le off clock && is_word_of (mode_of u) (running_number (λ r. r.sent) run)
+    && is_word_of (mode_of u) (running_number (λ r. r.word) run)
     else idle) ≡ true
 rightly-by off clock u idle None on h none = none refl
 rightly-by off clock u idle (Some run) on h none =
@@ -137,14 +142,16 @@ idle-by : (m : Machine) → m.board.core.serial.run ≡ None → is_idle (number
 unfolding is_idle board_number is_board_field
 idle-by m none =
     let number = numbers-are m in
-    let started = number board.SerialStarted refl ∙ ap (λ (run : Option Running). truth_number (is_starter_of run)) none in
+    let started =
+    number board.SerialStarted refl ∙ ap (λ (run : Option Running). truth_number (is_starter_of run)) none in
     let end = number board.SerialEnd refl ∙ ap (λ (run : Option Running). running_number (λ r. r.end) run) none in
     let got = number board.SerialGot refl ∙ ap (λ (run : Option Running). running_number received_mask run) none in
     let sent = number board.SerialSent refl ∙ ap (λ (run : Option Running). running_number (λ r. r.sent) run) none in
     let word = number board.SerialWord refl ∙ ap (λ (run : Option Running). running_number (λ r. r.word) run) none in
     λ i. (started i == 0) && (end i == 0) && (got i == 0) && (sent i == 0) && (word i == 0)
 
-runs-by : (off : ℕ) (m : Machine) → off ≡ m.off → Holds m → runs_rightly off (numbers_of m) (silent m.board.core.serial) ≡ true
+runs-by : (off : ℕ) (m : Machine) → off ≡ m.off → Holds m
+    → runs_rightly off (numbers_of m) (silent m.board.core.serial) ≡ true
 unfolding runs_rightly
 runs-by off m same holds =
     let u = m.board.core.serial in
@@ -181,7 +188,8 @@ can-go-on until start m same holds early =
     let have : have_left cs ≡ true = λ i. left0 i && left1 i && left2 i && left3 i in
     let aligned = ap is_aligned (registers-are m holds.registers) ∙ aligned-by m.registers holds.registers.aligned in
     let timed = timed-by until m holds.times early in
-    let applied = applied-by start.keys (keys_poured io).pressed m same.keys (λ i. (keys i).pressed) holds.times holds.changes in
+    let applied =
+    applied-by start.keys (keys_poured io).pressed m same.keys (λ i. (keys i).pressed) holds.times holds.changes in
     let drawn = drawn-by (place_poured n) m place holds.drawn in
     let left = ap have_left (channels-again b n io says holds.devices.channels) ∙ have in
     let mode = ap (λ (u : SerialUnit). has_mode n u) unit ∙ mode-by m in

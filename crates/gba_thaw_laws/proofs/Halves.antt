@@ -32,15 +32,18 @@ half-behind xs half n long =
     omega (arith, low, high)
 
 abbrev ReadsHalves : ℕ → Core → Type 0
-ReadsHalves halves b = (half : ℕ) → half < halves → half_at (2 * half) (io_bytes halves b) ≡ core_half_stored (2 * half) b
+ReadsHalves halves b =
+    (half : ℕ) → half < halves → half_at (2 * half) (io_bytes halves b) ≡ core_half_stored (2 * half) b
 
-reads-more : (halves : ℕ) (b : Core) (half : ℕ) → ReadsHalves halves b → half < suc halves → (half < halves) ⊎ (halves ≤ half)
+reads-more : (halves : ℕ) (b : Core) (half : ℕ) → ReadsHalves halves b → half < suc halves
+    → (half < halves) ⊎ (halves ≤ half)
     → half_at (2 * half) (io_bytes (suc halves) b) ≡ core_half_stored (2 * half) b
 unfolding io_bytes
 reads-more halves b half before inside (inl lt) =
     let long = io-long halves b in
     let last = core_half_stored (2 * halves) b in
-    half-in-front (io_bytes halves b) (last % 256 ∷ last / 256 ∷ []) (2 * half) (omega (arith, long, lt)) ∙ before half lt
+    half-in-front (io_bytes halves b) (last % 256 ∷ last / 256 ∷ []) (2 * half) (omega (arith, long, lt))
+    ∙ before half lt
 reads-more halves b half before inside (inr le) =
     let same : half ≡ halves = omega (arith, inside, le) in
     subst (λ (h : ℕ). half_at (2 * h) (io_bytes (suc halves) b) ≡ core_half_stored (2 * h) b) (sym same)

@@ -46,7 +46,8 @@ lines-again line (bytes ∷ lines) hold =
     let rest = lines-again (line + 1) lines (λ k inside. hold (suc k) (omega (arith, inside))) in
     λ i. one i ∷ rest i
 
-lines-stand : (line : ℕ) (last : Option ℕ) (lines : List (List ℕ)) → is_below last line ≡ true → line + length lines ≤ 159
+lines-stand : (line : ℕ) (last : Option ℕ) (lines : List (List ℕ)) → is_below last line ≡ true
+    → line + length lines ≤ 159
     → AllHold lines → AreDrawn last (drawn_from line lines)
 unfolding AreDrawn drawn_from is_below
 lines-stand line last [] below few hold = tt
@@ -60,7 +61,8 @@ lines-stand line last (bytes ∷ lines) below few hold = (
 )
 
 few-by : (line dot : ℕ)
-    → (if nat_le 160 line || ((line == 159) && nat_le 1006 dot) then 0 else if nat_le 1006 dot then line + 1 else line) ≤ 159
+    → (if nat_le 160 line || ((line == 159) && nat_le 1006 dot) then 0 else if nat_le 1006 dot then line + 1 else line)
+    ≤ 159
 few-by line dot = grind (arith, nat_tests)
 
 few-drawn : (p : Position) → lines_drawn p ≤ 159

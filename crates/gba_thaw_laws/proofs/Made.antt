@@ -125,7 +125,8 @@ unfolding are_sound_tones
 tones-hold ts h =
     let range = range-holds ts h in
     let sound =
-    either-by ts.is_on (bit (slice_index (halves_of ts) 12) 7) (are_silent (tone_numbers_of ts) && are_cleared (halves_of ts))
+    either-by ts.is_on (bit (slice_index (halves_of ts) 12) 7)
+    (are_silent (tone_numbers_of ts) && are_cleared (halves_of ts))
     (master-of ts) (quiet-holds ts h) in
     λ i. range i && sound i
 
@@ -142,11 +143,14 @@ position-holds p h =
 one-bank : (bank : ℕ) (chooses : Bool) → bank ≡ 0 → chooses ≡ false → ((bank == 0) && not chooses) ≡ true
 one-bank bank chooses none never = λ i. (none i == 0) && not (never i)
 
-machine-holds : (backup : Backup) (machine : FlashMachine) → IsSoundMachine backup machine → is_sound_flash backup machine ≡ true
+machine-holds : (backup : Backup) (machine : FlashMachine) → IsSoundMachine backup machine
+    → is_sound_flash backup machine ≡ true
 unfolding is_sound_flash
 machine-holds backup machine h =
     let bank = lt-ltb machine.bank 2 h.bank in
-    let banks = either-by (has_banks backup) (has_banks backup) ((machine.bank == 0) && not (is_choosing machine.state)) refl (λ none.
+    let banks =
+    either-by (has_banks backup) (has_banks backup) ((machine.bank == 0) && not (is_choosing machine.state)) refl
+    (λ none.
     one-bank machine.bank (is_choosing machine.state) (h.one_bank none) (h.no_choice none)) in
     λ i. bank i && banks i
 
@@ -174,7 +178,8 @@ devices-hold m holds =
     let enabled2 = run-enabled cs.channel2 consistent.channel2 in
     let enabled3 = run-enabled cs.channel3 consistent.channel3 in
     let enabled : are_enabled_runs cs ≡ true = λ i. enabled0 i && enabled1 i && enabled2 i && enabled3 i in
-    let runs = ap (λ (c : FourChannels). are_enabled_runs c) (channels-again b n io says holds.devices.channels) ∙ enabled in
+    let runs =
+    ap (λ (c : FourChannels). are_enabled_runs c) (channels-again b n io says holds.devices.channels) ∙ enabled in
     let numbers = tones-made-again b n says.numbers says.range in
     let halves = tone-halves b io says.halves holds.devices in
     let tones : are_sound_tones (tone_numbers n) (tone_halves io) ≡ true =

@@ -46,7 +46,8 @@ machine_numbered numbers = record {
   bank = slice_index numbers 3 % 2 ^ 32;
 }
 
-pub machine-numbered : (m : Machine) → flash_thawed (numbers_of m) ≡ machine_numbered (flash_numbers (flash_machine m.board.core.memory.backup))
+pub machine-numbered : (m : Machine)
+    → flash_thawed (numbers_of m) ≡ machine_numbered (flash_numbers (flash_machine m.board.core.memory.backup))
 unfolding flash_thawed console_number is_field place_of
 machine-numbered m =
     let state = number-is m field.FlashState refl (lit< tt) in
@@ -80,7 +81,8 @@ all-replaced new bytes long =
 apart : (bytes : List ℕ) (flash : FlashMemory) → Sram ≡ flash.backup → is_flash flash.backup ≡ true → ⊥
 apart bytes flash kind is = let never : is_flash Sram ≡ true = ap is_flash kind ∙ is in absurd cc
 
-backup-by : (start own : BackupMemory) (machine : FlashMachine) → IsSoundBackup start → IsSoundBackup own → backup_of start ≡ backup_of own
+backup-by : (start own : BackupMemory) (machine : FlashMachine) → IsSoundBackup start → IsSoundBackup own
+    → backup_of start ≡ backup_of own
     → machine ≡ machine_numbered (flash_numbers (flash_machine own))
     → with_machine machine (with_backup_bytes 0 (backup_bytes own) start) ≡ own
 backup-by (InSram bytes) (InSram new) machine start own kind is =
@@ -95,7 +97,8 @@ backup-by (InFlash flash) (InFlash new) machine start own kind is =
 -- ---- all of them
 
 pub frame-again : (start m : Machine) → IsStartOf m start → Holds m
-    → IsSameFrame (machine_with_flash (flash_thawed (numbers_of m)) (with_memories (memory_bytes m.board.core) start)) (rested m)
+    → IsSameFrame (machine_with_flash (flash_thawed (numbers_of m)) (with_memories (memory_bytes m.board.core) start))
+    (rested m)
 frame-again start m same holds =
     let new = m.board.core.memory in
     let old = start.board.core.memory in
@@ -105,7 +108,8 @@ frame-again start m same holds =
     let vram = all-replaced new.vram old.vram (same.lengths.vram ∙ sym holds.lengths.vram) in
     let oam = all-replaced new.oam old.oam (same.lengths.oam ∙ sym holds.lengths.oam) in
     let backup =
-    backup-by old.backup new.backup (flash_thawed (numbers_of m)) same.backup holds.backup same.kind (machine-numbered m) in
+    backup-by old.backup new.backup (flash_thawed (numbers_of m)) same.backup holds.backup same.kind
+    (machine-numbered m) in
     record {
       memory = λ i. record {
         bios = same.bios i;

@@ -42,7 +42,8 @@ bank1-at n place inside =
     rw (a, b, c, d, e) refl
 
 wave-is : (m : Machine) (bank place : ℕ) → bank < 2 → place < 16
-    → value_of (Board (board.WaveByte bank place)) (numbers_of m) ≡ board_number (board.WaveByte bank place) m.board.core
+    → value_of (Board (board.WaveByte bank place)) (numbers_of m)
+    ≡ board_number (board.WaveByte bank place) m.board.core
 unfolding place_of board_place board_number numbers_of
 wave-is m zero place lower inside = bank0-at (numbers_of m) place inside
 wave-is m (suc zero) place lower inside = bank1-at (numbers_of m) place inside

@@ -49,7 +49,8 @@ module _ (m : Machine) where
   unfolding console_number is_field place_of
   words-are = number-is m Words refl (lit< tt)
 
-  register-is : (register : ℕ) → register < 37 → value_of (Register register) (numbers_of m) ≡ slice_index m.registers register
+  register-is : (register : ℕ) → register < 37
+      → value_of (Register register) (numbers_of m) ≡ slice_index m.registers register
   unfolding console_number is_field place_of
   register-is register inside =
       number-is m (Register register) (lt-ltb register 37 inside) (omega (arith, inside))

@@ -35,7 +35,8 @@ not-serial half inside =
     let four = ne_eqb (2 * half - (2 * half) % 4) 0x134 (λ same. omega (arith, inside, same)) in
     λ i. one i || two i || three i || four i
 
-of-first : {A : Type 0} (test : Bool) (one other : A) (f : A → ℕ) → test ≡ true → f (if test then one else other) ≡ f one
+of-first : {A : Type 0} (test : Bool) (one other : A) (f : A → ℕ) → test ≡ true
+    → f (if test then one else other) ≡ f one
 of-first test one other f is = ap f (cond-true test one other is)
 
 picture-shown : (half : ℕ) (d : Devices) → half < 43
@@ -62,7 +63,8 @@ kept-half half r inside =
     let below = lt-ltb (2 * half) 0x56 (omega (arith, inside)) in
     let listed : is_listed (2 * half) ≡ true = λ i. even i && below i in
     let place : (2 * half) / 2 ≡ half = omega arith in
-    cond-true (is_listed (2 * half)) (slice_index r.halves ((2 * half) / 2)) 0 listed ∙ ap (λ (k : ℕ). slice_index r.halves k) place
+    cond-true (is_listed (2 * half)) (slice_index r.halves ((2 * half) / 2)) 0 listed
+    ∙ ap (λ (k : ℕ). slice_index r.halves k) place
 
 -- what only the place shows are the halfwords 004h and 006h
 abbrev pub IsPlain : ℕ → Type 0
@@ -72,7 +74,8 @@ apart : (half other : ℕ) → IsPlain half → 2 ≤ other → other < 4 → (2
 apart half other (inl below) least most = ne_eqb (2 * half) (2 * other) (λ same. omega (arith, below, least, same))
 apart half other (inr above) least most = ne_eqb (2 * half) (2 * other) (λ same. omega (arith, above, most, same))
 
-read-half : (half : ℕ) (p : Position) (r : Picture) → IsPlain half → picture_read_at (2 * half) p r ≡ picture_read (2 * half) r
+read-half : (half : ℕ) (p : Position) (r : Picture) → IsPlain half
+    → picture_read_at (2 * half) p r ≡ picture_read (2 * half) r
 read-half half p r plain =
     let status = apart half 2 plain (lit≤ tt) (lit< tt) in
     let count = apart half 3 plain (lit≤ tt) (lit< tt) in
@@ -88,7 +91,8 @@ module _ (b : Core) (io : List ℕ) (halves : AreHalvesOf b io) (holds : Picture
       subst (λ (v : ℕ). v < 2 ^ 16) (kept-half half b.devices.picture inside)
       (stored-small picture_rows (λ offset. picture_kept offset b.devices.picture) rows-halves holds.stored (2 * half))
 
-  pub plain-half : (half : ℕ) → half < 43 → IsPlain half → half_at (2 * half) io ≡ slice_index b.devices.picture.halves half
+  pub plain-half : (half : ℕ) → half < 43 → IsPlain half
+      → half_at (2 * half) io ≡ slice_index b.devices.picture.halves half
   plain-half half inside plain =
       let r = b.devices.picture in
       let mask = (row_at picture_rows (2 * half)).read_mask in
@@ -117,7 +121,8 @@ module _ (b : Core) (io : List ℕ) (halves : AreHalvesOf b io) (holds : Picture
   poured-half (suc (suc zero)) inside = status-half
   poured-half (suc (suc (suc zero))) inside = count-half
   poured-half (suc (suc (suc (suc more)))) inside =
-      get_or-map-range_with_len (λ place. half_at (2 * place) io) 0 43 (suc (suc (suc (suc more)))) (suc (suc (suc (suc more)))) 0
+      get_or-map-range_with_len (λ place. half_at (2 * place) io) 0 43 (suc (suc (suc (suc more))))
+      (suc (suc (suc (suc more)))) 0
       inside (omega arith)
       ∙ plain-half (suc (suc (suc (suc more)))) inside (inr (omega arith))
 

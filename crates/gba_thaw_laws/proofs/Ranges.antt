@@ -81,7 +81,8 @@ module _ (ts : FourTimers) (h : TimersHold ts) where
 
   counter-fits : (k : ℕ) → nat_lt (timer_at k ts).counter 0x10000 ≡ true
   counter-fits =
-      at-timer (λ (t : Timer). nat_lt t.counter 0x10000 ≡ true) ts (lt-ltb _ _ h.timer0.counter) (lt-ltb _ _ h.timer1.counter)
+      at-timer (λ (t : Timer). nat_lt t.counter 0x10000 ≡ true) ts (lt-ltb _ _ h.timer0.counter)
+      (lt-ltb _ _ h.timer1.counter)
       (lt-ltb _ _ h.timer2.counter) (lt-ltb _ _ h.timer3.counter)
 
   phase-fits : (k : ℕ) → nat_lt (timer_at k ts).phase 1024 ≡ true
@@ -91,24 +92,28 @@ module _ (ts : FourTimers) (h : TimersHold ts) where
 
   reload-fits : (k : ℕ) → nat_lt (timer_at k ts).reload 0x10000 ≡ true
   reload-fits =
-      at-timer (λ (t : Timer). nat_lt t.reload 0x10000 ≡ true) ts (lt-ltb _ _ (kept-small 0x100)) (lt-ltb _ _ (kept-small 0x104))
+      at-timer (λ (t : Timer). nat_lt t.reload 0x10000 ≡ true) ts (lt-ltb _ _ (kept-small 0x100))
+      (lt-ltb _ _ (kept-small 0x104))
       (lt-ltb _ _ (kept-small 0x108)) (lt-ltb _ _ (kept-small 0x10c))
 
   controls-fit : (k : ℕ) → k < 4 → control_fits k (timer_at k ts).control ≡ true
   unfolding control_fits timer_rows row_at
   controls-fit =
-      below-four (λ k. control_fits k (timer_at k ts).control ≡ true) (masked-fits ts.timer0.control 0x00c3 (kept-small 0x102) (h.stored 0x102))
+      below-four (λ k. control_fits k (timer_at k ts).control ≡ true)
+      (masked-fits ts.timer0.control 0x00c3 (kept-small 0x102) (h.stored 0x102))
       (masked-fits ts.timer1.control 0x00c7 (kept-small 0x106) (h.stored 0x106))
       (masked-fits ts.timer2.control 0x00c7 (kept-small 0x10a) (h.stored 0x10a))
       (masked-fits ts.timer3.control 0x00c7 (kept-small 0x10e) (h.stored 0x10e))
 
 -- ---- DMA channels
 
-at-channel : (P : Channel → Type 0) (cs : FourChannels) → P cs.channel0 → P cs.channel1 → P cs.channel2 → P cs.channel3 → (k : ℕ)
+at-channel : (P : Channel → Type 0) (cs : FourChannels) → P cs.channel0 → P cs.channel1 → P cs.channel2 → P cs.channel3
+    → (k : ℕ)
     → P (channel_at k cs)
 at-channel P cs a b c d k =
     cond_both (k == 0) cs.channel0 _ P (λ _. a)
-    (λ _. cond_both (k == 1) cs.channel1 _ P (λ _. b) (λ _. cond_both (k == 2) cs.channel2 cs.channel3 P (λ _. c) (λ _. d)))
+    (λ _. cond_both (k == 1) cs.channel1 _ P (λ _. b)
+    (λ _. cond_both (k == 2) cs.channel2 cs.channel3 P (λ _. c) (λ _. d)))
 
 channel-holds : (cs : FourChannels) → ChannelsHold cs → (k : ℕ) → ChannelHolds (channel_at k cs)
 channel-holds cs h = at-channel ChannelHolds cs h.channel0 h.channel1 h.channel2 h.channel3
@@ -131,15 +136,19 @@ part-below : (tone places : ℕ) (t : Tone) → tone_place_end tone ≡ places �
 unfolding tone_end
 part-below tone places t end s =
     below-eight (λ part. nat_lt (tone_part part t) (tone_end tone part) ≡ true) (truth-below t.on)
-    (lt-ltb t.place (tone_place_end tone) (subst (λ (p : ℕ). t.place < p) (sym end) s.place)) (lt-ltb _ _ s.wait) (lt-ltb t.left 257 (omega (arith, s.left))) (lt-ltb _ _ s.volume)
+    (lt-ltb t.place (tone_place_end tone) (subst (λ (p : ℕ). t.place < p) (sym end) s.place)) (lt-ltb _ _ s.wait)
+    (lt-ltb t.left 257 (omega (arith, s.left))) (lt-ltb _ _ s.volume)
     (lt-ltb _ _ s.fade) (lt-ltb _ _ s.sweep) (lt-ltb _ _ s.shadow)
 
 tone-below : (tone part : ℕ) (b : Core) → TonesHold b.devices.tones → 1 ≤ tone → tone ≤ 4 → part < 8
     → nat_lt (tone_part part (tone_at (tone - 1) b.devices.tones)) (tone_end tone part) ≡ true
 tone-below zero part b h least most inside = absurd (omega (arith, least))
-tone-below (suc zero) part b h least most inside = part-below 1 8 b.devices.tones.square1.tone refl h.sound.square1 part inside
-tone-below (suc (suc zero)) part b h least most inside = part-below 2 8 b.devices.tones.square2.tone refl h.sound.square2 part inside
-tone-below (suc (suc (suc zero))) part b h least most inside = part-below 3 64 b.devices.tones.wave.tone refl h.sound.wave part inside
+tone-below (suc zero) part b h least most inside =
+    part-below 1 8 b.devices.tones.square1.tone refl h.sound.square1 part inside
+tone-below (suc (suc zero)) part b h least most inside =
+    part-below 2 8 b.devices.tones.square2.tone refl h.sound.square2 part inside
+tone-below (suc (suc (suc zero))) part b h least most inside =
+    part-below 3 64 b.devices.tones.wave.tone refl h.sound.wave part inside
 tone-below (suc (suc (suc (suc zero)))) part b h least most inside =
     part-below 4 0x8000 b.devices.tones.noise.tone refl h.sound.noise part inside
 tone-below (suc (suc (suc (suc (suc more))))) part b h least most inside = absurd (omega (arith, most))
@@ -171,7 +180,8 @@ word-below Normal32 word is = ltb-true word (2 ^ 32) is
 word-below Multi word is = let below = ltb-true word 0x10000 is in omega (arith, below)
 word-below Other word is = absurd cc
 
-running-below : (number : Running → ℕ) (end : ℕ) (u : SerialUnit) (run : Option Running) → 0 < end → IfSome run (RunHolds u)
+running-below : (number : Running → ℕ) (end : ℕ) (u : SerialUnit) (run : Option Running) → 0 < end
+    → IfSome run (RunHolds u)
     → ((r : Running) → RunHolds u r → number r < end) → nat_lt (running_number number run) end ≡ true
 running-below number end u None some holds below = lt-ltb 0 end some
 running-below number end u (Some run) some holds below = lt-ltb (number run) end (below run holds)
@@ -188,17 +198,21 @@ module _ (b : Core) (d : DevicesHold b.devices) (s : SerialHolds b.serial) where
   bank-below : (bank place : ℕ)
       → slice_index (if bank == 0 then b.devices.tones.wave.bank0 else b.devices.tones.wave.bank1) place < 0x100
   bank-below bank place =
-      cond_both (bank == 0) b.devices.tones.wave.bank0 b.devices.tones.wave.bank1 (λ (bytes : List ℕ). slice_index bytes place < 0x100)
-      (λ _. byte-below b.devices.tones.wave.bank0 d.tones.bank0 place) (λ _. byte-below b.devices.tones.wave.bank1 d.tones.bank1 place)
+      cond_both (bank == 0) b.devices.tones.wave.bank0 b.devices.tones.wave.bank1
+      (λ (bytes : List ℕ). slice_index bytes place < 0x100)
+      (λ _. byte-below b.devices.tones.wave.bank0 d.tones.bank0 place)
+      (λ _. byte-below b.devices.tones.wave.bank1 d.tones.bank1 place)
 
   x-below : (background : ℕ) → (reference_of background b.devices.picture).x < 2 ^ 32
   x-below background =
-      cond_both (background == 2) b.devices.picture.reference2 b.devices.picture.reference3 (λ (r : Reference). r.x < 2 ^ 32)
+      cond_both (background == 2) b.devices.picture.reference2 b.devices.picture.reference3
+      (λ (r : Reference). r.x < 2 ^ 32)
       (λ _. d.picture.reference2.x) (λ _. d.picture.reference3.x)
 
   y-below : (background : ℕ) → (reference_of background b.devices.picture).y < 2 ^ 32
   y-below background =
-      cond_both (background == 2) b.devices.picture.reference2 b.devices.picture.reference3 (λ (r : Reference). r.y < 2 ^ 32)
+      cond_both (background == 2) b.devices.picture.reference2 b.devices.picture.reference3
+      (λ (r : Reference). r.y < 2 ^ 32)
       (λ _. d.picture.reference2.y) (λ _. d.picture.reference3.y)
 
   run-below : (number : Running → ℕ) (end : ℕ) → 0 < end → ((r : Running) → RunHolds b.serial r → number r < end)
@@ -234,6 +248,8 @@ module _ (b : Core) (d : DevicesHold b.devices) (s : SerialHolds b.serial) where
   in-range board.SerialStarted is = truth-below (is_starter_of b.serial.run)
   in-range board.SerialEnd is = run-below (λ r. r.end) (2 ^ 40) (lit< tt) (λ r h. h.end)
   in-range board.SerialGot is = run-below received_mask 16 (lit< tt) (λ r h. mask-below r)
-  in-range board.SerialSent is = run-below (λ r. r.sent) (2 ^ 32) (lit< tt) (λ r h. word-below (mode_of b.serial) r.sent h.sent)
-  in-range board.SerialWord is = run-below (λ r. r.word) (2 ^ 32) (lit< tt) (λ r h. word-below (mode_of b.serial) r.word h.word)
+  in-range board.SerialSent is =
+      run-below (λ r. r.sent) (2 ^ 32) (lit< tt) (λ r h. word-below (mode_of b.serial) r.sent h.sent)
+  in-range board.SerialWord is =
+      run-below (λ r. r.word) (2 ^ 32) (lit< tt) (λ r h. word-below (mode_of b.serial) r.word h.word)
   in-range (board.Known player) is = mode-below (known_mode b.serial.known player)

@@ -67,7 +67,8 @@ zero-at : (count place : ℕ) → slice_index (replicate count 0) place ≡ 0
 zero-at count place = by (cases_lt place count) where
   by : (place < count) ⊎ (count ≤ place) → slice_index (replicate count 0) place ≡ 0
   by (inl inside) = get_or-replicate count place 0 0 inside
-  by (inr past) = let long = length-replicate {A = ℕ} count 0 in get_or_past (replicate count 0) place 0 (omega (arith, past, long))
+  by (inr past) =
+      let long = length-replicate {A = ℕ} count 0 in get_or_past (replicate count 0) place 0 (omega (arith, past, long))
 
 pub zeros-are-bytes : (count : ℕ) → AreBytes (replicate count 0)
 zeros-are-bytes count place inside = let none = zero-at count place in omega (arith, none)
@@ -97,7 +98,8 @@ timers-hold =
 shown-zero : (place : ℕ) → half_shown place channel_at_reset ≡ 0
 shown-zero place =
     chosen IsZero (place == 0) _ _ refl (chosen IsZero (place == 2) _ _ refl (chosen IsZero (place == 4) _ _ refl
-    (chosen IsZero (place == 6) _ _ refl (chosen IsZero (place == 8) _ _ refl (chosen IsZero (place == 10) _ _ refl refl)))))
+    (chosen IsZero (place == 6) _ _ refl
+    (chosen IsZero (place == 8) _ _ refl (chosen IsZero (place == 10) _ _ refl refl)))))
 
 channels-zero : (offset : ℕ) → dma_kept offset channels_at_reset ≡ 0
 channels-zero offset =
@@ -110,13 +112,15 @@ channels-hold : ChannelsHold channels_at_reset
 channels-hold =
     let channel : ChannelHolds channel_at_reset =
     record { source = lit< tt; target = lit< tt; inner_source = lit< tt; inner_target = lit< tt; left = lit≤ tt } in
-    let consistent : IsConsistent channel_at_reset = record { enabled = λ active. absurd cc; left = λ enabled. absurd cc } in
+    let consistent : IsConsistent channel_at_reset =
+    record { enabled = λ active. absurd cc; left = λ enabled. absurd cc } in
     record {
       channel0 = channel;
       channel1 = channel;
       channel2 = channel;
       channel3 = channel;
-      consistent = record { channel0 = consistent; channel1 = consistent; channel2 = consistent; channel3 = consistent };
+      consistent =
+          record { channel0 = consistent; channel1 = consistent; channel2 = consistent; channel3 = consistent };
       stored = none-stored dma_rows (λ offset. dma_kept offset channels_at_reset) channels-zero;
     }
 
@@ -143,7 +147,8 @@ two-zeros true other rest a b = sym (a refl)
 two-zeros false true rest a b = sym (b refl)
 two-zeros false false rest a b = refl
 
-apart-by : (offset other : ℕ) (t : Bool) → (other ≡ 0x088 → ⊥) → (offset == other) ≡ true → (offset == 0x088) ≡ t → bias_if t ≡ 0
+apart-by : (offset other : ℕ) (t : Bool) → (other ≡ 0x088 → ⊥) → (offset == other) ≡ true → (offset == 0x088) ≡ t
+    → bias_if t ≡ 0
 apart-by offset other true never is same = absurd (never (sym (eqb-true offset other is) ∙ eqb-true offset 0x088 same))
 apart-by offset other false never is same = refl
 
@@ -207,7 +212,8 @@ devices-hold = record {
   tones = tones-hold;
   master = refl;
   ratio = refl;
-  interrupts = none-stored interrupt_rows (λ offset. interrupt_shown offset devices_at_reset.interrupts) interrupts-zero;
+  interrupts =
+      none-stored interrupt_rows (λ offset. interrupt_shown offset devices_at_reset.interrupts) interrupts-zero;
   keys = record { pressed = lit< tt; control = and_zero_l (row_at keypad_rows 0x132).write_mask };
   waits = and_zero_l (row_at system_rows 0x204).write_mask;
 }
@@ -231,7 +237,8 @@ serial-by player count round offset true same =
 serial-by player count round offset false same =
     chosen IsZero (offset == 0x120) _ _ refl (chosen IsZero (offset == 0x122) _ _ refl
     (chosen IsZero (offset == 0x124) _ _ refl (chosen IsZero (offset == 0x126) _ _ refl
-    (chosen IsZero (offset == 0x128) _ _ refl (chosen IsZero (offset == 0x12a) _ _ refl (ap (λ (t : Bool). select_if t) same))))))
+    (chosen IsZero (offset == 0x128) _ _ refl
+    (chosen IsZero (offset == 0x12a) _ _ refl (ap (λ (t : Bool). select_if t) same))))))
 
 serial-stored : (player count round : ℕ)
     → HasStoredBits serial_rows (λ offset. serial_kept offset (serial_at_reset player count round))
@@ -240,7 +247,8 @@ serial-stored player count round offset =
     subst (λ (v : ℕ). bit_and v (row_at serial_rows offset).write_mask ≡ v)
     (sym (serial-by player count round offset (offset == 0x134) refl)) (one-stored serial_rows 0x134 0x8000 offset refl)
 
-pub serial-holds : (player count round : ℕ) → player < count → count ≤ 4 → SerialHolds (serial_at_reset player count round)
+pub serial-holds : (player count round : ℕ) → player < count → count ≤ 4
+    → SerialHolds (serial_at_reset player count round)
 serial-holds player count round seat few = record {
   player = omega (arith, seat, few);
   words = refl;
@@ -268,11 +276,13 @@ registers-hold = record {
 
 -- ---- the memories
 
-saved-long : (save : Option (List ℕ)) (backup : Backup) → SaveFits save backup → length (saved_bytes save backup) ≡ backup_length backup
+saved-long : (save : Option (List ℕ)) (backup : Backup) → SaveFits save backup
+    → length (saved_bytes save backup) ≡ backup_length backup
 saved-long None backup fits = length-replicate {A = ℕ} (backup_length backup) 0xff
 saved-long (Some bytes) backup fits = fits
 
-backup-sound : (backup : Backup) (bytes : List ℕ) → length bytes ≡ backup_length backup → IsSoundBackup (backup_at_start backup bytes)
+backup-sound : (backup : Backup) (bytes : List ℕ) → length bytes ≡ backup_length backup
+    → IsSoundBackup (backup_at_start backup bytes)
 backup-sound Sram bytes long = long
 backup-sound Flash64 bytes long = record {
   flash = refl;
@@ -291,7 +301,8 @@ backup-long Sram bytes long = long
 backup-long Flash64 bytes long = long
 backup-long Flash128 bytes long = long
 
-have-lengths : (player count round : ℕ) (bios : List ℕ) (cart save : Option (List ℕ)) (backup : Backup) → SaveFits save backup
+have-lengths : (player count round : ℕ) (bios : List ℕ) (cart save : Option (List ℕ)) (backup : Backup)
+    → SaveFits save backup
     → HaveLengths (core_at_start player count round bios cart save backup)
 unfolding at_start work_length inner_length palette_length vram_length oam_length
 have-lengths player count round bios cart save backup fits = record {
@@ -337,7 +348,8 @@ holds-at-reset player count round off bios cart save backup keys room seat few f
 
 -- ---- its text
 
-backup-same : (backup : Backup) (bytes : List ℕ) → AreBytes bytes → AreBytes (backup_bytes (backup_at_start backup bytes))
+backup-same : (backup : Backup) (bytes : List ℕ) → AreBytes bytes
+    → AreBytes (backup_bytes (backup_at_start backup bytes))
 backup-same Sram bytes are = are
 backup-same Flash64 bytes are = are
 backup-same Flash128 bytes are = are

@@ -65,7 +65,8 @@ module _ (b : Core) (io : List ℕ) (halves : AreHalvesOf b io) (holds : SerialH
         words = words-again i;
       }
 
-known-again : (b : Core) (n : ConsoleNumbers) (io : List ℕ) → Says b n io → SerialHolds b.serial → known_poured n ≡ b.serial.known
+known-again : (b : Core) (n : ConsoleNumbers) (io : List ℕ) → Says b n io → SerialHolds b.serial
+    → known_poured n ≡ b.serial.known
 unfolding known_poured
 known-again b n io says holds =
     let known = (bytes-made-again b n says.numbers says.range says.bytes).known in

@@ -31,7 +31,8 @@ use Rattle.link_order.specs.declared.sent.Sent.{Sent}
 
 -- ---- consoles
 
-pub same-backups : (until : ℕ) (starts ms : List Machine) → AreReady until starts ms → map backup_in starts ≡ map backup_in ms
+pub same-backups : (until : ℕ) (starts ms : List Machine) → AreReady until starts ms
+    → map backup_in starts ≡ map backup_in ms
 unfolding AreReady
 same-backups until [] [] ready = refl
 same-backups until [] (m ∷ ms) ready = absurd ready
@@ -57,12 +58,14 @@ clocks-latest until (start ∷ starts) (m ∷ ms) ready (suc i) = clocks-latest 
 
 -- ---- backups
 
-backups-same : (digest : List ℕ) (until : ℕ) (starts ms : List Machine) → map backup_in starts ≡ map backup_in ms → length ms ≤ 4
+backups-same : (digest : List ℕ) (until : ℕ) (starts ms : List Machine) → map backup_in starts ≡ map backup_in ms
+    → length ms ≤ 4
     → (player : ℕ) → backup_of (setup_of digest until starts) player ≡ backup_of (setup_written digest until ms) player
 backups-same digest until starts ms same few zero = ap (λ (bs : List Backup). slice_index_or bs 0 Sram) same
 backups-same digest until starts ms same few (suc zero) = ap (λ (bs : List Backup). slice_index_or bs 1 Sram) same
 backups-same digest until starts ms same few (suc (suc zero)) = ap (λ (bs : List Backup). slice_index_or bs 2 Sram) same
-backups-same digest until starts ms same few (suc (suc (suc zero))) = ap (λ (bs : List Backup). slice_index_or bs 3 Sram) same
+backups-same digest until starts ms same few (suc (suc (suc zero))) =
+    ap (λ (bs : List Backup). slice_index_or bs 3 Sram) same
 backups-same digest until starts ms same few (suc (suc (suc (suc player)))) =
     let long = length-map ms backup_in in
     sym (get_or_past (map backup_in ms) (suc (suc (suc (suc player)))) Sram (omega (arith, few, long)))
@@ -83,14 +86,16 @@ text-same : (S F : Setup) (d : Draft) → S.digest ≡ F.digest → ((p : ℕ) �
 unfolding frozen_text frozen_lines
 text-same S F d digest same =
     let says = says-same S F 0 d.consoles same in
-    λ i. text_of (version_text ∷ digest_text (digest i) ∷ (map said_line (says i ++ map live_of d.sent) ++ end_text ∷ []))
+    λ i. text_of
+    (version_text ∷ digest_text (digest i) ∷ (map said_line (says i ++ map live_of d.sent) ++ end_text ∷ []))
 
 pub file-is-text : (digest : List ℕ) (until : ℕ) (start cut : Cut Machine) → CanBeFrozen until start cut
     → frozen_file digest cut ≡ frozen_text (setup_of digest until start.consoles) (cut_draft cut)
 file-is-text digest until start cut can =
     let same = same-backups until start.consoles cut.consoles can.consoles in
     frozen-text digest until cut
-    ∙ sym (text-same (setup_of digest until start.consoles) (setup_written digest until cut.consoles) (cut_draft cut) refl
+    ∙ sym
+    (text-same (setup_of digest until start.consoles) (setup_written digest until cut.consoles) (cut_draft cut) refl
     (backups-same digest until start.consoles cut.consoles same can.few))
 
 -- ---- the signals
@@ -154,7 +159,8 @@ consoles-stand S player (start ∷ starts) [] ready kept = absurd ready
 consoles-stand S player (start ∷ starts) (m ∷ ms) ready kept =
     let one = ready.0 in
     let here : player + 0 ≡ player = omega arith in
-    let backup : backup_of S player ≡ backup_in m = ap (λ (p : ℕ). backup_of S p) (sym here) ∙ kept 0 m (omega arith) in (
+    let backup : backup_of S player ≡ backup_in m =
+    ap (λ (p : ℕ). backup_of S p) (sym here) ∙ kept 0 m (omega arith) in (
       subst (λ (b : Backup). IsConsole S.until b (draft_of m)) (sym backup)
           (lines-of-console-stand S.until m one.holds one.spelled one.early),
       consoles-stand S (player + 1) starts ms ready.1 (λ j other inside.
@@ -183,7 +189,8 @@ draft-whole digest until start cut long bytes can =
       last = omega (arith, count, can.some);
       past = refl;
       consoles = consoles-stand S 0 start.consoles cut.consoles can.consoles (λ j m inside.
-          backups-same digest until start.consoles cut.consoles same can.few (0 + j) ∙ backup-kept digest until cut.consoles j m inside);
+          backups-same digest until start.consoles cut.consoles same can.few (0 + j)
+          ∙ backup-kept digest until cut.consoles j m inside);
       sent = signals-stand (length start.consoles) cut.sent (λ k d inside.
           let sound = can.whole.sound.signals k d inside in
           let latest = clocks-latest until start.consoles cut.consoles can.consoles (get_or cut.sent k d).sender in

@@ -54,14 +54,17 @@ module _ (b : Core) (io : List ℕ) (halves : AreHalvesOf b io) (holds : Devices
   master-half =
       let ts = b.devices.tones in
       halves 0x42 (lit< tt)
-      ∙ ap (λ on. bit_or (bit_and (if on then 0x80 else 0) 0x80) (bit_and (weight 0x80 ts.is_on + channels_on ts) 0x8f) % 2 ^ 16)
+      ∙ ap
+      (λ on. bit_or (bit_and (if on then 0x80 else 0) 0x80) (bit_and (weight 0x80 ts.is_on + channels_on ts) 0x8f) % 2
+      ^ 16)
       holds.master
       ∙ master-again ts.is_on (channels_on ts) (channels-few ts)
 
   pub bias-half : half_at 0x088 io ≡ b.devices.sound.bias
   unfolding core_half_stored half_stored owner_of sound_rows tone_rows row_at
   bias-half =
-      sound-again (half_at 0x088 io) b.devices.sound.bias 0 0xc3fe (halves 0x44 (lit< tt)) (holds.sound.stored 0x088) (lit< tt)
+      sound-again (half_at 0x088 io) b.devices.sound.bias 0 0xc3fe (halves 0x44 (lit< tt)) (holds.sound.stored 0x088)
+      (lit< tt)
 
   -- the tones' halfwords
   pub tone-halves : tone_halves io ≡ halves_of b.devices.tones
@@ -69,7 +72,8 @@ module _ (b : Core) (io : List ℕ) (halves : AreHalvesOf b io) (holds : Devices
   tone-halves =
       let ts = b.devices.tones in
       let small =
-      stored-small tone_rows (λ offset. if offset == 0x084 then 0 else tones_kept offset ts) rows-halves holds.tones.stored in
+      stored-small tone_rows (λ offset. if offset == 0x084 then 0 else tones_kept offset ts) rows-halves
+      holds.tones.stored in
       let sweep = uncut (half_at 0x060 io) ts.sweep (halves 0x30 (lit< tt)) (small 0x060) in
       let shape1 = uncut (half_at 0x062 io) ts.square1.shape (halves 0x31 (lit< tt)) (small 0x062) in
       let control1 = uncut (half_at 0x064 io) ts.square1.control (halves 0x32 (lit< tt)) (small 0x064) in
@@ -82,14 +86,16 @@ module _ (b : Core) (io : List ℕ) (halves : AreHalvesOf b io) (holds : Devices
       let control4 = uncut (half_at 0x07c io) ts.noise.control (halves 0x3e (lit< tt)) (small 0x07c) in
       let mixer = uncut (half_at 0x080 io) ts.mixer (halves 0x40 (lit< tt)) (small 0x080) in
       let ratio = ap (λ (h : ℕ). field h 0 2) control-half ∙ sym holds.ratio in
-      λ i. sweep i ∷ shape1 i ∷ control1 i ∷ shape2 i ∷ control2 i ∷ select i ∷ level i ∷ control3 i ∷ shape4 i ∷ control4 i
+      λ i. sweep i ∷ shape1 i ∷ control1 i ∷ shape2 i ∷ control2 i ∷ select i ∷ level i ∷ control3 i ∷ shape4 i ∷
+      control4 i
       ∷ mixer i ∷ ratio i ∷ master-half i ∷ []
 
 pub sound-thaws-again : SoundThawsAgain
 sound-thaws-again b n io says holds =
     let bytes = bytes-made-again b n says.numbers says.range says.bytes in
     let numbers = tones-made-again b n says.numbers says.range in
-    let master = ap (λ (h : ℕ). bit h 7) (master-half b io says.halves holds) ∙ master-bit b.devices.tones ∙ sym holds.master in
+    let master =
+    ap (λ (h : ℕ). bit h 7) (master-half b io says.halves holds) ∙ master-bit b.devices.tones ∙ sym holds.master in
     let tones = tone-halves b io says.halves holds in
     record {
       sound = λ i. record {

@@ -103,7 +103,8 @@ unfolding register_fits
 register-fits m h s register =
     let value = slice_index m.registers register in
     let small = h.words register in
-    cond_both (nat_lt register 31) (nat_lt value word_end) _ (λ (t : Bool). t ≡ true) (λ _. lt-ltb value word_end small) (λ past.
+    cond_both (nat_lt register 31) (nat_lt value word_end) _ (λ (t : Bool). t ≡ true)
+    (λ _. lt-ltb value word_end small) (λ past.
     cond_both (register == 31) (is_status value) (is_saved_status value) (λ (t : Bool). t ≡ true)
     (λ same. subst (λ (r : ℕ). is_status (slice_index m.registers r) ≡ true) (sym (eqb-true register 31 same))
     (status-fits (slice_index m.registers 31) (h.words 31) h.status))
@@ -137,7 +138,8 @@ machine-fits (InFlash flash) h = record {
   bank = lt-ltb flash.machine.bank 2 h.machine.bank;
 }
 
-no-machine : (backup : BackupMemory) → IsSoundBackup backup → is_flash (backup_of backup) ≡ false → flash_machine backup ≡ None
+no-machine : (backup : BackupMemory) → IsSoundBackup backup → is_flash (backup_of backup) ≡ false
+    → flash_machine backup ≡ None
 no-machine (InSram bytes) h none = refl
 no-machine (InFlash flash) h none = let is = h.flash in absurd cc
 
@@ -147,7 +149,8 @@ module _ (until : ℕ) (m : Machine) (holds : Holds m) (spelled : IsSpelled m) (
   flash-fits : MachineFits (flash_numbers (flash_machine m.board.core.memory.backup))
   flash-fits = machine-fits m.board.core.memory.backup holds.backup
 
-  byte-fits : (queue place : ℕ) → nat_lt (slice_index (queue_at queue m.board.core.devices.sound).bytes place) 0x100 ≡ true
+  byte-fits : (queue place : ℕ)
+      → nat_lt (slice_index (queue_at queue m.board.core.devices.sound).bytes place) 0x100 ≡ true
   byte-fits queue place =
       lt-ltb _ _ (byte-below (queue_at queue m.board.core.devices.sound).bytes
       (queue-holds m.board.core.devices.sound holds.devices.sound queue).bytes place)
@@ -206,7 +209,8 @@ module _ (until : ℕ) (m : Machine) (holds : Holds m) (spelled : IsSpelled m) (
   no-flash none =
       let machine = no-machine m.board.core.memory.backup holds.backup none in
       let zero-at = λ (part : ℕ). ap (λ (o : Option FlashMachine). slice_index (flash_numbers o) part) machine in
-      below-four (λ part. value_of (flash_field_of part) (numbers_of m) ≡ 0) (value-is m field.FlashState refl ∙ zero-at 0)
+      below-four (λ part. value_of (flash_field_of part) (numbers_of m) ≡ 0)
+      (value-is m field.FlashState refl ∙ zero-at 0)
       (value-is m field.FlashArmed refl ∙ zero-at 1) (value-is m field.FlashIdentify refl ∙ zero-at 2)
       (value-is m field.FlashBank refl ∙ zero-at 3)
 

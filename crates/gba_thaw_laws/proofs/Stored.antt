@@ -32,13 +32,15 @@ module _ (b : Core) (io : List ℕ) (halves : AreHalvesOf b io) (holds : Devices
       → bit_and (slice_index b.devices.picture.halves half) mask ≡ slice_index b.devices.picture.halves half
       → has_bits (2 * half) mask io ≡ true
   first half mask inside below =
-      has-stored (2 * half) mask (slice_index b.devices.picture.halves half) io (plain-half b io halves holds.picture half inside (inl below))
+      has-stored (2 * half) mask (slice_index b.devices.picture.halves half) io
+      (plain-half b io halves holds.picture half inside (inl below))
 
   behind : (half mask : ℕ) → half < 43 → 4 ≤ half
       → bit_and (slice_index b.devices.picture.halves half) mask ≡ slice_index b.devices.picture.halves half
       → has_bits (2 * half) mask io ≡ true
   behind half mask inside above =
-      has-stored (2 * half) mask (slice_index b.devices.picture.halves half) io (plain-half b io halves holds.picture half inside (inr above))
+      has-stored (2 * half) mask (slice_index b.devices.picture.halves half) io
+      (plain-half b io halves holds.picture half inside (inr above))
 
   picture-stored : is_picture_stored io ≡ true
   unfolding is_picture_stored picture_rows row_at
@@ -85,8 +87,11 @@ module _ (b : Core) (io : List ℕ) (halves : AreHalvesOf b io) (holds : Devices
       let master =
       has-stored 0x084 0x008f (weight 0x80 ts.is_on + channels_on ts) io (sounds.master-half b io halves holds)
       (master-stored ts.is_on (channels_on ts) (sounds.channels-few ts)) in
-      let ratio = has-stored 0x082 0x770f b.devices.sound.control io (sounds.control-half b io halves holds) (holds.sound.stored 0x082) in
-      let bias = has-stored 0x088 0xc3fe b.devices.sound.bias io (sounds.bias-half b io halves holds) (holds.sound.stored 0x088) in
+      let ratio =
+      has-stored 0x082 0x770f b.devices.sound.control io (sounds.control-half b io halves holds)
+      (holds.sound.stored 0x082) in
+      let bias =
+      has-stored 0x088 0xc3fe b.devices.sound.bias io (sounds.bias-half b io halves holds) (holds.sound.stored 0x088) in
       λ i. tone 0x060 0x007f 0 refl (stored 0x060) i && tone 0x064 0x47ff 2 refl (stored 0x064) i
       && tone 0x06c 0x47ff 4 refl (stored 0x06c) i && tone 0x070 0x00e0 5 refl (stored 0x070) i
       && tone 0x072 0xe0ff 6 refl (stored 0x072) i && tone 0x074 0x47ff 7 refl (stored 0x074) i
@@ -95,12 +100,14 @@ module _ (b : Core) (io : List ℕ) (halves : AreHalvesOf b io) (holds : Devices
 
   -- ---- the DMA channels
 
-  channel : (half mask : ℕ) → half < 512 → core_half_stored (2 * half) b ≡ dma_kept (2 * half) b.devices.channels % 2 ^ 16
+  channel : (half mask : ℕ) → half < 512
+      → core_half_stored (2 * half) b ≡ dma_kept (2 * half) b.devices.channels % 2 ^ 16
       → (row_at dma_rows (2 * half)).write_mask ≡ mask → has_bits (2 * half) mask io ≡ true
   channel half mask inside is row =
       let cs = b.devices.channels in
       has-stored (2 * half) mask (dma_kept (2 * half) cs) io
-      (uncut (half_at (2 * half) io) (dma_kept (2 * half) cs) (halves half inside ∙ is) (dma-small cs holds.channels (2 * half)))
+      (uncut (half_at (2 * half) io) (dma_kept (2 * half) cs) (halves half inside ∙ is)
+      (dma-small cs holds.channels (2 * half)))
       (ap (λ (m : ℕ). bit_and (dma_kept (2 * half) cs) m) (sym row) ∙ holds.channels.stored (2 * half))
 
   channels-stored : are_channels_stored io ≡ true
@@ -123,11 +130,14 @@ module _ (b : Core) (io : List ℕ) (halves : AreHalvesOf b io) (holds : Devices
       let d = b.devices in
       let keys = has-stored 0x132 0xc3ff d.keys.control io (keys-control-half b io halves holds) holds.keys.control in
       let select = has-stored 0x134 0xc000 b.serial.select io (select-half b io halves serial) (serial.stored 0x134) in
-      let enabled = has-stored 0x200 0x3fff d.interrupts.enabled io (enabled-half b io halves holds) (holds.interrupts 0x200) in
-      let raised = has-stored 0x202 0x3fff d.interrupts.raised io (raised-half b io halves holds) (holds.interrupts 0x202) in
+      let enabled =
+      has-stored 0x200 0x3fff d.interrupts.enabled io (enabled-half b io halves holds) (holds.interrupts 0x200) in
+      let raised =
+      has-stored 0x202 0x3fff d.interrupts.raised io (raised-half b io halves holds) (holds.interrupts 0x202) in
       let waits = has-stored 0x204 0x5fff d.waits io (waits-half b io halves holds) holds.waits in
       let master =
-      has-stored 0x208 0x0001 (bit_and (truth_number d.interrupts.master) 0x0001 % 2 ^ 16) io (master-half b io halves holds)
+      has-stored 0x208 0x0001 (bit_and (truth_number d.interrupts.master) 0x0001 % 2 ^ 16) io
+      (master-half b io halves holds)
       (truth-stored d.interrupts.master) in
       let posted =
       has-stored 0x300 0x0001 (bit_and (truth_number d.posted) 0x0001 % 2 ^ 16) io (posted-half b io halves holds)

@@ -18,16 +18,25 @@ stored-unseen : (offset : ℕ) (d : Devices)
     → stored_of (owner_of offset) offset (begun d) ≡ stored_of (owner_of offset) offset d
 unfolding owner_of
 stored-unseen offset d =
-    either (nat_lt offset 0x056) _ _ (λ owner. stored_of owner offset (begun d)) (λ owner. stored_of owner offset d) refl
-    (either (nat_le 0x060 offset && nat_lt offset 0x082) _ _ (λ owner. stored_of owner offset (begun d)) (λ owner. stored_of owner offset d) refl
-    (either (nat_le 0x082 offset && nat_lt offset 0x08a) _ _ (λ owner. stored_of owner offset (begun d)) (λ owner. stored_of owner offset d) refl
-    (either (nat_le 0x090 offset && nat_lt offset 0x0a0) _ _ (λ owner. stored_of owner offset (begun d)) (λ owner. stored_of owner offset d) refl
-    (either (nat_le 0x0b0 offset && nat_lt offset 0x0e0) _ _ (λ owner. stored_of owner offset (begun d)) (λ owner. stored_of owner offset d) refl
-    (either (nat_le 0x100 offset && nat_lt offset 0x110) _ _ (λ owner. stored_of owner offset (begun d)) (λ owner. stored_of owner offset d) refl
-    (either (nat_le 0x130 offset && nat_lt offset 0x134) _ _ (λ owner. stored_of owner offset (begun d)) (λ owner. stored_of owner offset d) refl
+    either (nat_lt offset 0x056) _ _ (λ owner. stored_of owner offset (begun d)) (λ owner. stored_of owner offset d)
+    refl
+    (either (nat_le 0x060 offset && nat_lt offset 0x082) _ _ (λ owner. stored_of owner offset (begun d))
+    (λ owner. stored_of owner offset d) refl
+    (either (nat_le 0x082 offset && nat_lt offset 0x08a) _ _ (λ owner. stored_of owner offset (begun d))
+    (λ owner. stored_of owner offset d) refl
+    (either (nat_le 0x090 offset && nat_lt offset 0x0a0) _ _ (λ owner. stored_of owner offset (begun d))
+    (λ owner. stored_of owner offset d) refl
+    (either (nat_le 0x0b0 offset && nat_lt offset 0x0e0) _ _ (λ owner. stored_of owner offset (begun d))
+    (λ owner. stored_of owner offset d) refl
+    (either (nat_le 0x100 offset && nat_lt offset 0x110) _ _ (λ owner. stored_of owner offset (begun d))
+    (λ owner. stored_of owner offset d) refl
+    (either (nat_le 0x130 offset && nat_lt offset 0x134) _ _ (λ owner. stored_of owner offset (begun d))
+    (λ owner. stored_of owner offset d) refl
     (either (offset == 0x204) _ _ (λ owner. stored_of owner offset (begun d)) (λ owner. stored_of owner offset d) refl
-    (either (nat_le 0x200 offset && nat_lt offset 0x20a) _ _ (λ owner. stored_of owner offset (begun d)) (λ owner. stored_of owner offset d) refl
-    (either (offset == 0x300) _ _ (λ owner. stored_of owner offset (begun d)) (λ owner. stored_of owner offset d) refl refl)))))))))
+    (either (nat_le 0x200 offset && nat_lt offset 0x20a) _ _ (λ owner. stored_of owner offset (begun d))
+    (λ owner. stored_of owner offset d) refl
+    (either (offset == 0x300) _ _ (λ owner. stored_of owner offset (begun d)) (λ owner. stored_of owner offset d) refl
+    refl)))))))))
 
 half-begun : (offset : ℕ) (d : Devices) → half_stored offset (begun d) ≡ half_stored offset d
 unfolding half_stored

@@ -1,5 +1,5 @@
--- The rules that the consoles of a run keep, device by device, beside what their memories and their images are. Of a console that keeps
--- them, what a frozen file says of it makes it again.
+-- The rules that the consoles of a run keep, device by device, beside what their memories and their images are. Of a
+-- console that keeps them, what a frozen file says of it makes it again.
 use Rattle.std.specs.Prelude.{◌≡◌, ℕ, ◌+◌, ◌%◌, ◌^◌, ◌<◌, ◌≤◌, ◌==◌, true, false, IfSome, List, length, bit_and, slice_index, if◌then◌else◌}
 use Rattle.gba_terms.specs.Bits.{field}
 use Rattle.gba_register.specs.Rows.{Row, row_at}
@@ -100,7 +100,8 @@ pub record KeysHold (k : Keys) : Type 0 where
   pub pressed : k.pressed < 2 ^ 10
   pub control : bit_and k.control (row_at keypad_rows 0x132).write_mask ≡ k.control
 
--- The devices. SOUNDCNT_X's bit 7 and SOUNDCNT_H's bits 0 and 1 stand in direct sound and in the tones, and are the same in both.
+-- The devices. SOUNDCNT_X's bit 7 and SOUNDCNT_H's bits 0 and 1 stand in direct sound and in the tones, and are the
+-- same in both.
 pub record DevicesHold (d : Devices) : Type 0 where
   pub timers : TimersHold d.timers
   pub channels : ChannelsHold d.channels
@@ -114,7 +115,8 @@ pub record DevicesHold (d : Devices) : Type 0 where
   pub keys : KeysHold d.keys
   pub waits : bit_and d.waits (row_at system_rows 0x204).write_mask ≡ d.waits
 
--- A transfer runs in a mode that has transfers, its words are of that mode's width, and its end is near a clock of a run.
+-- A transfer runs in a mode that has transfers, its words are of that mode's width, and its end is near a clock of a
+-- run.
 pub record RunHolds (u : SerialUnit) (run : Running) : Type 0 where
   pub players : length run.got ≡ 4
   pub end : run.end < 2 ^ 40
@@ -146,8 +148,8 @@ pub record TimesHold (m : Machine) : Type 0 where
   pub samples : m.board.made.pairs < 2 ^ 40
   pub words : m.board.ended.count < 2 ^ 40
 
--- The changes of the keys that are applied are those which the last step found due, if there was one, and the last of them says which
--- keys are pressed.
+-- The changes of the keys that are applied are those which the last step found due, if there was one, and the last of
+-- them says which keys are pressed.
 pub record ChangesHold (m : Machine) : Type 0 where
   pub few : m.applied ≤ length m.keys
   pub due : m.was < clock_of m → m.applied ≡ due_count m.was m.keys

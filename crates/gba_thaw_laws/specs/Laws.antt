@@ -75,7 +75,8 @@ SerialThawsAgain =
 -- The accesses of the next step take the prices of WAITCNT.
 abbrev pub DevicesThawAgain : Type 0
 DevicesThawAgain =
-    (b : Core) (n : ConsoleNumbers) (io : List ℕ) → Says b n io → value_of Clock n ≡ b.devices.clock → DevicesHold b.devices
+    (b : Core) (n : ConsoleNumbers) (io : List ℕ) → Says b n io → value_of Clock n ≡ b.devices.clock
+    → DevicesHold b.devices
     → devices_of (devices_poured n io) ≡ begun b.devices
 
 -- Each halfword has only bits that may be 1 in a frozen file.
@@ -85,8 +86,8 @@ BitsAreStored =
 
 -- ---- the console
 
--- A console of the same job at its start: it has the same images, a backup of the same kind, the same seat and changes of the keys, it
--- is off below the same clock, and it keeps the same lists.
+-- A console of the same job at its start: it has the same images, a backup of the same kind, the same seat and changes
+-- of the keys, it is off below the same clock, and it keeps the same lists.
 pub record IsStartOf (m start : Machine) : Type 0 where
   pub bios : start.board.core.memory.bios ≡ m.board.core.memory.bios
   pub rom : start.board.core.memory.rom ≡ m.board.core.memory.rom
@@ -104,9 +105,10 @@ pub record IsStartOf (m start : Machine) : Type 0 where
 abbrev pub drawn_of : Machine → DrawnLines
 drawn_of m = record { lines = m.board.core.lines; has_gap = false }
 
--- What a frozen file says of a console makes it of one at its start, but for what no step looks at: in a job of so many cycles a run
--- can go on from it where it began its last step below the job's end.
+-- What a frozen file says of a console makes it of one at its start, but for what no step looks at: in a job of so many
+-- cycles a run can go on from it where it began its last step below the job's end.
 abbrev pub ThawsAgain : Type 0
 ThawsAgain =
     (until : ℕ) (start m : Machine) → IsStartOf m start → Holds m → clock_of m ≤ until + 511
-    → option_map shorn (console_thawed until start (numbers_of m) (memory_bytes m.board.core) (drawn_of m)) ≡ Some (shorn m)
+    → option_map shorn (console_thawed until start (numbers_of m) (memory_bytes m.board.core) (drawn_of m))
+    ≡ Some (shorn m)

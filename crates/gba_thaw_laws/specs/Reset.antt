@@ -13,13 +13,15 @@ use Rattle.gba_thaw_laws.specs.Text.{IsSpelled}
 -- whatever its images, its seat and the changes of its keys are, with a save that was checked for its backup
 abbrev pub HoldsAtReset : Type 0
 HoldsAtReset =
-    (player count round off : ℕ) (bios : List ℕ) (cart save : Option (List ℕ)) (backup : Backup) (keys : List KeyState) (room : Room)
+    (player count round off : ℕ) (bios : List ℕ) (cart save : Option (List ℕ)) (backup : Backup) (keys : List KeyState)
+    (room : Room)
     → player < count → count ≤ 4 → SaveFits save backup
     → Holds (reset player count round off bios cart save backup keys room)
 
 -- and its text is one, with a save of bytes
 abbrev pub SpelledAtReset : Type 0
 SpelledAtReset =
-    (player count round off : ℕ) (bios : List ℕ) (cart save : Option (List ℕ)) (backup : Backup) (keys : List KeyState) (room : Room)
+    (player count round off : ℕ) (bios : List ℕ) (cart save : Option (List ℕ)) (backup : Backup) (keys : List KeyState)
+    (room : Room)
     → AreBytes (saved_bytes save backup)
     → IsSpelled (reset player count round off bios cart save backup keys room)

@@ -1,5 +1,5 @@
--- What a frozen file says of a board: its numbers, each in its range, the bytes of its sound queues and of its wave, and those of the
--- I/O registers.
+-- What a frozen file says of a board: its numbers, each in its range, the bytes of its sound queues and of its wave,
+-- and those of the I/O registers.
 use Rattle.std.specs.Prelude.{◌≡◌, ℕ, ◌*◌, ◌<◌, List}
 use Rattle.gba_io.specs.Core.{Core, core_half_stored}
 use Rattle.gba_loose.specs.Again.{AreBytesOf, AreInRange, AreNumbersOf}

@@ -1,4 +1,5 @@
--- What else the consoles of a run keep, so that what a frozen file says of them has a text, which is read as it was written.
+-- What else the consoles of a run keep, so that what a frozen file says of them has a text, which is read as it was
+-- written.
 use Rattle.std.specs.Prelude.{◌≡◌, ℕ, ◌+◌, ◌^◌, ◌<◌, ◌≤◌, Some, option_map, List, [], length, slice_index, slice_index_or}
 use Rattle.gba_console.specs.Machine.{Machine, clock_of}
 use Rattle.gba_console.specs.Shorn.{shorn}
@@ -28,7 +29,8 @@ pub record LineHolds (line : List ℕ) : Type 0 where
 
 -- SPSRs have the bits of a status alone, and a bank of the wave has 16 bytes.
 pub record IsSpelled (m : Machine) : Type 0 where
-  pub saved : (register : ℕ) → 32 ≤ register → kept_status (slice_index m.registers register) ≡ slice_index m.registers register
+  pub saved : (register : ℕ) → 32 ≤ register
+      → kept_status (slice_index m.registers register) ≡ slice_index m.registers register
   pub applied : m.applied < 2 ^ 40
   pub bank0 : length m.board.core.devices.tones.wave.bank0 ≡ 16
   pub bank1 : length m.board.core.devices.tones.wave.bank1 ≡ 16
@@ -38,7 +40,8 @@ pub record IsSpelled (m : Machine) : Type 0 where
 -- What the lines of a frozen file say of a console may stand there, in a job of so many cycles,
 abbrev pub LinesStand : Type 0
 LinesStand =
-    (until : ℕ) (m : Machine) → Holds m → IsSpelled m → clock_of m ≤ until + 511 → IsConsole until (backup_in m) (draft_of m)
+    (until : ℕ) (m : Machine) → Holds m → IsSpelled m → clock_of m ≤ until + 511
+    → IsConsole until (backup_in m) (draft_of m)
 
 -- and makes it again of one at its start.
 abbrev pub LinesThawAgain : Type 0

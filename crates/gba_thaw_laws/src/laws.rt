@@ -50,14 +50,14 @@ pub fn bits_are_stored()
     ensures { BitsAreStored }
 {}
 
-/// What a frozen file says of a console that keeps its rules makes it again of one at the start of its job, but for what no step looks
-/// at: every test is passed where the console's last step began below the job's end.
+/// What a frozen file says of a console that keeps its rules makes it again of one at the start of its job, but for
+/// what no step looks at: every test is passed where the console's last step began below the job's end.
 pub fn thaws_again()
     ensures { ThawsAgain }
 {}
 
-/// The lines of such a console, whose bytes are bytes, may stand in a frozen file of a job in which it began its last step below the
-/// job's end.
+/// The lines of such a console, whose bytes are bytes, may stand in a frozen file of a job in which it began its last
+/// step below the job's end.
 pub fn lines_stand()
     ensures { LinesStand }
 {}
@@ -77,8 +77,9 @@ pub fn spelled_at_reset()
     ensures { SpelledAtReset }
 {}
 
-/// The frozen file of consoles that keep their rules on the cable of their job, if it isn't too long, is thawed: each console, but for
-/// what no step looks at, the cable and the signals on their way are those that were frozen.
+/// The frozen file of consoles that keep their rules on the cable of their job, if it isn't too long, is thawed: each
+/// console, but for what no step looks at, the cable and the signals on their way are those that were frozen. At each
+/// later clock the consoles that go on from it are what the frozen ones are then, and have made since what these have.
 pub fn files_thaw_again()
     ensures { FilesThawAgain }
 {}
