@@ -1,5 +1,5 @@
 -- A run can go on from what a frozen file says of a console.
-use Rattle.std.proofs.Common.{◌≡◌, ℕ, ◌+◌, ◌%◌, ◌^◌, ◌<◌, ◌≤◌, ◌∙◌, ◌⊎◌, inl, inr, ap, sym, Bool, true, false, not, ◌&&◌, ◌||◌, ◌==◌, nat_lt, nat_le, List, length, slice_index, Option, Some, None, IfSome, is_some, if◌then◌else◌, refl, arith, lt-ltb, le-leb, eq-eqb, ne_eqb, lit<}
+use Rattle.std.proofs.Common.{◌≡◌, ℕ, ◌+◌, ◌%◌, ◌^◌, ◌<◌, ◌≤◌, ◌∙◌, ◌⊎◌, inl, inr, ap, sym, Bool, true, false, not, ◌&&◌, ◌||◌, ◌==◌, nat_lt, nat_le, List, length, slice_index, Option, Some, None, IfSome, is_some, if◌then◌else◌, refl, arith, lt-ltb, le-leb, eq-eqb, ne_eqb}
 use Rattle.std.proofs.lemmas.Bool.{cases_lt, or_left, or_right}
 use Rattle.gba_console.specs.Keys.{due_count}
 use Rattle.gba_console.specs.Machine.{Machine, clock_of}
@@ -112,21 +112,21 @@ known-by true false mode h = ap (λ (k : LinkMode). mode_number k == 3) (h refl)
 known-by false true mode h = ap (λ (k : LinkMode). mode_number k == 3) (h refl)
 known-by false false mode h = ap (λ (k : LinkMode). mode_number k == 3) (h refl)
 
-known-in : (u : SerialUnit) → SerialHolds u → (player : ℕ) → player < 4 → is_known u player ≡ true
-known-in u h player inside =
-    known-by (nat_lt player u.count) (not (player == u.player)) (known_mode u.known player) (h.others player inside)
+known-in : (u : SerialUnit) → SerialHolds u → (player : ℕ) → is_known u player ≡ true
+known-in u h player =
+    known-by (nat_lt player u.count) (not (player == u.player)) (known_mode u.known player) (h.others player)
 
 known-all : (u : SerialUnit) → SerialHolds u → are_known (silent u) ≡ true
 unfolding are_known
 known-all u h =
-    let a = known-in u h 0 (lit< tt) in
-    let b = known-in u h 1 (lit< tt) in
-    let c = known-in u h 2 (lit< tt) in
-    let d = known-in u h 3 (lit< tt) in
+    let a = known-in u h 0 in
+    let b = known-in u h 1 in
+    let c = known-in u h 2 in
+    let d = known-in u h 3 in
     λ i. a i && b i && c i && d i
 
 rightly-by : (off clock : ℕ) (u : SerialUnit) (idle : Bool) (run : Option Running) → (is_some run ≡ true → off ≤ clock)
-    → IfSome run (RunHolds u) → (run ≡ None → idle ≡ true)
+    → IfSome run (RunHolds (mode_of u)) → (run ≡ None → idle ≡ true)
     → (if is_some run
     then nat_le off clock && is_word_of (mode_of u) (running_number (λ r. r.sent) run)
     && is_word_of (mode_of u) (running_number (λ r. r.word) run)

@@ -181,8 +181,8 @@ word-below Multi word is = let below = ltb-true word 0x10000 is in omega (arith,
 word-below Other word is = absurd cc
 
 running-below : (number : Running → ℕ) (end : ℕ) (u : SerialUnit) (run : Option Running) → 0 < end
-    → IfSome run (RunHolds u)
-    → ((r : Running) → RunHolds u r → number r < end) → nat_lt (running_number number run) end ≡ true
+    → IfSome run (RunHolds (mode_of u))
+    → ((r : Running) → RunHolds (mode_of u) r → number r < end) → nat_lt (running_number number run) end ≡ true
 running-below number end u None some holds below = lt-ltb 0 end some
 running-below number end u (Some run) some holds below = lt-ltb (number run) end (below run holds)
 
@@ -215,7 +215,8 @@ module _ (b : Core) (d : DevicesHold b.devices) (s : SerialHolds b.serial) where
       (λ (r : Reference). r.y < 2 ^ 32)
       (λ _. d.picture.reference2.y) (λ _. d.picture.reference3.y)
 
-  run-below : (number : Running → ℕ) (end : ℕ) → 0 < end → ((r : Running) → RunHolds b.serial r → number r < end)
+  run-below : (number : Running → ℕ) (end : ℕ) → 0 < end
+      → ((r : Running) → RunHolds (mode_of b.serial) r → number r < end)
       → nat_lt (running_number number b.serial.run) end ≡ true
   run-below number end some below = running-below number end b.serial b.serial.run some s.run below
 

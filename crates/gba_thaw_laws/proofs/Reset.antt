@@ -247,13 +247,13 @@ serial-stored player count round offset =
     subst (λ (v : ℕ). bit_and v (row_at serial_rows offset).write_mask ≡ v)
     (sym (serial-by player count round offset (offset == 0x134) refl)) (one-stored serial_rows 0x134 0x8000 offset refl)
 
-pub serial-holds : (player count round : ℕ) → player < count → count ≤ 4
+pub serial-holds : (player count round : ℕ) → player < count → count ≤ 4 → round ≤ 2048
     → SerialHolds (serial_at_reset player count round)
-serial-holds player count round seat few = record {
-  player = omega (arith, seat, few);
+serial-holds player count round seat few near = record {
+  seat = record { player = seat; count = few; round = near };
   words = refl;
   players = refl;
-  others = λ other inside apart. others-at-reset other;
+  others = λ other apart. others-at-reset other;
   stored = serial-stored player count round;
   run = tt;
 }
@@ -327,10 +327,10 @@ unfolding pressed_after
 none-pressed keys = refl
 
 pub holds-at-reset : HoldsAtReset
-holds-at-reset player count round off bios cart save backup keys room seat few fits = record {
+holds-at-reset player count round off bios cart save backup keys room seat few near fits = record {
   registers = registers-hold;
   devices = devices-hold;
-  serial = serial-holds player count round seat few;
+  serial = serial-holds player count round seat few near;
   lengths = have-lengths player count round bios cart save backup fits;
   backup = sound-backup bios cart save backup fits;
   drawn = refl;

@@ -1,5 +1,5 @@
 -- The serial unit.
-use Rattle.std.proofs.Common.{◌≡◌, ℕ, ◌∙◌, List, [], ◌∷◌, length, get_or, Option, Some, None, IfSome, refl, arith, lit<}
+use Rattle.std.proofs.Common.{◌≡◌, ℕ, ◌<◌, ◌∙◌, List, [], ◌∷◌, length, get_or, Option, Some, None, IfSome, refl, arith, lit<}
 use Rattle.gba_register.specs.Rows.{row_at}
 use Rattle.gba_io.specs.Core.{Core, core_half_stored}
 use Rattle.gba_loose.proofs.Bytes.{bytes-made-again}
@@ -9,7 +9,7 @@ use Rattle.gba_loose_devices.specs.Values.{half_at}
 use Rattle.gba_numbers.specs.Numbers.{ConsoleNumbers}
 use Rattle.gba_serial.specs.Making.{MadeAgain, registers_of, seat_of, unit_of}
 use Rattle.gba_serial.specs.Registers.{serial_rows}
-use Rattle.gba_serial.specs.SerialUnit.{SerialUnit, mode_of}
+use Rattle.gba_serial.specs.SerialUnit.{mode_of}
 use Rattle.gba_serial.specs.Timing.{is_multi}
 use Rattle.gba_serial.specs.declared.transfer.Running.{Running}
 use Rattle.gba_serial.proofs.Making.{made-again}
@@ -17,6 +17,7 @@ use Rattle.gba_thaw_laws.specs.Holds.{RunHolds, SerialHolds}
 use Rattle.gba_thaw_laws.specs.Laws.{SerialThawsAgain}
 use Rattle.gba_thaw_laws.specs.Said.{AreHalvesOf, Says}
 use Rattle.gba_thaw_laws.proofs.Bits.{ControlAgain, control-again}
+use Rattle.link_node.specs.declared.signal.LinkMode.{LinkMode}
 use Rattle.link_node.specs.declared.signal.LinkMode.TheVariants.{Other}
 
 -- a list of four by its places
@@ -29,16 +30,19 @@ four-again d (one ∷ two ∷ []) long = absurd (omega (arith, long))
 four-again d (one ∷ two ∷ three ∷ []) long = absurd (omega (arith, long))
 four-again d (one ∷ two ∷ three ∷ four ∷ five ∷ more) long = absurd (omega (arith, long))
 
-players-of-run : (u : SerialUnit) (run : Option Running) → IfSome run (RunHolds u) → IfSome run (λ r. length r.got ≡ 4)
-players-of-run u None holds = holds
-players-of-run u (Some run) holds = holds.players
+players-of-run : (mode : LinkMode) (run : Option Running) → IfSome run (RunHolds mode)
+    → IfSome run (λ r. length r.got ≡ 4)
+players-of-run mode None holds = holds
+players-of-run mode (Some run) holds = holds.players
 
 module _ (b : Core) (io : List ℕ) (halves : AreHalvesOf b io) (holds : SerialHolds b.serial) where
   control-half : ControlAgain (half_at 0x128 io) b.serial.control b.serial.error
   unfolding core_half_stored serial_rows row_at
   control-half =
+      let seat = holds.seat in
+      let few : b.serial.player < 4 = omega (arith, seat.player, seat.count) in
       control-again (half_at 0x128 io) b.serial.control b.serial.player (is_multi (mode_of b.serial)) b.serial.error
-      (halves 0x94 (lit< tt)) (holds.stored 0x128) holds.player
+      (halves 0x94 (lit< tt)) (holds.stored 0x128) few
 
   words-again : (half_at 0x120 io ∷ half_at 0x122 io ∷ half_at 0x124 io ∷ half_at 0x126 io ∷ []) ≡ b.serial.words
   unfolding core_half_stored
@@ -78,6 +82,6 @@ serial-again b n io says holds =
     let u = b.serial in
     let registers = registers-again b io says.halves holds in
     let known = known-again b n io says holds in
-    let run = run-made-again b n says.numbers says.range (players-of-run u u.run holds.run) in
+    let run = run-made-again b n says.numbers says.range (players-of-run (mode_of u) u.run holds.run) in
     let again : MadeAgain = made-again in
     (λ i. unit_of (seat_of u) (registers i) (known i) (run i)) ∙ again.unit u

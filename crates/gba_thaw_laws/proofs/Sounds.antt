@@ -54,10 +54,8 @@ module _ (b : Core) (io : List ℕ) (halves : AreHalvesOf b io) (holds : Devices
   master-half =
       let ts = b.devices.tones in
       halves 0x42 (lit< tt)
-      ∙ ap
-      (λ on. bit_or (bit_and (if on then 0x80 else 0) 0x80) (bit_and (weight 0x80 ts.is_on + channels_on ts) 0x8f) % 2
-      ^ 16)
-      holds.master
+      ∙ ap (λ on. bit_or (bit_and (if on then 0x80 else 0) 0x80) (bit_and (weight 0x80 ts.is_on + channels_on ts) 0x8f)
+      % 2 ^ 16) holds.master
       ∙ master-again ts.is_on (channels_on ts) (channels-few ts)
 
   pub bias-half : half_at 0x088 io ≡ b.devices.sound.bias

@@ -23,6 +23,7 @@ use Rattle.gba_psg.specs.Registers.{tone_rows, tones_kept}
 use Rattle.gba_psg.specs.Soundness.{AreSound}
 use Rattle.gba_psg.specs.declared.four.FourTones.{FourTones}
 use Rattle.gba_psr.specs.Status.{IsStatus}
+use Rattle.gba_serial.specs.Making.{IsSeat, seat_of}
 use Rattle.gba_serial.specs.Registers.{serial_kept, serial_rows}
 use Rattle.gba_serial.specs.SerialUnit.{SerialUnit, is_peer, is_running, known_mode, mode_of}
 use Rattle.gba_serial.specs.declared.transfer.Running.{Running}
@@ -32,6 +33,7 @@ use Rattle.gba_sound.specs.Queues.{DirectSound, sound_rows, sound_shown}
 use Rattle.gba_thaw.specs.Checks.{is_word_of, pressed_after, unit_bytes}
 use Rattle.gba_timer.specs.Timers.{FourTimers, timer_kept, timer_rows}
 use Rattle.gba_timer.specs.declared.timer.Timer.{Timer}
+use Rattle.link_node.specs.declared.signal.LinkMode.{LinkMode}
 use Rattle.link_node.specs.declared.signal.LinkMode.TheVariants.{Other}
 
 -- What stands at each halfword of a device has no bits but those that a write stores there.
@@ -115,22 +117,21 @@ pub record DevicesHold (d : Devices) : Type 0 where
   pub keys : KeysHold d.keys
   pub waits : bit_and d.waits (row_at system_rows 0x204).write_mask ≡ d.waits
 
--- A transfer runs in a mode that has transfers, its words are of that mode's width, and its end is near a clock of a
--- run.
-pub record RunHolds (u : SerialUnit) (run : Running) : Type 0 where
+-- A transfer that runs is one of its mode, which has transfers, and its end is near a clock of a run.
+pub record RunHolds (mode : LinkMode) (run : Running) : Type 0 where
   pub players : length run.got ≡ 4
   pub end : run.end < 2 ^ 40
-  pub sent : is_word_of (mode_of u) run.sent ≡ true
-  pub word : is_word_of (mode_of u) run.word ≡ true
+  pub sent : is_word_of mode run.sent ≡ true
+  pub word : is_word_of mode run.word ≡ true
 
 -- What a serial unit knows of itself, and of a player that isn't there, is Other.
 pub record SerialHolds (u : SerialUnit) : Type 0 where
-  pub player : u.player < 4
+  pub seat : IsSeat (seat_of u)
   pub words : length u.words ≡ 4
   pub players : length u.known ≡ 4
-  pub others : (player : ℕ) → player < 4 → is_peer player u ≡ false → known_mode u.known player ≡ Other
+  pub others : (player : ℕ) → is_peer player u ≡ false → known_mode u.known player ≡ Other
   pub stored : HasStoredBits serial_rows (λ offset. serial_kept offset u)
-  pub run : IfSome u.run (RunHolds u)
+  pub run : IfSome u.run (RunHolds (mode_of u))
 
 -- The 37 registers are words, CPSR is a status, and r15 is the address of an instruction.
 pub record RegistersHold (registers : List ℕ) : Type 0 where

@@ -15,7 +15,7 @@ abbrev pub HoldsAtReset : Type 0
 HoldsAtReset =
     (player count round off : ℕ) (bios : List ℕ) (cart save : Option (List ℕ)) (backup : Backup) (keys : List KeyState)
     (room : Room)
-    → player < count → count ≤ 4 → SaveFits save backup
+    → player < count → count ≤ 4 → round ≤ 2048 → SaveFits save backup
     → Holds (reset player count round off bios cart save backup keys room)
 
 -- and its text is one, with a save of bytes
