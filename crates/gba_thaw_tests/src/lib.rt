@@ -6,6 +6,8 @@ mod accepted;
 #[cfg(test)]
 mod cases;
 #[cfg(test)]
+mod laws;
+#[cfg(test)]
 mod playing;
 #[cfg(test)]
 mod refused;
