@@ -57,10 +57,6 @@ run-enabled c h = implied c.active (is_enabled c) h.enabled
 
 -- ---- tones
 
-one-is : (set : Bool) → (weight 1 set == 1) ≡ set
-one-is true = refl
-one-is false = refl
-
 lasting-by : (on : Bool) (wait left : ℕ) → (on ≡ true → 0 < wait) → (on ≡ true → 0 < left)
     → (not (weight 1 on == 1) || (nat_lt 0 wait && nat_lt 0 left)) ≡ true
 lasting-by true wait left waits lasts =

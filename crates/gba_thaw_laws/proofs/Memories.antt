@@ -1,5 +1,5 @@
 -- The memories of a console.
-use Rattle.std.proofs.Common.{◌≡◌, ℕ, ◌+◌, ◌%◌, ◌^◌, ◌<◌, ◌==◌, ◌∙◌, ap, sym, Bool, true, false, List, ◌++◌, length, Some, slice_index, refl, arith, append-nil, mod-eq_of_lt, lit<}
+use Rattle.std.proofs.Common.{◌≡◌, ℕ, ◌+◌, ◌%◌, ◌^◌, ◌<◌, ◌==◌, ◌∙◌, ap, sym, true, List, ◌++◌, length, Some, slice_index, refl, arith, append-nil, mod-eq_of_lt, lit<}
 use Rattle.std.proofs.lemmas.List.{drop_all}
 use Rattle.gba_console.specs.Machine.{Machine}
 use Rattle.gba_console.specs.Pouring.{IsSameFrame, machine_with_flash}
@@ -12,6 +12,7 @@ use Rattle.gba_flash.specs.declared.machine.FlashState.{FlashState}
 use Rattle.gba_flash.specs.declared.machine.FlashState.TheVariants.{Ready, First, Second, Program, Bank}
 use Rattle.gba_image.specs.Backups.{backup_length}
 use Rattle.gba_image.specs.declared.backup.Backup.TheVariants.{Sram}
+use Rattle.gba_loose.proofs.Made.{truth-again}
 use Rattle.gba_mem.specs.BackupLaw.{IsSoundBackup}
 use Rattle.gba_mem.specs.Backups.{BackupMemory, InSram, InFlash, backup_bytes, backup_of, flash_machine, with_backup_bytes, with_machine}
 use Rattle.gba_numbers.specs.Fields.{is_field, place_of}
@@ -32,10 +33,6 @@ state-again First = refl
 state-again Second = refl
 state-again Program = refl
 state-again Bank = refl
-
-truth-again : (set : Bool) → (truth_number set == 1) ≡ set
-truth-again true = refl
-truth-again false = refl
 
 -- of the four numbers of a flash
 abbrev pub machine_numbered : List ℕ → FlashMachine
@@ -63,11 +60,13 @@ machine-numbered m =
 
 pub machine-by : (machine : FlashMachine) → machine.bank < 2 → machine_numbered (flash_numbers (Some machine)) ≡ machine
 machine-by machine few =
+    let armed = truth-again machine.armed (truth_number machine.armed) refl in
+    let identify = truth-again machine.identify (truth_number machine.identify) refl in
     let bank = mod-eq_of_lt (let small : machine.bank < 2 ^ 32 = omega (arith, few) in small) in
     λ i. record {
       state = state-again machine.state i;
-      armed = truth-again machine.armed i;
-      identify = truth-again machine.identify i;
+      armed = armed i;
+      identify = identify i;
       bank = bank i;
     }
 

@@ -1,5 +1,5 @@
 -- Direct sound and the tones, which share SOUNDCNT_H and SOUNDCNT_X.
-use Rattle.std.proofs.Common.{◌≡◌, ℕ, ◌+◌, ◌%◌, ◌^◌, ◌<◌, ◌≤◌, ◌∙◌, ap, sym, Bool, true, false, ◌==◌, List, [], ◌∷◌, bit_and, bit_or, if◌then◌else◌, refl, arith, lit<}
+use Rattle.std.proofs.Common.{◌≡◌, ℕ, ◌+◌, ◌%◌, ◌^◌, ◌<◌, ◌∙◌, ap, sym, true, ◌==◌, List, [], ◌∷◌, bit_and, bit_or, if◌then◌else◌, refl, arith, lit<}
 use Rattle.std.specs.List.{list_all}
 use Rattle.gba_terms.specs.Bits.{bit, field}
 use Rattle.gba_register.specs.Rows.{row_at}
@@ -18,6 +18,7 @@ use Rattle.gba_sound.specs.Queues.{sound_rows}
 use Rattle.gba_thaw_laws.specs.Holds.{DevicesHold}
 use Rattle.gba_thaw_laws.specs.Laws.{SoundThawsAgain}
 use Rattle.gba_thaw_laws.specs.Said.{AreHalvesOf}
+use Rattle.gba_thaw_laws.proofs.Ranges.{weight-most}
 use Rattle.gba_thaw_laws.proofs.Bits.{is_half_row, master-again, sound-again, stored-small, uncut}
 
 rows-halves : list_all is_half_row tone_rows ≡ true
@@ -25,10 +26,6 @@ unfolding tone_rows
 rows-halves = refl
 
 -- ---- the master enable
-
-weight-most : (n : ℕ) (set : Bool) → weight n set ≤ n
-weight-most n true = omega arith
-weight-most n false = omega arith
 
 pub channels-few : (ts : FourTones) → channels_on ts < 16
 channels-few ts =
