@@ -6,12 +6,12 @@ use Rattle.std.proofs.lemmas.Nat.{and_assoc, and_comm, and_le_r, and_mask, and_m
 use Rattle.std.proofs.lemmas.Nat.Bits.{bit_at_and, bit_at_or, same_from_bits}
 use Rattle.std.specs.Int.Bits.{and_zero_r}
 use Rattle.std.specs.Int.{bit_at}
+use Rattle.gba_word.specs.Weights.{weight}
 use Rattle.gba_terms.specs.Bits.{bit, field}
 use Rattle.gba_register.specs.Rows.{Row, row_at}
 use Rattle.gba_loose_devices.specs.Values.{half_at}
-use Rattle.gba_ppu_reg.specs.Position.{weight}
 use Rattle.gba_thaw.specs.Stored.{has_bits}
-use Rattle.gba_thaw_laws.specs.Holds.{HasStoredBits}
+use Rattle.gba_device_laws.specs.Holding.{HasStoredBits}
 
 -- ---- rows
 

@@ -5,20 +5,21 @@ use Rattle.std.proofs.lemmas.Bool.{cond_both}
 use Rattle.std.proofs.lemmas.List.{drop_all, drop_more}
 use Rattle.std.proofs.lemmas.List.FromFn.{length-map-range_with_len}
 use Rattle.std.proofs.lemmas.Nat.{and_le_r, le_bytes_2}
+use Rattle.gba_word.specs.Weights.{weight}
 use Rattle.gba_terms.specs.Bits.{field}
-use Rattle.gba_devices.specs.Registers.{half_stored}
+use Rattle.gba_devices.specs.Registers.{half_listed}
 use Rattle.gba_frozen_print.specs.Laws.{AreBelow}
-use Rattle.gba_io.specs.Core.{Core, core_half_stored}
+use Rattle.gba_io.specs.Core.{Core, core_half_listed}
 use Rattle.gba_io.specs.SerialRegisters.{is_serial}
 use Rattle.gba_loose.specs.Again.{AreBytes}
 use Rattle.gba_loose_devices.specs.Values.{half_at}
 use Rattle.gba_screen.specs.Lines.{colour_bytes, colours_bytes}
-use Rattle.gba_serial.specs.Registers.{control_stored, serial_kept, serial_rows, serial_stored, weight}
+use Rattle.gba_serial.specs.Registers.{control_listed, serial_kept, serial_rows, serial_listed}
 use Rattle.gba_serial.specs.SerialUnit.{SerialUnit, mode_of}
 use Rattle.gba_serial.specs.Timing.{is_multi}
 use Rattle.gba_snapshot.specs.Console.{colours_of}
 use Rattle.gba_snapshot.specs.Io.{io_bytes}
-use Rattle.gba_thaw_laws.specs.Holds.{SerialHolds}
+use Rattle.gba_device_laws.specs.Cable.{SerialHolds}
 use Rattle.gba_thaw_laws.specs.Text.{LineHolds}
 use Rattle.gba_thaw_laws.proofs.Bits.{is_half_row, stored-small}
 use Rattle.gba_thaw_laws.proofs.Ranges.{byte-below, weight-most}
@@ -53,14 +54,14 @@ shown-small : (is_multi other : Bool) (player : ℕ)
 shown-small true other player = let one = weight-most 4 other in omega (arith, one)
 shown-small false other player = lit< tt
 
-control-small : (u : SerialUnit) → SerialHolds u → control_stored u < 0x10000
+control-small : (u : SerialUnit) → SerialHolds u → control_listed u < 0x10000
 control-small u holds =
     let stored = and_le_r u.control 0x708b in
     let shown = shown-small (is_multi (mode_of u)) (not (u.player == 0)) u.player in
     let error = weight-most 64 u.error in
     omega (arith, stored, shown, error)
 
-serial-small : (offset : ℕ) (u : SerialUnit) → SerialHolds u → serial_stored offset u < 0x10000
+serial-small : (offset : ℕ) (u : SerialUnit) → SerialHolds u → serial_listed offset u < 0x10000
 serial-small offset u holds =
     let small = stored-small serial_rows (λ offset. serial_kept offset u) rows-halves holds.stored in
     let P = λ (v : ℕ). v < 0x10000 in
@@ -72,8 +73,8 @@ serial-small offset u holds =
     cond_both (offset == 0x12a) _ _ P (λ _. small 0x12a) (λ _.
     cond_both (offset == 0x134) _ _ P (λ _. small 0x134) (λ _. lit< tt)))))))
 
-half-small : (offset : ℕ) (b : Core) → SerialHolds b.serial → core_half_stored offset b < 0x10000
-unfolding core_half_stored half_stored
+half-small : (offset : ℕ) (b : Core) → SerialHolds b.serial → core_half_listed offset b < 0x10000
+unfolding core_half_listed half_listed
 half-small offset b holds =
     cond_both (is_serial offset) _ _ (λ (v : ℕ). v < 0x10000) (λ _. serial-small offset b.serial holds)
     (λ _. omega arith)
@@ -82,7 +83,7 @@ pub io-below : (halves : ℕ) (b : Core) → SerialHolds b.serial → AreBelow 2
 unfolding io_bytes AreBelow
 io-below zero b holds = tt
 io-below (suc halves) b holds =
-    let half = core_half_stored (2 * halves) b in
+    let half = core_half_listed (2 * halves) b in
     let small = half-small (2 * halves) b holds in
     below-append 2 (io_bytes halves b) (half % 256 ∷ half / 256 ∷ []) (io-below halves b holds)
     (omega arith, (omega (arith, small), tt))

@@ -3,16 +3,16 @@ use Rattle.std.proofs.Common.{◌≡◌, ℕ, ◌+◌, ◌*◌, ◌%◌, ◌^◌
 use Rattle.std.specs.List.{list_all}
 use Rattle.std.specs.Prelude.{true}
 use Rattle.gba_terms.specs.Bits.{field}
-use Rattle.gba_devices.specs.Registers.{half_stored, owner_of}
+use Rattle.gba_devices.specs.Registers.{half_listed, owner_of}
 use Rattle.gba_dma.specs.Channels.{FourChannels, dma_kept, dma_rows}
 use Rattle.gba_dma.specs.declared.channel.Channel.{Channel}
-use Rattle.gba_io.specs.Core.{Core, core_half_stored}
+use Rattle.gba_io.specs.Core.{Core, core_half_listed}
 use Rattle.gba_loose.specs.Again.{IsSameRun}
 use Rattle.gba_loose.proofs.Made.{made-again}
 use Rattle.gba_loose_devices.specs.Devices.{channel_poured, channels_poured}
 use Rattle.gba_loose_devices.specs.Values.{half_at}
 use Rattle.gba_numbers.specs.Numbers.{ConsoleNumbers}
-use Rattle.gba_thaw_laws.specs.Holds.{ChannelHolds, ChannelsHold}
+use Rattle.gba_device_laws.specs.Holding.{ChannelHolds, ChannelsHold}
 use Rattle.gba_thaw_laws.specs.Laws.{ChannelsThawAgain}
 use Rattle.gba_thaw_laws.specs.Said.{AreHalvesOf}
 use Rattle.gba_thaw_laws.proofs.Bits.{is_half_row, stored-small, uncut, word-again}
@@ -51,7 +51,7 @@ dma-small cs holds = stored-small dma_rows (λ offset. dma_kept offset cs) rows-
 
 module _ (b : Core) (io : List ℕ) (halves : AreHalvesOf b io) where
   said0 : IsSaid 0 b.devices.channels.channel0 io
-  unfolding core_half_stored half_stored owner_of
+  unfolding core_half_listed half_listed owner_of
   said0 = record {
     source_low = halves 0x58 (lit< tt);
     source_high = halves 0x59 (lit< tt);
@@ -62,7 +62,7 @@ module _ (b : Core) (io : List ℕ) (halves : AreHalvesOf b io) where
   }
 
   said1 : IsSaid 1 b.devices.channels.channel1 io
-  unfolding core_half_stored half_stored owner_of
+  unfolding core_half_listed half_listed owner_of
   said1 = record {
     source_low = halves 0x5e (lit< tt);
     source_high = halves 0x5f (lit< tt);
@@ -73,7 +73,7 @@ module _ (b : Core) (io : List ℕ) (halves : AreHalvesOf b io) where
   }
 
   said2 : IsSaid 2 b.devices.channels.channel2 io
-  unfolding core_half_stored half_stored owner_of
+  unfolding core_half_listed half_listed owner_of
   said2 = record {
     source_low = halves 0x64 (lit< tt);
     source_high = halves 0x65 (lit< tt);
@@ -84,7 +84,7 @@ module _ (b : Core) (io : List ℕ) (halves : AreHalvesOf b io) where
   }
 
   said3 : IsSaid 3 b.devices.channels.channel3 io
-  unfolding core_half_stored half_stored owner_of
+  unfolding core_half_listed half_listed owner_of
   said3 = record {
     source_low = halves 0x6a (lit< tt);
     source_high = halves 0x6b (lit< tt);

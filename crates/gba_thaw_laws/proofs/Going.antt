@@ -1,10 +1,12 @@
 -- A run can go on from what a frozen file says of a console.
 use Rattle.std.proofs.Common.{◌≡◌, ℕ, ◌+◌, ◌%◌, ◌^◌, ◌<◌, ◌≤◌, ◌∙◌, ◌⊎◌, inl, inr, ap, sym, Bool, true, false, not, ◌&&◌, ◌||◌, ◌==◌, nat_lt, nat_le, List, length, slice_index, Option, Some, None, IfSome, is_some, if◌then◌else◌, refl, arith, lt-ltb, le-leb, eq-eqb, ne_eqb}
 use Rattle.std.proofs.lemmas.Bool.{cases_lt, or_left, or_right}
+use Rattle.gba_psr.specs.Status.{unit_bytes}
+use Rattle.gba_serial.specs.Timing.{is_word_of}
+use Rattle.gba_word.specs.Sums.{flag_number}
 use Rattle.gba_console.specs.Keys.{due_count}
 use Rattle.gba_console.specs.Machine.{Machine, clock_of}
 use Rattle.gba_console.specs.declared.keys.KeyState.{KeyState}
-use Rattle.gba_devices.specs.Registers.{truth_number}
 use Rattle.gba_dma.specs.Channel.{is_enabled}
 use Rattle.gba_dma.specs.Consistency.{IsConsistent}
 use Rattle.gba_dma.specs.declared.channel.Channel.{Channel}
@@ -24,9 +26,10 @@ use Rattle.gba_serial.specs.declared.serial.making.Seat.{Seat}
 use Rattle.gba_serial.specs.declared.transfer.Running.{Running}
 use Rattle.gba_snapshot.specs.Io.{io_bytes}
 use Rattle.gba_snapshot.specs.Snapshot.{numbers_of}
-use Rattle.gba_thaw.specs.Checks.{are_applied, are_drawn, are_known, has_left, has_mode, have_left, is_aligned, is_idle, is_known, is_timed, is_word_of, pressed_after, runs_rightly, unit_bytes}
+use Rattle.gba_thaw.specs.Checks.{are_applied, are_drawn, are_known, has_left, has_mode, have_left, is_aligned, is_idle, is_known, is_timed, pressed_after, runs_rightly}
 use Rattle.gba_thaw.specs.Console.{can_go_on, unit_thawed}
-use Rattle.gba_thaw_laws.specs.Holds.{ChangesHold, Holds, RunHolds, SerialHolds, TimesHold}
+use Rattle.gba_device_laws.specs.Cable.{RunHolds, SerialHolds}
+use Rattle.gba_thaw_laws.specs.Holds.{ChangesHold, Holds, TimesHold}
 use Rattle.gba_thaw_laws.specs.Laws.{IsStartOf, drawn_of}
 use Rattle.gba_thaw_laws.proofs.Channels.{channels-again}
 use Rattle.gba_thaw_laws.proofs.Control.{control-thaws-again}
@@ -143,7 +146,7 @@ unfolding is_idle board_number is_board_field
 idle-by m none =
     let number = numbers-are m in
     let started =
-    number board.SerialStarted refl ∙ ap (λ (run : Option Running). truth_number (is_starter_of run)) none in
+    number board.SerialStarted refl ∙ ap (λ (run : Option Running). flag_number (is_starter_of run)) none in
     let end = number board.SerialEnd refl ∙ ap (λ (run : Option Running). running_number (λ r. r.end) run) none in
     let got = number board.SerialGot refl ∙ ap (λ (run : Option Running). running_number received_mask run) none in
     let sent = number board.SerialSent refl ∙ ap (λ (run : Option Running). running_number (λ r. r.sent) run) none in

@@ -2,7 +2,7 @@
 use Rattle.std.proofs.Common.{◌≡◌, ℕ, zero, suc, ◌+◌, ◌-◌, ◌*◌, ◌/◌, ◌%◌, ◌<◌, ◌≤◌, ◌∙◌, ◌⊎◌, inl, inr, ap, sym, subst, List, [], ◌∷◌, ◌++◌, length, get_or, length-append, refl, arith}
 use Rattle.std.proofs.lemmas.Bool.{cases_lt}
 use Rattle.std.proofs.lemmas.List.{get_or-append_right, get_or_append_left, get_or_at}
-use Rattle.gba_io.specs.Core.{Core, core_half_stored}
+use Rattle.gba_io.specs.Core.{Core, core_half_listed}
 use Rattle.gba_loose_devices.specs.Values.{half_at}
 use Rattle.gba_snapshot.specs.Io.{io_bytes}
 use Rattle.gba_thaw_laws.specs.Laws.{HalvesAgain}
@@ -11,7 +11,7 @@ pub io-long : (halves : ℕ) (b : Core) → length (io_bytes halves b) ≡ 2 * h
 unfolding io_bytes
 io-long zero b = refl
 io-long (suc halves) b =
-    let half = core_half_stored (2 * halves) b in
+    let half = core_half_listed (2 * halves) b in
     let before = io-long halves b in
     let both = length-append (io_bytes halves b) (half % 256 ∷ half / 256 ∷ []) in
     omega (arith, before, both)
@@ -33,21 +33,21 @@ half-behind xs half n long =
 
 abbrev ReadsHalves : ℕ → Core → Type 0
 ReadsHalves halves b =
-    (half : ℕ) → half < halves → half_at (2 * half) (io_bytes halves b) ≡ core_half_stored (2 * half) b
+    (half : ℕ) → half < halves → half_at (2 * half) (io_bytes halves b) ≡ core_half_listed (2 * half) b
 
 reads-more : (halves : ℕ) (b : Core) (half : ℕ) → ReadsHalves halves b → half < suc halves
     → (half < halves) ⊎ (halves ≤ half)
-    → half_at (2 * half) (io_bytes (suc halves) b) ≡ core_half_stored (2 * half) b
+    → half_at (2 * half) (io_bytes (suc halves) b) ≡ core_half_listed (2 * half) b
 unfolding io_bytes
 reads-more halves b half before inside (inl lt) =
     let long = io-long halves b in
-    let last = core_half_stored (2 * halves) b in
+    let last = core_half_listed (2 * halves) b in
     half-in-front (io_bytes halves b) (last % 256 ∷ last / 256 ∷ []) (2 * half) (omega (arith, long, lt))
     ∙ before half lt
 reads-more halves b half before inside (inr le) =
     let same : half ≡ halves = omega (arith, inside, le) in
-    subst (λ (h : ℕ). half_at (2 * h) (io_bytes (suc halves) b) ≡ core_half_stored (2 * h) b) (sym same)
-    (half-behind (io_bytes halves b) (core_half_stored (2 * halves) b) (2 * halves) (io-long halves b))
+    subst (λ (h : ℕ). half_at (2 * h) (io_bytes (suc halves) b) ≡ core_half_listed (2 * h) b) (sym same)
+    (half-behind (io_bytes halves b) (core_half_listed (2 * halves) b) (2 * halves) (io-long halves b))
 
 reads : (halves : ℕ) (b : Core) → ReadsHalves halves b
 reads zero b half inside = absurd (omega (arith, inside))

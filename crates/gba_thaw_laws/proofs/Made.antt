@@ -1,5 +1,6 @@
 -- The devices, the processor and the flash of a console can be made of what a frozen file says of it.
 use Rattle.std.proofs.Common.{◌≡◌, ℕ, ◌^◌, ◌<◌, ◌∙◌, ap, Bool, true, false, not, ◌&&◌, ◌||◌, ◌==◌, nat_lt, List, slice_index, refl, arith, lt-ltb, le-leb, eq-eqb}
+use Rattle.gba_word.specs.Weights.{weight}
 use Rattle.gba_terms.specs.Bits.{bit}
 use Rattle.gba_console.specs.Machine.{Machine, clock_of}
 use Rattle.gba_dma.specs.Channel.{is_enabled}
@@ -20,7 +21,6 @@ use Rattle.gba_ppu_reg.specs.Position.{IsPosition}
 use Rattle.gba_ppu_reg.specs.declared.position.Position.{Position}
 use Rattle.gba_psg.specs.Numbers.{halves_of, numbers_of as tone_numbers_of}
 use Rattle.gba_psg.specs.Soundness.{AreSound, IsSoundTone}
-use Rattle.gba_psg.specs.Tones.{weight}
 use Rattle.gba_psg.specs.declared.four.FourTones.{FourTones}
 use Rattle.gba_psg.specs.declared.tone.Tone.{Tone}
 use Rattle.gba_psr.specs.Modes.{is_mode}

@@ -1,10 +1,10 @@
 -- The memories of a console.
 use Rattle.std.proofs.Common.{◌≡◌, ℕ, ◌+◌, ◌%◌, ◌^◌, ◌<◌, ◌==◌, ◌∙◌, ap, sym, true, List, ◌++◌, length, Some, slice_index, refl, arith, append-nil, mod-eq_of_lt, lit<}
 use Rattle.std.proofs.lemmas.List.{drop_all}
+use Rattle.gba_word.specs.Sums.{flag_number}
 use Rattle.gba_console.specs.Machine.{Machine}
 use Rattle.gba_console.specs.Pouring.{IsSameFrame, machine_with_flash}
 use Rattle.gba_console.specs.Shorn.{rested}
-use Rattle.gba_devices.specs.Registers.{truth_number}
 use Rattle.gba_flash.specs.Flash.{FlashMemory, is_flash}
 use Rattle.gba_flash.specs.Replacing.{with_bytes}
 use Rattle.gba_flash.specs.declared.machine.FlashMachine.{FlashMachine}
@@ -60,8 +60,8 @@ machine-numbered m =
 
 pub machine-by : (machine : FlashMachine) → machine.bank < 2 → machine_numbered (flash_numbers (Some machine)) ≡ machine
 machine-by machine few =
-    let armed = truth-again machine.armed (truth_number machine.armed) refl in
-    let identify = truth-again machine.identify (truth_number machine.identify) refl in
+    let armed = truth-again machine.armed (flag_number machine.armed) refl in
+    let identify = truth-again machine.identify (flag_number machine.identify) refl in
     let bank = mod-eq_of_lt (let small : machine.bank < 2 ^ 32 = omega (arith, few) in small) in
     λ i. record {
       state = state-again machine.state i;

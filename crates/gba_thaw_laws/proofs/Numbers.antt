@@ -14,7 +14,7 @@ use Rattle.gba_numbers.specs.declared.fields.Field.TheVariants.{Board}
 use Rattle.gba_numbers.proofs.OwnPlaces.{have_own_places}
 use Rattle.gba_snapshot.specs.Snapshot.{console_number, numbers_of}
 use Rattle.gba_snapshot.proofs.Places.{number_placed}
-use Rattle.gba_thaw_laws.specs.Holds.{DevicesHold}
+use Rattle.gba_device_laws.specs.Holding.{DevicesHold}
 
 pub number-is : (m : Machine) (field : Field) → is_field field ≡ true → place_of field < 138
     → value_of field (numbers_of m) ≡ console_number field m

@@ -5,9 +5,9 @@ use Rattle.std.specs.Int.Bits.{and_zero_r}
 use Rattle.std.proofs.lemmas.Bool.{cond-true}
 use Rattle.std.proofs.lemmas.List.FromFn.{get_or-map-range_with_len}
 use Rattle.gba_register.specs.Rows.{row_at}
-use Rattle.gba_devices.specs.Registers.{half_stored, owner_of, stored_of}
+use Rattle.gba_devices.specs.Registers.{half_listed, owner_of, listed_of}
 use Rattle.gba_devices.specs.State.{Devices}
-use Rattle.gba_io.specs.Core.{Core, core_half_stored}
+use Rattle.gba_io.specs.Core.{Core, core_half_listed}
 use Rattle.gba_io.specs.SerialRegisters.{is_serial}
 use Rattle.gba_loose.proofs.Made.{made-again}
 use Rattle.gba_loose_devices.specs.Picture.{halves_poured}
@@ -15,8 +15,8 @@ use Rattle.gba_loose_devices.specs.Values.{half_at}
 use Rattle.gba_ppu_reg.specs.Position.{is_hblank, is_matched, is_vblank}
 use Rattle.gba_ppu_reg.specs.Registers.{Picture, is_listed, picture_kept, picture_read, picture_read_at, picture_rows}
 use Rattle.gba_ppu_reg.specs.declared.position.Position.{Position}
-use Rattle.gba_serial.specs.Registers.{serial_stored}
-use Rattle.gba_thaw_laws.specs.Holds.{PictureHolds}
+use Rattle.gba_serial.specs.Registers.{serial_listed}
+use Rattle.gba_device_laws.specs.Holding.{PictureHolds}
 use Rattle.gba_thaw_laws.specs.Laws.{PictureThawsAgain}
 use Rattle.gba_thaw_laws.specs.Said.{AreHalvesOf}
 use Rattle.gba_thaw_laws.proofs.Bits.{is_half_row, or-and-self, status-again, stored-small, uncut}
@@ -40,22 +40,22 @@ of-first : {A : Type 0} (test : Bool) (one other : A) (f : A → ℕ) → test �
 of-first test one other f is = ap f (cond-true test one other is)
 
 picture-shown : (half : ℕ) (d : Devices) → half < 43
-    → stored_of (owner_of (2 * half)) (2 * half) d
+    → listed_of (owner_of (2 * half)) (2 * half) d
     ≡ bit_or (picture_kept (2 * half) d.picture) (picture_read_at (2 * half) d.place d.picture)
 unfolding owner_of
 picture-shown half d inside =
-    of-first _ _ _ (λ owner. stored_of owner (2 * half) d) (lt-ltb (2 * half) 0x056 (omega (arith, inside)))
+    of-first _ _ _ (λ owner. listed_of owner (2 * half) d) (lt-ltb (2 * half) 0x056 (omega (arith, inside)))
 
 picture-half : (half : ℕ) (d : Devices) → half < 43
-    → half_stored (2 * half) d
+    → half_listed (2 * half) d
     ≡ bit_or (picture_kept (2 * half) d.picture) (picture_read_at (2 * half) d.place d.picture) % 2 ^ 16
-unfolding half_stored
+unfolding half_listed
 picture-half half d inside = ap (λ (v : ℕ). v % 2 ^ 16) (picture-shown half d inside)
 
-core-half : (half : ℕ) (b : Core) → half < 43 → core_half_stored (2 * half) b ≡ half_stored (2 * half) b.devices
-unfolding core_half_stored
+core-half : (half : ℕ) (b : Core) → half < 43 → core_half_listed (2 * half) b ≡ half_listed (2 * half) b.devices
+unfolding core_half_listed
 core-half half b inside =
-    ap (λ t. if t then serial_stored (2 * half) b.serial else half_stored (2 * half) b.devices) (not-serial half inside)
+    ap (λ t. if t then serial_listed (2 * half) b.serial else half_listed (2 * half) b.devices) (not-serial half inside)
 
 kept-half : (half : ℕ) (r : Picture) → half < 43 → picture_kept (2 * half) r ≡ slice_index r.halves half
 kept-half half r inside =
@@ -103,7 +103,7 @@ module _ (b : Core) (io : List ℕ) (halves : AreHalvesOf b io) (holds : Picture
       (half-small half inside)
 
   status-half : bit_and (half_at 0x004 io) 0xff38 ≡ slice_index b.devices.picture.halves 2
-  unfolding core_half_stored half_stored owner_of picture_rows row_at
+  unfolding core_half_listed half_listed owner_of picture_rows row_at
   status-half =
       let kept = slice_index b.devices.picture.halves 2 in
       let p = b.devices.place in

@@ -3,7 +3,9 @@ use Rattle.std.proofs.Common.{◌≡◌, ℕ, zero, suc, ◌-◌, ◌^◌, ◌<�
 use Rattle.std.specs.List.{list_all}
 use Rattle.std.proofs.lemmas.Bool.{and_parts, cases_lt, cond_both}
 use Rattle.std.proofs.lemmas.List.{get_or_past}
-use Rattle.gba_devices.specs.Registers.{truth_number}
+use Rattle.gba_serial.specs.Timing.{is_word_of}
+use Rattle.gba_word.specs.Sums.{flag_number}
+use Rattle.gba_word.specs.Weights.{weight}
 use Rattle.gba_dma.specs.Channels.{FourChannels, channel_at}
 use Rattle.gba_dma.specs.declared.channel.Channel.{Channel}
 use Rattle.gba_io.specs.Core.{Core}
@@ -19,14 +21,13 @@ use Rattle.gba_ppu_reg.specs.Registers.{reference_of}
 use Rattle.gba_ppu_reg.specs.declared.reference.Reference.{Reference}
 use Rattle.gba_register.specs.Rows.{row_at}
 use Rattle.gba_serial.specs.Numbers.{is_starter_of, received_mask, running_number}
-use Rattle.gba_serial.specs.Registers.{weight}
 use Rattle.gba_serial.specs.SerialUnit.{SerialUnit, known_mode, mode_of, was_received}
 use Rattle.gba_serial.specs.declared.transfer.Running.{Running}
 use Rattle.gba_sound.specs.Queues.{DirectSound, queue_at}
-use Rattle.gba_thaw.specs.Checks.{is_word_of}
 use Rattle.gba_timer.specs.Timers.{FourTimers, timer_at, timer_kept, timer_rows}
 use Rattle.gba_timer.specs.declared.timer.Timer.{Timer}
-use Rattle.gba_thaw_laws.specs.Holds.{ChannelHolds, ChannelsHold, DevicesHold, QueueHolds, RunHolds, SerialHolds, SoundHolds, TimersHold, TonesHold}
+use Rattle.gba_device_laws.specs.Cable.{RunHolds, SerialHolds}
+use Rattle.gba_device_laws.specs.Holding.{ChannelHolds, ChannelsHold, DevicesHold, QueueHolds, SoundHolds, TimersHold, TonesHold}
 use Rattle.gba_thaw_laws.proofs.Bits.{is_half_row, stored-small}
 use Rattle.link_node.specs.Packing.{mode_number}
 use Rattle.link_node.specs.declared.signal.LinkMode.{LinkMode}
@@ -52,7 +53,7 @@ below-eight P a b c d e f g h (suc (suc (suc (suc (suc (suc zero)))))) inside = 
 below-eight P a b c d e f g h (suc (suc (suc (suc (suc (suc (suc zero))))))) inside = h
 below-eight P a b c d e f g h (suc (suc (suc (suc (suc (suc (suc (suc k)))))))) inside = absurd (omega (arith, inside))
 
-pub truth-below : (set : Bool) → nat_lt (truth_number set) 2 ≡ true
+pub truth-below : (set : Bool) → nat_lt (flag_number set) 2 ≡ true
 truth-below true = refl
 truth-below false = refl
 

@@ -33,7 +33,9 @@ use Rattle.gba_snapshot.specs.Console.{HaveLengths}
 use Rattle.gba_sound.specs.Queues.{sound_at_reset, sound_rows, sound_shown}
 use Rattle.gba_thaw.specs.Checks.{pressed_after}
 use Rattle.gba_timer.specs.Timers.{timer_kept, timer_rows, timers_at_reset}
-use Rattle.gba_thaw_laws.specs.Holds.{ChannelHolds, ChannelsHold, DevicesHold, HasStoredBits, PictureHolds, RegistersHold, SerialHolds, SoundHolds, TimerHolds, TimersHold, TonesHold}
+use Rattle.gba_device_laws.specs.Cable.{SerialHolds}
+use Rattle.gba_device_laws.specs.Holding.{ChannelHolds, ChannelsHold, DevicesHold, HasStoredBits, PictureHolds, SoundHolds, TimerHolds, TimersHold, TonesHold}
+use Rattle.gba_thaw_laws.specs.Holds.{RegistersHold}
 use Rattle.gba_thaw_laws.specs.Reset.{HoldsAtReset, SpelledAtReset}
 use Rattle.gba_thaw_laws.specs.Text.{MemoriesHold}
 use Rattle.gba_thaw_laws.proofs.Halves.{io-long}

@@ -1,7 +1,7 @@
 -- The serial unit.
 use Rattle.std.proofs.Common.{◌≡◌, ℕ, ◌<◌, ◌∙◌, List, [], ◌∷◌, length, get_or, Option, Some, None, IfSome, refl, arith, lit<}
 use Rattle.gba_register.specs.Rows.{row_at}
-use Rattle.gba_io.specs.Core.{Core, core_half_stored}
+use Rattle.gba_io.specs.Core.{Core, core_half_listed}
 use Rattle.gba_loose.proofs.Bytes.{bytes-made-again}
 use Rattle.gba_loose.proofs.Run.{run-made-again}
 use Rattle.gba_loose_devices.specs.Cable.{known_poured, registers_at}
@@ -13,7 +13,7 @@ use Rattle.gba_serial.specs.SerialUnit.{mode_of}
 use Rattle.gba_serial.specs.Timing.{is_multi}
 use Rattle.gba_serial.specs.declared.transfer.Running.{Running}
 use Rattle.gba_serial.proofs.Making.{made-again}
-use Rattle.gba_thaw_laws.specs.Holds.{RunHolds, SerialHolds}
+use Rattle.gba_device_laws.specs.Cable.{RunHolds, SerialHolds}
 use Rattle.gba_thaw_laws.specs.Laws.{SerialThawsAgain}
 use Rattle.gba_thaw_laws.specs.Said.{AreHalvesOf, Says}
 use Rattle.gba_thaw_laws.proofs.Bits.{ControlAgain, control-again}
@@ -37,7 +37,7 @@ players-of-run mode (Some run) holds = holds.players
 
 module _ (b : Core) (io : List ℕ) (halves : AreHalvesOf b io) (holds : SerialHolds b.serial) where
   control-half : ControlAgain (half_at 0x128 io) b.serial.control b.serial.error
-  unfolding core_half_stored serial_rows row_at
+  unfolding core_half_listed serial_rows row_at
   control-half =
       let seat = holds.seat in
       let few : b.serial.player < 4 = omega (arith, seat.player, seat.count) in
@@ -45,17 +45,17 @@ module _ (b : Core) (io : List ℕ) (halves : AreHalvesOf b io) (holds : SerialH
       (halves 0x94 (lit< tt)) (holds.stored 0x128) few
 
   words-again : (half_at 0x120 io ∷ half_at 0x122 io ∷ half_at 0x124 io ∷ half_at 0x126 io ∷ []) ≡ b.serial.words
-  unfolding core_half_stored
+  unfolding core_half_listed
   words-again =
       (λ i. halves 0x90 (lit< tt) i ∷ halves 0x91 (lit< tt) i ∷ halves 0x92 (lit< tt) i ∷ halves 0x93 (lit< tt) i ∷ [])
       ∙ four-again 0 b.serial.words holds.words
 
   pub select-half : half_at 0x134 io ≡ b.serial.select
-  unfolding core_half_stored
+  unfolding core_half_listed
   select-half = halves 0x9a (lit< tt)
 
   send-half : half_at 0x12a io ≡ b.serial.send
-  unfolding core_half_stored
+  unfolding core_half_listed
   send-half = halves 0x95 (lit< tt)
 
   registers-again : registers_at io ≡ registers_of b.serial

@@ -1,21 +1,22 @@
 -- Direct sound and the tones, which share SOUNDCNT_H and SOUNDCNT_X.
 use Rattle.std.proofs.Common.{◌≡◌, ℕ, ◌+◌, ◌%◌, ◌^◌, ◌<◌, ◌∙◌, ap, sym, true, ◌==◌, List, [], ◌∷◌, bit_and, bit_or, if◌then◌else◌, refl, arith, lit<}
 use Rattle.std.specs.List.{list_all}
+use Rattle.gba_word.specs.Weights.{weight}
 use Rattle.gba_terms.specs.Bits.{bit, field}
 use Rattle.gba_register.specs.Rows.{row_at}
-use Rattle.gba_devices.specs.Registers.{half_stored, owner_of}
-use Rattle.gba_io.specs.Core.{Core, core_half_stored}
+use Rattle.gba_devices.specs.Registers.{half_listed, owner_of}
+use Rattle.gba_io.specs.Core.{Core, core_half_listed}
 use Rattle.gba_loose.proofs.Bytes.{bytes-made-again}
 use Rattle.gba_loose.proofs.Tones.{tones-made-again}
 use Rattle.gba_loose_devices.specs.Sound.{tone_halves}
 use Rattle.gba_loose_devices.specs.Values.{half_at}
 use Rattle.gba_psg.specs.Numbers.{halves_of, tones_of}
 use Rattle.gba_psg.specs.Registers.{tone_rows, tones_kept}
-use Rattle.gba_psg.specs.Tones.{channels_on, weight}
+use Rattle.gba_psg.specs.Tones.{channels_on}
 use Rattle.gba_psg.specs.declared.four.FourTones.{FourTones}
 use Rattle.gba_psg.proofs.Again.{made-again}
 use Rattle.gba_sound.specs.Queues.{sound_rows}
-use Rattle.gba_thaw_laws.specs.Holds.{DevicesHold}
+use Rattle.gba_device_laws.specs.Holding.{DevicesHold}
 use Rattle.gba_thaw_laws.specs.Laws.{SoundThawsAgain}
 use Rattle.gba_thaw_laws.specs.Said.{AreHalvesOf}
 use Rattle.gba_thaw_laws.proofs.Ranges.{weight-most}
@@ -41,13 +42,13 @@ master-bit ts = ap (λ (t : FourTones). t.is_on) (made-again ts)
 
 module _ (b : Core) (io : List ℕ) (halves : AreHalvesOf b io) (holds : DevicesHold b.devices) where
   pub control-half : half_at 0x082 io ≡ b.devices.sound.control
-  unfolding core_half_stored half_stored owner_of sound_rows tone_rows row_at
+  unfolding core_half_listed half_listed owner_of sound_rows tone_rows row_at
   control-half =
       sound-again (half_at 0x082 io) b.devices.sound.control b.devices.tones.ratio 0x770f (halves 0x41 (lit< tt))
       (holds.sound.stored 0x082) (lit< tt)
 
   pub master-half : half_at 0x084 io ≡ weight 0x80 b.devices.tones.is_on + channels_on b.devices.tones
-  unfolding core_half_stored half_stored owner_of sound_rows tone_rows row_at
+  unfolding core_half_listed half_listed owner_of sound_rows tone_rows row_at
   master-half =
       let ts = b.devices.tones in
       halves 0x42 (lit< tt)
@@ -56,14 +57,14 @@ module _ (b : Core) (io : List ℕ) (halves : AreHalvesOf b io) (holds : Devices
       ∙ master-again ts.is_on (channels_on ts) (channels-few ts)
 
   pub bias-half : half_at 0x088 io ≡ b.devices.sound.bias
-  unfolding core_half_stored half_stored owner_of sound_rows tone_rows row_at
+  unfolding core_half_listed half_listed owner_of sound_rows tone_rows row_at
   bias-half =
       sound-again (half_at 0x088 io) b.devices.sound.bias 0 0xc3fe (halves 0x44 (lit< tt)) (holds.sound.stored 0x088)
       (lit< tt)
 
   -- the tones' halfwords
   pub tone-halves : tone_halves io ≡ halves_of b.devices.tones
-  unfolding tone_halves halves_of core_half_stored half_stored owner_of
+  unfolding tone_halves halves_of core_half_listed half_listed owner_of
   tone-halves =
       let ts = b.devices.tones in
       let small =

@@ -1,21 +1,24 @@
 -- The I/O registers have only bits that may be 1 in a frozen file.
 use Rattle.std.proofs.Common.{◌≡◌, ℕ, ◌+◌, ◌*◌, ◌%◌, ◌^◌, ◌<◌, ◌≤◌, ◌∙◌, ap, sym, true, ◌&&◌, List, bit_and, slice_index, inl, inr, refl, lit<, lit≤}
+use Rattle.gba_word.specs.Sums.{flag_number}
+use Rattle.gba_word.specs.Weights.{weight}
 use Rattle.gba_register.specs.Rows.{row_at}
-use Rattle.gba_devices.specs.Registers.{half_stored, owner_of, system_rows, truth_number}
+use Rattle.gba_devices.specs.Registers.{half_listed, owner_of, system_rows}
 use Rattle.gba_dma.specs.Channels.{dma_kept, dma_rows}
-use Rattle.gba_io.specs.Core.{Core, core_half_stored}
+use Rattle.gba_io.specs.Core.{Core, core_half_listed}
 use Rattle.gba_irq.specs.Interrupts.{interrupt_rows}
 use Rattle.gba_irq.specs.Keypad.{keypad_rows}
 use Rattle.gba_loose_devices.specs.Values.{half_at}
 use Rattle.gba_ppu_reg.specs.Registers.{picture_rows}
 use Rattle.gba_psg.specs.Numbers.{halves_of}
 use Rattle.gba_psg.specs.Registers.{tone_rows}
-use Rattle.gba_psg.specs.Tones.{channels_on, weight}
+use Rattle.gba_psg.specs.Tones.{channels_on}
 use Rattle.gba_serial.specs.Registers.{serial_rows}
 use Rattle.gba_sound.specs.Queues.{sound_rows}
 use Rattle.gba_loose_devices.specs.Sound.{tone_halves}
 use Rattle.gba_thaw.specs.Stored.{has_bits, are_channels_stored, are_stored, is_picture_stored, is_rest_stored, is_sound_stored}
-use Rattle.gba_thaw_laws.specs.Holds.{DevicesHold, SerialHolds}
+use Rattle.gba_device_laws.specs.Cable.{SerialHolds}
+use Rattle.gba_device_laws.specs.Holding.{DevicesHold}
 use Rattle.gba_thaw_laws.specs.Laws.{BitsAreStored}
 use Rattle.gba_thaw_laws.specs.Said.{AreHalvesOf}
 use Rattle.gba_thaw_laws.proofs.Bits.{has-stored, master-stored, uncut}
@@ -101,7 +104,7 @@ module _ (b : Core) (io : List ℕ) (halves : AreHalvesOf b io) (holds : Devices
   -- ---- the DMA channels
 
   channel : (half mask : ℕ) → half < 512
-      → core_half_stored (2 * half) b ≡ dma_kept (2 * half) b.devices.channels % 2 ^ 16
+      → core_half_listed (2 * half) b ≡ dma_kept (2 * half) b.devices.channels % 2 ^ 16
       → (row_at dma_rows (2 * half)).write_mask ≡ mask → has_bits (2 * half) mask io ≡ true
   channel half mask inside is row =
       let cs = b.devices.channels in
@@ -111,7 +114,7 @@ module _ (b : Core) (io : List ℕ) (halves : AreHalvesOf b io) (holds : Devices
       (ap (λ (m : ℕ). bit_and (dma_kept (2 * half) cs) m) (sym row) ∙ holds.channels.stored (2 * half))
 
   channels-stored : are_channels_stored io ≡ true
-  unfolding are_channels_stored core_half_stored half_stored owner_of dma_rows row_at
+  unfolding are_channels_stored core_half_listed half_listed owner_of dma_rows row_at
   channels-stored =
       λ i. channel 0x59 0x07ff (lit< tt) refl refl i && channel 0x5b 0x07ff (lit< tt) refl refl i
       && channel 0x5c 0x3fff (lit< tt) refl refl i && channel 0x5d 0xf7e0 (lit< tt) refl refl i
@@ -136,11 +139,11 @@ module _ (b : Core) (io : List ℕ) (halves : AreHalvesOf b io) (holds : Devices
       has-stored 0x202 0x3fff d.interrupts.raised io (raised-half b io halves holds) (holds.interrupts 0x202) in
       let waits = has-stored 0x204 0x5fff d.waits io (waits-half b io halves holds) holds.waits in
       let master =
-      has-stored 0x208 0x0001 (bit_and (truth_number d.interrupts.master) 0x0001 % 2 ^ 16) io
+      has-stored 0x208 0x0001 (bit_and (flag_number d.interrupts.master) 0x0001 % 2 ^ 16) io
       (master-half b io halves holds)
       (truth-stored d.interrupts.master) in
       let posted =
-      has-stored 0x300 0x0001 (bit_and (truth_number d.posted) 0x0001 % 2 ^ 16) io (posted-half b io halves holds)
+      has-stored 0x300 0x0001 (bit_and (flag_number d.posted) 0x0001 % 2 ^ 16) io (posted-half b io halves holds)
       (truth-stored d.posted) in
       λ i. keys i && select i && enabled i && raised i && waits i && master i && posted i
 

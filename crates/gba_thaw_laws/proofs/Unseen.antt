@@ -1,10 +1,10 @@
 -- What a step resets isn't seen in the bytes of the I/O registers.
 use Rattle.std.proofs.Common.{◌≡◌, ℕ, zero, suc, ◌*◌, ◌/◌, ◌%◌, ◌^◌, ◌∙◌, ap, Bool, true, false, ◌&&◌, ◌==◌, nat_le, nat_lt, [], ◌∷◌, ◌++◌, if◌then◌else◌, refl}
-use Rattle.gba_devices.specs.Registers.{half_stored, owner_of, stored_of}
+use Rattle.gba_devices.specs.Registers.{half_listed, owner_of, listed_of}
 use Rattle.gba_devices.specs.State.{Devices, begun}
-use Rattle.gba_io.specs.Core.{Core, core_half_stored}
+use Rattle.gba_io.specs.Core.{Core, core_half_listed}
 use Rattle.gba_io.specs.SerialRegisters.{is_serial}
-use Rattle.gba_serial.specs.Registers.{serial_stored}
+use Rattle.gba_serial.specs.Registers.{serial_listed}
 use Rattle.gba_serial.specs.Tell.{silent}
 use Rattle.gba_snapshot.specs.Io.{io_bytes}
 
@@ -15,31 +15,31 @@ either false one other f g p q = q
 
 -- by whose halfword it is
 stored-unseen : (offset : ℕ) (d : Devices)
-    → stored_of (owner_of offset) offset (begun d) ≡ stored_of (owner_of offset) offset d
+    → listed_of (owner_of offset) offset (begun d) ≡ listed_of (owner_of offset) offset d
 unfolding owner_of
 stored-unseen offset d =
-    either (nat_lt offset 0x056) _ _ (λ owner. stored_of owner offset (begun d)) (λ owner. stored_of owner offset d)
+    either (nat_lt offset 0x056) _ _ (λ owner. listed_of owner offset (begun d)) (λ owner. listed_of owner offset d)
     refl
-    (either (nat_le 0x060 offset && nat_lt offset 0x082) _ _ (λ owner. stored_of owner offset (begun d))
-    (λ owner. stored_of owner offset d) refl
-    (either (nat_le 0x082 offset && nat_lt offset 0x08a) _ _ (λ owner. stored_of owner offset (begun d))
-    (λ owner. stored_of owner offset d) refl
-    (either (nat_le 0x090 offset && nat_lt offset 0x0a0) _ _ (λ owner. stored_of owner offset (begun d))
-    (λ owner. stored_of owner offset d) refl
-    (either (nat_le 0x0b0 offset && nat_lt offset 0x0e0) _ _ (λ owner. stored_of owner offset (begun d))
-    (λ owner. stored_of owner offset d) refl
-    (either (nat_le 0x100 offset && nat_lt offset 0x110) _ _ (λ owner. stored_of owner offset (begun d))
-    (λ owner. stored_of owner offset d) refl
-    (either (nat_le 0x130 offset && nat_lt offset 0x134) _ _ (λ owner. stored_of owner offset (begun d))
-    (λ owner. stored_of owner offset d) refl
-    (either (offset == 0x204) _ _ (λ owner. stored_of owner offset (begun d)) (λ owner. stored_of owner offset d) refl
-    (either (nat_le 0x200 offset && nat_lt offset 0x20a) _ _ (λ owner. stored_of owner offset (begun d))
-    (λ owner. stored_of owner offset d) refl
-    (either (offset == 0x300) _ _ (λ owner. stored_of owner offset (begun d)) (λ owner. stored_of owner offset d) refl
+    (either (nat_le 0x060 offset && nat_lt offset 0x082) _ _ (λ owner. listed_of owner offset (begun d))
+    (λ owner. listed_of owner offset d) refl
+    (either (nat_le 0x082 offset && nat_lt offset 0x08a) _ _ (λ owner. listed_of owner offset (begun d))
+    (λ owner. listed_of owner offset d) refl
+    (either (nat_le 0x090 offset && nat_lt offset 0x0a0) _ _ (λ owner. listed_of owner offset (begun d))
+    (λ owner. listed_of owner offset d) refl
+    (either (nat_le 0x0b0 offset && nat_lt offset 0x0e0) _ _ (λ owner. listed_of owner offset (begun d))
+    (λ owner. listed_of owner offset d) refl
+    (either (nat_le 0x100 offset && nat_lt offset 0x110) _ _ (λ owner. listed_of owner offset (begun d))
+    (λ owner. listed_of owner offset d) refl
+    (either (nat_le 0x130 offset && nat_lt offset 0x134) _ _ (λ owner. listed_of owner offset (begun d))
+    (λ owner. listed_of owner offset d) refl
+    (either (offset == 0x204) _ _ (λ owner. listed_of owner offset (begun d)) (λ owner. listed_of owner offset d) refl
+    (either (nat_le 0x200 offset && nat_lt offset 0x20a) _ _ (λ owner. listed_of owner offset (begun d))
+    (λ owner. listed_of owner offset d) refl
+    (either (offset == 0x300) _ _ (λ owner. listed_of owner offset (begun d)) (λ owner. listed_of owner offset d) refl
     refl)))))))))
 
-half-begun : (offset : ℕ) (d : Devices) → half_stored offset (begun d) ≡ half_stored offset d
-unfolding half_stored
+half-begun : (offset : ℕ) (d : Devices) → half_listed offset (begun d) ≡ half_listed offset d
+unfolding half_listed
 half-begun offset d = ap (λ (v : ℕ). v % 2 ^ 16) (stored-unseen offset d)
 
 -- the same core but for what a step resets, its memories and its lines
@@ -47,11 +47,11 @@ pub record IsAlike (b c : Core) : Type 0 where
   pub devices : c.devices ≡ begun b.devices
   pub serial : c.serial ≡ silent b.serial
 
-half-unseen : (offset : ℕ) (b c : Core) → IsAlike b c → core_half_stored offset c ≡ core_half_stored offset b
-unfolding core_half_stored
+half-unseen : (offset : ℕ) (b c : Core) → IsAlike b c → core_half_listed offset c ≡ core_half_listed offset b
+unfolding core_half_listed
 half-unseen offset b c alike =
-    (λ i. if is_serial offset then serial_stored offset (alike.serial i) else half_stored offset (alike.devices i))
-    ∙ (λ i. if is_serial offset then serial_stored offset b.serial else half-begun offset b.devices i)
+    (λ i. if is_serial offset then serial_listed offset (alike.serial i) else half_listed offset (alike.devices i))
+    ∙ (λ i. if is_serial offset then serial_listed offset b.serial else half-begun offset b.devices i)
 
 pub io-unseen : (halves : ℕ) (b c : Core) → IsAlike b c → io_bytes halves c ≡ io_bytes halves b
 unfolding io_bytes

@@ -21,7 +21,9 @@ use Rattle.gba_snapshot.specs.Io.{io_bytes}
 use Rattle.gba_snapshot.specs.Snapshot.{numbers_of}
 use Rattle.gba_thaw.specs.Console.{console_thawed}
 use Rattle.gba_thaw.specs.Stored.{are_stored}
-use Rattle.gba_thaw_laws.specs.Holds.{ChannelsHold, DevicesHold, Holds, PictureHolds, SerialHolds}
+use Rattle.gba_device_laws.specs.Cable.{SerialHolds}
+use Rattle.gba_device_laws.specs.Holding.{ChannelsHold, DevicesHold, PictureHolds}
+use Rattle.gba_thaw_laws.specs.Holds.{Holds}
 use Rattle.gba_thaw_laws.specs.Said.{AreHalvesOf, Says}
 
 -- ---- the I/O registers

@@ -1,4 +1,6 @@
-//! The laws of consoles that are made again of what a frozen file says of them.
+//! The laws of consoles that are made again of what a frozen file says of them, and of the rules that consoles keep in each run.
+
+use gba_io::Core;
 
 // A law answers nothing: that it holds is its contract.
 #[test]
@@ -18,4 +20,13 @@ fn making_again_is_stated() {
     gba_thaw_laws::laws::holds_at_reset();
     gba_thaw_laws::laws::spelled_at_reset();
     gba_thaw_laws::laws::files_thaw_again();
+}
+
+#[test]
+fn rules_of_a_run_are_stated() {
+    gba_exec_laws::laws::words_stay_sound::<Core>();
+    gba_exec_laws::laws::halfwords_stay_sound::<Core>();
+    gba_device_laws::laws::devices_stay();
+    gba_device_laws::laws::serial_stays();
+    gba_run_laws::laws::steps_hold();
 }
