@@ -1,24 +1,24 @@
 -- What a serial unit keeps.
-use Rattle.std.proofs.Common.{◌≡◌, ◌≢◌, ℕ, ◌^◌, ◌<◌, ◌≤◌, ◌+◌, ◌-◌, ◌*◌, ◌/◌, ◌%◌, ◌==◌, nat_le, nat_lt, Bool, true, false, not, ◌&&◌, ◌||◌, List, [], ◌∷◌, length, get_or, set, refl, ap, subst, sym, ◌∙◌, ⊎_elim, arith, mod-eq_of_lt, min, max, if◌then◌else◌}
-use Rattle.std.specs.Prelude.{IfSome, Option, None, Some, is_some, bit_and, bit_or, slice_index_or}
+use Rattle.std.proofs.Common.{◌≡◌, ◌≢◌, ℕ, ◌^◌, ◌<◌, ◌≤◌, ◌/◌, ◌%◌, ◌==◌, nat_le, nat_lt, Bool, true, false, not, ◌&&◌, ◌||◌, List, [], ◌∷◌, length, get_or, set, refl, ap, subst, sym, ◌∙◌, ⊎_elim, arith, mod-eq_of_lt, min, max, if◌then◌else◌}
+use Rattle.std.specs.Prelude.{IfSome, Option, None, Some, is_some, bit_and, bit_or}
 use Rattle.std.specs.Int.{bit_at}
 use lib.Bits.{or_comm}
 use Rattle.std.proofs.lemmas.Bool.{and_parts, cases_eq, cases_lt, false≢true}
 use Rattle.std.proofs.lemmas.Bool.Decides.{nat_tests}
 use Rattle.std.proofs.lemmas.List.{length-set, get_or-set_same, get_or-set_other, get_or_past}
-use Rattle.std.proofs.lemmas.Nat.{and_assoc, and_comm, and_le_r, and_mask, and_mod, and_shr, or_mod, or_shr}
+use Rattle.std.proofs.lemmas.Nat.{and_assoc, and_comm, and_mask, and_mod, and_shr, or_mod, or_shr}
 use Rattle.std.proofs.lemmas.Nat.Bits.{bit_at_and, bit_at_or, same_from_bits}
 use Rattle.gba_terms.specs.Bits.{bit, field}
 use Rattle.gba_register.specs.Rows.{row_at}
-use Rattle.gba_serial.specs.End.{any_missing, ended, ended_of, error_after, finished, peer_word, send_after, words_after}
+use Rattle.gba_serial.specs.End.{ended, ended_of, finished, peer_word, send_after, words_after}
 use Rattle.gba_serial.specs.Law.{KeepsTransfer, WritesKeepTransfers}
 use Rattle.gba_serial.specs.Making.{IsSeat, seat_of}
 use Rattle.gba_serial.specs.Registers.{serial_kept, serial_rows}
-use Rattle.gba_serial.specs.SerialUnit.{SerialUnit, data_word, has_inside_clock, is_peer, is_running, is_wired, known_mode, mode_of, own_word, serial_at_reset, speed_of}
-use Rattle.gba_serial.specs.Take.{answered, can_answer, end_of, ends_later, is_answered, is_proper_start, learned, multi_answered, normal_answered, taken, with_known, with_multi_reply, with_normal_reply, with_reply, with_reply_in, with_reply_of, with_start, waits}
+use Rattle.gba_serial.specs.SerialUnit.{SerialUnit, data_word, is_peer, is_running, is_wired, known_mode, mode_of, serial_at_reset, speed_of}
+use Rattle.gba_serial.specs.Take.{answered, can_answer, end_of, ends_later, is_answered, is_proper_start, learned, multi_answered, normal_answered, taken, with_known, with_multi_reply, with_normal_reply, with_reply, with_reply_of, with_start, waits}
 use Rattle.gba_serial.specs.Tell.{silent}
-use Rattle.gba_serial.specs.Timing.{chosen_mode, cut_word, is_multi, is_normal, is_same, is_word_of, mode_by, multi_bit_cycles, multi_end, normal_bit_cycles, normal_end, transfer_end, word_width}
-use Rattle.gba_serial.specs.Write.{begins, begun, busy_control, first_words, idle_control, multi_begun, next_mode, none_received, normal_begun, put_at, received_from, start_with, started, stores_start_bit, with_control, with_select, with_word, written}
+use Rattle.gba_serial.specs.Timing.{chosen_mode, cut_word, is_multi, is_normal, is_same, is_word_of, mode_by, multi_end, normal_end, transfer_end}
+use Rattle.gba_serial.specs.Write.{begins, begun, busy_control, first_words, idle_control, multi_begun, next_mode, none_received, normal_begun, put_at, received_from, stores_start_bit, with_control, with_select, with_word, written}
 use Rattle.gba_serial.specs.declared.transfer.Running.{Running}
 use Rattle.link_node.specs.declared.signal.Incoming.{Incoming}
 use Rattle.link_node.specs.declared.signal.LinkMode.{LinkMode}
@@ -195,11 +195,11 @@ words-set words place value are small = record {
       ⊎_elim
       (λ (within : place < length words).
       let there : get_or (set words place value) at 0 ≡ value =
-          ap (λ k. get_or (set words place value) k 0) same ∙ get_or-set_same words place value 0 within in
+      ap (λ k. get_or (set words place value) k 0) same ∙ get_or-set_same words place value 0 within in
       rw there (half-within value small))
       (λ (past : length words ≤ place).
       let there : get_or (set words place value) at 0 ≡ 0 =
-          get_or_past (set words place value) at 0 (omega (arith, same, past, length-set words place value)) in
+      get_or_past (set words place value) at 0 (omega (arith, same, past, length-set words place value)) in
       rw there refl)
       (cases_lt place (length words)))
       (λ (other : at ≢ place). rw (get_or-set_other words place at value 0 other) (are.halves at))
@@ -280,7 +280,14 @@ reset-holds player count round seated few short = record {
   players = refl;
   others = λ at none. others at;
   registers = record {
-    long = refl; word0 = refl; word1 = refl; word2 = refl; word3 = refl; control = refl; send = refl; select = refl;
+    long = refl;
+    word0 = refl;
+    word1 = refl;
+    word2 = refl;
+    word3 = refl;
+    control = refl;
+    send = refl;
+    select = refl;
   };
   run = _;
 }
@@ -300,8 +307,14 @@ told-holds u is = record {
   players = is.players;
   others = is.others;
   registers = record {
-    long = is.registers.long; word0 = is.registers.word0; word1 = is.registers.word1; word2 = is.registers.word2;
-    word3 = is.registers.word3; control = is.registers.control; send = is.registers.send; select = is.registers.select;
+    long = is.registers.long;
+    word0 = is.registers.word0;
+    word1 = is.registers.word1;
+    word2 = is.registers.word2;
+    word3 = is.registers.word3;
+    control = is.registers.control;
+    send = is.registers.send;
+    select = is.registers.select;
   };
   run = is.run;
 }
@@ -341,8 +354,14 @@ normal-begun-holds clock u near has is = record {
   players = is.players;
   others = is.others;
   registers = record {
-    long = is.registers.long; word0 = is.registers.word0; word1 = is.registers.word1; word2 = is.registers.word2;
-    word3 = is.registers.word3; control = is.registers.control; send = is.registers.send; select = is.registers.select;
+    long = is.registers.long;
+    word0 = is.registers.word0;
+    word1 = is.registers.word1;
+    word2 = is.registers.word2;
+    word3 = is.registers.word3;
+    control = is.registers.control;
+    send = is.registers.send;
+    select = is.registers.select;
   };
   run = record {
     players = refl;
@@ -368,8 +387,14 @@ control-holds control u idle within is = record {
   players = is.players;
   others = is.others;
   registers = record {
-    long = is.registers.long; word0 = is.registers.word0; word1 = is.registers.word1; word2 = is.registers.word2;
-    word3 = is.registers.word3; control = within; send = is.registers.send; select = is.registers.select;
+    long = is.registers.long;
+    word0 = is.registers.word0;
+    word1 = is.registers.word1;
+    word2 = is.registers.word2;
+    word3 = is.registers.word3;
+    control = within;
+    send = is.registers.send;
+    select = is.registers.select;
   };
   run = no-run u.run idle;
 }
@@ -471,9 +496,9 @@ control-write-holds clock bits u near keeps is =
   where
     by_running : (test : Bool) → is_running u ≡ test
         → (test ≡ true → KeepsTransfer u (if test then record u { control = busy_control bits u }
-          else if begins bits u then begun clock (record u { control = idle_control bits u }) else record u { control = idle_control bits u }))
+        else if begins bits u then begun clock (record u { control = idle_control bits u }) else record u { control = idle_control bits u }))
         → Holds (if test then record u { control = busy_control bits u }
-          else if begins bits u then begun clock (record u { control = idle_control bits u }) else record u { control = idle_control bits u })
+        else if begins bits u then begun clock (record u { control = idle_control bits u }) else record u { control = idle_control bits u })
     by_running true runs kept =
         running-holds u (record u { control = busy_control bits u }) (kept refl) is.seat is.players is.others
         (registers-as (record u { control = busy_control bits u }) (words-of u is.registers) (busy-within bits u) is.registers.send
@@ -514,8 +539,14 @@ known-holds due u peer is = record {
       get_or-set_other u.known due.sender player due.signal.mode Other
       (λ same. false≢true (sym none ∙ ap (λ k. is_peer k u) same ∙ peer)) ∙ is.others player none;
   registers = record {
-    long = is.registers.long; word0 = is.registers.word0; word1 = is.registers.word1; word2 = is.registers.word2;
-    word3 = is.registers.word3; control = is.registers.control; send = is.registers.send; select = is.registers.select;
+    long = is.registers.long;
+    word0 = is.registers.word0;
+    word1 = is.registers.word1;
+    word2 = is.registers.word2;
+    word3 = is.registers.word3;
+    control = is.registers.control;
+    send = is.registers.send;
+    select = is.registers.select;
   };
   run = is.run;
 }
@@ -549,8 +580,14 @@ reply-holds sender (Some word) u is =
       players = is.players;
       others = is.others;
       registers = record {
-        long = is.registers.long; word0 = is.registers.word0; word1 = is.registers.word1; word2 = is.registers.word2;
-        word3 = is.registers.word3; control = is.registers.control; send = is.registers.send; select = is.registers.select;
+        long = is.registers.long;
+        word0 = is.registers.word0;
+        word1 = is.registers.word1;
+        word2 = is.registers.word2;
+        word3 = is.registers.word3;
+        control = is.registers.control;
+        send = is.registers.send;
+        select = is.registers.select;
       };
       run = record {
         players = length-set run.got sender true ∙ holds.players;
@@ -608,8 +645,14 @@ normal-answered-holds due start u near has is = record {
   players = is.players;
   others = is.others;
   registers = record {
-    long = is.registers.long; word0 = is.registers.word0; word1 = is.registers.word1; word2 = is.registers.word2;
-    word3 = is.registers.word3; control = is.registers.control; send = is.registers.send; select = is.registers.select;
+    long = is.registers.long;
+    word0 = is.registers.word0;
+    word1 = is.registers.word1;
+    word2 = is.registers.word2;
+    word3 = is.registers.word3;
+    control = is.registers.control;
+    send = is.registers.send;
+    select = is.registers.select;
   };
   run = record {
     players = length-set none_received due.sender true;
@@ -620,9 +663,9 @@ normal-answered-holds due start u near has is = record {
 }
 
 same-transfers : (one other : LinkMode) → is_same one other ≡ true → has_transfers other ≡ true → has_transfers one ≡ true
-same-transfers Normal8 other same has = refl
-same-transfers Normal32 other same has = refl
-same-transfers Multi other same has = refl
+same-transfers Normal8 _ same has = refl
+same-transfers Normal32 _ same has = refl
+same-transfers Multi _ same has = refl
 same-transfers Other Normal8 same has = absurd (false≢true same)
 same-transfers Other Normal32 same has = absurd (false≢true same)
 same-transfers Other Multi same has = absurd (false≢true same)
@@ -640,7 +683,7 @@ answered-transfers due start u is =
     let whole = and_parts (is_proper_start due start u && ends_later due start u) (can_answer due u) is in
     let proper = and_parts (is_proper_start due start u) (ends_later due start u) whole.0 in
     let can =
-        and_parts (not (is_running u) && is_same (mode_of u) due.signal.mode) (is_multi (mode_of u) || waits u) whole.1 in
+    and_parts (not (is_running u) && is_same (mode_of u) due.signal.mode) (is_multi (mode_of u) || waits u) whole.1 in
     let same = and_parts (not (is_running u)) (is_same (mode_of u) due.signal.mode) can.0 in
     same-transfers (mode_of u) due.signal.mode same.1
     (proper-transfers due.signal.mode ((due.sender == 0) && nat_lt start.speed 4) (is_wired due.sender u) (nat_lt start.speed 2) proper.0)

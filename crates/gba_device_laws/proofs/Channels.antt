@@ -1,15 +1,14 @@
 -- What DMA channels keep.
-use Rattle.std.proofs.Common.{◌≡◌, ◌≢◌, ℕ, ◌^◌, ◌<◌, ◌≤◌, ◌+◌, ◌-◌, ◌*◌, ◌/◌, ◌%◌, ◌==◌, Bool, true, false, not, ◌&&◌, ◌||◌, refl, ap, sym, ◌∙◌, arith, mod-eq_of_lt, if◌then◌else◌}
+use Rattle.std.proofs.Common.{◌≡◌, ◌≢◌, ℕ, ◌^◌, ◌<◌, ◌≤◌, ◌+◌, ◌==◌, Bool, true, false, ◌&&◌, refl, ap, sym, ◌∙◌, arith, mod-eq_of_lt, if◌then◌else◌}
 use Rattle.std.specs.Prelude.{bit_and}
 use Rattle.std.proofs.lemmas.Bool.Decides.{nat_tests}
 use Rattle.std.proofs.lemmas.Nat.{and_assoc, and_comm, and_le_r, and_mask}
-use Rattle.gba_terms.specs.Bits.{bit, field}
-use Rattle.gba_register.specs.Rows.{Row, row_at}
+use Rattle.gba_terms.specs.Bits.{field}
+use Rattle.gba_register.specs.Rows.{row_at}
 use Rattle.gba_bus.specs.declared.width.Width.{Width}
-use Rattle.gba_bus.specs.declared.width.Width.TheVariants.{Byte, Half, Word}
 use Rattle.gba_bus.specs.Widths.{size}
-use Rattle.gba_dma.specs.Channel.{after_event, after_run, after_step, after_unit, after_unit_end, channel_at_reset, count_loaded, full_count, half_shown, half_stored, is_last, is_triggered, moved, next_source, next_target, serves_sound, source_step, starts, target_step, unit_width, waits_again, with_control, with_high, with_low}
-use Rattle.gba_dma.specs.Channels.{FourChannels, after_trigger, after_unit_at, base, channels_at_reset, dma_kept, dma_rows, dma_stored, dma_written, has_offset, half_stored_at, place_in}
+use Rattle.gba_dma.specs.Channel.{after_event, after_run, after_step, after_unit, after_unit_end, channel_at_reset, count_loaded, is_last, is_triggered, moved, serves_sound, source_step, starts, target_step, unit_width, waits_again, with_control, with_high, with_low}
+use Rattle.gba_dma.specs.Channels.{FourChannels, after_trigger, after_unit_at, base, channels_at_reset, dma_kept, dma_rows, dma_written, half_stored_at}
 use Rattle.gba_dma.specs.Consistency.{AreConsistent, StaysConsistent}
 use Rattle.gba_dma.specs.declared.channel.Channel.{Channel}
 use Rattle.gba_dma.specs.declared.event.DmaEvent.{DmaEvent}

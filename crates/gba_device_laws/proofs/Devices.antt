@@ -1,5 +1,5 @@
 -- What the devices keep together.
-use Rattle.std.proofs.Common.{◌≡◌, ◌≢◌, ℕ, ◌^◌, ◌<◌, ◌≤◌, ◌+◌, ◌-◌, ◌*◌, ◌/◌, ◌%◌, ◌==◌, ◌||◌, nat_le, nat_lt, Bool, true, false, not, ◌&&◌, refl, ap, subst, sym, ◌∙◌, arith, mod-eq_of_lt, if◌then◌else◌}
+use Rattle.std.proofs.Common.{◌≡◌, ◌≢◌, ℕ, ◌^◌, ◌<◌, ◌+◌, ◌*◌, ◌/◌, ◌%◌, ◌==◌, ◌||◌, Bool, true, false, ◌&&◌, refl, ap, sym, ◌∙◌, arith, mod-eq_of_lt, if◌then◌else◌}
 use Rattle.std.specs.Prelude.{bit_and}
 use Rattle.std.proofs.lemmas.Bool.{false≢true}
 use Rattle.std.proofs.lemmas.Bool.Decides.{nat_tests}
@@ -9,26 +9,26 @@ use Rattle.gba_register.specs.Rows.{row_at}
 use Rattle.gba_devices.proofs.Writing.{each-half}
 use Rattle.gba_devices.specs.Cycles.{asked_by, asked_one, at_hblank, at_line, at_place, begins_vblank, device_cycle, is_seen, moved, placed, rung, sounded, status_of, toned, with_timer_requests}
 use Rattle.gba_devices.specs.Registers.{keyed, owner_of, system_rows, whole_written, with_key_control}
-use Rattle.gba_devices.specs.State.{Devices, after_dma_unit, begun, devices_at_reset, rested, woken}
+use Rattle.gba_devices.specs.State.{Devices, after_dma_unit, begun, rested, woken}
 use Rattle.gba_dma.specs.Channel.{requests_interrupt}
-use Rattle.gba_dma.specs.Channels.{FourChannels, after_trigger, after_unit_at, channel_at, dma_written}
+use Rattle.gba_dma.specs.Channels.{FourChannels, after_trigger, channel_at, dma_written}
 use Rattle.gba_dma.specs.Consistency.{StaysConsistent}
 use Rattle.gba_dma.specs.declared.event.DmaEvent.{DmaEvent}
 use Rattle.gba_dma.specs.declared.event.DmaEvent.TheVariants.{HBlank, QueueA, QueueB, VBlank}
-use Rattle.gba_irq.specs.Interrupts.{interrupt_rows, interrupt_shown, interrupt_written, with_request_if, with_requests}
+use Rattle.gba_irq.specs.Interrupts.{interrupt_written, with_request_if}
 use Rattle.gba_irq.specs.Keypad.{becomes_true, with_control, with_pressed}
 use Rattle.gba_ppu_reg.specs.Position.{IsPosition, begins_hblank, begins_line, is_matched, cycle as place_cycle}
 use Rattle.gba_ppu_reg.specs.Registers.{Picture, after_line, after_reload, picture_written}
 use Rattle.gba_ppu_reg.specs.declared.position.Position.{Position}
-use Rattle.gba_psg.specs.Registers.{channel_stored, is_wave_offset, mastered, tone_rows, tones_stored, tones_written, wave_place}
+use Rattle.gba_psg.specs.Registers.{channel_stored, is_wave_offset, mastered, tone_rows, tones_written, wave_place}
 use Rattle.gba_psg.specs.Soundness.{StaysSound}
 use Rattle.gba_psg.specs.Tones.{after_envelopes, after_lengths, after_sweeps, counted, cycle as tones_cycle, moved as moved_tones, ticked, with_lengths, with_sweeps}
 use Rattle.gba_psg.specs.Wave.{with_wave_half}
 use Rattle.gba_psg.specs.declared.four.FourTones.{FourTones}
-use Rattle.gba_sound.specs.Queues.{DirectSound, after_overflow, after_word, asked, sound_rows, sound_written}
+use Rattle.gba_sound.specs.Queues.{after_word, asked, sound_rows, sound_written}
 use Rattle.gba_sound.specs.declared.asked.Asked.{Asked}
 use Rattle.gba_timer.specs.Timers.{FourTimers, overflow_mark, requests, timer_written, cycle as timer_cycle}
-use Rattle.gba_device_laws.specs.Holding.{ChannelsHold, DevicesHold, HasStoredBits, PictureHolds}
+use Rattle.gba_device_laws.specs.Holding.{ChannelsHold, DevicesHold, PictureHolds}
 use Rattle.gba_device_laws.specs.Staying.{DevicesStay}
 use Rattle.gba_device_laws.proofs.Channels.{channels-event, channels-reset, channels-unit, channels-write}
 use Rattle.gba_device_laws.proofs.Lines.{interrupts-request-if, interrupts-requests, interrupts-reset, interrupts-write, keys-control, keys-pressed, sound-overflow, sound-reset, sound-word, sound-write}
@@ -157,30 +157,49 @@ other-number false one other none = refl
 module _ (consistently : StaysConsistent) (soundly : StaysSound) (d : Devices) (hold : DevicesHold d) where
   picture-half : (offset value : ℕ) → DevicesHold (record d { picture = picture_written offset value d.picture })
   picture-half offset value = record {
-      picture = picture-write offset value d.picture hold.picture;
-      timers = hold.timers; channels = hold.channels; place = hold.place; sound = hold.sound; tones = hold.tones;
-      master = hold.master; ratio = hold.ratio; interrupts = hold.interrupts; keys = hold.keys; waits = hold.waits;
-    }
+    picture = picture-write offset value d.picture hold.picture;
+    timers = hold.timers;
+    channels = hold.channels;
+    place = hold.place;
+    sound = hold.sound;
+    tones = hold.tones;
+    master = hold.master;
+    ratio = hold.ratio;
+    interrupts = hold.interrupts;
+    keys = hold.keys;
+    waits = hold.waits;
+  }
 
   tones-half : (offset value : ℕ) → offset ≢ 0x082 → offset ≢ 0x084 → DevicesHold (record d { tones = tones_written offset value d.tones })
   tones-half offset value no_ratio no_master = record {
-      tones = tones-write soundly offset value d.tones hold.tones;
-      master = hold.master ∙ sym (same-master offset value d.tones no_master);
-      ratio = same-ratio offset value d.tones no_ratio ∙ hold.ratio;
-      timers = hold.timers; channels = hold.channels; place = hold.place; picture = hold.picture; sound = hold.sound;
-      interrupts = hold.interrupts; keys = hold.keys; waits = hold.waits;
-    }
+    tones = tones-write soundly offset value d.tones hold.tones;
+    master = hold.master ∙ sym (same-master offset value d.tones no_master);
+    ratio = same-ratio offset value d.tones no_ratio ∙ hold.ratio;
+    timers = hold.timers;
+    channels = hold.channels;
+    place = hold.place;
+    picture = hold.picture;
+    sound = hold.sound;
+    interrupts = hold.interrupts;
+    keys = hold.keys;
+    waits = hold.waits;
+  }
 
   sound-half : (offset value : ℕ) → offset ≢ 0x082 → offset ≢ 0x084
       → DevicesHold (record d { sound = sound_written offset value d.sound; tones = tones_written offset value d.tones })
   sound-half offset value no_ratio no_master = record {
-      sound = sound-write offset value d.sound hold.sound;
-      tones = tones-write soundly offset value d.tones hold.tones;
-      master = same-enable ∙ hold.master ∙ sym (same-master offset value d.tones no_master);
-      ratio = same-ratio offset value d.tones no_ratio ∙ hold.ratio ∙ sym (ap (λ n. field n 0 2) same-control);
-      timers = hold.timers; channels = hold.channels; place = hold.place; picture = hold.picture;
-      interrupts = hold.interrupts; keys = hold.keys; waits = hold.waits;
-    }
+    sound = sound-write offset value d.sound hold.sound;
+    tones = tones-write soundly offset value d.tones hold.tones;
+    master = same-enable ∙ hold.master ∙ sym (same-master offset value d.tones no_master);
+    ratio = same-ratio offset value d.tones no_ratio ∙ hold.ratio ∙ sym (ap (λ n. field n 0 2) same-control);
+    timers = hold.timers;
+    channels = hold.channels;
+    place = hold.place;
+    picture = hold.picture;
+    interrupts = hold.interrupts;
+    keys = hold.keys;
+    waits = hold.waits;
+  }
     where
       same-enable : (sound_written offset value d.sound).is_on ≡ d.sound.is_on
       same-enable = other-truth (offset == 0x084) (bit value 7) d.sound.is_on (not-there offset 0x084 no_master)
@@ -194,24 +213,35 @@ module _ (consistently : StaysConsistent) (soundly : StaysSound) (d : Devices) (
       → DevicesHold (record d { sound = sound_written 0x082 value d.sound; tones = tones_written 0x082 value d.tones })
   unfolding tones_written tone_rows sound_rows row_at
   sound-control value = record {
-      sound = sound-write 0x082 value d.sound hold.sound;
-      tones = tones-write soundly 0x082 value d.tones hold.tones;
-      ratio = ratio-written value;
-      timers = hold.timers; channels = hold.channels; place = hold.place; picture = hold.picture;
-      master = hold.master; interrupts = hold.interrupts; keys = hold.keys; waits = hold.waits;
-    }
+    sound = sound-write 0x082 value d.sound hold.sound;
+    tones = tones-write soundly 0x082 value d.tones hold.tones;
+    ratio = ratio-written value;
+    timers = hold.timers;
+    channels = hold.channels;
+    place = hold.place;
+    picture = hold.picture;
+    master = hold.master;
+    interrupts = hold.interrupts;
+    keys = hold.keys;
+    waits = hold.waits;
+  }
 
   sound-master : (value : ℕ)
       → DevicesHold (record d { sound = sound_written 0x084 value d.sound; tones = tones_written 0x084 value d.tones })
   unfolding tones_written tone_rows sound_rows row_at
   sound-master value = record {
-      sound = sound-write 0x084 value d.sound hold.sound;
-      tones = tones-write soundly 0x084 value d.tones hold.tones;
-      master = sym (enabled (bit (bit_and value 0x0080) 7) ∙ master-written value);
-      ratio = ratio (bit (bit_and value 0x0080) 7);
-      timers = hold.timers; channels = hold.channels; place = hold.place; picture = hold.picture;
-      interrupts = hold.interrupts; keys = hold.keys; waits = hold.waits;
-    }
+    sound = sound-write 0x084 value d.sound hold.sound;
+    tones = tones-write soundly 0x084 value d.tones hold.tones;
+    master = sym (enabled (bit (bit_and value 0x0080) 7) ∙ master-written value);
+    ratio = ratio (bit (bit_and value 0x0080) 7);
+    timers = hold.timers;
+    channels = hold.channels;
+    place = hold.place;
+    picture = hold.picture;
+    interrupts = hold.interrupts;
+    keys = hold.keys;
+    waits = hold.waits;
+  }
     where
       enabled : (on : Bool) → (mastered on d.tones).is_on ≡ on
       enabled true = refl
@@ -223,46 +253,93 @@ module _ (consistently : StaysConsistent) (soundly : StaysSound) (d : Devices) (
 
   channels-half : (offset value : ℕ) → DevicesHold (record d { channels = dma_written offset value d.channels })
   channels-half offset value = record {
-      channels = channels-write consistently offset value d.channels hold.channels;
-      timers = hold.timers; place = hold.place; picture = hold.picture; sound = hold.sound; tones = hold.tones;
-      master = hold.master; ratio = hold.ratio; interrupts = hold.interrupts; keys = hold.keys; waits = hold.waits;
-    }
+    channels = channels-write consistently offset value d.channels hold.channels;
+    timers = hold.timers;
+    place = hold.place;
+    picture = hold.picture;
+    sound = hold.sound;
+    tones = hold.tones;
+    master = hold.master;
+    ratio = hold.ratio;
+    interrupts = hold.interrupts;
+    keys = hold.keys;
+    waits = hold.waits;
+  }
 
   timers-half : (offset value : ℕ) → DevicesHold (record d { timers = timer_written offset value d.timers })
   timers-half offset value = record {
-      timers = timers-write d.timers hold.timers offset value;
-      channels = hold.channels; place = hold.place; picture = hold.picture; sound = hold.sound; tones = hold.tones;
-      master = hold.master; ratio = hold.ratio; interrupts = hold.interrupts; keys = hold.keys; waits = hold.waits;
-    }
+    timers = timers-write d.timers hold.timers offset value;
+    channels = hold.channels;
+    place = hold.place;
+    picture = hold.picture;
+    sound = hold.sound;
+    tones = hold.tones;
+    master = hold.master;
+    ratio = hold.ratio;
+    interrupts = hold.interrupts;
+    keys = hold.keys;
+    waits = hold.waits;
+  }
 
   keys-half : (value : ℕ) → DevicesHold (with_key_control value d)
   keys-half value = record {
-      interrupts = interrupts-request-if (becomes_true d.keys (with_control value d.keys)) 12 d.interrupts refl hold.interrupts;
-      keys = keys-control value d.keys hold.keys;
-      timers = hold.timers; channels = hold.channels; place = hold.place; picture = hold.picture; sound = hold.sound;
-      tones = hold.tones; master = hold.master; ratio = hold.ratio; waits = hold.waits;
-    }
+    interrupts = interrupts-request-if (becomes_true d.keys (with_control value d.keys)) 12 d.interrupts refl hold.interrupts;
+    keys = keys-control value d.keys hold.keys;
+    timers = hold.timers;
+    channels = hold.channels;
+    place = hold.place;
+    picture = hold.picture;
+    sound = hold.sound;
+    tones = hold.tones;
+    master = hold.master;
+    ratio = hold.ratio;
+    waits = hold.waits;
+  }
 
   interrupts-half : (offset value : ℕ) → DevicesHold (record d { interrupts = interrupt_written offset value d.interrupts })
   interrupts-half offset value = record {
-      interrupts = interrupts-write offset value d.interrupts hold.interrupts;
-      timers = hold.timers; channels = hold.channels; place = hold.place; picture = hold.picture; sound = hold.sound;
-      tones = hold.tones; master = hold.master; ratio = hold.ratio; keys = hold.keys; waits = hold.waits;
-    }
+    interrupts = interrupts-write offset value d.interrupts hold.interrupts;
+    timers = hold.timers;
+    channels = hold.channels;
+    place = hold.place;
+    picture = hold.picture;
+    sound = hold.sound;
+    tones = hold.tones;
+    master = hold.master;
+    ratio = hold.ratio;
+    keys = hold.keys;
+    waits = hold.waits;
+  }
 
   waits-half : (value : ℕ) → DevicesHold (record d { waits = bit_and value (row_at system_rows 0x204).write_mask })
   waits-half value = record {
-      waits = and-twice value (row_at system_rows 0x204).write_mask;
-      timers = hold.timers; channels = hold.channels; place = hold.place; picture = hold.picture; sound = hold.sound;
-      tones = hold.tones; master = hold.master; ratio = hold.ratio; interrupts = hold.interrupts; keys = hold.keys;
-    }
+    waits = and-twice value (row_at system_rows 0x204).write_mask;
+    timers = hold.timers;
+    channels = hold.channels;
+    place = hold.place;
+    picture = hold.picture;
+    sound = hold.sound;
+    tones = hold.tones;
+    master = hold.master;
+    ratio = hold.ratio;
+    interrupts = hold.interrupts;
+    keys = hold.keys;
+  }
 
   posted-half : (posted halted : Bool) → DevicesHold (record d { posted = posted; halted = halted })
   posted-half posted halted = record {
-      timers = hold.timers; channels = hold.channels; place = hold.place; picture = hold.picture; sound = hold.sound;
-      tones = hold.tones; master = hold.master; ratio = hold.ratio; interrupts = hold.interrupts; keys = hold.keys;
-      waits = hold.waits;
-    }
+    timers = hold.timers;
+    channels = hold.channels;
+    place = hold.place;
+    picture = hold.picture;
+    sound = hold.sound;
+    tones = hold.tones;
+    master = hold.master;
+    ratio = hold.ratio;
+    interrupts = hold.interrupts;
+    keys = hold.keys;
+    waits = hold.waits;
+  }
 
   control-there : (value lanes : ℕ) → DevicesHold (whole_written 0x082 value lanes d)
   unfolding whole_written owner_of
@@ -286,10 +363,18 @@ module _ (consistently : StaysConsistent) (soundly : StaysSound) (d : Devices) (
 
   pub word-holds : (number word : ℕ) → DevicesHold (record d { sound = after_word number word d.sound })
   word-holds number word = record {
-      sound = sound-word number word d.sound hold.sound;
-      timers = hold.timers; channels = hold.channels; place = hold.place; picture = hold.picture; tones = hold.tones;
-      master = hold.master; ratio = hold.ratio; interrupts = hold.interrupts; keys = hold.keys; waits = hold.waits;
-    }
+    sound = sound-word number word d.sound hold.sound;
+    timers = hold.timers;
+    channels = hold.channels;
+    place = hold.place;
+    picture = hold.picture;
+    tones = hold.tones;
+    master = hold.master;
+    ratio = hold.ratio;
+    interrupts = hold.interrupts;
+    keys = hold.keys;
+    waits = hold.waits;
+  }
 
   asked-hold : (asks : Bool) (event : DmaEvent) (cs : FourChannels) → ChannelsHold cs → ChannelsHold (asked_one asks event cs)
   asked-hold asks event cs is = either-channels asks (after_trigger event cs) cs (channels-event consistently event cs is) is
@@ -297,57 +382,110 @@ module _ (consistently : StaysConsistent) (soundly : StaysSound) (d : Devices) (
   pub unit-holds : (number : ℕ) → number < 4 → DevicesHold (after_dma_unit number d)
   unfolding after_dma_unit
   unit-holds number few = record {
-      channels = channels-unit consistently number d.channels hold.channels;
-      interrupts = interrupts-request-if (requests_interrupt (channel_at number d.channels)) (8 + number) d.interrupts (request-bits number few) hold.interrupts;
-      timers = hold.timers; place = hold.place; picture = hold.picture; sound = hold.sound; tones = hold.tones;
-      master = hold.master; ratio = hold.ratio; keys = hold.keys; waits = hold.waits;
-    }
+    channels = channels-unit consistently number d.channels hold.channels;
+    interrupts = interrupts-request-if (requests_interrupt (channel_at number d.channels)) (8 + number) d.interrupts (request-bits number few) hold.interrupts;
+    timers = hold.timers;
+    place = hold.place;
+    picture = hold.picture;
+    sound = hold.sound;
+    tones = hold.tones;
+    master = hold.master;
+    ratio = hold.ratio;
+    keys = hold.keys;
+    waits = hold.waits;
+  }
 
   pub keys-hold : (pressed : ℕ) → DevicesHold (keyed pressed d)
   unfolding keyed
   keys-hold pressed = record {
-      interrupts = interrupts-request-if (becomes_true d.keys (with_pressed pressed d.keys)) 12 d.interrupts refl hold.interrupts;
-      keys = keys-pressed pressed d.keys hold.keys;
-      timers = hold.timers; channels = hold.channels; place = hold.place; picture = hold.picture; sound = hold.sound;
-      tones = hold.tones; master = hold.master; ratio = hold.ratio; waits = hold.waits;
-    }
+    interrupts = interrupts-request-if (becomes_true d.keys (with_pressed pressed d.keys)) 12 d.interrupts refl hold.interrupts;
+    keys = keys-pressed pressed d.keys hold.keys;
+    timers = hold.timers;
+    channels = hold.channels;
+    place = hold.place;
+    picture = hold.picture;
+    sound = hold.sound;
+    tones = hold.tones;
+    master = hold.master;
+    ratio = hold.ratio;
+    waits = hold.waits;
+  }
 
   pub transfer-holds : (asked : Bool) → DevicesHold (record d { interrupts = with_request_if asked 7 d.interrupts })
   transfer-holds asked = record {
-      timers = hold.timers; channels = hold.channels; place = hold.place; picture = hold.picture; sound = hold.sound;
-      tones = hold.tones; master = hold.master; ratio = hold.ratio; interrupts = interrupts-request-if asked 7 d.interrupts refl hold.interrupts; keys = hold.keys;
-      waits = hold.waits;
-    }
+    timers = hold.timers;
+    channels = hold.channels;
+    place = hold.place;
+    picture = hold.picture;
+    sound = hold.sound;
+    tones = hold.tones;
+    master = hold.master;
+    ratio = hold.ratio;
+    interrupts = interrupts-request-if asked 7 d.interrupts refl hold.interrupts;
+    keys = hold.keys;
+    waits = hold.waits;
+  }
 
   pub begins-holds : DevicesHold (begun d)
   begins-holds = record {
-      timers = hold.timers; channels = hold.channels; place = hold.place; picture = hold.picture; sound = hold.sound;
-      tones = hold.tones; master = hold.master; ratio = hold.ratio; interrupts = hold.interrupts; keys = hold.keys;
-      waits = hold.waits;
-    }
+    timers = hold.timers;
+    channels = hold.channels;
+    place = hold.place;
+    picture = hold.picture;
+    sound = hold.sound;
+    tones = hold.tones;
+    master = hold.master;
+    ratio = hold.ratio;
+    interrupts = hold.interrupts;
+    keys = hold.keys;
+    waits = hold.waits;
+  }
 
   pub rests-hold : (cycles : ℕ) → DevicesHold (rested cycles d)
   rests-hold cycles = record {
-      timers = hold.timers; channels = hold.channels; place = hold.place; picture = hold.picture; sound = hold.sound;
-      tones = hold.tones; master = hold.master; ratio = hold.ratio; interrupts = hold.interrupts; keys = hold.keys;
-      waits = hold.waits;
-    }
+    timers = hold.timers;
+    channels = hold.channels;
+    place = hold.place;
+    picture = hold.picture;
+    sound = hold.sound;
+    tones = hold.tones;
+    master = hold.master;
+    ratio = hold.ratio;
+    interrupts = hold.interrupts;
+    keys = hold.keys;
+    waits = hold.waits;
+  }
 
   pub wakes-hold : DevicesHold (woken d)
   wakes-hold = record {
-      timers = hold.timers; channels = hold.channels; place = hold.place; picture = hold.picture; sound = hold.sound;
-      tones = hold.tones; master = hold.master; ratio = hold.ratio; interrupts = hold.interrupts; keys = hold.keys;
-      waits = hold.waits;
-    }
+    timers = hold.timers;
+    channels = hold.channels;
+    place = hold.place;
+    picture = hold.picture;
+    sound = hold.sound;
+    tones = hold.tones;
+    master = hold.master;
+    ratio = hold.ratio;
+    interrupts = hold.interrupts;
+    keys = hold.keys;
+    waits = hold.waits;
+  }
 
   -- the parts of a cycle
   moved-holds : DevicesHold (with_timer_requests (overflow_mark d.timers) (moved d))
   moved-holds = record {
-      timers = timers-cycle d.timers hold.timers;
-      interrupts = interrupts-requests (8 * requests (overflow_mark d.timers) (timer_cycle d.timers)) d.interrupts (timer-bits (overflow_mark d.timers) (timer_cycle d.timers)) hold.interrupts;
-      channels = hold.channels; place = hold.place; picture = hold.picture; sound = hold.sound; tones = hold.tones;
-      master = hold.master; ratio = hold.ratio; keys = hold.keys; waits = hold.waits;
-    }
+    timers = timers-cycle d.timers hold.timers;
+    interrupts = interrupts-requests (8 * requests (overflow_mark d.timers) (timer_cycle d.timers)) d.interrupts (timer-bits (overflow_mark d.timers) (timer_cycle d.timers)) hold.interrupts;
+    channels = hold.channels;
+    place = hold.place;
+    picture = hold.picture;
+    sound = hold.sound;
+    tones = hold.tones;
+    master = hold.master;
+    ratio = hold.ratio;
+    keys = hold.keys;
+    waits = hold.waits;
+  }
 
   asks-hold : (queues : Asked) → ChannelsHold (asked_by queues d.channels)
   unfolding asked_by
@@ -357,55 +495,96 @@ module _ (consistently : StaysConsistent) (soundly : StaysSound) (d : Devices) (
   rung-holds : (timer : ℕ) (rings : Bool) → DevicesHold (rung timer rings d)
   unfolding rung
   rung-holds timer true = record {
-      channels = asks-hold (asked timer d.sound);
-      sound = sound-overflow timer d.sound hold.sound;
-      timers = hold.timers; place = hold.place; picture = hold.picture; tones = hold.tones; master = hold.master;
-      ratio = hold.ratio; interrupts = hold.interrupts; keys = hold.keys; waits = hold.waits;
-    }
+    channels = asks-hold (asked timer d.sound);
+    sound = sound-overflow timer d.sound hold.sound;
+    timers = hold.timers;
+    place = hold.place;
+    picture = hold.picture;
+    tones = hold.tones;
+    master = hold.master;
+    ratio = hold.ratio;
+    interrupts = hold.interrupts;
+    keys = hold.keys;
+    waits = hold.waits;
+  }
   rung-holds timer false = record {
-      timers = hold.timers; channels = hold.channels; place = hold.place; picture = hold.picture; sound = hold.sound;
-      tones = hold.tones; master = hold.master; ratio = hold.ratio; interrupts = hold.interrupts; keys = hold.keys;
-      waits = hold.waits;
-    }
+    timers = hold.timers;
+    channels = hold.channels;
+    place = hold.place;
+    picture = hold.picture;
+    sound = hold.sound;
+    tones = hold.tones;
+    master = hold.master;
+    ratio = hold.ratio;
+    interrupts = hold.interrupts;
+    keys = hold.keys;
+    waits = hold.waits;
+  }
 
   toned-holds : DevicesHold (toned d)
   toned-holds = record {
-      tones = tones-cycle soundly d.tones hold.tones;
-      master = hold.master ∙ sym (cycle-enable d.tones);
-      ratio = cycle-ratio d.tones ∙ hold.ratio;
-      timers = hold.timers; channels = hold.channels; place = hold.place; picture = hold.picture; sound = hold.sound;
-      interrupts = hold.interrupts; keys = hold.keys; waits = hold.waits;
-    }
+    tones = tones-cycle soundly d.tones hold.tones;
+    master = hold.master ∙ sym (cycle-enable d.tones);
+    ratio = cycle-ratio d.tones ∙ hold.ratio;
+    timers = hold.timers;
+    channels = hold.channels;
+    place = hold.place;
+    picture = hold.picture;
+    sound = hold.sound;
+    interrupts = hold.interrupts;
+    keys = hold.keys;
+    waits = hold.waits;
+  }
 
   placed-holds : DevicesHold (placed d)
   placed-holds = record {
-      place = position-cycle d.place hold.place;
-      timers = hold.timers; channels = hold.channels; picture = hold.picture; sound = hold.sound; tones = hold.tones;
-      master = hold.master; ratio = hold.ratio; interrupts = hold.interrupts; keys = hold.keys; waits = hold.waits;
-    }
+    place = position-cycle d.place hold.place;
+    timers = hold.timers;
+    channels = hold.channels;
+    picture = hold.picture;
+    sound = hold.sound;
+    tones = hold.tones;
+    master = hold.master;
+    ratio = hold.ratio;
+    interrupts = hold.interrupts;
+    keys = hold.keys;
+    waits = hold.waits;
+  }
 
   hblank-holds : DevicesHold (at_hblank d)
   unfolding at_hblank
   hblank-holds = record {
-      channels = either-channels (is_seen d.place) (after_trigger HBlank d.channels) d.channels (channels-event consistently HBlank d.channels hold.channels) hold.channels;
-      picture = either-picture (is_seen d.place) (after_line d.picture) d.picture (picture-line d.picture hold.picture) hold.picture;
-      interrupts = interrupts-request-if (bit (status_of d.picture) 4) 1 d.interrupts refl hold.interrupts;
-      timers = hold.timers; place = hold.place; sound = hold.sound; tones = hold.tones; master = hold.master;
-      ratio = hold.ratio; keys = hold.keys; waits = hold.waits;
-    }
+    channels = either-channels (is_seen d.place) (after_trigger HBlank d.channels) d.channels (channels-event consistently HBlank d.channels hold.channels) hold.channels;
+    picture = either-picture (is_seen d.place) (after_line d.picture) d.picture (picture-line d.picture hold.picture) hold.picture;
+    interrupts = interrupts-request-if (bit (status_of d.picture) 4) 1 d.interrupts refl hold.interrupts;
+    timers = hold.timers;
+    place = hold.place;
+    sound = hold.sound;
+    tones = hold.tones;
+    master = hold.master;
+    ratio = hold.ratio;
+    keys = hold.keys;
+    waits = hold.waits;
+  }
 
   line-holds : DevicesHold (at_line d)
   unfolding at_line
   line-holds = record {
-      channels = either-channels (begins_vblank d.place) (after_trigger VBlank d.channels) d.channels (channels-event consistently VBlank d.channels hold.channels) hold.channels;
-      picture = either-picture (begins_vblank d.place) (after_reload d.picture) d.picture (picture-reload d.picture hold.picture) hold.picture;
-      interrupts = interrupts-request-if (begins_vblank d.place && bit (status_of d.picture) 3) 0
-          (with_request_if (is_matched (status_of d.picture) d.place && bit (status_of d.picture) 5) 2 d.interrupts) refl
-          (interrupts-request-if (is_matched (status_of d.picture) d.place && bit (status_of d.picture) 5) 2 d.interrupts refl
-          hold.interrupts);
-      timers = hold.timers; place = hold.place; sound = hold.sound; tones = hold.tones; master = hold.master;
-      ratio = hold.ratio; keys = hold.keys; waits = hold.waits;
-    }
+    channels = either-channels (begins_vblank d.place) (after_trigger VBlank d.channels) d.channels (channels-event consistently VBlank d.channels hold.channels) hold.channels;
+    picture = either-picture (begins_vblank d.place) (after_reload d.picture) d.picture (picture-reload d.picture hold.picture) hold.picture;
+    interrupts = interrupts-request-if (begins_vblank d.place && bit (status_of d.picture) 3) 0
+        (with_request_if (is_matched (status_of d.picture) d.place && bit (status_of d.picture) 5) 2 d.interrupts) refl
+        (interrupts-request-if (is_matched (status_of d.picture) d.place && bit (status_of d.picture) 5) 2 d.interrupts refl
+        hold.interrupts);
+    timers = hold.timers;
+    place = hold.place;
+    sound = hold.sound;
+    tones = hold.tones;
+    master = hold.master;
+    ratio = hold.ratio;
+    keys = hold.keys;
+    waits = hold.waits;
+  }
 
   place-holds : DevicesHold (at_place d)
   unfolding at_place

@@ -1,13 +1,11 @@
 -- What interrupts, keys and direct sound keep.
-use Rattle.std.proofs.Common.{◌≡◌, ◌≢◌, ℕ, zero, suc, ◌^◌, ◌<◌, ◌≤◌, ◌+◌, ◌-◌, ◌%◌, ◌==◌, Bool, true, false, not, ◌&&◌, ◌||◌, List, [], ◌∷◌, ◌++◌, length, drop, get_or, refl, ap, sym, ◌∙◌, arith, mod-eq_of_lt, if◌then◌else◌}
+use Rattle.std.proofs.Common.{◌≡◌, ◌≢◌, ℕ, zero, suc, ◌^◌, ◌<◌, ◌-◌, ◌==◌, Bool, true, false, ◌&&◌, List, [], ◌∷◌, ◌++◌, drop, refl, ap, sym, ◌∙◌, arith, mod-eq_of_lt, if◌then◌else◌}
 use Rattle.std.specs.Prelude.{bit_and, bit_or, slice_index_or}
-use Rattle.std.proofs.lemmas.Bool.{cases_lt}
 use Rattle.std.proofs.lemmas.Bool.Decides.{nat_tests}
 use Rattle.std.proofs.lemmas.List.{length-append, length-drop}
 use Rattle.std.proofs.lemmas.Nat.{and_assoc, and_comm, and_mask, or_lt}
-use Rattle.gba_terms.specs.Bits.{bit, field}
 use Rattle.gba_register.specs.Rows.{row_at}
-use Rattle.gba_irq.specs.Interrupts.{interrupt_rows, interrupt_shown, interrupt_stored, interrupt_written, with_request_if, with_requests, without_requests}
+use Rattle.gba_irq.specs.Interrupts.{interrupt_rows, interrupt_shown, interrupt_stored, interrupt_written, with_request_if, with_requests}
 use Rattle.gba_irq.specs.Keypad.{Keys, keypad_rows, with_control, with_pressed}
 use Rattle.gba_irq.specs.declared.interrupts.Interrupts.{Interrupts}
 use Rattle.gba_sound.specs.Queue.{SoundQueue, after_push, after_take, bytes_of, empty_queue, has_room}

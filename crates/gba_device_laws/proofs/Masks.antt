@@ -1,6 +1,6 @@
 -- Halfwords of which a write stores some bits.
-use Rattle.std.proofs.Common.{◌≡◌, ℕ, ◌^◌, ◌<◌, ◌-◌, ◌%◌, ◌==◌, ◌≢◌, ⊎_elim, Bool, true, false, refl, ap, subst, sym, ◌∙◌, arith, if◌then◌else◌}
-use Rattle.std.specs.Prelude.{List, bit_and, bit_or}
+use Rattle.std.proofs.Common.{◌≡◌, ℕ, ◌==◌, ◌≢◌, ⊎_elim, Bool, true, false, refl, ap, subst, sym, ◌∙◌, arith, if◌then◌else◌}
+use Rattle.std.specs.Prelude.{List, bit_and}
 use Rattle.std.proofs.lemmas.Bool.Decides.{nat_tests}
 use Rattle.std.proofs.lemmas.Nat.{and_assoc}
 use lib.Bits.{and_self, and_zero_l}

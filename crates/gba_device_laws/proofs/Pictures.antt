@@ -1,5 +1,5 @@
 -- What the picture's registers keep.
-use Rattle.std.proofs.Common.{◌≡◌, ◌≢◌, ℕ, ◌^◌, ◌<◌, ◌≤◌, ◌+◌, ◌-◌, ◌*◌, ◌/◌, ◌%◌, ◌==◌, Bool, true, false, ◌&&◌, List, length, get_or, set, replicate, refl, ap, subst, sym, ◌∙◌, arith, ⊎_elim, if◌then◌else◌}
+use Rattle.std.proofs.Common.{◌≡◌, ◌≢◌, ℕ, ◌^◌, ◌<◌, ◌≤◌, ◌+◌, ◌-◌, ◌*◌, ◌/◌, ◌%◌, Bool, true, false, List, length, get_or, set, replicate, refl, ap, subst, ◌∙◌, arith, ⊎_elim, if◌then◌else◌}
 use Rattle.std.specs.Prelude.{bit_and}
 use lib.Bits.{and_zero_l}
 use Rattle.std.proofs.lemmas.Bool.{cases_eq, cases_lt}
@@ -8,9 +8,8 @@ use Rattle.std.proofs.lemmas.List.{length-set, get_or-replicate, get_or-set_same
 use Rattle.gba_terms.specs.Bits.{bit}
 use Rattle.gba_register.specs.Rows.{row_at}
 use Rattle.gba_ppu_reg.specs.Registers.{Picture, after_line, after_reload, grown, halves_at_reset, is_half_of, is_listed, picture_at_reset, picture_kept, picture_rows, picture_written, point_after, stored_halves, written_point}
-use Rattle.gba_ppu_reg.specs.declared.reference.Reference.{Reference}
 use Rattle.gba_word.specs.Extension.{sign_extension}
-use Rattle.gba_device_laws.specs.Holding.{HasStoredBits, PictureHolds, ReferenceHolds}
+use Rattle.gba_device_laws.specs.Holding.{HasStoredBits, PictureHolds}
 use Rattle.gba_device_laws.proofs.Masks.{and-twice, nothing-stored}
 
 -- the halfwords alone
@@ -38,8 +37,8 @@ halves-write offset value halves is =
         (λ (same : at ≡ offset).
         let within : offset / 2 < length halves = rw is.long (grind (arith, nat_tests, listed)) in
         let value_there : get_or (set halves (offset / 2) (bit_and value (mask offset))) (at / 2) 0 ≡ bit_and value (mask offset) =
-            ap (λ k. get_or (set halves (offset / 2) (bit_and value (mask offset))) (k / 2) 0) same
-            ∙ get_or-set_same halves (offset / 2) (bit_and value (mask offset)) 0 within in
+        ap (λ k. get_or (set halves (offset / 2) (bit_and value (mask offset))) (k / 2) 0) same
+        ∙ get_or-set_same halves (offset / 2) (bit_and value (mask offset)) 0 within in
         rw value_there (rw same (and-twice value (mask offset))))
         (λ (other : at ≢ offset).
         let apart : at / 2 ≢ offset / 2 = λ same. other (grind (arith, nat_tests, listed, here, same)) in

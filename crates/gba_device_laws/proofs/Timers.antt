@@ -1,15 +1,14 @@
 -- What timers keep.
-use Rattle.std.proofs.Common.{◌≡◌, ℕ, ◌^◌, ◌<◌, ◌≤◌, ◌+◌, ◌-◌, ◌%◌, ◌==◌, Bool, true, false, not, ◌&&◌, ◌||◌, refl, ap, sym, ◌∙◌, arith, if◌then◌else◌}
-use Rattle.std.specs.Prelude.{List, bit_and}
+use Rattle.std.proofs.Common.{◌≡◌, ℕ, ◌<◌, ◌==◌, Bool, true, false, ◌||◌, refl, arith, if◌then◌else◌}
+use Rattle.std.specs.Prelude.{bit_and}
 use Rattle.std.proofs.lemmas.Bool.Decides.{nat_tests}
 use lib.Bits.{and_zero_r}
 use Rattle.std.proofs.lemmas.Nat.{and_mask}
-use Rattle.gba_terms.specs.Bits.{bit, field}
 use Rattle.gba_register.specs.Rows.{row_at}
-use Rattle.gba_timer.specs.Timer.{counts, next_count, next_phase, prescaler, starts, timer_after, with_control, with_reload}
+use Rattle.gba_timer.specs.Timer.{timer_after, with_control}
 use Rattle.gba_timer.specs.Timers.{FourTimers, cycle, overflow0, overflow1, overflow2, timer_kept, timer_rows, timer_stored, timer_written, timers_at_reset}
 use Rattle.gba_timer.specs.declared.timer.Timer.{Timer}
-use Rattle.gba_device_laws.specs.Holding.{HasStoredBits, TimerHolds, TimersHold}
+use Rattle.gba_device_laws.specs.Holding.{TimerHolds, TimersHold}
 use Rattle.gba_device_laws.proofs.Masks.{after_write, stored-write}
 
 -- a reload has 16 bits

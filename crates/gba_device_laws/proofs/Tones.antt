@@ -1,5 +1,5 @@
 -- What the tone channels keep.
-use Rattle.std.proofs.Common.{◌≡◌, ◌≢◌, ℕ, zero, suc, ◌^◌, ◌<◌, ◌≤◌, ◌+◌, ◌-◌, ◌*◌, ◌/◌, ◌%◌, ◌==◌, Bool, true, false, not, ◌&&◌, List, length, get_or, set, replicate, refl, ap, subst, sym, ◌∙◌, ⊎_elim, arith, mod-eq_of_lt, if◌then◌else◌}
+use Rattle.std.proofs.Common.{◌≡◌, ◌≢◌, ℕ, ◌^◌, ◌<◌, ◌≤◌, ◌+◌, ◌/◌, ◌%◌, ◌==◌, Bool, true, false, not, List, length, get_or, set, replicate, refl, ap, subst, sym, ◌∙◌, ⊎_elim, arith, mod-eq_of_lt, if◌then◌else◌}
 use Rattle.std.specs.Prelude.{bit_and}
 use lib.Bits.{and_zero_l}
 use Rattle.std.proofs.lemmas.Bool.{cases_eq, cases_lt}
@@ -9,11 +9,11 @@ use Rattle.std.proofs.lemmas.Nat.{and_mask, and_mod, and_shr}
 use Rattle.gba_terms.specs.Bits.{bit, field}
 use Rattle.gba_register.specs.Rows.{row_at}
 use Rattle.gba_psg.specs.Noise.{noise_controlled}
-use Rattle.gba_psg.specs.Registers.{channel_stored, cleared, is_wave_offset, mastered, tone_rows, tones_kept, tones_stored, tones_written, wave_place}
+use Rattle.gba_psg.specs.Registers.{channel_stored, is_wave_offset, mastered, tone_rows, tones_kept, tones_stored, tones_written, wave_place}
 use Rattle.gba_psg.specs.Tone.{lowered}
 use Rattle.gba_psg.specs.Soundness.{AreSound, StaysSound}
-use Rattle.gba_psg.specs.Square.{after_sweep, is_too_high, square_controlled, square_swept, sweep_time, swept, takes_swept, with_frequency, with_sweep_left}
-use Rattle.gba_psg.specs.Tones.{after_envelopes, after_lengths, after_sweeps, counted, cycle, moved, ticked, tones_at_reset, with_envelopes, with_lengths, with_sweeps}
+use Rattle.gba_psg.specs.Square.{after_sweep, square_controlled, square_swept, sweep_time, swept, takes_swept, with_frequency, with_sweep_left}
+use Rattle.gba_psg.specs.Tones.{after_envelopes, after_lengths, after_sweeps, counted, cycle, moved, ticked, tones_at_reset, with_lengths, with_sweeps}
 use Rattle.gba_psg.specs.Wave.{half_set, other_bank, wave_controlled, wave_half, with_wave_half}
 use Rattle.gba_psg.specs.declared.four.FourTones.{FourTones}
 use Rattle.gba_psg.specs.declared.square.Square.{Square}
@@ -29,10 +29,10 @@ frequency-bits frequency control small stored =
     let high_is : whole / 2 ^ 11 ≡ control / 2 ^ 11 = omega (arith, small) in
     let low_is : whole % 2 ^ 11 ≡ frequency = omega (arith, small) in
     let high : bit_and whole 0x47ff / 2 ^ 11 ≡ control / 2 ^ 11 =
-        and_shr whole 0x47ff 11 ∙ ap (λ n. bit_and n (0x47ff / 2 ^ 11)) high_is ∙ sym (and_shr control 0x47ff 11)
-        ∙ ap (λ n. n / 2 ^ 11) stored in
+    and_shr whole 0x47ff 11 ∙ ap (λ n. bit_and n (0x47ff / 2 ^ 11)) high_is ∙ sym (and_shr control 0x47ff 11)
+    ∙ ap (λ n. n / 2 ^ 11) stored in
     let low : bit_and whole 0x47ff % 2 ^ 11 ≡ frequency =
-        and_mod whole 0x47ff 11 ∙ ap (λ n. bit_and n (0x47ff % 2 ^ 11)) low_is ∙ and_mask frequency 11 ∙ mod-eq_of_lt small in
+    and_mod whole 0x47ff 11 ∙ ap (λ n. bit_and n (0x47ff % 2 ^ 11)) low_is ∙ and_mask frequency 11 ∙ mod-eq_of_lt small in
     omega (arith, high, low, small)
 
 -- the halfwords of the channels, as they are stored
@@ -97,7 +97,7 @@ unfolding tone_rows row_at
 registers-stored ts is at =
     let holds : ℕ → Type 0 = λ k. bit_and (registers_kept ts k) (row_at tone_rows k).write_mask ≡ registers_kept ts k in
     let wave : (place : ℕ) → bit_and (wave_half place ts.wave) 0xffff ≡ wave_half place ts.wave =
-        λ place. wave-half-stored place ts.wave is.bank0 is.bank1 in
+    λ place. wave-half-stored place ts.wave is.bank0 is.bank1 in
     at-place holds 0x060 at is.sweep (λ n0. at-place holds 0x062 at is.shape1 (λ n1. at-place holds 0x064 at is.control1
     (λ n2. at-place holds 0x068 at is.shape2 (λ n3. at-place holds 0x06c at is.control2 (λ n4. at-place holds 0x070 at is.select
     (λ n5. at-place holds 0x072 at is.level (λ n6. at-place holds 0x074 at is.control3 (λ n7. at-place holds 0x078 at is.shape4
@@ -124,7 +124,7 @@ bytes-set bytes place value all small at within =
     (λ (same : at ≡ place).
     let inside : place < length bytes = omega (arith, same, within, length-set bytes place value) in
     let there : get_or (set bytes place value) at 0 ≡ value =
-        ap (λ k. get_or (set bytes place value) k 0) same ∙ get_or-set_same bytes place value 0 inside in
+    ap (λ k. get_or (set bytes place value) k 0) same ∙ get_or-set_same bytes place value 0 inside in
     omega (arith, there, small))
     (λ (other : at ≢ place).
     let there = get_or-set_other bytes place at value 0 other in
@@ -167,136 +167,319 @@ module _ (ts : FourTones) (is : AreRegisters ts) where
   sweep-registers : (value : ℕ) → AreRegisters (record ts { sweep = bit_and value 0x007f })
   sweep-registers value = record {
     sweep = and-twice value 0x007f;
-    shape1 = is.shape1; control1 = is.control1; shape2 = is.shape2; control2 = is.control2; select = is.select; level = is.level;
-    control3 = is.control3; shape4 = is.shape4; control4 = is.control4; mixer = is.mixer; ratio = is.ratio;
-    bank0 = is.bank0; bank1 = is.bank1;
+    shape1 = is.shape1;
+    control1 = is.control1;
+    shape2 = is.shape2;
+    control2 = is.control2;
+    select = is.select;
+    level = is.level;
+    control3 = is.control3;
+    shape4 = is.shape4;
+    control4 = is.control4;
+    mixer = is.mixer;
+    ratio = is.ratio;
+    bank0 = is.bank0;
+    bank1 = is.bank1;
   }
 
   shape1-registers : (value : ℕ) → AreRegisters (record ts { square1 = record ts.square1 { shape = bit_and value 0xffff } })
   shape1-registers value = record {
     shape1 = and-twice value 0xffff;
-    sweep = is.sweep; control1 = is.control1; shape2 = is.shape2; control2 = is.control2; select = is.select; level = is.level;
-    control3 = is.control3; shape4 = is.shape4; control4 = is.control4; mixer = is.mixer; ratio = is.ratio;
-    bank0 = is.bank0; bank1 = is.bank1;
+    sweep = is.sweep;
+    control1 = is.control1;
+    shape2 = is.shape2;
+    control2 = is.control2;
+    select = is.select;
+    level = is.level;
+    control3 = is.control3;
+    shape4 = is.shape4;
+    control4 = is.control4;
+    mixer = is.mixer;
+    ratio = is.ratio;
+    bank0 = is.bank0;
+    bank1 = is.bank1;
   }
 
   control1-registers : (value : ℕ) (starts : Bool)
       → AreRegisters (record ts { square1 = square_controlled ts.sweep (bit_and value 0x47ff) starts ts.square1 })
   control1-registers value true = record {
     control1 = and-twice value 0x47ff;
-    sweep = is.sweep; shape1 = is.shape1; shape2 = is.shape2; control2 = is.control2; select = is.select; level = is.level;
-    control3 = is.control3; shape4 = is.shape4; control4 = is.control4; mixer = is.mixer; ratio = is.ratio;
-    bank0 = is.bank0; bank1 = is.bank1;
+    sweep = is.sweep;
+    shape1 = is.shape1;
+    shape2 = is.shape2;
+    control2 = is.control2;
+    select = is.select;
+    level = is.level;
+    control3 = is.control3;
+    shape4 = is.shape4;
+    control4 = is.control4;
+    mixer = is.mixer;
+    ratio = is.ratio;
+    bank0 = is.bank0;
+    bank1 = is.bank1;
   }
   control1-registers value false = record {
     control1 = and-twice value 0x47ff;
-    sweep = is.sweep; shape1 = is.shape1; shape2 = is.shape2; control2 = is.control2; select = is.select; level = is.level;
-    control3 = is.control3; shape4 = is.shape4; control4 = is.control4; mixer = is.mixer; ratio = is.ratio;
-    bank0 = is.bank0; bank1 = is.bank1;
+    sweep = is.sweep;
+    shape1 = is.shape1;
+    shape2 = is.shape2;
+    control2 = is.control2;
+    select = is.select;
+    level = is.level;
+    control3 = is.control3;
+    shape4 = is.shape4;
+    control4 = is.control4;
+    mixer = is.mixer;
+    ratio = is.ratio;
+    bank0 = is.bank0;
+    bank1 = is.bank1;
   }
 
   shape2-registers : (value : ℕ) → AreRegisters (record ts { square2 = record ts.square2 { shape = bit_and value 0xffff } })
   shape2-registers value = record {
     shape2 = and-twice value 0xffff;
-    sweep = is.sweep; shape1 = is.shape1; control1 = is.control1; control2 = is.control2; select = is.select; level = is.level;
-    control3 = is.control3; shape4 = is.shape4; control4 = is.control4; mixer = is.mixer; ratio = is.ratio;
-    bank0 = is.bank0; bank1 = is.bank1;
+    sweep = is.sweep;
+    shape1 = is.shape1;
+    control1 = is.control1;
+    control2 = is.control2;
+    select = is.select;
+    level = is.level;
+    control3 = is.control3;
+    shape4 = is.shape4;
+    control4 = is.control4;
+    mixer = is.mixer;
+    ratio = is.ratio;
+    bank0 = is.bank0;
+    bank1 = is.bank1;
   }
 
   control2-registers : (value : ℕ) (starts : Bool)
       → AreRegisters (record ts { square2 = square_controlled 0 (bit_and value 0x47ff) starts ts.square2 })
   control2-registers value true = record {
     control2 = and-twice value 0x47ff;
-    sweep = is.sweep; shape1 = is.shape1; control1 = is.control1; shape2 = is.shape2; select = is.select; level = is.level;
-    control3 = is.control3; shape4 = is.shape4; control4 = is.control4; mixer = is.mixer; ratio = is.ratio;
-    bank0 = is.bank0; bank1 = is.bank1;
+    sweep = is.sweep;
+    shape1 = is.shape1;
+    control1 = is.control1;
+    shape2 = is.shape2;
+    select = is.select;
+    level = is.level;
+    control3 = is.control3;
+    shape4 = is.shape4;
+    control4 = is.control4;
+    mixer = is.mixer;
+    ratio = is.ratio;
+    bank0 = is.bank0;
+    bank1 = is.bank1;
   }
   control2-registers value false = record {
     control2 = and-twice value 0x47ff;
-    sweep = is.sweep; shape1 = is.shape1; control1 = is.control1; shape2 = is.shape2; select = is.select; level = is.level;
-    control3 = is.control3; shape4 = is.shape4; control4 = is.control4; mixer = is.mixer; ratio = is.ratio;
-    bank0 = is.bank0; bank1 = is.bank1;
+    sweep = is.sweep;
+    shape1 = is.shape1;
+    control1 = is.control1;
+    shape2 = is.shape2;
+    select = is.select;
+    level = is.level;
+    control3 = is.control3;
+    shape4 = is.shape4;
+    control4 = is.control4;
+    mixer = is.mixer;
+    ratio = is.ratio;
+    bank0 = is.bank0;
+    bank1 = is.bank1;
   }
 
   select-registers : (value : ℕ) → AreRegisters (record ts { wave = record ts.wave { select = bit_and value 0x00e0 } })
   select-registers value = record {
     select = and-twice value 0x00e0;
-    sweep = is.sweep; shape1 = is.shape1; control1 = is.control1; shape2 = is.shape2; control2 = is.control2; level = is.level;
-    control3 = is.control3; shape4 = is.shape4; control4 = is.control4; mixer = is.mixer; ratio = is.ratio;
-    bank0 = is.bank0; bank1 = is.bank1;
+    sweep = is.sweep;
+    shape1 = is.shape1;
+    control1 = is.control1;
+    shape2 = is.shape2;
+    control2 = is.control2;
+    level = is.level;
+    control3 = is.control3;
+    shape4 = is.shape4;
+    control4 = is.control4;
+    mixer = is.mixer;
+    ratio = is.ratio;
+    bank0 = is.bank0;
+    bank1 = is.bank1;
   }
 
   level-registers : (value : ℕ) → AreRegisters (record ts { wave = record ts.wave { level = bit_and value 0xe0ff } })
   level-registers value = record {
     level = and-twice value 0xe0ff;
-    sweep = is.sweep; shape1 = is.shape1; control1 = is.control1; shape2 = is.shape2; control2 = is.control2; select = is.select;
-    control3 = is.control3; shape4 = is.shape4; control4 = is.control4; mixer = is.mixer; ratio = is.ratio;
-    bank0 = is.bank0; bank1 = is.bank1;
+    sweep = is.sweep;
+    shape1 = is.shape1;
+    control1 = is.control1;
+    shape2 = is.shape2;
+    control2 = is.control2;
+    select = is.select;
+    control3 = is.control3;
+    shape4 = is.shape4;
+    control4 = is.control4;
+    mixer = is.mixer;
+    ratio = is.ratio;
+    bank0 = is.bank0;
+    bank1 = is.bank1;
   }
 
   control3-registers : (value : ℕ) (starts : Bool)
       → AreRegisters (record ts { wave = wave_controlled (bit_and value 0x47ff) starts ts.wave })
   control3-registers value true = record {
     control3 = and-twice value 0x47ff;
-    sweep = is.sweep; shape1 = is.shape1; control1 = is.control1; shape2 = is.shape2; control2 = is.control2; select = is.select;
-    level = is.level; shape4 = is.shape4; control4 = is.control4; mixer = is.mixer; ratio = is.ratio;
-    bank0 = is.bank0; bank1 = is.bank1;
+    sweep = is.sweep;
+    shape1 = is.shape1;
+    control1 = is.control1;
+    shape2 = is.shape2;
+    control2 = is.control2;
+    select = is.select;
+    level = is.level;
+    shape4 = is.shape4;
+    control4 = is.control4;
+    mixer = is.mixer;
+    ratio = is.ratio;
+    bank0 = is.bank0;
+    bank1 = is.bank1;
   }
   control3-registers value false = record {
     control3 = and-twice value 0x47ff;
-    sweep = is.sweep; shape1 = is.shape1; control1 = is.control1; shape2 = is.shape2; control2 = is.control2; select = is.select;
-    level = is.level; shape4 = is.shape4; control4 = is.control4; mixer = is.mixer; ratio = is.ratio;
-    bank0 = is.bank0; bank1 = is.bank1;
+    sweep = is.sweep;
+    shape1 = is.shape1;
+    control1 = is.control1;
+    shape2 = is.shape2;
+    control2 = is.control2;
+    select = is.select;
+    level = is.level;
+    shape4 = is.shape4;
+    control4 = is.control4;
+    mixer = is.mixer;
+    ratio = is.ratio;
+    bank0 = is.bank0;
+    bank1 = is.bank1;
   }
 
   shape4-registers : (value : ℕ) → AreRegisters (record ts { noise = record ts.noise { shape = bit_and value 0xff3f } })
   shape4-registers value = record {
     shape4 = and-twice value 0xff3f;
-    sweep = is.sweep; shape1 = is.shape1; control1 = is.control1; shape2 = is.shape2; control2 = is.control2; select = is.select;
-    level = is.level; control3 = is.control3; control4 = is.control4; mixer = is.mixer; ratio = is.ratio;
-    bank0 = is.bank0; bank1 = is.bank1;
+    sweep = is.sweep;
+    shape1 = is.shape1;
+    control1 = is.control1;
+    shape2 = is.shape2;
+    control2 = is.control2;
+    select = is.select;
+    level = is.level;
+    control3 = is.control3;
+    control4 = is.control4;
+    mixer = is.mixer;
+    ratio = is.ratio;
+    bank0 = is.bank0;
+    bank1 = is.bank1;
   }
 
   control4-registers : (value : ℕ) (starts : Bool)
       → AreRegisters (record ts { noise = noise_controlled (bit_and value 0x40ff) starts ts.noise })
   control4-registers value true = record {
     control4 = and-twice value 0x40ff;
-    sweep = is.sweep; shape1 = is.shape1; control1 = is.control1; shape2 = is.shape2; control2 = is.control2; select = is.select;
-    level = is.level; control3 = is.control3; shape4 = is.shape4; mixer = is.mixer; ratio = is.ratio;
-    bank0 = is.bank0; bank1 = is.bank1;
+    sweep = is.sweep;
+    shape1 = is.shape1;
+    control1 = is.control1;
+    shape2 = is.shape2;
+    control2 = is.control2;
+    select = is.select;
+    level = is.level;
+    control3 = is.control3;
+    shape4 = is.shape4;
+    mixer = is.mixer;
+    ratio = is.ratio;
+    bank0 = is.bank0;
+    bank1 = is.bank1;
   }
   control4-registers value false = record {
     control4 = and-twice value 0x40ff;
-    sweep = is.sweep; shape1 = is.shape1; control1 = is.control1; shape2 = is.shape2; control2 = is.control2; select = is.select;
-    level = is.level; control3 = is.control3; shape4 = is.shape4; mixer = is.mixer; ratio = is.ratio;
-    bank0 = is.bank0; bank1 = is.bank1;
+    sweep = is.sweep;
+    shape1 = is.shape1;
+    control1 = is.control1;
+    shape2 = is.shape2;
+    control2 = is.control2;
+    select = is.select;
+    level = is.level;
+    control3 = is.control3;
+    shape4 = is.shape4;
+    mixer = is.mixer;
+    ratio = is.ratio;
+    bank0 = is.bank0;
+    bank1 = is.bank1;
   }
 
   mixer-registers : (value : ℕ) → AreRegisters (record ts { mixer = bit_and value 0xff77 })
   mixer-registers value = record {
     mixer = and-twice value 0xff77;
-    sweep = is.sweep; shape1 = is.shape1; control1 = is.control1; shape2 = is.shape2; control2 = is.control2; select = is.select;
-    level = is.level; control3 = is.control3; shape4 = is.shape4; control4 = is.control4; ratio = is.ratio;
-    bank0 = is.bank0; bank1 = is.bank1;
+    sweep = is.sweep;
+    shape1 = is.shape1;
+    control1 = is.control1;
+    shape2 = is.shape2;
+    control2 = is.control2;
+    select = is.select;
+    level = is.level;
+    control3 = is.control3;
+    shape4 = is.shape4;
+    control4 = is.control4;
+    ratio = is.ratio;
+    bank0 = is.bank0;
+    bank1 = is.bank1;
   }
 
   ratio-registers : (value : ℕ) → AreRegisters (record ts { ratio = bit_and value 0x0003 })
   ratio-registers value = record {
     ratio = and-twice value 0x0003;
-    sweep = is.sweep; shape1 = is.shape1; control1 = is.control1; shape2 = is.shape2; control2 = is.control2; select = is.select;
-    level = is.level; control3 = is.control3; shape4 = is.shape4; control4 = is.control4; mixer = is.mixer;
-    bank0 = is.bank0; bank1 = is.bank1;
+    sweep = is.sweep;
+    shape1 = is.shape1;
+    control1 = is.control1;
+    shape2 = is.shape2;
+    control2 = is.control2;
+    select = is.select;
+    level = is.level;
+    control3 = is.control3;
+    shape4 = is.shape4;
+    control4 = is.control4;
+    mixer = is.mixer;
+    bank0 = is.bank0;
+    bank1 = is.bank1;
   }
 
   mastered-registers : (on : Bool) → AreRegisters (mastered on ts)
   mastered-registers true = record {
-    sweep = is.sweep; shape1 = is.shape1; control1 = is.control1; shape2 = is.shape2; control2 = is.control2; select = is.select;
-    level = is.level; control3 = is.control3; shape4 = is.shape4; control4 = is.control4; mixer = is.mixer; ratio = is.ratio;
-    bank0 = is.bank0; bank1 = is.bank1;
+    sweep = is.sweep;
+    shape1 = is.shape1;
+    control1 = is.control1;
+    shape2 = is.shape2;
+    control2 = is.control2;
+    select = is.select;
+    level = is.level;
+    control3 = is.control3;
+    shape4 = is.shape4;
+    control4 = is.control4;
+    mixer = is.mixer;
+    ratio = is.ratio;
+    bank0 = is.bank0;
+    bank1 = is.bank1;
   }
   mastered-registers false = record {
-    sweep = refl; shape1 = refl; control1 = refl; shape2 = refl; control2 = refl; select = refl; level = refl; control3 = refl;
-    shape4 = refl; control4 = refl; mixer = refl; ratio = is.ratio; bank0 = is.bank0; bank1 = is.bank1;
+    sweep = refl;
+    shape1 = refl;
+    control1 = refl;
+    shape2 = refl;
+    control2 = refl;
+    select = refl;
+    level = refl;
+    control3 = refl;
+    shape4 = refl;
+    control4 = refl;
+    mixer = refl;
+    ratio = is.ratio;
+    bank0 = is.bank0;
+    bank1 = is.bank1;
   }
 
   registers-write : (offset value : ℕ) → AreRegisters (tones_written offset value ts)
@@ -304,7 +487,7 @@ module _ (ts : FourTones) (is : AreRegisters ts) where
   registers-write offset value =
       let after : ℕ → Type 0 = λ k. AreRegisters (tones_written k value ts) in
       let on : (one : FourTones) → AreRegisters one → AreRegisters (if ts.is_on then one else ts) =
-          λ one first. either-registers ts.is_on one ts first is in
+      λ one first. either-registers ts.is_on one ts first is in
       let starts = bit value 15 in
       at-place after 0x060 offset (on _ (sweep-registers value))
       (λ n0. at-place after 0x062 offset (on _ (shape1-registers value))
@@ -355,9 +538,9 @@ after-sweep-control sweep c is = by_time (sweep_time sweep == 0) (lowered c.tone
 
     by_time : (none last : Bool)
         → bit_and (if none then c else if last then square_swept sweep (with_sweep_left (sweep_time sweep) c)
-          else with_sweep_left (lowered c.tone.sweep) c).control 0x47ff
+        else with_sweep_left (lowered c.tone.sweep) c).control 0x47ff
         ≡ (if none then c else if last then square_swept sweep (with_sweep_left (sweep_time sweep) c)
-          else with_sweep_left (lowered c.tone.sweep) c).control
+        else with_sweep_left (lowered c.tone.sweep) c).control
     by_time true last = is
     by_time false true = swept-control (with_sweep_left (sweep_time sweep) c) is
     by_time false false = is
@@ -367,7 +550,7 @@ after-sweep-shape sweep c = by_time (sweep_time sweep == 0) (lowered c.tone.swee
   where
     by_time : (none last : Bool)
         → (if none then c else if last then square_swept sweep (with_sweep_left (sweep_time sweep) c)
-          else with_sweep_left (lowered c.tone.sweep) c).shape ≡ c.shape
+        else with_sweep_left (lowered c.tone.sweep) c).shape ≡ c.shape
     by_time true last = refl
     by_time false true = refl
     by_time false false = refl
@@ -376,36 +559,90 @@ sweeps-registers : (ts : FourTones) → AreRegisters ts → AreRegisters (after_
 sweeps-registers ts is = record {
   shape1 = rw (after-sweep-shape ts.sweep ts.square1) is.shape1;
   control1 = after-sweep-control ts.sweep ts.square1 is.control1;
-  sweep = is.sweep; shape2 = is.shape2; control2 = is.control2; select = is.select; level = is.level; control3 = is.control3;
-  shape4 = is.shape4; control4 = is.control4; mixer = is.mixer; ratio = is.ratio; bank0 = is.bank0; bank1 = is.bank1;
+  sweep = is.sweep;
+  shape2 = is.shape2;
+  control2 = is.control2;
+  select = is.select;
+  level = is.level;
+  control3 = is.control3;
+  shape4 = is.shape4;
+  control4 = is.control4;
+  mixer = is.mixer;
+  ratio = is.ratio;
+  bank0 = is.bank0;
+  bank1 = is.bank1;
 }
 
 lengths-registers : (ts : FourTones) → AreRegisters ts → AreRegisters (after_lengths ts)
 lengths-registers ts is = record {
-  sweep = is.sweep; shape1 = is.shape1; control1 = is.control1; shape2 = is.shape2; control2 = is.control2; select = is.select;
-  level = is.level; control3 = is.control3; shape4 = is.shape4; control4 = is.control4; mixer = is.mixer; ratio = is.ratio;
-  bank0 = is.bank0; bank1 = is.bank1;
+  sweep = is.sweep;
+  shape1 = is.shape1;
+  control1 = is.control1;
+  shape2 = is.shape2;
+  control2 = is.control2;
+  select = is.select;
+  level = is.level;
+  control3 = is.control3;
+  shape4 = is.shape4;
+  control4 = is.control4;
+  mixer = is.mixer;
+  ratio = is.ratio;
+  bank0 = is.bank0;
+  bank1 = is.bank1;
 }
 
 envelopes-registers : (ts : FourTones) → AreRegisters ts → AreRegisters (after_envelopes ts)
 envelopes-registers ts is = record {
-  sweep = is.sweep; shape1 = is.shape1; control1 = is.control1; shape2 = is.shape2; control2 = is.control2; select = is.select;
-  level = is.level; control3 = is.control3; shape4 = is.shape4; control4 = is.control4; mixer = is.mixer; ratio = is.ratio;
-  bank0 = is.bank0; bank1 = is.bank1;
+  sweep = is.sweep;
+  shape1 = is.shape1;
+  control1 = is.control1;
+  shape2 = is.shape2;
+  control2 = is.control2;
+  select = is.select;
+  level = is.level;
+  control3 = is.control3;
+  shape4 = is.shape4;
+  control4 = is.control4;
+  mixer = is.mixer;
+  ratio = is.ratio;
+  bank0 = is.bank0;
+  bank1 = is.bank1;
 }
 
 moved-registers : (ts : FourTones) → AreRegisters ts → AreRegisters (moved ts)
 moved-registers ts is = record {
-  sweep = is.sweep; shape1 = is.shape1; control1 = is.control1; shape2 = is.shape2; control2 = is.control2; select = is.select;
-  level = is.level; control3 = is.control3; shape4 = is.shape4; control4 = is.control4; mixer = is.mixer; ratio = is.ratio;
-  bank0 = is.bank0; bank1 = is.bank1;
+  sweep = is.sweep;
+  shape1 = is.shape1;
+  control1 = is.control1;
+  shape2 = is.shape2;
+  control2 = is.control2;
+  select = is.select;
+  level = is.level;
+  control3 = is.control3;
+  shape4 = is.shape4;
+  control4 = is.control4;
+  mixer = is.mixer;
+  ratio = is.ratio;
+  bank0 = is.bank0;
+  bank1 = is.bank1;
 }
 
 counted-registers : (ts : FourTones) → AreRegisters ts → AreRegisters (counted ts)
 counted-registers ts is = record {
-  sweep = is.sweep; shape1 = is.shape1; control1 = is.control1; shape2 = is.shape2; control2 = is.control2; select = is.select;
-  level = is.level; control3 = is.control3; shape4 = is.shape4; control4 = is.control4; mixer = is.mixer; ratio = is.ratio;
-  bank0 = is.bank0; bank1 = is.bank1;
+  sweep = is.sweep;
+  shape1 = is.shape1;
+  control1 = is.control1;
+  shape2 = is.shape2;
+  control2 = is.control2;
+  select = is.select;
+  level = is.level;
+  control3 = is.control3;
+  shape4 = is.shape4;
+  control4 = is.control4;
+  mixer = is.mixer;
+  ratio = is.ratio;
+  bank0 = is.bank0;
+  bank1 = is.bank1;
 }
 
 ticked-registers : (ts : FourTones) → AreRegisters ts → AreRegisters (ticked ts)
@@ -441,8 +678,20 @@ module _ (soundly : StaysSound) where
   pub tones-reset : TonesHold tones_at_reset
   tones-reset =
       tones-of tones_at_reset soundly.reset (record {
-        sweep = refl; shape1 = refl; control1 = refl; shape2 = refl; control2 = refl; select = refl; level = refl; control3 = refl;
-        shape4 = refl; control4 = refl; mixer = refl; ratio = refl; bank0 = zeros; bank1 = zeros;
+        sweep = refl;
+        shape1 = refl;
+        control1 = refl;
+        shape2 = refl;
+        control2 = refl;
+        select = refl;
+        level = refl;
+        control3 = refl;
+        shape4 = refl;
+        control4 = refl;
+        mixer = refl;
+        ratio = refl;
+        bank0 = zeros;
+        bank1 = zeros;
       })
     where
       zeros : AreBytes (replicate 16 0)

@@ -1,5 +1,5 @@
 -- The rules to which the numbers of a serial unit keep in each run.
-use Rattle.std.specs.Prelude.{◌≡◌, ℕ, ◌+◌, ◌^◌, ◌<◌, ◌≤◌, true, false, IfSome, List, length}
+use Rattle.std.specs.Prelude.{◌≡◌, ℕ, ◌+◌, ◌^◌, ◌<◌, ◌≤◌, true, false, IfSome, length}
 use Rattle.gba_device_laws.specs.Holding.{HasStoredBits}
 use Rattle.gba_serial.specs.End.{ended}
 use Rattle.gba_serial.specs.Making.{IsSeat, seat_of}

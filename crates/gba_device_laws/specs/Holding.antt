@@ -103,4 +103,3 @@ pub record DevicesHold (d : Devices) : Type 0 where
   pub interrupts : HasStoredBits interrupt_rows (λ offset. interrupt_shown offset d.interrupts)
   pub keys : KeysHold d.keys
   pub waits : bit_and d.waits (row_at system_rows 0x204).write_mask ≡ d.waits
-

@@ -1,49 +1,41 @@
 -- What a step keeps of a core.
-use Rattle.std.proofs.Common.{ℕ, ◌≡◌, ◌≢◌, ◌<◌, ◌≤◌, ◌+◌, zero, suc, Bool, true, false, List, [], ◌∷◌, refl, ap, sym, ◌∙◌, arith, if◌then◌else◌}
-use Rattle.std.specs.Prelude.{All, IfSome, Option, None, Some, option_map, nat_le}
+use Rattle.std.proofs.Common.{ℕ, ◌<◌, ◌≤◌, zero, suc, Bool, true, false, List, [], ◌∷◌, if◌then◌else◌}
+use Rattle.std.specs.Prelude.{All, Option, None, Some, nat_le}
 use Rattle.std.proofs.lemmas.List.Elements.{All-head, All-tail}
 use Rattle.gba_bus.specs.Regions.{is_io, region_of}
 use Rattle.gba_bus.specs.declared.width.Width.{Width}
-use Rattle.gba_bus.specs.declared.width.Width.TheVariants.{Byte, Half, Word}
 use Rattle.gba_terms.specs.Bits.{field}
-use Rattle.gba_exec_transfers.specs.Done.{Done}
-use Rattle.gba_exec_transfers.specs.Keeping.{LoadsKeep, StoresKeep}
-use Rattle.gba_exec_transfers.proofs.Keeping.{kept-word}
-use Rattle.gba_arm_exec.proofs.Keeping.{kept-execution as kept-word_execution}
-use Rattle.gba_thumb_exec.proofs.Keeping.{kept-execution as kept-half_execution}
 use Rattle.gba_device_laws.specs.Cable.{SerialHolds, SerialStays, last_clock}
 use Rattle.gba_device_laws.specs.Holding.{DevicesHold}
 use Rattle.gba_device_laws.specs.Staying.{DevicesStay}
-use Rattle.gba_devices.specs.Cycles.{after_cycles, device_cycle}
+use Rattle.gba_devices.specs.Cycles.{after_cycles}
 use Rattle.gba_devices.specs.Keeping.{WritesKeep}
 use Rattle.gba_devices.specs.Registers.{half_kept, half_written, io_written, keyed, queue_of, written_in}
 use Rattle.gba_devices.specs.State.{Devices, after_dma_unit}
-use Rattle.gba_dma.specs.Channel.{unit_of}
-use Rattle.gba_dma.specs.Channels.{FourChannels, channel_at, next_unit}
-use Rattle.gba_dma.specs.declared.unit.Unit.{Unit as DmaUnit}
-use Rattle.gba_io.specs.Board.{BoardPasses, board_after}
-use Rattle.gba_io.specs.Bus.{core_load, core_price, core_store, core_written, io_offset, register_written}
+use Rattle.gba_io.specs.Bus.{core_written, io_offset, register_written}
 use Rattle.gba_io.specs.Cable.{asks_interrupt, board_ended, board_taken, core_ended, core_heard}
 use Rattle.gba_io.specs.Core.{Core, core_begun, core_keyed, core_learned, core_woken}
 use Rattle.gba_io.specs.SerialRegisters.{is_serial, serial_put, serial_written_at}
-use Rattle.gba_io.specs.Units.{core_after_unit, unit_written, unit_value}
+use Rattle.gba_io.specs.Units.{unit_ended}
 use Rattle.gba_io.specs.declared.board.Board.{Board}
 use Rattle.gba_mem.specs.BackupLaw.{BackupsStaySound, IsSoundBackup}
-use Rattle.gba_mem.specs.Memories.{Memories}
-use Rattle.gba_mem.specs.Stores.{store}
 use Rattle.gba_ppu_reg.specs.Registers.{picture_mode}
 use Rattle.gba_register.proofs.Accesses.{written-keeps}
-use Rattle.gba_register.specs.Accesses.{merged, put_by}
-use Rattle.gba_serial.specs.End.{ended, ending}
+use Rattle.gba_register.specs.Accesses.{merged}
+use Rattle.gba_serial.specs.End.{ending}
 use Rattle.gba_serial.specs.Registers.{serial_kept}
 use Rattle.gba_serial.specs.SerialUnit.{SerialUnit}
-use Rattle.gba_serial.specs.Take.{learned, taken}
 use Rattle.link_node.specs.declared.signal.Incoming.{Incoming}
 use Rattle.gba_console.specs.Keys.{after_keys}
 use Rattle.gba_console.specs.declared.keys.KeyState.{KeyState}
-use Rattle.gba_console.specs.Step.{acted, acted_for, all_learned, all_taken, awake_done, enters, entry_done, half_done, idle_done, idles, in_thumb, instruction_done, word_done}
-use Rattle.gba_run_laws.specs.Holding.{AreNear, HaveLengths}
+use Rattle.gba_console.specs.Step.{acted, all_learned, all_taken}
+use Rattle.gba_run_laws.specs.Holding.{HaveLengths}
+use Rattle.gba_run_laws.proofs.Acting.{acted-keeps}
 use Rattle.gba_run_laws.proofs.Memories.{store-keeps}
+
+-- signals of steps at clocks of a run
+abbrev pub AreNear : List Incoming → Type 0
+AreNear dues = All (λ due. due.signal.clock ≤ last_clock) dues
 
 -- a core at a clock of a run
 pub record CoreHolds (b : Core) : Type 0 where
@@ -56,22 +48,6 @@ pub record CoreHolds (b : Core) : Type 0 where
 either-core : (test : Bool) (one other : Core) → CoreHolds one → CoreHolds other → CoreHolds (if test then one else other)
 either-core true one other here there = here
 either-core false one other here there = there
-
--- the unit that is done next is of one of the four channels
-next-few : (cs : FourChannels) → IfSome (next_unit cs) (λ unit. unit.channel < 4)
-next-few cs = by_active cs.channel0.active cs.channel1.active cs.channel2.active cs.channel3.active
-  where
-    number : (zero_active one two three : Bool) → Option ℕ
-    number zero_active one two three =
-        if zero_active then Some 0 else if one then Some 1 else if two then Some 2 else if three then Some 3 else None
-
-    by_active : (zero_active one two three : Bool)
-        → IfSome (option_map (λ k. unit_of k (channel_at k cs)) (number zero_active one two three)) (λ unit. unit.channel < 4)
-    by_active true one two three = omega arith
-    by_active false true two three = omega arith
-    by_active false false true three = omega arith
-    by_active false false false true = omega arith
-    by_active false false false false = _
 
 module _ (backups : BackupsStaySound) (devices : DevicesStay) (serial : SerialStays) (writes : WritesKeep) where
   -- a write of a register of the devices
@@ -102,12 +78,17 @@ module _ (backups : BackupsStaySound) (devices : DevicesStay) (serial : SerialSt
   register-holds offset width value b holds =
       either-core (is_serial offset) _ _
       (record {
-        near = holds.near; lengths = holds.lengths; backup = holds.backup; devices = holds.devices;
+        near = holds.near;
+        lengths = holds.lengths;
+        backup = holds.backup;
+        devices = holds.devices;
         serial = cable-holds b.devices.clock holds.near offset width value b.serial holds.serial;
       })
       (record {
         near = rw (writes.clock offset width value b.devices) holds.near;
-        lengths = holds.lengths; backup = holds.backup; serial = holds.serial;
+        lengths = holds.lengths;
+        backup = holds.backup;
+        serial = holds.serial;
         devices = io-holds offset width value b.devices holds.devices;
       })
 
@@ -116,67 +97,34 @@ module _ (backups : BackupsStaySound) (devices : DevicesStay) (serial : SerialSt
   written-holds b address width value holds =
       either-core (is_io (region_of address)) _ _ (register-holds (io_offset address) width value b holds)
       (record {
-        near = holds.near; devices = holds.devices; serial = holds.serial;
+        near = holds.near;
+        devices = holds.devices;
+        serial = holds.serial;
         lengths = store-keeps (picture_mode b.devices.picture) b.memory address width value holds.lengths;
         backup = (backups (picture_mode b.devices.picture) b.memory address width value holds.backup).sound;
       })
 
-  stores : StoresKeep core_store CoreHolds
-  stores b address width value sequential holds = written-holds b address width value holds
-
-  loads : LoadsKeep core_load CoreHolds
-  loads b from address width sequential holds = holds
-
-  after-word : (file : List ℕ) (b : Core) → CoreHolds b → CoreHolds (word_done file b).bus
-  after-word file b holds =
-      kept-word_execution core_price core_load core_store CoreHolds
-      (kept-word core_price core_load core_store CoreHolds loads stores) _ file b holds
-
-  after-half : (file : List ℕ) (b : Core) → CoreHolds b → CoreHolds (half_done file b).bus
-  after-half file b holds =
-      kept-half_execution core_price core_load core_store CoreHolds loads
-      (kept-word core_price core_load core_store CoreHolds loads stores) _ file b holds
-
-  either-done : (test : Bool) (one other : Done Core) → CoreHolds one.bus → CoreHolds other.bus
-      → CoreHolds (if test then one else other).bus
-  either-done true one other here there = here
-  either-done false one other here there = there
-
-  after-instruction : (file : List ℕ) (b : Core) → CoreHolds b → CoreHolds (instruction_done file b).bus
-  unfolding instruction_done
-  after-instruction file b holds =
-      either-done (in_thumb file) (half_done file b) (word_done file b) (after-half file b holds) (after-word file b holds)
-
   woken-holds : (b : Core) → CoreHolds b → CoreHolds (core_woken b)
   woken-holds b holds = record {
-    near = holds.near; lengths = holds.lengths; backup = holds.backup; serial = holds.serial;
+    near = holds.near;
+    lengths = holds.lengths;
+    backup = holds.backup;
+    serial = holds.serial;
     devices = devices.wakes b.devices holds.devices;
   }
 
-  after-waking : (file : List ℕ) (b : Core) → CoreHolds b → CoreHolds (awake_done file b).bus
-  after-waking file b holds =
-      either-done (enters file b) (entry_done file b) (instruction_done file b) holds (after-instruction file b holds)
-
-  after-unit : (unit : DmaUnit) (b : Core) → unit.channel < 4 → CoreHolds b → CoreHolds (core_after_unit unit b)
-  unfolding core_after_unit after_dma_unit
-  after-unit unit b few holds =
-      let moved = written-holds b unit.target unit.width (unit_value unit b) holds in
-      record {
-        near = moved.near; lengths = moved.lengths; backup = moved.backup; serial = moved.serial;
-        devices = devices.unit unit.channel (unit_written unit b).devices few moved.devices;
-      }
-
-  after-acting : (unit : Option DmaUnit) (file : List ℕ) (b : Core) → IfSome unit (λ one. one.channel < 4) → CoreHolds b
-      → CoreHolds (acted_for unit file b).bus
-  after-acting (Some unit) file b few holds = after-unit unit b few holds
-  after-acting None file b few holds =
-      either-done (idles b) (idle_done file b) (awake_done file (core_woken b)) holds
-      (after-waking file (core_woken b) (woken-holds b holds))
+  unit-holds : (channel : ℕ) (b : Core) → channel < 4 → CoreHolds b → CoreHolds (unit_ended channel b)
+  unfolding after_dma_unit
+  unit-holds channel b few holds = record {
+    near = holds.near;
+    lengths = holds.lengths;
+    backup = holds.backup;
+    serial = holds.serial;
+    devices = devices.unit channel b.devices few holds.devices;
+  }
 
   pub after-acted : (file : List ℕ) (b : Core) → CoreHolds b → CoreHolds (acted file b).bus
-  unfolding acted
-  after-acted file b holds =
-      after-acting (next_unit b.devices.channels) file b (next-few b.devices.channels) holds
+  after-acted = acted-keeps CoreHolds written-holds woken-holds unit-holds
 
   -- keys
   pub after-keys : (clock : ℕ) (changes : List KeyState) (b : Core) → CoreHolds b → CoreHolds (after_keys clock changes b)
@@ -185,7 +133,10 @@ module _ (backups : BackupsStaySound) (devices : DevicesStay) (serial : SerialSt
   after-keys clock (change ∷ changes) b holds =
       either-core (nat_le change.clock clock) (after_keys clock changes (core_keyed change.keys b)) b
       (after-keys clock changes (core_keyed change.keys b) (record {
-        near = keyed-clock; lengths = holds.lengths; backup = holds.backup; serial = holds.serial;
+        near = keyed-clock;
+        lengths = holds.lengths;
+        backup = holds.backup;
+        serial = holds.serial;
         devices = devices.keys change.keys b.devices holds.devices;
       })) holds
     where
@@ -195,21 +146,28 @@ module _ (backups : BackupsStaySound) (devices : DevicesStay) (serial : SerialSt
   -- signals
   pub begun-holds : (b : Core) → CoreHolds b → CoreHolds (core_begun b)
   begun-holds b holds = record {
-    near = holds.near; lengths = holds.lengths; backup = holds.backup;
+    near = holds.near;
+    lengths = holds.lengths;
+    backup = holds.backup;
     devices = devices.begins b.devices holds.devices;
     serial = serial.told b.serial holds.serial;
   }
 
   ended-holds : (clock : ℕ) (b : Core) → CoreHolds b → CoreHolds (core_ended clock b)
   ended-holds clock b holds = record {
-    near = holds.near; lengths = holds.lengths; backup = holds.backup;
+    near = holds.near;
+    lengths = holds.lengths;
+    backup = holds.backup;
     devices = devices.transfer (asks_interrupt (ending clock b.serial)) b.devices holds.devices;
     serial = serial.ended clock b.serial holds.serial;
   }
 
   heard-holds : (due : Incoming) (b : Core) → due.signal.clock ≤ last_clock → CoreHolds b → CoreHolds (core_heard due b)
   heard-holds due b near holds = record {
-    near = holds.near; lengths = holds.lengths; backup = holds.backup; devices = holds.devices;
+    near = holds.near;
+    lengths = holds.lengths;
+    backup = holds.backup;
+    devices = holds.devices;
     serial = serial.taken due b.serial near holds.serial;
   }
 
@@ -221,7 +179,10 @@ module _ (backups : BackupsStaySound) (devices : DevicesStay) (serial : SerialSt
 
   learned-holds : (due : Incoming) (b : Core) → CoreHolds b → CoreHolds (core_learned due b)
   learned-holds due b holds = record {
-    near = holds.near; lengths = holds.lengths; backup = holds.backup; devices = holds.devices;
+    near = holds.near;
+    lengths = holds.lengths;
+    backup = holds.backup;
+    devices = holds.devices;
     serial = serial.learned due b.serial holds.serial;
   }
 

@@ -1,5 +1,5 @@
 -- What writes keep of the lengths of the memories.
-use Rattle.std.proofs.Common.{ℕ, ◌≡◌, ◌+◌, Bool, true, false, List, length, set, ◌∙◌, if◌then◌else◌}
+use Rattle.std.proofs.Common.{ℕ, ◌+◌, Bool, true, false, ◌∙◌, if◌then◌else◌}
 use Rattle.std.specs.Prelude.{nat_lt}
 use Rattle.std.proofs.lemmas.List.{length-set}
 use Rattle.gba_terms.specs.Bits.{field}
@@ -22,30 +22,49 @@ byte-keeps-in : (region : Region) (m : Memories) (address byte : ℕ) → HaveLe
 byte-keeps-in Bios m address byte have = have
 byte-keeps-in Work m address byte have = record {
   work = length-set m.work (work_place address) byte ∙ have.work;
-  inner = have.inner; palette = have.palette; vram = have.vram; oam = have.oam;
+  inner = have.inner;
+  palette = have.palette;
+  vram = have.vram;
+  oam = have.oam;
 }
 byte-keeps-in Inner m address byte have = record {
   inner = length-set m.inner (inner_place address) byte ∙ have.inner;
-  work = have.work; palette = have.palette; vram = have.vram; oam = have.oam;
+  work = have.work;
+  palette = have.palette;
+  vram = have.vram;
+  oam = have.oam;
 }
 byte-keeps-in Io m address byte have = have
 byte-keeps-in Palette m address byte have = record {
   palette = length-set m.palette (palette_place address) byte ∙ have.palette;
-  work = have.work; inner = have.inner; vram = have.vram; oam = have.oam;
+  work = have.work;
+  inner = have.inner;
+  vram = have.vram;
+  oam = have.oam;
 }
 byte-keeps-in Vram m address byte have = record {
   vram = length-set m.vram (vram_place address) byte ∙ have.vram;
-  work = have.work; inner = have.inner; palette = have.palette; oam = have.oam;
+  work = have.work;
+  inner = have.inner;
+  palette = have.palette;
+  oam = have.oam;
 }
 byte-keeps-in Oam m address byte have = record {
   oam = length-set m.oam (oam_place address) byte ∙ have.oam;
-  work = have.work; inner = have.inner; palette = have.palette; vram = have.vram;
+  work = have.work;
+  inner = have.inner;
+  palette = have.palette;
+  vram = have.vram;
 }
 byte-keeps-in Rom0 m address byte have = have
 byte-keeps-in Rom1 m address byte have = have
 byte-keeps-in Rom2 m address byte have = have
 byte-keeps-in Sram m address byte have = record {
-  work = have.work; inner = have.inner; palette = have.palette; vram = have.vram; oam = have.oam;
+  work = have.work;
+  inner = have.inner;
+  palette = have.palette;
+  vram = have.vram;
+  oam = have.oam;
 }
 byte-keeps-in Other m address byte have = have
 

@@ -1,5 +1,5 @@
 -- The rules to which a console keeps in each run.
-use Rattle.std.specs.Prelude.{◌≡◌, ℕ, ◌+◌, ◌<◌, ◌≤◌, true, All, List, Option, Some, length}
+use Rattle.std.specs.Prelude.{◌≡◌, ℕ, zero, suc, ◌+◌, ◌*◌, ◌%◌, ◌^◌, ◌<◌, ◌≤◌, true, All, List, Option, Some, length, slice_index_or}
 use Rattle.gba_console.specs.Counted.{Counts}
 use Rattle.gba_console.specs.Keys.{due_count}
 use Rattle.gba_console.specs.Machine.{Machine, clock_of, reset}
@@ -13,7 +13,9 @@ use Rattle.gba_image.specs.declared.backup.Backup.{Backup}
 use Rattle.gba_io.specs.declared.made.Room.{Room}
 use Rattle.gba_mem.specs.BackupLaw.{IsSoundBackup}
 use Rattle.gba_mem.specs.Memories.{Memories}
+use Rattle.gba_serial.specs.Apart.{next_end}
 use Rattle.gba_serial.specs.SerialUnit.{is_running}
+use Rattle.link_node.specs.Due.{InOrder, IsDue}
 use Rattle.link_node.specs.declared.signal.Incoming.{Incoming}
 
 -- Each memory has its length (GBATEK, GBA Memory Map).
@@ -24,10 +26,24 @@ pub record HaveLengths (m : Memories) : Type 0 where
   pub vram : length m.vram ≡ 0x18000
   pub oam : length m.oam ≡ 0x400
 
--- The changes of the keys that are applied are those that were due when the last step began, if there was one.
+-- The keys that are pressed once so many changes are applied to others (GBATEK, GBA Keypad Input: ten keys).
+abbrev pub keys_after : ℕ → List KeyState → ℕ → ℕ
+keys_after zero changes before = before
+keys_after (suc count) changes before = (slice_index_or changes count (record { clock = 0; keys = 0 })).keys % 2 ^ 10
+
+-- The changes of the keys that are applied are those that were due when the last step began, if there was one, and the last of
+-- them says which keys are pressed.
 pub record ChangesHold (m : Machine) : Type 0 where
   pub within : m.applied ≤ due_count (clock_of m) m.keys
   pub due : m.was < clock_of m → m.applied ≡ due_count m.was m.keys
+  pub pressed : m.board.core.devices.keys.pressed ≡ keys_after m.applied m.keys 0
+
+-- What it has counted: no more frames and pairs than cycles, and transfers that took 512 cycles each, of which the next one takes as many.
+pub record CountsHold (m : Machine) : Type 0 where
+  pub frames : m.board.made.frame_count ≤ clock_of m
+  pub pairs : m.board.made.pairs ≤ clock_of m
+  pub past : 512 * m.board.ended.count ≤ m.was
+  pub next : 512 * (m.board.ended.count + 1) ≤ next_end m.board.core.serial
 
 -- A console. A transfer runs only while it is on.
 pub record Holds (m : Machine) : Type 0 where
@@ -38,13 +54,15 @@ pub record Holds (m : Machine) : Type 0 where
   pub serial : SerialHolds m.board.core.serial
   pub counts : Counts m
   pub changes : ChangesHold m
+  pub numbers : CountsHold m
   pub begun : m.was ≤ clock_of m
   pub short : clock_of m ≤ m.was + 512
   pub on : is_running m.board.core.serial ≡ true → m.off ≤ clock_of m
 
--- signals of steps at clocks of a run
-abbrev pub AreNear : List Incoming → Type 0
-AreNear dues = All (λ due. due.signal.clock ≤ last_clock) dues
+-- The signals that a step may take: those that arrived since the last step began, in their order.
+pub record MayTake (dues : List Incoming) (m : Machine) : Type 0 where
+  pub due : All (IsDue m.was (clock_of m)) dues
+  pub ordered : InOrder dues
 
 -- It keeps to them at reset, with a save of its kind's length if it has one, and after each step.
 pub record StepsHold : Type 0 where
@@ -52,4 +70,4 @@ pub record StepsHold : Type 0 where
       (keys : List KeyState) (room : Room) → player < count → count ≤ 4 → round ≤ 2048
       → ((bytes : List ℕ) → save ≡ Some bytes → length bytes ≡ backup_length backup)
       → Holds (reset player count round off bios cart save backup keys room)
-  pub steps : (dues : List Incoming) (m : Machine) → clock_of m ≤ last_clock → AreNear dues → Holds m → Holds (stepped dues m)
+  pub steps : (dues : List Incoming) (m : Machine) → clock_of m ≤ last_clock → MayTake dues m → Holds m → Holds (stepped dues m)

@@ -7,8 +7,9 @@ use gba_device_laws::laws::{devices_stay, serial_stays};
 use gba_devices::laws::writes_keep;
 use gba_exec_laws::laws::{halfwords_stay_sound, words_stay_sound};
 use gba_io::Core;
-use gba_io::laws::board_passes;
+use gba_io::laws::{board_passes, writes_keep_ends, writes_keep_time};
 use gba_mem::laws::backups_stay_sound;
+use gba_serial::laws::{ends_apart, stays_seated};
 
 /// A console at reset keeps to its rules, and so does one after each step, at clocks of a run.
 pub fn steps_hold()
@@ -23,4 +24,8 @@ pub fn steps_hold()
     serial_stays();
     steps_pass();
     writes_keep();
+    ends_apart();
+    stays_seated();
+    writes_keep_ends();
+    writes_keep_time();
 }
