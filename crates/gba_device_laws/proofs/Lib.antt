@@ -1,3 +1,4 @@
+pub mod Bytes
 pub mod Cables
 pub mod Channels
 pub mod Devices

@@ -1,10 +1,8 @@
 -- What the tone channels keep.
-use Rattle.std.proofs.Common.{◌≡◌, ◌≢◌, ℕ, ◌^◌, ◌<◌, ◌≤◌, ◌+◌, ◌/◌, ◌%◌, ◌==◌, Bool, true, false, not, List, length, get_or, set, replicate, refl, ap, subst, sym, ◌∙◌, ⊎_elim, arith, mod-eq_of_lt, if◌then◌else◌}
+use Rattle.std.proofs.Common.{◌≡◌, ◌≢◌, ℕ, ◌^◌, ◌<◌, ◌+◌, ◌/◌, ◌%◌, ◌==◌, Bool, true, false, not, List, set, refl, ap, subst, sym, ◌∙◌, arith, mod-eq_of_lt, if◌then◌else◌}
 use Rattle.std.specs.Prelude.{bit_and}
 use lib.Bits.{and_zero_l}
-use Rattle.std.proofs.lemmas.Bool.{cases_eq, cases_lt}
 use Rattle.std.proofs.lemmas.Bool.Decides.{nat_tests}
-use Rattle.std.proofs.lemmas.List.{length-set, get_or-replicate, get_or-set_same, get_or-set_other, get_or_past}
 use Rattle.std.proofs.lemmas.Nat.{and_mask, and_mod, and_shr}
 use Rattle.gba_terms.specs.Bits.{bit, field}
 use Rattle.gba_register.specs.Rows.{row_at}
@@ -18,7 +16,8 @@ use Rattle.gba_psg.specs.Wave.{half_set, other_bank, wave_controlled, wave_half,
 use Rattle.gba_psg.specs.declared.four.FourTones.{FourTones}
 use Rattle.gba_psg.specs.declared.square.Square.{Square}
 use Rattle.gba_psg.specs.declared.wave.Wave.{Wave}
-use Rattle.gba_device_laws.specs.Holding.{AreBytes, HasStoredBits, TonesHold}
+use Rattle.gba_device_laws.specs.Holding.{AreBytes, HasBytes, HasStoredBits, TonesHold}
+use Rattle.gba_device_laws.proofs.Bytes.{byte-at, has-replicate, has-set}
 use Rattle.gba_device_laws.proofs.Masks.{and-twice, at-place, nothing-stored}
 
 -- another frequency leaves whether the length is timed
@@ -49,13 +48,13 @@ record AreRegisters (ts : FourTones) : Type 0 where
   control4 : bit_and ts.noise.control 0x40ff ≡ ts.noise.control
   mixer : bit_and ts.mixer 0xff77 ≡ ts.mixer
   ratio : bit_and ts.ratio 0x0003 ≡ ts.ratio
-  bank0 : AreBytes ts.wave.bank0
-  bank1 : AreBytes ts.wave.bank1
+  bank0 : HasBytes 16 ts.wave.bank0
+  bank1 : HasBytes 16 ts.wave.bank1
 
 abbrev registers_kept : FourTones → ℕ → ℕ
 registers_kept ts at = if at == 0x084 then 0 else tones_kept at ts
 
-are-registers : (ts : FourTones) → AreBytes ts.wave.bank0 → AreBytes ts.wave.bank1 → HasStoredBits tone_rows (registers_kept ts)
+are-registers : (ts : FourTones) → HasBytes 16 ts.wave.bank0 → HasBytes 16 ts.wave.bank1 → HasStoredBits tone_rows (registers_kept ts)
     → AreRegisters ts
 unfolding tone_rows row_at
 are-registers ts bank0 bank1 stored = record {
@@ -75,12 +74,6 @@ are-registers ts bank0 bank1 stored = record {
   bank1 = bank1;
 }
 
-byte-at : (bytes : List ℕ) (place : ℕ) → AreBytes bytes → get_or bytes place 0 < 2 ^ 8
-byte-at bytes place all =
-    ⊎_elim (λ (within : place < length bytes). all place within)
-    (λ (past : length bytes ≤ place). let none = get_or_past bytes place 0 past in omega (arith, none))
-    (cases_lt place (length bytes))
-
 other-bytes : (second : Bool) (w : Wave) → AreBytes w.bank0 → AreBytes w.bank1 → AreBytes (if second then w.bank1 else w.bank0)
 other-bytes true w bank0 bank1 = bank1
 other-bytes false w bank0 bank1 = bank0
@@ -97,7 +90,7 @@ unfolding tone_rows row_at
 registers-stored ts is at =
     let holds : ℕ → Type 0 = λ k. bit_and (registers_kept ts k) (row_at tone_rows k).write_mask ≡ registers_kept ts k in
     let wave : (place : ℕ) → bit_and (wave_half place ts.wave) 0xffff ≡ wave_half place ts.wave =
-    λ place. wave-half-stored place ts.wave is.bank0 is.bank1 in
+    λ place. wave-half-stored place ts.wave is.bank0.bytes is.bank1.bytes in
     at-place holds 0x060 at is.sweep (λ n0. at-place holds 0x062 at is.shape1 (λ n1. at-place holds 0x064 at is.control1
     (λ n2. at-place holds 0x068 at is.shape2 (λ n3. at-place holds 0x06c at is.control2 (λ n4. at-place holds 0x070 at is.select
     (λ n5. at-place holds 0x072 at is.level (λ n6. at-place holds 0x074 at is.control3 (λ n7. at-place holds 0x078 at is.shape4
@@ -118,26 +111,12 @@ either-registers : (test : Bool) (one other : FourTones) → AreRegisters one �
 either-registers true one other first second = first
 either-registers false one other first second = second
 
-bytes-set : (bytes : List ℕ) (place value : ℕ) → AreBytes bytes → value < 2 ^ 8 → AreBytes (set bytes place value)
-bytes-set bytes place value all small at within =
-    ⊎_elim
-    (λ (same : at ≡ place).
-    let inside : place < length bytes = omega (arith, same, within, length-set bytes place value) in
-    let there : get_or (set bytes place value) at 0 ≡ value =
-    ap (λ k. get_or (set bytes place value) k 0) same ∙ get_or-set_same bytes place value 0 inside in
-    omega (arith, there, small))
-    (λ (other : at ≢ place).
-    let there = get_or-set_other bytes place at value 0 other in
-    let old = all at (omega (arith, within, length-set bytes place value)) in
-    omega (arith, there, old))
-    (cases_eq at place)
+half-bytes : (place value : ℕ) (bank : List ℕ) → HasBytes 16 bank → HasBytes 16 (half_set place value bank)
+half-bytes place value bank has =
+    has-set 16 (set bank place (field value 0 8)) (place + 1) (field value 8 8)
+    (has-set 16 bank place (field value 0 8) has (omega arith)) (omega arith)
 
-half-bytes : (place value : ℕ) (bank : List ℕ) → AreBytes bank → AreBytes (half_set place value bank)
-half-bytes place value bank all =
-    bytes-set (set bank place (field value 0 8)) (place + 1) (field value 8 8)
-    (bytes-set bank place (field value 0 8) all (omega arith)) (omega arith)
-
-either-bytes : (test : Bool) (one other : List ℕ) → AreBytes one → AreBytes other → AreBytes (if test then one else other)
+either-bytes : (test : Bool) (one other : List ℕ) → HasBytes 16 one → HasBytes 16 other → HasBytes 16 (if test then one else other)
 either-bytes true one other first second = first
 either-bytes false one other first second = second
 
@@ -690,9 +669,6 @@ module _ (soundly : StaysSound) where
         control4 = refl;
         mixer = refl;
         ratio = refl;
-        bank0 = zeros;
-        bank1 = zeros;
+        bank0 = has-replicate 16 0 (omega arith);
+        bank1 = has-replicate 16 0 (omega arith);
       })
-    where
-      zeros : AreBytes (replicate 16 0)
-      zeros at within = let none = get_or-replicate {A = ℕ} 16 at 0 0 within in omega (arith, none)

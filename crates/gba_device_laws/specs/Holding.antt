@@ -24,6 +24,11 @@ use Rattle.gba_timer.specs.declared.timer.Timer.{Timer}
 abbrev pub AreBytes : List ℕ → Type 0
 AreBytes bytes = (place : ℕ) → place < length bytes → slice_index bytes place < 2 ^ 8
 
+-- so many bytes
+pub record HasBytes (count : ℕ) (content : List ℕ) : Type 0 where
+  pub long : length content ≡ count
+  pub bytes : AreBytes content
+
 -- What stands at each halfword of a device has no bits but those that a write stores there.
 abbrev pub HasStoredBits : List Row → (ℕ → ℕ) → Type 0
 HasStoredBits rows kept = (offset : ℕ) → bit_and (kept offset) (row_at rows offset).write_mask ≡ kept offset
@@ -78,11 +83,11 @@ pub record SoundHolds (s : DirectSound) : Type 0 where
   pub queue_b : QueueHolds s.queue_b
   pub stored : HasStoredBits sound_rows (λ offset. sound_shown offset s)
 
--- SOUNDCNT_X shows which tones are on, which no write stores.
+-- A bank of the wave has 32 digits, two in each byte. SOUNDCNT_X shows which tones are on, which no write stores.
 pub record TonesHold (ts : FourTones) : Type 0 where
   pub sound : AreSound ts
-  pub bank0 : AreBytes ts.wave.bank0
-  pub bank1 : AreBytes ts.wave.bank1
+  pub bank0 : HasBytes 16 ts.wave.bank0
+  pub bank1 : HasBytes 16 ts.wave.bank1
   pub stored : HasStoredBits tone_rows (λ offset. if offset == 0x084 then 0 else tones_kept offset ts)
 
 -- The keypad has ten keys.

@@ -1,38 +1,42 @@
 -- What is written to a register file keeps it sound.
-use Rattle.std.proofs.Common.{◌≡◌, ◌≢◌, ℕ, ◌<◌, ◌≤◌, ◌-◌, ◌%◌, ◌==◌, Bool, true, false, not, ◌&&◌, List, length, get_or, set, refl, ap, sym, ◌∙◌, ⊎_elim, arith, if◌then◌else◌}
+use Rattle.std.proofs.Common.{◌≡◌, ◌≢◌, ℕ, ◌<◌, ◌-◌, ◌%◌, ◌^◌, ◌==◌, Bool, true, false, List, length, get_or, set, refl, ap, sym, ◌∙◌, ⊎_elim, arith, if◌then◌else◌}
 use Rattle.std.proofs.lemmas.Bool.{cases_eq}
 use Rattle.std.proofs.lemmas.Bool.Decides.{nat_tests}
 use Rattle.std.proofs.lemmas.List.{length-set, get_or-set_same, get_or-set_other}
-use Rattle.gba_terms.specs.Bits.{bit, field}
+use Rattle.gba_terms.specs.Bits.{bit}
 use Rattle.gba_psr.specs.Entry.{after_entry, after_leave, entry_status, vector}
 use Rattle.gba_psr.specs.Modes.{place, saved_place}
-use Rattle.gba_psr.specs.RegisterFile.{IsRegisterFile, mode, register, saved_status, status, with_flags, with_register, with_saved_status, with_status, with_user_register}
+use Rattle.gba_psr.specs.RegisterFile.{mode, register, saved_status, status, with_flags, with_register, with_saved_status, with_status, with_user_register}
 use Rattle.gba_psr.specs.Status.{kept_status, mode_of, status_with_flags, written_status}
 use Rattle.gba_psr.specs.declared.condition.Flags.{Flags}
 use Rattle.gba_psr.specs.declared.exceptions.Exception.{Exception}
 use Rattle.gba_psr.specs.declared.exceptions.Exception.TheVariants.{Undefined, Software, Interrupt}
-use Rattle.gba_psr.proofs.FileLaws.{counter-after_entry, file-after_entry, file-with_register, file-with_status, length-with_saved_status, register-with_register_other, register-with_register_same, status-after_entry, status-with_flags, status-with_register, status-with_status}
+use Rattle.gba_psr.proofs.FileLaws.{counter-after_entry, file-with_register, file-with_status, register-with_register_other, register-with_register_same, status-after_entry, status-with_flags, status-with_register}
 use Rattle.gba_psr.proofs.FlagsApart.{file-with_flags, register-with_flags}
 use Rattle.gba_psr.proofs.Seats.{place_within, saved_place_high, saved_place_within}
 use Rattle.gba_exec_registers.specs.Access.{after_jump, with_result}
 use Rattle.gba_exec_laws.specs.Sound.{IsSoundFile, IsStoredFile}
+use Rattle.gba_exec_laws.proofs.Words.{cut-word, flagged-word, kept-word, set-words, vector-word, written-word}
 
 -- what an SPSR keeps of a number it keeps again
 kept-kept : (value : ℕ) → kept_status (kept_status value) ≡ kept_status value
 kept-kept value = grind (arith, nat_tests)
 
-pub stored-register : (file : List ℕ) (number value : ℕ) → IsStoredFile file → number < 16 → IsStoredFile (with_register file number value)
+pub stored-register : (file : List ℕ) (number value : ℕ) → IsStoredFile file → number < 16 → value < 2 ^ 32
+    → IsStoredFile (with_register file number value)
 unfolding with_register
-stored-register file number value is within = record {
+stored-register file number value is within word = record {
   whole = file-with_register file number value is.whole within;
   saved = λ at high.
       let low = place_within (mode file) number within in
       rw (get_or-set_other file (place (mode file) number) at value 0 (omega (arith, low, high))) (is.saved at high);
+  words = set-words file (place (mode file) number) value is.words word;
 }
 
-pub sound-register : (file : List ℕ) (number value : ℕ) → IsSoundFile file → number < 15 → IsSoundFile (with_register file number value)
-sound-register file number value is within = record {
-  stored = stored-register file number value is.stored (omega arith);
+pub sound-register : (file : List ℕ) (number value : ℕ) → IsSoundFile file → number < 15 → value < 2 ^ 32
+    → IsSoundFile (with_register file number value)
+sound-register file number value is within word = record {
+  stored = stored-register file number value is.stored (omega (arith, within)) word;
   aligned =
       rw (
         register-with_register_other file number 15 value (omega arith) (omega arith) (omega arith),
@@ -45,14 +49,16 @@ counter-place : (mode : ℕ) → place mode 15 ≡ 15
 unfolding place
 counter-place mode = grind (arith, nat_tests)
 
-pub stored-user : (file : List ℕ) (number value : ℕ) → IsStoredFile file → number < 16 → IsStoredFile (with_user_register file number value)
+pub stored-user : (file : List ℕ) (number value : ℕ) → IsStoredFile file → number < 16 → value < 2 ^ 32
+    → IsStoredFile (with_user_register file number value)
 unfolding with_user_register status
-stored-user file number value is within = record {
+stored-user file number value is within word = record {
   whole = record {
     count = length-set file number value ∙ is.whole.count;
     status_kept = rw (get_or-set_other file number 31 value 0 (omega arith)) is.whole.status_kept;
   };
-  saved = λ at high. rw (get_or-set_other file number at value 0 (omega (arith, high))) (is.saved at high);
+  saved = λ at high. rw (get_or-set_other file number at value 0 (omega (arith, high, within))) (is.saved at high);
+  words = set-words file number value is.words word;
 }
 
 user-status : (file : List ℕ) (number value : ℕ) → number < 16 → status (with_user_register file number value) ≡ status file
@@ -66,9 +72,10 @@ user-counter file number value within =
     ∙ get_or-set_other file number 15 value 0 (omega arith)
     ∙ sym (ap (λ p. get_or file p 0) (counter-place (mode file)))
 
-pub sound-user : (file : List ℕ) (number value : ℕ) → IsSoundFile file → number < 15 → IsSoundFile (with_user_register file number value)
-sound-user file number value is within = record {
-  stored = stored-user file number value is.stored (omega arith);
+pub sound-user : (file : List ℕ) (number value : ℕ) → IsSoundFile file → number < 15 → value < 2 ^ 32
+    → IsSoundFile (with_user_register file number value)
+sound-user file number value is within word = record {
+  stored = stored-user file number value is.stored (omega (arith, within)) word;
   aligned = rw (user-counter file number value within, user-status file number value (omega arith)) is.aligned;
 }
 
@@ -78,6 +85,7 @@ stored-status file value is = record {
   whole = file-with_status file value is.whole;
   saved = λ at high.
       rw (get_or-set_other file 31 at (written_status (status file) value) 0 (omega (arith, high))) (is.saved at high);
+  words = set-words file 31 (written_status (status file) value) is.words (written-word (status file) value);
 }
 
 pub stored-flags : (file : List ℕ) (new : Flags) → IsStoredFile file → IsStoredFile (with_flags file new)
@@ -86,6 +94,7 @@ stored-flags file new is = record {
   whole = file-with_flags file new is.whole;
   saved = λ at high.
       rw (get_or-set_other file 31 at (status_with_flags (status file) new) 0 (omega (arith, high))) (is.saved at high);
+  words = set-words file 31 (status_with_flags (status file) new) is.words (flagged-word (status file) new);
 }
 
 flags-state : (old : ℕ) (new : Flags) → bit (status_with_flags old new) 5 ≡ bit old 5
@@ -119,6 +128,7 @@ stored-place file p value is high within = record {
       rw here (kept-kept value))
       (λ (other : at ≢ p). rw (get_or-set_other file p at (kept_status value) 0 other) (is.saved at above))
       (cases_eq at p);
+  words = set-words file p (kept_status value) is.words (kept-word value);
 }
 
 saved-high : (mode : ℕ) → saved_place mode ≢ 31 → 31 < saved_place mode
@@ -172,26 +182,28 @@ cut-target : (thumb : Bool) (target : ℕ) → (if thumb then target - target % 
 cut-target true target = omega arith
 cut-target false target = omega arith
 
-pub sound-jump : (file : List ℕ) (target : ℕ) → IsStoredFile file → IsSoundFile (after_jump file target)
+pub sound-jump : (file : List ℕ) (target : ℕ) → IsStoredFile file → target < 2 ^ 32
+    → IsSoundFile (after_jump file target)
 unfolding after_jump
-sound-jump file target is =
+sound-jump file target is word =
     let value = if bit (status file) 5 then target - target % 2 else target - target % 4 in
     record {
-      stored = stored-register file 15 value is (omega arith);
+      stored = stored-register file 15 value is (omega arith) (cut-word (bit (status file) 5) target word);
       aligned =
           rw (register-with_register_same file 15 value is.whole.count (omega arith), status-with_register file 15 value (omega arith))
           (cut-target (bit (status file) 5) target);
     }
 
-pub sound-result : (file : List ℕ) (number value : ℕ) → IsSoundFile file → number < 16 → IsSoundFile (with_result file number value)
+pub sound-result : (file : List ℕ) (number value : ℕ) → IsSoundFile file → number < 16 → value < 2 ^ 32
+    → IsSoundFile (with_result file number value)
 unfolding with_result
-sound-result file number value is within =
+sound-result file number value is within word =
     by_number (number == 15) refl
   where
     by_number : (test : Bool) → number == 15 ≡ test
         → IsSoundFile (if test then after_jump file value else with_register file number value)
-    by_number true counter = sound-jump file value is.stored
-    by_number false other = sound-register file number value is (grind (arith, nat_tests, within, other))
+    by_number true counter = sound-jump file value is.stored word
+    by_number false other = sound-register file number value is (grind (arith, nat_tests, within, other)) word
 
 stored-entry-status : (kind : Exception) (file : List ℕ) → IsStoredFile file
     → IsStoredFile (with_saved_status (with_status file (entry_status kind (status file))) (status file))
@@ -209,14 +221,16 @@ vector-aligned Undefined = refl
 vector-aligned Software = refl
 vector-aligned Interrupt = refl
 
-pub sound-entry : (kind : Exception) (link : ℕ) (file : List ℕ) → IsStoredFile file → IsSoundFile (after_entry kind link file)
+pub sound-entry : (kind : Exception) (link : ℕ) (file : List ℕ) → IsStoredFile file → link < 2 ^ 32
+    → IsSoundFile (after_entry kind link file)
 unfolding after_entry
-sound-entry kind link file is =
+sound-entry kind link file is word =
     let before = with_saved_status (with_status file (entry_status kind (status file))) (status file) in
     record {
       stored =
           stored-register (with_register before 14 link) 15 (vector kind)
-          (stored-register before 14 link (stored-entry-status kind file is) (omega arith)) (omega arith);
+          (stored-register before 14 link (stored-entry-status kind file is) (omega arith) word) (omega arith)
+          (vector-word kind);
       aligned =
           rw (
             counter-after_entry kind link file is.whole,

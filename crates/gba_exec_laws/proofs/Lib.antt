@@ -1,3 +1,4 @@
 pub mod Files
 pub mod Halves
 pub mod Operations
+pub mod Words

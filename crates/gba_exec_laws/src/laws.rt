@@ -11,7 +11,8 @@ use gba_arm_table::laws::operations_fit as words_fit;
 use gba_bus::Bus;
 use gba_thumb_table::laws::operations_fit as halves_fit;
 
-/// Every word leaves r15 the address of an instruction, and CPSR and the SPSRs with stored bits alone, whatever the bus is.
+/// Every word leaves r15 the address of an instruction, CPSR and the SPSRs with stored bits alone, and each of the 37
+/// registers below 2^32, whatever the bus is.
 pub fn words_stay_sound<B: Bus>()
     ensures { (word : ℕ) (file : List ℕ) (bus : B.State) → IsSoundFile file →
         IsSoundFile (word_execution B.code_price_of B.load_of B.store_of word file bus).registers }

@@ -6,7 +6,7 @@ use Rattle.gba_bus.specs.Regions.{is_io, region_of}
 use Rattle.gba_bus.specs.declared.width.Width.{Width}
 use Rattle.gba_terms.specs.Bits.{field}
 use Rattle.gba_device_laws.specs.Cable.{SerialHolds, SerialStays, last_clock}
-use Rattle.gba_device_laws.specs.Holding.{DevicesHold}
+use Rattle.gba_device_laws.specs.Holding.{DevicesHold, HasBytes}
 use Rattle.gba_device_laws.specs.Staying.{DevicesStay}
 use Rattle.gba_devices.specs.Cycles.{after_cycles}
 use Rattle.gba_devices.specs.Keeping.{WritesKeep}
@@ -29,9 +29,9 @@ use Rattle.link_node.specs.declared.signal.Incoming.{Incoming}
 use Rattle.gba_console.specs.Keys.{after_keys}
 use Rattle.gba_console.specs.declared.keys.KeyState.{KeyState}
 use Rattle.gba_console.specs.Step.{acted, all_learned, all_taken}
-use Rattle.gba_run_laws.specs.Holding.{HaveLengths}
+use Rattle.gba_run_laws.specs.Holding.{MemoriesHold}
 use Rattle.gba_run_laws.proofs.Acting.{acted-keeps}
-use Rattle.gba_run_laws.proofs.Memories.{store-keeps}
+use Rattle.gba_run_laws.proofs.Memories.{store-holds}
 
 -- signals of steps at clocks of a run
 abbrev pub AreNear : List Incoming → Type 0
@@ -40,7 +40,8 @@ AreNear dues = All (λ due. due.signal.clock ≤ last_clock) dues
 -- a core at a clock of a run
 pub record CoreHolds (b : Core) : Type 0 where
   pub near : b.devices.clock ≤ last_clock
-  pub lengths : HaveLengths b.memory
+  pub memories : MemoriesHold b.memory
+  pub lines : All (HasBytes 480) b.lines
   pub backup : IsSoundBackup b.memory.backup
   pub devices : DevicesHold b.devices
   pub serial : SerialHolds b.serial
@@ -79,14 +80,16 @@ module _ (backups : BackupsStaySound) (devices : DevicesStay) (serial : SerialSt
       either-core (is_serial offset) _ _
       (record {
         near = holds.near;
-        lengths = holds.lengths;
+        memories = holds.memories;
+        lines = holds.lines;
         backup = holds.backup;
         devices = holds.devices;
         serial = cable-holds b.devices.clock holds.near offset width value b.serial holds.serial;
       })
       (record {
         near = rw (writes.clock offset width value b.devices) holds.near;
-        lengths = holds.lengths;
+        memories = holds.memories;
+        lines = holds.lines;
         backup = holds.backup;
         serial = holds.serial;
         devices = io-holds offset width value b.devices holds.devices;
@@ -100,14 +103,16 @@ module _ (backups : BackupsStaySound) (devices : DevicesStay) (serial : SerialSt
         near = holds.near;
         devices = holds.devices;
         serial = holds.serial;
-        lengths = store-keeps (picture_mode b.devices.picture) b.memory address width value holds.lengths;
+        lines = holds.lines;
+        memories = store-holds (picture_mode b.devices.picture) b.memory address width value holds.memories;
         backup = (backups (picture_mode b.devices.picture) b.memory address width value holds.backup).sound;
       })
 
   woken-holds : (b : Core) → CoreHolds b → CoreHolds (core_woken b)
   woken-holds b holds = record {
     near = holds.near;
-    lengths = holds.lengths;
+    memories = holds.memories;
+    lines = holds.lines;
     backup = holds.backup;
     serial = holds.serial;
     devices = devices.wakes b.devices holds.devices;
@@ -117,7 +122,8 @@ module _ (backups : BackupsStaySound) (devices : DevicesStay) (serial : SerialSt
   unfolding after_dma_unit
   unit-holds channel b few holds = record {
     near = holds.near;
-    lengths = holds.lengths;
+    memories = holds.memories;
+    lines = holds.lines;
     backup = holds.backup;
     serial = holds.serial;
     devices = devices.unit channel b.devices few holds.devices;
@@ -134,7 +140,8 @@ module _ (backups : BackupsStaySound) (devices : DevicesStay) (serial : SerialSt
       either-core (nat_le change.clock clock) (after_keys clock changes (core_keyed change.keys b)) b
       (after-keys clock changes (core_keyed change.keys b) (record {
         near = keyed-clock;
-        lengths = holds.lengths;
+        memories = holds.memories;
+        lines = holds.lines;
         backup = holds.backup;
         serial = holds.serial;
         devices = devices.keys change.keys b.devices holds.devices;
@@ -147,7 +154,8 @@ module _ (backups : BackupsStaySound) (devices : DevicesStay) (serial : SerialSt
   pub begun-holds : (b : Core) → CoreHolds b → CoreHolds (core_begun b)
   begun-holds b holds = record {
     near = holds.near;
-    lengths = holds.lengths;
+    memories = holds.memories;
+    lines = holds.lines;
     backup = holds.backup;
     devices = devices.begins b.devices holds.devices;
     serial = serial.told b.serial holds.serial;
@@ -156,7 +164,8 @@ module _ (backups : BackupsStaySound) (devices : DevicesStay) (serial : SerialSt
   ended-holds : (clock : ℕ) (b : Core) → CoreHolds b → CoreHolds (core_ended clock b)
   ended-holds clock b holds = record {
     near = holds.near;
-    lengths = holds.lengths;
+    memories = holds.memories;
+    lines = holds.lines;
     backup = holds.backup;
     devices = devices.transfer (asks_interrupt (ending clock b.serial)) b.devices holds.devices;
     serial = serial.ended clock b.serial holds.serial;
@@ -165,7 +174,8 @@ module _ (backups : BackupsStaySound) (devices : DevicesStay) (serial : SerialSt
   heard-holds : (due : Incoming) (b : Core) → due.signal.clock ≤ last_clock → CoreHolds b → CoreHolds (core_heard due b)
   heard-holds due b near holds = record {
     near = holds.near;
-    lengths = holds.lengths;
+    memories = holds.memories;
+    lines = holds.lines;
     backup = holds.backup;
     devices = holds.devices;
     serial = serial.taken due b.serial near holds.serial;
@@ -180,7 +190,8 @@ module _ (backups : BackupsStaySound) (devices : DevicesStay) (serial : SerialSt
   learned-holds : (due : Incoming) (b : Core) → CoreHolds b → CoreHolds (core_learned due b)
   learned-holds due b holds = record {
     near = holds.near;
-    lengths = holds.lengths;
+    memories = holds.memories;
+    lines = holds.lines;
     backup = holds.backup;
     devices = holds.devices;
     serial = serial.learned due b.serial holds.serial;

@@ -3,7 +3,7 @@ use Rattle.std.proofs.Common.{ℕ, ◌≡◌, ◌<◌, ◌≤◌, ◌+◌, ◌*�
 use Rattle.std.specs.Prelude.{All, Option, None, Some, nat_le, nat_lt}
 use Rattle.std.proofs.lemmas.Bool.{cases_lt, false≢true}
 use Rattle.std.proofs.lemmas.Bool.Decides.{nat_tests}
-use Rattle.std.proofs.lemmas.List.{length-replicate, get_or-replicate, get_or-set_other, get_or_past}
+use Rattle.std.proofs.lemmas.List.{get_or-replicate, get_or-set_other, get_or_past}
 use Rattle.gba_terms.specs.Bits.{bit}
 use Rattle.gba_psr.specs.RegisterFile.{mode, register, reset_file, status}
 use Rattle.gba_psr.specs.Modes.{place}
@@ -11,9 +11,11 @@ use Rattle.gba_psr.specs.Status.{kept_status}
 use Rattle.gba_psr.specs.declared.exceptions.Exception.TheVariants.{Interrupt}
 use Rattle.gba_exec_laws.specs.Sound.{IsSoundFile}
 use Rattle.gba_exec_laws.proofs.Files.{sound-entry}
+use Rattle.gba_exec_laws.proofs.Words.{set-words}
 use Rattle.gba_exec_transfers.specs.Done.{Done}
 use Rattle.gba_device_laws.specs.Cable.{SerialHolds, SerialStays, last_clock}
-use Rattle.gba_device_laws.specs.Holding.{DevicesHold}
+use Rattle.gba_device_laws.proofs.Bytes.{has-replicate}
+use Rattle.gba_device_laws.specs.Holding.{AreBytes, DevicesHold, HasBytes}
 use Rattle.gba_device_laws.specs.Staying.{DevicesStay}
 use Rattle.gba_devices.specs.Keeping.{WritesKeep}
 use Rattle.gba_dma.specs.Channels.{next_unit}
@@ -25,7 +27,7 @@ use Rattle.gba_io.specs.Board.{BoardPasses}
 use Rattle.gba_io.specs.Core.{Core, core_begun, core_learned, core_woken}
 use Rattle.gba_io.specs.declared.board.Board.{Board}
 use Rattle.gba_mem.specs.BackupLaw.{BackupsStaySound, IsSoundBackup}
-use Rattle.gba_mem.specs.Backups.{backup_at_start}
+use Rattle.gba_mem.specs.Backups.{backup_at_start, backup_bytes}
 use Rattle.gba_mem.specs.Memories.{at_start, inner_length, oam_length, palette_length, saved_bytes, vram_length, work_length}
 use Rattle.gba_io.specs.Cable.{WritesKeepEnds}
 use Rattle.gba_io.specs.Keeping.{WritesKeepTime}
@@ -41,9 +43,10 @@ use Rattle.gba_console.specs.Run.{StepPasses}
 use Rattle.gba_console.specs.Step.{acted, acted_for, all_learned, all_taken, applied_in, awake_done, board_begun, done_in, enters, entry_done, execution_of_half, execution_of_word, half_done, heard, idle_done, idles, in_thumb, instruction_done, prepared, prepared_off, stepped, stepped_off, stepped_on, word_done}
 use Rattle.gba_console.specs.StepLaws.{keys-serial, off-time, prepared-clock, taken-made}
 use Rattle.gba_console.specs.declared.keys.KeyState.{KeyState}
-use Rattle.gba_run_laws.specs.Holding.{CountsHold, HaveLengths, Holds, MayTake, StepsHold, keys_after}
+use Rattle.gba_run_laws.specs.Holding.{CountsHold, Holds, MayTake, MemoriesHold, StepsHold, keys_after}
 use Rattle.link_node.specs.Due.{IsDue}
 use Rattle.gba_run_laws.proofs.Ending.{EndsHold, acted-clock, acted-nears, ends-all, ends-ended, frames-few, pairs-few}
+use Rattle.gba_run_laws.proofs.Lines.{lines-after}
 use Rattle.gba_run_laws.proofs.Pressing.{acted-keys, behind-drop, cycles-same, keys-behind, learned-keys, taken-keys}
 use Rattle.gba_run_laws.proofs.Cores.{AreNear, CoreHolds, after-acted, after-cycles, after-keys, after-learning, begun-holds, heard-core}
 
@@ -102,7 +105,7 @@ module _ (words : (word : ℕ) (file : List ℕ) (b : Core) → IsSoundFile file
   awake-sound : (file : List ℕ) (b : Core) → IsSoundFile file → IsSoundFile (awake_done file b).registers
   awake-sound file b is =
       either-sound (enters file b) (entry_done file b) (instruction_done file b)
-      (sound-entry Interrupt ((register file 15 + 4) % 2 ^ 32) file is.stored) (instruction-sound file b is)
+      (sound-entry Interrupt ((register file 15 + 4) % 2 ^ 32) file is.stored (omega arith)) (instruction-sound file b is)
 
   acting-sound : (unit : Option DmaUnit) (file : List ℕ) (b : Core) → IsSoundFile file → IsSoundFile (acted_for unit file b).registers
   acting-sound (Some unit) file b is = is
@@ -150,8 +153,9 @@ since-on clock off on = grind (arith, nat_tests, on)
 
 -- what keeps to its rules whatever the counts and the clocks are
 record Parts (m : Machine) : Type 0 where
+  lines : All (HasBytes 480) m.board.core.lines
   registers : IsSoundFile m.registers
-  lengths : HaveLengths m.board.core.memory
+  memories : MemoriesHold m.board.core.memory
   backup : IsSoundBackup m.board.core.memory.backup
   devices : DevicesHold m.board.core.devices
   serial : SerialHolds m.board.core.serial
@@ -168,7 +172,7 @@ module _ (words : (word : ℕ) (file : List ℕ) (b : Core) → IsSoundFile file
     (devices : DevicesStay) (serial : SerialStays) (follows : (dues : List Incoming) (m : Machine) → StepPasses dues m)
     (writes : WritesKeep) (apart : EndsApart) (seated : StaysSeated) (ends : WritesKeepEnds) (times : WritesKeepTime) where
   core-of : (m : Machine) → clock_of m ≤ last_clock → Holds m → CoreHolds m.board.core
-  core-of m near is = record { near = near; lengths = is.lengths; backup = is.backup; devices = is.devices; serial = is.serial }
+  core-of m near is = record { near = near; memories = is.memories; lines = is.lines; backup = is.backup; devices = is.devices; serial = is.serial }
 
   begun-core : (m : Machine) → clock_of m ≤ last_clock → Holds m → CoreHolds (core_begun m.board.core)
   begun-core m near is = begun-holds backups devices serial writes m.board.core (core-of m near is)
@@ -191,7 +195,8 @@ module _ (words : (word : ℕ) (file : List ℕ) (b : Core) → IsSoundFile file
       let passed = passes done.cycles board in
       record {
         registers = acted-sound words halves m.registers (prepared dues m) is.registers;
-        lengths = rw passed.memory core.lengths;
+        lines = lines-after done.cycles board core.lines;
+        memories = rw passed.memory core.memories;
         backup = rw passed.memory core.backup;
         devices = rw passed.devices (after-cycles backups devices serial writes done.cycles done.bus.devices core.devices);
         serial = rw passed.serial core.serial;
@@ -208,7 +213,8 @@ module _ (words : (word : ℕ) (file : List ℕ) (b : Core) → IsSoundFile file
       let core = off-core dues m near is in
       record {
         registers = is.registers;
-        lengths = core.lengths;
+        lines = core.lines;
+        memories = core.memories;
         backup = core.backup;
         devices = devices.rests 16 (prepared_off dues m).devices core.devices;
         serial = core.serial;
@@ -368,10 +374,11 @@ module _ (words : (word : ℕ) (file : List ℕ) (b : Core) → IsSoundFile file
       let raised = after.raised in
       record {
         registers = parts.registers;
-        lengths = parts.lengths;
+        memories = parts.memories;
         backup = parts.backup;
         devices = parts.devices;
         serial = parts.serial;
+        lines = parts.lines;
         counts = counts.steps dues m is.counts;
         changes = record {
           within =
@@ -388,19 +395,27 @@ module _ (words : (word : ℕ) (file : List ℕ) (b : Core) → IsSoundFile file
 
   -- ---- at reset
 
-  reset-saved : (place : ℕ) → 31 < place → kept_status (get_or reset_file place 0) ≡ get_or reset_file place 0
-  unfolding reset_file
-  reset-saved place high =
-      let zeros : get_or reset_file place 0 ≡ 0 =
-      get_or-set_other (replicate 37 0) 31 place 0xd3 0 (omega (arith, high)) ∙ none (cases_lt place 37) in
-      rw zeros refl
-    where
-      blank : List ℕ
-      blank = replicate 37 0
+  blank : List ℕ
+  blank = replicate 37 0
 
+  blank-zero : (place : ℕ) → get_or blank place 0 ≡ 0
+  unfolding blank
+  blank-zero place = none (cases_lt place 37)
+    where
       none : (place < 37) ⊎ (37 ≤ place) → get_or blank place 0 ≡ 0
       none (inl within) = get_or-replicate {A = ℕ} 37 place 0 0 within
       none (inr past) = get_or_past blank place 0 (omega (arith, past))
+
+  reset-saved : (place : ℕ) → 31 < place → kept_status (get_or reset_file place 0) ≡ get_or reset_file place 0
+  unfolding reset_file blank
+  reset-saved place high =
+      let zeros : get_or reset_file place 0 ≡ 0 =
+      get_or-set_other blank 31 place 0xd3 0 (omega (arith, high)) ∙ blank-zero place in
+      rw zeros refl
+
+  reset-words : (place : ℕ) → get_or reset_file place 0 < 2 ^ 32
+  unfolding reset_file blank
+  reset-words = set-words blank 31 0xd3 (λ place. rw (blank-zero place) (omega arith)) (omega arith)
 
   reset-sound : IsSoundFile reset_file
   unfolding reset_file register status mode place
@@ -408,24 +423,31 @@ module _ (words : (word : ℕ) (file : List ℕ) (b : Core) → IsSoundFile file
     stored = record {
       whole = record { count = refl; status_kept = record { stored = refl; mode = refl } };
       saved = reset-saved;
+      words = reset-words;
     };
     aligned = refl;
   }
 
-  lengths-at-start : (bios : List ℕ) (cart save : Option (List ℕ)) (backup : Backup) → HaveLengths (at_start bios cart save backup)
+  memories-at-start : (bios : List ℕ) (cart save : Option (List ℕ)) (backup : Backup) → AreBytes (saved_bytes save backup)
+      → MemoriesHold (at_start bios cart save backup)
   unfolding at_start work_length inner_length palette_length vram_length oam_length
-  lengths-at-start bios cart save backup = record {
-    work = length-replicate {A = ℕ} 0x40000 0;
-    inner = length-replicate {A = ℕ} 0x8000 0;
-    palette = length-replicate {A = ℕ} 0x400 0;
-    vram = length-replicate {A = ℕ} 0x18000 0;
-    oam = length-replicate {A = ℕ} 0x400 0;
-  }
+  memories-at-start bios cart save backup are = record {
+    work = has-replicate 0x40000 0 (omega arith);
+    inner = has-replicate 0x8000 0 (omega arith);
+    palette = has-replicate 0x400 0 (omega arith);
+    vram = has-replicate 0x18000 0 (omega arith);
+    oam = has-replicate 0x400 0 (omega arith);
+    backup = by_kind backup;
+  } where
+    by_kind : (kind : Backup) → AreBytes (backup_bytes (backup_at_start kind (saved_bytes save backup)))
+    by_kind Sram = are
+    by_kind Flash64 = are
+    by_kind Flash128 = are
 
-  saved-length : (save : Option (List ℕ)) (backup : Backup) → ((bytes : List ℕ) → save ≡ Some bytes → length bytes ≡ backup_length backup)
-      → length (saved_bytes save backup) ≡ backup_length backup
-  saved-length None backup fits = length-replicate {A = ℕ} (backup_length backup) 0xff
-  saved-length (Some bytes) backup fits = fits bytes refl
+  saved-has : (save : Option (List ℕ)) (backup : Backup)
+      → ((bytes : List ℕ) → save ≡ Some bytes → HasBytes (backup_length backup) bytes) → HasBytes (backup_length backup) (saved_bytes save backup)
+  saved-has None backup fits = has-replicate (backup_length backup) 0xff (omega arith)
+  saved-has (Some bytes) backup fits = fits bytes refl
 
   backup-sound : (backup : Backup) (bytes : List ℕ) → length bytes ≡ backup_length backup → IsSoundBackup (backup_at_start backup bytes)
   backup-sound Sram bytes long = long
@@ -441,19 +463,19 @@ module _ (words : (word : ℕ) (file : List ℕ) (b : Core) → IsSoundFile file
   }
 
   backup-start : (bios : List ℕ) (cart save : Option (List ℕ)) (backup : Backup)
-      → ((bytes : List ℕ) → save ≡ Some bytes → length bytes ≡ backup_length backup)
-      → IsSoundBackup (at_start bios cart save backup).backup
+      → HasBytes (backup_length backup) (saved_bytes save backup) → IsSoundBackup (at_start bios cart save backup).backup
   unfolding at_start
-  backup-start bios cart save backup fits = backup-sound backup (saved_bytes save backup) (saved-length save backup fits)
+  backup-start bios cart save backup has = backup-sound backup (saved_bytes save backup) has.long
 
   pub steps-hold : StepsHold
   steps-hold = record {
     begins = λ player count round off bios cart save backup keys room seated few short fits. record {
       registers = reset-sound;
-      lengths = lengths-at-start bios cart save backup;
-      backup = backup-start bios cart save backup fits;
+      memories = memories-at-start bios cart save backup (saved-has save backup fits).bytes;
+      backup = backup-start bios cart save backup (saved-has save backup fits);
       devices = devices.reset;
       serial = serial.reset player count round seated few short;
+      lines = λ line none within. absurd (omega (arith, within));
       counts = counts.begins player count round off bios cart save backup keys room;
       changes = record { within = omega arith; due = λ moved. absurd (omega (arith, moved)); pressed = refl };
       numbers = record { frames = omega arith; pairs = omega arith; past = omega arith; next = omega arith };

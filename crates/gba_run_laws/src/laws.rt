@@ -1,6 +1,6 @@
 //! What a console keeps to, from reset on.
 
-ghost use Rattle.gba_run_laws.specs.Holding.{StepsHold};
+ghost use Rattle.gba_run_laws.specs.Holding.{StepsHold, StepsLeaveTheRest};
 
 use gba_console::laws::{counts_what_it_keeps, steps_pass};
 use gba_device_laws::laws::{devices_stay, serial_stays};
@@ -28,4 +28,15 @@ pub fn steps_hold()
     stays_seated();
     writes_keep_ends();
     writes_keep_time();
+}
+
+/// A step leaves the images, what the saves are kept in, the seat, the changes of the keys, the clock from which on the console is on,
+/// and what is kept of what it makes.
+pub fn steps_leave_the_rest()
+    ensures { StepsLeaveTheRest }
+{
+    backups_stay_sound();
+    board_passes();
+    counts_what_it_keeps();
+    stays_seated();
 }

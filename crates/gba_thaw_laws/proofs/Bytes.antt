@@ -20,7 +20,7 @@ use Rattle.gba_serial.specs.Timing.{is_multi}
 use Rattle.gba_snapshot.specs.Console.{colours_of}
 use Rattle.gba_snapshot.specs.Io.{io_bytes}
 use Rattle.gba_device_laws.specs.Cable.{SerialHolds}
-use Rattle.gba_thaw_laws.specs.Text.{LineHolds}
+use Rattle.gba_device_laws.specs.Holding.{HasBytes}
 use Rattle.gba_thaw_laws.proofs.Bits.{is_half_row, stored-small}
 use Rattle.gba_thaw_laws.proofs.Ranges.{byte-below, weight-most}
 
@@ -126,5 +126,5 @@ colours-from bytes are from (suc count) long =
     ∙ ap (λ (k : ℕ). slice_index bytes (2 * from) ∷ slice_index bytes (2 * from + 1) ∷ drop k bytes) next
     ∙ ap (λ (xs : List ℕ). slice_index bytes (2 * from) ∷ xs) (sym second) ∙ sym first
 
-pub colours-again : (line : List ℕ) → LineHolds line → colours_bytes (colours_of line) ≡ line
+pub colours-again : (line : List ℕ) → HasBytes 480 line → colours_bytes (colours_of line) ≡ line
 colours-again line holds = colours-from line holds.bytes 0 240 (sym holds.long)

@@ -137,7 +137,7 @@ told-alike : (dues : List Incoming) (m : Machine) → told dues (as_it_runs m) �
 unfolding told told_on
 told-alike dues m = told-unlimited dues m
 
-runs-unseen : IsUnseen console_kind (λ i. as_it_runs) (λ i. as_it_runs)
+pub runs-unseen : IsUnseen console_kind (λ i. as_it_runs) (λ i. as_it_runs)
 runs-unseen = record {
   clocks = record {
     clock = λ i x y same. ap clock_of same;

@@ -19,6 +19,5 @@ pub mod Console
 pub mod Bytes
 pub mod Spelled
 pub mod Lines
-pub mod Reset
 pub mod Setups
 pub mod Cut

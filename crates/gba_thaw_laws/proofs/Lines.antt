@@ -20,7 +20,8 @@ use Rattle.gba_thaw.specs.Console.{console_thawed}
 use Rattle.gba_thaw.specs.Cut.{lines_read, memories_read}
 use Rattle.gba_thaw_laws.specs.Holds.{Holds}
 use Rattle.gba_thaw_laws.specs.Laws.{drawn_of}
-use Rattle.gba_thaw_laws.specs.Text.{IsSpelled, LineHolds, LinesStand, LinesThawAgain, MemoriesHold}
+use Rattle.gba_device_laws.specs.Holding.{HasBytes}
+use Rattle.gba_thaw_laws.specs.Text.{IsSpelled, LinesStand, LinesThawAgain, MemoriesHold}
 use Rattle.gba_thaw_laws.proofs.Bytes.{below-bytes, colours-again, colours-below, colours-long, io-below}
 use Rattle.gba_thaw_laws.proofs.Console.{thaws-again}
 use Rattle.gba_thaw_laws.proofs.Spelled.{are-frozen}
@@ -28,7 +29,7 @@ use Rattle.gba_thaw_laws.proofs.Spelled.{are-frozen}
 -- ---- the drawn lines
 
 abbrev AllHold : List (List ℕ) → Type 0
-AllHold lines = (line : ℕ) → line < length lines → LineHolds (slice_index_or lines line [])
+AllHold lines = (line : ℕ) → line < length lines → HasBytes 480 (slice_index_or lines line [])
 
 numbered : (line : ℕ) (lines : List (List ℕ)) → are_numbered line (drawn_from line lines) ≡ true
 unfolding are_numbered drawn_from

@@ -95,6 +95,6 @@ bytes-are m holds = record {
   wave1 = refl;
   fit_a = holds.sound.queue_a.bytes;
   fit_b = holds.sound.queue_b.bytes;
-  fit0 = holds.tones.bank0;
-  fit1 = holds.tones.bank1;
+  fit0 = holds.tones.bank0.bytes;
+  fit1 = holds.tones.bank1.bytes;
 }

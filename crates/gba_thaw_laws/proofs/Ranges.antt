@@ -201,8 +201,8 @@ module _ (b : Core) (d : DevicesHold b.devices) (s : SerialHolds b.serial) where
   bank-below bank place =
       cond_both (bank == 0) b.devices.tones.wave.bank0 b.devices.tones.wave.bank1
       (λ (bytes : List ℕ). slice_index bytes place < 0x100)
-      (λ _. byte-below b.devices.tones.wave.bank0 d.tones.bank0 place)
-      (λ _. byte-below b.devices.tones.wave.bank1 d.tones.bank1 place)
+      (λ _. byte-below b.devices.tones.wave.bank0 d.tones.bank0.bytes place)
+      (λ _. byte-below b.devices.tones.wave.bank1 d.tones.bank1.bytes place)
 
   x-below : (background : ℕ) → (reference_of background b.devices.picture).x < 2 ^ 32
   x-below background =

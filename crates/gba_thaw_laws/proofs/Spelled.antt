@@ -200,8 +200,8 @@ module _ (until : ℕ) (m : Machine) (holds : Holds m) (spelled : IsSpelled m) (
     queue_b = refl;
     short_a = holds.devices.sound.queue_a.few;
     short_b = holds.devices.sound.queue_b.few;
-    wave0 = spelled.bank0;
-    wave1 = spelled.bank1;
+    wave0 = holds.devices.tones.bank0.long;
+    wave1 = holds.devices.tones.bank1.long;
   }
 
   no-flash : is_flash (backup_in m) ≡ false → (part : ℕ) → part < 4 → value_of (flash_field_of part) (numbers_of m) ≡ 0

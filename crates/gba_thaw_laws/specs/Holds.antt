@@ -1,6 +1,6 @@
 -- The rules that the consoles of a run keep, device by device, beside what their memories and their images are. Of a
 -- console that keeps them, what a frozen file says of it makes it again.
-use Rattle.std.specs.Prelude.{◌≡◌, ℕ, ◌+◌, ◌%◌, ◌^◌, ◌<◌, ◌≤◌, true, List, length, slice_index, if◌then◌else◌}
+use Rattle.std.specs.Prelude.{◌≡◌, ℕ, ◌+◌, ◌%◌, ◌^◌, ◌<◌, ◌≤◌, true, List, length, slice_index}
 use Rattle.gba_console.specs.Keys.{due_count}
 use Rattle.gba_console.specs.Machine.{Machine, clock_of}
 use Rattle.gba_device_laws.specs.Cable.{SerialHolds}

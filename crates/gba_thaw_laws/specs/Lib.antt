@@ -2,5 +2,4 @@ pub mod Holds
 pub mod Said
 pub mod Laws
 pub mod Text
-pub mod Reset
 pub mod Cut

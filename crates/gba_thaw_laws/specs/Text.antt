@@ -1,8 +1,9 @@
 -- What else the consoles of a run keep, so that what a frozen file says of them has a text, which is read as it was
 -- written.
-use Rattle.std.specs.Prelude.{◌≡◌, ℕ, ◌+◌, ◌^◌, ◌<◌, ◌≤◌, Some, option_map, List, [], length, slice_index, slice_index_or}
+use Rattle.std.specs.Prelude.{◌≡◌, ℕ, ◌+◌, ◌^◌, ◌<◌, ◌≤◌, Some, option_map, [], length, slice_index, slice_index_or}
 use Rattle.gba_console.specs.Machine.{Machine, clock_of}
 use Rattle.gba_console.specs.Shorn.{shorn}
+use Rattle.gba_device_laws.specs.Holding.{HasBytes}
 use Rattle.gba_frozen_text.specs.Laws.{IsConsole}
 use Rattle.gba_loose.specs.Again.{AreBytes}
 use Rattle.gba_mem.specs.Backups.{backup_bytes}
@@ -22,20 +23,13 @@ pub record MemoriesHold (m : Memories) : Type 0 where
   pub oam : AreBytes m.oam
   pub backup : AreBytes (backup_bytes m.backup)
 
--- a drawn line has 240 colours of two bytes
-pub record LineHolds (line : List ℕ) : Type 0 where
-  pub long : length line ≡ 480
-  pub bytes : AreBytes line
-
--- SPSRs have the bits of a status alone, and a bank of the wave has 16 bytes.
+-- SPSRs have the bits of a status alone, and a drawn line has 240 colours of two bytes.
 pub record IsSpelled (m : Machine) : Type 0 where
   pub saved : (register : ℕ) → 32 ≤ register
       → kept_status (slice_index m.registers register) ≡ slice_index m.registers register
   pub applied : m.applied < 2 ^ 40
-  pub bank0 : length m.board.core.devices.tones.wave.bank0 ≡ 16
-  pub bank1 : length m.board.core.devices.tones.wave.bank1 ≡ 16
   pub memories : MemoriesHold m.board.core.memory
-  pub lines : (line : ℕ) → line < length m.board.core.lines → LineHolds (slice_index_or m.board.core.lines line [])
+  pub lines : (line : ℕ) → line < length m.board.core.lines → HasBytes 480 (slice_index_or m.board.core.lines line [])
 
 -- What the lines of a frozen file say of a console may stand there, in a job of so many cycles,
 abbrev pub LinesStand : Type 0

@@ -2,7 +2,6 @@
 
 ghost use Rattle.gba_thaw_laws.specs.Cut.{FilesThawAgain};
 ghost use Rattle.gba_thaw_laws.specs.Laws.{BitsAreStored, ChannelsThawAgain, ControlThawsAgain, DevicesThawAgain, HalvesAgain, PictureThawsAgain, SaysItself, SerialThawsAgain, SoundThawsAgain, ThawsAgain};
-ghost use Rattle.gba_thaw_laws.specs.Reset.{HoldsAtReset, SpelledAtReset};
 ghost use Rattle.gba_thaw_laws.specs.Text.{LinesStand, LinesThawAgain};
 
 /// The bytes of a core's I/O registers, read as halfwords, are what is stored there.
@@ -65,16 +64,6 @@ pub fn lines_stand()
 /// What these lines say makes the console again of one at the start of its job, but for what no step looks at.
 pub fn lines_thaw_again()
     ensures { LinesThawAgain }
-{}
-
-/// A console at reset keeps the rules, whatever its images, its seat and the changes of its keys are.
-pub fn holds_at_reset()
-    ensures { HoldsAtReset }
-{}
-
-/// Its bytes are bytes, where those of its save are.
-pub fn spelled_at_reset()
-    ensures { SpelledAtReset }
 {}
 
 /// The frozen file of consoles that keep their rules on the cable of their job, if it isn't too long, is thawed: each

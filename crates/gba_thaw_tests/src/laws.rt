@@ -17,8 +17,6 @@ fn making_again_is_stated() {
     gba_thaw_laws::laws::thaws_again();
     gba_thaw_laws::laws::lines_stand();
     gba_thaw_laws::laws::lines_thaw_again();
-    gba_thaw_laws::laws::holds_at_reset();
-    gba_thaw_laws::laws::spelled_at_reset();
     gba_thaw_laws::laws::files_thaw_again();
 }
 
@@ -29,4 +27,7 @@ fn rules_of_a_run_are_stated() {
     gba_device_laws::laws::devices_stay();
     gba_device_laws::laws::serial_stays();
     gba_run_laws::laws::steps_hold();
+    gba_run_laws::laws::steps_leave_the_rest();
+    gba_freeze_laws::laws::runs_can_be_frozen();
+    gba_freeze_laws::laws::frozen_runs_go_on();
 }

@@ -3,4 +3,5 @@ use Rattle.gba_exec_laws.proofs.laws.halfwords_stay_sound.Goals as goal
 
 pub returns : goal.returns
 returns g c =
-    sound-half-execution g.B.Bus.code_price_of g.B.Bus.load_of g.B.Bus.store_of c.operations_fit.ensures
+    sound-half-execution g.B.Bus.code_price_of g.B.Bus.load_of g.B.Bus.store_of g.met.B.Bus.loads_fit
+    c.operations_fit.ensures

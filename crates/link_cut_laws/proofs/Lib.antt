@@ -1,0 +1,4 @@
+pub mod Turning
+pub mod Going
+pub mod Coming
+pub mod Keeping
