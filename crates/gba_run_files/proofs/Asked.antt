@@ -35,14 +35,14 @@ made State m = refl
 made Save m = refl
 
 -- what is asked for is written
-asked-bytes : (console : ConsoleJob) (m : Machine) (kind : OutKind) → asks_for console kind ≡ true
+pub asked-bytes : (console : ConsoleJob) (m : Machine) (kind : OutKind) → asks_for console kind ≡ true
     → at_kind (files_of (asks_of console) m) kind ≡ output_bytes kind m
 asked-bytes console m kind asks =
     at-per_kind (bytes_if (asks_of console) m) kind
     ∙ ap (λ (asked : Bool). if asked then output_bytes kind m else []) (at-per_kind (asks_for console) kind ∙ asks)
 
 -- a job asks one of its consoles for an output
-asked-console : (kind : OutKind) (there : Option ConsoleJob) → is_some (option_and_then (line_in kind) there) ≡ true
+pub asked-console : (kind : OutKind) (there : Option ConsoleJob) → is_some (option_and_then (line_in kind) there) ≡ true
     → (console : ConsoleJob) × (there ≡ Some console) × (asks_for console kind ≡ true)
 asked-console kind None asks = absurd cc
 asked-console kind (Some console) asks = (console, refl, asks)
@@ -88,7 +88,7 @@ module _ (out : List ℕ) where
   -- ---- which outputs there are
 
   -- the file of an output of the console that stands so many places behind a player
-  abbrev file_of : ℕ → ℕ → OutKind → PerKind (List ℕ) → Output
+  abbrev pub file_of : ℕ → ℕ → OutKind → PerKind (List ℕ) → Output
   file_of player k kind one = record { name = output_file out (player + k) kind; bytes = at_kind one kind }
 
   first-file : (player : ℕ) (kind : OutKind) (one : PerKind (List ℕ))
@@ -103,14 +103,14 @@ module _ (out : List ℕ) where
       let is : (player + 1) + k ≡ player + suc k = omega arith in
       ap (λ (p : ℕ). record { name = output_file out p kind; bytes = at_kind one kind }) is
 
-  player-file : (player : ℕ) (kind : OutKind) (one : PerKind (List ℕ))
+  pub player-file : (player : ℕ) (kind : OutKind) (one : PerKind (List ℕ))
       → file_of 0 player kind one ≡ record { name = output_file out player kind; bytes = at_kind one kind }
   player-file player kind one =
       let is : 0 + player ≡ player = omega arith in
       ap (λ (p : ℕ). record { name = output_file out p kind; bytes = at_kind one kind }) is
 
   -- each that is asked for is there
-  outputs-there : (player count : ℕ) (consoles : List ConsoleJob) (files : List (PerKind (List ℕ))) (k : ℕ) (kind : OutKind)
+  pub outputs-there : (player count : ℕ) (consoles : List ConsoleJob) (files : List (PerKind (List ℕ))) (k : ℕ) (kind : OutKind)
       (console : ConsoleJob) (one : PerKind (List ℕ)) → length consoles ≡ count → slice_get consoles k ≡ Some console
       → slice_get files k ≡ Some one → asks_for console kind ≡ true
       → Contains (outputs_of (names_from out player count) consoles files) (file_of player k kind one)
@@ -177,7 +177,7 @@ module _ (out : List ℕ) where
 -- ---- the files of consoles
 
 -- the console of a player that a job has, and what is written of it
-files-give : (consoles : List ConsoleJob) (ms : List Machine) (k : ℕ) (console : ConsoleJob)
+pub files-give : (consoles : List ConsoleJob) (ms : List Machine) (k : ℕ) (console : ConsoleJob)
     → length ms ≡ length consoles → slice_get consoles k ≡ Some console
     → (m : Machine) × (slice_get ms k ≡ Some m)
     × (slice_get (all_files (map asks_of consoles) ms) k ≡ Some (files_of (asks_of console) m))
