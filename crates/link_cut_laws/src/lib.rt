@@ -26,7 +26,8 @@ pub fn cable<N: Node>()
     ensures { KeepsCable (kind_of N.clock N.was N.next) }
 {}
 
-/// Each console that a run leaves has come there by steps that each begin before the end and take what is due to them.
+/// Each console that a run leaves has come there by steps of its own: each begins before the end, and takes only what
+/// arrived since the last one began, in its order.
 pub fn steps<N: Node>()
     ensures { ComesBySteps (kind_of N.clock N.was N.next) }
 {}
