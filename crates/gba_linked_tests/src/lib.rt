@@ -5,6 +5,8 @@
 #[cfg(test)]
 mod failing;
 #[cfg(test)]
+mod laws;
+#[cfg(test)]
 mod linked;
 #[cfg(test)]
 mod meeting;

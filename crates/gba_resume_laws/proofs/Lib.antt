@@ -1,0 +1,4 @@
+pub mod Jobs
+pub mod Outputs
+pub mod Plans
+pub mod Resuming

@@ -1,0 +1,5 @@
+use Rattle.gba_resume_laws.proofs.Resuming.{go-on}
+use Rattle.gba_resume_laws.proofs.laws.frozen_jobs_go_on_as_run.Goals as goal
+
+pub returns : goal.returns
+returns c = go-on c.frozen_runs_go_on.ensures
