@@ -4,6 +4,7 @@ use Rattle.std.proofs.lemmas.List.{length-map}
 use Rattle.gba_console.specs.Alone.{console_kind}
 use Rattle.gba_console.specs.Machine.{Machine, forgotten, without_limit}
 use Rattle.gba_console.specs.Segments.{LiveSegments, forgotten_cut}
+use Rattle.gba_freeze_laws.specs.Length.{FrozenFilesAreShort}
 use Rattle.gba_freeze_laws.specs.Parts.{FrozenRunsGoOn, end_from}
 use Rattle.gba_freeze_laws.specs.Reached.{RunsCanBeFrozen, reached}
 use Rattle.gba_session.proofs.Consoles.{fit-long}
@@ -25,13 +26,13 @@ each-plain (m ∷ ms) = ap (λ (rest : List Machine). as_it_runs m ∷ rest) (ea
 plain-alike : (cut : Cut Machine) → mapped (λ i. as_it_runs) (plain_cut without_limit cut) ≡ mapped (λ i. as_it_runs) cut
 plain-alike cut = ap (λ (ms : List Machine). let c : Cut Machine = record cut { consoles = ms } in c) (each-plain cut.consoles)
 
-pub goes-on : RunsCanBeFrozen → FilesThawAgain → LiveSegments → KeepsCable console_kind → AreAlike console_kind → RunsAlike console_kind
-    → FrozenRunsGoOn
-goes-on frozen again segments cables alike runs digest job images clock long small is fits saved early short =
+pub goes-on : RunsCanBeFrozen → FrozenFilesAreShort → FilesThawAgain → LiveSegments → KeepsCable console_kind
+    → AreAlike console_kind → RunsAlike console_kind → FrozenRunsGoOn
+goes-on frozen short again segments cables alike runs digest job images clock long small is fits saved early =
     let start = start_of job images in
     let first = reached job images clock in
     let can = frozen job images clock is fits saved early in
-    let thaw = again digest job.cycles start first long small can short in
+    let thaw = again digest job.cycles start first long small can (short digest job.cycles start first long can) in
     let made = thaw.made in
     let begins = start-can job images is (fit-long job.consoles images fits) in
     let rest = run_until job.cycles (forgotten_cut first) in
@@ -48,6 +49,7 @@ goes-on frozen again segments cables alike runs digest job images clock long sma
     record {
       made = made;
       thawed = thaw.thawed;
+      same = thaw.same;
       consoles = have-parts (end_of job images) first rest second whole (sym same) many;
       lines = same-lines (end_of job images) first rest second whole (sym same) many;
     }

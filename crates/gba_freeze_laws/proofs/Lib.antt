@@ -1,4 +1,6 @@
+pub mod FileLengths
 pub mod Going
+pub mod LineLengths
 pub mod Parting
 pub mod Reaching
 pub mod Ready

@@ -2,8 +2,8 @@
 use Rattle.std.specs.Prelude.{◌≡◌, ℕ, ◌≤◌, ◌++◌, List, map, length, Ok, Some, if◌then◌else◌, slice_get}
 use Rattle.std.specs.List.{All}
 use Rattle.gba_console.specs.Machine.{Machine, without_limit}
+use Rattle.gba_console.specs.Shorn.{shorn}
 use Rattle.gba_freeze_laws.specs.Reached.{HasSavedBytes, reached}
-use Rattle.gba_frozen.specs.Reading.{longest_file}
 use Rattle.gba_frozen_print.specs.Laws.{AreBelow}
 use Rattle.gba_image.specs.declared.images.ConsoleImages.{ConsoleImages}
 use Rattle.gba_joblog.specs.Job.{WholeJob}
@@ -14,6 +14,7 @@ use Rattle.gba_session.specs.Files.{grows, output_bytes}
 use Rattle.gba_session.specs.Start.{FitJob, end_of, run_until, start_of}
 use Rattle.gba_snapshot.specs.File.{frozen_file}
 use Rattle.gba_thaw.specs.Cut.{thaw_of}
+use Rattle.link_mapped.specs.Mapped.{mapped}
 use Rattle.link_order.specs.Cut.{Cut, plain_cut}
 
 -- an output of a whole run, from that of its first part and that of its second: what grows is made in both, and state and save are
@@ -38,18 +39,19 @@ pub record HasParts (first second : Cut Machine) (player : ℕ) (whole : Machine
 abbrev pub end_from : WholeJob → Cut Machine → Cut Machine
 end_from job thawed = run_until job.cycles (plain_cut without_limit thawed)
 
--- The frozen file of a job at a clock is thawed, and each console of the job's run has these parts.
+-- The frozen file of a job at a clock is thawed to what was frozen, but for what no step looks at, and each console of the
+-- job's run has these parts.
 pub record GoesOn (digest : List ℕ) (job : WholeJob) (images : List ConsoleImages) (clock : ℕ) : Type 0 where
   pub made : Cut Machine
   pub thawed : thaw_of digest job.cycles (start_of job images) (frozen_file digest (reached job images clock)) ≡ Ok made
+  pub same : mapped (λ i. shorn) made ≡ mapped (λ i. shorn) (reached job images clock)
   pub consoles : (player : ℕ) (whole : Machine) → slice_get (end_of job images).consoles player ≡ Some whole
       → HasParts (reached job images clock) (end_from job made) player whole
   pub lines : map summary_line (end_of job images).consoles ≡ map summary_line (end_from job made).consoles
 
--- So it is of every sound job with images that fit its consoles, at each clock up to its cycles, if the frozen file isn't too long.
+-- So it is of every sound job with images that fit its consoles, at each clock up to its cycles.
 abbrev pub FrozenRunsGoOn : Type 0
 FrozenRunsGoOn =
     (digest : List ℕ) (job : WholeJob) (images : List ConsoleImages) (clock : ℕ) → length digest ≡ 32 → AreBelow 2 digest
     → IsJob job → FitJob job images → All HasSavedBytes images → clock ≤ job.cycles
-    → length (frozen_file digest (reached job images clock)) ≤ longest_file
     → GoesOn digest job images clock

@@ -1,5 +1,6 @@
 //! Laws over the definitions. Each is the contract of a function that takes no value.
 
+ghost use Rattle.gba_freeze_laws.specs.Length.{FrozenFilesAreShort};
 ghost use Rattle.gba_freeze_laws.specs.Parts.{FrozenRunsGoOn};
 ghost use Rattle.gba_freeze_laws.specs.Reached.{RunsCanBeFrozen};
 
@@ -24,13 +25,19 @@ pub fn runs_can_be_frozen()
     end::<Console>();
 }
 
-/// The frozen file of a job's run at a clock is thawed, if it isn't too long, and the run goes on from there: of each console, what the
-/// whole run makes of frames, samples and words is what was made before and then what is made since, and the state, the save and the
-/// line of the summary are the same at the end.
+/// The frozen file of consoles that can be frozen isn't longer than one that is read, 134,217,728 bytes.
+pub fn frozen_files_are_short()
+    ensures { FrozenFilesAreShort }
+{}
+
+/// The frozen file of a job's run at a clock is thawed to what was frozen, but for what no step looks at, and the run goes
+/// on from there: of each console, what the whole run makes of frames, samples and words is what was made before and then
+/// what is made since, and the state, the save and the line of the summary are the same at the end.
 pub fn frozen_runs_go_on()
     ensures { FrozenRunsGoOn }
 {
     runs_can_be_frozen();
+    frozen_files_are_short();
     files_thaw_again();
     segments();
     cable::<Console>();

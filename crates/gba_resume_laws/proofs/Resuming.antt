@@ -8,8 +8,10 @@ use Rattle.gba_command.specs.Plan.{outcome}
 use Rattle.gba_command.specs.Words.{FreezeWords, ResumeWords, RunWords}
 use Rattle.gba_command.specs.Writing.{Output, Run}
 use Rattle.gba_console.specs.Machine.{Machine}
+use Rattle.gba_freeze_laws.specs.Length.{FrozenFilesAreShort}
 use Rattle.gba_freeze_laws.specs.Parts.{FrozenRunsGoOn, GoesOn, HasParts, end_from}
-use Rattle.gba_freeze_laws.specs.Reached.{reached}
+use Rattle.gba_freeze_laws.specs.Reached.{RunsCanBeFrozen, reached}
+use Rattle.gba_frozen.specs.Reading.{longest_file}
 use Rattle.gba_image.specs.declared.images.ConsoleImages.{ConsoleImages}
 use Rattle.gba_inputs.proofs.SoundInputs.{filled-sound, inputs-sound, zip-long}
 use Rattle.gba_inputs.specs.Filled.{filled}
@@ -53,7 +55,7 @@ some-same x y same = cc
 bytes_in : Output → List ℕ
 bytes_in output = output.bytes
 
-module _ (goes : FrozenRunsGoOn) (old new : Files) (freeze : FreezeWords) (resume : ResumeWords) (words : RunWords) (job : WholeJob)
+module _ (freezes : RunsCanBeFrozen) (small : FrozenFilesAreShort) (goes : FrozenRunsGoOn) (old new : Files) (freeze : FreezeWords) (resume : ResumeWords) (words : RunWords) (job : WholeJob)
     (inputs : List ConsoleInputs) (first run : Run) (froze : outcome old (freeze_plan freeze) ≡ Ok first)
     (ran : outcome old (whole_run_plan words) ≡ Ok run) (says : SaysJob old freeze.run.job job) (says_whole : SaysJob old words.job job)
     (passes : outcome old (inputs_plan job.consoles) ≡ Ok inputs) (saved : HaveSavedBytes inputs)
@@ -123,12 +125,18 @@ module _ (goes : FrozenRunsGoOn) (old new : Files) (freeze : FreezeWords) (resum
   going =
       let one = IsDigest-sha256 (log_text (job_unstated whole)) in
       goes digest whole images freeze.clock one.sized (below-bytes digest (λ place within. one.bytes place)) fine fits saved was.early
-      (subst (λ (bytes : List ℕ). length bytes ≤ 134217728) frozen-bytes can.frozen.short)
 
   thawed : thawed_cut job inputs can.frozen.bytes ≡ Ok going.made
   thawed =
       ap (λ (start : Cut Machine). thaw_of digest job.cycles start can.frozen.bytes) (start-unstated whole images)
       ∙ ap (thaw_of digest job.cycles (start_of whole images)) frozen-bytes ∙ going.thawed
+
+  short : length can.frozen.bytes ≤ longest_file
+  short =
+      let one = IsDigest-sha256 (log_text (job_unstated whole)) in
+      subst (λ (bytes : List ℕ). length bytes ≤ longest_file) (sym frozen-bytes)
+      (small digest whole.cycles (start_of whole images) (reached whole images freeze.clock) one.sized
+      (freezes whole images freeze.clock fine fits saved was.early))
 
   -- ---- the resumed run
 
@@ -141,7 +149,7 @@ module _ (goes : FrozenRunsGoOn) (old new : Files) (freeze : FreezeWords) (resum
   comes : outcome new (resume_plan resume) ≡ Ok second
   comes =
       will-resume new resume job inputs was.bytes can.frozen.bytes going.made (can.same_job ∙ was.there) was.short was.says can.apart
-      (can.same_inputs ∙ passes) can.frozen.there can.frozen.short thawed
+      (can.same_inputs ∙ passes) can.frozen.there short thawed
 
   last-many : length last.consoles ≡ length plain_job.consoles
   last-many =
@@ -231,6 +239,6 @@ module _ (goes : FrozenRunsGoOn) (old new : Files) (freeze : FreezeWords) (resum
         keeps.summary;
   }
 
-pub go-on : FrozenRunsGoOn → FrozenJobsGoOnAsRun
-go-on goes old new freeze resume words job inputs first run froze ran says says_whole passes saved can =
-    goes-on-as goes old new freeze resume words job inputs first run froze ran says says_whole passes saved can
+pub go-on : RunsCanBeFrozen → FrozenFilesAreShort → FrozenRunsGoOn → FrozenJobsGoOnAsRun
+go-on freezes small goes old new freeze resume words job inputs first run froze ran says says_whole passes saved can =
+    goes-on-as freezes small goes old new freeze resume words job inputs first run froze ran says says_whole passes saved can

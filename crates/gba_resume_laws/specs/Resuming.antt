@@ -1,12 +1,11 @@
 -- A job that is frozen and resumed writes what its run writes.
-use Rattle.std.specs.Prelude.{◌≡◌, ℕ, ◌≤◌, true, List, [], ◌∷◌, ◌++◌, length, map, None, Some, Ok, IfOk, Contains}
+use Rattle.std.specs.Prelude.{◌≡◌, ℕ, true, List, [], ◌∷◌, ◌++◌, map, None, Some, Ok, IfOk, Contains}
 use Rattle.std.specs.List.{All}
 use Rattle.gba_command.specs.Plan.{outcome}
 use Rattle.gba_command.specs.Words.{FreezeWords, ResumeWords, RunWords}
 use Rattle.gba_command.specs.Writing.{Output, Run}
 use Rattle.gba_freeze_laws.specs.Parts.{parts_of}
 use Rattle.gba_freeze_laws.specs.Reached.{HasSavedBytes}
-use Rattle.gba_frozen.specs.Reading.{longest_file}
 use Rattle.gba_inputs.specs.Inputs.{ConsoleInputs}
 use Rattle.gba_inputs.specs.InputsPlan.{inputs_plan}
 use Rattle.gba_joblog.specs.Job.{WholeJob}
@@ -25,13 +24,12 @@ use Rattle.gba_store.specs.Files.{Files}
 abbrev pub HaveSavedBytes : List ConsoleInputs → Type 0
 HaveSavedBytes inputs = All HasSavedBytes (map images_in inputs)
 
--- FROZEN is the last file that a freeze wrote, and short enough to be read
+-- FROZEN is the last file that a freeze wrote
 pub record HasFrozen (new : Files) (freeze : FreezeWords) (resume : ResumeWords) (first : Run) : Type 0 where
   pub bytes : List ℕ
   pub others : List Output
   pub last : first.outputs ≡ others ++ record { name = frozen_name freeze.run.out; bytes = bytes } ∷ []
   pub there : new resume.frozen ≡ Some bytes
-  pub short : length bytes ≤ longest_file
 
 -- New files with which a frozen job can be resumed: JOB and its inputs are as they were when it was frozen, FROZEN is the file that
 -- was written, and no file under the new OUT is one that is read.

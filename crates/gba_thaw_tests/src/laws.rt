@@ -29,5 +29,6 @@ fn rules_of_a_run_are_stated() {
     gba_run_laws::laws::steps_hold();
     gba_run_laws::laws::steps_leave_the_rest();
     gba_freeze_laws::laws::runs_can_be_frozen();
+    gba_freeze_laws::laws::frozen_files_are_short();
     gba_freeze_laws::laws::frozen_runs_go_on();
 }
