@@ -32,6 +32,10 @@ pub some-made : (test : Bool) (parts made : ConsoleParts) → Some made ≡ (if 
 some-made true parts made h = refl
 some-made false parts made h = absurd cc
 
+pub parts-made : (test : Bool) (parts made : ConsoleParts) → Some made ≡ (if test then Some parts else None) → made ≡ parts
+parts-made true parts made h = cc
+parts-made false parts made h = absurd cc
+
 module _ (until : ℕ) (m : Machine) (n : ConsoleNumbers) (bytes : MemoryBytes) (drawn : DrawnLines) (io : List ℕ)
     (is : io ≡ bytes memory.Io) where
   pub not-made : can_be_made m n io ≡ false → console_thawed until m n bytes drawn ≡ None
