@@ -14,7 +14,7 @@ use Rattle.link_node.specs.declared.signal.Signal.{Signal}
 use Rattle.gba_filling.specs.Consoles.{IsFilled}
 use Rattle.gba_filling.specs.Drawn.{AreLines, DrawnLines}
 use Rattle.gba_filling.specs.Memories.{bytes_of, with_memory}
-use Rattle.gba_filling.specs.Loose.{LooseConsole}
+use Rattle.gba_filling.specs.Loose.{LooseConsole, with_numbers}
 use Rattle.gba_filling.proofs.MemoryPuts.{put-more, row-within}
 
 pub nothing-kept : (backup : Backup) (draft : ConsoleDraft) (f : LooseConsole) (said : Said) → said ≡ Nothing
@@ -28,8 +28,8 @@ pub live-kept : (backup : Backup) (draft : ConsoleDraft) (f : LooseConsole) (sai
 unfolding with_line_of
 live-kept backup draft f said sender signal is h = rw is h
 
-pub row-kept : (backup : Backup) (draft : ConsoleDraft) (f new : LooseConsole) (said : Said) (which : Row) (values : List ℕ)
-    → said ≡ Values which values → new ≡ record f { numbers = with_values which 0 values f.numbers }
+pub row-kept : (backup : Backup) (draft : ConsoleDraft) (f new : LooseConsole) (said : Said) (which : Row)
+    (values : List ℕ) → said ≡ Values which values → new ≡ with_numbers (with_values which 0 values f.numbers) f
     → IsFilled backup draft f
     → IsFilled backup (with_line_of said draft) new
 unfolding with_line_of
@@ -41,7 +41,7 @@ row-kept backup draft f new said which values is e h = rw (is, e) (record {
 
 pub queue-kept : (backup : Backup) (draft : ConsoleDraft) (f new : LooseConsole) (said : Said) (queue current : ℕ)
     (bytes : List ℕ) → said ≡ QueueBytes queue current bytes
-    → new ≡ record f { numbers = with_queue_line queue current bytes f.numbers }
+    → new ≡ with_numbers (with_queue_line queue current bytes f.numbers) f
     → IsFilled backup draft f → IsFilled backup (with_line_of said draft) new
 unfolding with_line_of
 queue-kept backup draft f new said queue current bytes is e h = rw (is, e) (record {
@@ -50,8 +50,9 @@ queue-kept backup draft f new said queue current bytes is e h = rw (is, e) (reco
   drawn = h.drawn;
 })
 
-pub wave-kept : (backup : Backup) (draft : ConsoleDraft) (f new : LooseConsole) (said : Said) (bank : ℕ) (bytes : List ℕ)
-    → said ≡ WaveBytes bank bytes → new ≡ record f { numbers = reading.with_bytes (wave_byte bank) 0 bytes f.numbers }
+pub wave-kept : (backup : Backup) (draft : ConsoleDraft) (f new : LooseConsole) (said : Said) (bank : ℕ)
+    (bytes : List ℕ) → said ≡ WaveBytes bank bytes
+    → new ≡ with_numbers (reading.with_bytes (wave_byte bank) 0 bytes f.numbers) f
     → IsFilled backup draft f → IsFilled backup (with_line_of said draft) new
 unfolding with_line_of
 wave-kept backup draft f new said bank bytes is e h = rw (is, e) (record {

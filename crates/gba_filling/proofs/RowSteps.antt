@@ -15,11 +15,6 @@ use Rattle.gba_numbers.specs.declared.fields.Field.TheVariants as console
 use Rattle.gba_frozen.specs.Reading.{queue_byte, with_bytes, with_values}
 use Rattle.gba_frozen.specs.Rows.{all_fit, field_of, in_time}
 use Rattle.gba_frozen.specs.declared.rows.Row.{Row}
-use Rattle.gba_filling.specs.Loose.{LooseConsole}
-
--- a console with other numbers
-abbrev pub with_numbers : ConsoleNumbers → LooseConsole → LooseConsole
-with_numbers n l = record l { numbers = n }
 
 -- each value of a row is in its range
 pub fits-at : (until : ℕ) (which : Row) (from place : ℕ) (values : List ℕ) → all_fit until which from values ≡ true

@@ -8,3 +8,7 @@ pub record LooseConsole : Type 0 where
   pub numbers : ConsoleNumbers
   pub memories : List (List ℕ)
   pub drawn : DrawnLines
+
+-- with other numbers
+abbrev pub with_numbers : ConsoleNumbers → LooseConsole → LooseConsole
+with_numbers n loose = record loose { numbers = n }

@@ -1,5 +1,5 @@
 #![tactic(auto)]
-//! What the lines of a frozen file say, kept for the consoles of a job. No command uses it yet.
+//! Consoles that are being filled, number by number, and what the lines of a frozen file say of all consoles of a job.
 
 mod drawn;
 mod filling;

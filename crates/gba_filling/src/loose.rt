@@ -11,9 +11,9 @@ use gba_numbers::{Field, MemoryName, Numbers, fits};
 use std::alloc::{AllocError, Global};
 use std::marker::Model;
 
-/// A console that is being filled. Its numbers are set one by one, each within its range; whether they go together, and with the bytes
-/// of its I/O registers, is asked only of the whole. Contracts see the record of its numbers, of the bytes of its memories, and of its
-/// drawn lines.
+/// A console that is being filled. Its numbers are set one by one, each within its range; whether they go together, and
+/// with the bytes of its I/O registers, is asked only of the whole. Contracts see the record of its numbers, of the bytes of
+/// its memories, and of its drawn lines.
 #[derive(Drop)]
 pub struct Loose {
     numbers: Numbers,
@@ -41,10 +41,11 @@ impl Loose {
     ghost use Rattle.gba_numbers.specs.Ranges.{field_fits};
     ghost use Rattle.gba_filling.specs.Consoles.{IsFilled};
     ghost use Rattle.gba_filling.specs.Drawn.{lines_of};
+    ghost use Rattle.gba_filling.specs.Loose.{with_numbers};
     ghost use Rattle.gba_filling.specs.Memories.{HaveLengths, bytes_of, with_memory};
 
-    /// A console whose saves are kept so, of which nothing was said: its numbers are those of [`Numbers::new`], its bytes are 0, and no
-    /// line is drawn. It takes all memory that it needs, about 600 kilobytes.
+    /// A console whose saves are kept so, of which nothing was said: its numbers are those of [`Numbers::new`], its bytes
+    /// are 0, and no line is drawn. It takes all memory that it needs, about 600 kilobytes.
     pub fn new(alloc: Global, backup: Backup) -> Result<Loose, AllocError>
         ensures { IfOk result (λ loose. IsFilled backup console_at_first loose) }
     {
@@ -85,7 +86,7 @@ impl Loose {
         self.numbers.value(field)
     }
 
-    /// Whether a value is in the range of a number, seen alone: whatever the other numbers are, and whatever keeps the saves.
+    /// Whether a value is in the range of a number, whatever the other numbers are, and whatever keeps the saves.
     pub fn fits(&self, field: Field, value: u64) -> bool
         requires { is_field field ≡ true }
         ensures { result ≡ field_fits field value }
@@ -93,13 +94,13 @@ impl Loose {
         fits(field, value)
     }
 
-    /// Sets a number to one of its range. With the length of a queue its bytes below the new length stay, and new ones are 0. A byte of
-    /// a queue has to be one of those that the queue holds.
+    /// Sets a number to one of its range. With the length of a queue its bytes below the new length stay, and new ones are
+    /// 0. A byte of a queue has to be one of those that the queue holds.
     pub fn set(&mut self, field: Field, value: u64)
         requires known { is_field field ≡ true }
         requires there { is_there (place_of field) self.old.numbers ≡ true }
         requires fits { field_fits field value ≡ true }
-        ensures { self.new ≡ record self.old { numbers = with_value field value self.old.numbers } }
+        ensures { self.new ≡ with_numbers (with_value field value self.old.numbers) self.old }
     {
         self.numbers.set(field, value);
     }
@@ -110,7 +111,8 @@ impl Loose {
         ensures put { self.new ≡ record self.old {
           memories = with_memory (record { name = memory; offset = offset }) bytes.now self.old.memories;
         } }
-        ensures lengths { (backup : Backup) → HaveLengths backup self.old.memories → HaveLengths backup self.new.memories }
+        ensures lengths { (backup : Backup) → HaveLengths backup self.old.memories
+            → HaveLengths backup self.new.memories }
     {
         let place = MemoryPlace {
             name: memory,

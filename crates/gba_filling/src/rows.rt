@@ -5,6 +5,7 @@ ghost use Rattle.gba_frozen.specs.Reading.{queue_byte, wave_byte, with_bytes, wi
 ghost use Rattle.gba_frozen.specs.Rows.{all_fit, count_of, is_row};
 ghost use Rattle.gba_numbers.specs.Fields.{place_of};
 ghost use Rattle.gba_numbers.specs.Numbers.{is_there};
+ghost use Rattle.gba_filling.specs.Loose.{with_numbers};
 
 use crate::loose::Loose;
 use gba_frozen::{Row, count, field};
@@ -15,7 +16,7 @@ pub fn set_row(console: &mut Loose, row: Row, values: &[u64])
     requires row { is_row row ≡ true }
     requires count { length values.now ≡ count_of row }
     requires fit { (until : ℕ) × (all_fit until row 0 values.now ≡ true) }
-    ensures { console.new ≡ record console.old { numbers = with_values row 0 values.now console.old.numbers } }
+    ensures { console.new ≡ with_numbers (with_values row 0 values.now console.old.numbers) console.old }
 {
     for part in 0..count(row) {
         console.set(field(row, part), values[part as usize]);
@@ -27,8 +28,9 @@ pub fn set_row(console: &mut Loose, row: Row, values: &[u64])
 fn set_queue_bytes(console: &mut Loose, queue: u32, bytes: &[u8])
     requires queue { queue < 2 }
     requires few { length bytes.now ≤ 32 }
-    requires there { (place : ℕ) → place < length bytes.now → is_there (place_of (queue_byte queue place)) console.old.numbers ≡ true }
-    ensures { console.new ≡ record console.old { numbers = with_bytes (queue_byte queue) 0 bytes.now console.old.numbers } }
+    requires there { (place : ℕ) → place < length bytes.now
+        → is_there (place_of (queue_byte queue place)) console.old.numbers ≡ true }
+    ensures { console.new ≡ with_numbers (with_bytes (queue_byte queue) 0 bytes.now console.old.numbers) console.old }
 {
     for (place, byte) in bytes.iter().enumerate() {
         let field = Field::QueueByte {
@@ -44,7 +46,7 @@ fn set_queue_bytes(console: &mut Loose, queue: u32, bytes: &[u8])
 pub fn set_queue(console: &mut Loose, queue: u32, current: u8, bytes: &[u8])
     requires queue { queue < 2 }
     requires few { length bytes.now ≤ 32 }
-    ensures { console.new ≡ record console.old { numbers = with_queue_line queue current bytes.now console.old.numbers } }
+    ensures { console.new ≡ with_numbers (with_queue_line queue current bytes.now console.old.numbers) console.old }
 {
     let current_byte = Field::Board(BoardField::QueueCurrent(queue));
     let count = Field::Board(BoardField::QueueLength(queue));
@@ -58,7 +60,7 @@ pub fn set_queue(console: &mut Loose, queue: u32, current: u8, bytes: &[u8])
 pub fn set_wave(console: &mut Loose, bank: u32, bytes: &[u8])
     requires bank { bank < 2 }
     requires count { length bytes.now ≡ 16 }
-    ensures { console.new ≡ record console.old { numbers = with_bytes (wave_byte bank) 0 bytes.now console.old.numbers } }
+    ensures { console.new ≡ with_numbers (with_bytes (wave_byte bank) 0 bytes.now console.old.numbers) console.old }
 {
     for (place, byte) in bytes.iter().enumerate() {
         let field = Field::Board(BoardField::WaveByte {

@@ -25,12 +25,14 @@ behind-front : (front : List Machine) (one : Machine) (rest : Option (List Machi
 behind-front front one None = refl
 behind-front front one (Some rest) = ap (λ (all : List Machine). Some all) (sym (append_assoc front (one ∷ []) rest))
 
-pub none-yet : (until : ℕ) (old : List Machine) (fs : List LooseConsole) → AllHaveLengths old fs → SoFar until 0 old old fs
+pub none-yet : (until : ℕ) (old : List Machine) (fs : List LooseConsole) → AllHaveLengths old fs
+    → SoFar until 0 old old fs
 none-yet until old fs long =
     record { many = refl; rest = refl; so_far = behind-none (all_thawed until old fs); lengths = long }
 
-module _ (until i : ℕ) (old cs : List Machine) (fs : List LooseConsole) (h : SoFar until i old cs fs) (within : i < length fs)
-    (same : length fs ≡ length old) (m : Machine) (f : LooseConsole) (m_is : get_or cs i m ≡ m) (f_is : get_or fs i f ≡ f) where
+module _ (until i : ℕ) (old cs : List Machine) (fs : List LooseConsole) (h : SoFar until i old cs fs)
+    (within : i < length fs) (same : length fs ≡ length old) (m : Machine) (f : LooseConsole)
+    (m_is : get_or cs i m ≡ m) (f_is : get_or fs i f ≡ f) where
   rest-after : drop (i + 1) cs ≡ drop (i + 1) old
   rest-after = sym (drop-drop 1 i cs) ∙ ap (drop 1) h.rest ∙ drop-drop 1 i old
 

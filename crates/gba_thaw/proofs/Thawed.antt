@@ -32,7 +32,8 @@ pub some-made : (test : Bool) (parts made : ConsoleParts) → Some made ≡ (if 
 some-made true parts made h = refl
 some-made false parts made h = absurd cc
 
-pub parts-made : (test : Bool) (parts made : ConsoleParts) → Some made ≡ (if test then Some parts else None) → made ≡ parts
+pub parts-made : (test : Bool) (parts made : ConsoleParts) → Some made ≡ (if test then Some parts else None)
+    → made ≡ parts
 parts-made true parts made h = cc
 parts-made false parts made h = absurd cc
 

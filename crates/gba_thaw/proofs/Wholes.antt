@@ -107,7 +107,8 @@ all-come until (m ∷ ms) (d ∷ ds) (f ∷ fs) match =
     let rest = all-come until ms ds fs match.1 in
     rw (one, rest) refl
 
-pub all-long : (ms : List Machine) (ds : List ConsoleDraft) (fs : List LooseConsole) → AllMatch ms ds fs → AllHaveLengths ms fs
+pub all-long : (ms : List Machine) (ds : List ConsoleDraft) (fs : List LooseConsole) → AllMatch ms ds fs
+    → AllHaveLengths ms fs
 unfolding AllMatch AllHaveLengths
 all-long [] ds fs match = tt
 all-long (m ∷ ms) [] fs match = absurd match

@@ -19,7 +19,8 @@ fn thaw_consoles(consoles: &mut Vec<Console>, loose: &[Loose], until: u64) -> bo
     requires until { until ≤ 2 ^ 39 }
     requires count { length loose.now ≡ length consoles.old.items }
     requires lengths { AllHaveLengths consoles.old.items loose.now }
-    ensures thawed { all_thawed until consoles.old.items loose.now ≡ (if result then Some consoles.new.items else None) }
+    ensures thawed { all_thawed until consoles.old.items loose.now
+        ≡ (if result then Some consoles.new.items else None) }
     ensures many { length consoles.new.items ≡ length consoles.old.items }
 {
     for player in 0..loose.len() {

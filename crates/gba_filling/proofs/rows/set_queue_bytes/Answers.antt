@@ -2,8 +2,8 @@ use Rattle.std.proofs.Common.{◌<◌, ◌+◌, drop, length, ap, sym, ◌∙◌
 use Rattle.gba_numbers.specs.Fields.{place_of}
 use Rattle.gba_numbers.specs.Numbers.{ConsoleNumbers, is_there}
 use Rattle.gba_frozen.specs.Reading.{queue_byte, with_bytes}
-use Rattle.gba_filling.specs.Loose.{LooseConsole}
-use Rattle.gba_filling.proofs.RowSteps.{bytes-more, bytes-none, queue-behind, there-kept, with_numbers}
+use Rattle.gba_filling.specs.Loose.{LooseConsole, with_numbers}
+use Rattle.gba_filling.proofs.RowSteps.{bytes-more, bytes-none, queue-behind, there-kept}
 use Rattle.gba_filling.proofs.rows.set_queue_bytes.Goals as goal
 
 pub loop-place-preserved : goal.loop-place-preserved
@@ -15,9 +15,10 @@ loop-place-preserved c =
     let inside : place < length bytes = omega arith in
     record {
       left =
-          ap (λ (one : LooseConsole). with_numbers (with_bytes field (place + 1) (drop (place + 1) bytes) one.numbers) one)
-          (search rules)
-          ∙ ap (λ (n : ConsoleNumbers). with_numbers n console) (sym (bytes-more field place bytes console.numbers inside))
+          ap (λ (one : LooseConsole).
+          with_numbers (with_bytes field (place + 1) (drop (place + 1) bytes) one.numbers) one) (search rules)
+          ∙ ap (λ (n : ConsoleNumbers). with_numbers n console)
+          (sym (bytes-more field place bytes console.numbers inside))
           ∙ c.loop-place.invariant.left;
       there = λ other below.
           ap (λ (one : LooseConsole). is_there (place_of (field other)) one.numbers) c.set.ensures

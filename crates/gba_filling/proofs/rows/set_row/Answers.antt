@@ -6,8 +6,8 @@ use Rattle.gba_numbers.specs.declared.fields.Field.{Field}
 use Rattle.gba_frozen.specs.Reading.{with_values}
 use Rattle.gba_frozen.specs.Rows.{count_of, field_of}
 use Rattle.gba_frozen_text.proofs.Singles.{row-single}
-use Rattle.gba_filling.specs.Loose.{LooseConsole}
-use Rattle.gba_filling.proofs.RowSteps.{fits-at, single-there, values-more, values-none, with_numbers}
+use Rattle.gba_filling.specs.Loose.{LooseConsole, with_numbers}
+use Rattle.gba_filling.proofs.RowSteps.{fits-at, single-there, values-more, values-none}
 use Rattle.gba_filling.proofs.rows.set_row.Goals as goal
 
 pub set-requires-clause-there : goal.set-requires-clause-there
@@ -36,7 +36,8 @@ loop-part-preserved c =
     let inside : part < length values = omega arith in
     ap (λ (one : LooseConsole). with_numbers (with_values which (part + 1) (drop (part + 1) values) one.numbers) one)
     (c.set.ensures
-    ∙ ap (λ (f : Field). with_numbers (with_value f (get_or values part 0) console.numbers) console) c.field.ensures.value)
+    ∙ ap (λ (f : Field). with_numbers (with_value f (get_or values part 0) console.numbers) console)
+    c.field.ensures.value)
     ∙ ap (λ (n : ConsoleNumbers). with_numbers n console) (sym (values-more which part values console.numbers inside))
     ∙ c.loop-part.invariant
 

@@ -1,6 +1,6 @@
 use Rattle.std.proofs.Common.{◌≡◌, drop}
 use Rattle.gba_frozen.specs.Reading.{with_values}
-use Rattle.gba_filling.proofs.RowSteps.{with_numbers}
+use Rattle.gba_filling.specs.Loose.{with_numbers}
 use Rattle.gba_filling.proofs.rows.set_row.Given as goal
 
 -- the values that are left make of the console what all make of it at first

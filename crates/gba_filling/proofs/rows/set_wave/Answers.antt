@@ -1,8 +1,8 @@
 use Rattle.std.proofs.Common.{◌<◌, ◌+◌, drop, length, ap, sym, ◌∙◌, arith, rules}
 use Rattle.gba_numbers.specs.Numbers.{ConsoleNumbers}
 use Rattle.gba_frozen.specs.Reading.{wave_byte, with_bytes}
-use Rattle.gba_filling.specs.Loose.{LooseConsole}
-use Rattle.gba_filling.proofs.RowSteps.{bytes-more, bytes-none, with_numbers}
+use Rattle.gba_filling.specs.Loose.{LooseConsole, with_numbers}
+use Rattle.gba_filling.proofs.RowSteps.{bytes-more, bytes-none}
 use Rattle.gba_filling.proofs.rows.set_wave.Goals as goal
 
 pub loop-place-preserved : goal.loop-place-preserved
@@ -12,7 +12,8 @@ loop-place-preserved c =
     let field = wave_byte c.args.bank in
     let console : LooseConsole = c.loop-place.console in
     let inside : place < length bytes = omega arith in
-    ap (λ (one : LooseConsole). with_numbers (with_bytes field (place + 1) (drop (place + 1) bytes) one.numbers) one) (search rules)
+    ap (λ (one : LooseConsole). with_numbers (with_bytes field (place + 1) (drop (place + 1) bytes) one.numbers) one)
+    (search rules)
     ∙ ap (λ (n : ConsoleNumbers). with_numbers n console) (sym (bytes-more field place bytes console.numbers inside))
     ∙ c.loop-place.invariant
 

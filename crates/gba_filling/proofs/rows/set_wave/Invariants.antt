@@ -1,6 +1,6 @@
 use Rattle.std.proofs.Common.{◌≡◌, drop}
 use Rattle.gba_frozen.specs.Reading.{wave_byte, with_bytes}
-use Rattle.gba_filling.proofs.RowSteps.{with_numbers}
+use Rattle.gba_filling.specs.Loose.{with_numbers}
 use Rattle.gba_filling.proofs.rows.set_wave.Given as goal
 
 -- the bytes that are left make of the console what all make of it at first

@@ -23,8 +23,8 @@ returns-in-Nothing c setup player draft fits h =
 
 pub returns-in-Values : goal.returns-in-Values
 returns-in-Values c setup player draft fits h =
-    row-kept (backup_of setup player) draft c.args.self.now c.set_row.new.console (said_value c.args.said.now) c.in-Values.row
-    c.in-Values.values.items (ap said_value c.in-Values.is) (search rules) h
+    row-kept (backup_of setup player) draft c.args.self.now c.set_row.new.console (said_value c.args.said.now)
+    c.in-Values.row c.in-Values.values.items (ap said_value c.in-Values.is) (search rules) h
 
 pub returns-in-Queue : goal.returns-in-Queue
 returns-in-Queue c setup player draft fits h =
