@@ -1,7 +1,7 @@
 use Rattle.std.proofs.Common.{sym, ◌∙◌}
 use Rattle.gba_filling.specs.Memories.{bytes_of}
 use Rattle.gba_thaw.specs.Console.{can_be_made, parts_thawed}
-use Rattle.gba_thaw.proofs.Thawed.{none-made, not-going, not-made, parts-made, poured, some-made}
+use Rattle.gba_thaw.proofs.Thawed.{none-made, not-going, not-made, parts-made, poured, some-made, told-of}
 use Rattle.gba_thaw.proofs.console.whole.Goals as goal
 
 pub returns-in_default : goal.returns-in_default
@@ -9,7 +9,8 @@ returns-in_default c =
     let m = c.args.console.now in
     let f = c.args.loose.now in
     let io = c.io_of-io.result in
-    let told = rw c.numbers.ensures at c.parts_thawed.ensures in
+    let told =
+    told-of m c.numbers.result.now f.numbers io c.parts_thawed.result c.numbers.ensures c.parts_thawed.ensures in
     not-made c.args.until m f.numbers (λ name. bytes_of name f.memories) f.drawn io c.io_of-io.ensures
     (none-made (can_be_made m f.numbers io) (parts_thawed m f.numbers io) (sym c.in_default.is ∙ told))
 
@@ -18,7 +19,8 @@ can_go_on-requires-clause-parts c =
     let m = c.args.console.now in
     let f = c.args.loose.now in
     let io = c.io_of-io.result in
-    let told = rw c.numbers.ensures at c.parts_thawed.ensures in
+    let told =
+    told-of m c.numbers.result.now f.numbers io c.parts_thawed.result c.numbers.ensures c.parts_thawed.ensures in
     parts-made (can_be_made m f.numbers io) (parts_thawed m f.numbers io) c.in-Some.parts (sym c.in-Some.is ∙ told)
 
 pub pour_all-requires-clause-parts : goal.pour_all-requires-clause-parts
@@ -26,7 +28,8 @@ pour_all-requires-clause-parts c =
     let m = c.args.console.now in
     let f = c.args.loose.now in
     let io = c.io_of-io.result in
-    let told = rw c.numbers.ensures at c.parts_thawed.ensures in
+    let told =
+    told-of m c.numbers.result.now f.numbers io c.parts_thawed.result c.numbers.ensures c.parts_thawed.ensures in
     parts-made (can_be_made m f.numbers io) (parts_thawed m f.numbers io) c.in-Some.parts (sym c.in-Some.is ∙ told)
 
 pub pour_all-requires-clause-made : goal.pour_all-requires-clause-made
@@ -34,7 +37,8 @@ pour_all-requires-clause-made c =
     let m = c.args.console.now in
     let f = c.args.loose.now in
     let io = c.io_of-io.result in
-    let told = rw c.numbers.ensures at c.parts_thawed.ensures in
+    let told =
+    told-of m c.numbers.result.now f.numbers io c.parts_thawed.result c.numbers.ensures c.parts_thawed.ensures in
     some-made (can_be_made m f.numbers io) (parts_thawed m f.numbers io) c.in-Some.parts (sym c.in-Some.is ∙ told)
 
 pub returns-then-not-can_go_on : goal.returns-then-not-can_go_on
@@ -49,7 +53,8 @@ returns c =
     let m = c.args.console.now in
     let f = c.args.loose.now in
     let io = c.io_of-io.result in
-    let told = rw c.numbers.ensures at c.parts_thawed.ensures in
+    let told =
+    told-of m c.numbers.result.now f.numbers io c.parts_thawed.result c.numbers.ensures c.parts_thawed.ensures in
     poured c.args.until m f.numbers (λ name. bytes_of name f.memories) f.drawn io c.io_of-io.ensures
     (some-made (can_be_made m f.numbers io) (parts_thawed m f.numbers io) c.in-Some.parts (sym c.in-Some.is ∙ told))
     (sym c.can_go_on.ensures ∙ c.if-not-can_go_on.false) c.pour_all.new.console c.pour_all.ensures c.eq.result
