@@ -1,13 +1,13 @@
 -- One drawn line more.
-use Rattle.std.proofs.Common.{◌≡◌, ◌≢◌, ◌<◌, ℕ, ◌+◌, ◌*◌, ◌==◌, ◌&&◌, Bool, true, false, not, List, [], ◌∷◌, ◌++◌, length, take, refl, ap, sym, ◌∙◌, get_or, arith}
+use Rattle.std.proofs.Common.{◌≡◌, ◌≢◌, ◌<◌, ℕ, zero, suc, ◌+◌, ◌*◌, ◌==◌, ◌&&◌, Bool, true, false, not, List, [], ◌∷◌, ◌++◌, length, take, drop, refl, ap, sym, ◌∙◌, get_or, arith}
 use Rattle.std.proofs.lemmas.Bool.Decides.{nat_tests}
 use Rattle.std.proofs.lemmas.Grind.{flat_map-append}
-use Rattle.std.proofs.lemmas.List.{append-nil, length-map, map-append, take_all, take_more}
+use Rattle.std.proofs.lemmas.List.{append-nil, length-append, length-map, map-append, take_all, take_more}
 use Rattle.std.proofs.lemmas.List.Concat.{flat_map-cons}
 use Rattle.std.proofs.lemmas.Slice.{take-put_mid}
 use borrow.Rule.Slice.PartMut.{put_mid}
 use Rattle.gba_screen.specs.Lines.{colour_bytes, colours_bytes}
-use Rattle.gba_filling.specs.Drawn.{AreLines, DrawnLines, are_numbered, bytes_of_line}
+use Rattle.gba_filling.specs.Drawn.{AreLines, DrawnLines, are_numbered, bytes_of_line, lines_in}
 
 -- one colour's bytes more
 pub spelled-more : (bytes more colours : List ℕ) (place wide colour : ℕ) → length bytes ≡ 480 → length more ≡ 2
@@ -28,6 +28,30 @@ spelled-all bytes colours place whole count last done =
     sym (take_all (2 * place) bytes (omega arith))
     ∙ done
     ∙ ap colours_bytes (take_all place colours (omega arith))
+
+-- how many lines there are
+pub lines_in-count : (count : ℕ) (colours : List ℕ) → length (lines_in count colours) ≡ count
+unfolding lines_in
+lines_in-count zero colours = refl
+lines_in-count (suc count) colours =
+    let line = colours_bytes (take 240 (drop (240 * count) colours)) in
+    omega (arith, length-append (lines_in count colours) (line ∷ []), lines_in-count count colours)
+
+pub no-lines : (lines : List (List ℕ)) (colours : List ℕ) → lines ≡ [] → lines ≡ lines_in 0 colours
+unfolding lines_in
+no-lines lines colours none = none
+
+-- one line more
+pub lines_in-more : (count : ℕ) (lines new : List (List ℕ)) (line colours : List ℕ) → lines ≡ lines_in count colours
+    → new ≡ lines ++ colours_bytes line ∷ [] → line ≡ take 240 (drop (240 * count) colours)
+    → new ≡ lines_in (count + 1) colours
+unfolding lines_in
+lines_in-more count lines new line colours so_far more here =
+    let next : suc count ≡ count + 1 = omega arith in
+    more
+    ∙ ap (λ (front : List (List ℕ)). front ++ colours_bytes line ∷ []) so_far
+    ∙ ap (λ (one : List ℕ). lines_in count colours ++ colours_bytes one ∷ []) here
+    ∙ ap (λ (n : ℕ). lines_in n colours) next
 
 -- no line
 pub none-drawn : AreLines [] (record { lines = []; has_gap = false })

@@ -17,7 +17,7 @@ use Rattle.link_node.specs.declared.signal.Signal.{Signal}
 use Rattle.gba_filling.specs.Consoles.{AreFilled, IsFilled, draft_at}
 use Rattle.gba_filling.specs.Filling.{FilledJob, IsFilledJob}
 use Rattle.gba_filling.specs.Signals.{AreSignals, LiveSignals}
-use Rattle.gba_filling.specs.declared.consoles.Filled.{Filled}
+use Rattle.gba_filling.specs.Loose.{LooseConsole}
 use Rattle.gba_filling.proofs.Begun.{is_of_console, player-below}
 use Rattle.gba_filling.proofs.NextDraft.{filled-next, live-next, next-changes, next-sent, nothing-next}
 
@@ -55,7 +55,7 @@ pub job-player : (setup : Setup) (d : Draft) (at : Place) (said : Said) (j : Fil
     → at.player < length j.consoles
 job-player setup d at said j h next = omega (arith, player-below setup d at said next, h.count)
 
-pub job-console : (setup : Setup) (d : Draft) (at : Place) (said : Said) (j : FilledJob) (f : Filled)
+pub job-console : (setup : Setup) (d : Draft) (at : Place) (said : Said) (j : FilledJob) (f : LooseConsole)
     → is_of_console said ≡ true
     → IsFilled (backup_of setup at.player) (with_line_of said (draft_at at.player d.consoles)) f → IsFilledJob j setup d
     → IsNext setup d at said
@@ -70,7 +70,7 @@ job-console setup d at said j f is filled h next = record {
 }
 
 -- one console more of which nothing was said
-pub filled-more : (setup : Setup) (fs : List Filled) (f : Filled) (player : ℕ) → length fs ≡ player
+pub filled-more : (setup : Setup) (fs : List LooseConsole) (f : LooseConsole) (player : ℕ) → length fs ≡ player
     → IsFilled (backup_of setup player) console_at_first f → AreFilled setup [] fs → AreFilled setup [] (fs ++ f ∷ [])
 filled-more setup fs f player count one h other any below = by_test (other == length fs) refl where
   by_test : (b : Bool) → (other == length fs) ≡ b
@@ -81,10 +81,10 @@ filled-more setup fs f player count one h other any below = by_test (other == le
       ap (λ (o : ℕ). slice_index_or (fs ++ f ∷ []) o any) last ∙ get_or-append_seam fs f [] any in
       let there : IsFilled (backup_of setup other) console_at_first f =
       subst (λ (o : ℕ). IsFilled (backup_of setup o) console_at_first f) (sym (last ∙ count)) one in
-      subst (λ (g : Filled). IsFilled (backup_of setup other) console_at_first g) (sym here) there
+      subst (λ (g : LooseConsole). IsFilled (backup_of setup other) console_at_first g) (sym here) there
   by_test false e =
       let apart : other ≢ length fs = λ (same : other ≡ length fs). absurd (cc (e, eq-eqb other (length fs) same)) in
       let before : other < length fs = omega (arith, length-append fs (f ∷ [])) in
       let here : slice_index_or (fs ++ f ∷ []) other any ≡ slice_index_or fs other any =
       get_or_append_left fs (f ∷ []) any other before in
-      subst (λ (g : Filled). IsFilled (backup_of setup other) console_at_first g) (sym here) (h other any before)
+      subst (λ (g : LooseConsole). IsFilled (backup_of setup other) console_at_first g) (sym here) (h other any before)

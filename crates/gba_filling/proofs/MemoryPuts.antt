@@ -13,7 +13,7 @@ use Rattle.gba_numbers.specs.declared.names.MemoryName.TheVariants as memory
 use Rattle.gba_frozen.specs.Places.{is_row_place, memory_length, memory_order}
 use Rattle.gba_frozen.specs.declared.places.MemoryPlace.{MemoryPlace}
 use Rattle.gba_frozen_text.specs.Memories.{with_row, with_rows}
-use Rattle.gba_filling.specs.Memories.{AreFrom, bytes_of}
+use Rattle.gba_filling.specs.Memories.{AreFrom, HaveLengths, bytes_of, with_memory}
 
 -- the memories before any line
 pub none-put : (backup : Backup) (memories : List (List ℕ))
@@ -82,9 +82,7 @@ put-length place new bytes inside =
 -- what the bytes of a line leave of each memory
 put-bytes : (place : MemoryPlace) (new : List ℕ) (memories : List (List ℕ)) (name : MemoryName)
     → memory_order place.name < length memories
-    → bytes_of name (slice_set memories (memory_order place.name)
-    (with_bytes place.offset new (bytes_of place.name memories)))
-    ≡ with_row name (place, new) (bytes_of name memories)
+    → bytes_of name (with_memory place new memories) ≡ with_row name (place, new) (bytes_of name memories)
 unfolding with_row
 put-bytes place new memories name below = by_test (memory_order name == memory_order place.name) refl where
   put : List ℕ
@@ -114,24 +112,51 @@ with_row-length name place new bytes inside = by_test (memory_order name == memo
   by_test true e = put-length place.offset new bytes (inside (eqb-true (memory_order name) (memory_order place.name) e))
   by_test false e = refl
 
+-- the bytes of a line within a memory leave each its length
+put-long : (place : MemoryPlace) (new : List ℕ) (memories : List (List ℕ)) (name : MemoryName)
+    → memory_order place.name < length memories
+    → place.offset + length new ≤ length (bytes_of place.name memories)
+    → length (bytes_of name (with_memory place new memories)) ≡ length (bytes_of name memories)
+put-long place new memories name below inside =
+    ap length (put-bytes place new memories name below)
+    ∙ with_row-length name place new (bytes_of name memories)
+    (λ (same : memory_order name ≡ memory_order place.name).
+    let there : bytes_of name memories ≡ bytes_of place.name memories =
+    ap (λ (order : ℕ). slice_index_or memories order []) same in
+    let long : place.offset + length new ≤ length (bytes_of name memories) = omega (arith, ap length there) in long)
+
+-- each memory of a console has bytes
+some-bytes : (backup : Backup) (name : MemoryName) → 0 < memory_length backup name
+some-bytes backup memory.Io = omega arith
+some-bytes backup memory.Wram = omega arith
+some-bytes backup memory.Iwram = omega arith
+some-bytes backup memory.Palette = omega arith
+some-bytes backup memory.Vram = omega arith
+some-bytes backup memory.Oam = omega arith
+some-bytes kind.Sram memory.Backup = omega arith
+some-bytes kind.Flash64 memory.Backup = omega arith
+some-bytes kind.Flash128 memory.Backup = omega arith
+
+pub lengths-kept : (backup : Backup) (place : MemoryPlace) (new : List ℕ) (memories : List (List ℕ))
+    → place.offset + length new ≤ length (bytes_of place.name memories) → HaveLengths backup memories
+    → HaveLengths backup (with_memory place new memories)
+lengths-kept backup place new memories inside long name =
+    let below : memory_order place.name < length memories =
+    order-below memories (memory_order place.name) (omega (arith, some-bytes backup place.name, long place.name)) in
+    put-long place new memories name below inside ∙ long name
+
 -- one line more
 pub put-more : (backup : Backup) (rows : List (MemoryPlace × List ℕ)) (place : MemoryPlace) (new : List ℕ)
     (memories : List (List ℕ))
     → length new ≡ 32 → is_row_place backup place ≡ true → AreFrom backup rows memories
-    → AreFrom backup (rows ++ (place, new) ∷ [])
-    (slice_set memories (memory_order place.name) (with_bytes place.offset new (bytes_of place.name memories)))
+    → AreFrom backup (rows ++ (place, new) ∷ []) (with_memory place new memories)
 put-more backup rows place new memories count is h =
     let inside : place.offset + 32 ≤ length (bytes_of place.name memories) =
     row-within backup place rows memories h is in
     let below : memory_order place.name < length memories =
     order-below memories (memory_order place.name) (omega arith) in
-    let fits = λ (name : MemoryName) (same : memory_order name ≡ memory_order place.name).
-    let there : bytes_of name memories ≡ bytes_of place.name memories =
-    ap (λ (order : ℕ). slice_index_or memories order []) same in
-    let long : place.offset + length new ≤ length (bytes_of name memories) = omega (arith, ap length there) in long in
     record {
-      long = λ name. ap length (put-bytes place new memories name below)
-          ∙ with_row-length name place new (bytes_of name memories) (fits name) ∙ h.long name;
+      long = lengths-kept backup place new memories (omega arith) h.long;
       bytes = λ name. put-bytes place new memories name below
           ∙ ap (λ (bytes : List ℕ). with_row name (place, new) bytes) (h.bytes name)
           ∙ sym (rows-more name rows (place, new) (replicate (memory_length backup name) 0));

@@ -13,7 +13,7 @@ use Rattle.gba_frozen.specs.declared.rows.Row.TheVariants as row
 use Rattle.gba_frozen_read.specs.Thawed.{IsNext, SaidFits, with_next}
 use Rattle.link_node.specs.declared.signal.Signal.{Signal}
 use Rattle.gba_filling.specs.Consoles.{AreFilled, IsFilled, draft_at}
-use Rattle.gba_filling.specs.declared.consoles.Filled.{Filled}
+use Rattle.gba_filling.specs.Loose.{LooseConsole}
 use Rattle.gba_filling.proofs.Begun.{is_of_console, player-begun}
 
 last-count : (change : ConsoleDraft → ConsoleDraft) (ds : List ConsoleDraft) → length (with_last change ds) ≡ length ds
@@ -166,8 +166,8 @@ unfolding with_said
 live-next d at sender signal = refl
 
 -- the consoles with one that keeps the line of its player
-pub filled-next : (setup : Setup) (said : Said) (player : ℕ) (before after : List ConsoleDraft) (fs : List Filled)
-    (f : Filled)
+pub filled-next : (setup : Setup) (said : Said) (player : ℕ) (before after : List ConsoleDraft) (fs : List LooseConsole)
+    (f : LooseConsole)
     → Changes said player before after → player < length fs
     → IsFilled (backup_of setup player) (with_line_of said (draft_at player before)) f → AreFilled setup before fs
     → AreFilled setup after (slice_set fs player f)
@@ -193,4 +193,4 @@ filled-next setup said player before after fs f changes inside here h other any 
           h other any inner in
           subst (λ (d : ConsoleDraft). IsFilled (backup_of setup other) d
           (slice_index_or (slice_set fs player f) other any)) (sym draft)
-          (subst (λ (g : Filled). IsFilled (backup_of setup other) (draft_at other before) g) (sym one) there)
+          (subst (λ (g : LooseConsole). IsFilled (backup_of setup other) (draft_at other before) g) (sym one) there)

@@ -6,10 +6,10 @@ use Rattle.gba_frozen.specs.Reading.{ConsoleDraft, console_at_first}
 use Rattle.gba_frozen.specs.declared.kinds.Setup.{Setup}
 use Rattle.gba_filling.specs.Drawn.{AreLines}
 use Rattle.gba_filling.specs.Memories.{AreFrom}
-use Rattle.gba_filling.specs.declared.consoles.Filled.{Filled}
+use Rattle.gba_filling.specs.Loose.{LooseConsole}
 
 -- what is held of a console, whose saves are kept so, is what its lines come to
-pub record IsFilled (backup : Backup) (draft : ConsoleDraft) (f : Filled) : Type 0 where
+pub record IsFilled (backup : Backup) (draft : ConsoleDraft) (f : LooseConsole) : Type 0 where
   pub numbers : f.numbers ≡ draft.numbers
   pub memories : AreFrom backup draft.memory f.memories
   pub drawn : AreLines draft.drawn f.drawn
@@ -19,7 +19,7 @@ abbrev pub draft_at : ℕ → List ConsoleDraft → ConsoleDraft
 draft_at player drafts = slice_index_or drafts player console_at_first
 
 -- so are all consoles, by player
-abbrev pub AreFilled : Setup → List ConsoleDraft → List Filled → Type 0
+abbrev pub AreFilled : Setup → List ConsoleDraft → List LooseConsole → Type 0
 AreFilled setup drafts fs =
-    (player : ℕ) (any : Filled) → player < length fs
+    (player : ℕ) (any : LooseConsole) → player < length fs
     → IsFilled (backup_of setup player) (draft_at player drafts) (slice_index_or fs player any)

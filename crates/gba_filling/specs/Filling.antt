@@ -4,11 +4,11 @@ use Rattle.gba_frozen.specs.Reading.{Draft}
 use Rattle.gba_frozen.specs.declared.kinds.Setup.{Setup}
 use Rattle.gba_filling.specs.Consoles.{AreFilled}
 use Rattle.gba_filling.specs.Signals.{AreSignals, LiveSignals}
-use Rattle.gba_filling.specs.declared.consoles.Filled.{Filled}
+use Rattle.gba_filling.specs.Loose.{LooseConsole}
 
 -- the consoles of the job by player, and the live signals
 pub record FilledJob : Type 0 where
-  pub consoles : List Filled
+  pub consoles : List LooseConsole
   pub signals : LiveSignals
 
 -- It is what the lines so far come to.

@@ -1,6 +1,6 @@
 //! The drawn lines of a console.
 
-ghost use Rattle.std.specs.Prelude.{◌≡◌, ◌<◌, ◌≤◌, ◌++◌, IfOk, length};
+ghost use Rattle.std.specs.Prelude.{◌≡◌, ◌<◌, ◌≤◌, ◌*◌, ◌%◌, ◌++◌, IfOk, length};
 ghost use Rattle.std.specs.List.{flat_map};
 ghost use Rattle.gba_screen.specs.Lines.{colours_bytes};
 
@@ -10,6 +10,9 @@ use std::marker::Model;
 
 /// The most lines that are kept of a frame.
 const MOST_LINES: usize = 159;
+
+/// How many colours a line has.
+const COLOURS: usize = 240;
 
 /// The bytes of a line's colours, the low one of each first.
 fn bytes_of_line(colours: &[u16]) -> [u8; 480]
@@ -46,7 +49,7 @@ impl Model for Drawn {
 impl Drawn {
     ghost use Rattle.std.specs.Prelude.{ℕ, List, [], ◌∷◌};
     ghost use Rattle.gba_frozen.specs.Lines.{drawn_end};
-    ghost use Rattle.gba_filling.specs.Drawn.{AreLines};
+    ghost use Rattle.gba_filling.specs.Drawn.{AreLines, lines_of};
 
     /// No line yet. It takes the memory of all that are kept.
     pub fn new(alloc: Global) -> Result<Drawn, AllocError>
@@ -72,6 +75,23 @@ impl Drawn {
             return;
         }
         put_behind(&mut self.lines, bytes_of_line(colours));
+    }
+
+    /// All lines at once in place of those so far, from the top down, 240 colours each. It takes no memory.
+    pub fn set(&mut self, colours: &[u16])
+        requires whole { length colours.now % 240 ≡ 0 }
+        requires few { length colours.now ≤ 159 * 240 }
+        ensures { self.new ≡ lines_of colours.now }
+    {
+        self.lines.clear();
+        self.has_gap = false;
+        for line in 0..colours.len() / COLOURS {
+            let begin = COLOURS * line;
+            put_behind(
+                &mut self.lines,
+                bytes_of_line(&colours[begin..begin + COLOURS]),
+            );
+        }
     }
 
     /// The lines, each as its 240 colours, the low byte of each first.

@@ -3,7 +3,7 @@
 ghost use Rattle.std.specs.Prelude.{◌≡◌, ◌≤◌, [], IfOk, length};
 ghost use Rattle.gba_filling.specs.Consoles.{AreFilled};
 
-use crate::consoles::Filled;
+use crate::loose::Loose;
 use crate::signals::Signals;
 use gba_frozen::{FrozenLine, Place, Setup};
 use gba_frozen_read::Thawing;
@@ -12,14 +12,14 @@ use std::alloc::{AllocError, Global};
 use std::marker::Model;
 
 /// The consoles of a job, of which nothing was said.
-fn consoles_at_first(alloc: Global, setup: &Setup) -> Result<Vec<Filled>, AllocError>
+fn consoles_at_first(alloc: Global, setup: &Setup) -> Result<Vec<Loose>, AllocError>
     requires { setup.now.consoles ≤ 4 }
     ensures count { IfOk result (λ consoles. length consoles.items ≡ setup.now.consoles) }
     ensures filled { IfOk result (λ consoles. AreFilled setup.now [] consoles.items) }
 {
     let mut consoles = Vec::new(alloc);
     for player in 0..setup.consoles {
-        consoles.push(Filled::new(alloc, setup.backups[player as usize])?)?;
+        consoles.push(Loose::new(alloc, setup.backups[player as usize])?)?;
     }
     Ok(consoles)
 }
@@ -27,14 +27,14 @@ fn consoles_at_first(alloc: Global, setup: &Setup) -> Result<Vec<Filled>, AllocE
 /// What a frozen file says of a job: its consoles by player, and the live signals.
 #[derive(Drop)]
 pub struct FilledParts {
-    pub consoles: Vec<Filled>,
+    pub consoles: Vec<Loose>,
     pub signals: Signals,
 }
 
 /// What the lines of a frozen file say, as far as they are read. Contracts see the record `FilledJob`.
 #[derive(Drop)]
 pub struct Filling {
-    consoles: Vec<Filled>,
+    consoles: Vec<Loose>,
     signals: Signals,
 }
 
@@ -63,7 +63,7 @@ impl Filling {
     }
 
     /// The consoles by player.
-    pub fn consoles(&self) -> &[Filled]
+    pub fn consoles(&self) -> &[Loose]
         ensures { result.now ≡ self.now.consoles }
     {
         self.consoles.as_slice()

@@ -63,11 +63,10 @@ impl Model for Memories {
 }
 
 impl Memories {
-    ghost use Rattle.std.specs.Prelude.{List, [], slice_set};
-    ghost use Rattle.gba_frozen.specs.Places.{memory_order};
+    ghost use Rattle.std.specs.Prelude.{List, []};
     ghost use Rattle.gba_frozen.specs.declared.places.MemoryPlace.{MemoryPlace};
     ghost use Rattle.gba_frozen_text.specs.Memories.{with_row};
-    ghost use Rattle.gba_filling.specs.Memories.{AreFrom, bytes_of};
+    ghost use Rattle.gba_filling.specs.Memories.{AreFrom, bytes_of, with_memory};
 
     /// Of a console whose saves are kept so: every byte is 0.
     pub fn new(alloc: Global, backup: Backup) -> Result<Memories, AllocError>
@@ -102,8 +101,7 @@ impl Memories {
     /// Puts bytes into a memory.
     pub fn put(&mut self, place: MemoryPlace, bytes: &[u8])
         requires { place.offset + length bytes.now ≤ length (bytes_of place.name self.old) }
-        ensures { self.new ≡ slice_set self.old (memory_order place.name)
-            (with_bytes place.offset bytes.now (bytes_of place.name self.old)) }
+        ensures { self.new ≡ with_memory place bytes.now self.old }
     {
         let offset = place.offset as usize;
         match place.name {

@@ -4,7 +4,7 @@ ghost use Rattle.std.specs.Prelude.{◌≤◌, ◌<◌, ◌^◌};
 
 use crate::files::{ONE, TWO, file_of_one, file_of_signals, file_of_two};
 use arrayvec::ArrayVec;
-use gba_filling::{Filled, FilledParts, Filling};
+use gba_filling::{FilledParts, Filling, Loose};
 use gba_frozen::Setup;
 use gba_frozen_read::read_frozen;
 use gba_numbers::{BoardField, Field, MemoryName, is_field};
@@ -26,19 +26,19 @@ fn read<R: Abort>(rt: &R, alloc: Global, setup: &Setup, file: &[u8]) -> Result<F
 }
 
 /// A console of a job.
-fn console<'a, R: Abort>(rt: &R, filling: &'a Filling, player: usize) -> &'a Filled {
+fn console<'a, R: Abort>(rt: &R, filling: &'a Filling, player: usize) -> &'a Loose {
     filling.consoles().get(player).expect(rt, "a console")
 }
 
 /// A number, if it is there.
-fn number(console: &Filled, field: Field) -> Option<u64> {
+fn number(console: &Loose, field: Field) -> Option<u64> {
     if !is_field(field) {
         return None;
     }
-    if !console.numbers.has(field) {
+    if !console.numbers().has(field) {
         return None;
     }
-    Some(console.numbers.value(field))
+    Some(console.value(field))
 }
 
 /// The numbers of the first console but for its general registers.
@@ -179,7 +179,7 @@ static NUMBERS: [(Field, u64); 118] = [
 ];
 
 /// A number that no line says.
-fn is_none(console: &Filled, field: Field) -> bool {
+fn is_none(console: &Loose, field: Field) -> bool {
     number(console, field).is_none()
 }
 
@@ -229,9 +229,9 @@ static LENGTHS: [(MemoryName, usize, usize); 7] = [
 ];
 
 /// How many bytes of a memory aren't 0.
-fn written(console: &Filled, name: MemoryName) -> usize {
+fn written(console: &Loose, name: MemoryName) -> usize {
     console
-        .memories
+        .memories()
         .bytes(name)
         .iter()
         .filter(|byte| **byte != 0)
@@ -244,10 +244,10 @@ fn memories_are_kept(rt: HostRuntime) -> Result<(), Fail> {
     let filling = read(&rt, rt.alloc(), &ONE, file.as_slice())?;
     let console = console(&rt, &filling, 0);
     for &(name, offset, byte) in &BYTES {
-        assert_eq!(rt; console.memories.bytes(name).get(offset), Some(&byte));
+        assert_eq!(rt; console.memories().bytes(name).get(offset), Some(&byte));
     }
     for &(name, length, count) in &LENGTHS {
-        assert_eq!(rt; console.memories.bytes(name).len(), length);
+        assert_eq!(rt; console.memories().bytes(name).len(), length);
         assert_eq!(rt; written(console, name), count);
     }
     Ok(())
@@ -298,7 +298,7 @@ fn drawn_lines_are_kept(rt: HostRuntime) -> Result<(), Fail> {
     for gap in &GAPS {
         let file = file_of_one(rt.alloc(), gap.numbers)?;
         let filling = read(&rt, rt.alloc(), &ONE, file.as_slice())?;
-        let drawn = &console(&rt, &filling, 0).drawn;
+        let drawn = console(&rt, &filling, 0).drawn();
         assert_eq!(rt; drawn.has_gap(), gap.has_gap);
         assert_eq!(rt; drawn.lines().len(), gap.kept);
         for line in drawn.lines() {
@@ -312,9 +312,9 @@ fn drawn_lines_are_kept(rt: HostRuntime) -> Result<(), Fail> {
 }
 
 /// The first byte of each drawn line.
-fn first_bytes(console: &Filled) -> ArrayVec<u8, 4> {
+fn first_bytes(console: &Loose) -> ArrayVec<u8, 4> {
     let mut first = ArrayVec::new();
-    for line in console.drawn.lines() {
+    for line in console.drawn().lines() {
         let _ = first.try_push(line[0]);
     }
     first
@@ -344,7 +344,7 @@ fn two_consoles_are_kept_apart(rt: HostRuntime) -> Result<(), Fail> {
     }
     assert_eq!(rt; written(first, MemoryName::Backup), 1);
     assert_eq!(rt; written(second, MemoryName::Backup), 2);
-    assert_eq!(rt; second.memories.bytes(MemoryName::Backup).len(), 0x2_0000);
+    assert_eq!(rt; second.memories().bytes(MemoryName::Backup).len(), 0x2_0000);
     assert_eq!(rt; first_bytes(first).as_slice(), [2, 4].as_slice());
     assert_eq!(rt; first_bytes(second).as_slice(), [6].as_slice());
     let sent = filling.signals().sent();
@@ -387,7 +387,7 @@ fn nothing_is_said_at_first(rt: HostRuntime) -> Result<(), Fail> {
         assert_eq!(rt; number(console, Field::Register(31)), Some(0xD3));
         assert_eq!(rt; number(console, Field::Clock), Some(0));
         assert_eq!(rt; written(console, MemoryName::Backup), 0);
-        assert!(rt; console.drawn.lines().is_empty());
+        assert!(rt; console.drawn().lines().is_empty());
     }
     Ok(())
 }

@@ -4,7 +4,7 @@ use Rattle.std.proofs.lemmas.List.{get_or-map}
 use Rattle.gba_console.specs.Machine.{Machine}
 use Rattle.gba_filling.specs.Consoles.{IsFilled}
 use Rattle.gba_filling.specs.Filling.{FilledJob, IsFilledJob}
-use Rattle.gba_filling.specs.declared.consoles.Filled.{Filled}
+use Rattle.gba_filling.specs.Loose.{LooseConsole}
 use Rattle.gba_frozen.specs.Places.{backup_of}
 use Rattle.gba_frozen.specs.Reading.{ConsoleDraft, Draft, console_at_first, frozen_language, judged}
 use Rattle.gba_frozen.specs.declared.kinds.Setup.{Setup}
@@ -17,7 +17,7 @@ use Rattle.gba_text.specs.declared.kinds.LineError.{LineError}
 use Rattle.gba_thaw.proofs.Follows.{answers-follow, drafts, follow, judged-follows}
 use Rattle.gba_thaw.proofs.Wholes.{AllMatch, all-come, all-long}
 use Rattle.gba_thaw.specs.Cut.{backup_at, cut_if, setup_of, whole_of}
-use Rattle.gba_thaw.specs.Filled.{AllHaveLengths, all_thawed}
+use Rattle.gba_thaw.specs.Loose.{AllHaveLengths, all_thawed}
 use Rattle.gba_filling.specs.Signals.{sent_of}
 use Rattle.link_order.specs.Cut.{Cut}
 
@@ -40,9 +40,9 @@ thawed-as setup S w bytes number d same each =
 
 -- ---- the consoles
 
-match-from : (setup : Setup) (player : ℕ) (ms : List Machine) (ds : List ConsoleDraft) (fs : List Filled)
+match-from : (setup : Setup) (player : ℕ) (ms : List Machine) (ds : List ConsoleDraft) (fs : List LooseConsole)
     → length ds ≡ length ms → length fs ≡ length ms
-    → ((j : ℕ) (f : Filled) → j < length ms
+    → ((j : ℕ) (f : LooseConsole) → j < length ms
     → IsFilled (backup_of setup (player + j)) (get_or ds j console_at_first) (get_or fs j f))
     → ((j : ℕ) (m : Machine) → j < length ms → backup_of setup (player + j) ≡ backup_in (get_or ms j m))
     → AllMatch ms ds fs

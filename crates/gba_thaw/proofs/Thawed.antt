@@ -1,5 +1,5 @@
 -- A console that is thawed, by the tests that it passes.
-use Rattle.std.proofs.Common.{◌≡◌, ℕ, ◌&&◌, Bool, true, false, List, Some, None, refl, ap, sym, ◌∙◌}
+use Rattle.std.proofs.Common.{◌≡◌, ℕ, ◌&&◌, Bool, true, false, List, Option, Some, None, refl, ap, sym, ◌∙◌, subst}
 use Rattle.std.specs.Prelude.{if◌then◌else◌}
 use Rattle.std.specs.Str.{bytes_eq}
 use Rattle.gba_console.specs.Machine.{Machine}
@@ -8,7 +8,7 @@ use Rattle.gba_filling.specs.Drawn.{DrawnLines}
 use Rattle.gba_numbers.specs.Numbers.{ConsoleNumbers}
 use Rattle.gba_numbers.specs.declared.names.MemoryName.TheVariants as memory
 use Rattle.gba_snapshot.specs.Io.{io_bytes}
-use Rattle.gba_thaw.specs.Console.{MemoryBytes, can_be_made, can_go_on, console_thawed, machine_thawed, says_io}
+use Rattle.gba_thaw.specs.Console.{MemoryBytes, can_be_made, can_go_on, console_thawed, machine_thawed, parts_thawed, says_io}
 
 -- one factor that is false makes a test of three false
 pub first-false : (a b c : Bool) → a ≡ false → (a && b && c) ≡ false
@@ -31,6 +31,18 @@ none-made false parts h = refl
 pub some-made : (test : Bool) (parts made : ConsoleParts) → Some made ≡ (if test then Some parts else None) → test ≡ true
 some-made true parts made h = refl
 some-made false parts made h = absurd cc
+
+pub parts-made : (test : Bool) (parts made : ConsoleParts) → Some made ≡ (if test then Some parts else None)
+    → made ≡ parts
+parts-made true parts made h = cc
+parts-made false parts made h = absurd cc
+
+-- of the same numbers the same parts are told
+pub told-of : (m : Machine) (told n : ConsoleNumbers) (io : List ℕ) (made : Option ConsoleParts) → told ≡ n
+    → made ≡ (if can_be_made m told io then Some (parts_thawed m told io) else None)
+    → made ≡ (if can_be_made m n io then Some (parts_thawed m n io) else None)
+told-of m told n io made same is =
+    subst (λ (one : ConsoleNumbers). made ≡ (if can_be_made m one io then Some (parts_thawed m one io) else None)) same is
 
 module _ (until : ℕ) (m : Machine) (n : ConsoleNumbers) (bytes : MemoryBytes) (drawn : DrawnLines) (io : List ℕ)
     (is : io ≡ bytes memory.Io) where

@@ -5,7 +5,7 @@ use Rattle.gba_console.specs.Machine.{Machine}
 use Rattle.gba_filling.specs.Consoles.{IsFilled}
 use Rattle.gba_filling.specs.Drawn.{AreLines, DrawnLines, are_numbered}
 use Rattle.gba_filling.specs.Memories.{bytes_of}
-use Rattle.gba_filling.specs.declared.consoles.Filled.{Filled}
+use Rattle.gba_filling.specs.Loose.{LooseConsole}
 use Rattle.gba_frozen.specs.Reading.{ConsoleDraft}
 use Rattle.gba_loose_devices.specs.Picture.{place_poured}
 use Rattle.gba_ppu_reg.specs.declared.position.Position.{Position}
@@ -19,7 +19,7 @@ use Rattle.gba_thaw.specs.Checks.{are_applied, are_drawn, are_known, has_mode, h
 use Rattle.gba_thaw.specs.Console.{MemoryBytes, can_be_made, can_go_on, console_thawed, machine_thawed, says_io, unit_thawed}
 use Rattle.gba_thaw.specs.Cut.{consoles_thawed, draft_thawed, lines_read, memories_read}
 use Rattle.gba_thaw.proofs.Thawed.{no-console, second-false}
-use Rattle.gba_thaw.specs.Filled.{AllHaveLengths, all_thawed, filled_thawed}
+use Rattle.gba_thaw.specs.Loose.{AllHaveLengths, all_thawed, loose_thawed}
 
 -- only the bytes of the seven memories count
 bytes-count : (until : ℕ) (m : Machine) (n : ConsoleNumbers) (one other : MemoryBytes) (drawn : DrawnLines)
@@ -82,32 +82,33 @@ lines-by false until m n bytes drawn d e are =
     none-with until m n bytes d gap ∙ sym (none-with until m n bytes (lines_read drawn) read)
 
 -- what is kept of a console comes to what its lines do
-pub filled-comes : (until : ℕ) (m : Machine) (d : ConsoleDraft) (f : Filled) → IsFilled (backup_in m) d f
-    → filled_thawed until m f ≡ draft_thawed until m d
-filled-comes until m d f is =
+pub loose-comes : (until : ℕ) (m : Machine) (d : ConsoleDraft) (f : LooseConsole) → IsFilled (backup_in m) d f
+    → loose_thawed until m f ≡ draft_thawed until m d
+loose-comes until m d f is =
     ap (λ (n : ConsoleNumbers). console_thawed until m n (λ name. bytes_of name f.memories) f.drawn) is.numbers
     ∙ bytes-count until m d.numbers (λ name. bytes_of name f.memories) (memories_read (backup_in m) d.memory) f.drawn is.memories.bytes
     ∙ lines-by (are_numbered 0 d.drawn) until m d.numbers (memories_read (backup_in m) d.memory) d.drawn f.drawn refl is.drawn
 
 -- so are all consoles, of which each has its draft
-unfoldable pub AllMatch : List Machine → List ConsoleDraft → List Filled → Type 0
+unfoldable pub AllMatch : List Machine → List ConsoleDraft → List LooseConsole → Type 0
 AllMatch [] ds fs = Unit {0}
 AllMatch (m ∷ ms) [] fs = ⊥
 AllMatch (m ∷ ms) (d ∷ ds) [] = ⊥
 AllMatch (m ∷ ms) (d ∷ ds) (f ∷ fs) = IsFilled (backup_in m) d f × AllMatch ms ds fs
 
-pub all-come : (until : ℕ) (ms : List Machine) (ds : List ConsoleDraft) (fs : List Filled) → AllMatch ms ds fs
+pub all-come : (until : ℕ) (ms : List Machine) (ds : List ConsoleDraft) (fs : List LooseConsole) → AllMatch ms ds fs
     → all_thawed until ms fs ≡ consoles_thawed until ms ds
 unfolding all_thawed consoles_thawed AllMatch
 all-come until [] ds fs match = refl
 all-come until (m ∷ ms) [] fs match = absurd match
 all-come until (m ∷ ms) (d ∷ ds) [] match = absurd match
 all-come until (m ∷ ms) (d ∷ ds) (f ∷ fs) match =
-    let one = filled-comes until m d f match.0 in
+    let one = loose-comes until m d f match.0 in
     let rest = all-come until ms ds fs match.1 in
     rw (one, rest) refl
 
-pub all-long : (ms : List Machine) (ds : List ConsoleDraft) (fs : List Filled) → AllMatch ms ds fs → AllHaveLengths ms fs
+pub all-long : (ms : List Machine) (ds : List ConsoleDraft) (fs : List LooseConsole) → AllMatch ms ds fs
+    → AllHaveLengths ms fs
 unfolding AllMatch AllHaveLengths
 all-long [] ds fs match = tt
 all-long (m ∷ ms) [] fs match = absurd match

@@ -1,7 +1,7 @@
 pub mod Checks
 pub mod Console
 pub mod Cut
-pub mod Filled
+pub mod Loose
 pub mod Law
 pub mod Refused
 pub mod Stored

@@ -5,9 +5,10 @@ ghost use Rattle.gba_filling.specs.Memories.{HaveLengths, bytes_of};
 ghost use Rattle.gba_numbers.specs.declared.names.MemoryName.TheVariants.{Io};
 ghost use Rattle.gba_snapshot.specs.Console.{backup_in};
 ghost use Rattle.gba_thaw.specs.Checks.{have_left as have_left_of};
-ghost use Rattle.gba_thaw.specs.Console.{can_be_made as can_be_made_of, can_go_on as can_go_on_of, console_thawed};
+ghost use Rattle.gba_thaw.specs.Console.{can_be_made as can_be_made_of, can_go_on as can_go_on_of};
 ghost use Rattle.gba_thaw.specs.Console.{flash_thawed as flash_thawed_of, machine_thawed, parts_thawed as parts_thawed_of};
 ghost use Rattle.gba_thaw.specs.Console.{state_numbered as state_numbered_of, with_memories};
+ghost use Rattle.gba_thaw.specs.Loose.{loose_thawed};
 
 use crate::checks::{
     are_applied, are_drawn, are_known, has_left, has_mode, is_aligned, is_sound_flash, is_timed,
@@ -15,7 +16,7 @@ use crate::checks::{
 };
 use crate::stored::are_stored;
 use gba_console::{Console, ConsoleParts};
-use gba_filling::{Drawn, Filled, Memories};
+use gba_filling::{Loose, Memories};
 use gba_flash::{FlashMachine, FlashState};
 use gba_io::BoardParts;
 use gba_loose_devices::{are_sound_devices, board, has_status, registers};
@@ -50,12 +51,12 @@ fn flash_thawed(numbers: &Numbers) -> FlashMachine
 }
 
 /// The bytes of the I/O registers.
-fn io_of(memories: &Memories) -> [u8; 1024]
-    requires { length (bytes_of Io memories.now) ≡ 0x400 }
-    ensures { result ≡ bytes_of Io memories.now }
+fn io_of(loose: &Loose) -> [u8; 1024]
+    requires { length (bytes_of Io loose.now.memories) ≡ 0x400 }
+    ensures { result ≡ bytes_of Io loose.now.memories }
 {
     let mut io = [0; 1024];
-    io.copy_from_slice(memories.bytes(MemoryName::Io));
+    io.copy_from_slice(loose.memories().bytes(MemoryName::Io));
     io
 }
 
@@ -98,18 +99,18 @@ fn can_go_on(
     until: u64,
     console: &Console,
     parts: &ConsoleParts,
-    filled: &Filled,
+    loose: &Loose,
     io: &[u8; 1024],
 ) -> bool
     requires until { until ≤ 2 ^ 39 }
-    requires parts { parts.now ≡ parts_thawed_of console.now filled.now.numbers io.now }
-    ensures { result ≡ can_go_on_of until console.now filled.now.numbers io.now filled.now.drawn }
+    requires parts { parts.now ≡ parts_thawed_of console.now loose.now.numbers io.now }
+    ensures { result ≡ can_go_on_of until console.now loose.now.numbers io.now loose.now.drawn }
 {
-    let numbers = &filled.numbers;
+    let numbers = loose.numbers();
     is_aligned(&parts.registers.all())
         && is_timed(until, numbers)
         && are_applied(console.keys(), io, numbers)
-        && are_drawn(parts.board.devices.place(), &filled.drawn)
+        && are_drawn(parts.board.devices.place(), loose.drawn())
         && have_left(&parts.board)
         && has_mode(numbers, &parts.board.serial)
         && runs_rightly(console.off(), numbers, &parts.board.serial)
@@ -131,44 +132,38 @@ fn pour_memories(console: &mut Console, memories: &Memories)
 
 /// Puts parts, memories and lines into a console.
 #[tactic(auto, using(crate::proofs::Pours::can_pour, crate::proofs::Pours::has_flash), unfolding(gba_numbers::specs::Fields::is_field, gba_numbers::specs::Fields::place_of))]
-fn pour_all(
-    console: &mut Console,
-    parts: ConsoleParts,
-    filled: &Filled,
-    io: &[u8; 1024],
-    until: u64,
-)
-    requires lengths { HaveLengths (backup_in console.old) filled.now.memories }
+fn pour_all(console: &mut Console, parts: ConsoleParts, loose: &Loose, io: &[u8; 1024], until: u64)
+    requires lengths { HaveLengths (backup_in console.old) loose.now.memories }
     requires until { until ≤ 2 ^ 39 }
-    requires parts { parts ≡ parts_thawed_of console.old filled.now.numbers io.now }
-    requires io { io.now ≡ bytes_of Io filled.now.memories }
-    requires made { can_be_made_of console.old filled.now.numbers io.now ≡ true }
-    requires goes_on { can_go_on_of until console.old filled.now.numbers io.now filled.now.drawn ≡ true }
-    ensures { console.new ≡ machine_thawed console.old filled.now.numbers (λ name. bytes_of name filled.now.memories)
-        filled.now.drawn.lines }
+    requires parts { parts ≡ parts_thawed_of console.old loose.now.numbers io.now }
+    requires io { io.now ≡ bytes_of Io loose.now.memories }
+    requires made { can_be_made_of console.old loose.now.numbers io.now ≡ true }
+    requires goes_on { can_go_on_of until console.old loose.now.numbers io.now loose.now.drawn ≡ true }
+    ensures { console.new ≡ machine_thawed console.old loose.now.numbers (λ name. bytes_of name loose.now.memories)
+        loose.now.drawn.lines }
 {
-    let clock = single(&filled.numbers, Field::Clock);
-    pour_memories(console, &filled.memories);
-    console.restore_flash(flash_thawed(&filled.numbers));
-    console.pour(parts, filled.drawn.lines(), clock.saturating_sub(511));
+    let clock = single(loose.numbers(), Field::Clock);
+    pour_memories(console, loose.memories());
+    console.restore_flash(flash_thawed(loose.numbers()));
+    console.pour(parts, loose.drawn().lines(), clock.saturating_sub(511));
 }
 
-/// Lets a console at its start go on from what the lines of a frozen file say of it, in a job of so many cycles; false where no run
-/// can, and then nothing is promised of the console. It takes no memory.
-pub(crate) fn thaw_console(console: &mut Console, filled: &Filled, until: u64) -> bool
+/// Makes a console at the start of its job the whole one that was filled, in a job of so many cycles; false where no run
+/// can go on from that, and then nothing is promised of the console. It keeps its images, the changes of its keys, the clock
+/// below which it is off, and which lists it keeps; these are empty, and it steps no further before they are emptied for a
+/// segment. It takes no memory.
+pub fn whole(loose: &Loose, console: &mut Console, until: u64) -> bool
     requires until { until ≤ 2 ^ 39 }
-    requires lengths { HaveLengths (backup_in console.old) filled.now.memories }
-    ensures { console_thawed until console.old filled.now.numbers (λ name. bytes_of name filled.now.memories) filled.now.drawn
-        ≡ (if result then Some console.new else None) }
+    requires lengths { HaveLengths (backup_in console.old) loose.now.memories }
+    ensures { loose_thawed until console.old loose.now ≡ (if result then Some console.new else None) }
 {
-    let numbers = &filled.numbers;
-    let io = io_of(&filled.memories);
-    let Some(parts) = parts_thawed(console, numbers, &io) else {
+    let io = io_of(loose);
+    let Some(parts) = parts_thawed(console, loose.numbers(), &io) else {
         return false;
     };
-    if !can_go_on(until, console, &parts, filled, &io) {
+    if !can_go_on(until, console, &parts, loose, &io) {
         return false;
     }
-    pour_all(console, parts, filled, &io, until);
+    pour_all(console, parts, loose, &io, until);
     io_bytes(&console.board().core).as_slice() == io.as_slice()
 }

@@ -4,26 +4,27 @@ ghost use Rattle.std.specs.Prelude.{◌≡◌, ◌≤◌, ◌<◌, ◌^◌, ℕ,
 ghost use Rattle.gba_console.specs.Machine.{without_limit};
 ghost use Rattle.gba_filling.specs.Signals.{AreSignals, sent_of};
 ghost use Rattle.gba_thaw.specs.Cut.{cut_if};
-ghost use Rattle.gba_thaw.specs.Filled.{AllHaveLengths, all_thawed};
+ghost use Rattle.gba_thaw.specs.Loose.{AllHaveLengths, all_thawed};
 ghost use Rattle.link_core.specs.Kept.{cut_of};
 ghost use Rattle.link_node.specs.declared.signal.Signal.{Signal};
 ghost use Rattle.link_order.specs.Cut.{IsCable, plain_cut};
 
-use crate::console::thaw_console;
+use crate::console::whole;
 use gba_console::Console;
-use gba_filling::{Filled, Signals};
+use gba_filling::{Loose, Signals};
 use link_core::{Cut, Shell, is_whole};
 
 /// Lets consoles at their start go on from what is said of each, in a job of so many cycles; false where a run can't.
-fn thaw_consoles(consoles: &mut Vec<Console>, filled: &[Filled], until: u64) -> bool
+fn thaw_consoles(consoles: &mut Vec<Console>, loose: &[Loose], until: u64) -> bool
     requires until { until ≤ 2 ^ 39 }
-    requires count { length filled.now ≡ length consoles.old.items }
-    requires lengths { AllHaveLengths consoles.old.items filled.now }
-    ensures thawed { all_thawed until consoles.old.items filled.now ≡ (if result then Some consoles.new.items else None) }
+    requires count { length loose.now ≡ length consoles.old.items }
+    requires lengths { AllHaveLengths consoles.old.items loose.now }
+    ensures thawed { all_thawed until consoles.old.items loose.now
+        ≡ (if result then Some consoles.new.items else None) }
     ensures many { length consoles.new.items ≡ length consoles.old.items }
 {
-    for player in 0..filled.len() {
-        if !thaw_console(&mut consoles[player], &filled[player], until) {
+    for player in 0..loose.len() {
+        if !whole(&loose[player], &mut consoles[player], until) {
             return false;
         }
     }
@@ -52,18 +53,18 @@ fn join_all(consoles: Vec<Console>, shell: Shell, signals: &Signals) -> Option<C
 /// The consoles at their start on their cable go on from what is said of them, if a run can. It takes no memory.
 pub(crate) fn go_on(
     start: Cut<Console>,
-    filled: &[Filled],
+    loose: &[Loose],
     signals: &Signals,
     until: u64,
 ) -> Option<Cut<Console>>
     requires few { until ≤ 2 ^ 39 }
-    requires count { length filled.now ≡ length start.consoles }
-    requires lengths { AllHaveLengths start.consoles filled.now }
+    requires count { length loose.now ≡ length start.consoles }
+    requires lengths { AllHaveLengths start.consoles loose.now }
     ensures { (sent : List (ℕ × Signal)) → AreSignals sent signals.now
-        → result ≡ cut_if start.delays (map sent_of sent) (all_thawed until start.consoles filled.now) }
+        → result ≡ cut_if start.delays (map sent_of sent) (all_thawed until start.consoles loose.now) }
 {
     let (mut consoles, shell) = start.part();
-    if !thaw_consoles(&mut consoles, filled, until) {
+    if !thaw_consoles(&mut consoles, loose, until) {
         return None;
     }
     join_all(consoles, shell, signals)

@@ -8,4 +8,5 @@ mod file;
 pub mod laws;
 mod stored;
 
+pub use console::whole;
 pub use file::{ThawRefused, thaw};

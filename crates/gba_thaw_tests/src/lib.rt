@@ -17,3 +17,5 @@ mod registers;
 mod start;
 #[cfg(test)]
 mod unsound;
+#[cfg(test)]
+mod whole;

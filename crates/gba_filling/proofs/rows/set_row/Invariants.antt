@@ -1,8 +1,10 @@
 use Rattle.std.proofs.Common.{◌≡◌, drop}
 use Rattle.gba_frozen.specs.Reading.{with_values}
+use Rattle.gba_filling.specs.Loose.{with_numbers}
 use Rattle.gba_filling.proofs.rows.set_row.Given as goal
 
--- the values that are left make of the numbers what all make of them at first
+-- the values that are left make of the console what all make of it at first
 abbrev pub invariant-loop-part : goal.invariant-loop-part
 invariant-loop-part l =
-    with_values l.row l.part (drop l.part l.values) l.numbers ≡ with_values l.row 0 l.values l.fn.numbers
+    with_numbers (with_values l.row l.part (drop l.part l.values) l.console.numbers) l.console
+    ≡ with_numbers (with_values l.row 0 l.values l.fn.console.numbers) l.fn.console

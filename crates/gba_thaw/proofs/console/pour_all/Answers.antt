@@ -8,7 +8,7 @@ use Rattle.gba_thaw.proofs.console.pour_all.Goals as goal
 pub pour-requires-clause-applied : goal.pour-requires-clause-applied
 pour-requires-clause-applied c =
     let m = c.args.console.now in
-    let f = c.args.filled.now in
+    let f = c.args.loose.now in
     let keys : c.restore_flash.new.self.keys ≡ m.keys =
     ap (λ (one : Machine). one.keys) c.restore_flash.ensures ∙ ap (λ (one : Machine). one.keys) c.pour_memories.ensures in
     omega (

@@ -1,13 +1,13 @@
 use Rattle.std.proofs.Common.{◌≡◌, ◌≤◌, ◌∙◌, List, length, None, Some, ap, subst, sym, arith}
 use Rattle.std.proofs.lemmas.List.{length-map}
 use Rattle.gba_console.specs.Machine.{without_limit}
-use Rattle.gba_filling.specs.declared.consoles.Filled.{Filled}
+use Rattle.gba_filling.specs.Loose.{LooseConsole}
 use Rattle.gba_frozen.specs.Reading.{judged}
 use Rattle.gba_frozen.specs.declared.kinds.Setup.{Setup}
 use Rattle.gba_frozen_read.specs.Thawed.{IsThawed}
 use Rattle.gba_thaw.proofs.Read.{count-is, have-lengths, refused-as, thawed-as, whole-is}
 use Rattle.gba_thaw.specs.Cut.{setup_of, whole_of}
-use Rattle.gba_thaw.specs.Filled.{AllHaveLengths}
+use Rattle.gba_thaw.specs.Loose.{AllHaveLengths}
 use Rattle.gba_thaw.proofs.file.thaw.Goals as goal
 
 pub returns-in-Err-clause-refused : goal.returns-in-Err-clause-refused
@@ -26,7 +26,7 @@ go_on-requires-clause-count c =
     let same : c.setup_of-setup.result ≡ S = rw c.nodes.ensures.value at c.setup_of-setup.ensures in
     let read = c.in-Ok-read_frozen.ensures in
     let few : length start.consoles ≤ 4 = omega (arith, c.nodes.ensures.cable.at_most_four, length-map start.consoles without_limit) in
-    ap (λ (fs : List Filled). length fs) c.consoles.ensures
+    ap (λ (fs : List LooseConsole). length fs) c.consoles.ensures
     ∙ count-is c.args.digest.now c.args.until start c.setup_of-setup.result same few c.read_frozen.new.into read.0 read.1 read.3
 
 pub go_on-requires-clause-lengths : goal.go_on-requires-clause-lengths
@@ -37,7 +37,7 @@ go_on-requires-clause-lengths c =
     let same : c.setup_of-setup.result ≡ S = rw c.nodes.ensures.value at c.setup_of-setup.ensures in
     let read = c.in-Ok-read_frozen.ensures in
     let few : length start.consoles ≤ 4 = omega (arith, c.nodes.ensures.cable.at_most_four, length-map start.consoles without_limit) in
-    subst (λ (fs : List Filled). AllHaveLengths start.consoles fs) (sym c.consoles.ensures)
+    subst (λ (fs : List LooseConsole). AllHaveLengths start.consoles fs) (sym c.consoles.ensures)
     (have-lengths c.args.digest.now c.args.until start c.setup_of-setup.result same few c.read_frozen.new.into read.0 read.1
     read.3)
 

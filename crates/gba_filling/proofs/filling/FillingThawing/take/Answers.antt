@@ -3,7 +3,7 @@ use Rattle.gba_frozen.specs.Places.{backup_of}
 use Rattle.gba_frozen.specs.Views.{said_value}
 use Rattle.gba_filling.specs.Consoles.{IsFilled, draft_at}
 use Rattle.gba_filling.specs.Filling.{FilledJob, IsFilledJob}
-use Rattle.gba_filling.specs.declared.consoles.Filled.{Filled}
+use Rattle.gba_filling.specs.Loose.{LooseConsole}
 use Rattle.gba_filling.proofs.Jobs.{job-console, job-live, job-nothing, job-player, others-of_console}
 use Rattle.gba_filling.proofs.filling.FillingThawing.take.Goals as goal
 
@@ -25,7 +25,7 @@ keep-requires-in_default c =
     let inside : player < length before.consoles =
     job-player setup d c.args.at (said_value c.args.said.now) before held c.requires.2 in
     let old : IsFilled (backup_of setup player) (draft_at player d.consoles) c.index_mut.result.now =
-    subst (λ (f : Filled). IsFilled (backup_of setup player) (draft_at player d.consoles) f)
+    subst (λ (f : LooseConsole). IsFilled (backup_of setup player) (draft_at player d.consoles) f)
     (sym c.index_mut.ensures.value)
     (held.consoles player c.index_mut.result.now inside) in
     (setup, player, draft_at player d.consoles, c.requires.2.fits, old)
@@ -53,7 +53,7 @@ returns-in_default c d h next =
     let held : IsFilledJob before setup d = subst (λ (j : FilledJob). IsFilledJob j setup d) (sym c.self.view_is) h in
     let inside : player < length before.consoles = job-player setup d c.args.at said before held next in
     let old : IsFilled (backup_of setup player) (draft_at player d.consoles) c.index_mut.result.now =
-    subst (λ (f : Filled). IsFilled (backup_of setup player) (draft_at player d.consoles) f)
+    subst (λ (f : LooseConsole). IsFilled (backup_of setup player) (draft_at player d.consoles) f)
     (sym c.index_mut.ensures.value)
     (held.consoles player c.index_mut.result.now inside) in
     let new = c.keep-in_default.ensures setup player (draft_at player d.consoles) next.fits old in
