@@ -1,10 +1,10 @@
 //! A segment of a run: the consoles forget what the last one made, run, and give what they made.
 
-ghost use Rattle.std.specs.Prelude.{◌≡◌, ◌+◌, ◌≤◌, ◌^◌, length, map};
+ghost use Rattle.std.specs.Prelude.{◌≡◌, ◌+◌, ◌<◌, ◌≤◌, ◌^◌, length, map, get_or};
 ghost use Rattle.std.specs.List.{All};
 ghost use Rattle.gba_console.specs.Machine.{Machine, clock_of, forgotten, limit_of, without_limit};
 ghost use Rattle.gba_console.specs.Segments.{forgotten_cut};
-ghost use Rattle.gba_session.specs.Held.{HasRoom, HaveTaken};
+ghost use Rattle.gba_session.specs.Held.{HasRoom, HasTaken, HaveTaken};
 ghost use Rattle.gba_session.specs.Session.{later_end as end_after, segment_begin as segment_begin_of};
 ghost use Rattle.gba_session.specs.Start.{run_until};
 ghost use Rattle.link_order.specs.Cut.{plain_cut};
@@ -16,10 +16,13 @@ use gba_store::Gate;
 use link_core::Cut;
 use link_run::run_to;
 use std::alloc::Global;
-use std::thread::Threads;
+use std::thread::{Threads, for_each_mut};
 
 /// The most cycles of a segment.
 const SEGMENT: u64 = 16_777_216;
+
+/// So many bytes of an output are worth a thread's start: their digest takes some milliseconds.
+const MUCH: usize = 1 << 19;
 
 /// The end of the segment that begins at a clock: the next multiple of 2^24 cycles, or `until` where that comes first.
 pub fn later_end(until: u64, clock: u64) -> u64
@@ -128,13 +131,64 @@ pub(crate) fn run_segment<R: Threads + Sync, G: Gate + Sync>(
     run_cut(rt, alloc, forget_all(cut, until), gate, until)
 }
 
-/// Takes the pieces of a segment from the consoles, and state and save where the run is over.
-pub(crate) fn take_pieces(players: &mut Vec<Player>, consoles: &[Console], over: bool)
+/// Takes the pieces of a segment from the consoles, one after another.
+fn take_in_turn(players: &mut Vec<Player>, consoles: &[Console], over: bool)
     requires many { length players.old.items ≡ length consoles.now }
     requires rooms { All HasRoom players.old.items }
     ensures { HaveTaken over players.old.items consoles.now players.new.items }
 {
     for player in 0..players.len() {
         players[player].take(&consoles[player], over);
+    }
+}
+
+/// The same, each on a thread of its own.
+fn take_side_by_side<R: Threads + Sync>(
+    rt: &R,
+    players: &mut [Player],
+    consoles: &[Console],
+    over: bool,
+)
+    requires many { length players.old ≡ length consoles.now }
+    requires rooms { All HasRoom players.old }
+    ensures { HaveTaken over players.old consoles.now players.new }
+{
+    for_each_mut(
+        rt,
+        players,
+        4,
+        &|index: usize, player: &mut Player|
+            requires { (index < length consoles.now) × HasRoom player.now }
+            ensures { (m : Machine) →
+                HasTaken over player.entry.now (get_or consoles.entry.now index m) player.exit.now }
+        { player.take(&consoles[index], over) },
+    );
+}
+
+/// Whether a console has so many bytes of pictures or sound that a digest of them is worth a thread's start.
+fn has_much(console: &Console) -> bool {
+    console.frames().len() >= MUCH || console.samples().len() >= MUCH
+}
+
+/// Takes the pieces of a segment from the consoles, and state and save where the run is over. Where much is to be hashed, and
+/// the gate has room for the consoles side by side, each is taken on a thread of its own.
+pub(crate) fn take_pieces<R: Threads + Sync, G: Gate>(
+    rt: &R,
+    gate: &G,
+    players: &mut Vec<Player>,
+    consoles: &[Console],
+    over: bool,
+)
+    requires many { length players.old.items ≡ length consoles.now }
+    requires rooms { All HasRoom players.old.items }
+    ensures { HaveTaken over players.old.items consoles.now players.new.items }
+{
+    if players.len() > 1
+        && consoles.iter().any(|console| has_much(console))
+        && gate.has_room(players.len())
+    {
+        take_side_by_side(rt, players.as_mut_slice(), consoles, over);
+    } else {
+        take_in_turn(players, consoles, over);
     }
 }

@@ -135,7 +135,7 @@ impl Session {
         let end = later_end(self.until, self.to);
         let cut = run_segment(rt, alloc, self.cut, gate, end);
         let mut players = self.players;
-        take_pieces(&mut players, cut.nodes(), end >= self.until);
+        take_pieces(rt, gate, &mut players, cut.nodes(), end >= self.until);
         Session {
             start: self.start,
             cut,

@@ -12,6 +12,7 @@ early-in v s is early =
 
 pub take_pieces-requires-clause-many : goal.take_pieces-requires-clause-many
 take_pieces-requires-clause-many g c =
+    λ _ _.
     let s = c.self.inside in
     let ran = c.run_segment-cut in
     let end = c.later_end-end in

@@ -1,7 +1,7 @@
 use Rattle.std.proofs.Common.{◌<◌, length, arith}
 use Rattle.gba_session.proofs.SoFar.{so-far-more}
 use Rattle.gba_session.proofs.Taking.{Takes, all-take, takes-one}
-use Rattle.gba_session.proofs.running.take_pieces.Goals as goal
+use Rattle.gba_session.proofs.running.take_in_turn.Goals as goal
 
 pub loop-player-preserved : goal.loop-player-preserved
 loop-player-preserved c =
