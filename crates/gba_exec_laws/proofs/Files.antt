@@ -61,11 +61,13 @@ stored-user file number value is within word = record {
   words = set-words file number value is.words word;
 }
 
-user-status : (file : List ℕ) (number value : ℕ) → number < 16 → status (with_user_register file number value) ≡ status file
+user-status : (file : List ℕ) (number value : ℕ) → number < 16
+    → status (with_user_register file number value) ≡ status file
 unfolding with_user_register status
 user-status file number value within = get_or-set_other file number 31 value 0 (omega arith)
 
-user-counter : (file : List ℕ) (number value : ℕ) → number < 15 → register (with_user_register file number value) 15 ≡ register file 15
+user-counter : (file : List ℕ) (number value : ℕ) → number < 15
+    → register (with_user_register file number value) 15 ≡ register file 15
 unfolding with_user_register register
 user-counter file number value within =
     ap (λ p. get_or (set file number value) p 0) (counter-place (mode (with_user_register file number value)))
@@ -111,7 +113,8 @@ sound-flags file new is = record {
       ) is.aligned;
 }
 
-pub stored-place : (file : List ℕ) (p value : ℕ) → IsStoredFile file → 31 < p → p < 37 → IsStoredFile (set file p (kept_status value))
+pub stored-place : (file : List ℕ) (p value : ℕ) → IsStoredFile file → 31 < p → p < 37
+    → IsStoredFile (set file p (kept_status value))
 unfolding status
 stored-place file p value is high within = record {
   whole = record {
@@ -135,11 +138,13 @@ saved-high : (mode : ℕ) → saved_place mode ≢ 31 → 31 < saved_place mode
 saved-high mode own = let high = saved_place_high mode in omega (arith, high, own)
 
 -- the low registers aren't where a mode's SPSR is
-register-place : (file : List ℕ) (p value number : ℕ) → 31 < p → number < 16 → register (set file p value) number ≡ register file number
+register-place : (file : List ℕ) (p value number : ℕ) → 31 < p → number < 16
+    → register (set file p value) number ≡ register file number
 unfolding register mode status
 register-place file p value number high within =
     let low = place_within (mode file) number within in
-    ap (λ s. get_or (set file p value) (place (mode_of s) number) 0) (get_or-set_other file p 31 value 0 (omega (arith, high)))
+    ap (λ s. get_or (set file p value) (place (mode_of s) number) 0)
+    (get_or-set_other file p 31 value 0 (omega (arith, high)))
     ∙ get_or-set_other file p (place (mode file) number) value 0 (omega (arith, low, high))
 
 status-place : (file : List ℕ) (p value : ℕ) → 31 < p → status (set file p value) ≡ status file
@@ -178,7 +183,8 @@ sound-saved file value is =
         }
 
 -- a target is cut to the address of an instruction
-cut-target : (thumb : Bool) (target : ℕ) → (if thumb then target - target % 2 else target - target % 4) % (if thumb then 2 else 4) ≡ 0
+cut-target : (thumb : Bool) (target : ℕ)
+    → (if thumb then target - target % 2 else target - target % 4) % (if thumb then 2 else 4) ≡ 0
 cut-target true target = omega arith
 cut-target false target = omega arith
 
@@ -190,7 +196,10 @@ sound-jump file target is word =
     record {
       stored = stored-register file 15 value is (omega arith) (cut-word (bit (status file) 5) target word);
       aligned =
-          rw (register-with_register_same file 15 value is.whole.count (omega arith), status-with_register file 15 value (omega arith))
+          rw (
+            register-with_register_same file 15 value is.whole.count (omega arith),
+            status-with_register file 15 value (omega arith),
+          )
           (cut-target (bit (status file) 5) target);
     }
 
@@ -249,9 +258,11 @@ stored-leave file is =
     by_own false = stored-status file (saved_status file) is
 
 -- r15 stays in a write of CPSR
-pub counter-with_status : (file : List ℕ) (value : ℕ) → length file ≡ 37 → register (with_status file value) 15 ≡ register file 15
+pub counter-with_status : (file : List ℕ) (value : ℕ) → length file ≡ 37
+    → register (with_status file value) 15 ≡ register file 15
 unfolding with_status register
 counter-with_status file value count =
-    ap (λ p. get_or (set file 31 (written_status (status file) value)) p 0) (counter-place (mode (with_status file value)))
+    ap (λ p. get_or (set file 31 (written_status (status file) value)) p 0)
+    (counter-place (mode (with_status file value)))
     ∙ get_or-set_other file 31 15 (written_status (status file) value) 0 (omega arith)
     ∙ sym (ap (λ p. get_or file p 0) (counter-place (mode file)))

@@ -34,11 +34,13 @@ use Rattle.gba_exec_laws.proofs.Operations.{sound-effect, sound-word}
 use Rattle.gba_exec_laws.proofs.Words.{register-word, remainder-word, unit_load-word}
 
 -- the next instruction's address
-next-word : (at : ℕ) (thumb : Bool) → at % (if thumb then 2 else 4) ≡ 0 → (at + 4) % 2 ^ 32 % (if thumb then 2 else 4) ≡ 0
+next-word : (at : ℕ) (thumb : Bool) → at % (if thumb then 2 else 4) ≡ 0
+    → (at + 4) % 2 ^ 32 % (if thumb then 2 else 4) ≡ 0
 next-word at false aligned = omega (arith, aligned)
 next-word at true aligned = omega (arith, aligned)
 
-next-half : (at : ℕ) (thumb : Bool) → thumb ≡ true → at % (if thumb then 2 else 4) ≡ 0 → (at + 2) % 2 ^ 32 % (if thumb then 2 else 4) ≡ 0
+next-half : (at : ℕ) (thumb : Bool) → thumb ≡ true → at % (if thumb then 2 else 4) ≡ 0
+    → (at + 2) % 2 ^ 32 % (if thumb then 2 else 4) ≡ 0
 next-half at true state aligned = omega (arith, aligned)
 next-half at false state aligned = absurd (false≢true state)
 
@@ -47,12 +49,15 @@ sound-next : (file : List ℕ) (next : ℕ) → IsSoundFile file → next < 2 ^ 
 sound-next file next is word aligned = record {
   stored = stored-register file 15 next is.stored (omega arith) word;
   aligned =
-      rw (register-with_register_same file 15 next is.stored.whole.count (omega arith), status-with_register file 15 next (omega arith))
+      rw (
+        register-with_register_same file 15 next is.stored.whole.count (omega arith),
+        status-with_register file 15 next (omega arith),
+      )
       aligned;
 }
 
-either-sound : {State : Type 0} (choice : Bool) (one other : Done State) → IsSoundFile one.registers → IsSoundFile other.registers
-    → IsSoundFile (if choice then one else other).registers
+either-sound : {State : Type 0} (choice : Bool) (one other : Done State) → IsSoundFile one.registers
+    → IsSoundFile other.registers → IsSoundFile (if choice then one else other).registers
 either-sound true one other here there = here
 either-sound false one other here there = there
 
@@ -65,8 +70,9 @@ link-word : (next : ℕ) → next < 2 ^ 32 → next - next % 2 + 1 < 2 ^ 32
 link-word next word = omega (arith, word)
 
 module _ {State : Type 0} (price : Price State) (load : Load State) (store : Store State) (fit : LoadsFit load) where
-  pub sound-word-execution : ((number : ℕ) → IfSome (arm_table.operation number) arm.Fits) → (number : ℕ) (file : List ℕ) (bus : State)
-      → IsSoundFile file → IsSoundFile (word.execution price load store number file bus).registers
+  pub sound-word-execution : ((number : ℕ) → IfSome (arm_table.operation number) arm.Fits)
+      → (number : ℕ) (file : List ℕ) (bus : State) → IsSoundFile file
+      → IsSoundFile (word.execution price load store number file bus).registers
   unfolding word.execution
   sound-word-execution fits number file bus is =
       let next = word.with_next file in
@@ -80,12 +86,14 @@ module _ {State : Type 0} (price : Price State) (load : Load State) (store : Sto
       (sound-word price load store fit (arm_table.operation number) site next bus (fits number) behind)
       behind
 
-  sound-short-branch : (halfwords : ℕ) (site : Site) (file : List ℕ) → IsSoundFile file → IsSoundFile (after_short_branch halfwords site file)
+  sound-short-branch : (halfwords : ℕ) (site : Site) (file : List ℕ) → IsSoundFile file
+      → IsSoundFile (after_short_branch halfwords site file)
   unfolding after_short_branch
   sound-short-branch halfwords site file is =
       sound-jump file ((counter site + 2 * halfwords) % 2 ^ 32) is.stored (remainder-word _)
 
-  sound-link-high : (n11 : ℕ) (site : Site) (file : List ℕ) → IsSoundFile file → IsSoundFile (after_link_high n11 site file)
+  sound-link-high : (n11 : ℕ) (site : Site) (file : List ℕ) → IsSoundFile file
+      → IsSoundFile (after_link_high n11 site file)
   unfolding after_link_high
   sound-link-high n11 site file is =
       sound-register file 14 ((counter site + 2 ^ 12 * sign_extension n11 11) % 2 ^ 32) is (omega arith)
@@ -103,8 +111,8 @@ module _ {State : Type 0} (price : Price State) (load : Load State) (store : Sto
       → IsSoundFile (after_near_load price load store rd words site file bus).registers
   unfolding after_near_load
   sound-near-load rd words site file bus is within =
-      sound-register file rd (unit_load price load store unit.Word site (near_address words site) bus).value is (omega (arith, within))
-      (unit_load-word price load store fit unit.Word site (near_address words site) bus)
+      sound-register file rd (unit_load price load store unit.Word site (near_address words site) bus).value is
+      (omega (arith, within)) (unit_load-word price load store fit unit.Word site (near_address words site) bus)
 
   sound-meaning : (one : Meaning) (site : Site) (file : List ℕ) (bus : State) → MeaningFits one → IsSoundFile file
       → IsSoundFile (effect_of_meaning price load store one site file bus).registers
@@ -121,14 +129,15 @@ module _ {State : Type 0} (price : Price State) (load : Load State) (store : Sto
   sound-meaning (LinkHigh n11) site file bus fits is = sound-link-high n11 site file is
   sound-meaning (LinkLow n11) site file bus fits is = sound-link-low n11 file is
 
-  sound-half : (one : Option ThumbOp) (site : Site) (file : List ℕ) (bus : State) → IfSome one thumb.Fits → IsSoundFile file
-      → IsSoundFile (effect_of_half price load store one site file bus).registers
+  sound-half : (one : Option ThumbOp) (site : Site) (file : List ℕ) (bus : State) → IfSome one thumb.Fits
+      → IsSoundFile file → IsSoundFile (effect_of_half price load store one site file bus).registers
   unfolding effect_of_half thumb_effect
   sound-half None site file bus fits is = sound-word price load store fit None site file bus _ is
   sound-half (Some one) site file bus fits is = sound-meaning (meaning_of one) site file bus (meaning-fits one fits) is
 
-  pub sound-half-execution : ((number : ℕ) → IfSome (thumb_table.operation number) thumb.Fits) → (number : ℕ) (file : List ℕ) (bus : State)
-      → IsSoundFile file → bit (status file) 5 ≡ true → IsSoundFile (half.execution price load store number file bus).registers
+  pub sound-half-execution : ((number : ℕ) → IfSome (thumb_table.operation number) thumb.Fits)
+      → (number : ℕ) (file : List ℕ) (bus : State) → IsSoundFile file → bit (status file) 5 ≡ true
+      → IsSoundFile (half.execution price load store number file bus).registers
   unfolding half.execution
   sound-half-execution fits number file bus is state =
       sound-half (thumb_table.operation number) (half.site_of file) (half.with_next file) bus (fits number)

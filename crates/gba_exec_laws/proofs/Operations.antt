@@ -44,7 +44,8 @@ unfolding with_write_back
 sound-write-back write rn base file is within word =
     by_test (write && not (rn == 15)) refl
   where
-    by_test : (test : Bool) → (write && not (rn == 15)) ≡ test → IsSoundFile (if test then with_register file rn base else file)
+    by_test : (test : Bool) → (write && not (rn == 15)) ≡ test
+        → IsSoundFile (if test then with_register file rn base else file)
     by_test true writes = sound-register file rn base is (grind (arith, nat_tests, within, writes)) word
     by_test false stays = is
 
@@ -62,7 +63,8 @@ sound-exchange target file is word =
     sound-jump (with_status file (with_thumb (status file) (bit target 0))) target
     (stored-status file (with_thumb (status file) (bit target 0)) is.stored) word
 
-sound-branch : (link : Bool) (offset : ℤ) (site : Site) (file : List ℕ) → IsSoundFile file → IsSoundFile (after_branch link offset site file)
+sound-branch : (link : Bool) (offset : ℤ) (site : Site) (file : List ℕ) → IsSoundFile file
+    → IsSoundFile (after_branch link offset site file)
 unfolding after_branch
 sound-branch true offset site file is =
     sound-jump (with_register file 14 (register file 15)) ((counter site + 4 * cast_unsigned w32 offset) % 2 ^ 32)
@@ -99,26 +101,32 @@ unfolding with_outcome
 sound-outcome set rd one file is within word =
     by_jump (set && rd == 15) set
   where
-    by_set : (test : Bool) → IsSoundFile (if test then with_result (with_flags file (flags_after one)) rd one.value else with_result file rd one.value)
+    by_set : (test : Bool)
+        → IsSoundFile (if test then with_result (with_flags file (flags_after one)) rd one.value
+        else with_result file rd one.value)
     by_set true =
         sound-result (with_flags file (flags_after one)) rd one.value (sound-flags file (flags_after one) is) within
         word
     by_set false = sound-result file rd one.value is within word
 
     by_jump : (jumps flagged : Bool) → IsSoundFile (if jumps then after_jump (after_leave file) one.value
-        else if flagged then with_result (with_flags file (flags_after one)) rd one.value else with_result file rd one.value)
+        else if flagged then with_result (with_flags file (flags_after one)) rd one.value
+        else with_result file rd one.value)
     by_jump true flagged = sound-jump (after_leave file) one.value (stored-leave file is.stored) word
     by_jump false flagged = by_set flagged
 
 -- T stays in each write of CPSR's fields
 state-kept : (old fields : ℕ) (user : Bool) (value : ℕ)
-    → bit (written_status old (flag_field fields old value * 2 ^ 28 + control_field fields user old value)) 5 ≡ bit old 5
+    → bit (written_status old (flag_field fields old value * 2 ^ 28 + control_field fields user old value)) 5
+    ≡ bit old 5
 state-kept old fields user value = grind (arith, nat_tests)
 
-sound-status-fields : (fields value : ℕ) (file : List ℕ) → IsSoundFile file → IsSoundFile (with_status_fields fields value file)
+sound-status-fields : (fields value : ℕ) (file : List ℕ) → IsSoundFile file
+    → IsSoundFile (with_status_fields fields value file)
 unfolding with_status_fields
 sound-status-fields fields value file is =
-    let number = flag_field fields (status file) value * 2 ^ 28 + control_field fields (mode file == 0x10) (status file) value in
+    let number =
+    flag_field fields (status file) value * 2 ^ 28 + control_field fields (mode file == 0x10) (status file) value in
     let count = is.stored.whole.count in
     record {
       stored = stored-status file number is.stored;
@@ -130,7 +138,8 @@ sound-status-fields fields value file is =
           ) is.aligned;
     }
 
-sound-saved-fields : (fields value : ℕ) (file : List ℕ) → IsSoundFile file → IsSoundFile (with_saved_status_fields fields value file)
+sound-saved-fields : (fields value : ℕ) (file : List ℕ) → IsSoundFile file
+    → IsSoundFile (with_saved_status_fields fields value file)
 unfolding with_saved_status_fields
 sound-saved-fields fields value file is =
     sound-saved file
@@ -145,7 +154,8 @@ listed : (list : ℕ) → Listed list (registers_in list 0 16)
 unfolding registers_in
 listed list = below 0 16 (omega arith)
   where
-    both : (first : ℕ) (rest : List ℕ) → first < 16 → bit list first ≡ true → Listed list rest → Listed list (first ∷ rest)
+    both : (first : ℕ) (rest : List ℕ) → first < 16 → bit list first ≡ true → Listed list rest
+        → Listed list (first ∷ rest)
     both first rest within set others = ((within, set), others)
 
     keep : (first : ℕ) (rest : List ℕ) (test : Bool) → bit list first ≡ test → first < 16
@@ -158,8 +168,8 @@ listed list = below 0 16 (omega arith)
         → Listed list (filter (λ number. bit list number) (range_with_len first count))
     below first zero fits = _
     below first (suc count) fits =
-        keep first (filter (λ number. bit list number) (range_with_len (first + 1) count)) (bit list first) refl (omega (arith, fits))
-        (below (first + 1) count (omega (arith, fits)))
+        keep first (filter (λ number. bit list number) (range_with_len (first + 1) count)) (bit list first) refl
+        (omega (arith, fits)) (below (first + 1) count (omega (arith, fits)))
 
 stored-block-register : (user : Bool) (file : List ℕ) (number value : ℕ) → IsStoredFile file → number < 16
     → value < 2 ^ 32 → IsStoredFile (with_block_register user file number value)
@@ -181,15 +191,16 @@ below-counter list number without within set =
     (cases_eq number 15)
 
 module _ {State : Type 0} (price : Price State) (load : Load State) (store : Store State) (fit : LoadsFit load) where
-  loads-stored : (user : Bool) (site : Site) (list : ℕ) (numbers : List ℕ) (address : ℕ) (sequential : Bool) (done : Done State)
-      → Listed list numbers → IsStoredFile done.registers
+  loads-stored : (user : Bool) (site : Site) (list : ℕ) (numbers : List ℕ) (address : ℕ) (sequential : Bool)
+      (done : Done State) → Listed list numbers → IsStoredFile done.registers
       → IsStoredFile (loads price load store user site numbers address sequential done).registers
   unfolding loads
   loads-stored user site list [] address sequential done all is = is
   loads-stored user site list (number ∷ rest) address sequential done all is =
       loads-stored user site list rest ((address + 4) % 2 ^ 32) true
       (record {
-        registers = with_block_register user done.registers number (load done.bus site.address address Word sequential).value;
+        registers =
+            with_block_register user done.registers number (load done.bus site.address address Word sequential).value;
         bus = (load done.bus site.address address Word sequential).after;
         cycles = done.cycles + (load done.bus site.address address Word sequential).price;
       })
@@ -197,15 +208,16 @@ module _ {State : Type 0} (price : Price State) (load : Load State) (store : Sto
       (stored-block-register user done.registers number (load done.bus site.address address Word sequential).value is
       all.0.0 (fit done.bus site.address address Word sequential))
 
-  loads-sound : (user : Bool) (site : Site) (list : ℕ) (numbers : List ℕ) (address : ℕ) (sequential : Bool) (done : Done State)
-      → bit list 15 ≡ false → Listed list numbers → IsSoundFile done.registers
+  loads-sound : (user : Bool) (site : Site) (list : ℕ) (numbers : List ℕ) (address : ℕ) (sequential : Bool)
+      (done : Done State) → bit list 15 ≡ false → Listed list numbers → IsSoundFile done.registers
       → IsSoundFile (loads price load store user site numbers address sequential done).registers
   unfolding loads
   loads-sound user site list [] address sequential done without all is = is
   loads-sound user site list (number ∷ rest) address sequential done without all is =
       loads-sound user site list rest ((address + 4) % 2 ^ 32) true
       (record {
-        registers = with_block_register user done.registers number (load done.bus site.address address Word sequential).value;
+        registers =
+            with_block_register user done.registers number (load done.bus site.address address Word sequential).value;
         bus = (load done.bus site.address address Word sequential).after;
         cycles = done.cycles + (load done.bus site.address address Word sequential).price;
       })
@@ -213,8 +225,8 @@ module _ {State : Type 0} (price : Price State) (load : Load State) (store : Sto
       (sound-block-register user done.registers number (load done.bus site.address address Word sequential).value is
       (below-counter list number without all.0.0 all.0.1) (fit done.bus site.address address Word sequential))
 
-  stores-sound : (user : Bool) (site : Site) (write : Bool) (rn base : ℕ) (numbers : List ℕ) (address : ℕ) (sequential : Bool)
-      (done : Done State) → rn < 16 → base < 2 ^ 32 → IsSoundFile done.registers
+  stores-sound : (user : Bool) (site : Site) (write : Bool) (rn base : ℕ) (numbers : List ℕ) (address : ℕ)
+      (sequential : Bool) (done : Done State) → rn < 16 → base < 2 ^ 32 → IsSoundFile done.registers
       → IsSoundFile (stores price load store user site write rn base numbers address sequential done).registers
   unfolding stores
   stores-sound user site write rn base [] address sequential done within word is = is
@@ -229,7 +241,8 @@ module _ {State : Type 0} (price : Price State) (load : Load State) (store : Sto
       within word
       (first sequential)
     where
-      first : (test : Bool) → IsSoundFile (if test then done.registers else with_write_back write rn base done.registers)
+      first : (test : Bool)
+          → IsSoundFile (if test then done.registers else with_write_back write rn base done.registers)
       first true = is
       first false = sound-write-back write rn base done.registers is within word
 
@@ -256,8 +269,8 @@ module _ {State : Type 0} (price : Price State) (load : Load State) (store : Sto
       sound-result file rd (unit_load price load store kind site address bus).value is within
       (unit_load-word price load store fit kind site address bus)
 
-  sound-load-block : (block : BlockTransfer) (site : Site) (file : List ℕ) (bus : State) → IsSoundFile file → block.rn < 16
-      → IsSoundFile (after_load_block price load store block site file bus).registers
+  sound-load-block : (block : BlockTransfer) (site : Site) (file : List ℕ) (bus : State) → IsSoundFile file
+      → block.rn < 16 → IsSoundFile (after_load_block price load store block site file bus).registers
   unfolding after_load_block after_counter_load
   sound-load-block block site file bus is within =
       by_counter (bit (full_list block.list) 15) refl
@@ -286,24 +299,25 @@ module _ {State : Type 0} (price : Price State) (load : Load State) (store : Sto
       left false one stored = stored
 
       by_counter : (test : Bool) → bit (full_list block.list) 15 ≡ test
-          → IsSoundFile (if test then after_jump (if block.user then after_leave (loaded (block.user && not test)).registers
+          → IsSoundFile
+          (if test then after_jump (if block.user then after_leave (loaded (block.user && not test)).registers
           else (loaded (block.user && not test)).registers) (register (loaded (block.user && not test)).registers 15)
           else (loaded (block.user && not test)).registers)
       by_counter true with-counter =
           let after = (loaded (block.user && not true)).registers in
           let stored =
           loads-stored (block.user && not true) site (full_list block.list) (registers_in (full_list block.list) 0 16)
-          (first_address block (operand_register file (counter site) block.rn)) false begun (listed (full_list block.list))
-          sound-begun.stored in
+          (first_address block (operand_register file (counter site) block.rn)) false begun
+          (listed (full_list block.list)) sound-begun.stored in
           sound-jump (if block.user then after_leave after else after) (register after 15)
           (left block.user after stored) (register-word after 15 stored)
       by_counter false without =
           loads-sound (block.user && not false) site (full_list block.list) (registers_in (full_list block.list) 0 16)
-          (first_address block (operand_register file (counter site) block.rn)) false begun without (listed (full_list block.list))
-          sound-begun
+          (first_address block (operand_register file (counter site) block.rn)) false begun without
+          (listed (full_list block.list)) sound-begun
 
-  sound-store-block : (block : BlockTransfer) (site : Site) (file : List ℕ) (bus : State) → IsSoundFile file → block.rn < 16
-      → IsSoundFile (after_store_block price load store block site file bus).registers
+  sound-store-block : (block : BlockTransfer) (site : Site) (file : List ℕ) (bus : State) → IsSoundFile file
+      → block.rn < 16 → IsSoundFile (after_store_block price load store block site file bus).registers
   unfolding after_store_block
   sound-store-block block site file bus is within =
       let base = operand_register file (counter site) block.rn in
@@ -322,8 +336,8 @@ module _ {State : Type 0} (price : Price State) (load : Load State) (store : Sto
       sound-product set rd (product accumulate rn rs rm site file) file is fits.registers.0
       (product-word accumulate rn rs rm site file)
   sound-effect (op.MultiplyLong cond signed accumulate set hi lo rs rm) site file bus fits is =
-      sound-long-product set hi lo (long_product signed accumulate hi lo rs rm site file) file is fits.registers.0 fits.registers.1.0
-      (long_product-wide signed accumulate hi lo rs rm site file)
+      sound-long-product set hi lo (long_product signed accumulate hi lo rs rm site file) file is fits.registers.0
+      fits.registers.1.0 (long_product-wide signed accumulate hi lo rs rm site file)
   sound-effect (op.Swap cond byte rn rd rm) site file bus fits is =
       sound-swap byte rn rd rm site file bus is fits.registers.1.0
   sound-effect (op.Half cond StoreHalf pre up write rn rd offset) site file bus fits is =
@@ -363,11 +377,11 @@ module _ {State : Type 0} (price : Price State) (load : Load State) (store : Sto
       (record { pre = pre; up = up; write = write; rn = rn; rd = rd; distance = transfer_distance offset site file })
       site file bus is fits.registers.0
   sound-effect (op.Block cond true pre up user write rn list) site file bus fits is =
-      sound-load-block (record { pre = pre; up = up; user = user; write = write; rn = rn; list = list }) site file bus is
-      fits.registers.0
+      sound-load-block (record { pre = pre; up = up; user = user; write = write; rn = rn; list = list }) site
+      file bus is fits.registers.0
   sound-effect (op.Block cond false pre up user write rn list) site file bus fits is =
-      sound-store-block (record { pre = pre; up = up; user = user; write = write; rn = rn; list = list }) site file bus is
-      fits.registers.0
+      sound-store-block (record { pre = pre; up = up; user = user; write = write; rn = rn; list = list }) site
+      file bus is fits.registers.0
   sound-effect (op.Branch cond link offset) site file bus fits is = sound-branch link offset site file is
   sound-effect (op.Interrupt cond comment) site file bus fits is =
       sound-entry Software (register file 15) file is.stored (register-word file 15 is.stored)
