@@ -34,7 +34,8 @@ most-within : (a b m : ℕ) → min a m ≡ a → min b m ≡ b → min (max a b
 most-within a b m one two = grind (arith, one, two)
 
 -- two numbers within a mask are within it together
-pub both-within : (one other mask : ℕ) → bit_and one mask ≡ one → bit_and other mask ≡ other → bit_and (bit_or one other) mask ≡ bit_or one other
+pub both-within : (one other mask : ℕ) → bit_and one mask ≡ one → bit_and other mask ≡ other
+    → bit_and (bit_or one other) mask ≡ bit_or one other
 both-within one other mask first second =
     same_from_bits (bit_and (bit_or one other) mask) (bit_or one other) (λ i.
     let a = sym (bit_at_and one mask i) ∙ ap (λ n. bit_at n i) first in
@@ -43,10 +44,12 @@ both-within one other mask first second =
     ∙ most-within (bit_at one i) (bit_at other i) (bit_at mask i) a b ∙ sym (bit_at_or one other i))
 
 -- a part of a mask is within it
-pub part-within : (value part mask : ℕ) → bit_and part mask ≡ part → bit_and (bit_and value part) mask ≡ bit_and value part
+pub part-within : (value part mask : ℕ) → bit_and part mask ≡ part
+    → bit_and (bit_and value part) mask ≡ bit_and value part
 part-within value part mask is = and_assoc mask value part ∙ ap (bit_and value) is
 
-cleared-within : (value cleared mask : ℕ) → bit_and value mask ≡ value → bit_and (bit_and value cleared) mask ≡ bit_and value cleared
+cleared-within : (value cleared mask : ℕ) → bit_and value mask ≡ value
+    → bit_and (bit_and value cleared) mask ≡ bit_and value cleared
 cleared-within value cleared mask is =
     and_assoc mask value cleared ∙ ap (bit_and value) (and_comm cleared mask) ∙ sym (and_assoc cleared value mask)
     ∙ ap (λ n. bit_and n cleared) is
@@ -107,8 +110,8 @@ normal-end-small round Normal32 speed clock short near = grind (arith, nat_tests
 normal-end-small round Multi speed clock short near = grind (arith, nat_tests, short, near)
 normal-end-small round Other speed clock short near = grind (arith, nat_tests, short, near)
 
-transfer-end-small : (count round : ℕ) (mode : LinkMode) (speed clock : ℕ) → count ≤ 4 → round ≤ 2048 → clock ≤ last_clock
-    → transfer_end count round mode speed clock < 2 ^ 40
+transfer-end-small : (count round : ℕ) (mode : LinkMode) (speed clock : ℕ) → count ≤ 4 → round ≤ 2048
+    → clock ≤ last_clock → transfer_end count round mode speed clock < 2 ^ 40
 transfer-end-small count round mode speed clock few short near = by_mode (is_multi mode)
   where
     by_mode : (test : Bool) → (if test then multi_end count speed clock else normal_end round mode speed clock) < 2 ^ 40
@@ -159,7 +162,8 @@ record AreRegisters (u : SerialUnit) : Type 0 where
   send : bit_and u.send 0xffff ≡ u.send
   select : bit_and u.select 0xc000 ≡ u.select
 
-are-registers : (u : SerialUnit) → length u.words ≡ 4 → HasStoredBits serial_rows (λ at. serial_kept at u) → AreRegisters u
+are-registers : (u : SerialUnit) → length u.words ≡ 4 → HasStoredBits serial_rows (λ at. serial_kept at u)
+    → AreRegisters u
 unfolding serial_rows row_at
 are-registers u long stored = record {
   long = long;
@@ -177,7 +181,8 @@ unfolding serial_rows row_at
 registers-stored u is at =
     let holds : ℕ → Type 0 = λ k. bit_and (serial_kept k u) (row_at serial_rows k).write_mask ≡ serial_kept k u in
     at-place holds 0x120 at is.word0 (λ n0. at-place holds 0x122 at is.word1 (λ n1. at-place holds 0x124 at is.word2
-    (λ n2. at-place holds 0x126 at is.word3 (λ n3. at-place holds 0x128 at is.control (λ n4. at-place holds 0x12a at is.send
+    (λ n2. at-place holds 0x126 at is.word3
+    (λ n3. at-place holds 0x128 at is.control (λ n4. at-place holds 0x12a at is.send
     (λ n5. at-place holds 0x134 at is.select (λ n6. nothing-stored (serial_kept at u) (row_at serial_rows at).write_mask
     (grind (arith, nat_tests, n0, n1, n2, n3, n4, n5, n6)))))))))
 
@@ -228,8 +233,8 @@ all-ones = record {
       (λ n2. at-place holds 3 at refl (λ n3. rw (get_or_past words at 0 (omega (arith, n0, n1, n2, n3))) refl))));
 }
 
-registers-as : (u : SerialUnit) → AreWords u.words → bit_and u.control 0x708b ≡ u.control → bit_and u.send 0xffff ≡ u.send
-    → bit_and u.select 0xc000 ≡ u.select → AreRegisters u
+registers-as : (u : SerialUnit) → AreWords u.words → bit_and u.control 0x708b ≡ u.control
+    → bit_and u.send 0xffff ≡ u.send → bit_and u.select 0xc000 ≡ u.select → AreRegisters u
 registers-as u are control send select = record {
   long = are.long;
   word0 = are.halves 0;
@@ -274,7 +279,8 @@ either-unit : (test : Bool) (one other : SerialUnit) → Holds one → Holds oth
 either-unit true one other first second = first
 either-unit false one other first second = second
 
-reset-holds : (player count round : ℕ) → player < count → count ≤ 4 → round ≤ 2048 → Holds (serial_at_reset player count round)
+reset-holds : (player count round : ℕ) → player < count → count ≤ 4 → round ≤ 2048
+    → Holds (serial_at_reset player count round)
 reset-holds player count round seated few short = record {
   seat = record { player = seated; count = few; round = short };
   players = refl;
@@ -328,7 +334,8 @@ multi-mode Other is = absurd (false≢true is)
 send-half : (u : SerialUnit) → data_word Multi u < 2 ^ 16
 send-half u = omega arith
 
-multi-begun-holds : (clock : ℕ) (u : SerialUnit) → clock ≤ last_clock → is_multi (mode_of u) ≡ true → Holds u → Holds (multi_begun clock u)
+multi-begun-holds : (clock : ℕ) (u : SerialUnit) → clock ≤ last_clock → is_multi (mode_of u) ≡ true → Holds u
+    → Holds (multi_begun clock u)
 unfolding multi_begun
 multi-begun-holds clock u near is_it is = record {
   seat = is.seat;
@@ -372,11 +379,13 @@ normal-begun-holds clock u near has is = record {
 }
 
 -- a transfer begins in a mode that has transfers
-begun-holds : (clock : ℕ) (u : SerialUnit) → clock ≤ last_clock → has_transfers (mode_of u) ≡ true → Holds u → Holds (begun clock u)
+begun-holds : (clock : ℕ) (u : SerialUnit) → clock ≤ last_clock → has_transfers (mode_of u) ≡ true → Holds u
+    → Holds (begun clock u)
 begun-holds clock u near has is =
     by_mode (is_multi (mode_of u)) refl
   where
-    by_mode : (test : Bool) → is_multi (mode_of u) ≡ test → Holds (if test then multi_begun clock u else normal_begun clock u)
+    by_mode : (test : Bool) → is_multi (mode_of u) ≡ test
+        → Holds (if test then multi_begun clock u else normal_begun clock u)
     by_mode true is_it = multi-begun-holds clock u near is_it is
     by_mode false other = normal-begun-holds clock u near has is
 
@@ -420,10 +429,12 @@ begins-transfers bits u is = grind (arith, nat_tests, is)
 
 idle-mode : (bits : ℕ) (u : SerialUnit) → mode_of (record u { control = idle_control bits u }) ≡ next_mode bits u
 idle-mode bits u =
-    mode-choice u.select (idle_control bits u) bits (choice-idle bits (if stores_start_bit bits u then bits else u.control))
+    mode-choice u.select (idle_control bits u) bits
+    (choice-idle bits (if stores_start_bit bits u then bits else u.control))
 
 idle-control-holds : (clock bits : ℕ) (u : SerialUnit) → clock ≤ last_clock → is_running u ≡ false → Holds u
-    → Holds (if begins bits u then begun clock (record u { control = idle_control bits u }) else record u { control = idle_control bits u })
+    → Holds (if begins bits u then begun clock (record u { control = idle_control bits u })
+    else record u { control = idle_control bits u })
 idle-control-holds clock bits u near idle is =
     by_begins (begins bits u) refl
   where
@@ -431,7 +442,8 @@ idle-control-holds clock bits u near idle is =
     after = control-holds (idle_control bits u) u idle (idle-within bits u) is
 
     by_begins : (test : Bool) → begins bits u ≡ test
-        → Holds (if test then begun clock (record u { control = idle_control bits u }) else record u { control = idle_control bits u })
+        → Holds (if test then begun clock (record u { control = idle_control bits u })
+        else record u { control = idle_control bits u })
     by_begins true starts =
         begun-holds clock (record u { control = idle_control bits u }) near
         (ap has_transfers (idle-mode bits u) ∙ begins-transfers bits u starts) after
@@ -440,7 +452,8 @@ idle-control-holds clock bits u near idle is =
 -- writes
 
 running-holds : (u after : SerialUnit) → KeepsTransfer u after → IsSeat (seat_of after) → length after.known ≡ 4
-    → ((player : ℕ) → is_peer player after ≡ false → known_mode after.known player ≡ Other) → AreRegisters after → Holds u → Holds after
+    → ((player : ℕ) → is_peer player after ≡ false → known_mode after.known player ≡ Other) → AreRegisters after
+    → Holds u → Holds after
 running-holds u after kept seat players others registers is = record {
   seat = seat;
   players = players;
@@ -455,7 +468,8 @@ word-holds place bits u small is = record {
   players = is.players;
   others = is.others;
   registers =
-      registers-as (with_word place bits u) (words (is_running u)) is.registers.control is.registers.send is.registers.select;
+      registers-as (with_word place bits u) (words (is_running u)) is.registers.control is.registers.send
+      is.registers.select;
   run = is.run;
 }
   where
@@ -483,7 +497,8 @@ select-holds bits u small is =
       players = is.players;
       others = is.others;
       registers =
-          registers-as (record u { select = bits }) (words-of u is.registers) is.registers.control is.registers.send small;
+          registers-as (record u { select = bits }) (words-of u is.registers) is.registers.control
+          is.registers.send small;
       run = rw none _;
     }
     by_run (Some run) some = is
@@ -496,13 +511,15 @@ control-write-holds clock bits u near keeps is =
   where
     by_running : (test : Bool) → is_running u ≡ test
         → (test ≡ true → KeepsTransfer u (if test then record u { control = busy_control bits u }
-        else if begins bits u then begun clock (record u { control = idle_control bits u }) else record u { control = idle_control bits u }))
+        else if begins bits u then begun clock (record u { control = idle_control bits u })
+        else record u { control = idle_control bits u }))
         → Holds (if test then record u { control = busy_control bits u }
-        else if begins bits u then begun clock (record u { control = idle_control bits u }) else record u { control = idle_control bits u })
+        else if begins bits u then begun clock (record u { control = idle_control bits u })
+        else record u { control = idle_control bits u })
     by_running true runs kept =
         running-holds u (record u { control = busy_control bits u }) (kept refl) is.seat is.players is.others
-        (registers-as (record u { control = busy_control bits u }) (words-of u is.registers) (busy-within bits u) is.registers.send
-        is.registers.select) is
+        (registers-as (record u { control = busy_control bits u }) (words-of u is.registers) (busy-within bits u)
+        is.registers.send is.registers.select) is
     by_running false idle kept = idle-control-holds clock bits u near idle is
 
 write-holds : WritesKeepTransfers → (clock offset value : ℕ) (u : SerialUnit) → clock ≤ last_clock → Holds u
@@ -597,15 +614,16 @@ reply-holds sender (Some word) u is =
       };
     }
 
-    by_run : (run : Option Running) → u.run ≡ run → IfSome run (RunHolds (mode_of u)) → Holds (with_reply_of sender word run u)
+    by_run : (run : Option Running) → u.run ≡ run → IfSome run (RunHolds (mode_of u))
+        → Holds (with_reply_of sender word run u)
     by_run None none holds = is
     by_run (Some run) some holds =
         either-unit (is_multi (mode_of u)) (with_multi_reply sender word run u)
         (if run.starter && is_wired sender u then with_normal_reply sender word run u else u) (multi run holds)
         (either-unit (run.starter && is_wired sender u) (with_normal_reply sender word run u) u (normal run holds) is)
 
-multi-answered-holds : (due : Incoming) (start : Start) (u : SerialUnit) → due.signal.clock ≤ last_clock → is_multi (mode_of u) ≡ true
-    → Holds u → Holds (multi_answered due start u)
+multi-answered-holds : (due : Incoming) (start : Start) (u : SerialUnit) → due.signal.clock ≤ last_clock
+    → is_multi (mode_of u) ≡ true → Holds u → Holds (multi_answered due start u)
 multi-answered-holds due start u near is_it is = record {
   seat = is.seat;
   players = is.players;
@@ -613,7 +631,8 @@ multi-answered-holds due start u near is_it is = record {
   registers =
       registers-as (multi_answered due start u)
       (words-set (first_words 0 (cut_word Multi start.word)) u.player (data_word Multi u)
-      (words-set (0xffff ∷ 0xffff ∷ 0xffff ∷ 0xffff ∷ []) 0 (cut_word Multi start.word) all-ones (omega arith)) (send-half u))
+      (words-set (0xffff ∷ 0xffff ∷ 0xffff ∷ 0xffff ∷ []) 0 (cut_word Multi start.word) all-ones (omega arith))
+      (send-half u))
       (both-within u.control 0x0080 0x708b is.registers.control refl) is.registers.send is.registers.select;
   run = subst (λ mode. RunHolds mode answer) (sym same-mode) answer-holds;
 }
@@ -633,7 +652,9 @@ multi-answered-holds due start u near is_it is = record {
     answer-holds : RunHolds (mode_of u) answer
     answer-holds = record {
       players = length-set (received_from 0) u.player true;
-      end = transfer-end-small u.count u.round due.signal.mode start.speed due.signal.clock is.seat.count is.seat.round near;
+      end =
+          transfer-end-small u.count u.round due.signal.mode start.speed due.signal.clock is.seat.count
+          is.seat.round near;
       sent = rw (multi-mode (mode_of u) is_it) (word-data Multi u refl);
       word = word-none (mode_of u) (multi-transfers (mode_of u) is_it);
     }
@@ -656,13 +677,16 @@ normal-answered-holds due start u near has is = record {
   };
   run = record {
     players = length-set none_received due.sender true;
-    end = transfer-end-small u.count u.round due.signal.mode start.speed due.signal.clock is.seat.count is.seat.round near;
+    end =
+        transfer-end-small u.count u.round due.signal.mode start.speed due.signal.clock is.seat.count
+        is.seat.round near;
     sent = word-data (mode_of u) u has;
     word = word-cut (mode_of u) start.word has;
   };
 }
 
-same-transfers : (one other : LinkMode) → is_same one other ≡ true → has_transfers other ≡ true → has_transfers one ≡ true
+same-transfers : (one other : LinkMode) → is_same one other ≡ true → has_transfers other ≡ true
+    → has_transfers one ≡ true
 same-transfers Normal8 _ same has = refl
 same-transfers Normal32 _ same has = refl
 same-transfers Multi _ same has = refl
@@ -671,14 +695,15 @@ same-transfers Other Normal32 same has = absurd (false≢true same)
 same-transfers Other Multi same has = absurd (false≢true same)
 same-transfers Other Other same has = has
 
-proper-transfers : (mode : LinkMode) (one two three : Bool) → (if is_multi mode then one else is_normal mode && two && three) ≡ true
-    → has_transfers mode ≡ true
+proper-transfers : (mode : LinkMode) (one two three : Bool)
+    → (if is_multi mode then one else is_normal mode && two && three) ≡ true → has_transfers mode ≡ true
 proper-transfers Normal8 one two three is = refl
 proper-transfers Normal32 one two three is = refl
 proper-transfers Multi one two three is = refl
 proper-transfers Other one two three is = absurd (false≢true is)
 
-answered-transfers : (due : Incoming) (start : Start) (u : SerialUnit) → is_answered due start u ≡ true → has_transfers (mode_of u) ≡ true
+answered-transfers : (due : Incoming) (start : Start) (u : SerialUnit) → is_answered due start u ≡ true
+    → has_transfers (mode_of u) ≡ true
 answered-transfers due start u is =
     let whole = and_parts (is_proper_start due start u && ends_later due start u) (can_answer due u) is in
     let proper = and_parts (is_proper_start due start u) (ends_later due start u) whole.0 in
@@ -686,7 +711,8 @@ answered-transfers due start u is =
     and_parts (not (is_running u) && is_same (mode_of u) due.signal.mode) (is_multi (mode_of u) || waits u) whole.1 in
     let same = and_parts (not (is_running u)) (is_same (mode_of u) due.signal.mode) can.0 in
     same-transfers (mode_of u) due.signal.mode same.1
-    (proper-transfers due.signal.mode ((due.sender == 0) && nat_lt start.speed 4) (is_wired due.sender u) (nat_lt start.speed 2) proper.0)
+    (proper-transfers due.signal.mode ((due.sender == 0) && nat_lt start.speed 4) (is_wired due.sender u)
+    (nat_lt start.speed 2) proper.0)
 
 start-holds : (due : Incoming) (start : Option Start) (u : SerialUnit) → due.signal.clock ≤ last_clock → Holds u
     → Holds (with_start due start u)
@@ -710,7 +736,8 @@ taken-holds due u near is =
     by_peer (is_peer due.sender u) refl
   where
     by_peer : (test : Bool) → is_peer due.sender u ≡ test
-        → Holds (if test then with_start due due.signal.start (with_reply due.sender due.signal.reply (with_known due u)) else u)
+        → Holds (if test
+        then with_start due due.signal.start (with_reply due.sender due.signal.reply (with_known due u)) else u)
     by_peer true peer =
         start-holds due due.signal.start (with_reply due.sender due.signal.reply (with_known due u)) near
         (reply-holds due.sender due.signal.reply (with_known due u) (known-holds due u peer is))
@@ -749,7 +776,8 @@ finished-holds run u is = record {
   others = is.others;
   registers =
       registers-as (finished run u) (words-behind (mode_of u) run u (words-of u is.registers))
-      (cleared-within u.control 0xff7f 0x708b is.registers.control) (sent-after (mode_of u) run u is.registers.send) is.registers.select;
+      (cleared-within u.control 0xff7f 0x708b is.registers.control) (sent-after (mode_of u) run u is.registers.send)
+      is.registers.select;
   run = _;
 }
 

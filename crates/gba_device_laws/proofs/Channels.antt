@@ -66,10 +66,38 @@ written-stored cs is at =
     (λ n19. at-place holds 0x0d8 at (low-half cs.channel3.target) (λ n20. at-place holds 0x0da at is.channel3.target
     (λ n21. at-place holds 0x0dc at is.channel3.count (λ n22. at-place holds 0x0de at is.channel3.control
     (λ n23. nothing-stored (dma_kept at cs) (row_at dma_rows at).write_mask
-    (grind (arith, nat_tests, n0, n1, n2, n3, n4, n5, n6, n7, n8, n9, n10, n11, n12, n13, n14, n15, n16, n17, n18, n19, n20, n21, n22, n23))))))))))))))))))))))))))
+    (grind (
+      arith,
+      nat_tests,
+      n0,
+      n1,
+      n2,
+      n3,
+      n4,
+      n5,
+      n6,
+      n7,
+      n8,
+      n9,
+      n10,
+      n11,
+      n12,
+      n13,
+      n14,
+      n15,
+      n16,
+      n17,
+      n18,
+      n19,
+      n20,
+      n21,
+      n22,
+      n23,
+    ))))))))))))))))))))))))))
 
 -- a control whose enable is cleared
-cleared-bit : (control mask : ℕ) → bit_and control mask ≡ control → bit_and (field control 0 15) mask ≡ field control 0 15
+cleared-bit : (control mask : ℕ) → bit_and control mask ≡ control
+    → bit_and (field control 0 15) mask ≡ field control 0 15
 cleared-bit control mask small =
     ap (λ n. bit_and n mask) cut ∙ and_assoc mask control 0x7fff ∙ ap (bit_and control) (and_comm 0x7fff mask)
     ∙ sym (and_assoc 0x7fff control mask) ∙ ap (λ n. bit_and n 0x7fff) small ∙ sym cut
@@ -134,7 +162,9 @@ module _ (sources targets counts controls : ℕ) (few : counts < 0x10000) where
     };
   }
     where
-      stays : (test : Bool) → (if test then c.inner_target else moved (target_step c) (size (unit_width number c)) c.inner_target) < 2 ^ 32
+      stays : (test : Bool)
+          → (if test then c.inner_target else moved (target_step c) (size (unit_width number c)) c.inner_target)
+          < 2 ^ 32
       stays true = is.holds.inner_target
       stays false = moved-word (target_step c) (unit_width number c) c.inner_target is.holds.inner_target
 
@@ -163,7 +193,9 @@ module _ (sources targets counts controls : ℕ) (few : counts < 0x10000) where
       left true = loaded-count number c is
       left false = is.holds.left
 
-      control : (test : Bool) → bit_and (if test then c.control else field c.control 0 15) controls ≡ (if test then c.control else field c.control 0 15)
+      control : (test : Bool)
+          → bit_and (if test then c.control else field c.control 0 15) controls
+          ≡ (if test then c.control else field c.control 0 15)
       control true = is.written.control
       control false = cleared-bit c.control controls is.written.control
 
@@ -178,8 +210,10 @@ module _ (sources targets counts controls : ℕ) (few : counts < 0x10000) where
     holds = record {
       source = is.holds.source;
       target = is.holds.target;
-      inner_source = either-word (starts (bit_and value controls) c) c.source c.inner_source is.holds.source is.holds.inner_source;
-      inner_target = either-word (starts (bit_and value controls) c) c.target c.inner_target is.holds.target is.holds.inner_target;
+      inner_source =
+          either-word (starts (bit_and value controls) c) c.source c.inner_source is.holds.source is.holds.inner_source;
+      inner_target =
+          either-word (starts (bit_and value controls) c) c.target c.inner_target is.holds.target is.holds.inner_target;
       left = left (starts (bit_and value controls) c);
     };
     written = record {
@@ -190,7 +224,8 @@ module _ (sources targets counts controls : ℕ) (few : counts < 0x10000) where
     };
   }
     where
-      either-word : (test : Bool) (one other : ℕ) → one < 2 ^ 32 → other < 2 ^ 32 → (if test then one else other) < 2 ^ 32
+      either-word : (test : Bool) (one other : ℕ) → one < 2 ^ 32 → other < 2 ^ 32
+          → (if test then one else other) < 2 ^ 32
       either-word true one other first second = first
       either-word false one other first second = second
 
@@ -198,10 +233,12 @@ module _ (sources targets counts controls : ℕ) (few : counts < 0x10000) where
       left true = loaded-count number c is
       left false = is.holds.left
 
-  source-low : (value : ℕ) (c : Channel) → Keeps c → Keeps (record c { source = with_low (bit_and value 0xffff) c.source })
+  source-low : (value : ℕ) (c : Channel) → Keeps c
+      → Keeps (record c { source = with_low (bit_and value 0xffff) c.source })
   source-low value c is =
       let small : bit_and value 0xffff < 2 ^ 16 = omega (arith, and_mask value 16) in
-      let same : field (with_low (bit_and value 0xffff) c.source) 16 16 ≡ field c.source 16 16 = omega (arith, small, is.holds.source) in
+      let same : field (with_low (bit_and value 0xffff) c.source) 16 16 ≡ field c.source 16 16 =
+      omega (arith, small, is.holds.source) in
       record {
         holds = record {
           source = omega (arith, small, is.holds.source);
@@ -218,10 +255,12 @@ module _ (sources targets counts controls : ℕ) (few : counts < 0x10000) where
         };
       }
 
-  target-low : (value : ℕ) (c : Channel) → Keeps c → Keeps (record c { target = with_low (bit_and value 0xffff) c.target })
+  target-low : (value : ℕ) (c : Channel) → Keeps c
+      → Keeps (record c { target = with_low (bit_and value 0xffff) c.target })
   target-low value c is =
       let small : bit_and value 0xffff < 2 ^ 16 = omega (arith, and_mask value 16) in
-      let same : field (with_low (bit_and value 0xffff) c.target) 16 16 ≡ field c.target 16 16 = omega (arith, small, is.holds.target) in
+      let same : field (with_low (bit_and value 0xffff) c.target) 16 16 ≡ field c.target 16 16 =
+      omega (arith, small, is.holds.target) in
       record {
         holds = record {
           source = is.holds.source;
@@ -238,10 +277,12 @@ module _ (sources targets counts controls : ℕ) (few : counts < 0x10000) where
         };
       }
 
-  source-high : (value : ℕ) (c : Channel) → sources < 2 ^ 16 → Keeps c → Keeps (record c { source = with_high (bit_and value sources) c.source })
+  source-high : (value : ℕ) (c : Channel) → sources < 2 ^ 16 → Keeps c
+      → Keeps (record c { source = with_high (bit_and value sources) c.source })
   source-high value c small is =
       let half : bit_and value sources < 2 ^ 16 = omega (arith, small, and_le_r value sources) in
-      let same : field (with_high (bit_and value sources) c.source) 16 16 ≡ bit_and value sources = omega (arith, half) in
+      let same : field (with_high (bit_and value sources) c.source) 16 16 ≡ bit_and value sources =
+      omega (arith, half) in
       record {
         holds = record {
           source = omega (arith, half);
@@ -258,10 +299,12 @@ module _ (sources targets counts controls : ℕ) (few : counts < 0x10000) where
         };
       }
 
-  target-high : (value : ℕ) (c : Channel) → targets < 2 ^ 16 → Keeps c → Keeps (record c { target = with_high (bit_and value targets) c.target })
+  target-high : (value : ℕ) (c : Channel) → targets < 2 ^ 16 → Keeps c
+      → Keeps (record c { target = with_high (bit_and value targets) c.target })
   target-high value c small is =
       let half : bit_and value targets < 2 ^ 16 = omega (arith, small, and_le_r value targets) in
-      let same : field (with_high (bit_and value targets) c.target) 16 16 ≡ bit_and value targets = omega (arith, half) in
+      let same : field (with_high (bit_and value targets) c.target) 16 16 ≡ bit_and value targets =
+      omega (arith, half) in
       record {
         holds = record {
           source = is.holds.source;
@@ -296,8 +339,9 @@ module _ (sources targets counts controls : ℕ) (few : counts < 0x10000) where
   }
 
 -- a write elsewhere
-untouched : (number offset value : ℕ) (c : Channel) → offset ≢ base number → offset ≢ base number + 2 → offset ≢ base number + 4
-    → offset ≢ base number + 6 → offset ≢ base number + 8 → offset ≢ base number + 10 → half_stored_at number offset value c ≡ c
+untouched : (number offset value : ℕ) (c : Channel) → offset ≢ base number → offset ≢ base number + 2
+    → offset ≢ base number + 4 → offset ≢ base number + 6 → offset ≢ base number + 8 → offset ≢ base number + 10
+    → half_stored_at number offset value c ≡ c
 untouched number offset value c n0 n2 n4 n6 n8 n10 = grind (arith, nat_tests, n0, n2, n4, n6, n8, n10)
 
 few14 : 0x3fff < 0x10000
@@ -316,7 +360,8 @@ abbrev Keeps3 : Channel → Type 0
 Keeps3 = Keeps 0x0fff 0x0fff 0xffff 0xffe0 few16
 
 module _ (value : ℕ) (c : Channel) where
-  stored0 : (offset : ℕ) → Keeps0 c → Keeps0 (half_stored_at 0 offset (bit_and value (row_at dma_rows offset).write_mask) c)
+  stored0 : (offset : ℕ) → Keeps0 c
+      → Keeps0 (half_stored_at 0 offset (bit_and value (row_at dma_rows offset).write_mask) c)
   unfolding dma_rows row_at
   stored0 offset is =
       let after : ℕ → Type 0 = λ k. Keeps0 (half_stored_at 0 k (bit_and value (row_at dma_rows k).write_mask) c) in
@@ -328,7 +373,8 @@ module _ (value : ℕ) (c : Channel) where
       (λ n8. at-place after 0x0ba offset (control-keeps 0x07ff 0x07ff 0x3fff 0xf7e0 few14 0 value c is)
       (λ n10. rw (untouched 0 offset (bit_and value (row_at dma_rows offset).write_mask) c n0 n2 n4 n6 n8 n10) is))))))
 
-  stored1 : (offset : ℕ) → Keeps1 c → Keeps1 (half_stored_at 1 offset (bit_and value (row_at dma_rows offset).write_mask) c)
+  stored1 : (offset : ℕ) → Keeps1 c
+      → Keeps1 (half_stored_at 1 offset (bit_and value (row_at dma_rows offset).write_mask) c)
   unfolding dma_rows row_at
   stored1 offset is =
       let after : ℕ → Type 0 = λ k. Keeps1 (half_stored_at 1 k (bit_and value (row_at dma_rows k).write_mask) c) in
@@ -340,7 +386,8 @@ module _ (value : ℕ) (c : Channel) where
       (λ n8. at-place after 0x0c6 offset (control-keeps 0x0fff 0x07ff 0x3fff 0xf7e0 few14 1 value c is)
       (λ n10. rw (untouched 1 offset (bit_and value (row_at dma_rows offset).write_mask) c n0 n2 n4 n6 n8 n10) is))))))
 
-  stored2 : (offset : ℕ) → Keeps1 c → Keeps1 (half_stored_at 2 offset (bit_and value (row_at dma_rows offset).write_mask) c)
+  stored2 : (offset : ℕ) → Keeps1 c
+      → Keeps1 (half_stored_at 2 offset (bit_and value (row_at dma_rows offset).write_mask) c)
   unfolding dma_rows row_at
   stored2 offset is =
       let after : ℕ → Type 0 = λ k. Keeps1 (half_stored_at 2 k (bit_and value (row_at dma_rows k).write_mask) c) in
@@ -352,7 +399,8 @@ module _ (value : ℕ) (c : Channel) where
       (λ n8. at-place after 0x0d2 offset (control-keeps 0x0fff 0x07ff 0x3fff 0xf7e0 few14 2 value c is)
       (λ n10. rw (untouched 2 offset (bit_and value (row_at dma_rows offset).write_mask) c n0 n2 n4 n6 n8 n10) is))))))
 
-  stored3 : (offset : ℕ) → Keeps3 c → Keeps3 (half_stored_at 3 offset (bit_and value (row_at dma_rows offset).write_mask) c)
+  stored3 : (offset : ℕ) → Keeps3 c
+      → Keeps3 (half_stored_at 3 offset (bit_and value (row_at dma_rows offset).write_mask) c)
   unfolding dma_rows row_at
   stored3 offset is =
       let after : ℕ → Type 0 = λ k. Keeps3 (half_stored_at 3 k (bit_and value (row_at dma_rows k).write_mask) c) in
@@ -397,7 +445,8 @@ all-hold cs consistent keep = record {
 }
 
 module _ (consistently : StaysConsistent) where
-  pub channels-write : (offset value : ℕ) (cs : FourChannels) → ChannelsHold cs → ChannelsHold (dma_written offset value cs)
+  pub channels-write : (offset value : ℕ) (cs : FourChannels) → ChannelsHold cs
+      → ChannelsHold (dma_written offset value cs)
   channels-write offset value cs hold =
       let keep = keep-all cs hold in
       all-hold (dma_written offset value cs) (consistently.write offset value cs hold.consistent) (record {
@@ -439,11 +488,21 @@ module _ (consistently : StaysConsistent) where
   channels-reset =
       all-hold channels_at_reset consistently.reset
       (record {
-        channel0 = record { holds = empty; written = record { source = refl; target = refl; count = refl; control = refl } };
-        channel1 = record { holds = empty; written = record { source = refl; target = refl; count = refl; control = refl } };
-        channel2 = record { holds = empty; written = record { source = refl; target = refl; count = refl; control = refl } };
-        channel3 = record { holds = empty; written = record { source = refl; target = refl; count = refl; control = refl } };
+        channel0 =
+            record { holds = empty; written = record { source = refl; target = refl; count = refl; control = refl } };
+        channel1 =
+            record { holds = empty; written = record { source = refl; target = refl; count = refl; control = refl } };
+        channel2 =
+            record { holds = empty; written = record { source = refl; target = refl; count = refl; control = refl } };
+        channel3 =
+            record { holds = empty; written = record { source = refl; target = refl; count = refl; control = refl } };
       })
     where
       empty : ChannelHolds channel_at_reset
-      empty = record { source = omega arith; target = omega arith; inner_source = omega arith; inner_target = omega arith; left = omega arith }
+      empty = record {
+        source = omega arith;
+        target = omega arith;
+        inner_source = omega arith;
+        inner_target = omega arith;
+        left = omega arith;
+      }

@@ -48,7 +48,8 @@ either-ratio : (test : Bool) (one other : FourTones) (ratio : ℕ) → one.ratio
 either-ratio true one other ratio first second = first
 either-ratio false one other ratio first second = second
 
-channel-ratio : (offset value : ℕ) (starts : Bool) (ts : FourTones) → (channel_stored offset value starts ts).ratio ≡ ts.ratio
+channel-ratio : (offset value : ℕ) (starts : Bool) (ts : FourTones)
+    → (channel_stored offset value starts ts).ratio ≡ ts.ratio
 channel-ratio offset value starts ts =
     either-ratio (offset == 0x060) _ _ ts.ratio refl
     (either-ratio (offset == 0x062) _ _ ts.ratio refl
@@ -71,8 +72,8 @@ same-ratio : (offset value : ℕ) (ts : FourTones) → offset ≢ 0x082 → (ton
 unfolding tones_written
 same-ratio offset value ts other =
     let number = bit_and value (row_at tone_rows offset).write_mask in
-    either-ratio (is_wave_offset offset) (record ts { wave = with_wave_half (wave_place offset) number ts.wave }) _ ts.ratio refl
-    (rw none
+    either-ratio (is_wave_offset offset) (record ts { wave = with_wave_half (wave_place offset) number ts.wave }) _
+    ts.ratio refl (rw none
     (either-ratio (offset == 0x084) (mastered (bit number 7) ts) _ ts.ratio (mastered-ratio (bit number 7) ts)
     (either-ratio ts.is_on (channel_stored offset number (bit value 15) ts) ts ts.ratio
     (channel-ratio offset number (bit value 15) ts) refl)))
@@ -97,22 +98,26 @@ timer-bits marked ts =
 position-cycle : (p : Position) → IsPosition p → IsPosition (place_cycle p)
 position-cycle p is = record { line = grind (arith, nat_tests, is.line); dot = grind (arith, nat_tests, is.dot) }
 
-either-channels : (test : Bool) (one other : FourChannels) → ChannelsHold one → ChannelsHold other → ChannelsHold (if test then one else other)
+either-channels : (test : Bool) (one other : FourChannels) → ChannelsHold one → ChannelsHold other
+    → ChannelsHold (if test then one else other)
 either-channels true one other first second = first
 either-channels false one other first second = second
 
-either-picture : (test : Bool) (one other : Picture) → PictureHolds one → PictureHolds other → PictureHolds (if test then one else other)
+either-picture : (test : Bool) (one other : Picture) → PictureHolds one → PictureHolds other
+    → PictureHolds (if test then one else other)
 either-picture true one other first second = first
 either-picture false one other first second = second
 
-either-devices : (test : Bool) (one other : Devices) → DevicesHold one → DevicesHold other → DevicesHold (if test then one else other)
+either-devices : (test : Bool) (one other : Devices) → DevicesHold one → DevicesHold other
+    → DevicesHold (if test then one else other)
 either-devices true one other first second = first
 either-devices false one other first second = second
 
 -- SOUNDCNT_X's master enable, and SOUNDCNT_H's ratio
 master-written : (value : ℕ) → bit (bit_and value 0x0080) 7 ≡ bit value 7
 master-written value =
-    ap (λ n. n % 2 == 1) (and_shr value 0x0080 7 ∙ and_mask (value / 2 ^ 7) 1) ∙ ap (λ n. n == 1) (twice (value / 2 ^ 7))
+    ap (λ n. n % 2 == 1) (and_shr value 0x0080 7 ∙ and_mask (value / 2 ^ 7) 1)
+    ∙ ap (λ n. n == 1) (twice (value / 2 ^ 7))
   where
     twice : (n : ℕ) → n % 2 ^ 1 % 2 ≡ n % 2
     twice n = omega arith
@@ -134,8 +139,10 @@ unfolding ticked
 ticked-ratio ts =
     let one = with_lengths ts in
     let two = with_sweeps one in
-    let lengths : one.ratio ≡ ts.ratio = either-ratio (ts.sequencer % 0x10000 == 0) (after_lengths ts) ts ts.ratio refl refl in
-    let sweeps : two.ratio ≡ ts.ratio = either-ratio (one.sequencer % 0x20000 == 0) (after_sweeps one) one ts.ratio lengths lengths in
+    let lengths : one.ratio ≡ ts.ratio =
+    either-ratio (ts.sequencer % 0x10000 == 0) (after_lengths ts) ts ts.ratio refl refl in
+    let sweeps : two.ratio ≡ ts.ratio =
+    either-ratio (one.sequencer % 0x20000 == 0) (after_sweeps one) one ts.ratio lengths lengths in
     either-ratio (two.sequencer == 0) (after_envelopes two) two ts.ratio sweeps sweeps
 
 cycle-ratio : (ts : FourTones) → (tones_cycle ts).ratio ≡ ts.ratio
@@ -170,7 +177,8 @@ module _ (consistently : StaysConsistent) (soundly : StaysSound) (d : Devices) (
     waits = hold.waits;
   }
 
-  tones-half : (offset value : ℕ) → offset ≢ 0x082 → offset ≢ 0x084 → DevicesHold (record d { tones = tones_written offset value d.tones })
+  tones-half : (offset value : ℕ) → offset ≢ 0x082 → offset ≢ 0x084
+      → DevicesHold (record d { tones = tones_written offset value d.tones })
   tones-half offset value no_ratio no_master = record {
     tones = tones-write soundly offset value d.tones hold.tones;
     master = hold.master ∙ sym (same-master offset value d.tones no_master);
@@ -186,7 +194,10 @@ module _ (consistently : StaysConsistent) (soundly : StaysSound) (d : Devices) (
   }
 
   sound-half : (offset value : ℕ) → offset ≢ 0x082 → offset ≢ 0x084
-      → DevicesHold (record d { sound = sound_written offset value d.sound; tones = tones_written offset value d.tones })
+      → DevicesHold (record d {
+        sound = sound_written offset value d.sound;
+        tones = tones_written offset value d.tones;
+      })
   sound-half offset value no_ratio no_master = record {
     sound = sound-write offset value d.sound hold.sound;
     tones = tones-write soundly offset value d.tones hold.tones;
@@ -283,7 +294,8 @@ module _ (consistently : StaysConsistent) (soundly : StaysSound) (d : Devices) (
 
   keys-half : (value : ℕ) → DevicesHold (with_key_control value d)
   keys-half value = record {
-    interrupts = interrupts-request-if (becomes_true d.keys (with_control value d.keys)) 12 d.interrupts refl hold.interrupts;
+    interrupts =
+        interrupts-request-if (becomes_true d.keys (with_control value d.keys)) 12 d.interrupts refl hold.interrupts;
     keys = keys-control value d.keys hold.keys;
     timers = hold.timers;
     channels = hold.channels;
@@ -296,7 +308,8 @@ module _ (consistently : StaysConsistent) (soundly : StaysSound) (d : Devices) (
     waits = hold.waits;
   }
 
-  interrupts-half : (offset value : ℕ) → DevicesHold (record d { interrupts = interrupt_written offset value d.interrupts })
+  interrupts-half : (offset value : ℕ)
+      → DevicesHold (record d { interrupts = interrupt_written offset value d.interrupts })
   interrupts-half offset value = record {
     interrupts = interrupts-write offset value d.interrupts hold.interrupts;
     timers = hold.timers;
@@ -351,7 +364,8 @@ module _ (consistently : StaysConsistent) (soundly : StaysSound) (d : Devices) (
 
   pub half-holds : (offset value lanes : ℕ) → DevicesHold (whole_written offset value lanes d)
   half-holds offset value lanes =
-      at-place after 0x082 offset (control-there value lanes) (λ no_ratio. at-place after 0x084 offset (master-there value lanes)
+      at-place after 0x082 offset (control-there value lanes)
+      (λ no_ratio. at-place after 0x084 offset (master-there value lanes)
       (λ no_master. each-half DevicesHold offset lanes d (picture-half offset)
       (λ number. tones-half offset number no_ratio no_master) (λ number. sound-half offset number no_ratio no_master)
       (channels-half offset) (timers-half offset)
@@ -376,14 +390,17 @@ module _ (consistently : StaysConsistent) (soundly : StaysSound) (d : Devices) (
     waits = hold.waits;
   }
 
-  asked-hold : (asks : Bool) (event : DmaEvent) (cs : FourChannels) → ChannelsHold cs → ChannelsHold (asked_one asks event cs)
-  asked-hold asks event cs is = either-channels asks (after_trigger event cs) cs (channels-event consistently event cs is) is
+  asked-hold : (asks : Bool) (event : DmaEvent) (cs : FourChannels) → ChannelsHold cs
+      → ChannelsHold (asked_one asks event cs)
+  asked-hold asks event cs is =
+      either-channels asks (after_trigger event cs) cs (channels-event consistently event cs is) is
 
   pub unit-holds : (number : ℕ) → number < 4 → DevicesHold (after_dma_unit number d)
   unfolding after_dma_unit
   unit-holds number few = record {
     channels = channels-unit consistently number d.channels hold.channels;
-    interrupts = interrupts-request-if (requests_interrupt (channel_at number d.channels)) (8 + number) d.interrupts (request-bits number few) hold.interrupts;
+    interrupts = interrupts-request-if (requests_interrupt (channel_at number d.channels)) (8 + number) d.interrupts
+        (request-bits number few) hold.interrupts;
     timers = hold.timers;
     place = hold.place;
     picture = hold.picture;
@@ -398,7 +415,8 @@ module _ (consistently : StaysConsistent) (soundly : StaysSound) (d : Devices) (
   pub keys-hold : (pressed : ℕ) → DevicesHold (keyed pressed d)
   unfolding keyed
   keys-hold pressed = record {
-    interrupts = interrupts-request-if (becomes_true d.keys (with_pressed pressed d.keys)) 12 d.interrupts refl hold.interrupts;
+    interrupts =
+        interrupts-request-if (becomes_true d.keys (with_pressed pressed d.keys)) 12 d.interrupts refl hold.interrupts;
     keys = keys-pressed pressed d.keys hold.keys;
     timers = hold.timers;
     channels = hold.channels;
@@ -475,7 +493,8 @@ module _ (consistently : StaysConsistent) (soundly : StaysSound) (d : Devices) (
   moved-holds : DevicesHold (with_timer_requests (overflow_mark d.timers) (moved d))
   moved-holds = record {
     timers = timers-cycle d.timers hold.timers;
-    interrupts = interrupts-requests (8 * requests (overflow_mark d.timers) (timer_cycle d.timers)) d.interrupts (timer-bits (overflow_mark d.timers) (timer_cycle d.timers)) hold.interrupts;
+    interrupts = interrupts-requests (8 * requests (overflow_mark d.timers) (timer_cycle d.timers)) d.interrupts
+        (timer-bits (overflow_mark d.timers) (timer_cycle d.timers)) hold.interrupts;
     channels = hold.channels;
     place = hold.place;
     picture = hold.picture;
@@ -490,7 +509,8 @@ module _ (consistently : StaysConsistent) (soundly : StaysSound) (d : Devices) (
   asks-hold : (queues : Asked) → ChannelsHold (asked_by queues d.channels)
   unfolding asked_by
   asks-hold queues =
-      asked-hold queues.b QueueB (asked_one queues.a QueueA d.channels) (asked-hold queues.a QueueA d.channels hold.channels)
+      asked-hold queues.b QueueB (asked_one queues.a QueueA d.channels)
+      (asked-hold queues.a QueueA d.channels hold.channels)
 
   rung-holds : (timer : ℕ) (rings : Bool) → DevicesHold (rung timer rings d)
   unfolding rung
@@ -554,8 +574,12 @@ module _ (consistently : StaysConsistent) (soundly : StaysSound) (d : Devices) (
   hblank-holds : DevicesHold (at_hblank d)
   unfolding at_hblank
   hblank-holds = record {
-    channels = either-channels (is_seen d.place) (after_trigger HBlank d.channels) d.channels (channels-event consistently HBlank d.channels hold.channels) hold.channels;
-    picture = either-picture (is_seen d.place) (after_line d.picture) d.picture (picture-line d.picture hold.picture) hold.picture;
+    channels =
+        either-channels (is_seen d.place) (after_trigger HBlank d.channels) d.channels
+        (channels-event consistently HBlank d.channels hold.channels) hold.channels;
+    picture =
+        either-picture (is_seen d.place) (after_line d.picture) d.picture (picture-line d.picture hold.picture)
+        hold.picture;
     interrupts = interrupts-request-if (bit (status_of d.picture) 4) 1 d.interrupts refl hold.interrupts;
     timers = hold.timers;
     place = hold.place;
@@ -570,12 +594,16 @@ module _ (consistently : StaysConsistent) (soundly : StaysSound) (d : Devices) (
   line-holds : DevicesHold (at_line d)
   unfolding at_line
   line-holds = record {
-    channels = either-channels (begins_vblank d.place) (after_trigger VBlank d.channels) d.channels (channels-event consistently VBlank d.channels hold.channels) hold.channels;
-    picture = either-picture (begins_vblank d.place) (after_reload d.picture) d.picture (picture-reload d.picture hold.picture) hold.picture;
+    channels =
+        either-channels (begins_vblank d.place) (after_trigger VBlank d.channels) d.channels
+        (channels-event consistently VBlank d.channels hold.channels) hold.channels;
+    picture =
+        either-picture (begins_vblank d.place) (after_reload d.picture) d.picture
+        (picture-reload d.picture hold.picture) hold.picture;
     interrupts = interrupts-request-if (begins_vblank d.place && bit (status_of d.picture) 3) 0
         (with_request_if (is_matched (status_of d.picture) d.place && bit (status_of d.picture) 5) 2 d.interrupts) refl
-        (interrupts-request-if (is_matched (status_of d.picture) d.place && bit (status_of d.picture) 5) 2 d.interrupts refl
-        hold.interrupts);
+        (interrupts-request-if (is_matched (status_of d.picture) d.place && bit (status_of d.picture) 5) 2
+        d.interrupts refl hold.interrupts);
     timers = hold.timers;
     place = hold.place;
     sound = hold.sound;

@@ -19,7 +19,8 @@ pub keys-pressed : (pressed : ℕ) (k : Keys) → KeysHold k → KeysHold (with_
 keys-pressed pressed k is = record { pressed = omega arith; control = is.control }
 
 pub keys-control : (value : ℕ) (k : Keys) → KeysHold k → KeysHold (with_control value k)
-keys-control value k is = record { pressed = is.pressed; control = and-twice value (row_at keypad_rows 0x132).write_mask }
+keys-control value k is =
+    record { pressed = is.pressed; control = and-twice value (row_at keypad_rows 0x132).write_mask }
 
 -- the interrupts: IE and IF have fourteen bits
 record AreRequests (i : Interrupts) : Type 0 where
@@ -29,7 +30,8 @@ record AreRequests (i : Interrupts) : Type 0 where
 requests-stored : (i : Interrupts) → AreRequests i → HasStoredBits interrupt_rows (λ at. interrupt_shown at i)
 unfolding interrupt_rows row_at
 requests-stored i is at =
-    let holds : ℕ → Type 0 = λ k. bit_and (interrupt_shown k i) (row_at interrupt_rows k).write_mask ≡ interrupt_shown k i in
+    let holds : ℕ → Type 0 =
+    λ k. bit_and (interrupt_shown k i) (row_at interrupt_rows k).write_mask ≡ interrupt_shown k i in
     at-place holds 0x200 at is.enabled
     (λ no_enabled. at-place holds 0x202 at is.raised
     (λ no_raised. at-place holds 0x208 at (master i.master)
@@ -45,19 +47,21 @@ unfolding interrupt_rows row_at
 are-requests i stored = record { enabled = stored 0x200; raised = stored 0x202 }
 
 -- requests of bits that there are
-either-requests : (test : Bool) (i : Interrupts) (one other : ℕ) → AreRequests (record i { raised = one }) → AreRequests (record i { raised = other })
-    → AreRequests (record i { raised = if test then one else other })
+either-requests : (test : Bool) (i : Interrupts) (one other : ℕ) → AreRequests (record i { raised = one })
+    → AreRequests (record i { raised = other }) → AreRequests (record i { raised = if test then one else other })
 either-requests true i one other first second = first
 either-requests false i one other first second = second
 
-asked-more : (i : Interrupts) (mask : ℕ) → bit_and mask 0x3fff ≡ mask → AreRequests i → AreRequests (with_requests mask i)
+asked-more : (i : Interrupts) (mask : ℕ) → bit_and mask 0x3fff ≡ mask → AreRequests i
+    → AreRequests (with_requests mask i)
 asked-more i mask small is =
     let old : i.raised < 2 ^ 14 = omega (arith, is.raised, and_mask i.raised 14) in
     let more : mask < 2 ^ 14 = omega (arith, small, and_mask mask 14) in
     let both = or_lt 14 i.raised mask old more in
     record { enabled = is.enabled; raised = and_mask (bit_or i.raised mask) 14 ∙ mod-eq_of_lt both }
 
-pub interrupts-requests : (mask : ℕ) (i : Interrupts) → bit_and mask 0x3fff ≡ mask → HasStoredBits interrupt_rows (λ at. interrupt_shown at i)
+pub interrupts-requests : (mask : ℕ) (i : Interrupts) → bit_and mask 0x3fff ≡ mask
+    → HasStoredBits interrupt_rows (λ at. interrupt_shown at i)
     → HasStoredBits interrupt_rows (λ at. interrupt_shown at (with_requests mask i))
 interrupts-requests mask i small stored =
     requests-stored (with_requests mask i) (asked-more i mask small (are-requests i stored))
@@ -80,8 +84,10 @@ requests-write offset value i is =
     (λ no_raised. at-place (λ k. AreRequests (interrupt_written k value i)) 0x208 offset
     (record { enabled = is.enabled; raised = is.raised })
     (λ no_master. record {
-      enabled = same-enabled offset (bit_and value (row_at interrupt_rows offset).write_mask) no_enabled no_raised no_master;
-      raised = same-raised offset (bit_and value (row_at interrupt_rows offset).write_mask) no_enabled no_raised no_master;
+      enabled =
+          same-enabled offset (bit_and value (row_at interrupt_rows offset).write_mask) no_enabled no_raised no_master;
+      raised =
+          same-raised offset (bit_and value (row_at interrupt_rows offset).write_mask) no_enabled no_raised no_master;
     })))
   where
     and-kept : (a b m : ℕ) → bit_and a m ≡ a → bit_and (bit_and a b) m ≡ bit_and a b
@@ -132,7 +138,8 @@ queue-push : (word : ℕ) (q : SoundQueue) → QueueHolds q → QueueHolds (afte
 queue-push word q is =
     by_room (has_room q) refl
   where
-    by_room : (test : Bool) → has_room q ≡ test → QueueHolds (record q { bytes = if test then q.bytes ++ bytes_of word else q.bytes })
+    by_room : (test : Bool) → has_room q ≡ test
+        → QueueHolds (record q { bytes = if test then q.bytes ++ bytes_of word else q.bytes })
     by_room true room = record {
       few = rw (length-append q.bytes (bytes_of word)) (grind (arith, nat_tests, room));
       bytes = bytes-append q.bytes (bytes_of word) is.bytes (word-bytes word);
@@ -150,21 +157,28 @@ queue-take q is = record {
 empty-holds : QueueHolds empty_queue
 empty-holds = record { few = omega arith; bytes = λ at within. absurd (omega (arith, within)); current = omega arith }
 
-either-queue : (test : Bool) (one other : SoundQueue) → QueueHolds one → QueueHolds other → QueueHolds (if test then one else other)
+either-queue : (test : Bool) (one other : SoundQueue) → QueueHolds one → QueueHolds other
+    → QueueHolds (if test then one else other)
 either-queue true one other first second = first
 either-queue false one other first second = second
 
 pub sound-word : (number word : ℕ) (s : DirectSound) → SoundHolds s → SoundHolds (after_word number word s)
 sound-word number word s is = record {
-  queue_a = either-queue (number == 0) (after_push word s.queue_a) s.queue_a (queue-push word s.queue_a is.queue_a) is.queue_a;
-  queue_b = either-queue (number == 1) (after_push word s.queue_b) s.queue_b (queue-push word s.queue_b is.queue_b) is.queue_b;
+  queue_a =
+      either-queue (number == 0) (after_push word s.queue_a) s.queue_a (queue-push word s.queue_a is.queue_a)
+      is.queue_a;
+  queue_b =
+      either-queue (number == 1) (after_push word s.queue_b) s.queue_b (queue-push word s.queue_b is.queue_b)
+      is.queue_b;
   stored = is.stored;
 }
 
 pub sound-overflow : (timer : ℕ) (s : DirectSound) → SoundHolds s → SoundHolds (after_overflow timer s)
 sound-overflow timer s is = record {
-  queue_a = either-queue (chose timer 0 s) (after_take s.queue_a) s.queue_a (queue-take s.queue_a is.queue_a) is.queue_a;
-  queue_b = either-queue (chose timer 1 s) (after_take s.queue_b) s.queue_b (queue-take s.queue_b is.queue_b) is.queue_b;
+  queue_a =
+      either-queue (chose timer 0 s) (after_take s.queue_a) s.queue_a (queue-take s.queue_a is.queue_a) is.queue_a;
+  queue_b =
+      either-queue (chose timer 1 s) (after_take s.queue_b) s.queue_b (queue-take s.queue_b is.queue_b) is.queue_b;
   stored = is.stored;
 }
 
@@ -204,8 +218,11 @@ sound-write offset value s is =
       queue_a = either-queue ((offset == 0x082) && is_reset_by value 0) empty_queue s.queue_a empty-holds is.queue_a;
       queue_b = either-queue ((offset == 0x082) && is_reset_by value 1) empty_queue s.queue_b empty-holds is.queue_b;
       stored = controls-stored (sound_written offset value s) (record {
-        control = either-masked (offset == 0x082) (bit_and value 0x770f) s.control 0x770f (and-twice value 0x770f) controls.control;
-        bias = either-masked (offset == 0x088) (bit_and value 0xc3fe) s.bias 0xc3fe (and-twice value 0xc3fe) controls.bias;
+        control =
+            either-masked (offset == 0x082) (bit_and value 0x770f) s.control 0x770f (and-twice value 0x770f)
+            controls.control;
+        bias =
+            either-masked (offset == 0x088) (bit_and value 0xc3fe) s.bias 0xc3fe (and-twice value 0xc3fe) controls.bias;
       });
     }
 
@@ -216,5 +233,7 @@ sound-reset = record {
   stored = controls-stored sound_at_reset (record { control = refl; bias = refl });
 }
 
-pub interrupts-reset : HasStoredBits interrupt_rows (λ at. interrupt_shown at (record { enabled = 0; raised = 0; master = false }))
-interrupts-reset = requests-stored (record { enabled = 0; raised = 0; master = false }) (record { enabled = refl; raised = refl })
+pub interrupts-reset : HasStoredBits interrupt_rows
+    (λ at. interrupt_shown at (record { enabled = 0; raised = 0; master = false }))
+interrupts-reset =
+    requests-stored (record { enabled = 0; raised = 0; master = false }) (record { enabled = refl; raised = refl })

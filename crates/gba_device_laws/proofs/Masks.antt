@@ -25,13 +25,15 @@ stored-write rows kept after offset value writes stored at =
         ≡ (if test then bit_and value (row_at rows offset).write_mask else kept at)
     by_place true here =
         let same : at ≡ offset = grind (arith, nat_tests, here) in
-        subst (λ k. bit_and (bit_and value (row_at rows offset).write_mask) (row_at rows k).write_mask ≡ bit_and value (row_at rows offset).write_mask) (sym same) (and-twice value (row_at rows offset).write_mask)
+        subst (λ k. bit_and (bit_and value (row_at rows offset).write_mask) (row_at rows k).write_mask
+        ≡ bit_and value (row_at rows offset).write_mask) (sym same) (and-twice value (row_at rows offset).write_mask)
     by_place false other = stored at
 
 -- what is so at a place, and everywhere else
 pub at-place : (P : ℕ → Type 0) (place at : ℕ) → P place → (at ≢ place → P at) → P at
 at-place P place at here elsewhere =
-    ⊎_elim (λ (same : at ≡ place). subst P (sym same) here) (λ (other : at ≢ place). elsewhere other) (cases_eq at place)
+    ⊎_elim (λ (same : at ≡ place). subst P (sym same) here) (λ (other : at ≢ place). elsewhere other)
+    (cases_eq at place)
 
 pub nothing-stored : (number mask : ℕ) → number ≡ 0 → bit_and number mask ≡ number
 nothing-stored number mask none = rw none (and_zero_l mask)

@@ -21,7 +21,8 @@ record HalvesHold (halves : List ℕ) : Type 0 where
   stored : HasStoredBits picture_rows (kept_in halves)
 
 halves-write : (offset value : ℕ) (halves : List ℕ) → HalvesHold halves
-    → HalvesHold (if is_listed offset then set halves (offset / 2) (bit_and value (row_at picture_rows offset).write_mask) else halves)
+    → HalvesHold (if is_listed offset
+    then set halves (offset / 2) (bit_and value (row_at picture_rows offset).write_mask) else halves)
 halves-write offset value halves is =
     by_listed (is_listed offset) refl
   where
@@ -29,14 +30,16 @@ halves-write offset value halves is =
     mask at = (row_at picture_rows at).write_mask
 
     at-half : (at : ℕ) → is_listed offset ≡ true → (there : Bool) → is_listed at ≡ there
-        → bit_and (if there then get_or (set halves (offset / 2) (bit_and value (mask offset))) (at / 2) 0 else 0) (mask at)
+        → bit_and (if there then get_or (set halves (offset / 2) (bit_and value (mask offset))) (at / 2) 0 else 0)
+        (mask at)
         ≡ (if there then get_or (set halves (offset / 2) (bit_and value (mask offset))) (at / 2) 0 else 0)
     at-half at listed false none = and_zero_l (mask at)
     at-half at listed true here =
         ⊎_elim
         (λ (same : at ≡ offset).
         let within : offset / 2 < length halves = rw is.long (grind (arith, nat_tests, listed)) in
-        let value_there : get_or (set halves (offset / 2) (bit_and value (mask offset))) (at / 2) 0 ≡ bit_and value (mask offset) =
+        let value_there : get_or (set halves (offset / 2) (bit_and value (mask offset))) (at / 2) 0
+        ≡ bit_and value (mask offset) =
         ap (λ k. get_or (set halves (offset / 2) (bit_and value (mask offset))) (k / 2) 0) same
         ∙ get_or-set_same halves (offset / 2) (bit_and value (mask offset)) 0 within in
         rw value_there (rw same (and-twice value (mask offset))))
@@ -47,11 +50,13 @@ halves-write offset value halves is =
       where
         before : (k : ℕ) → is_listed k ≡ true → bit_and (get_or halves (k / 2) 0) (mask k) ≡ get_or halves (k / 2) 0
         before k here =
-            subst (λ t. bit_and (if t then get_or halves (k / 2) 0 else 0) (mask k) ≡ (if t then get_or halves (k / 2) 0 else 0)) here
+            subst (λ t. bit_and (if t then get_or halves (k / 2) 0 else 0) (mask k)
+            ≡ (if t then get_or halves (k / 2) 0 else 0)) here
             (is.stored k)
 
     by_listed : (test : Bool) → is_listed offset ≡ test
-        → HalvesHold (if test then set halves (offset / 2) (bit_and value (row_at picture_rows offset).write_mask) else halves)
+        → HalvesHold (if test then set halves (offset / 2) (bit_and value (row_at picture_rows offset).write_mask)
+        else halves)
     by_listed false none = is
     by_listed true listed = record {
       long = length-set halves (offset / 2) (bit_and value (mask offset)) ∙ is.long;
@@ -72,7 +77,8 @@ written-word offset halves =
 grown-word : (point parameter : ℕ) (r : Picture) → grown point parameter r < 2 ^ 32
 grown-word point parameter r = omega arith
 
-after-word : (point offset : ℕ) (halves : List ℕ) (old : ℕ) → old < 2 ^ 32 → point_after point offset halves old < 2 ^ 32
+after-word : (point offset : ℕ) (halves : List ℕ) (old : ℕ) → old < 2 ^ 32
+    → point_after point offset halves old < 2 ^ 32
 after-word point offset halves old small = by_half (is_half_of point offset)
   where
     by_half : (test : Bool) → (if test then written_point point halves else old) < 2 ^ 32
@@ -114,8 +120,8 @@ picture-reload r is = record {
 zero-halves : (at : ℕ) → get_or halves_at_reset at 0 ≡ 0
 unfolding halves_at_reset
 zero-halves at =
-    ⊎_elim (λ (within : at < 43). get_or-replicate 43 at 0 0 within) (λ (past : 43 ≤ at). get_or_past (replicate 43 0) at 0 past)
-    (cases_lt at 43)
+    ⊎_elim (λ (within : at < 43). get_or-replicate 43 at 0 0 within)
+    (λ (past : 43 ≤ at). get_or_past (replicate 43 0) at 0 past) (cases_lt at 43)
 
 pub picture-reset : PictureHolds picture_at_reset
 unfolding halves_at_reset
@@ -123,7 +129,9 @@ picture-reset = record {
   long = refl;
   reference2 = record { x = omega arith; y = omega arith };
   reference3 = record { x = omega arith; y = omega arith };
-  stored = λ at. nothing-stored (picture_kept at picture_at_reset) (row_at picture_rows at).write_mask (none at (is_listed at));
+  stored =
+      λ at. nothing-stored (picture_kept at picture_at_reset) (row_at picture_rows at).write_mask
+      (none at (is_listed at));
 }
   where
     none : (at : ℕ) (test : Bool) → (if test then get_or halves_at_reset (at / 2) 0 else 0) ≡ 0

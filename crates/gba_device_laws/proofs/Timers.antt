@@ -41,8 +41,8 @@ kept-cycle at ts = grind (arith, nat_tests)
 -- the halfwords that there are
 abbrev listed : ℕ → Bool
 listed offset =
-    (offset == 0x100) || (offset == 0x102) || (offset == 0x104) || (offset == 0x106) || (offset == 0x108) || (offset == 0x10a)
-    || (offset == 0x10c) || (offset == 0x10e)
+    (offset == 0x100) || (offset == 0x102) || (offset == 0x104) || (offset == 0x106) || (offset == 0x108)
+    || (offset == 0x10a) || (offset == 0x10c) || (offset == 0x10e)
 
 unlisted-mask : (offset : ℕ) → listed offset ≡ false → (row_at timer_rows offset).write_mask ≡ 0
 unfolding timer_rows row_at
@@ -138,8 +138,8 @@ module _ (ts : FourTimers) (hold : TimersHold ts) where
         timer2 = stored-timer2 offset number;
         timer3 = stored-timer3 offset number;
         stored =
-            stored-write timer_rows (λ at. timer_kept at ts) (λ at. timer_kept at (timer_written offset value ts)) offset value
-            (λ at. kept-write at offset value ts) hold.stored;
+            stored-write timer_rows (λ at. timer_kept at ts) (λ at. timer_kept at (timer_written offset value ts))
+            offset value (λ at. kept-write at offset value ts) hold.stored;
       }
 
 pub timers-reset : TimersHold timers_at_reset

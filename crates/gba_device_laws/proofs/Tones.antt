@@ -31,7 +31,8 @@ frequency-bits frequency control small stored =
     and_shr whole 0x47ff 11 ∙ ap (λ n. bit_and n (0x47ff / 2 ^ 11)) high_is ∙ sym (and_shr control 0x47ff 11)
     ∙ ap (λ n. n / 2 ^ 11) stored in
     let low : bit_and whole 0x47ff % 2 ^ 11 ≡ frequency =
-    and_mod whole 0x47ff 11 ∙ ap (λ n. bit_and n (0x47ff % 2 ^ 11)) low_is ∙ and_mask frequency 11 ∙ mod-eq_of_lt small in
+    and_mod whole 0x47ff 11 ∙ ap (λ n. bit_and n (0x47ff % 2 ^ 11)) low_is ∙ and_mask frequency 11
+    ∙ mod-eq_of_lt small in
     omega (arith, high, low, small)
 
 -- the halfwords of the channels, as they are stored
@@ -54,8 +55,8 @@ record AreRegisters (ts : FourTones) : Type 0 where
 abbrev registers_kept : FourTones → ℕ → ℕ
 registers_kept ts at = if at == 0x084 then 0 else tones_kept at ts
 
-are-registers : (ts : FourTones) → HasBytes 16 ts.wave.bank0 → HasBytes 16 ts.wave.bank1 → HasStoredBits tone_rows (registers_kept ts)
-    → AreRegisters ts
+are-registers : (ts : FourTones) → HasBytes 16 ts.wave.bank0 → HasBytes 16 ts.wave.bank1
+    → HasStoredBits tone_rows (registers_kept ts) → AreRegisters ts
 unfolding tone_rows row_at
 are-registers ts bank0 bank1 stored = record {
   sweep = stored 0x060;
@@ -74,11 +75,13 @@ are-registers ts bank0 bank1 stored = record {
   bank1 = bank1;
 }
 
-other-bytes : (second : Bool) (w : Wave) → AreBytes w.bank0 → AreBytes w.bank1 → AreBytes (if second then w.bank1 else w.bank0)
+other-bytes : (second : Bool) (w : Wave) → AreBytes w.bank0 → AreBytes w.bank1
+    → AreBytes (if second then w.bank1 else w.bank0)
 other-bytes true w bank0 bank1 = bank1
 other-bytes false w bank0 bank1 = bank0
 
-wave-half-stored : (place : ℕ) (w : Wave) → AreBytes w.bank0 → AreBytes w.bank1 → bit_and (wave_half place w) 0xffff ≡ wave_half place w
+wave-half-stored : (place : ℕ) (w : Wave) → AreBytes w.bank0 → AreBytes w.bank1
+    → bit_and (wave_half place w) 0xffff ≡ wave_half place w
 wave-half-stored place w bank0 bank1 =
     let bytes = other-bytes (not (bit w.select 6)) w bank0 bank1 in
     let low = byte-at (other_bank w) place bytes in
@@ -92,22 +95,53 @@ registers-stored ts is at =
     let wave : (place : ℕ) → bit_and (wave_half place ts.wave) 0xffff ≡ wave_half place ts.wave =
     λ place. wave-half-stored place ts.wave is.bank0.bytes is.bank1.bytes in
     at-place holds 0x060 at is.sweep (λ n0. at-place holds 0x062 at is.shape1 (λ n1. at-place holds 0x064 at is.control1
-    (λ n2. at-place holds 0x068 at is.shape2 (λ n3. at-place holds 0x06c at is.control2 (λ n4. at-place holds 0x070 at is.select
-    (λ n5. at-place holds 0x072 at is.level (λ n6. at-place holds 0x074 at is.control3 (λ n7. at-place holds 0x078 at is.shape4
-    (λ n8. at-place holds 0x07c at is.control4 (λ n9. at-place holds 0x080 at is.mixer (λ n10. at-place holds 0x082 at is.ratio
+    (λ n2. at-place holds 0x068 at is.shape2
+    (λ n3. at-place holds 0x06c at is.control2 (λ n4. at-place holds 0x070 at is.select
+    (λ n5. at-place holds 0x072 at is.level
+    (λ n6. at-place holds 0x074 at is.control3 (λ n7. at-place holds 0x078 at is.shape4
+    (λ n8. at-place holds 0x07c at is.control4
+    (λ n9. at-place holds 0x080 at is.mixer (λ n10. at-place holds 0x082 at is.ratio
     (λ n11. at-place holds 0x084 at (and_zero_l 0x0080) (λ n12. at-place holds 0x090 at (wave 0x0)
-    (λ n13. at-place holds 0x092 at (wave 0x2) (λ n14. at-place holds 0x094 at (wave 0x4) (λ n15. at-place holds 0x096 at (wave 0x6)
-    (λ n16. at-place holds 0x098 at (wave 0x8) (λ n17. at-place holds 0x09a at (wave 0xa) (λ n18. at-place holds 0x09c at (wave 0xc)
-    (λ n19. at-place holds 0x09e at (wave 0xe) (λ n20. nothing-stored (registers_kept ts at) (row_at tone_rows at).write_mask
+    (λ n13. at-place holds 0x092 at (wave 0x2)
+    (λ n14. at-place holds 0x094 at (wave 0x4) (λ n15. at-place holds 0x096 at (wave 0x6)
+    (λ n16. at-place holds 0x098 at (wave 0x8)
+    (λ n17. at-place holds 0x09a at (wave 0xa) (λ n18. at-place holds 0x09c at (wave 0xc)
+    (λ n19. at-place holds 0x09e at (wave 0xe)
+    (λ n20. nothing-stored (registers_kept ts at) (row_at tone_rows at).write_mask
     (none at n0 n1 n2 n3 n4 n5 n6 n7 n8 n9 n10 n11 n12 n13 n14 n15 n16 n17 n18 n19 n20))))))))))))))))))))))
   where
-    none : (k : ℕ) → k ≢ 0x060 → k ≢ 0x062 → k ≢ 0x064 → k ≢ 0x068 → k ≢ 0x06c → k ≢ 0x070 → k ≢ 0x072 → k ≢ 0x074 → k ≢ 0x078
-        → k ≢ 0x07c → k ≢ 0x080 → k ≢ 0x082 → k ≢ 0x084 → k ≢ 0x090 → k ≢ 0x092 → k ≢ 0x094 → k ≢ 0x096 → k ≢ 0x098 → k ≢ 0x09a
-        → k ≢ 0x09c → k ≢ 0x09e → registers_kept ts k ≡ 0
+    none : (k : ℕ) → k ≢ 0x060 → k ≢ 0x062 → k ≢ 0x064 → k ≢ 0x068 → k ≢ 0x06c → k ≢ 0x070 → k ≢ 0x072 → k ≢ 0x074
+        → k ≢ 0x078 → k ≢ 0x07c → k ≢ 0x080 → k ≢ 0x082 → k ≢ 0x084 → k ≢ 0x090 → k ≢ 0x092 → k ≢ 0x094 → k ≢ 0x096
+        → k ≢ 0x098 → k ≢ 0x09a → k ≢ 0x09c → k ≢ 0x09e → registers_kept ts k ≡ 0
     none k n0 n1 n2 n3 n4 n5 n6 n7 n8 n9 n10 n11 n12 n13 n14 n15 n16 n17 n18 n19 n20 =
-        grind (arith, nat_tests, n0, n1, n2, n3, n4, n5, n6, n7, n8, n9, n10, n11, n12, n13, n14, n15, n16, n17, n18, n19, n20)
+        grind (
+          arith,
+          nat_tests,
+          n0,
+          n1,
+          n2,
+          n3,
+          n4,
+          n5,
+          n6,
+          n7,
+          n8,
+          n9,
+          n10,
+          n11,
+          n12,
+          n13,
+          n14,
+          n15,
+          n16,
+          n17,
+          n18,
+          n19,
+          n20,
+        )
 
-either-registers : (test : Bool) (one other : FourTones) → AreRegisters one → AreRegisters other → AreRegisters (if test then one else other)
+either-registers : (test : Bool) (one other : FourTones) → AreRegisters one → AreRegisters other
+    → AreRegisters (if test then one else other)
 either-registers true one other first second = first
 either-registers false one other first second = second
 
@@ -116,7 +150,8 @@ half-bytes place value bank has =
     has-set 16 (set bank place (field value 0 8)) (place + 1) (field value 8 8)
     (has-set 16 bank place (field value 0 8) has (omega arith)) (omega arith)
 
-either-bytes : (test : Bool) (one other : List ℕ) → HasBytes 16 one → HasBytes 16 other → HasBytes 16 (if test then one else other)
+either-bytes : (test : Bool) (one other : List ℕ) → HasBytes 16 one → HasBytes 16 other
+    → HasBytes 16 (if test then one else other)
 either-bytes true one other first second = first
 either-bytes false one other first second = second
 
@@ -161,7 +196,8 @@ module _ (ts : FourTones) (is : AreRegisters ts) where
     bank1 = is.bank1;
   }
 
-  shape1-registers : (value : ℕ) → AreRegisters (record ts { square1 = record ts.square1 { shape = bit_and value 0xffff } })
+  shape1-registers : (value : ℕ)
+      → AreRegisters (record ts { square1 = record ts.square1 { shape = bit_and value 0xffff } })
   shape1-registers value = record {
     shape1 = and-twice value 0xffff;
     sweep = is.sweep;
@@ -214,7 +250,8 @@ module _ (ts : FourTones) (is : AreRegisters ts) where
     bank1 = is.bank1;
   }
 
-  shape2-registers : (value : ℕ) → AreRegisters (record ts { square2 = record ts.square2 { shape = bit_and value 0xffff } })
+  shape2-registers : (value : ℕ)
+      → AreRegisters (record ts { square2 = record ts.square2 { shape = bit_and value 0xffff } })
   shape2-registers value = record {
     shape2 = and-twice value 0xffff;
     sweep = is.sweep;
@@ -484,9 +521,10 @@ module _ (ts : FourTones) (is : AreRegisters ts) where
       (λ n12. elsewhere (is_wave_offset offset) (bit_and value (row_at tone_rows offset).write_mask) refl
       n0 n1 n2 n3 n4 n5 n6 n7 n8 n9 n10 n11 n12)))))))))))))
     where
-      elsewhere : (wave : Bool) (number : ℕ) → is_wave_offset offset ≡ wave → offset ≢ 0x060 → offset ≢ 0x062 → offset ≢ 0x064
-          → offset ≢ 0x068 → offset ≢ 0x06c → offset ≢ 0x070 → offset ≢ 0x072 → offset ≢ 0x074 → offset ≢ 0x078 → offset ≢ 0x07c
-          → offset ≢ 0x080 → offset ≢ 0x082 → offset ≢ 0x084 → AreRegisters (tones_stored offset number (bit value 15) ts)
+      elsewhere : (wave : Bool) (number : ℕ) → is_wave_offset offset ≡ wave → offset ≢ 0x060 → offset ≢ 0x062
+          → offset ≢ 0x064 → offset ≢ 0x068 → offset ≢ 0x06c → offset ≢ 0x070 → offset ≢ 0x072 → offset ≢ 0x074
+          → offset ≢ 0x078 → offset ≢ 0x07c → offset ≢ 0x080 → offset ≢ 0x082 → offset ≢ 0x084
+          → AreRegisters (tones_stored offset number (bit value 15) ts)
       elsewhere true number here n0 n1 n2 n3 n4 n5 n6 n7 n8 n9 n10 n11 n12 =
           subst (λ t. AreRegisters (if t then record ts { wave = with_wave_half (wave_place offset) number ts.wave }
           else if offset == 0x082 then record ts { ratio = number }
@@ -629,7 +667,8 @@ unfolding ticked
 ticked-registers ts is =
     let lengths = either-registers (ts.sequencer % 0x10000 == 0) (after_lengths ts) ts (lengths-registers ts is) is in
     let one = with_lengths ts in
-    let sweeps = either-registers (one.sequencer % 0x20000 == 0) (after_sweeps one) one (sweeps-registers one lengths) lengths in
+    let sweeps =
+    either-registers (one.sequencer % 0x20000 == 0) (after_sweeps one) one (sweeps-registers one lengths) lengths in
     let two = with_sweeps one in
     either-registers (two.sequencer == 0) (after_envelopes two) two (envelopes-registers two sweeps) sweeps
 

@@ -30,15 +30,18 @@ pub record SerialHolds (u : SerialUnit) : Type 0 where
   pub stored : HasStoredBits serial_rows (λ offset. serial_kept offset u)
   pub run : IfSome u.run (RunHolds (mode_of u))
 
--- They keep to them at reset, and after whatever comes to the unit at a clock of a run: a write, a signal, the end of a transfer, the
--- start of a step.
+-- They keep to them at reset, and after whatever comes to the unit at a clock of a run: a write, a signal, the end of a
+-- transfer, the start of a step.
 abbrev pub last_clock : ℕ
 last_clock = 2 ^ 39 + 2 ^ 20
 
 pub record SerialStays : Type 0 where
-  pub reset : (player count round : ℕ) → player < count → count ≤ 4 → round ≤ 2048 → SerialHolds (serial_at_reset player count round)
-  pub write : (clock offset value : ℕ) (u : SerialUnit) → clock ≤ last_clock → SerialHolds u → SerialHolds (written clock offset value u)
-  pub taken : (due : Incoming) (u : SerialUnit) → due.signal.clock ≤ last_clock → SerialHolds u → SerialHolds (taken due u)
+  pub reset : (player count round : ℕ) → player < count → count ≤ 4 → round ≤ 2048
+      → SerialHolds (serial_at_reset player count round)
+  pub write : (clock offset value : ℕ) (u : SerialUnit) → clock ≤ last_clock → SerialHolds u
+      → SerialHolds (written clock offset value u)
+  pub taken : (due : Incoming) (u : SerialUnit) → due.signal.clock ≤ last_clock → SerialHolds u
+      → SerialHolds (taken due u)
   pub learned : (due : Incoming) (u : SerialUnit) → SerialHolds u → SerialHolds (learned due u)
   pub ended : (clock : ℕ) (u : SerialUnit) → SerialHolds u → SerialHolds (ended clock u)
   pub told : (u : SerialUnit) → SerialHolds u → SerialHolds (silent u)

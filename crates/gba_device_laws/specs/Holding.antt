@@ -95,7 +95,8 @@ pub record KeysHold (k : Keys) : Type 0 where
   pub pressed : k.pressed < 2 ^ 10
   pub control : bit_and k.control (row_at keypad_rows 0x132).write_mask ≡ k.control
 
--- The devices. SOUNDCNT_X's bit 7 and SOUNDCNT_H's bits 0 and 1 stand in direct sound and in the tones, and are the same in both.
+-- The devices. SOUNDCNT_X's bit 7 and SOUNDCNT_H's bits 0 and 1 stand in direct sound and in the tones, and are the
+-- same in both.
 pub record DevicesHold (d : Devices) : Type 0 where
   pub timers : TimersHold d.timers
   pub channels : ChannelsHold d.channels
