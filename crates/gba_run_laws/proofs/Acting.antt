@@ -1,4 +1,5 @@
--- What a step does before its devices move keeps of a core what writes, the end of a halt and the ends of DMA units keep.
+-- What a step does before its devices move keeps of a core what writes, the end of a halt and the ends of
+-- DMA units keep.
 use Rattle.std.proofs.Common.{ℕ, ◌<◌, Bool, true, false, List, arith, if◌then◌else◌}
 use Rattle.std.specs.Prelude.{IfSome, Option, None, Some, option_map}
 use Rattle.gba_bus.specs.declared.width.Width.{Width}
@@ -32,7 +33,8 @@ next-few cs = by_active cs.channel0.active cs.channel1.active cs.channel2.active
     by_active false false false false = _
 
 module _ (Keeps : Core → Type 0)
-    (written : (b : Core) (address : ℕ) (width : Width) (value : ℕ) → Keeps b → Keeps (core_written b address width value))
+    (written : (b : Core) (address : ℕ) (width : Width) (value : ℕ) → Keeps b
+    → Keeps (core_written b address width value))
     (woken : (b : Core) → Keeps b → Keeps (core_woken b))
     (ended : (channel : ℕ) (b : Core) → channel < 4 → Keeps b → Keeps (unit_ended channel b)) where
   stores : StoresKeep core_store Keeps
@@ -43,14 +45,16 @@ module _ (Keeps : Core → Type 0)
 
   after-word : (file : List ℕ) (b : Core) → Keeps b → Keeps (word_done file b).bus
   after-word file b keeps =
-      kept-word_execution core_price core_load core_store Keeps (kept-word core_price core_load core_store Keeps loads stores) _ file b keeps
+      kept-word_execution core_price core_load core_store Keeps
+      (kept-word core_price core_load core_store Keeps loads stores) _ file b keeps
 
   after-half : (file : List ℕ) (b : Core) → Keeps b → Keeps (half_done file b).bus
   after-half file b keeps =
-      kept-half_execution core_price core_load core_store Keeps loads (kept-word core_price core_load core_store Keeps loads stores) _ file b
-      keeps
+      kept-half_execution core_price core_load core_store Keeps loads
+      (kept-word core_price core_load core_store Keeps loads stores) _ file b keeps
 
-  either : (test : Bool) (one other : Done Core) → Keeps one.bus → Keeps other.bus → Keeps (if test then one else other).bus
+  either : (test : Bool) (one other : Done Core) → Keeps one.bus → Keeps other.bus
+      → Keeps (if test then one else other).bus
   either true one other here there = here
   either false one other here there = there
 
@@ -72,7 +76,8 @@ module _ (Keeps : Core → Type 0)
       → Keeps (acted_for unit file b).bus
   after-acting (Some unit) file b few keeps = after-unit unit b few keeps
   after-acting None file b few keeps =
-      either (idles b) (idle_done file b) (awake_done file (core_woken b)) keeps (after-waking file (core_woken b) (woken b keeps))
+      either (idles b) (idle_done file b) (awake_done file (core_woken b)) keeps
+      (after-waking file (core_woken b) (woken b keeps))
 
   pub acted-keeps : (file : List ℕ) (b : Core) → Keeps b → Keeps (acted file b).bus
   unfolding acted

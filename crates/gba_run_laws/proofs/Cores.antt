@@ -46,7 +46,8 @@ pub record CoreHolds (b : Core) : Type 0 where
   pub devices : DevicesHold b.devices
   pub serial : SerialHolds b.serial
 
-either-core : (test : Bool) (one other : Core) → CoreHolds one → CoreHolds other → CoreHolds (if test then one else other)
+either-core : (test : Bool) (one other : Core) → CoreHolds one → CoreHolds other
+    → CoreHolds (if test then one else other)
 either-core true one other here there = here
 either-core false one other here there = there
 
@@ -58,23 +59,27 @@ module _ (backups : BackupsStaySound) (devices : DevicesStay) (serial : SerialSt
   into-holds : (queue : Option ℕ) (offset : ℕ) (width : Width) (value : ℕ) (d : Devices) → DevicesHold d
       → DevicesHold (written_in queue offset width value d)
   into-holds (Some queue) offset width value d holds = devices.word queue (field value 0 32) d holds
-  into-holds None offset width value d holds = written-keeps DevicesHold half_written half-holds offset width value d holds
+  into-holds None offset width value d holds =
+      written-keeps DevicesHold half_written half-holds offset width value d holds
 
-  io-holds : (offset : ℕ) (width : Width) (value : ℕ) (d : Devices) → DevicesHold d → DevicesHold (io_written offset width value d)
+  io-holds : (offset : ℕ) (width : Width) (value : ℕ) (d : Devices) → DevicesHold d
+      → DevicesHold (io_written offset width value d)
   io-holds offset width value d holds = into-holds (queue_of offset width) offset width value d holds
 
   -- and of the serial unit
   put-holds : (clock : ℕ) → clock ≤ last_clock → (offset value lanes : ℕ) (u : SerialUnit) → SerialHolds u
       → SerialHolds (serial_put clock offset value lanes u)
   unfolding serial_put
-  put-holds clock near offset value lanes u holds = serial.write clock offset (merged (serial_kept offset u) value lanes) u near holds
+  put-holds clock near offset value lanes u holds =
+      serial.write clock offset (merged (serial_kept offset u) value lanes) u near holds
 
-  cable-holds : (clock : ℕ) → clock ≤ last_clock → (offset : ℕ) (width : Width) (value : ℕ) (u : SerialUnit) → SerialHolds u
-      → SerialHolds (serial_written_at clock offset width value u)
+  cable-holds : (clock : ℕ) → clock ≤ last_clock → (offset : ℕ) (width : Width) (value : ℕ) (u : SerialUnit)
+      → SerialHolds u → SerialHolds (serial_written_at clock offset width value u)
   cable-holds clock near offset width value u holds =
       written-keeps SerialHolds (serial_put clock) (put-holds clock near) offset width value u holds
 
-  register-holds : (offset : ℕ) (width : Width) (value : ℕ) (b : Core) → CoreHolds b → CoreHolds (register_written offset width value b)
+  register-holds : (offset : ℕ) (width : Width) (value : ℕ) (b : Core) → CoreHolds b
+      → CoreHolds (register_written offset width value b)
   unfolding register_written
   register-holds offset width value b holds =
       either-core (is_serial offset) _ _
@@ -95,7 +100,8 @@ module _ (backups : BackupsStaySound) (devices : DevicesStay) (serial : SerialSt
         devices = io-holds offset width value b.devices holds.devices;
       })
 
-  written-holds : (b : Core) (address : ℕ) (width : Width) (value : ℕ) → CoreHolds b → CoreHolds (core_written b address width value)
+  written-holds : (b : Core) (address : ℕ) (width : Width) (value : ℕ) → CoreHolds b
+      → CoreHolds (core_written b address width value)
   unfolding core_written
   written-holds b address width value holds =
       either-core (is_io (region_of address)) _ _ (register-holds (io_offset address) width value b holds)
@@ -133,7 +139,8 @@ module _ (backups : BackupsStaySound) (devices : DevicesStay) (serial : SerialSt
   after-acted = acted-keeps CoreHolds written-holds woken-holds unit-holds
 
   -- keys
-  pub after-keys : (clock : ℕ) (changes : List KeyState) (b : Core) → CoreHolds b → CoreHolds (after_keys clock changes b)
+  pub after-keys : (clock : ℕ) (changes : List KeyState) (b : Core) → CoreHolds b
+      → CoreHolds (after_keys clock changes b)
   unfolding after_keys keyed
   after-keys clock [] b holds = holds
   after-keys clock (change ∷ changes) b holds =
@@ -181,11 +188,13 @@ module _ (backups : BackupsStaySound) (devices : DevicesStay) (serial : SerialSt
     serial = serial.taken due b.serial near holds.serial;
   }
 
-  pub after-taking : (dues : List Incoming) (b : Board) → AreNear dues → CoreHolds b.core → CoreHolds (all_taken dues b).core
+  pub after-taking : (dues : List Incoming) (b : Board) → AreNear dues → CoreHolds b.core
+      → CoreHolds (all_taken dues b).core
   after-taking [] b near holds = holds
   after-taking (due ∷ dues) b near holds =
       after-taking dues (board_taken due b) (All-tail (λ one. one.signal.clock ≤ last_clock) due dues near)
-      (heard-holds due (core_ended due.arrival b.core) (All-head (λ one. one.signal.clock ≤ last_clock) due dues near) (ended-holds due.arrival b.core holds))
+      (heard-holds due (core_ended due.arrival b.core) (All-head (λ one. one.signal.clock ≤ last_clock) due dues near)
+      (ended-holds due.arrival b.core holds))
 
   learned-holds : (due : Incoming) (b : Core) → CoreHolds b → CoreHolds (core_learned due b)
   learned-holds due b holds = record {

@@ -39,7 +39,8 @@ frames-few zero b = omega arith
 frames-few (suc cycles) b =
     let before = frames-few cycles b in
     let c = (board_after cycles b).core in
-    let more = either-more (draws_line c.devices && ends_frame c.devices.place) (board_after cycles b).made.frame_count in
+    let more =
+    either-more (draws_line c.devices && ends_frame c.devices.place) (board_after cycles b).made.frame_count in
     omega (arith, before, more)
 
 pub pairs-few : (cycles : ℕ) (b : Board) → (board_after cycles b).made.pairs ≤ b.made.pairs + cycles
@@ -87,22 +88,24 @@ next-ended clock e (Some run) u near same next = by_end (nat_le run.end clock) r
     by_end false running = rw same next
 
 module _ (apart : EndsApart) (seated : StaysSeated) where
-  pub ends-ended : (clock : ℕ) (b : Board) → clock ≤ last_clock → EndsHold clock b → EndsHold clock (board_ended clock b)
+  pub ends-ended : (clock : ℕ) (b : Board) → clock ≤ last_clock → EndsHold clock b
+      → EndsHold clock (board_ended clock b)
   ends-ended clock b near is = record {
     past = past-ended clock b.ended b.core.serial.run b.core.serial is.past is.next;
     next = next-ended clock b.ended b.core.serial.run b.core.serial near refl is.next;
     seat = rw ((seated.ended clock b.core.serial).count) is.seat;
   }
 
-  ends-taken : (due : Incoming) (b : Board) → due.arrival ≤ last_clock → EndsHold due.arrival b → EndsHold due.arrival (board_taken due b)
+  ends-taken : (due : Incoming) (b : Board) → due.arrival ≤ last_clock → EndsHold due.arrival b
+      → EndsHold due.arrival (board_taken due b)
   ends-taken due b near is =
       let ended = ends-ended due.arrival b near is in
       let past = ended.past in
       record {
         past = ended.past;
         next =
-            apart.taken due (512 * ((board_ended due.arrival b).ended.count + 1)) (board_ended due.arrival b).core.serial
-            (omega (arith, past)) ended.next;
+            apart.taken due (512 * ((board_ended due.arrival b).ended.count + 1))
+            (board_ended due.arrival b).core.serial (omega (arith, past)) ended.next;
         seat = rw ((seated.taken due (board_ended due.arrival b).core.serial).count) ended.seat;
       }
 
@@ -120,15 +123,16 @@ module _ (apart : EndsApart) (seated : StaysSeated) where
   all-follow : (a : Incoming) (xs : List Incoming) → All (Precedes a) xs → All (λ due. a.arrival ≤ due.arrival) xs
   all-follow a xs = all-map (Precedes a) (λ due. a.arrival ≤ due.arrival) xs (follows a)
 
-  pub ends-all : (was clock from : ℕ) (dues : List Incoming) (b : Board) → clock ≤ last_clock → InOrder dues → All (IsDue was clock) dues
-      → All (λ due. from ≤ due.arrival) dues → from ≤ clock → EndsHold from b → EndsHold clock (all_taken dues b)
+  pub ends-all : (was clock from : ℕ) (dues : List Incoming) (b : Board) → clock ≤ last_clock → InOrder dues
+      → All (IsDue was clock) dues → All (λ due. from ≤ due.arrival) dues → from ≤ clock → EndsHold from b
+      → EndsHold clock (all_taken dues b)
   ends-all was clock from [] b near ordered all behind before is = ends-later from clock b before is
   ends-all was clock from (due ∷ dues) b near ordered all behind before is =
       let here = All-head (IsDue was clock) due dues all in
       let by_now = here.by_now in
       let first = All-head (λ one. from ≤ one.arrival) due dues behind in
-      ends-all was clock due.arrival dues (board_taken due b) near (pairs-tail due dues ordered) (All-tail (IsDue was clock) due dues all)
-      (all-follow due dues (pairs-head due dues ordered)) by_now
+      ends-all was clock due.arrival dues (board_taken due b) near (pairs-tail due dues ordered)
+      (All-tail (IsDue was clock) due dues all) (all-follow due dues (pairs-head due dues ordered)) by_now
       (ends-taken due b (omega (arith, by_now, near)) (ends-later from due.arrival b first is))
 
 -- ---- what a step does
@@ -149,7 +153,8 @@ module _ (ends : WritesKeepEnds) (times : WritesKeepTime) where
         seat = rw (ends.count b address width value) is.seat;
       }
 
-  unit-nears : (clock bound channel : ℕ) (b : Core) → channel < 4 → Nears clock bound b → Nears clock bound (unit_ended channel b)
+  unit-nears : (clock bound channel : ℕ) (b : Core) → channel < 4 → Nears clock bound b
+      → Nears clock bound (unit_ended channel b)
   unfolding after_dma_unit
   unit-nears clock bound channel b few is = record { now = is.now; next = is.next; seat = is.seat }
 
@@ -160,8 +165,9 @@ module _ (ends : WritesKeepEnds) (times : WritesKeepTime) where
       (λ c is. record { now = is.now; next = is.next; seat = is.seat }) (unit-nears clock bound) file b
       (record { now = now; next = next; seat = seat })).next
 
-  pub acted-clock : (clock : ℕ) (file : List ℕ) (b : Core) → b.devices.clock ≡ clock → (acted file b).bus.devices.clock ≡ clock
+  pub acted-clock : (clock : ℕ) (file : List ℕ) (b : Core) → b.devices.clock ≡ clock
+      → (acted file b).bus.devices.clock ≡ clock
   unfolding after_dma_unit
   acted-clock clock file b now =
-      acted-keeps (λ c. c.devices.clock ≡ clock) (λ c address width value is. (times c address width value).clock ∙ is) (λ c is. is)
-      (λ channel c few is. is) file b now
+      acted-keeps (λ c. c.devices.clock ≡ clock) (λ c address width value is. (times c address width value).clock ∙ is)
+      (λ c is. is) (λ channel c few is. is) file b now

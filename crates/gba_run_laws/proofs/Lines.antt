@@ -52,7 +52,8 @@ cycle-lines true false c all =
 cycle-lines false ends c all = all
 
 -- each has its bytes, so many cycles later too
-pub lines-after : (cycles : ℕ) (b : Board) → All (HasBytes 480) b.core.lines → All (HasBytes 480) (board_after cycles b).core.lines
+pub lines-after : (cycles : ℕ) (b : Board) → All (HasBytes 480) b.core.lines
+    → All (HasBytes 480) (board_after cycles b).core.lines
 unfolding board_after board_cycle
 lines-after zero b all = all
 lines-after (suc cycles) b all =

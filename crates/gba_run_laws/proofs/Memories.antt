@@ -30,7 +30,8 @@ either Keeps false one other here there = there
 
 module _ (Keeps : Memories → Type 0)
     (byte-keeps : (m : Memories) (address byte : ℕ) → byte < 2 ^ 8 → Keeps m → Keeps (with_byte m address byte)) where
-  number-keeps : (width : Width) (m : Memories) (address value : ℕ) → Keeps m → Keeps (with_number with_byte width m address value)
+  number-keeps : (width : Width) (m : Memories) (address value : ℕ) → Keeps m
+      → Keeps (with_number with_byte width m address value)
   number-keeps Byte m address value keeps = byte-keeps m address (field value 0 8) (omega arith) keeps
   number-keeps Half m address value keeps =
       byte-keeps (with_byte m address (field value 0 8)) (address + 1) (field value 8 8) (omega arith)
@@ -50,12 +51,14 @@ module _ (Keeps : Memories → Type 0)
 
   stored-keeps : (region : Region) (mode : ℕ) (m : Memories) (address : ℕ) (width : Width) (value : ℕ) → Keeps m
       → Keeps (stored_in region mode m address width value)
-  stored-keeps Palette mode m address Byte value keeps = both-keep m (aligned Half address) (field value 0 8) (omega arith) keeps
+  stored-keeps Palette mode m address Byte value keeps =
+      both-keep m (aligned Half address) (field value 0 8) (omega arith) keeps
   stored-keeps Vram mode m address Byte value keeps =
       either Keeps (nat_lt (vram_place address) (sprite_part mode)) _ _
       (both-keep m (aligned Half address) (field value 0 8) (omega arith) keeps) keeps
   stored-keeps Oam mode m address Byte value keeps = keeps
-  stored-keeps Sram mode m address width value keeps = byte-keeps m (aligned width address) (field value 0 8) (omega arith) keeps
+  stored-keeps Sram mode m address width value keeps =
+      byte-keeps m (aligned width address) (field value 0 8) (omega arith) keeps
   stored-keeps _ mode m address width value keeps = number-keeps width m (aligned width address) value keeps
 
   pub store-keeps : (mode : ℕ) (m : Memories) (address : ℕ) (width : Width) (value : ℕ) → Keeps m
@@ -107,7 +110,8 @@ backup-bytes : (backup : BackupMemory) (address byte : ℕ) → byte < 2 ^ 8 →
     → AreBytes (backup_bytes (backup_written backup address byte))
 unfolding flash_written
 backup-bytes (InSram bytes) address byte small are = bytes-set bytes (sram_place address) byte are small
-backup-bytes (InFlash flash) address byte small are = flash-bytes-in flash.machine.state (flash_place address) byte flash small are
+backup-bytes (InFlash flash) address byte small are =
+    flash-bytes-in flash.machine.state (flash_place address) byte flash small are
 
 byte-holds-in : (region : Region) (m : Memories) (address byte : ℕ) → byte < 2 ^ 8 → MemoriesHold m
     → MemoriesHold (with_byte_in region m address byte)
@@ -168,7 +172,8 @@ byte-holds-in Other m address byte small hold = hold
 
 pub store-holds : (mode : ℕ) (m : Memories) (address : ℕ) (width : Width) (value : ℕ) → MemoriesHold m
     → MemoriesHold (store mode m address width value)
-store-holds = store-keeps MemoriesHold (λ m address byte small hold. byte-holds-in (region_of address) m address byte small hold)
+store-holds =
+    store-keeps MemoriesHold (λ m address byte small hold. byte-holds-in (region_of address) m address byte small hold)
 
 -- ---- the images
 
@@ -191,8 +196,8 @@ byte-leaves-in bios rom Rom2 m address byte has = has
 byte-leaves-in bios rom Sram m address byte has = record { bios = has.bios; rom = has.rom }
 byte-leaves-in bios rom Other m address byte has = has
 
-pub store-leaves : (bios rom : List ℕ) (mode : ℕ) (m : Memories) (address : ℕ) (width : Width) (value : ℕ) → HasImages bios rom m
-    → HasImages bios rom (store mode m address width value)
+pub store-leaves : (bios rom : List ℕ) (mode : ℕ) (m : Memories) (address : ℕ) (width : Width) (value : ℕ)
+    → HasImages bios rom m → HasImages bios rom (store mode m address width value)
 store-leaves bios rom =
     store-keeps (HasImages bios rom)
     (λ m address byte small has. byte-leaves-in bios rom (region_of address) m address byte has)

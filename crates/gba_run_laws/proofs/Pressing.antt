@@ -33,18 +33,21 @@ either-same : (pressed : ℕ) (test : Bool) (one other : Devices) → SameKeys p
 either-same pressed true one other here there = here
 either-same pressed false one other here there = there
 
-half-same : (pressed offset value lanes : ℕ) (d : Devices) → SameKeys pressed d → SameKeys pressed (half_written offset value lanes d)
+half-same : (pressed offset value lanes : ℕ) (d : Devices) → SameKeys pressed d
+    → SameKeys pressed (half_written offset value lanes d)
 half-same pressed offset value lanes d same =
     each-half (SameKeys pressed) offset lanes d (λ v. same) (λ v. same) (λ v. same) (λ v. same) (λ v. same)
-    (λ v. either-same pressed (offset == 0x132) (with_key_control v d) d same same) (λ v. same) (λ v. same) (λ v. same) same
-    (merged (half_kept offset d) value lanes)
+    (λ v. either-same pressed (offset == 0x132) (with_key_control v d) d same same) (λ v. same) (λ v. same)
+    (λ v. same) same (merged (half_kept offset d) value lanes)
 
 into-same : (pressed : ℕ) (queue : Option ℕ) (offset : ℕ) (width : Width) (value : ℕ) (d : Devices) → SameKeys pressed d
     → SameKeys pressed (written_in queue offset width value d)
 into-same pressed (Some queue) offset width value d same = same
-into-same pressed None offset width value d same = written-keeps (SameKeys pressed) half_written (half-same pressed) offset width value d same
+into-same pressed None offset width value d same =
+    written-keeps (SameKeys pressed) half_written (half-same pressed) offset width value d same
 
-io-same : (pressed offset : ℕ) (width : Width) (value : ℕ) (d : Devices) → SameKeys pressed d → SameKeys pressed (io_written offset width value d)
+io-same : (pressed offset : ℕ) (width : Width) (value : ℕ) (d : Devices) → SameKeys pressed d
+    → SameKeys pressed (io_written offset width value d)
 io-same pressed offset width value d same = into-same pressed (queue_of offset width) offset width value d same
 
 place-same : (d : Devices) → (at_place d).keys ≡ d.keys
@@ -73,12 +76,14 @@ module _ (pressed : ℕ) where
   either-core true one other here there = here
   either-core false one other here there = there
 
-  register-same : (offset : ℕ) (width : Width) (value : ℕ) (b : Core) → Keeps b → Keeps (register_written offset width value b)
+  register-same : (offset : ℕ) (width : Width) (value : ℕ) (b : Core) → Keeps b
+      → Keeps (register_written offset width value b)
   unfolding register_written
   register-same offset width value b same =
       either-core (is_serial offset) _ _ same (io-same pressed offset width value b.devices same)
 
-  written-same : (b : Core) (address : ℕ) (width : Width) (value : ℕ) → Keeps b → Keeps (core_written b address width value)
+  written-same : (b : Core) (address : ℕ) (width : Width) (value : ℕ) → Keeps b
+      → Keeps (core_written b address width value)
   unfolding core_written
   written-same b address width value same =
       either-core (is_io (region_of address)) _ _ (register-same (io_offset address) width value b same) same
@@ -106,7 +111,8 @@ behind-more zero change changes before = refl
 behind-more (suc count) change changes before = refl
 
 pub keys-behind : (clock : ℕ) (changes : List KeyState) (b : Core)
-    → (after_keys clock changes b).devices.keys.pressed ≡ keys_after (due_count clock changes) changes b.devices.keys.pressed
+    → (after_keys clock changes b).devices.keys.pressed
+    ≡ keys_after (due_count clock changes) changes b.devices.keys.pressed
 unfolding after_keys due_count keyed
 keys-behind clock [] b = refl
 keys-behind clock (change ∷ changes) b =
@@ -131,7 +137,8 @@ keys-behind clock (change ∷ changes) b =
 
 -- those that are pressed once so many changes of all are applied, and so many more
 pub behind-drop : (applied more : ℕ) (changes : List KeyState) (at_first : ℕ)
-    → keys_after more (drop applied changes) (keys_after applied changes at_first) ≡ keys_after (applied + more) changes at_first
+    → keys_after more (drop applied changes) (keys_after applied changes at_first)
+    ≡ keys_after (applied + more) changes at_first
 behind-drop applied zero changes at_first = ap (λ n. keys_after n changes at_first) (none applied)
   where
     none : (n : ℕ) → n ≡ n + 0

@@ -48,18 +48,21 @@ module _ (bios rom : List ℕ) (kind : Backup) (place : Seat) (backups : Backups
 
   -- another seat that is the same
   with-unit : (b : Core) (u : SerialUnit) → seat_of u ≡ seat_of b.serial → Keeps b → Keeps (record b { serial = u })
-  with-unit b u same keeps = record { images = keeps.images; sound = keeps.sound; backup = keeps.backup; seat = same ∙ keeps.seat }
+  with-unit b u same keeps =
+      record { images = keeps.images; sound = keeps.sound; backup = keeps.backup; seat = same ∙ keeps.seat }
 
   either-core : (test : Bool) (one other : Core) → Keeps one → Keeps other → Keeps (if test then one else other)
   either-core true one other here there = here
   either-core false one other here there = there
 
-  put-seat : (clock offset value lanes : ℕ) (u : SerialUnit) → seat_of u ≡ place → seat_of (serial_put clock offset value lanes u) ≡ place
+  put-seat : (clock offset value lanes : ℕ) (u : SerialUnit) → seat_of u ≡ place
+      → seat_of (serial_put clock offset value lanes u) ≡ place
   unfolding serial_put
   put-seat clock offset value lanes u same =
       seat-same u _ (seated.written clock offset (merged (serial_kept offset u) value lanes) u) ∙ same
 
-  register-keeps : (offset : ℕ) (width : Width) (value : ℕ) (b : Core) → Keeps b → Keeps (register_written offset width value b)
+  register-keeps : (offset : ℕ) (width : Width) (value : ℕ) (b : Core) → Keeps b
+      → Keeps (register_written offset width value b)
   unfolding register_written
   register-keeps offset width value b keeps =
       either-core (is_serial offset) _ _
@@ -68,12 +71,13 @@ module _ (bios rom : List ℕ) (kind : Backup) (place : Seat) (backups : Backups
         sound = keeps.sound;
         backup = keeps.backup;
         seat =
-            written-keeps (λ u. seat_of u ≡ place) (serial_put b.devices.clock) (put-seat b.devices.clock) offset width value b.serial
-            keeps.seat;
+            written-keeps (λ u. seat_of u ≡ place) (serial_put b.devices.clock) (put-seat b.devices.clock) offset width
+            value b.serial keeps.seat;
       })
       (record { images = keeps.images; sound = keeps.sound; backup = keeps.backup; seat = keeps.seat })
 
-  written-stays : (b : Core) (address : ℕ) (width : Width) (value : ℕ) → Keeps b → Keeps (core_written b address width value)
+  written-stays : (b : Core) (address : ℕ) (width : Width) (value : ℕ) → Keeps b
+      → Keeps (core_written b address width value)
   unfolding core_written
   written-stays b address width value keeps =
       let stays = backups (picture_mode b.devices.picture) b.memory address width value keeps.sound in
@@ -95,7 +99,8 @@ module _ (bios rom : List ℕ) (kind : Backup) (place : Seat) (backups : Backups
 
   acted-stays : (file : List ℕ) (b : Core) → Keeps b → Keeps (acted file b).bus
   acted-stays =
-      acted-keeps Keeps written-stays (λ b keeps. same-memory b _ refl refl keeps) (λ channel b few keeps. same-memory b _ refl refl keeps)
+      acted-keeps Keeps written-stays (λ b keeps. same-memory b _ refl refl keeps)
+      (λ channel b few keeps. same-memory b _ refl refl keeps)
 
   keys-stay : (clock : ℕ) (changes : List KeyState) (b : Core) → Keeps b → Keeps (after_keys clock changes b)
   unfolding after_keys
@@ -121,7 +126,8 @@ module _ (bios rom : List ℕ) (kind : Backup) (place : Seat) (backups : Backups
   taken-stay : (dues : List Incoming) (b : Board) → Keeps b.core → Keeps (all_taken dues b).core
   taken-stay [] b keeps = keeps
   taken-stay (due ∷ dues) b keeps =
-      taken-stay dues (board_taken due b) (heard-stays due (core_ended due.arrival b.core) (ended-stays due.arrival b.core keeps))
+      taken-stay dues (board_taken due b)
+      (heard-stays due (core_ended due.arrival b.core) (ended-stays due.arrival b.core keeps))
 
   learned-stay : (dues : List Incoming) (b : Core) → Keeps b → Keeps (all_learned dues b)
   learned-stay [] b keeps = keeps
@@ -174,12 +180,13 @@ step-off dues m = by_off (is_off m)
     by_off true = refl
     by_off false = refl
 
-pub leaves-rest : BackupsStaySound → StaysSeated → ((cycles : ℕ) (b : Board) → BoardPasses cycles b) → CountsAlways → StepsLeaveTheRest
+pub leaves-rest : BackupsStaySound → StaysSeated → ((cycles : ℕ) (b : Board) → BoardPasses cycles b) → CountsAlways
+    → StepsLeaveTheRest
 leaves-rest backups seated passes counts dues m sound =
     let memory = m.board.core.memory in
     let stays =
-    step-stays memory.bios memory.rom (backup_of memory.backup) (seat_of m.board.core.serial) backups seated passes dues m
-    (record { images = record { bios = refl; rom = refl }; sound = sound; backup = refl; seat = refl }) in
+    step-stays memory.bios memory.rom (backup_of memory.backup) (seat_of m.board.core.serial) backups seated
+    passes dues m (record { images = record { bios = refl; rom = refl }; sound = sound; backup = refl; seat = refl }) in
     record {
       bios = stays.images.bios;
       rom = stays.images.rom;

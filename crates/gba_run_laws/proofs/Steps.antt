@@ -52,7 +52,8 @@ use Rattle.gba_run_laws.proofs.Cores.{AreNear, CoreHolds, after-acted, after-cyc
 
 -- ---- the changes of the keys
 
-due-step : (applied clock : ℕ) (changes : List KeyState) (test : Bool) → suc applied ≤ (if test then 1 + due_count clock changes else 0)
+due-step : (applied clock : ℕ) (changes : List KeyState) (test : Bool)
+    → suc applied ≤ (if test then 1 + due_count clock changes else 0)
     → (applied ≤ due_count clock changes → applied + due_count clock (drop applied changes) ≡ due_count clock changes)
     → suc applied + due_count clock (drop applied changes) ≡ (if test then 1 + due_count clock changes else 0)
 due-step applied clock changes true some rest = let same = rest (omega (arith, some)) in omega (arith, same)
@@ -93,7 +94,8 @@ module _ (words : (word : ℕ) (file : List ℕ) (b : Core) → IsSoundFile file
   instruction-sound file b is =
       by_state (in_thumb file) refl
     where
-      by_state : (test : Bool) → in_thumb file ≡ test → IsSoundFile (if test then half_done file b else word_done file b).registers
+      by_state : (test : Bool) → in_thumb file ≡ test
+          → IsSoundFile (if test then half_done file b else word_done file b).registers
       by_state true thumb = halves _ file b is thumb
       by_state false arm = words _ file b is
 
@@ -105,9 +107,11 @@ module _ (words : (word : ℕ) (file : List ℕ) (b : Core) → IsSoundFile file
   awake-sound : (file : List ℕ) (b : Core) → IsSoundFile file → IsSoundFile (awake_done file b).registers
   awake-sound file b is =
       either-sound (enters file b) (entry_done file b) (instruction_done file b)
-      (sound-entry Interrupt ((register file 15 + 4) % 2 ^ 32) file is.stored (omega arith)) (instruction-sound file b is)
+      (sound-entry Interrupt ((register file 15 + 4) % 2 ^ 32) file is.stored (omega arith))
+      (instruction-sound file b is)
 
-  acting-sound : (unit : Option DmaUnit) (file : List ℕ) (b : Core) → IsSoundFile file → IsSoundFile (acted_for unit file b).registers
+  acting-sound : (unit : Option DmaUnit) (file : List ℕ) (b : Core) → IsSoundFile file
+      → IsSoundFile (acted_for unit file b).registers
   acting-sound (Some unit) file b is = is
   acting-sound None file b is =
       either-sound (idles b) (idle_done file b) (awake_done file (core_woken b)) is (awake-sound file (core_woken b) is)
@@ -123,7 +127,8 @@ run-same [] b = refl
 run-same (due ∷ dues) b =
     run-same dues (core_learned due b) ∙ learned-run due b.serial (is_peer due.sender b.serial)
   where
-    learned-run : (one : Incoming) (u : SerialUnit) (test : Bool) → is_running (if test then with_known one u else u) ≡ is_running u
+    learned-run : (one : Incoming) (u : SerialUnit) (test : Bool)
+        → is_running (if test then with_known one u else u) ≡ is_running u
     learned-run one u true = refl
     learned-run one u false = refl
 
@@ -141,7 +146,8 @@ off-run dues m =
     ap (λ u. u.run) (keys-serial (clock_of m) (left_of m) (all_learned dues (core_begun m.board.core)))
     ∙ run-kept dues (core_begun m.board.core)
 
-off-running : (dues : List Incoming) (m : Machine) → is_running (prepared_off dues m).serial ≡ is_running m.board.core.serial
+off-running : (dues : List Incoming) (m : Machine)
+    → is_running (prepared_off dues m).serial ≡ is_running m.board.core.serial
 off-running dues m =
     ap is_running (keys-serial (clock_of m) (left_of m) (all_learned dues (core_begun m.board.core)))
     ∙ run-same dues (core_begun m.board.core)
@@ -170,23 +176,34 @@ module _ (words : (word : ℕ) (file : List ℕ) (b : Core) → IsSoundFile file
     → IsSoundFile (execution_of_half half file b).registers)
     (backups : BackupsStaySound) (passes : (cycles : ℕ) (b : Board) → BoardPasses cycles b) (counts : CountsAlways)
     (devices : DevicesStay) (serial : SerialStays) (follows : (dues : List Incoming) (m : Machine) → StepPasses dues m)
-    (writes : WritesKeep) (apart : EndsApart) (seated : StaysSeated) (ends : WritesKeepEnds) (times : WritesKeepTime) where
+    (writes : WritesKeep) (apart : EndsApart) (seated : StaysSeated) (ends : WritesKeepEnds)
+    (times : WritesKeepTime) where
   core-of : (m : Machine) → clock_of m ≤ last_clock → Holds m → CoreHolds m.board.core
-  core-of m near is = record { near = near; memories = is.memories; lines = is.lines; backup = is.backup; devices = is.devices; serial = is.serial }
+  core-of m near is = record {
+    near = near;
+    memories = is.memories;
+    lines = is.lines;
+    backup = is.backup;
+    devices = is.devices;
+    serial = is.serial;
+  }
 
   begun-core : (m : Machine) → clock_of m ≤ last_clock → Holds m → CoreHolds (core_begun m.board.core)
   begun-core m near is = begun-holds backups devices serial writes m.board.core (core-of m near is)
 
-  prepared-core : (dues : List Incoming) (m : Machine) → clock_of m ≤ last_clock → AreNear dues → Holds m → CoreHolds (prepared dues m)
+  prepared-core : (dues : List Incoming) (m : Machine) → clock_of m ≤ last_clock → AreNear dues → Holds m
+      → CoreHolds (prepared dues m)
   prepared-core dues m near all is =
       after-keys backups devices serial writes (clock_of m) (left_of m) (heard dues m).core
       (heard-core backups devices serial writes (clock_of m) dues (board_begun m.board) all (begun-core m near is))
 
-  done-core : (dues : List Incoming) (m : Machine) → clock_of m ≤ last_clock → AreNear dues → Holds m → CoreHolds (done_in dues m).bus
+  done-core : (dues : List Incoming) (m : Machine) → clock_of m ≤ last_clock → AreNear dues → Holds m
+      → CoreHolds (done_in dues m).bus
   done-core dues m near all is =
       after-acted backups devices serial writes m.registers (prepared dues m) (prepared-core dues m near all is)
 
-  on-parts : (dues : List Incoming) (m : Machine) → clock_of m ≤ last_clock → AreNear dues → Holds m → Parts (stepped_on dues m)
+  on-parts : (dues : List Incoming) (m : Machine) → clock_of m ≤ last_clock → AreNear dues → Holds m
+      → Parts (stepped_on dues m)
   unfolding stepped_on
   on-parts dues m near all is =
       let done = done_in dues m in
@@ -198,7 +215,8 @@ module _ (words : (word : ℕ) (file : List ℕ) (b : Core) → IsSoundFile file
         lines = lines-after done.cycles board core.lines;
         memories = rw passed.memory core.memories;
         backup = rw passed.memory core.backup;
-        devices = rw passed.devices (after-cycles backups devices serial writes done.cycles done.bus.devices core.devices);
+        devices =
+            rw passed.devices (after-cycles backups devices serial writes done.cycles done.bus.devices core.devices);
         serial = rw passed.serial core.serial;
       }
 
@@ -220,10 +238,12 @@ module _ (words : (word : ℕ) (file : List ℕ) (b : Core) → IsSoundFile file
         serial = core.serial;
       }
 
-  step-parts : (dues : List Incoming) (m : Machine) → clock_of m ≤ last_clock → AreNear dues → Holds m → Parts (stepped dues m)
+  step-parts : (dues : List Incoming) (m : Machine) → clock_of m ≤ last_clock → AreNear dues → Holds m
+      → Parts (stepped dues m)
   unfolding stepped
   step-parts dues m near all is =
-      either-parts (is_off m) (stepped_off dues m) (stepped_on dues m) (off-parts dues m near is) (on-parts dues m near all is)
+      either-parts (is_off m) (stepped_off dues m) (stepped_on dues m) (off-parts dues m near is)
+      (on-parts dues m near all is)
 
   step-applied : (dues : List Incoming) (m : Machine) → (stepped dues m).applied ≡ applied_in m
   unfolding stepped stepped_on stepped_off
@@ -241,12 +261,14 @@ module _ (words : (word : ℕ) (file : List ℕ) (b : Core) → IsSoundFile file
       by_off true = refl
       by_off false = refl
 
-  step-on : (dues : List Incoming) (m : Machine) → Holds m → is_running (stepped dues m).board.core.serial ≡ true → m.off ≤ clock_of m
+  step-on : (dues : List Incoming) (m : Machine) → Holds m → is_running (stepped dues m).board.core.serial ≡ true
+      → m.off ≤ clock_of m
   unfolding stepped stepped_off
   step-on dues m is = by_off (is_off m) refl
     where
       by_off : (test : Bool) → is_off m ≡ test
-          → is_running (if test then stepped_off dues m else stepped_on dues m).board.core.serial ≡ true → m.off ≤ clock_of m
+          → is_running (if test then stepped_off dues m else stepped_on dues m).board.core.serial ≡ true
+          → m.off ≤ clock_of m
       by_off true off runs = is.on (sym (off-running dues m) ∙ runs)
       by_off false on runs = since-on (clock_of m) m.off on
 
@@ -263,9 +285,14 @@ module _ (words : (word : ℕ) (file : List ℕ) (b : Core) → IsSoundFile file
       ends-ended apart seated (clock_of m) (all_taken dues (board_begun m.board)) near
       (ends-all apart seated m.was (clock_of m) m.was dues (board_begun m.board) near may.ordered may.due
       (after-was m.was (clock_of m) dues may.due) is.begun
-      (record { past = is.numbers.past; next = is.numbers.next; seat = some-seat m.board.core.serial.player m.board.core.serial.count is.serial.seat.player }))
+      (record {
+        past = is.numbers.past;
+        next = is.numbers.next;
+        seat = some-seat m.board.core.serial.player m.board.core.serial.count is.serial.seat.player;
+      }))
     where
-      after-was : (was clock : ℕ) (list : List Incoming) → All (IsDue was clock) list → All (λ due. was ≤ due.arrival) list
+      after-was : (was clock : ℕ) (list : List Incoming) → All (IsDue was clock) list
+          → All (λ due. was ≤ due.arrival) list
       after-was was clock list all i d within =
           let one = all i d within in
           let last = one.after_last in
@@ -274,7 +301,8 @@ module _ (words : (word : ℕ) (file : List ℕ) (b : Core) → IsSoundFile file
       some-seat : (player count : ℕ) → player < count → 1 ≤ count
       some-seat player count seated_there = omega (arith, seated_there)
 
-  on-counts : (dues : List Incoming) (m : Machine) → clock_of m ≤ last_clock → MayTake dues m → Holds m → CountsHold (stepped_on dues m)
+  on-counts : (dues : List Incoming) (m : Machine) → clock_of m ≤ last_clock → MayTake dues m → Holds m
+      → CountsHold (stepped_on dues m)
   unfolding stepped_on
   on-counts dues m near may is =
       let done = done_in dues m in
@@ -284,8 +312,8 @@ module _ (words : (word : ℕ) (file : List ℕ) (b : Core) → IsSoundFile file
       let past = hold.past in
       let same_serial = keys-serial (clock_of m) (left_of m) (heard dues m).core in
       let next =
-      acted-nears ends times (clock_of m) (512 * ((heard dues m).ended.count + 1)) (omega (arith, past)) m.registers (prepared dues m)
-      (prepared-clock dues m) (rw same_serial hold.next) (rw same_serial hold.seat) in
+      acted-nears ends times (clock_of m) (512 * ((heard dues m).ended.count + 1)) (omega (arith, past)) m.registers
+      (prepared dues m) (prepared-clock dues m) (rw same_serial hold.next) (rw same_serial hold.seat) in
       let made : (heard dues m).made ≡ m.board.made = taken-made dues (board_begun m.board) in
       let frames = frames-few done.cycles board in
       let pairs = pairs-few done.cycles board in
@@ -320,7 +348,8 @@ module _ (words : (word : ℕ) (file : List ℕ) (b : Core) → IsSoundFile file
       }
 
   -- what is counted after a step
-  step-counts : (dues : List Incoming) (m : Machine) → clock_of m ≤ last_clock → MayTake dues m → Holds m → CountsHold (stepped dues m)
+  step-counts : (dues : List Incoming) (m : Machine) → clock_of m ≤ last_clock → MayTake dues m → Holds m
+      → CountsHold (stepped dues m)
   unfolding stepped
   step-counts dues m near may is =
       by_off (is_off m) (follows dues m).was
@@ -354,7 +383,8 @@ module _ (words : (word : ℕ) (file : List ℕ) (b : Core) → IsSoundFile file
       → (stepped dues m).board.core.devices.keys.pressed ≡ keys_after (stepped dues m).applied (stepped dues m).keys 0
   unfolding stepped
   step-pressed dues m is =
-      either-pressed (is_off m) (stepped_off dues m) (stepped_on dues m) _ (off-pressed dues m is) (on-pressed dues m is)
+      either-pressed (is_off m) (stepped_off dues m) (stepped_on dues m) _ (off-pressed dues m is)
+      (on-pressed dues m is)
       ∙ sym (ap (λ n. keys_after n (stepped dues m).keys 0) (step-applied dues m)
       ∙ ap (λ ks. keys_after (applied_in m) ks 0) (step-keys dues m))
     where
@@ -364,11 +394,13 @@ module _ (words : (word : ℕ) (file : List ℕ) (b : Core) → IsSoundFile file
       either-pressed true one other pressed here there = here
       either-pressed false one other pressed here there = there
 
-  step-holds : (dues : List Incoming) (m : Machine) → clock_of m ≤ last_clock → MayTake dues m → Holds m → Holds (stepped dues m)
+  step-holds : (dues : List Incoming) (m : Machine) → clock_of m ≤ last_clock → MayTake dues m → Holds m
+      → Holds (stepped dues m)
   step-holds dues m near may is =
       let parts = step-parts dues m near (near-of m.was (clock_of m) dues near may.due) is in
       let after = follows dues m in
-      let applied : applied_in m ≡ due_count (clock_of m) m.keys = due-more m.applied (clock_of m) m.keys is.changes.within in
+      let applied : applied_in m ≡ due_count (clock_of m) m.keys =
+      due-more m.applied (clock_of m) m.keys is.changes.within in
       let all_due : (stepped dues m).applied ≡ due_count (clock_of m) (stepped dues m).keys =
       step-applied dues m ∙ applied ∙ sym (ap (due_count (clock_of m)) (step-keys dues m)) in
       let raised = after.raised in
@@ -382,7 +414,8 @@ module _ (words : (word : ℕ) (file : List ℕ) (b : Core) → IsSoundFile file
         counts = counts.steps dues m is.counts;
         changes = record {
           within =
-              let later = due-later (clock_of m) (clock_of (stepped dues m)) (stepped dues m).keys (omega (arith, raised)) in
+              let later =
+              due-later (clock_of m) (clock_of (stepped dues m)) (stepped dues m).keys (omega (arith, raised)) in
               omega (arith, later, all_due);
           due = λ moved. all_due ∙ sym (ap (λ clock. due_count clock (stepped dues m).keys) after.was);
           pressed = step-pressed dues m is;
@@ -428,8 +461,8 @@ module _ (words : (word : ℕ) (file : List ℕ) (b : Core) → IsSoundFile file
     aligned = refl;
   }
 
-  memories-at-start : (bios : List ℕ) (cart save : Option (List ℕ)) (backup : Backup) → AreBytes (saved_bytes save backup)
-      → MemoriesHold (at_start bios cart save backup)
+  memories-at-start : (bios : List ℕ) (cart save : Option (List ℕ)) (backup : Backup)
+      → AreBytes (saved_bytes save backup) → MemoriesHold (at_start bios cart save backup)
   unfolding at_start work_length inner_length palette_length vram_length oam_length
   memories-at-start bios cart save backup are = record {
     work = has-replicate 0x40000 0 (omega arith);
@@ -445,11 +478,13 @@ module _ (words : (word : ℕ) (file : List ℕ) (b : Core) → IsSoundFile file
     by_kind Flash128 = are
 
   saved-has : (save : Option (List ℕ)) (backup : Backup)
-      → ((bytes : List ℕ) → save ≡ Some bytes → HasBytes (backup_length backup) bytes) → HasBytes (backup_length backup) (saved_bytes save backup)
+      → ((bytes : List ℕ) → save ≡ Some bytes → HasBytes (backup_length backup) bytes)
+      → HasBytes (backup_length backup) (saved_bytes save backup)
   saved-has None backup fits = has-replicate (backup_length backup) 0xff (omega arith)
   saved-has (Some bytes) backup fits = fits bytes refl
 
-  backup-sound : (backup : Backup) (bytes : List ℕ) → length bytes ≡ backup_length backup → IsSoundBackup (backup_at_start backup bytes)
+  backup-sound : (backup : Backup) (bytes : List ℕ) → length bytes ≡ backup_length backup
+      → IsSoundBackup (backup_at_start backup bytes)
   backup-sound Sram bytes long = long
   backup-sound Flash64 bytes long = record {
     flash = refl;
@@ -463,7 +498,8 @@ module _ (words : (word : ℕ) (file : List ℕ) (b : Core) → IsSoundFile file
   }
 
   backup-start : (bios : List ℕ) (cart save : Option (List ℕ)) (backup : Backup)
-      → HasBytes (backup_length backup) (saved_bytes save backup) → IsSoundBackup (at_start bios cart save backup).backup
+      → HasBytes (backup_length backup) (saved_bytes save backup)
+      → IsSoundBackup (at_start bios cart save backup).backup
   unfolding at_start
   backup-start bios cart save backup has = backup-sound backup (saved_bytes save backup) has.long
 

@@ -34,14 +34,15 @@ abbrev pub keys_after : ℕ → List KeyState → ℕ → ℕ
 keys_after zero changes before = before
 keys_after (suc count) changes before = (slice_index_or changes count (record { clock = 0; keys = 0 })).keys % 2 ^ 10
 
--- The changes of the keys that are applied are those that were due when the last step began, if there was one, and the last of
--- them says which keys are pressed.
+-- The changes of the keys that are applied are those that were due when the last step began, if there was one, and the
+-- last of them says which keys are pressed.
 pub record ChangesHold (m : Machine) : Type 0 where
   pub within : m.applied ≤ due_count (clock_of m) m.keys
   pub due : m.was < clock_of m → m.applied ≡ due_count m.was m.keys
   pub pressed : m.board.core.devices.keys.pressed ≡ keys_after m.applied m.keys 0
 
--- What it has counted: no more frames and pairs than cycles, and transfers that took 512 cycles each, of which the next one takes as many.
+-- What it has counted: no more frames and pairs than cycles, and transfers that took 512 cycles each, of which the next
+-- one takes as many.
 pub record CountsHold (m : Machine) : Type 0 where
   pub frames : m.board.made.frame_count ≤ clock_of m
   pub pairs : m.board.made.pairs ≤ clock_of m
@@ -74,10 +75,11 @@ pub record StepsHold : Type 0 where
       (keys : List KeyState) (room : Room) → player < count → count ≤ 4 → round ≤ 2048
       → ((bytes : List ℕ) → save ≡ Some bytes → HasBytes (backup_length backup) bytes)
       → Holds (reset player count round off bios cart save backup keys room)
-  pub steps : (dues : List Incoming) (m : Machine) → clock_of m ≤ last_clock → MayTake dues m → Holds m → Holds (stepped dues m)
+  pub steps : (dues : List Incoming) (m : Machine) → clock_of m ≤ last_clock → MayTake dues m → Holds m
+      → Holds (stepped dues m)
 
--- What no step changes: the images, what the saves are kept in, the seat, the changes of the keys, the clock from which on the console
--- is on, and what is kept of what it makes.
+-- What no step changes: the images, what the saves are kept in, the seat, the changes of the keys, the clock from which
+-- on the console is on, and what is kept of what it makes.
 pub record IsSameConsole (before after : Machine) : Type 0 where
   pub bios : after.board.core.memory.bios ≡ before.board.core.memory.bios
   pub rom : after.board.core.memory.rom ≡ before.board.core.memory.rom

@@ -30,8 +30,8 @@ pub fn steps_hold()
     writes_keep_time();
 }
 
-/// A step leaves the images, what the saves are kept in, the seat, the changes of the keys, the clock from which on the console is on,
-/// and what is kept of what it makes.
+/// A step leaves the images, what the saves are kept in, the seat, the changes of the keys, the clock from which on the
+/// console is on, and what is kept of what it makes.
 pub fn steps_leave_the_rest()
     ensures { StepsLeaveTheRest }
 {
