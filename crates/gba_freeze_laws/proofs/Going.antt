@@ -19,12 +19,15 @@ use Rattle.link_order.specs.Cut.{Cut, plain_cut}
 use Rattle.link_order.specs.GlobalOrder.{run}
 use Rattle.gba_freeze_laws.proofs.Parting.{have-parts, same-lines}
 
-each-plain : (ms : List Machine) → each_mapped (λ i. as_it_runs) (map without_limit ms) ≡ each_mapped (λ i. as_it_runs) ms
+each-plain : (ms : List Machine)
+    → each_mapped (λ i. as_it_runs) (map without_limit ms) ≡ each_mapped (λ i. as_it_runs) ms
 each-plain [] = refl
 each-plain (m ∷ ms) = ap (λ (rest : List Machine). as_it_runs m ∷ rest) (each-plain ms)
 
-plain-alike : (cut : Cut Machine) → mapped (λ i. as_it_runs) (plain_cut without_limit cut) ≡ mapped (λ i. as_it_runs) cut
-plain-alike cut = ap (λ (ms : List Machine). let c : Cut Machine = record cut { consoles = ms } in c) (each-plain cut.consoles)
+plain-alike : (cut : Cut Machine)
+    → mapped (λ i. as_it_runs) (plain_cut without_limit cut) ≡ mapped (λ i. as_it_runs) cut
+plain-alike cut =
+    ap (λ (ms : List Machine). let c : Cut Machine = record cut { consoles = ms } in c) (each-plain cut.consoles)
 
 pub goes-on : RunsCanBeFrozen → FrozenFilesAreShort → FilesThawAgain → LiveSegments → KeepsCable console_kind
     → AreAlike console_kind → RunsAlike console_kind → FrozenRunsGoOn
@@ -39,7 +42,8 @@ goes-on frozen short again segments cables alike runs digest job images clock lo
     let second = end_from job made in
     let whole = segments start clock job.cycles begins.some_console begins.delays begins.sound early in
     let resumed =
-    runs (λ i. as_it_runs) (λ i. as_it_runs) (plain_cut without_limit made) made job.cycles runs-unseen (plain-alike made)
+    runs (λ i. as_it_runs) (λ i. as_it_runs) (plain_cut without_limit made) made job.cycles runs-unseen
+    (plain-alike made)
     ∙ thaw.runs job.cycles in
     let same =
     (alike (λ i. as_it_runs) (λ i. as_it_runs) (run console_kind (plain_cut without_limit made) job.cycles)

@@ -35,7 +35,8 @@ found : (f : ℕ → Machine → Machine) (xs : List Machine) (k : ℕ) (z : Mac
 found f [] k z there = absurd cc
 found f (y ∷ ys) zero z there = record { console = y; there = refl; is = cc }
 found f (y ∷ ys) (suc k) z there =
-    let rest = found (λ i. f (suc i)) ys k z there in record { console = rest.console; there = rest.there; is = rest.is }
+    let rest = found (λ i. f (suc i)) ys k z there in
+    record { console = rest.console; there = rest.there; is = rest.is }
 
 below-there : (xs : List Machine) (k : ℕ) (x : Machine) → slice_get xs k ≡ Some x → k < length xs
 below-there [] k x there = absurd cc
@@ -85,7 +86,8 @@ each-behind : (firsts : ℕ → Option Machine) (ms : List Machine)
     → map summary_line (each_mapped (λ i. behind_if (firsts i)) ms) ≡ map summary_line ms
 each-behind firsts [] = refl
 each-behind firsts (m ∷ ms) =
-    ap (λ (one : List ℕ). one ∷ map summary_line (each_mapped (λ i. behind_if (firsts (suc i))) ms)) (by_first (firsts 0))
+    ap (λ (one : List ℕ). one ∷ map summary_line (each_mapped (λ i. behind_if (firsts (suc i))) ms))
+    (by_first (firsts 0))
     ∙ ap (λ (rest : List (List ℕ)). summary_line m ∷ rest) (each-behind (λ i. firsts (suc i)) ms)
   where
     by_first : (first : Option Machine) → summary_line (behind_if first m) ≡ summary_line m
@@ -98,7 +100,8 @@ module _ (whole first rest second : Cut Machine) (is : whole ≡ joined first re
   nodes : each_mapped (λ i. as_it_runs) rest.consoles ≡ each_mapped (λ i. as_it_runs) second.consoles
   nodes = ap (λ (c : Cut Machine). c.consoles) same
 
-  pub have-parts : (player : ℕ) (m : Machine) → slice_get whole.consoles player ≡ Some m → HasParts first second player m
+  pub have-parts : (player : ℕ) (m : Machine) → slice_get whole.consoles player ≡ Some m
+      → HasParts first second player m
   have-parts player m there =
       let there_joined : slice_get (joined first rest).consoles player ≡ Some m =
       sym (ap (λ (c : Cut Machine). slice_get c.consoles player) is) ∙ there in

@@ -73,7 +73,8 @@ unfolding consoles_from
 all-fresh job player [] images = all_nil (IsFresh console_kind)
 all-fresh job player (c ∷ consoles) [] = all_nil (IsFresh console_kind)
 all-fresh job player (c ∷ consoles) (one ∷ images) =
-    all_cons (IsFresh console_kind) (without_limit (console_at job player c one)) (consoles_from job (player + 1) consoles images)
+    all_cons (IsFresh console_kind) (without_limit (console_at job player c one))
+    (consoles_from job (player + 1) consoles images)
     (record { clock_is = refl; was_is = refl }) (all-fresh job (player + 1) consoles images)
 
 clocks-first : (job : WholeJob) (player : ℕ) (consoles : List ConsoleJob) (images : List ConsoleImages) (i : ℕ)
@@ -95,8 +96,9 @@ all-ready until (start ∷ starts) [] many each = absurd (omega (arith, many))
 all-ready until (start ∷ starts) (m ∷ ms) many each =
     (each 0 start m refl refl, all-ready until starts ms (omega (arith, many)) (λ i. each (suc i)))
 
-module _ (holding : StepsHold) (leaves : StepsLeaveTheRest) (begins : StartsWhole console_kind) (left : LeavesWhole console_kind)
-    (cables : KeepsCable console_kind) (comes : ComesBySteps console_kind) (near : EndsNear console_kind) where
+module _ (holding : StepsHold) (leaves : StepsLeaveTheRest) (begins : StartsWhole console_kind)
+    (left : LeavesWhole console_kind) (cables : KeepsCable console_kind) (comes : ComesBySteps console_kind)
+    (near : EndsNear console_kind) where
   module _ (job : WholeJob) (images : List ConsoleImages) (clock : ℕ) (is : IsJob job) (fits : FitJob job images)
       (saved : All HasSavedBytes images) (early : clock ≤ job.cycles) where
     abbrev starts : List Machine
@@ -106,7 +108,9 @@ module _ (holding : StepsHold) (leaves : StepsLeaveTheRest) (begins : StartsWhol
     many = consoles-length job 0 job.consoles images (fit-long job.consoles images fits)
 
     cable : IsCable (start_of job images)
-    cable = cable_of_delays (start_of job images) (omega (arith, many, is.some_consoles)) (omega (arith, many, is.few_consoles)) is.delays.within
+    cable =
+        cable_of_delays (start_of job images) (omega (arith, many, is.some_consoles))
+        (omega (arith, many, is.few_consoles)) is.delays.within
 
     sound : IsSound console_kind (start_of job images)
     sound = (start-can job images is (fit-long job.consoles images fits)).sound
@@ -121,7 +125,8 @@ module _ (holding : StepsHold) (leaves : StepsLeaveTheRest) (begins : StartsWhol
         let few = is.few_cycles in
         record {
           holds =
-              holding.steps dues m (omega (arith, before, early, few)) (record { due = may.taken; ordered = may.ordered }) follows.holds;
+              holding.steps dues m (omega (arith, before, early, few))
+              (record { due = may.taken; ordered = may.ordered }) follows.holds;
           same = same-later start m (stepped dues m) follows.same (leaves dues m follows.holds.backup);
         }
 
@@ -151,7 +156,8 @@ module _ (holding : StepsHold) (leaves : StepsLeaveTheRest) (begins : StartsWhol
         let begun = begin i start from in
         let soon = near (start_of job images) clock i cable sound (start-early i) in
         let at = clock-there (run console_kind (start_of job images) clock).consoles i m there in
-        ready job.cycles start m is.few_cycles (omega (arith, soon, at, early)) begun.few begun.holds follows.holds follows.same
+        ready job.cycles start m is.few_cycles (omega (arith, soon, at, early)) begun.few begun.holds follows.holds
+        follows.same
 
     frozen : CanBeFrozen job.cycles (start_of job images) (reached job images clock)
     frozen =

@@ -38,7 +38,8 @@ registers-hold file is = record {
 
 -- ---- memories
 
-backup-long : (backup : BackupMemory) → IsSoundBackup backup → length (backup_bytes backup) ≡ backup_length (backup_of backup)
+backup-long : (backup : BackupMemory) → IsSoundBackup backup
+    → length (backup_bytes backup) ≡ backup_length (backup_of backup)
 backup-long (InSram bytes) sound = sound
 backup-long (InFlash flash) sound = sound.bytes
 
@@ -60,7 +61,8 @@ unfolding due_count
 due-few clock [] = omega arith
 due-few clock (change ∷ keys) = by_due (nat_le change.clock clock) (due-few clock keys)
   where
-    by_due : (test : Bool) → due_count clock keys ≤ length keys → (if test then 1 + due_count clock keys else 0) ≤ suc (length keys)
+    by_due : (test : Bool) → due_count clock keys ≤ length keys
+        → (if test then 1 + due_count clock keys else 0) ≤ suc (length keys)
     by_due true rest = omega (arith, rest)
     by_due false rest = omega arith
 

@@ -70,7 +70,8 @@ all-same : (one other : Field → ℕ) → ((field : Field) → one field ≡ ot
     → map one fields ≡ map other fields
 all-same one other same [] = refl
 all-same one other same (field ∷ fields) =
-    ap (λ (n : ℕ). n ∷ map one fields) (same field) ∙ ap (λ (ns : List ℕ). other field ∷ ns) (all-same one other same fields)
+    ap (λ (n : ℕ). n ∷ map one fields) (same field)
+    ∙ ap (λ (ns : List ℕ). other field ∷ ns) (all-same one other same fields)
 
 with_values : List ℕ → Machine → ConsoleNumbers
 with_values values m = record {
@@ -91,13 +92,16 @@ memories-rested : (b : Core) → lines_of_memories (core_begun b) ≡ lines_of_m
 memories-rested b =
     ap (λ (io : List ℕ).
     memory_lines_text memory.Io io ++ memory_lines_text memory.Wram (memory_bytes b memory.Wram)
-    ++ memory_lines_text memory.Iwram (memory_bytes b memory.Iwram) ++ memory_lines_text memory.Palette (memory_bytes b memory.Palette)
-    ++ memory_lines_text memory.Vram (memory_bytes b memory.Vram) ++ memory_lines_text memory.Oam (memory_bytes b memory.Oam))
+    ++ memory_lines_text memory.Iwram (memory_bytes b memory.Iwram)
+    ++ memory_lines_text memory.Palette (memory_bytes b memory.Palette)
+    ++ memory_lines_text memory.Vram (memory_bytes b memory.Vram)
+    ++ memory_lines_text memory.Oam (memory_bytes b memory.Oam))
     (io-unseen 512 b (core_begun b) (record { devices = refl; serial = refl }))
 
 state-rested : (m : Machine) → state_file (rested m) ≡ state_file m
 state-rested m =
-    ap (λ (n : ConsoleNumbers). says_text (numbers_say m.board.core.serial.player n) ++ lines_of_memories (core_begun m.board.core))
+    ap (λ (n : ConsoleNumbers). says_text (numbers_say m.board.core.serial.player n)
+    ++ lines_of_memories (core_begun m.board.core))
     (numbers-rested m)
     ∙ ap (λ (lines : List ℕ). says_text (numbers_say m.board.core.serial.player (numbers_of m)) ++ lines)
     (memories-rested m.board.core)

@@ -66,15 +66,16 @@ module _ (steps : StepsHold) (job : WholeJob) (is : IsJob job) where
       let back = hop_within job.delays is.delays.within 1 0 in
       omega (arith, there, back)
 
-  begins-at : (player : ℕ) (c : ConsoleJob) (one : ConsoleImages) → player < length job.consoles → IsConsole c → FitsConsole c one
-      → HasSavedBytes one → Begins (without_limit (console_at job player c one))
+  begins-at : (player : ℕ) (c : ConsoleJob) (one : ConsoleImages) → player < length job.consoles → IsConsole c
+      → FitsConsole c one → HasSavedBytes one → Begins (without_limit (console_at job player c one))
   begins-at player c one seated fine fits saved =
       let few = fine.lines.changes.few in
       let many = length-map c.changes key_state in
       record {
         holds =
             holds-unlimited (console_at job player c one)
-            (steps.begins player (length job.consoles) (round_of job) c.off one.bios one.cart one.save one.backup (key_states c.changes)
+            (steps.begins player (length job.consoles) (round_of job) c.off one.bios one.cart one.save one.backup
+            (key_states c.changes)
             (room_of job c) seated is.few_consoles round-short (saved-has one.save one.backup fits.save saved));
         few = omega (arith, few, many);
       }
@@ -88,7 +89,8 @@ module _ (steps : StepsHold) (job : WholeJob) (is : IsJob job) where
   all-begin player (c ∷ consoles) [] k m many fine fits saved there = absurd fits
   all-begin player (c ∷ consoles) (one ∷ images) zero m many fine fits saved there =
       subst Begins (same (without_limit (console_at job player c one)) m there)
-      (begins-at player c one (omega (arith, many)) (All-head IsConsole c consoles fine) fits.0 (All-head HasSavedBytes one images saved))
+      (begins-at player c one (omega (arith, many)) (All-head IsConsole c consoles fine) fits.0
+      (All-head HasSavedBytes one images saved))
     where
       same : (x y : Machine) → Some x ≡ Some y → x ≡ y
       same x y is = cc

@@ -17,14 +17,15 @@ use Rattle.gba_thaw.specs.Cut.{thaw_of}
 use Rattle.link_mapped.specs.Mapped.{mapped}
 use Rattle.link_order.specs.Cut.{Cut, plain_cut}
 
--- an output of a whole run, from that of its first part and that of its second: what grows is made in both, and state and save are
--- there at the end alone
+-- an output of a whole run, from that of its first part and that of its second: what grows is made in both, and state
+-- and save are there at the end alone
 abbrev pub parts_of : OutKind → List ℕ → List ℕ → List ℕ
 parts_of kind first second = if grows kind then first ++ second else second
 
 -- a console at the end of a run, where it was frozen, and at the end of the run that goes on from there
 pub record ArePartsOf (whole first second : Machine) : Type 0 where
-  pub bytes : (kind : OutKind) → output_bytes kind whole ≡ parts_of kind (output_bytes kind first) (output_bytes kind second)
+  pub bytes : (kind : OutKind)
+      → output_bytes kind whole ≡ parts_of kind (output_bytes kind first) (output_bytes kind second)
   pub summary : summary_line whole ≡ summary_line second
 
 -- the same of the console of a player
@@ -39,8 +40,8 @@ pub record HasParts (first second : Cut Machine) (player : ℕ) (whole : Machine
 abbrev pub end_from : WholeJob → Cut Machine → Cut Machine
 end_from job thawed = run_until job.cycles (plain_cut without_limit thawed)
 
--- The frozen file of a job at a clock is thawed to what was frozen, but for what no step looks at, and each console of the
--- job's run has these parts.
+-- The frozen file of a job at a clock is thawed to what was frozen, but for what no step looks at, and each console of
+-- the job's run has these parts.
 pub record GoesOn (digest : List ℕ) (job : WholeJob) (images : List ConsoleImages) (clock : ℕ) : Type 0 where
   pub made : Cut Machine
   pub thawed : thaw_of digest job.cycles (start_of job images) (frozen_file digest (reached job images clock)) ≡ Ok made
@@ -52,6 +53,6 @@ pub record GoesOn (digest : List ℕ) (job : WholeJob) (images : List ConsoleIma
 -- So it is of every sound job with images that fit its consoles, at each clock up to its cycles.
 abbrev pub FrozenRunsGoOn : Type 0
 FrozenRunsGoOn =
-    (digest : List ℕ) (job : WholeJob) (images : List ConsoleImages) (clock : ℕ) → length digest ≡ 32 → AreBelow 2 digest
-    → IsJob job → FitJob job images → All HasSavedBytes images → clock ≤ job.cycles
+    (digest : List ℕ) (job : WholeJob) (images : List ConsoleImages) (clock : ℕ) → length digest ≡ 32
+    → AreBelow 2 digest → IsJob job → FitJob job images → All HasSavedBytes images → clock ≤ job.cycles
     → GoesOn digest job images clock

@@ -21,6 +21,7 @@ HasSavedBytes images = IfSome images.save AreBytes
 -- Of a sound job with images that fit its consoles, whatever is reached up to its cycles can be frozen.
 abbrev pub RunsCanBeFrozen : Type 0
 RunsCanBeFrozen =
-    (job : WholeJob) (images : List ConsoleImages) (clock : ℕ) → IsJob job → FitJob job images → All HasSavedBytes images
+    (job : WholeJob) (images : List ConsoleImages) (clock : ℕ) → IsJob job → FitJob job images
+    → All HasSavedBytes images
     → clock ≤ job.cycles
     → CanBeFrozen job.cycles (start_of job images) (reached job images clock)

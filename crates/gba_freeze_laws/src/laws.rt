@@ -11,8 +11,8 @@ use gba_thaw_laws::laws::files_thaw_again;
 use link_cut_laws::{cable, end, leave, start, steps};
 use link_mapped::{alike, runs};
 
-/// Whatever the run of a job reaches can be frozen: its consoles keep to the rules by which a frozen file is read, a run can go on from
-/// its signals, and these are few.
+/// Whatever the run of a job reaches can be frozen: its consoles keep to the rules by which a frozen file is read, a
+/// run can go on from its signals, and these are few.
 pub fn runs_can_be_frozen()
     ensures { RunsCanBeFrozen }
 {
@@ -30,9 +30,9 @@ pub fn frozen_files_are_short()
     ensures { FrozenFilesAreShort }
 {}
 
-/// The frozen file of a job's run at a clock is thawed to what was frozen, but for what no step looks at, and the run goes
-/// on from there: of each console, what the whole run makes of frames, samples and words is what was made before and then
-/// what is made since, and the state, the save and the line of the summary are the same at the end.
+/// The frozen file of a job's run at a clock is thawed to what was frozen, but for what no step looks at, and the run
+/// goes on from there: of each console, what the whole run makes of frames, samples and words is what was made before
+/// and then what is made since, and the state, the save and the line of the summary are the same at the end.
 pub fn frozen_runs_go_on()
     ensures { FrozenRunsGoOn }
 {
