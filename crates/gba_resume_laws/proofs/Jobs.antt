@@ -61,30 +61,33 @@ unstated-as c = record {
 so-far-as : (c : ConsoleJob) → StartsAs c (console_so_far c)
 so-far-as c = record { changes = refl; off = refl; frames = refl; samples = refl; words = refl }
 
-pub start-unstated : (job : WholeJob) (images : List ConsoleImages) → start_of (job_unstated job) images ≡ start_of job images
+pub start-unstated : (job : WholeJob) (images : List ConsoleImages)
+    → start_of (job_unstated job) images ≡ start_of job images
 start-unstated job images =
     ap (λ (ms : List Machine). opening ms job.delays)
-    (consoles-same job (job_unstated job) 0 console_unstated job.consoles images refl (length-map job.consoles console_unstated)
-    unstated-as)
+    (consoles-same job (job_unstated job) 0 console_unstated job.consoles images refl
+    (length-map job.consoles console_unstated) unstated-as)
 
 pub start-until : (clock : ℕ) (job : WholeJob) (images : List ConsoleImages)
     → start_of (job_until clock job) images ≡ start_of job images
 start-until clock job images =
     ap (λ (ms : List Machine). opening ms job.delays)
-    (consoles-same job (job_until clock job) 0 console_so_far job.consoles images refl (length-map job.consoles console_so_far)
-    so-far-as)
+    (consoles-same job (job_until clock job) 0 console_so_far job.consoles images refl
+    (length-map job.consoles console_so_far) so-far-as)
 
 -- ---- the outputs
 
 asks-mapped : (kind : OutKind) (change : ConsoleJob → ConsoleJob)
-    → ((c : ConsoleJob) → is_some (line_in kind (change c)) ≡ is_some (line_in kind c)) → (consoles : List ConsoleJob) (k : ℕ)
+    → ((c : ConsoleJob) → is_some (line_in kind (change c)) ≡ is_some (line_in kind c))
+    → (consoles : List ConsoleJob) (k : ℕ)
     → is_some (option_and_then (line_in kind) (slice_get (map change consoles) k))
     ≡ is_some (option_and_then (line_in kind) (slice_get consoles k))
 asks-mapped kind change same [] k = refl
 asks-mapped kind change same (c ∷ consoles) zero = same c
 asks-mapped kind change same (c ∷ consoles) (suc k) = asks-mapped kind change same consoles k
 
-unstated-asks : (kind : OutKind) (c : ConsoleJob) → is_some (line_in kind (console_unstated c)) ≡ is_some (line_in kind c)
+unstated-asks : (kind : OutKind) (c : ConsoleJob)
+    → is_some (line_in kind (console_unstated c)) ≡ is_some (line_in kind c)
 unstated-asks Frames c = unstated-some c.outs.frames
 unstated-asks Samples c = unstated-some c.outs.samples
 unstated-asks Words c = unstated-some c.outs.words
@@ -104,4 +107,5 @@ asked-unstated job place = asks-mapped place.kind console_unstated (unstated-ask
 
 pub asked-until : (clock : ℕ) (job : WholeJob) (place : Place) → grows place.kind ≡ true
     → is_asked (job_until clock job) place ≡ is_asked job place
-asked-until clock job place grown = asks-mapped place.kind console_so_far (so-far-asks place.kind grown) job.consoles place.player
+asked-until clock job place grown =
+    asks-mapped place.kind console_so_far (so-far-asks place.kind grown) job.consoles place.player

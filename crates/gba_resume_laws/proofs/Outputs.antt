@@ -28,17 +28,19 @@ pub record HasOutput (out : List ℕ) (cut : Cut Machine) (outputs : List Output
   pub of_player : slice_get cut.consoles place.player ≡ Some console
   pub written : Contains outputs (record { name = file_at out place; bytes = output_bytes place.kind console })
 
-pub has-output : (out : List ℕ) (job : WholeJob) (cut : Cut Machine) (place : Place) → length cut.consoles ≡ length job.consoles
-    → is_asked job place ≡ true
+pub has-output : (out : List ℕ) (job : WholeJob) (cut : Cut Machine) (place : Place)
+    → length cut.consoles ≡ length job.consoles → is_asked job place ≡ true
     → HasOutput out cut (outputs_of (names_from out 0 (length job.consoles)) job.consoles (files_at job cut)) place
 has-output out job cut place many asked =
     let a = asked-console place.kind (slice_get job.consoles place.player) asked in
     let f = files-give job.consoles cut.consoles place.player a.0 many a.1 in
     let one : PerKind (List ℕ) = files_of (asks_of a.0) f.0 in
     let outputs = outputs_of (names_from out 0 (length job.consoles)) job.consoles (files_at job cut) in
-    let there : Contains outputs (record { name = output_file out place.player place.kind; bytes = at_kind one place.kind }) =
+    let there : Contains outputs
+    (record { name = output_file out place.player place.kind; bytes = at_kind one place.kind }) =
     subst (Contains outputs) (player-file out place.player place.kind one)
-    (outputs-there out 0 (length job.consoles) job.consoles (files_at job cut) place.player place.kind a.0 one refl a.1 f.2 a.2) in
+    (outputs-there out 0 (length job.consoles) job.consoles (files_at job cut) place.player place.kind a.0 one refl a.1
+    f.2 a.2) in
     record {
       console = f.0;
       of_player = f.1;
@@ -83,7 +85,8 @@ same-text [] (n ∷ ns) same = absurd cc
 same-text (m ∷ ms) [] same = absurd cc
 same-text (m ∷ ms) (n ∷ ns) same =
     let head = heads (summary_line m) (summary_line n) (map summary_line ms) (map summary_line ns) same in
-    let rest = same-text ms ns (tails (summary_line m) (summary_line n) (map summary_line ms) (map summary_line ns) same) in
+    let rest =
+    same-text ms ns (tails (summary_line m) (summary_line n) (map summary_line ms) (map summary_line ns) same) in
     flat_map-cons summary_line m ms ∙ (λ i. head i ++ rest i) ∙ sym (flat_map-cons summary_line n ns)
   where
     heads : (x y : List ℕ) (xs ys : List (List ℕ)) → x ∷ xs ≡ y ∷ ys → x ≡ y

@@ -40,7 +40,8 @@ file-short files name most long bytes h =
 -- ---- freeze
 
 -- CLOCK isn't above the job's cycles, JOB isn't too long, and this was written
-pub record IsFrozen (old : Files) (words : FreezeWords) (job : WholeJob) (inputs : List ConsoleInputs) (first : Run) : Type 0
+pub record IsFrozen (old : Files) (words : FreezeWords) (job : WholeJob) (inputs : List ConsoleInputs)
+    (first : Run) : Type 0
   where
     pub bytes : List ℕ
     pub there : old words.run.job ≡ Some bytes
@@ -56,7 +57,8 @@ record IsEarly (words : FreezeWords) (job found : WholeJob) : Type 0 where
 abbrev ok_job : WholeJob → Result WholeJob Cause
 ok_job job = Ok job
 
-clock-early : (words : FreezeWords) (job found : WholeJob) → clock_or_refusal words job ≡ Ok found → IsEarly words job found
+clock-early : (words : FreezeWords) (job found : WholeJob) → clock_or_refusal words job ≡ Ok found
+    → IsEarly words job found
 clock-early words job found h = by (nat_le words.clock job.cycles) refl h where
   by : (test : Bool) → nat_le words.clock job.cycles ≡ test
       → (if test then Ok job else Err (job_refusal words.run (error_at 0 Number))) ≡ Ok found → IsEarly words job found
@@ -66,8 +68,8 @@ clock-early words job found h = by (nat_le words.clock job.cycles) refl h where
   by false late same = absurd cc
 
 pub was-frozen : (old : Files) (words : FreezeWords) (job : WholeJob) (inputs : List ConsoleInputs) (first : Run)
-    → outcome old (freeze_plan words) ≡ Ok first → SaysJob old words.run.job job → outcome old (inputs_plan job.consoles) ≡ Ok inputs
-    → IsFrozen old words job inputs first
+    → outcome old (freeze_plan words) ≡ Ok first → SaysJob old words.run.job job
+    → outcome old (inputs_plan job.consoles) ≡ Ok inputs → IsFrozen old words job inputs first
 was-frozen old words job inputs first h says passes =
     let more = Some (frozen_name words.run.out) in
     let long = job_refusal words.run (error_at 0 Long) in
@@ -76,14 +78,16 @@ was-frozen old words job inputs first h says passes =
     outcome-parts old (file words.run.job longest_job long) (after_job_for None more words.run) parts.0 parts.1 in
     let there = file-there old words.run.job longest_job long read.0 read.1 in
     let said_job =
-    said None more words.run parts.0 (job_of read.0) (judged-ok old (job_or_refusal_for None more words.run read.0) parts.0 read.2) in
+    said None more words.run parts.0 (job_of read.0)
+    (judged-ok old (job_or_refusal_for None more words.run read.0) parts.0 read.2) in
     let one : parts.0 ≡ job =
     said-once old words.run.job parts.0 job (record { bytes = read.0; there = there; says = said_job }) says in
     let clocked = outcome-parts old (judgement (clock_or_refusal words parts.0)) (after_clock words) first parts.2 in
     let early =
     clock-early words parts.0 clocked.0 (judged-ok old (clock_or_refusal words parts.0) clocked.0 clocked.1) in
     let same : clocked.0 ≡ job = early.same ∙ one in
-    let ran = outcome-parts old (inputs_plan clocked.0.consoles) (after_inputs_frozen words clocked.0) first clocked.2 in
+    let ran =
+    outcome-parts old (inputs_plan clocked.0.consoles) (after_inputs_frozen words clocked.0) first clocked.2 in
     let given : ran.0 ≡ inputs =
     ok-is ran.0 inputs
     (sym ran.1 ∙ ap (λ (j : WholeJob). outcome old (inputs_plan j.consoles)) same ∙ passes) in
@@ -106,24 +110,27 @@ was-frozen old words job inputs first h says passes =
 
 -- ---- resume
 
-pub will-resume : (new : Files) (words : ResumeWords) (job : WholeJob) (inputs : List ConsoleInputs) (bytes frozen : List ℕ)
-    (made : Cut Machine) → new words.run.job ≡ Some bytes → length bytes ≤ longest_job → job_of bytes ≡ Ok job
-    → clash_for (Some words.frozen) None words.run job ≡ None → outcome new (inputs_plan job.consoles) ≡ Ok inputs
-    → new words.frozen ≡ Some frozen → length frozen ≤ longest_file → thawed_cut job inputs frozen ≡ Ok made
+pub will-resume : (new : Files) (words : ResumeWords) (job : WholeJob) (inputs : List ConsoleInputs)
+    (bytes frozen : List ℕ) (made : Cut Machine) → new words.run.job ≡ Some bytes → length bytes ≤ longest_job
+    → job_of bytes ≡ Ok job → clash_for (Some words.frozen) None words.run job ≡ None
+    → outcome new (inputs_plan job.consoles) ≡ Ok inputs → new words.frozen ≡ Some frozen → length frozen ≤ longest_file
+    → thawed_cut job inputs frozen ≡ Ok made
     → outcome new (resume_plan words) ≡ Ok (resumed_under words.run.out (job_unstated (filled job inputs)) made)
 will-resume new words job inputs bytes frozen made there short says apart passes frozen_there frozen_short thawed =
     let long = job_refusal words.run (error_at 0 Long) in
     let run = resumed_under words.run.out (job_unstated (filled job inputs)) made in
     let judged : job_or_refusal_for (Some words.frozen) None words.run bytes ≡ Ok job = rw (says, apart) refl in
     let read =
-    outcome-then new (file words.run.job longest_job long) (after_job_for (Some words.frozen) None words.run) bytes (Ok job)
-    (file-gives new words.run.job longest_job long bytes there short)
+    outcome-then new (file words.run.job longest_job long) (after_job_for (Some words.frozen) None words.run) bytes
+    (Ok job) (file-gives new words.run.job longest_job long bytes there short)
     (ok-judged new (job_or_refusal_for (Some words.frozen) None words.run bytes) job judged) in
     let ends : run_or_refusal words job inputs frozen ≡ Ok run = rw thawed refl in
     let thaws =
-    outcome-then new (file words.frozen longest_file (frozen_refusal words (error_at 0 Spelling))) (after_frozen words job inputs)
-    frozen (Ok run)
-    (file-gives new words.frozen longest_file (frozen_refusal words (error_at 0 Spelling)) frozen frozen_there frozen_short)
+    outcome-then new (file words.frozen longest_file (frozen_refusal words (error_at 0 Spelling)))
+    (after_frozen words job inputs) frozen (Ok run)
+    (file-gives new words.frozen longest_file (frozen_refusal words (error_at 0 Spelling)) frozen frozen_there
+    frozen_short)
     (ok-judged new (run_or_refusal words job inputs frozen) run ends) in
-    let ran = outcome-then new (inputs_plan job.consoles) (after_inputs_resumed words job) inputs (Ok run) passes thaws in
+    let ran =
+    outcome-then new (inputs_plan job.consoles) (after_inputs_resumed words job) inputs (Ok run) passes thaws in
     outcome-then new (job_plan_for (Some words.frozen) None words.run) (resumed_plan words) job (Ok run) read ran

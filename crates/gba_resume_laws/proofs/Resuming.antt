@@ -55,11 +55,12 @@ some-same x y same = cc
 bytes_in : Output → List ℕ
 bytes_in output = output.bytes
 
-module _ (freezes : RunsCanBeFrozen) (small : FrozenFilesAreShort) (goes : FrozenRunsGoOn) (old new : Files) (freeze : FreezeWords) (resume : ResumeWords) (words : RunWords) (job : WholeJob)
+module _ (freezes : RunsCanBeFrozen) (small : FrozenFilesAreShort) (goes : FrozenRunsGoOn) (old new : Files)
+    (freeze : FreezeWords) (resume : ResumeWords) (words : RunWords) (job : WholeJob)
     (inputs : List ConsoleInputs) (first run : Run) (froze : outcome old (freeze_plan freeze) ≡ Ok first)
-    (ran : outcome old (whole_run_plan words) ≡ Ok run) (says : SaysJob old freeze.run.job job) (says_whole : SaysJob old words.job job)
-    (passes : outcome old (inputs_plan job.consoles) ≡ Ok inputs) (saved : HaveSavedBytes inputs)
-    (can : CanBeResumed old new freeze resume job first) where
+    (ran : outcome old (whole_run_plan words) ≡ Ok run) (says : SaysJob old freeze.run.job job)
+    (says_whole : SaysJob old words.job job) (passes : outcome old (inputs_plan job.consoles) ≡ Ok inputs)
+    (saved : HaveSavedBytes inputs) (can : CanBeResumed old new freeze resume job first) where
   abbrev whole : WholeJob
   whole = filled job inputs
 
@@ -124,7 +125,8 @@ module _ (freezes : RunsCanBeFrozen) (small : FrozenFilesAreShort) (goes : Froze
   going : GoesOn digest whole images freeze.clock
   going =
       let one = IsDigest-sha256 (log_text (job_unstated whole)) in
-      goes digest whole images freeze.clock one.sized (below-bytes digest (λ place within. one.bytes place)) fine fits saved was.early
+      goes digest whole images freeze.clock one.sized (below-bytes digest (λ place within. one.bytes place)) fine fits
+      saved was.early
 
   thawed : thawed_cut job inputs can.frozen.bytes ≡ Ok going.made
   thawed =
@@ -148,8 +150,8 @@ module _ (freezes : RunsCanBeFrozen) (small : FrozenFilesAreShort) (goes : Froze
 
   comes : outcome new (resume_plan resume) ≡ Ok second
   comes =
-      will-resume new resume job inputs was.bytes can.frozen.bytes going.made (can.same_job ∙ was.there) was.short was.says can.apart
-      (can.same_inputs ∙ passes) can.frozen.there short thawed
+      will-resume new resume job inputs was.bytes can.frozen.bytes going.made (can.same_job ∙ was.there) was.short
+      was.says can.apart (can.same_inputs ∙ passes) can.frozen.there short thawed
 
   last-many : length last.consoles ≡ length plain_job.consoles
   last-many =
@@ -175,7 +177,8 @@ module _ (freezes : RunsCanBeFrozen) (small : FrozenFilesAreShort) (goes : Froze
   frozen-writes place before asked grown there =
       let names = freeze_names freeze.run.out (length frozen_job.consoles) in
       let many =
-      reached-many ∙ sym (length-map whole.consoles console_unstated) ∙ sym (length-map plain_job.consoles console_so_far) in
+      reached-many ∙ sym (length-map whole.consoles console_unstated)
+      ∙ sym (length-map plain_job.consoles console_so_far) in
       let one =
       has-output freeze.run.out frozen_job (reached whole images freeze.clock) place many
       (asked-until freeze.clock plain_job place grown ∙ asked-unstated whole place ∙ asked-whole place asked) in
@@ -241,4 +244,5 @@ module _ (freezes : RunsCanBeFrozen) (small : FrozenFilesAreShort) (goes : Froze
 
 pub go-on : RunsCanBeFrozen → FrozenFilesAreShort → FrozenRunsGoOn → FrozenJobsGoOnAsRun
 go-on freezes small goes old new freeze resume words job inputs first run froze ran says says_whole passes saved can =
-    goes-on-as freezes small goes old new freeze resume words job inputs first run froze ran says says_whole passes saved can
+    goes-on-as freezes small goes old new freeze resume words job inputs first run froze ran says says_whole passes
+    saved can

@@ -31,9 +31,10 @@ pub record HasFrozen (new : Files) (freeze : FreezeWords) (resume : ResumeWords)
   pub last : first.outputs ≡ others ++ record { name = frozen_name freeze.run.out; bytes = bytes } ∷ []
   pub there : new resume.frozen ≡ Some bytes
 
--- New files with which a frozen job can be resumed: JOB and its inputs are as they were when it was frozen, FROZEN is the file that
--- was written, and no file under the new OUT is one that is read.
-pub record CanBeResumed (old new : Files) (freeze : FreezeWords) (resume : ResumeWords) (job : WholeJob) (first : Run) : Type 0 where
+-- New files with which a frozen job can be resumed: JOB and its inputs are as they were when it was frozen, FROZEN is
+-- the file that was written, and no file under the new OUT is one that is read.
+pub record CanBeResumed (old new : Files) (freeze : FreezeWords) (resume : ResumeWords) (job : WholeJob)
+    (first : Run) : Type 0 where
   pub same_job : new resume.run.job ≡ old freeze.run.job
   pub same_inputs : outcome new (inputs_plan job.consoles) ≡ outcome old (inputs_plan job.consoles)
   pub frozen : HasFrozen new freeze resume first
@@ -43,9 +44,10 @@ pub record CanBeResumed (old new : Files) (freeze : FreezeWords) (resume : Resum
 abbrev pub Writes : Run → List ℕ → List ℕ → Type 0
 Writes run name bytes = Contains run.outputs (record { name = name; bytes = bytes })
 
--- The file of an output that the whole run writes is the file of the frozen run, followed by that of the resumed run; a state and a save,
--- which the frozen run doesn't write, are those of the resumed run.
-pub record IsInParts (freeze : FreezeWords) (resume : ResumeWords) (words : RunWords) (first second run : Run) (place : Place)
+-- The file of an output that the whole run writes is the file of the frozen run, followed by that of the resumed run; a
+-- state and a save, which the frozen run doesn't write, are those of the resumed run.
+pub record IsInParts (freeze : FreezeWords) (resume : ResumeWords) (words : RunWords) (first second run : Run)
+    (place : Place)
     : Type 0
   where
     pub before : List ℕ
@@ -54,8 +56,8 @@ pub record IsInParts (freeze : FreezeWords) (resume : ResumeWords) (words : RunW
     pub resumed : Writes second (file_at resume.run.out place) after
     pub ran : Writes run (file_at words.out place) (parts_of place.kind before after)
 
--- The job is resumed, all outputs that it asks for are in these parts, and the summary is that of the whole run but for the line of
--- its log.
+-- The job is resumed, all outputs that it asks for are in these parts, and the summary is that of the whole run but for
+-- the line of its log.
 pub record GoesOnAsRun (new : Files) (freeze : FreezeWords) (resume : ResumeWords) (words : RunWords) (job : WholeJob)
     (first run : Run) : Type 0
   where
