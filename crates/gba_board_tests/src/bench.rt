@@ -155,15 +155,15 @@ impl Bench {
     }
 
     pub(crate) fn halted(&self) -> bool {
-        self.board.core.devices().halted()
+        self.board.core.devices().set().halted()
     }
 
     pub(crate) fn pending(&self) -> bool {
-        self.board.core.devices().pending()
+        self.board.core.devices().set().pending()
     }
 
     pub(crate) fn master(&self) -> bool {
-        self.board.core.devices().master()
+        self.board.core.devices().set().master()
     }
 
     pub(crate) fn is_calm(&self) -> bool {
@@ -181,7 +181,7 @@ impl Bench {
     pub(crate) fn reference(&self, rt: &impl Abort, background: u32) -> Reference {
         assert!(rt; 2 <= background);
         assert!(rt; background <= 3);
-        self.board.core.devices().reference(background)
+        self.board.core.devices().set().reference(background)
     }
 
     pub(crate) fn timer(&self, rt: &impl Abort, number: u32) -> Timer {
@@ -213,17 +213,17 @@ impl Bench {
     /// How many units of a DMA channel are left.
     pub(crate) fn units_left(&self, rt: &impl Abort, channel: u32) -> u32 {
         assert!(rt; channel < 4);
-        self.board.core.devices().channel(channel).left
+        self.board.core.devices().set().channel(channel).left
     }
 
     pub(crate) fn queue(&self, rt: &impl Abort, queue: u32) -> &[u8] {
         assert!(rt; queue < 2);
-        self.board.core.devices().queue(queue)
+        self.board.core.devices().set().queue(queue)
     }
 
     pub(crate) fn queue_current(&self, rt: &impl Abort, queue: u32) -> u8 {
         assert!(rt; queue < 2);
-        self.board.core.devices().queue_current(queue)
+        self.board.core.devices().set().queue_current(queue)
     }
 
     pub(crate) fn memory(&self, name: MemoryName) -> &[u8] {

@@ -199,14 +199,16 @@ fn execute_anew(registers: &mut Registers, core: &mut Core) -> Acted
 fn idles(core: &Core) -> bool
     ensures { result ≡ idles core.now }
 {
-    core.devices().halted() && !core.devices().pending()
+    let devices = core.devices().set();
+    devices.halted() && !devices.pending()
 }
 
 /// Whether an interrupt is entered.
 fn enters(registers: &Registers, core: &Core) -> bool
     ensures { result ≡ enters registers.now core.now }
 {
-    !bit(registers.cpsr(), 7) && core.devices().master() && core.devices().pending()
+    let devices = core.devices().set();
+    !bit(registers.cpsr(), 7) && devices.master() && devices.pending()
 }
 
 /// Enters an interrupt.
@@ -259,7 +261,7 @@ pub(crate) fn act(registers: &mut Registers, core: &mut Core) -> Acted
     ensures left { Leaves (acted registers.old core.old) registers.new core.new result.cycles }
     ensures what { result.what ≡ what_acted registers.old core.old }
 {
-    let Some(unit) = core.devices().next_unit() else {
+    let Some(unit) = core.devices().set().next_unit() else {
         return act_undisturbed(registers, core);
     };
     match core.dma_unit() {

@@ -216,18 +216,18 @@ impl Play {
     }
 
     pub fn is_halted(&self) -> bool {
-        self.board().core.devices().halted()
+        self.board().core.devices().set().halted()
     }
 
     /// Whether an enabled interrupt is requested.
     pub fn is_pending(&self) -> bool {
-        self.board().core.devices().pending()
+        self.board().core.devices().set().pending()
     }
 
     /// Whether a DMA channel's run goes on.
     pub fn is_active<R: Abort>(&self, rt: &R, channel: u32) -> bool {
         assert!(rt; channel < 4);
-        self.board().core.devices().channel(channel).active
+        self.board().core.devices().set().channel(channel).active
     }
 
     /// The line and the dot of the picture.

@@ -62,8 +62,11 @@ fn cycle<R: Abort>(rt: &R, devices: &mut Devices) {
 fn devices_are_made_of_their_parts(rt: HostRuntime) -> Result<(), Fail> {
     let mut devices = made();
     assert_eq!(rt; devices.clock(), 1000);
-    assert_eq!(rt; (devices.waits(), devices.priced()), (0x4317, 0x4317));
-    assert!(rt; devices.halted());
+    assert_eq!(rt;
+        (devices.set().waits(), devices.set().priced()),
+        (0x4317, 0x4317)
+    );
+    assert!(rt; devices.set().halted());
     assert_eq!(rt; devices.half_listed(0x300), 1);
     assert!(rt; !owes(&rt, &mut devices, 6));
     assert!(rt; owes(&rt, &mut devices, 5));

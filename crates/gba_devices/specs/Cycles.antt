@@ -141,6 +141,13 @@ skipped count d = record d {
   place = place_after count d.place;
 }
 
+-- Devices that are behind others, by so many cycles in which nothing happens: all is the same but the clock, the
+-- timers, the tone channels and the picture's place.
+pub record IsBehind (late d : Devices) : Type 0 where
+  pub owed : ℕ
+  pub quietly : owed ≤ quiet late
+  pub passed : skipped owed late ≡ d
+
 -- how many cycles are left before one that makes a pair
 abbrev pub pairless : Devices → ℕ
 pairless d = 511 - d.clock % 512

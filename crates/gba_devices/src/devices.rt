@@ -8,8 +8,7 @@ use crate::place::FARTHEST;
 use crate::registers::{Owner, owner_of};
 use crate::set::DeviceSet;
 use gba_bus::Width;
-use gba_dma::{Channel, Unit};
-use gba_ppu_reg::{PictureRegisters, Position, Reference};
+use gba_ppu_reg::Position;
 use gba_psg::{Tone, Tones};
 use gba_register::load;
 use gba_timer::{Timer, Timers};
@@ -42,15 +41,12 @@ impl Model for Devices {
 }
 
 impl Devices {
-    ghost use Rattle.std.specs.Prelude.{◌≡◌, ℕ, ◌+◌, ◌*◌, ◌≤◌, ◌<◌, ◌^◌, ◌==◌, length, true, false, IfSome, if◌then◌else◌};
-    ghost use Rattle.gba_dma.specs.Channels.{channel_at, next_unit};
-    ghost use Rattle.gba_irq.specs.Interrupts.{is_pending, with_request};
+    ghost use Rattle.std.specs.Prelude.{◌≡◌, ℕ, ◌+◌, ◌*◌, ◌≤◌, ◌<◌, ◌^◌, ◌==◌, true, false, if◌then◌else◌};
+    ghost use Rattle.gba_irq.specs.Interrupts.{with_request};
     ghost use Rattle.gba_ppu_reg.specs.Position.{IsPosition};
-    ghost use Rattle.gba_ppu_reg.specs.Registers.{picture_mode, reference_of};
     ghost use Rattle.gba_psg.specs.Tones.{tone_at};
-    ghost use Rattle.gba_sound.specs.Queues.{queue_at};
     ghost use Rattle.gba_timer.specs.Timers.{timer_at};
-    ghost use Rattle.gba_devices.specs.Cycles.{after_cycles, device_cycle, draws_line, draws_within, makes_pair, makes_within, quiet, skipped};
+    ghost use Rattle.gba_devices.specs.Cycles.{IsBehind, after_cycles, device_cycle, draws_line, draws_within, makes_pair, makes_within};
     ghost use Rattle.gba_devices.specs.Parts.{devices_of};
     ghost use Rattle.gba_devices.specs.Registers.{half_listed, io_loaded, io_written, keyed};
     ghost use Rattle.gba_devices.specs.Samples.{left_sample, right_sample};
@@ -96,55 +92,12 @@ impl Devices {
         self.set.clock() + u64::from(self.debt)
     }
 
-    /// WAITCNT by which the accesses of this step are priced.
-    pub fn priced(&self) -> u16
-        ensures { result ≡ self.now.priced }
-    {
-        self.set.priced()
-    }
-
-    /// WAITCNT as it is.
-    pub fn waits(&self) -> u16
-        ensures { result ≡ self.now.waits }
-    {
-        self.set.waits()
-    }
-
-    /// Whether the console is halted.
-    pub fn halted(&self) -> bool
-        ensures { result ≡ self.now.halted }
-    {
-        self.set.halted()
-    }
-
-    /// IME.
-    pub fn master(&self) -> bool
-        ensures { result ≡ self.now.interrupts.master }
-    {
-        self.set.master()
-    }
-
-    /// Whether an enabled interrupt is requested, whatever IME says.
-    pub fn pending(&self) -> bool
-        ensures { result ≡ is_pending self.now.interrupts }
-    {
-        self.set.pending()
-    }
-
-    /// Whether nothing asks for more than an instruction: no halt, no interrupt that IME lets in, no active DMA channel, and
-    /// no other prices.
+    /// The devices as they last moved. Only their clock, timers, tone channels and place of the picture are behind.
     #[inline]
-    pub fn is_calm(&self) -> bool
-        ensures { result ≡ is_calm self.now }
+    pub fn set(&self) -> &DeviceSet
+        ensures { IsBehind result.now self.now }
     {
-        self.set.is_calm()
-    }
-
-    /// Whether the console is halted, and nothing asks for more than idling: no interrupt, no DMA, and no other prices.
-    pub fn is_idle(&self) -> bool
-        ensures { result ≡ is_idle self.now }
-    {
-        self.set.is_idle()
+        &self.set
     }
 
     #[tactic(auto, unfolding(crate::specs::Cycles::quiet))]
@@ -171,55 +124,6 @@ impl Devices {
         ensures sound { IsPosition result }
     {
         self.set.place_after(self.debt)
-    }
-
-    /// The mode of the picture, from 0 to 7: bits 0 to 2 of DISPCNT.
-    pub fn mode(&self) -> u32
-        ensures { result ≡ picture_mode self.now.picture }
-    {
-        self.set.mode()
-    }
-
-    /// The inner reference point of background 2 or 3.
-    pub fn reference(&self, background: u32) -> Reference
-        requires least { 2 ≤ background }
-        requires most { background ≤ 3 }
-        ensures { result ≡ reference_of background self.now.picture }
-    {
-        self.set.reference(background)
-    }
-
-    /// A DMA channel by its number, which is below 4.
-    pub fn channel(&self, number: u32) -> Channel
-        requires { number < 4 }
-        ensures { result ≡ channel_at number self.now.channels }
-    {
-        self.set.channel(number)
-    }
-
-    /// The current byte of sound queue A or B, which are 0 and 1: a signed sample.
-    pub fn queue_current(&self, queue: u32) -> u8
-        requires { queue < 2 }
-        ensures { result ≡ (queue_at queue self.now.sound).current }
-    {
-        self.set.queue_current(queue)
-    }
-
-    /// The bytes that sound queue A or B holds, oldest first.
-    pub fn queue(&self, queue: u32) -> &[u8]
-        requires { queue < 2 }
-        ensures bytes { result.now ≡ (queue_at queue self.now.sound).bytes }
-        ensures most { length result.now ≤ 32 }
-    {
-        self.set.queue(queue)
-    }
-
-    /// The unit that DMA does next, of the lowest active channel. None exactly where none is active.
-    pub fn next_unit(&self) -> Option<Unit>
-        ensures unit { result ≡ next_unit self.now.channels }
-        ensures channel { IfSome result (λ unit. unit.channel < 4) }
-    {
-        self.set.next_unit()
     }
 
     /// Ends a unit of a DMA channel, which is below 4. Nothing changes where it isn't active.
@@ -516,13 +420,6 @@ impl Devices {
         let mut place = self.place();
         place.cycle();
         place.dot == 1006 && place.line < 160
-    }
-
-    /// The registers of the picture.
-    pub fn picture(&self) -> &PictureRegisters
-        ensures { result.now ≡ self.now.picture }
-    {
-        self.set.picture()
     }
 
     /// One cycle, whatever happens in it.

@@ -12,3 +12,4 @@ mod set;
 
 pub use devices::Devices;
 pub use parts::DeviceParts;
+pub use set::DeviceSet;

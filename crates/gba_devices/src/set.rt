@@ -47,9 +47,9 @@ fn louder(sample: i16, more: i32) -> i16
     sample + more as i16
 }
 
-/// The devices of a board. Contracts see the record of the same numbers.
+/// The devices of a board as they last moved. Contracts see the record of the same numbers.
 #[derive(Debug, Drop)]
-pub(crate) struct DeviceSet {
+pub struct DeviceSet {
     clock: u64,
     timers: Timers,
     queues: Queues,
@@ -163,31 +163,36 @@ impl DeviceSet {
         self.clock += u64::from(cycles);
     }
 
-    pub(crate) fn waits(&self) -> u16
+    /// WAITCNT as it is.
+    pub fn waits(&self) -> u16
         ensures { result ≡ self.now.waits }
     {
         self.waits
     }
 
-    pub(crate) fn priced(&self) -> u16
+    /// WAITCNT by which the accesses of this step are priced.
+    pub fn priced(&self) -> u16
         ensures { result ≡ self.now.priced }
     {
         self.priced
     }
 
-    pub(crate) fn halted(&self) -> bool
+    /// Whether the console is halted.
+    pub fn halted(&self) -> bool
         ensures { result ≡ self.now.halted }
     {
         self.halt.halted
     }
 
-    pub(crate) fn master(&self) -> bool
+    /// IME.
+    pub fn master(&self) -> bool
         ensures { result ≡ self.now.interrupts.master }
     {
         self.interrupts.master
     }
 
-    pub(crate) fn pending(&self) -> bool
+    /// Whether an enabled interrupt is requested, whatever IME says.
+    pub fn pending(&self) -> bool
         ensures { result ≡ is_pending self.now.interrupts }
     {
         self.interrupts.pending()
@@ -200,23 +205,23 @@ impl DeviceSet {
     }
 
     /// A DMA channel by its number, which is below 4.
-    pub(crate) fn channel(&self, number: u32) -> Channel
+    pub fn channel(&self, number: u32) -> Channel
         requires { number < 4 }
         ensures { result ≡ channel_at number self.now.channels }
     {
         self.channels.channel(number)
     }
 
-    /// The current byte of queue A or B, 0 or 1.
-    pub(crate) fn queue_current(&self, queue: u32) -> u8
+    /// The current byte of sound queue A or B, which are 0 and 1: a signed sample.
+    pub fn queue_current(&self, queue: u32) -> u8
         requires { queue < 2 }
         ensures { result ≡ (queue_at queue self.now.sound).current }
     {
         self.queues.current(queue)
     }
 
-    /// The bytes that queue A or B holds, oldest first.
-    pub(crate) fn queue(&self, queue: u32) -> &[u8]
+    /// The bytes that sound queue A or B holds, oldest first.
+    pub fn queue(&self, queue: u32) -> &[u8]
         requires { queue < 2 }
         ensures bytes { result.now ≡ (queue_at queue self.now.sound).bytes }
         ensures most { length result.now ≤ 32 }
@@ -224,8 +229,8 @@ impl DeviceSet {
         self.queues.held(queue)
     }
 
-    /// The unit that DMA does next.
-    pub(crate) fn next_unit(&self) -> Option<Unit>
+    /// The unit that DMA does next, of the lowest active channel. None exactly where none is active.
+    pub fn next_unit(&self) -> Option<Unit>
         ensures unit { result ≡ next_unit self.now.channels }
         ensures channel { IfSome result (λ unit. unit.channel < 4) }
     {
@@ -254,22 +259,22 @@ impl DeviceSet {
         self.place.after(count)
     }
 
-    /// The mode of the picture, from 0 to 7.
-    pub(crate) fn mode(&self) -> u32
+    /// The mode of the picture, from 0 to 7: bits 0 to 2 of DISPCNT.
+    pub fn mode(&self) -> u32
         ensures { result ≡ picture_mode self.now.picture }
     {
         self.picture.mode()
     }
 
     /// The registers of the picture.
-    pub(crate) fn picture(&self) -> &PictureRegisters
+    pub fn picture(&self) -> &PictureRegisters
         ensures { result.now ≡ self.now.picture }
     {
         &self.picture
     }
 
     /// The inner reference point of background 2 or 3.
-    pub(crate) fn reference(&self, background: u32) -> Reference
+    pub fn reference(&self, background: u32) -> Reference
         requires least { 2 ≤ background }
         requires most { background ≤ 3 }
         ensures { result ≡ reference_of background self.now.picture }
@@ -304,8 +309,10 @@ impl DeviceSet {
         self.interrupts.master && self.interrupts.pending()
     }
 
-    /// Whether nothing asks for more than an instruction.
-    pub(crate) fn is_calm(&self) -> bool
+    /// Whether nothing asks for more than an instruction: no halt, no interrupt that IME lets in, no active DMA channel,
+    /// and no other prices.
+    #[inline]
+    pub fn is_calm(&self) -> bool
         ensures { result ≡ is_calm self.now }
     {
         !self.halt.halted
@@ -314,8 +321,8 @@ impl DeviceSet {
             && self.waits == self.priced
     }
 
-    /// Whether it is halted, and nothing asks for more than idling.
-    pub(crate) fn is_idle(&self) -> bool
+    /// Whether the console is halted, and nothing asks for more than idling: no interrupt, no DMA, and no other prices.
+    pub fn is_idle(&self) -> bool
         ensures { result ≡ is_idle self.now }
     {
         self.halt.halted

@@ -79,7 +79,7 @@ impl Core {
         if is_in_io(address) {
             self.store_register(offset_of(address), width, value);
         } else {
-            let mode = self.devices.mode();
+            let mode = self.devices.set().mode();
             self.screen.store(mode, address, width, value);
         }
     }

@@ -38,7 +38,7 @@ fn start_cycles(first: bool) -> u32
 pub(crate) fn is_calm(devices: &Devices, serial: &Serial) -> bool
     ensures { result ≡ (are_calm devices.now && not (has_news serial.now)) }
 {
-    devices.is_calm() && !serial.has_news()
+    devices.set().is_calm() && !serial.has_news()
 }
 
 /// The memories, the devices and the serial unit of a console, which its processor sees as a bus, and the lines that are drawn
@@ -146,15 +146,15 @@ impl Core {
     pub fn is_idle(&self) -> bool
         ensures { result ≡ core_is_idle self.now }
     {
-        self.devices.is_idle() && !self.serial.has_news()
+        self.devices.set().is_idle() && !self.serial.has_news()
     }
 
     /// Begins a step: its accesses take the prices of WAITCNT as it is, and what the last step told is told.
     pub fn begin(&mut self)
         ensures { self.new ≡ core_begun self.old }
     {
-        let value = self.devices.waits();
-        if value != self.devices.priced() {
+        let value = self.devices.set().waits();
+        if value != self.devices.set().priced() {
             self.prices.renew(&WaitControl { value });
         }
         self.devices.begin();
@@ -216,7 +216,7 @@ impl Core {
         ensures cycles { result ≡ option_map (λ unit. unit_cycles unit self.old) (next_unit self.old.devices.channels) }
         ensures core { self.new ≡ option_map_or (λ unit. core_after_unit unit self.old) (next_unit self.old.devices.channels) self.old }
     {
-        match self.devices.next_unit() {
+        match self.devices.set().next_unit() {
             None => None,
             Some(unit) => Some(self.do_unit(unit)),
         }
@@ -300,7 +300,7 @@ impl Core {
         ensures { self.new ≡ record self.old { lines = lines_with self.old } }
     {
         let line = self.devices.place().line;
-        self.screen.draw_line(self.devices.picture(), line);
+        self.screen.draw_line(self.devices.set().picture(), line);
     }
 
     /// How many lines of the present frame are drawn, 160 at most.

@@ -82,7 +82,7 @@ impl Core {
     {
         self.screen.set_lines(lines);
         self.prices.renew(&WaitControl {
-            value: devices.priced(),
+            value: devices.set().priced(),
         });
         self.calm = is_calm(&devices, &serial);
         self.devices = devices;

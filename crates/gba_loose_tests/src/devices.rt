@@ -116,12 +116,13 @@ fn show_what_they_are_made_of(rt: HostRuntime) -> Result<(), Fail> {
         assert_eq!(rt; made.half_listed(2 * offset), half);
     }
     assert_eq!(rt; made.clock(), 123_456);
-    assert!(rt; made.halted() && made.master() && made.pending());
-    assert_eq!(rt; made.waits(), 0x4317);
-    assert_eq!(rt; made.priced(), 0x4317);
-    assert_eq!(rt; made.queue(0), [0x81, 0x82].as_slice());
-    assert_eq!(rt; made.queue_current(0), 0x7F);
-    assert_eq!(rt; made.queue_current(1), 0x80);
+    let set = made.set();
+    assert!(rt; set.halted() && set.master() && set.pending());
+    assert_eq!(rt; set.waits(), 0x4317);
+    assert_eq!(rt; set.priced(), 0x4317);
+    assert_eq!(rt; set.queue(0), [0x81, 0x82].as_slice());
+    assert_eq!(rt; set.queue_current(0), 0x7F);
+    assert_eq!(rt; set.queue_current(1), 0x80);
     assert_eq!(rt; made.sequencer(), 0x1_2345);
     assert_eq!(rt; made.wave_bank(0)[15], 0xF5);
     assert_eq!(rt; made.wave_bank(1)[0], 0xA5);

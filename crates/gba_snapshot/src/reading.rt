@@ -93,10 +93,11 @@ impl<'a> Snapshot<'a> {
         ensures printable { is_printable (Board field) result ≡ true }
     {
         let core = &self.console.board().core;
+        let set = core.devices().set();
         match field {
-            BoardField::QueueCurrent(queue) => u64::from(core.devices().queue_current(queue)),
-            BoardField::ReferenceX(background) => u64::from(core.devices().reference(background).x),
-            BoardField::ReferenceY(background) => u64::from(core.devices().reference(background).y),
+            BoardField::QueueCurrent(queue) => u64::from(set.queue_current(queue)),
+            BoardField::ReferenceX(background) => u64::from(set.reference(background).x),
+            BoardField::ReferenceY(background) => u64::from(set.reference(background).y),
             _ => number_of(core, field),
         }
     }
@@ -137,7 +138,7 @@ impl<'a> Freezing for Snapshot<'a> {
 
     #[tactic(auto, unfolding(crate::specs::Snapshot::numbers_of))]
     fn queue(&self, queue: u32) -> &[u8] {
-        self.console.board().core.devices().queue(queue)
+        self.console.board().core.devices().set().queue(queue)
     }
 
     #[tactic(auto, unfolding(crate::specs::Snapshot::numbers_of))]

@@ -87,10 +87,11 @@ fn parts_thawed(console: &Console, numbers: &Numbers, io: &[u8; 1024]) -> Option
 fn have_left(parts: &BoardParts) -> bool
     ensures { result ≡ have_left_of parts.now.devices.channels }
 {
-    has_left(parts.devices.channel(0))
-        && has_left(parts.devices.channel(1))
-        && has_left(parts.devices.channel(2))
-        && has_left(parts.devices.channel(3))
+    let devices = parts.devices.set();
+    has_left(devices.channel(0))
+        && has_left(devices.channel(1))
+        && has_left(devices.channel(2))
+        && has_left(devices.channel(3))
 }
 
 /// Whether a run can go on from a console of these parts.
