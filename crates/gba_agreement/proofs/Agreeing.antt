@@ -9,8 +9,9 @@ use Rattle.gba_agreement.proofs.Following.{Given}
 use Rattle.gba_agreement.proofs.MultiAgreement.{agreed as agreed-multi}
 use Rattle.gba_agreement.proofs.NormalAgreement.{agreed as agreed-normal}
 
-given-by : {C : Type 0} (kind : NodeKind C) → IsLawful kind → MakesSteps kind → CarriesSignals kind → (view : UnitView C)
-    → HasUnit kind view → (cut : Cut C) (until : ℕ) → AreLinked kind view cut → Given kind view cut until
+given-by : {C : Type 0} (kind : NodeKind C) → IsLawful kind → MakesSteps kind → CarriesSignals kind
+    → (view : UnitView C) → HasUnit kind view → (cut : Cut C) (until : ℕ) → AreLinked kind view cut
+    → Given kind view cut until
 given-by kind law steps signals view has cut until linked = record {
   law = law;
   has = has;
@@ -27,6 +28,7 @@ in-multi kind law steps signals view has cut until k end s start word linked dir
 
 pub in-normal : {C : Type 0} (kind : NodeKind C) → IsLawful kind → MakesSteps kind → CarriesSignals kind
     → UnitsAgreeInNormal kind
-in-normal kind law steps signals view has cut until p q k end m s start x u linked one starts normal end_is met waiting =
-    agreed-normal (given-by kind law steps signals view has cut until linked) p q k end m s start x u one starts normal end_is met
-    waiting
+in-normal kind law steps signals view has cut until p q k end m s start x u linked one starts normal end_is met
+    waiting =
+    agreed-normal (given-by kind law steps signals view has cut until linked) p q k end m s start x u one starts normal
+    end_is met waiting

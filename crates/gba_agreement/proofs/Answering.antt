@@ -152,7 +152,8 @@ is-answered due start u can =
     ap (λ m. is_same m due.signal.mode) can.mode_is ∙ is_same-self due.signal.mode in
     all-three (is_proper_start due start u) (ends_later due start u) (can_answer due u) can.proper
     (at-least (due.arrival + 512) (end_of due start u) can.later)
-    (all-three (not (is_running u)) (is_same (mode_of u) due.signal.mode) (is_multi (mode_of u) || waits u) idle same can.ready)
+    (all-three (not (is_running u)) (is_same (mode_of u) due.signal.mode) (is_multi (mode_of u) || waits u) idle same
+    can.ready)
 
 start-taken : (due : Incoming) (start : Start) (u : SerialUnit) → is_answered due start u ≡ true
     → with_start due (Some start) u ≡ answered due start u
@@ -164,12 +165,14 @@ taken-is : (due : Incoming) (start : Start) (u : SerialUnit) → CanAnswer due s
 unfolding taken
 taken-is due start u can =
     let known = with_known due u in
-    ap (λ test. if test then with_start due due.signal.start (with_reply due.sender due.signal.reply known) else u) can.peer
+    ap (λ test. if test then with_start due due.signal.start (with_reply due.sender due.signal.reply known) else u)
+    can.peer
     ∙ ap (with_start due due.signal.start) (idle-reply due.sender due.signal.reply known can.idle)
     ∙ ap (λ o. with_start due o known) can.starts
     ∙ start-taken due start known (is-answered due start u can)
 
-own_word-known : (mode : LinkMode) (due : Incoming) (u : SerialUnit) → data_word mode (with_known due u) ≡ data_word mode u
+own_word-known : (mode : LinkMode) (due : Incoming) (u : SerialUnit)
+    → data_word mode (with_known due u) ≡ data_word mode u
 own_word-known Normal8 due u = refl
 own_word-known Normal32 due u = refl
 own_word-known Multi due u = refl

@@ -23,7 +23,8 @@ module _ {C : Type 0} {kind : NodeKind C} {view : UnitView C} {cut : Cut C} {unt
   pub told-when : (signal : Signal) (x : C) (dues : List Incoming) → (kind.next x dues).1 ≡ Some signal
       → signal.clock ≡ kind.clock x
   told-when signal x dues tells =
-      let P : Option Signal → Type 0 = λ o. IfSome o (λ s. s.clock ≡ kind.clock x) in subst P tells (given.law.bears x dues)
+      let P : Option Signal → Type 0 = λ o. IfSome o (λ s. s.clock ≡ kind.clock x) in
+      subst P tells (given.law.bears x dues)
 
   none-some : {P : Type 0} (o : Option Signal) (signal : Signal) → o ≡ None → o ≡ Some signal → P
   none-some o signal none some = let both : None ≡ Some signal = sym none ∙ some in cc
@@ -60,11 +61,13 @@ module _ {C : Type 0} {kind : NodeKind C} {view : UnitView C} {cut : Cut C} {unt
       ])
       (given.signals.was_sent k l y es step) (given.steps.sound k l y es step).from_peers
 
-  -- The word of player j comes to player k, which has entered at a clock: by its last signal before the end, or by nothing.
+  -- The word of player j comes to player k, which has entered at a clock: by its last signal before the end,
+  -- or by nothing.
   pub record Comes (c : Course) (k entry j arrival : ℕ) (got : Bool) (word : ℕ) : Type 0 where
     pub wired : IsWiredTo c j
     pub early : arrival < c.end
-    pub past : (l : ℕ) (y : C) (es : List Incoming) → MakesStep kind cut until k l y es → All (IsPast c.end j arrival) es
+    pub past : (l : ℕ) (y : C) (es : List Incoming) → MakesStep kind cut until k l y es
+        → All (IsPast c.end j arrival) es
     pub here : (l : ℕ) (y : C) (es : List Incoming) → MakesStep kind cut until k l y es → entry ≤ kind.was y
         → kind.was y < arrival → arrival ≤ kind.clock y → Fills c j arrival got word es
 
@@ -79,9 +82,9 @@ module _ {C : Type 0} {kind : NodeKind C} {view : UnitView C} {cut : Cut C} {unt
 
   -- a step of k on its course
   place-step : (c : Course) (k entry j arrival : ℕ) (got : Bool) (word : ℕ) → Comes c k entry j arrival got word
-      → (l : ℕ) (y : C) (es : List Incoming) → MakesStep kind cut until k l y es → entry ≤ kind.was y → IsOn c (view.unit y)
-      → (arrival ≤ kind.was y → HasPlace c.mode j got word (view.unit y)) → arrival ≤ kind.clock y
-      → HasPlace c.mode j got word (until_end c.end es (view.unit y))
+      → (l : ℕ) (y : C) (es : List Incoming) → MakesStep kind cut until k l y es → entry ≤ kind.was y
+      → IsOn c (view.unit y) → (arrival ≤ kind.was y → HasPlace c.mode j got word (view.unit y))
+      → arrival ≤ kind.clock y → HasPlace c.mode j got word (until_end c.end es (view.unit y))
   place-step c k entry j arrival got word comes l y es step after on before by_now =
       let sound = given.steps.sound k l y es step in
       let past = comes.past l y es step in
@@ -119,7 +122,8 @@ module _ {C : Type 0} {kind : NodeKind C} {view : UnitView C} {cut : Cut C} {unt
             let filled = place-step c k (kind.clock e.x) j arrival got word comes l x ds back.step entry there.on ih
             (omega (arith, over, was_is)) in
             subst P (sym back.next_is)
-            (place-alike c.mode j got word (until_end c.end ds (view.unit x)) (view.unit (kind.next x ds).0) going.alike filled)
+            (place-alike c.mode j got word (until_end c.end ds (view.unit x)) (view.unit (kind.next x ds).0)
+            going.alike filled)
       ]
 
   -- the step that reaches the end: the unit is on the course, the words have come, and the transfer is recorded
@@ -153,7 +157,8 @@ module _ {C : Type 0} {kind : NodeKind C} {view : UnitView C} {cut : Cut C} {unt
       let later = reaches-later c k e l y es reaches in
       let there = follows given c k e l y es reaches.step later reaches.before in
       let sound = given.steps.sound k l y es reaches.step in
-      let ends_so = ends-once c (kind.was y) (kind.clock y) es (view.unit y) there.on reaches.by_now sound.short sound.due in
+      let ends_so =
+      ends-once c (kind.was y) (kind.clock y) es (view.unit y) there.on reaches.by_now sound.short sound.due in
       record {
         on = until_end-on c es (view.unit y) there.on;
         run = ends_so.run;

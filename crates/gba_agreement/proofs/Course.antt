@@ -167,8 +167,8 @@ reply_in-on : (c : Course) (sender word : ℕ) (run : Running) (u : SerialUnit) 
     → IsOn c (with_reply_in sender word run u)
 reply_in-on c sender word run u runs on =
     either (IsOn c) (is_multi (mode_of u)) _ _ (λ multi. multi_reply-on c sender word run u runs on)
-    (λ normal. either (IsOn c) (run.starter && is_wired sender u) _ _ (λ taken. normal_reply-on c sender word run u runs on)
-    (λ left. on))
+    (λ normal. either (IsOn c) (run.starter && is_wired sender u) _ _
+    (λ taken. normal_reply-on c sender word run u runs on) (λ left. on))
 
 reply_of-is : (sender word : ℕ) (run : Running) (u : SerialUnit) → u.run ≡ Some run
     → with_reply_of sender word u.run u ≡ with_reply_in sender word run u
@@ -203,7 +203,8 @@ taken-on c due u on =
 
 -- a reply leaves the places of other players
 wired-is : (sender j player : ℕ) → j + player ≡ 1 → (sender + player == 1) ≡ true → sender ≡ j
-wired-is sender j player one test = let same : sender + player ≡ 1 = grind (arith, nat_tests) in omega (arith, same, one)
+wired-is sender j player one test = let same : sender + player ≡ 1 = grind (arith, nat_tests) in
+    omega (arith, same, one)
 
 -- in a Normal mode player j is the wired one
 abbrev pub IsWiredTo : Course → ℕ → Type 0
@@ -230,7 +231,8 @@ reply_in-place : (c : Course) (j sender word w : ℕ) (got : Bool) (run : Runnin
 reply_in-place c j sender word w got run u runs on wire apart place =
     let P : SerialUnit → Type 0 = HasPlace c.mode j got w in
     either P (is_multi (mode_of u)) _ _
-    (λ multi. multi_reply-place c.mode j sender word w got run u (ap is_multi (sym on.mode_is) ∙ multi) runs apart place)
+    (λ multi. multi_reply-place c.mode j sender word w got run u (ap is_multi (sym on.mode_is) ∙ multi) runs
+    apart place)
     (λ normal. either P (run.starter && is_wired sender u) _ _
     (λ taken.
     let one : j + c.player ≡ 1 = wire (ap is_multi (sym on.mode_is) ∙ normal) in
@@ -252,8 +254,8 @@ unfolding heard
 taken-place c j w got due u on wire apart place =
     let known = with_known due u in
     taken-by (HasPlace c.mode j got w) due u (is_on-running c (heard due u) (heard-on c due u on))
-    (λ peer. reply-place c j due.sender w due.signal.reply got known (on-alike c u known (alike-known due u) on) wire apart
-    (place-alike c.mode j got w u known (alike-known due u) place))
+    (λ peer. reply-place c j due.sender w due.signal.reply got known (on-alike c u known (alike-known due u) on)
+    wire apart (place-alike c.mode j got w u known (alike-known due u) place))
     (λ other. place)
 
 -- a reply fills its sender's place: in a Normal mode the starter's
@@ -273,7 +275,9 @@ multi_reply-fills c sender word run u runs on multi four =
     let words = on.four_words multi in
     record {
       got_is = get_or-set_same run.got sender true false (omega (arith, long, four));
-      word_is = ap (λ test. if test then slice_index (slice_set u.words sender (cut_word Multi word)) sender else run.word) multi
+      word_is =
+          ap (λ test. if test then slice_index (slice_set u.words sender (cut_word Multi word)) sender else run.word)
+          multi
           ∙ get_or-set_same u.words sender _ 0 (omega (arith, words, four))
           ∙ ap (λ mode. cut_word mode word) (sym (multi-is c.mode multi));
     }
@@ -318,7 +322,8 @@ reply_in-fills c sender word run u runs on by =
     let same : run ≡ on.run = cc in
     either P (is_multi (mode_of u)) _ _ (λ multi. multi_reply-fills c sender word run u runs on (mode ∙ multi) by.four)
     (λ normal.
-    let starter : run.starter ≡ true = ap (λ (r : Running). r.starter) same ∙ on.starter_is ∙ by.starter (mode ∙ normal) in
+    let starter : run.starter ≡ true =
+    ap (λ (r : Running). r.starter) same ∙ on.starter_is ∙ by.starter (mode ∙ normal) in
     let wired : is_wired sender u ≡ true =
     wired-test sender u.player (ap (λ n. sender + n) on.player_is ∙ by.wired (mode ∙ normal)) in
     let goes : (run.starter && is_wired sender u) ≡ true = both-true run.starter (is_wired sender u) starter wired in
@@ -340,7 +345,8 @@ taken-fills c due word u on by reply =
     let filled : P (with_reply_in due.sender word known-on.run known) =
     reply_in-fills c due.sender word known-on.run known known-on.runs known-on by in
     let is : heard due u ≡ with_reply_in due.sender word known-on.run known =
-    ap (λ some. with_reply due.sender some known) reply ∙ reply_of-is due.sender word known-on.run known known-on.runs in
+    ap (λ some. with_reply due.sender some known) reply
+    ∙ reply_of-is due.sender word known-on.run known known-on.runs in
     let other : due.sender ≢ u.player = λ e. by.other (e ∙ on.player_is) in
     let below : due.sender < u.count = omega (arith, by.peer, on.count_is) in
     taken-by P due u (is_on-running c (heard due u) (heard-on c due u on)) (λ peer. subst P (sym is) filled)

@@ -62,7 +62,8 @@ any xs k d below = tt
 
 pub until_end-on : (c : Course) (dues : List Incoming) (u : SerialUnit) → IsOn c u → IsOn c (until_end c.end dues u)
 until_end-on c dues u on =
-    until_end-keeps c.end (IsOn c) (λ due. Unit {0}) (λ due v early one here. taken-on c due v here) dues u (any dues) on
+    until_end-keeps c.end (IsOn c) (λ due. Unit {0}) (λ due v early one here. taken-on c due v here) dues u
+    (any dues) on
 
 -- no signal of player j comes before the end
 abbrev pub IsSilent : ℕ → ℕ → Incoming → Type 0
@@ -107,14 +108,16 @@ pub hear-is : (c : Course) (clock : ℕ) (dues : List Incoming) (u : SerialUnit)
 hear-is c clock dues u on before early =
     let there = until_end-on c dues u on in
     ap (ended clock) (fed-is c dues u on early)
-    ∙ ended-before clock (until_end c.end dues u) there.run there.runs (before-end c clock (until_end c.end dues u) there before)
+    ∙ ended-before clock (until_end c.end dues u) there.run there.runs
+    (before-end c clock (until_end c.end dues u) there before)
 
 -- no transfer ends by a clock
 abbrev pub EndsAfter : ℕ → Option Running → Type 0
 EndsAfter clock None = Unit {0}
 EndsAfter clock (Some run) = clock < run.end
 
-ended_of-after : (clock : ℕ) (run : Option Running) (u : SerialUnit) → u.run ≡ run → EndsAfter clock run → ended clock u ≡ u
+ended_of-after : (clock : ℕ) (run : Option Running) (u : SerialUnit) → u.run ≡ run → EndsAfter clock run
+    → ended clock u ≡ u
 ended_of-after clock None u is after = ap (λ some. ended_of clock some u) is
 ended_of-after clock (Some run) u is after = ended-before clock u run is after
 
@@ -123,7 +126,8 @@ ending_of-after : (clock : ℕ) (run : Option Running) (u : SerialUnit) → u.ru
 ending_of-after clock None u is after = ap (λ some. ending_of clock some u) is
 ending_of-after clock (Some run) u is after = ending-before clock u run is after
 
-earlier-after : (arrival clock : ℕ) (run : Option Running) → arrival ≤ clock → EndsAfter clock run → EndsAfter arrival run
+earlier-after : (arrival clock : ℕ) (run : Option Running) → arrival ≤ clock → EndsAfter clock run
+    → EndsAfter arrival run
 earlier-after arrival clock None le after = tt
 earlier-after arrival clock (Some run) le after = omega (arith, le, after)
 
@@ -169,8 +173,8 @@ taken-after : (was clock : ℕ) (due : Incoming) (u : SerialUnit) → was < due.
 unfolding taken
 taken-after was clock due u arrived short after =
     either (λ v. EndsAfter clock v.run) (is_peer due.sender u) _ _
-    (λ peer. start-after was clock due due.signal.start (with_reply due.sender due.signal.reply (with_known due u)) arrived short
-    (reply-after clock due.sender due.signal.reply (with_known due u) after))
+    (λ peer. start-after was clock due due.signal.start (with_reply due.sender due.signal.reply (with_known due u))
+    arrived short (reply-after clock due.sender due.signal.reply (with_known due u) after))
     (λ other. after)
 
 -- so nothing more ends in a step after an end
@@ -181,7 +185,8 @@ ends-none was clock (one ∷ dues) u short due after =
     let here = All-head (IsDue was clock) one dues due in
     let still = earlier-after one.arrival clock u.run here.by_now after in
     ap (λ none. (option_to_list none ++ fed_ends dues (taken one (ended one.arrival u)))
-    ++ option_to_list (ending clock (fed dues (taken one (ended one.arrival u))))) (ending_of-after one.arrival u.run u refl still)
+    ++ option_to_list (ending clock (fed dues (taken one (ended one.arrival u)))))
+    (ending_of-after one.arrival u.run u refl still)
     ∙ ap (λ v. ends clock dues (taken one v)) (ended_of-after one.arrival u.run u refl still)
     ∙ ends-none was clock dues (taken one u) short (All-tail (IsDue was clock) one dues due)
     (taken-after was clock one u here.after_last short after)
@@ -197,7 +202,8 @@ ending-now : (clock : ℕ) (run : Running) (u : SerialUnit) → u.run ≡ Some r
 ending-now clock run u runs reached =
     ap (λ some. ending_of clock some u) runs ∙ rw (late-test run.end clock reached) refl
 
-finished-idle : (clock : ℕ) (run : Running) (u : SerialUnit) → run.end ≤ clock → (ended_of clock (Some run) u).run ≡ None
+finished-idle : (clock : ℕ) (run : Running) (u : SerialUnit) → run.end ≤ clock
+    → (ended_of clock (Some run) u).run ≡ None
 unfolding finished
 finished-idle clock run u reached = rw (late-test run.end clock reached) refl
 
@@ -216,7 +222,8 @@ ends-once c was clock [] u on reached short due = record {
 ends-once c was clock (one ∷ dues) u on reached short due =
     let here = All-head (IsDue was clock) one dues due in
     let rest = All-tail (IsDue was clock) one dues due in
-    let more : Option Transfer → List Transfer = λ o. (option_to_list o ++ fed_ends dues (taken one (ended one.arrival u)))
+    let more : Option Transfer → List Transfer =
+    λ o. (option_to_list o ++ fed_ends dues (taken one (ended one.arrival u)))
     ++ option_to_list (ending clock (fed dues (taken one (ended one.arrival u)))) in
     elim (cases_Bool (nat_le c.end one.arrival)) [
       | inl e ↦

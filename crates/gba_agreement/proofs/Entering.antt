@@ -72,7 +72,8 @@ record IsPosted (o : Option Start) (start : Start) : Type 0 where
 
 posted : (o : Option Start) (start : Start) → option_map start_told o ≡ Some start → IsPosted o start
 posted None start e = cc
-posted (Some one) start e = record { posted = one; is = refl; told = let both : Some (start_told one) ≡ Some start = e in cc }
+posted (Some one) start e =
+    record { posted = one; is = refl; told = let both : Some (start_told one) ≡ Some start = e in cc }
 
 -- the side of a player in a transfer of this end, and the end that a start has
 abbrev pub course_of : {C : Type 0} → Cut C → LinkMode → ℕ → Bool → ℕ → ℕ → Course
@@ -127,8 +128,8 @@ module _ {C : Type 0} {kind : NodeKind C} {view : UnitView C} {cut : Cut C} {unt
         | inr e ↦ let none : None ≡ Some s = sym (given.has.rests x dues e).told_is ∙ tells in cc
       ]
 
-  starter-on : (p end clock : ℕ) (s : Signal) (start : Start) (v : SerialUnit) → HasBegun clock start v → s.mode ≡ mode_of v
-      → s.clock ≡ clock → IsSeat cut p v → end ≡ end_from cut s.mode start s.clock
+  starter-on : (p end clock : ℕ) (s : Signal) (start : Start) (v : SerialUnit) → HasBegun clock start v
+      → s.mode ≡ mode_of v → s.clock ≡ clock → IsSeat cut p v → end ≡ end_from cut s.mode start s.clock
       → IsOn (course_of cut s.mode end true start.word p) v
   starter-on p end clock s start v begun mode_is clock_is seat end_is =
       subst (λ c. IsOn c v)
@@ -156,7 +157,8 @@ module _ {C : Type 0} {kind : NodeKind C} {view : UnitView C} {cut : Cut C} {unt
       hear-start clock dues (view.unit x) ∙ sym (ap (λ (u : SerialUnit). u.start) (given.has.quiet x)) in
       let has : HasBegun clock one.posted v =
       (subst (StartsAs clock one.posted) (sym touches.after_is)
-      (all_written-as clock touches.writes one.posted heard (few p heard starts.step.player heard-seat) none)).has one.is in
+      (all_written-as clock touches.writes one.posted heard (few p heard starts.step.player heard-seat) none)).has
+      one.is in
       let same : one.posted ≡ start =
       sym (start-small one.posted has.speed_small (word-small (mode_of v) one.posted.word has.word_small)) ∙ one.told in
       let begun : HasBegun clock start v = subst (λ z. HasBegun clock z v) same has in
@@ -199,7 +201,8 @@ module _ {C : Type 0} {kind : NodeKind C} {view : UnitView C} {cut : Cut C} {unt
     pub others : is_multi s.mode ≡ true → (j : ℕ) → j ≢ 0 → j ≢ i → j < 4 → HasPlace Multi j false 0xffff v
     pub sends : SendsReply kind entry.x entry.dues word
 
-  pub met-seat : (p i m : ℕ) (x : C) (u : SerialUnit) (s : Signal) → Meets kind view cut until p s i m x u → IsSeat cut i u
+  pub met-seat : (p i m : ℕ) (x : C) (u : SerialUnit) (s : Signal) → Meets kind view cut until p s i m x u
+      → IsSeat cut i u
   met-seat p i m x u s met =
       subst (IsSeat cut i) (sym met.unit_is)
       (ended-seat cut i (s.clock + hop cut p i) (fed met.earlier (view.unit x))
@@ -207,7 +210,8 @@ module _ {C : Type 0} {kind : NodeKind C} {view : UnitView C} {cut : Cut C} {unt
 
   pub answers : (p i m end : ℕ) (x : C) (u : SerialUnit) (s : Signal) (start : Start)
       → Meets kind view cut until p s i m x u → view.is_on x ≡ true → CanAnswer (incoming (hop cut p i) p s) start u
-      → end ≡ end_from cut s.mode start s.clock → start.word < 2 ^ word_width s.mode → Answers p i end s start (own_word u)
+      → end ≡ end_from cut s.mode start s.clock → start.word < 2 ^ word_width s.mode
+      → Answers p i end s start (own_word u)
   answers p i m end x u s start met is_on can end_is small =
       let one = incoming (hop cut p i) p s in
       let unit = view.unit x in
@@ -229,7 +233,8 @@ module _ {C : Type 0} {kind : NodeKind C} {view : UnitView C} {cut : Cut C} {unt
       let fed_is : fed met.dues unit ≡ fed met.later v =
       ap (λ list. fed list unit) met.split ∙ fed-append met.earlier (one ∷ met.later) unit
       ∙ ap (λ z. fed met.later (taken one z)) (sym met.unit_is) in
-      let going = goes-from given c x met.dues met.later v is_on fed_is v_on soon (all-after Due met.earlier one met.later due) in
+      let going =
+      goes-from given c x met.dues met.later v is_on fed_is v_on soon (all-after Due met.earlier one met.later due) in
       let cut_is : cut_word (mode_of u) start.word ≡ start.word =
       ap (λ z. cut_word z start.word) can.mode_is ∙ cut-small s.mode start.word small in
       record {
@@ -253,7 +258,9 @@ module _ {C : Type 0} {kind : NodeKind C} {view : UnitView C} {cut : Cut C} {unt
         alike = going.alike;
         from_starter = subst (λ z. HasPlace z p true start.word v) can.mode_is
             (subst (λ z. HasPlace (mode_of u) p true z v) cut_is has.from_starter);
-        own = λ multi. subst (λ n. HasPlace Multi n true (own_word u) v) seat.player (has.own (ap is_multi can.mode_is ∙ multi));
+        own =
+            λ multi. subst (λ n. HasPlace Multi n true (own_word u) v) seat.player
+            (has.own (ap is_multi can.mode_is ∙ multi));
         others = λ multi j first self below. has.others (ap is_multi can.mode_is ∙ multi) j first
             (λ e. self (e ∙ seat.player)) below;
         sends = going.replies (own_word u) has.reply;

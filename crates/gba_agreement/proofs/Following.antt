@@ -38,8 +38,8 @@ pub record Fills (c : Course) (j arrival : ℕ) (got : Bool) (word : ℕ) (dues 
   pub fills : (v : SerialUnit) → IsOn c v → HasPlace c.mode j got word (taken one v)
 
 -- after it no other signal of j comes before the end
-pub silent-after : (end j arrival : ℕ) (one other : Incoming) → one.sender ≡ j → one.arrival ≡ arrival → Precedes one other
-    → IsPast end j arrival other → IsSilent end j other
+pub silent-after : (end j arrival : ℕ) (one other : Incoming) → one.sender ≡ j → one.arrival ≡ arrival
+    → Precedes one other → IsPast end j arrival other → IsSilent end j other
 silent-after end j arrival one other from at (inl less) past own =
     elim (past own) [ inl early ↦ absurd (omega (arith, at, less, early)) | inr late ↦ late ]
 silent-after end j arrival one other from at (inr tie) past own = absurd (omega (arith, from, own, tie.1))
@@ -48,7 +48,8 @@ early-before : (end : ℕ) (one other : Incoming) → one.arrival < end → Prec
 early-before end one other early (inl less) = omega (arith, early, less)
 early-before end one other early (inr tie) = omega (arith, early, tie.0)
 
-pub both-all : {X : Type 0} (P Q R : X → Type 0) (xs : List X) → ((x : X) → P x → Q x → R x) → All P xs → All Q xs → All R xs
+pub both-all : {X : Type 0} (P Q R : X → Type 0) (xs : List X) → ((x : X) → P x → Q x → R x) → All P xs → All Q xs
+    → All R xs
 both-all P Q R xs f ps qs k d below = f _ (ps k d below) (qs k d below)
 
 -- so a list with that signal fills j's place
@@ -74,11 +75,12 @@ place-fill c j arrival w got dues u on wire soon order past has =
     subst (All (IsPast c.end j arrival)) has.split past in
     subst (λ list. HasPlace c.mode j got w (until_end c.end list u)) (sym has.split)
     (filled-by c j w got one has.earlier has.later u on wire early
-    (All-weaker (λ x. Precedes x one) (λ due. due.arrival < c.end) (λ x before. early-before c.end one x early before) has.earlier
-    (pairs-before Precedes has.earlier one has.later ordered))
+    (All-weaker (λ x. Precedes x one) (λ due. due.arrival < c.end) (λ x before. early-before c.end one x early before)
+    has.earlier (pairs-before Precedes has.earlier one has.later ordered))
     (both-all (Precedes one) (IsPast c.end j arrival) (IsSilent c.end j) has.later
     (λ x before far. silent-after c.end j arrival one x has.from has.at before far)
-    (pairs-after Precedes has.earlier one has.later ordered) (all-after (IsPast c.end j arrival) has.earlier one has.later pasts))
+    (pairs-after Precedes has.earlier one has.later ordered)
+    (all-after (IsPast c.end j arrival) has.earlier one has.later pasts))
     has.fills)
 
 -- what all of this rests on: the laws of the consoles, of their units, and of the trace
@@ -103,7 +105,8 @@ module _ {C : Type 0} {kind : NodeKind C} {view : UnitView C} {cut : Cut C} {unt
     pub alike : IsAlike w (view.unit (kind.next x dues).0)
     pub replies : (word : ℕ) → v.reply ≡ Some word → SendsReply kind x dues word
 
-  have-arrived : (was clock : ℕ) (dues : List Incoming) → All (IsDue was clock) dues → All (λ due. due.arrival ≤ clock) dues
+  have-arrived : (was clock : ℕ) (dues : List Incoming) → All (IsDue was clock) dues
+      → All (λ due. due.arrival ≤ clock) dues
   have-arrived was clock dues due =
       All-weaker (IsDue was clock) (λ due. due.arrival ≤ clock) (λ one is. is.by_now) dues due
 
@@ -136,7 +139,8 @@ module _ {C : Type 0} {kind : NodeKind C} {view : UnitView C} {cut : Cut C} {unt
             (alike-then w (all_written clock writes w) (silent (all_written clock writes w)) written
             (alike-silent (all_written clock writes w)));
         replies = λ word posted.
-            let told = outgoing-replies clock word (all_written clock writes (hear clock later v)) (going.reply ∙ posted) in
+            let told =
+            outgoing-replies clock word (all_written clock writes (hear clock later v)) (going.reply ∙ posted) in
             record {
               signal = told.signal;
               tells = touches.told_is ∙ ap (outgoing clock) after ∙ told.told_is;
@@ -158,13 +162,15 @@ module _ {C : Type 0} {kind : NodeKind C} {view : UnitView C} {cut : Cut C} {unt
       let due = (given.steps.sound i m x dues step).due in
       let there = goes-from c x dues dues (view.unit x) is_on refl on before due in
       let end_is = on.end_is in
-      let quiet = goes.tells_nothing clock dues touches.writes (view.unit x) on.run on.runs (omega (arith, before, end_is))
+      let quiet =
+      goes.tells_nothing clock dues touches.writes (view.unit x) on.run on.runs (omega (arith, before, end_is))
       (have-arrived (kind.was x) clock dues due) in
       record {
         on = there.is_on;
         alike = there.alike;
         tells = touches.told_is ∙ ap (outgoing clock) touches.after_is
-            ∙ ap (λ u. outgoing clock (all_written clock touches.writes (hear clock dues u))) (sym (given.has.quiet x)) ∙ quiet;
+            ∙ ap (λ u. outgoing clock (all_written clock touches.writes (hear clock dues u))) (sym (given.has.quiet x))
+            ∙ quiet;
       }
 
   -- a step that leaves its console on a course that ends later
@@ -214,8 +220,8 @@ module _ {C : Type 0} {kind : NodeKind C} {view : UnitView C} {cut : Cut C} {unt
       })
 
   -- a console after the entry comes of it, or of a later step
-  pub comes-of : (c : Course) (i : ℕ) (e : Enters c i) (l : ℕ) (y : C) (back : ComesOfStep kind cut until i l y) → e.m < suc l
-      → (y ≡ (kind.next e.x e.dues).0) ⊎ (e.m < l)
+  pub comes-of : (c : Course) (i : ℕ) (e : Enters c i) (l : ℕ) (y : C) (back : ComesOfStep kind cut until i l y)
+      → e.m < suc l → (y ≡ (kind.next e.x e.dues).0) ⊎ (e.m < l)
   comes-of c i e l y back later =
       elim (same_or_apart l e.m) [
         | inl same ↦
@@ -246,9 +252,12 @@ module _ {C : Type 0} {kind : NodeKind C} {view : UnitView C} {cut : Cut C} {unt
       ]
 
   -- and tells nothing
-  pub silent-on : (c : Course) (i : ℕ) (e : Enters c i) (l : ℕ) (y : C) (es : List Incoming) → MakesStep kind cut until i l y es
-      → kind.clock e.x < kind.clock y → kind.clock y < c.end → (kind.next y es).1 ≡ None
+  pub silent-on : (c : Course) (i : ℕ) (e : Enters c i) (l : ℕ) (y : C) (es : List Incoming)
+      → MakesStep kind cut until i l y es → kind.clock e.x < kind.clock y → kind.clock y < c.end
+      → (kind.next y es).1 ≡ None
   silent-on c i e l y es step later before =
       let rises = (given.steps.sound i l y es step).rises in
-      let there = follows c i e l y es step (clock-later i e.m l e.x y e.dues es e.step step later) (omega (arith, before, rises)) in
+      let there =
+      follows c i e l y es step (clock-later i e.m l e.x y e.dues es e.step step later)
+      (omega (arith, before, rises)) in
       (goes-on c i l y es step there.is_on there.on before).tells

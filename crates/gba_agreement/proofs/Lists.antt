@@ -61,4 +61,5 @@ stands-after (x ∷ xs) one later [] other rest same order before =
     let there : Precedes x one = all-here (Precedes x) xs one later (pairs_head Precedes x (xs ++ one ∷ later) order) in
     absurd (not-before one other before (subst (λ z. Precedes z one) is there))
 stands-after (x ∷ xs) one later (e ∷ earlier) other rest same order before =
-    stands-after xs one later earlier other rest (ap rest-of same) (pairs_tail Precedes x (xs ++ one ∷ later) order) before
+    stands-after xs one later earlier other rest (ap rest-of same) (pairs_tail Precedes x (xs ++ one ∷ later) order)
+    before

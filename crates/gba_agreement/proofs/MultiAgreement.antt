@@ -38,9 +38,11 @@ speed-test : (speed : ℕ) → speed < 4 → nat_lt speed 4 ≡ true
 speed-test speed small = grind (arith, nat_tests)
 
 proper-multi : (mode : LinkMode) (start : Start) (wired : Bool) → mode ≡ Multi → start.speed < 4
-    → (if is_multi mode then (0 == 0) && nat_lt start.speed 4 else is_normal mode && wired && nat_lt start.speed 2) ≡ true
+    → (if is_multi mode then (0 == 0) && nat_lt start.speed 4 else is_normal mode && wired && nat_lt start.speed 2)
+    ≡ true
 proper-multi mode start wired multi small =
-    ap (λ m. if is_multi m then (0 == 0) && nat_lt start.speed 4 else is_normal m && wired && nat_lt start.speed 2) multi
+    ap (λ m. if is_multi m then (0 == 0) && nat_lt start.speed 4 else is_normal m && wired && nat_lt start.speed 2)
+    multi
     ∙ speed-test start.speed small
 
 -- how long a transfer lasts
@@ -52,10 +54,11 @@ own-sends : (u : SerialUnit) (word : ℕ) → mode_of u ≡ Multi → field u.se
 own-sends u word mode sends = ap (λ m. data_word m u) mode ∙ sends
 
 module _ {C : Type 0} {kind : NodeKind C} {view : UnitView C} {cut : Cut C} {until : ℕ}
-    (given : Given kind view cut until) (direct : HasDirectWays cut) (n end : ℕ) (s : Signal) (start : Start) (word : ℕ → ℕ)
-    (starts : StartsTransfer kind cut until 0 n s start) (multi : s.mode ≡ Multi) (first_is : word 0 ≡ start.word)
-    (end_is : end ≡ multi_end (count cut) start.speed s.clock)
-    (ready : (i m : ℕ) (x : C) (u : SerialUnit) → 0 < i → Meets kind view cut until 0 s i m x u → IsReady view (word i) x u)
+    (given : Given kind view cut until) (direct : HasDirectWays cut) (n end : ℕ) (s : Signal) (start : Start)
+    (word : ℕ → ℕ) (starts : StartsTransfer kind cut until 0 n s start) (multi : s.mode ≡ Multi)
+    (first_is : word 0 ≡ start.word) (end_is : end ≡ multi_end (count cut) start.speed s.clock)
+    (ready : (i m : ℕ) (x : C) (u : SerialUnit) → 0 < i → Meets kind view cut until 0 s i m x u
+    → IsReady view (word i) x u)
   where
     is-multi : is_multi s.mode ≡ true
     is-multi = ap is_multi multi
@@ -108,7 +111,8 @@ module _ {C : Type 0} {kind : NodeKind C} {view : UnitView C} {cut : Cut C} {unt
     party i some below late =
         let apart : 0 ≢ i = λ same. zero-apart i some (sym same) in
         let way = near 0 i (omega (arith, some, below)) below apart in
-        let took = meets given 0 n starts.x starts.dues s starts.step starts.tells i below apart (omega (arith, way, late)) in
+        let took =
+        meets given 0 n starts.x starts.dues s starts.step starts.tells i below apart (omega (arith, way, late)) in
         let u = took.u in
         let is = ready i took.m took.x u some took.met in
         let small_start : start.word < 2 ^ word_width s.mode =
@@ -176,8 +180,8 @@ module _ {C : Type 0} {kind : NodeKind C} {view : UnitView C} {cut : Cut C} {unt
     starter-keeps : (j : ℕ) (got : Bool) (w : ℕ) → NeverTakes given 0 j → HasPlace Multi j got w open-it.v
         → Finds given s.mode end 0 j got w
     starter-keeps j got w never place =
-        kept-at-end given (course_of cut s.mode end true start.word 0) 0 open-it.entry j got w (no-wire 0 j true start.word) never
-        (began-at j got w place)
+        kept-at-end given (course_of cut s.mode end true start.word 0) 0 open-it.entry j got w
+        (no-wire 0 j true start.word) never (began-at j got w place)
 
     starter-own : Finds given s.mode end 0 0 true start.word
     starter-own =
@@ -221,9 +225,10 @@ module _ {C : Type 0} {kind : NodeKind C} {view : UnitView C} {cut : Cut C} {unt
       answerer-hears j some below apart one =
           let heard = heard-by i j false (word i) below apart in
           let early = in-time j i one some below below_i apart in
-          from-answer given 0 end s start open-it j (word j) one.answer one.small i false (word i) self.answer.entry apart heard early
-          (answer-in-step given 0 end s start open-it j (word j) one.answer one.small i (word i) self.answer apart some heard
-          (not-before j i one some below some_i below_i apart) early)
+          from-answer given 0 end s start open-it j (word j) one.answer one.small i false (word i) self.answer.entry
+          apart heard early
+          (answer-in-step given 0 end s start open-it j (word j) one.answer one.small i (word i) self.answer apart
+          some heard (not-before j i one some below some_i below_i apart) early)
 
       answerer-finds : Parties → (j : ℕ) → j < count cut → Finds given s.mode end i j true (word j)
       answerer-finds parties j below =
@@ -295,6 +300,6 @@ module _ {C : Type 0} {kind : NodeKind C} {view : UnitView C} {cut : Cut C} {unt
               let some : 0 < i = omega (arith, other) in
               let below = reaches.step.player in
               let self = parties i some below in
-              recorded i false (word i) self.answer.entry (answerer-finds i some below self parties) (answerer-blank i some below self) m x
-              dues reaches
+              recorded i false (word i) self.answer.entry (answerer-finds i some below self parties)
+              (answerer-blank i some below self) m x dues reaches
         ]

@@ -48,7 +48,8 @@ all-three false b c one two three = one
 
 proper-normal : (mode : LinkMode) (p : ℕ) (start : Start) (wired : Bool) → is_normal mode ≡ true → wired ≡ true
     → start.speed < 2
-    → (if is_multi mode then (p == 0) && nat_lt start.speed 4 else is_normal mode && wired && nat_lt start.speed 2) ≡ true
+    → (if is_multi mode then (p == 0) && nat_lt start.speed 4 else is_normal mode && wired && nat_lt start.speed 2)
+    ≡ true
 proper-normal mode p start wired normal is small =
     ap (λ test. if test then (p == 0) && nat_lt start.speed 4 else is_normal mode && wired && nat_lt start.speed 2)
     (normal-is mode normal)
@@ -101,7 +102,9 @@ module _ {C : Type 0} {kind : NodeKind C} {view : UnitView C} {cut : Cut C} {unt
     lasts : s.clock + (hop cut p q + hop cut q p) + 512 ≤ end
     lasts =
         let round = round-is (hop cut) p q one in
-        let long = starts_in_time.normal (hop cut 0 1 + hop cut 1 0) s.mode start.speed s.clock (hop cut 0 1 + hop cut 1 0) (omega arith) in
+        let long =
+        starts_in_time.normal (hop cut 0 1 + hop cut 1 0) s.mode start.speed s.clock (hop cut 0 1 + hop cut 1 0)
+        (omega arith) in
         omega (arith, round, long, end_is)
 
     open-it : Opens given p end s start
@@ -150,7 +153,8 @@ module _ {C : Type 0} {kind : NodeKind C} {view : UnitView C} {cut : Cut C} {unt
           starter = λ normal. refl;
           wired = λ normal. omega (arith, one);
         } in
-        from-answer given p end s start open-it q (own_word u) answer small p true start.word open-it.entry other-apart heard
+        from-answer given p end s start open-it q (own_word u) answer small p true start.word open-it.entry
+        other-apart heard
         (omega (arith, lasts, before, short)) (λ by_now. absurd (omega (arith, by_now, begins, is, way)))
 
     other-finds : Finds given s.mode end q p true start.word

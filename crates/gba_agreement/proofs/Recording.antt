@@ -45,7 +45,8 @@ place-is word count u has j four =
 words-are : (word : ℕ → ℕ) (count : ℕ) (u : SerialUnit) → length u.words ≡ 4 → HasWords word count u
     → u.words ≡ words_of word count
 words-are word count u four has =
-    ext_get_or 0 u.words (words_of word count) four (λ i below. place-is word count u has i (omega (arith, below, four)))
+    ext_get_or 0 u.words (words_of word count) four
+    (λ i below. place-is word count u has i (omega (arith, below, four)))
 
 and-false : (b : Bool) → (b && false) ≡ false
 and-false true = refl
@@ -139,6 +140,7 @@ normal-record c j word run u on runs normal four place =
       sent_is = ap (λ (r : Running). r.sent) same ∙ on.sent_is;
       got_is = ap (λ test. if test then 0 else peer_word (mode_of u) run) is
           ∙ ap (λ any. if run.starter && not any then 2 ^ word_width (mode_of u) - 1 else run.word)
-          (mark-received run.got j long four got) ∙ ap (λ test. if test then 2 ^ word_width (mode_of u) - 1 else run.word)
+          (mark-received run.got j long four got)
+          ∙ ap (λ test. if test then 2 ^ word_width (mode_of u) - 1 else run.word)
           (and-false run.starter) ∙ peer;
     }

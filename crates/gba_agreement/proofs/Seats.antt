@@ -30,7 +30,8 @@ module _ {C : Type 0} (cut : Cut C) (i : ℕ) where
       let v = ended due.arrival u in
       fed-seat dues (taken due v) (keeps v (taken due v) (stays.taken due v) (ended-seat due.arrival u seat))
 
-  pub hear-seat : (clock : ℕ) (dues : List Incoming) (u : SerialUnit) → IsSeat cut i u → IsSeat cut i (hear clock dues u)
+  pub hear-seat : (clock : ℕ) (dues : List Incoming) (u : SerialUnit) → IsSeat cut i u
+      → IsSeat cut i (hear clock dues u)
   hear-seat clock dues u seat = ended-seat clock (fed dues u) (fed-seat dues u seat)
 
   pub all_written-seat : (clock : ℕ) (writes : List HalfwordWrite) (u : SerialUnit) → IsSeat cut i u
@@ -56,7 +57,8 @@ seated {C = C} kind view has cut until steps at i (suc m) y dues step =
           let heard = hear (kind.clock x) from.dues (view.unit x) in
           let after : IsSeat cut i touches.after =
           subst (IsSeat cut i) (sym touches.after_is)
-          (all_written-seat cut i (kind.clock x) touches.writes heard (hear-seat cut i (kind.clock x) from.dues (view.unit x) before)) in
+          (all_written-seat cut i (kind.clock x) touches.writes heard
+          (hear-seat cut i (kind.clock x) from.dues (view.unit x) before)) in
           subst (IsSeat cut i) (sym (unit_is ∙ touches.unit_is))
           (record { player = after.player; count_is = after.count_is; round = after.round })
       | inr e ↦

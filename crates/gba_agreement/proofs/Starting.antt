@@ -36,7 +36,8 @@ ended_of-start clock (Some run) u =
 ended-start : (clock : ℕ) (u : SerialUnit) → (ended clock u).start ≡ u.start
 ended-start clock u = ended_of-start clock u.run u
 
-reply_of-start : (sender word : ℕ) (run : Option Running) (u : SerialUnit) → (with_reply_of sender word run u).start ≡ u.start
+reply_of-start : (sender word : ℕ) (run : Option Running) (u : SerialUnit)
+    → (with_reply_of sender word run u).start ≡ u.start
 reply_of-start sender word None u = refl
 reply_of-start sender word (Some run) u =
     either (λ v. v.start ≡ u.start) (is_multi (mode_of u)) _ _ (λ multi. refl)
@@ -52,7 +53,8 @@ unfolding with_start
 start-start due None u = refl
 start-start due (Some start) u =
     either (λ v. v.start ≡ u.start) (is_answered due start u) _ _
-    (λ answers. either (λ v. v.start ≡ u.start) (is_multi (mode_of u)) _ _ (λ multi. refl) (λ normal. refl)) (λ ignored. refl)
+    (λ answers. either (λ v. v.start ≡ u.start) (is_multi (mode_of u)) _ _ (λ multi. refl) (λ normal. refl))
+    (λ ignored. refl)
 
 taken-start : (due : Incoming) (u : SerialUnit) → (taken due u).start ≡ u.start
 unfolding taken
@@ -139,7 +141,8 @@ speed-small u = by (is_multi (mode_of u)) u
 speed-normal : (u : SerialUnit) → is_multi (mode_of u) ≡ false → speed_of u < 2
 speed-normal u normal = by (is_multi (mode_of u)) u normal
   where
-    by : (multi : Bool) (u : SerialUnit) → multi ≡ false → (if multi then field u.control 0 2 else field u.control 1 1) < 2
+    by : (multi : Bool) (u : SerialUnit) → multi ≡ false
+        → (if multi then field u.control 0 2 else field u.control 1 1) < 2
     by true u e = cc
     by false u e = omega arith
 
@@ -165,7 +168,9 @@ multi_begun-has clock u multi four = record {
   };
   speed_small = speed-small u;
   normal_speed = λ normal. speed-normal u normal;
-  word_small = subst (λ mode. data_word Multi u < 2 ^ word_width mode) (sym (multi-is (mode_of u) multi)) (data_word-small Multi u);
+  word_small =
+      subst (λ mode. data_word Multi u < 2 ^ word_width mode) (sym (multi-is (mode_of u) multi))
+      (data_word-small Multi u);
   own = λ is. record {
     got_is = received-own u.player four;
     word_is = first_words-own u.player (data_word Multi u) four;
@@ -215,7 +220,8 @@ multi_begun-as : (clock : ℕ) (start : Start) (u : SerialUnit) → is_multi (mo
 unfolding multi_begun
 multi_begun-as clock start u multi four = record {
   has = λ is. subst (λ one. HasBegun clock one (multi_begun clock u))
-      (some-start (record { speed = speed_of u; word = data_word Multi u }) start is) (multi_begun-has clock u multi four);
+      (some-start (record { speed = speed_of u; word = data_word Multi u }) start is)
+      (multi_begun-has clock u multi four);
 }
 
 normal_begun-as : (clock : ℕ) (start : Start) (u : SerialUnit) → is_multi (mode_of u) ≡ false → u.start ≡ None
@@ -223,10 +229,12 @@ normal_begun-as : (clock : ℕ) (start : Start) (u : SerialUnit) → is_multi (m
 unfolding normal_begun
 normal_begun-as clock start u normal none = record { has = by (nat_lt u.player 2) }
   where
-    by : (test : Bool) → (if test then Some (record { speed = speed_of u; word = own_word u }) else u.start) ≡ Some start
+    by : (test : Bool)
+        → (if test then Some (record { speed = speed_of u; word = own_word u }) else u.start) ≡ Some start
         → HasBegun clock start (normal_begun clock u)
     by true e =
-        subst (λ one. HasBegun clock one (normal_begun clock u)) (some-start _ start e) (normal_begun-has clock u normal)
+        subst (λ one. HasBegun clock one (normal_begun clock u)) (some-start _ start e)
+        (normal_begun-has clock u normal)
     by false e = none-some start (sym none ∙ e)
 
 begun-as : (clock : ℕ) (start : Start) (u : SerialUnit) → u.player < 4 → u.start ≡ None
@@ -263,7 +271,10 @@ has-alike : (clock : ℕ) (start : Start) (a b : SerialUnit) → IsAlike a b →
 has-alike clock start a b alike round has =
     let course : course_begun clock start b ≡ course_begun clock start a =
     ap (λ n. record (course_begun clock start b) { end = transfer_end b.count n (mode_of b) start.speed clock }) round
-    ∙ ap (λ mode. record (course_begun clock start b) { mode = mode; end = transfer_end b.count a.round mode start.speed clock })
+    ∙ ap (λ mode. record (course_begun clock start b) {
+      mode = mode;
+      end = transfer_end b.count a.round mode start.speed clock;
+    })
     alike.mode
     ∙ ap (λ n. record (course_begun clock start b) {
       mode = mode_of a;
@@ -297,7 +308,8 @@ written-as clock offset value start u four before =
       | inr some ↦
           let running = is_on-running (course_begun clock some.0 u) u some.2.on in
           let kept : KeepsTransfer u (written clock offset value u) = writes clock offset value u running in
-          let there = has-alike clock some.0 u (written clock offset value u) (alike-written clock offset value u running)
+          let there =
+          has-alike clock some.0 u (written clock offset value u) (alike-written clock offset value u running)
           (stays.written clock offset value u).round some.2 in
           record {
             has = λ is. subst (λ one. HasBegun clock one (written clock offset value u))
@@ -309,7 +321,8 @@ start-cases : (clock : ℕ) (v : SerialUnit) → ((one : Start) → StartsAs clo
     → (v.start ≡ None) ⊎ ((one : Start) × (v.start ≡ Some one) × HasBegun clock one v)
 start-cases clock v starts = by v.start refl
   where
-    by : (o : Option Start) → v.start ≡ o → (v.start ≡ None) ⊎ ((one : Start) × (v.start ≡ Some one) × HasBegun clock one v)
+    by : (o : Option Start) → v.start ≡ o
+        → (v.start ≡ None) ⊎ ((one : Start) × (v.start ≡ Some one) × HasBegun clock one v)
     by None e = inl e
     by (Some one) e = inr (one, e, (starts one).has e)
 

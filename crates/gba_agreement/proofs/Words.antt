@@ -31,7 +31,8 @@ module _ {C : Type 0} {kind : NodeKind C} {view : UnitView C} {cut : Cut C} {unt
     (given : Given kind view cut until) where
   -- no step of player k takes a signal of player j
   abbrev pub NeverTakes : ℕ → ℕ → Type 0
-  NeverTakes k j = (l : ℕ) (y : C) (es : List Incoming) → MakesStep kind cut until k l y es → All (λ one. one.sender ≢ j) es
+  NeverTakes k j =
+      (l : ℕ) (y : C) (es : List Incoming) → MakesStep kind cut until k l y es → All (λ one. one.sender ≢ j) es
 
   -- what every step of player k that reaches the end finds in the place of player j
   abbrev pub Finds : LinkMode → ℕ → ℕ → ℕ → Bool → ℕ → Type 0
@@ -41,19 +42,22 @@ module _ {C : Type 0} {kind : NodeKind C} {view : UnitView C} {cut : Cut C} {unt
 
   -- a place that no signal comes to stays: the own one, and those past the last console
   pub kept-at-end : (c : Course) (k : ℕ) (e : Enters given c k) (j : ℕ) (got : Bool) (word : ℕ) → IsWiredTo c j
-      → NeverTakes k j → HasPlace c.mode j got word (view.unit (kind.next e.x e.dues).0) → Finds c.mode c.end k j got word
+      → NeverTakes k j → HasPlace c.mode j got word (view.unit (kind.next e.x e.dues).0)
+      → Finds c.mode c.end k j got word
   kept-at-end c k e j got word wired never place =
       at-end given c k e j 0 got word (record {
         wired = wired;
         early = let before = e.before in omega (arith, before);
         past = λ l y es step.
-            All-weaker (λ one. one.sender ≢ j) (IsPast c.end j 0) (λ one other own. absurd (other own)) es (never l y es step);
+            All-weaker (λ one. one.sender ≢ j) (IsPast c.end j 0) (λ one other own. absurd (other own)) es
+            (never l y es step);
         here = λ l y es step entry after by_now. absurd (omega (arith, after));
       }) (λ over. place)
 
   pub own-never : (k : ℕ) → NeverTakes k k
   own-never k l y es step =
-      All-weaker (IsFromPeer cut k) (λ one. one.sender ≢ k) (λ one peer. peer.other) es (given.steps.sound k l y es step).from_peers
+      All-weaker (IsFromPeer cut k) (λ one. one.sender ≢ k) (λ one peer. peer.other) es
+      (given.steps.sound k l y es step).from_peers
 
   pub past-never : (j k : ℕ) → count cut ≤ j → NeverTakes k j
   past-never j k past l y es step =
@@ -70,8 +74,8 @@ module _ {C : Type 0} {kind : NodeKind C} {view : UnitView C} {cut : Cut C} {unt
 
     -- places that stand when a step takes the start stay in that step
     pub kept-in-step : (i word : ℕ) (a : Answers given p i end s start word) (j : ℕ) (got : Bool) (w : ℕ)
-        → IsWiredTo (course_of cut s.mode end false word i) j → All (IsSilent end j) a.later → HasPlace s.mode j got w a.v
-        → HasPlace s.mode j got w (view.unit (kind.next a.entry.x a.entry.dues).0)
+        → IsWiredTo (course_of cut s.mode end false word i) j → All (IsSilent end j) a.later
+        → HasPlace s.mode j got w a.v → HasPlace s.mode j got w (view.unit (kind.next a.entry.x a.entry.dues).0)
     kept-in-step i word a j got w wired silent place =
         place-alike s.mode j got w (until_end end a.later a.v) (view.unit (kind.next a.entry.x a.entry.dues).0) a.alike
         (until_end-place (course_of cut s.mode end false word i) j w got a.later a.v a.v_on wired silent place)
@@ -81,8 +85,8 @@ module _ {C : Type 0} {kind : NodeKind C} {view : UnitView C} {cut : Cut C} {unt
     answers-order i word a =
         subst InOrder a.split (given.steps.sound i a.entry.m a.entry.x a.entry.dues a.entry.step).ordered
 
-    pub answers-later : (P : Incoming → Type 0) (i word : ℕ) (a : Answers given p i end s start word) → All P a.entry.dues
-        → All P a.later
+    pub answers-later : (P : Incoming → Type 0) (i word : ℕ) (a : Answers given p i end s start word)
+        → All P a.entry.dues → All P a.later
     answers-later P i word a all =
         all-after P a.earlier (incoming (hop cut p i) p s) a.later (subst (All P) a.split all)
 
@@ -98,7 +102,8 @@ module _ {C : Type 0} {kind : NodeKind C} {view : UnitView C} {cut : Cut C} {unt
         both-all (Precedes one) (IsPast end p arrival) (IsSilent end p) a.later
         (λ other first far. silent-after end p arrival one other refl refl first far)
         (pairs-after Precedes a.earlier one a.later (answers-order i word a))
-        (answers-later (IsPast end p arrival) i word a (starter-past i a.entry.m a.entry.x a.entry.dues a.entry.step)) in
+        (answers-later (IsPast end p arrival) i word a
+        (starter-past i a.entry.m a.entry.x a.entry.dues a.entry.step)) in
         at-end given (course_of cut s.mode end false word i) i a.entry p arrival true start.word (record {
           wired = wired;
           early = omega (arith, before, begins);
@@ -135,13 +140,14 @@ module _ {C : Type 0} {kind : NodeKind C} {view : UnitView C} {cut : Cut C} {unt
       }
 
       reply-stands : (k l : ℕ) (y : C) (es : List Incoming) → MakesStep kind cut until k l y es → j ≢ k
-          → kind.was y < arrives-at k → arrives-at k ≤ kind.clock y → StandsIn (incoming (hop cut j k) j a.sends.signal) es
+          → kind.was y < arrives-at k → arrives-at k ≤ kind.clock y
+          → StandsIn (incoming (hop cut j k) j a.sends.signal) es
       reply-stands k l y es step apart after by_now =
-          given.signals.arrives j a.entry.m k l a.entry.x y a.entry.dues es a.sends.signal a.entry.step a.sends.tells step apart
-          (omega (arith, after, replied)) (omega (arith, by_now, replied))
+          given.signals.arrives j a.entry.m k l a.entry.x y a.entry.dues es a.sends.signal a.entry.step a.sends.tells
+          step apart (omega (arith, after, replied)) (omega (arith, by_now, replied))
 
-      pub from-answer : (k : ℕ) (first : Bool) (sent : ℕ) (e : Enters given (course_of cut s.mode end first sent k) k) → j ≢ k
-          → IsHeardBy (course_of cut s.mode end first sent k) j → arrives-at k < end
+      pub from-answer : (k : ℕ) (first : Bool) (sent : ℕ) (e : Enters given (course_of cut s.mode end first sent k) k)
+          → j ≢ k → IsHeardBy (course_of cut s.mode end first sent k) j → arrives-at k < end
           → (arrives-at k ≤ kind.clock e.x → HasPlace s.mode j true w (view.unit (kind.next e.x e.dues).0))
           → Finds s.mode end k j true w
       from-answer k first sent e apart heard early base =
@@ -156,22 +162,24 @@ module _ {C : Type 0} {kind : NodeKind C} {view : UnitView C} {cut : Cut C} {unt
 
       -- an answer that comes in the step in which k takes the start comes after the start
       pub answer-in-step : (k word : ℕ) (b : Answers given p k end s start word) → j ≢ k → p < j
-          → IsHeardBy (course_of cut s.mode end false word k) j → s.clock + hop cut p k ≤ arrives-at k → arrives-at k < end
-          → arrives-at k ≤ kind.clock b.entry.x → HasPlace s.mode j true w (view.unit (kind.next b.entry.x b.entry.dues).0)
+          → IsHeardBy (course_of cut s.mode end false word k) j → s.clock + hop cut p k ≤ arrives-at k
+          → arrives-at k < end → arrives-at k ≤ kind.clock b.entry.x
+          → HasPlace s.mode j true w (view.unit (kind.next b.entry.x b.entry.dues).0)
       answer-in-step k word b apart larger heard after_start early by_now =
           let c = course_of cut s.mode end false word k in
           let step = b.entry.step in
           let one = incoming (hop cut p k) p s in
           let other = incoming (hop cut j k) j a.sends.signal in
           let before = b.began_before in
-          let there = reply-stands k b.entry.m b.entry.x b.entry.dues step apart (omega (arith, before, after_start)) by_now in
+          let there =
+          reply-stands k b.entry.m b.entry.x b.entry.dues step apart (omega (arith, before, after_start)) by_now in
           let order = answers-order k word b in
           let first : Precedes one other = precedes (s.clock + hop cut p k) (a.sends.signal.clock + hop cut j k)
           (omega (arith, after_start, replied)) in
           let behind : StandsIn other b.later =
           stands-after b.earlier one b.later there.earlier other there.later (sym b.split ∙ there.split) order first in
-          place-alike s.mode j true w (until_end end b.later b.v) (view.unit (kind.next b.entry.x b.entry.dues).0) b.alike
-          (place-fill c j (arrives-at k) w true b.later b.v b.v_on heard.wired early
+          place-alike s.mode j true w (until_end end b.later b.v) (view.unit (kind.next b.entry.x b.entry.dues).0)
+          b.alike (place-fill c j (arrives-at k) w true b.later b.v b.v_on heard.wired early
           (pairs-rest Precedes b.earlier one b.later order)
           (answers-later (IsPast end j (arrives-at k)) k word b (answer-past k b.entry.m b.entry.x b.entry.dues step))
           (reply-fills k c refl heard b.later behind))
@@ -191,13 +199,17 @@ module _ {C : Type 0} {kind : NodeKind C} {view : UnitView C} {cut : Cut C} {unt
 
   -- every console takes a signal that is told early enough
   pub meets : (p n : ℕ) (xp : C) (dp : List Incoming) (s : Signal) → MakesStep kind cut until p n xp dp
-      → (kind.next xp dp).1 ≡ Some s → (i : ℕ) → i < count cut → p ≢ i → s.clock + hop cut p i + 512 ≤ until → IsMet p s i
+      → (kind.next xp dp).1 ≡ Some s → (i : ℕ) → i < count cut → p ≢ i → s.clock + hop cut p i + 512 ≤ until
+      → IsMet p s i
   meets p n xp dp s step tells i below apart soon =
       let clock_is = told-when given s xp dp tells in
       let begun = (given.steps.sound p n xp dp step).begun in
       let before = given.linked.in_time i p below step.player (λ e. apart (sym e)) in
-      let takes = given.steps.taken_in_time i (s.clock + hop cut p i) below (omega (arith, clock_is, begun, before)) soon in
-      let stands = given.signals.arrives p n i takes.k xp takes.x dp takes.dues s step tells takes.step apart takes.after takes.by_now in
+      let takes =
+      given.steps.taken_in_time i (s.clock + hop cut p i) below (omega (arith, clock_is, begun, before)) soon in
+      let stands =
+      given.signals.arrives p n i takes.k xp takes.x dp takes.dues s step tells takes.step apart takes.after
+      takes.by_now in
       record {
         m = takes.k;
         x = takes.x;

@@ -17,8 +17,8 @@ use Rattle.link_order.specs.Cut.{Cut, count, hop, IsSound, IsInTime, IsCable}
 use Rattle.link_steps.specs.Law.{MakesStep}
 use Rattle.gba_agreement.specs.UnitView.{HasUnit, IsSeated, UnitView, ends_in}
 
--- this project's profile: linked consoles agree on a transfer. The laws hold of every record, also of one that no console
--- comes to
+-- this project's profile: linked consoles agree on a transfer. The laws hold of every record, also of one that no
+-- console comes to
 
 -- a cut from which the laws speak: a sound one in time, whose units know their places. Consoles at clock 0 with nothing
 -- sent make a sound one in time
@@ -46,8 +46,8 @@ pub record ReachesEnd {C : Type 0} (kind : NodeKind C) (cut : Cut C) (until i m 
     pub before : kind.was x < end
     pub by_now : end ≤ kind.clock x
 
--- Step m of player i, of console x, takes signal s of player p; u is its unit at that signal's turn: the earlier ones are
--- taken, and a transfer that is over by then has ended.
+-- Step m of player i, of console x, takes signal s of player p; u is its unit at that signal's turn: the earlier ones
+-- are taken, and a transfer that is over by then has ended.
 pub record Meets {C : Type 0} (kind : NodeKind C) (view : UnitView C) (cut : Cut C) (until p : ℕ) (s : Signal) (i m : ℕ)
     (x : C) (u : SerialUnit) : Type 0
   where
@@ -91,8 +91,8 @@ pub record RecordsMulti {C : Type 0} (kind : NodeKind C) (view : UnitView C) (en
     pub right : transfer.error ≡ false
 
 -- Ways are direct, player 0 starts a Multi transfer, and every other console that takes the start is ready at its turn.
--- Then each console that reaches the end records the same transfer: word j is player j's send word when it took the start,
--- and player 0's the word that it started with.
+-- Then each console that reaches the end records the same transfer: word j is player j's send word when it took the
+-- start, and player 0's the word that it started with.
 abbrev pub AgreesMulti : {C : Type 0} → NodeKind C → UnitView C → Type 0
 AgreesMulti {C} kind view =
     (cut : Cut C) (until k end : ℕ) (s : Signal) (start : Start) (word : ℕ → ℕ) → AreLinked kind view cut
@@ -112,8 +112,8 @@ pub record IsWaiting {C : Type 0} (view : UnitView C) (mode : LinkMode) (x : C) 
   pub waiting : waits u ≡ true
 
 -- one transfer is recorded in a step, with this end, this mode, this word sent and this one received
-pub record RecordsNormal {C : Type 0} (kind : NodeKind C) (view : UnitView C) (mode : LinkMode) (end sent got : ℕ) (x : C)
-    (dues : List Incoming) : Type 0
+pub record RecordsNormal {C : Type 0} (kind : NodeKind C) (view : UnitView C) (mode : LinkMode)
+    (end sent got : ℕ) (x : C) (dues : List Incoming) : Type 0
   where
     pub transfer : Transfer
     pub only : ends_in kind view x dues ≡ transfer ∷ []
@@ -135,12 +135,12 @@ pub record RecordBoth {C : Type 0} (kind : NodeKind C) (view : UnitView C) (cut 
     pub starter : RecordsAtEnd kind view cut until mode end p word answer
     pub other : RecordsAtEnd kind view cut until mode end q answer word
 
--- Player 0 or 1 starts a Normal transfer, and the other is waiting when it takes the start. Then both record the same end,
--- and each has the other's word.
+-- Player 0 or 1 starts a Normal transfer, and the other is waiting when it takes the start. Then both record the same
+-- end, and each has the other's word.
 abbrev pub AgreesNormal : {C : Type 0} → NodeKind C → UnitView C → Type 0
 AgreesNormal {C} kind view =
-    (cut : Cut C) (until p q k end m : ℕ) (s : Signal) (start : Start) (x : C) (u : SerialUnit) → AreLinked kind view cut
-    → p + q ≡ 1 → StartsTransfer kind cut until p k s start → is_normal s.mode ≡ true
+    (cut : Cut C) (until p q k end m : ℕ) (s : Signal) (start : Start) (x : C) (u : SerialUnit)
+    → AreLinked kind view cut → p + q ≡ 1 → StartsTransfer kind cut until p k s start → is_normal s.mode ≡ true
     → end ≡ normal_end (hop cut 0 1 + hop cut 1 0) s.mode start.speed s.clock
     → Meets kind view cut until p s q m x u → IsWaiting view s.mode x u
     → RecordBoth kind view cut until s.mode end p q start.word (own_word u)

@@ -30,7 +30,8 @@ pub record Rests {C : Type 0} (kind : NodeKind C) (view : UnitView C) (x : C) (d
   pub unit_is : view.unit (kind.next x dues).0 ≡ record (view.unit x) { known = known }
   pub told_is : (kind.next x dues).1 ≡ None
 
--- A kind of console with a serial unit: between two steps the unit has nothing to tell, and each step does one of these.
+-- A kind of console with a serial unit: between two steps the unit has nothing to tell, and each step does
+-- one of these.
 pub record HasUnit {C : Type 0} (kind : NodeKind C) (view : UnitView C) : Type 0 where
   pub quiet : (x : C) → silent (view.unit x) ≡ view.unit x
   pub touches : (x : C) (dues : List Incoming) → view.is_on x ≡ true → Touches kind view x dues
@@ -40,8 +41,8 @@ pub record HasUnit {C : Type 0} (kind : NodeKind C) (view : UnitView C) : Type 0
 abbrev pub ends_in : {C : Type 0} → NodeKind C → UnitView C → C → List Incoming → List Transfer
 ends_in kind view x dues = if view.is_on x then ends (kind.clock x) dues (view.unit x) else []
 
--- a unit that knows its place on a cable: its player, the number of consoles, and the delay from player 0 to player 1 and
--- back
+-- a unit that knows its place on a cable: its player, the number of consoles, and the delay from player 0 to
+-- player 1 and back
 pub record IsSeat {C : Type 0} (cut : Cut C) (i : ℕ) (u : SerialUnit) : Type 0 where
   pub player : u.player ≡ i
   pub count_is : u.count ≡ count cut

@@ -9,8 +9,9 @@ ghost use Rattle.gba_agreement.specs.Agreement.{UnitsAgreeInMulti, UnitsAgreeInN
 use link_node::Node;
 use link_steps::{signals, steps};
 
-/// No way from player 0 is shorter over another console. Player 0 starts a Multi transfer, and every other console is in
-/// Multi and idle when it takes the start: all that reach the end record the same end, the same four words and no error.
+/// No way from player 0 is shorter over another console. Player 0 starts a Multi transfer, and every other console
+/// is in Multi and idle when it takes the start: all that reach the end record the same end, the same four words
+/// and no error.
 pub fn multi<N: Node>()
     ensures { UnitsAgreeInMulti (kind_of N.clock N.was N.next) }
 {
@@ -18,7 +19,8 @@ pub fn multi<N: Node>()
     signals::<N>();
 }
 
-/// Player 0 or 1 starts a Normal transfer that the other one answers: both record the same end, and each the other's word.
+/// Player 0 or 1 starts a Normal transfer that the other one answers: both record the same end, and each the
+/// other's word.
 pub fn normal<N: Node>()
     ensures { UnitsAgreeInNormal (kind_of N.clock N.was N.next) }
 {

@@ -33,7 +33,8 @@ and_looked word =
 abbrev pub looks : Row → Bool
 looks row = nat_eq (bit_and 0x0FF000F0 row.mask) row.mask
 
-format_in-kept : (rows : List Row) → list_all looks rows ≡ true → (word : ℕ) → format_in rows word ≡ format_in rows (bit_and word 0x0FF000F0)
+format_in-kept : (rows : List Row) → list_all looks rows ≡ true → (word : ℕ)
+    → format_in rows word ≡ format_in rows (bit_and word 0x0FF000F0)
 format_in-kept [] all word = refl
 format_in-kept (row ∷ rest) all word =
     let here : looks row ≡ true = grind arith in
@@ -45,10 +46,13 @@ format_in-kept (row ∷ rest) all word =
 
 -- a number for each format, and back
 format_at : ℕ → Format
-format_at n = get_or (format.Exchange ∷ format.Multiply ∷ format.MultiplyLong ∷ format.Swap ∷ format.HalfTransfer ∷ format.SignedByteLoad
-    ∷ format.SignedHalfLoad ∷ format.StatusRead ∷ format.StatusWriteRegister ∷ format.StatusWriteImmediate ∷ format.ProcessingByRegister
-    ∷ format.ProcessingFixed ∷ format.ProcessingImmediate ∷ format.TransferNumber ∷ format.TransferShifted ∷ format.Block ∷ format.Branch
-    ∷ format.Interrupt ∷ []) n format.Undefined
+format_at n =
+    get_or (format.Exchange ∷ format.Multiply ∷ format.MultiplyLong ∷ format.Swap ∷ format.HalfTransfer
+    ∷ format.SignedByteLoad
+    ∷ format.SignedHalfLoad ∷ format.StatusRead ∷ format.StatusWriteRegister ∷ format.StatusWriteImmediate
+    ∷ format.ProcessingByRegister
+    ∷ format.ProcessingFixed ∷ format.ProcessingImmediate ∷ format.TransferNumber ∷ format.TransferShifted
+    ∷ format.Block ∷ format.Branch ∷ format.Interrupt ∷ []) n format.Undefined
 
 abbrev number : Format → ℕ
 number format.Exchange = 0
@@ -113,11 +117,13 @@ all_below-at test (suc n) all k small =
     let later : all_below test n ≡ true = grind arith in
     elim (cases_lt k n) [ inl below ↦ all_below-at test n later k below | inr above ↦ ap test (omega arith) ∙ here ]
 
-same_format : (high low : ℕ) → high < 256 → low < 16 → format_in rows (kept high low) ≡ branch_format (field (kept high low))
+same_format : (high low : ℕ) → high < 256 → low < 16
+    → format_in rows (kept high low) ≡ branch_format (field (kept high low))
 same_format high low high_small low_small =
     let row : all_below (same_at high) 16 ≡ true = all_below-at _ 256 all_same high high_small in
     let cell : same_at high low ≡ true = all_below-at (same_at high) 16 row low low_small in
-    let numbers : number (format_in rows (kept high low)) ≡ number (branch_format (field (kept high low))) = eqb-true _ _ cell in
+    let numbers : number (format_in rows (kept high low)) ≡ number (branch_format (field (kept high low))) =
+    eqb-true _ _ cell in
     sym (format_at-number _) ∙ ap format_at numbers ∙ format_at-number _
 
 -- the decision reads these twelve fields alone
@@ -126,9 +132,11 @@ branched_agrees : (f g : Bits) → f 25 3 ≡ g 25 3 → f 4 1 ≡ g 4 1 → f 7
     → f 24 1 ≡ g 24 1 → branch_format f ≡ branch_format g
 branched_agrees f g a b c d e h i j k l m n = rw (a, b, c, d, e, h, i, j, k, l, m, n) refl
 
-branch_format-kept : (word : ℕ) → branch_format (field (kept (field word 20 8) (field word 4 4))) ≡ branch_format (field word)
+branch_format-kept : (word : ℕ)
+    → branch_format (field (kept (field word 20 8) (field word 4 4))) ≡ branch_format (field word)
 branch_format-kept word =
-    branched_agrees (field (kept (field word 20 8) (field word 4 4))) (field word) (omega arith) (omega arith) (omega arith) (omega arith) (omega arith) (omega arith)
+    branched_agrees (field (kept (field word 20 8) (field word 4 4))) (field word) (omega arith) (omega arith)
+    (omega arith) (omega arith) (omega arith) (omega arith)
     (omega arith) (omega arith) (omega arith) (omega arith) (omega arith) (omega arith)
 
 -- a word has the row of its bits 27 to 20 and 7 to 4 alone

@@ -21,17 +21,21 @@ use Rattle.gba_arm_table.specs.declared.operation.TransferOffset.TheVariants as 
 -- the field lies in r
 field-lower : (v r low width e : ℕ) → field (v * 2 ^ (e + width + low) + r) low width ≡ field r low width
 field-lower v r low width e =
-    let split : v * 2 ^ (e + width + low) ≡ v * 2 ^ e * 2 ^ width * 2 ^ low = rw (pow-add 2 (e + width) low, pow-add 2 e width) (grind arith) in
-    let divided : (v * 2 ^ e * 2 ^ width * 2 ^ low + r) / 2 ^ low ≡ v * 2 ^ e * 2 ^ width + r / 2 ^ low = mul-add-div_right (pow_pos low) _ _ in
+    let split : v * 2 ^ (e + width + low) ≡ v * 2 ^ e * 2 ^ width * 2 ^ low =
+    rw (pow-add 2 (e + width) low, pow-add 2 e width) (grind arith) in
+    let divided : (v * 2 ^ e * 2 ^ width * 2 ^ low + r) / 2 ^ low ≡ v * 2 ^ e * 2 ^ width + r / 2 ^ low =
+    mul-add-div_right (pow_pos low) _ _ in
     ap (λ n. (n + r) / 2 ^ low % 2 ^ width) split ∙ ap (λ n. n % 2 ^ width) divided ∙ mul-add-mod_self_right _ _ _
 
 -- it lies in v
-field-upper : (v r below k width : ℕ) → r < 2 ^ below → field (v * 2 ^ below + r) (below + k) width ≡ v / 2 ^ k % 2 ^ width
+field-upper : (v r below k width : ℕ) → r < 2 ^ below
+    → field (v * 2 ^ below + r) (below + k) width ≡ v / 2 ^ k % 2 ^ width
 field-upper v r below k width small =
     ap (λ n. n % 2 ^ width) (sym (shr-shr (v * 2 ^ below + r) below k) ∙ ap (λ n. n / 2 ^ k) (shr_high v below r small))
 
 -- it has its upper k bits in v and its lower m bits in r
-field-across : (v r low m k : ℕ) → r < 2 ^ (m + low) → field (v * 2 ^ (m + low) + r) low (k + m) ≡ v % 2 ^ k * 2 ^ m + field r low m
+field-across : (v r low m k : ℕ) → r < 2 ^ (m + low)
+    → field (v * 2 ^ (m + low) + r) low (k + m) ≡ v % 2 ^ k * 2 ^ m + field r low m
 field-across v r low m k small =
     let split : v * 2 ^ (m + low) ≡ v * 2 ^ m * 2 ^ low = rw (pow-add 2 m low) (grind arith) in
     let divided : (v * 2 ^ m * 2 ^ low + r) / 2 ^ low ≡ v * 2 ^ m + r / 2 ^ low = mul-add-div_right (pow_pos low) _ _ in
@@ -48,7 +52,8 @@ pub pack-small : (parts : List Part) → pack parts < 2 ^ widths parts
 pack-small [] = lit< tt
 pack-small (one ∷ rest) =
     let head : one.value % 2 ^ one.width < 2 ^ one.width = mod_below _ _ (pow_pos _) in
-    let sum : one.value % 2 ^ one.width * 2 ^ widths rest + pack rest < 2 ^ widths rest * 2 ^ one.width = mul-add-lt _ _ _ _ head (pack-small rest) in
+    let sum : one.value % 2 ^ one.width * 2 ^ widths rest + pack rest < 2 ^ widths rest * 2 ^ one.width =
+    mul-add-lt _ _ _ _ head (pack-small rest) in
     rw (pow-add 2 one.width (widths rest)) (grind arith)
 
 -- what a field of parts is, computed from how wide they are
@@ -68,9 +73,9 @@ read (one ∷ rest) low width =
     ]
 
 -- one part more, v of w bits, above r of W bits
-field-step : (v w r W low width here later : ℕ) → v < 2 ^ w → r < 2 ^ W → field r low width ≡ here → field r low (W - low) ≡ later
-    → (b1 b2 b3 : Bool) → nat_le (low + width) W ≡ b1 → nat_le W low ≡ b2 → (low == W && width == w) ≡ b3
-    → field (v * 2 ^ W + r) low width ≡ elim b1 [
+field-step : (v w r W low width here later : ℕ) → v < 2 ^ w → r < 2 ^ W → field r low width ≡ here
+    → field r low (W - low) ≡ later → (b1 b2 b3 : Bool) → nat_le (low + width) W ≡ b1 → nat_le W low ≡ b2
+    → (low == W && width == w) ≡ b3 → field (v * 2 ^ W + r) low width ≡ elim b1 [
       | true ↦ here
       | false ↦ elim b2 [
         | true ↦ elim b3 [ true ↦ v | false ↦ v / 2 ^ (low - W) % 2 ^ width ]
@@ -84,8 +89,8 @@ field-step v w r W low width here later v_small r_small h l true b2 b3 e1 e2 e3 
 field-step v w r W low width here later v_small r_small h l false true true e1 e2 e3 =
     let at : low ≡ W = grind (arith, nat_tests) in
     let whole : width ≡ w = grind (arith, nat_tests) in
-    ap (λ n. (v * 2 ^ W + r) / 2 ^ n % 2 ^ width) at ∙ ap (λ n. n % 2 ^ width) (shr_high v W r r_small) ∙ ap (λ n. v % 2 ^ n) whole
-    ∙ mod-eq_of_lt v_small
+    ap (λ n. (v * 2 ^ W + r) / 2 ^ n % 2 ^ width) at ∙ ap (λ n. n % 2 ^ width) (shr_high v W r r_small)
+    ∙ ap (λ n. v % 2 ^ n) whole ∙ mod-eq_of_lt v_small
 field-step v w r W low width here later v_small r_small h l false true false e1 e2 e3 =
     let above : W ≤ low = grind (arith, nat_tests) in
     let sum : low ≡ W + (low - W) = omega arith in
@@ -105,8 +110,8 @@ field-pack [] low width = grind arith
 field-pack (one ∷ rest) low width =
     field-step (one.value % 2 ^ one.width) one.width (pack rest) (widths rest) low width
     (read rest low width) (read rest low (widths rest - low))
-    (mod_below _ _ (pow_pos one.width)) (pack-small rest) (field-pack rest low width) (field-pack rest low (widths rest - low))
-    _ _ _ refl refl refl
+    (mod_below _ _ (pow_pos one.width)) (pack-small rest) (field-pack rest low width)
+    (field-pack rest low (widths rest - low)) _ _ _ refl refl refl
 
 -- ---- how the parts are put together one by one
 
@@ -137,7 +142,8 @@ Packs-next all i word d value within h v =
     let one : Part = get_or all i d in
     let split : drop i all ≡ one ∷ drop (i + 1) all = rw add-one (drop-cons all i d within) in
     let packs : Packs all word (one ∷ drop (i + 1) all) = subst (Packs all word) split h in
-    let next : Packs all (word * 2 ^ one.width + one.value % 2 ^ one.width) (drop (i + 1) all) = Packs-step all word one (drop (i + 1) all) packs in
+    let next : Packs all (word * 2 ^ one.width + one.value % 2 ^ one.width) (drop (i + 1) all) =
+    Packs-step all word one (drop (i + 1) all) packs in
     let small : word * 2 ^ one.width + one.value % 2 ^ one.width < 2 ^ 32 = Packs-small all _ (drop (i + 1) all) next in
     let same : value ≡ one.value % 2 ^ one.width = v ∙ ap (λ n. n % 2 ^ one.width) (omega arith) in
     (mod-eq_of_lt (omega arith), subst (λ n. Packs all (word * 2 ^ one.width + n) (drop (i + 1) all)) (sym same) next)
@@ -156,7 +162,8 @@ pack-nested [] lower width e =
     let whole : pack lower % 2 ^ width ≡ pack lower = mod-eq_of_lt small in
     omega (arith, whole)
 pack-nested (one ∷ rest) lower width e =
-    ap₂ (λ n m. one.value % 2 ^ one.width * 2 ^ n + m) (widths-nested rest lower width (pack lower) e) (pack-nested rest lower width e)
+    ap₂ (λ n m. one.value % 2 ^ one.width * 2 ^ n + m) (widths-nested rest lower width (pack lower) e)
+    (pack-nested rest lower width e)
 
 -- what stands at the low end of data processing, of MSR and of a transfer has twelve bits
 pub widths-operand : (operand : Operand) → widths (operand_parts operand) ≡ 12
@@ -173,7 +180,8 @@ widths-transfer (transfer_offset.Number value) = refl
 widths-transfer (transfer_offset.Shifted rm kind amount) = refl
 
 -- a word whose low end was put together first
-pub pack-transfer : (whole upper : List Part) (offset : TransferOffset) (word : ℕ) → whole ≡ upper ++ transfer_parts offset
-    → word ≡ pack (upper ++ part 12 (pack (transfer_parts offset)) ∷ []) → word ≡ pack whole
+pub pack-transfer : (whole upper : List Part) (offset : TransferOffset) (word : ℕ)
+    → whole ≡ upper ++ transfer_parts offset → word ≡ pack (upper ++ part 12 (pack (transfer_parts offset)) ∷ [])
+    → word ≡ pack whole
 pack-transfer whole upper offset word is nested =
     nested ∙ pack-nested upper (transfer_parts offset) 12 (widths-transfer offset) ∙ sym (ap pack is)

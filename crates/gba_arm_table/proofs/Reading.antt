@@ -26,14 +26,15 @@ either-fits : (b : Bool) (first second : ArmOp) → Fits first → Fits second �
 either-fits true first second one other = one
 either-fits false first second one other = other
 
-processing-fits : (operand : Operand) → Within (operand_registers operand) → Within (operand_immediates operand) → (word : ℕ)
-    → Fits (processing operand (field word))
+processing-fits : (operand : Operand) → Within (operand_registers operand) → Within (operand_immediates operand)
+    → (word : ℕ) → Fits (processing operand (field word))
 processing-fits operand registers immediates word =
     either-fits _ (compare operand (field word)) (compute operand (field word))
     (record { registers = (omega arith, registers); immediates = immediates; offsets = tt })
     (record { registers = (omega arith, (omega arith, registers)); immediates = immediates; offsets = tt })
 
-distance-signed : (n : ℕ) → n < 2 ^ 24 → distance (if nat_lt n (2 ^ 23) then pos n else negsuc (2 ^ 24 - 1 - n)) < 2 ^ 23
+distance-signed : (n : ℕ) → n < 2 ^ 24
+    → distance (if nat_lt n (2 ^ 23) then pos n else negsuc (2 ^ 24 - 1 - n)) < 2 ^ 23
 distance-signed n small = grind arith
 
 -- the fields of a word fit their bits
@@ -44,7 +45,8 @@ operation_of-fits format.SignedHalfLoad word = half-fits _ word
 operation_of-fits format.ProcessingByRegister word = processing-fits _ (search rules) tt word
 operation_of-fits format.ProcessingFixed word = processing-fits _ (search rules) (search rules) word
 operation_of-fits format.ProcessingImmediate word = processing-fits _ tt (search rules) word
-operation_of-fits format.Branch word = record { registers = tt; immediates = tt; offsets = (distance-signed (field word 0 24) (omega arith), tt) }
+operation_of-fits format.Branch word =
+    record { registers = tt; immediates = tt; offsets = (distance-signed (field word 0 24) (omega arith), tt) }
 operation_of-fits format.Undefined word = tt
 operation_of-fits _ word = record { registers = search rules; immediates = search rules; offsets = search rules }
 

@@ -142,22 +142,27 @@ multiply-back : (cond : Condition) (accumulate set : Bool) (rd rn rs rm : ℕ) �
     → Back (op.Multiply cond accumulate set rd rn rs rm)
 multiply-back cond accumulate set rd rn rs rm h1 h2 h3 h4 = simp (condition-back, flag-back, mod-eq_of_lt)
 
-multiply_long-back : (cond : Condition) (signed accumulate set : Bool) (hi lo rs rm : ℕ) → hi < 16 → lo < 16 → rs < 16 → rm < 16
-    → Back (op.MultiplyLong cond signed accumulate set hi lo rs rm)
+multiply_long-back : (cond : Condition) (signed accumulate set : Bool) (hi lo rs rm : ℕ) → hi < 16 → lo < 16 → rs < 16
+    → rm < 16 → Back (op.MultiplyLong cond signed accumulate set hi lo rs rm)
 multiply_long-back cond signed accumulate set hi lo rs rm h1 h2 h3 h4 = simp (condition-back, flag-back, mod-eq_of_lt)
 
-swap-back : (cond : Condition) (byte : Bool) (rn rd rm : ℕ) → rn < 16 → rd < 16 → rm < 16 → Back (op.Swap cond byte rn rd rm)
+swap-back : (cond : Condition) (byte : Bool) (rn rd rm : ℕ) → rn < 16 → rd < 16 → rm < 16
+    → Back (op.Swap cond byte rn rd rm)
 swap-back cond byte rn rd rm h1 h2 h3 = simp (condition-back, flag-back, mod-eq_of_lt)
 
-half_number-back : (cond : Condition) (kind : HalfKind) (pre up write : Bool) (rn rd value : ℕ) → rn < 16 → rd < 16 → value < 256
-    → Back (op.Half cond kind pre up write rn rd (half_offset.Number value))
-half_number-back cond StoreHalf pre up write rn rd value h1 h2 h3 = simp (condition-back, flag-back, mod-eq_of_lt, halves-back)
-half_number-back cond LoadHalf pre up write rn rd value h1 h2 h3 = simp (condition-back, flag-back, mod-eq_of_lt, halves-back)
-half_number-back cond LoadSignedByte pre up write rn rd value h1 h2 h3 = simp (condition-back, flag-back, mod-eq_of_lt, halves-back)
-half_number-back cond LoadSignedHalf pre up write rn rd value h1 h2 h3 = simp (condition-back, flag-back, mod-eq_of_lt, halves-back)
+half_number-back : (cond : Condition) (kind : HalfKind) (pre up write : Bool) (rn rd value : ℕ) → rn < 16 → rd < 16
+    → value < 256 → Back (op.Half cond kind pre up write rn rd (half_offset.Number value))
+half_number-back cond StoreHalf pre up write rn rd value h1 h2 h3 =
+    simp (condition-back, flag-back, mod-eq_of_lt, halves-back)
+half_number-back cond LoadHalf pre up write rn rd value h1 h2 h3 =
+    simp (condition-back, flag-back, mod-eq_of_lt, halves-back)
+half_number-back cond LoadSignedByte pre up write rn rd value h1 h2 h3 =
+    simp (condition-back, flag-back, mod-eq_of_lt, halves-back)
+half_number-back cond LoadSignedHalf pre up write rn rd value h1 h2 h3 =
+    simp (condition-back, flag-back, mod-eq_of_lt, halves-back)
 
-half_plain-back : (cond : Condition) (kind : HalfKind) (pre up write : Bool) (rn rd rm : ℕ) → rn < 16 → rd < 16 → rm < 16
-    → Back (op.Half cond kind pre up write rn rd (half_offset.Plain rm))
+half_plain-back : (cond : Condition) (kind : HalfKind) (pre up write : Bool) (rn rd rm : ℕ) → rn < 16 → rd < 16
+    → rm < 16 → Back (op.Half cond kind pre up write rn rd (half_offset.Plain rm))
 half_plain-back cond StoreHalf pre up write rn rd rm h1 h2 h3 = simp (condition-back, flag-back, mod-eq_of_lt)
 half_plain-back cond LoadHalf pre up write rn rd rm h1 h2 h3 = simp (condition-back, flag-back, mod-eq_of_lt)
 half_plain-back cond LoadSignedByte pre up write rn rd rm h1 h2 h3 = simp (condition-back, flag-back, mod-eq_of_lt)
@@ -168,33 +173,82 @@ read_status-back cond true rd h1 = simp (condition-back, mod-eq_of_lt)
 read_status-back cond false rd h1 = simp (condition-back, mod-eq_of_lt)
 
 write_status-back : (cond : Condition) (saved : Bool) (fields : ℕ) (source : Source) → fields < 16
-    → Within (source_registers source) → Within (source_immediates source) → Back (op.WriteStatus cond saved fields source)
-write_status-back cond true fields (source.Immediate value turn) h1 r i = simp (condition-back, mod-eq_of_lt h1, mod-eq_of_lt i.0, mod-eq_of_lt i.1.0)
+    → Within (source_registers source) → Within (source_immediates source)
+    → Back (op.WriteStatus cond saved fields source)
+write_status-back cond true fields (source.Immediate value turn) h1 r i =
+    simp (condition-back, mod-eq_of_lt h1, mod-eq_of_lt i.0, mod-eq_of_lt i.1.0)
 write_status-back cond true fields (source.Plain rm) h1 r i = simp (condition-back, mod-eq_of_lt h1, mod-eq_of_lt r.0)
-write_status-back cond false fields (source.Immediate value turn) h1 r i = simp (condition-back, mod-eq_of_lt h1, mod-eq_of_lt i.0, mod-eq_of_lt i.1.0)
+write_status-back cond false fields (source.Immediate value turn) h1 r i =
+    simp (condition-back, mod-eq_of_lt h1, mod-eq_of_lt i.0, mod-eq_of_lt i.1.0)
 write_status-back cond false fields (source.Plain rm) h1 r i = simp (condition-back, mod-eq_of_lt h1, mod-eq_of_lt r.0)
 
 processing-back : (cond : Condition) (o : ComputeOp) (set : Bool) (rn rd : ℕ) (operand : Operand) → rn < 16 → rd < 16
-    → Within (operand_registers operand) → Within (operand_immediates operand) → Back (op.Compute cond o set rn rd operand)
+    → Within (operand_registers operand) → Within (operand_immediates operand)
+    → Back (op.Compute cond o set rn rd operand)
 processing-back cond o set rn rd (operand.Immediate value turn) h1 h2 r i =
-    simp (compute-apart, compute-back, condition-back, flag-back, mod-eq_of_lt h1, mod-eq_of_lt h2, mod-eq_of_lt i.0, mod-eq_of_lt i.1.0)
+    simp (
+      compute-apart,
+      compute-back,
+      condition-back,
+      flag-back,
+      mod-eq_of_lt h1,
+      mod-eq_of_lt h2,
+      mod-eq_of_lt i.0,
+      mod-eq_of_lt i.1.0,
+    )
 processing-back cond o set rn rd (operand.Fixed rm kind amount) h1 h2 r i =
-    simp (compute-apart, compute-back, condition-back, flag-back, shift-back, mod-eq_of_lt h1, mod-eq_of_lt h2, mod-eq_of_lt r.0, mod-eq_of_lt i.0)
+    simp (
+      compute-apart,
+      compute-back,
+      condition-back,
+      flag-back,
+      shift-back,
+      mod-eq_of_lt h1,
+      mod-eq_of_lt h2,
+      mod-eq_of_lt r.0,
+      mod-eq_of_lt i.0,
+    )
 processing-back cond o set rn rd (operand.ByRegister rm kind rs) h1 h2 r i =
-    simp (compute-apart, compute-back, condition-back, flag-back, shift-back, mod-eq_of_lt h1, mod-eq_of_lt h2, mod-eq_of_lt r.0, mod-eq_of_lt r.1.0)
+    simp (
+      compute-apart,
+      compute-back,
+      condition-back,
+      flag-back,
+      shift-back,
+      mod-eq_of_lt h1,
+      mod-eq_of_lt h2,
+      mod-eq_of_lt r.0,
+      mod-eq_of_lt r.1.0,
+    )
 
 compare_operand-back : (cond : Condition) (o : CompareOp) (rn : ℕ) (operand : Operand) → rn < 16
     → Within (operand_registers operand) → Within (operand_immediates operand) → Back (op.Compare cond o rn operand)
 compare_operand-back cond o rn (operand.Immediate value turn) h1 r i =
     simp (compare-together, compare-back, condition-back, mod-eq_of_lt h1, mod-eq_of_lt i.0, mod-eq_of_lt i.1.0)
 compare_operand-back cond o rn (operand.Fixed rm kind amount) h1 r i =
-    simp (compare-together, compare-back, condition-back, shift-back, mod-eq_of_lt h1, mod-eq_of_lt r.0, mod-eq_of_lt i.0)
+    simp (
+      compare-together,
+      compare-back,
+      condition-back,
+      shift-back,
+      mod-eq_of_lt h1,
+      mod-eq_of_lt r.0,
+      mod-eq_of_lt i.0,
+    )
 compare_operand-back cond o rn (operand.ByRegister rm kind rs) h1 r i =
-    simp (compare-together, compare-back, condition-back, shift-back, mod-eq_of_lt h1, mod-eq_of_lt r.0, mod-eq_of_lt r.1.0)
+    simp (
+      compare-together,
+      compare-back,
+      condition-back,
+      shift-back,
+      mod-eq_of_lt h1,
+      mod-eq_of_lt r.0,
+      mod-eq_of_lt r.1.0,
+    )
 
-transfer-back : (cond : Condition) (load byte pre up write : Bool) (rn rd : ℕ) (offset : TransferOffset) → rn < 16 → rd < 16
-    → Within (transfer_registers offset) → Within (transfer_immediates offset) → Within (transfer_offsets offset)
-    → Back (op.Transfer cond load byte pre up write rn rd offset)
+transfer-back : (cond : Condition) (load byte pre up write : Bool) (rn rd : ℕ) (offset : TransferOffset) → rn < 16
+    → rd < 16 → Within (transfer_registers offset) → Within (transfer_immediates offset)
+    → Within (transfer_offsets offset) → Back (op.Transfer cond load byte pre up write rn rd offset)
 transfer-back cond load byte pre up write rn rd (transfer_offset.Number value) h1 h2 r i o =
     simp (condition-back, flag-back, mod-eq_of_lt h1, mod-eq_of_lt h2, mod-eq_of_lt o.0)
 transfer-back cond load byte pre up write rn rd (transfer_offset.Shifted rm kind amount) h1 h2 r i o =
@@ -204,16 +258,20 @@ block-back : (cond : Condition) (load pre up user write : Bool) (rn list : ℕ) 
     → Back (op.Block cond load pre up user write rn list)
 block-back cond load pre up user write rn list h1 h2 = simp (condition-back, flag-back, mod-eq_of_lt)
 
-branch-back : (cond : Condition) (link : Bool) (offset : ℤ) → distance offset < 2 ^ 23 → Back (op.Branch cond link offset)
+branch-back : (cond : Condition) (link : Bool) (offset : ℤ) → distance offset < 2 ^ 23
+    → Back (op.Branch cond link offset)
 branch-back cond link offset h1 = rw (condition-back, flag-back, signed-back offset h1) refl
 
 interrupt-back : (cond : Condition) (comment : ℕ) → comment < 2 ^ 24 → Back (op.Interrupt cond comment)
 interrupt-back cond comment h1 = simp (condition-back, mod-eq_of_lt)
 
-half-back : (cond : Condition) (kind : HalfKind) (pre up write : Bool) (rn rd : ℕ) (offset : HalfOffset) → rn < 16 → rd < 16
-    → Within (half_registers offset) → Within (half_offsets offset) → Back (op.Half cond kind pre up write rn rd offset)
-half-back cond kind pre up write rn rd (half_offset.Number value) h1 h2 r o = half_number-back cond kind pre up write rn rd value h1 h2 o.0
-half-back cond kind pre up write rn rd (half_offset.Plain rm) h1 h2 r o = half_plain-back cond kind pre up write rn rd rm h1 h2 r.0
+half-back : (cond : Condition) (kind : HalfKind) (pre up write : Bool) (rn rd : ℕ) (offset : HalfOffset) → rn < 16
+    → rd < 16 → Within (half_registers offset) → Within (half_offsets offset)
+    → Back (op.Half cond kind pre up write rn rd offset)
+half-back cond kind pre up write rn rd (half_offset.Number value) h1 h2 r o =
+    half_number-back cond kind pre up write rn rd value h1 h2 o.0
+half-back cond kind pre up write rn rd (half_offset.Plain rm) h1 h2 r o =
+    half_plain-back cond kind pre up write rn rd rm h1 h2 r.0
 
 diagram-back : (o : ArmOp) → Fits o → Back o
 diagram-back (op.Exchange cond rm) h = exchange-back _ _ h.registers.0
@@ -229,7 +287,8 @@ diagram-back (op.WriteStatus cond saved fields source) h =
     write_status-back _ saved _ source h.immediates.0 h.registers h.immediates.1
 diagram-back (op.Compute cond o set rn rd operand) h =
     processing-back _ o _ _ _ operand h.registers.0 h.registers.1.0 h.registers.1.1 h.immediates
-diagram-back (op.Compare cond o rn operand) h = compare_operand-back _ o _ operand h.registers.0 h.registers.1 h.immediates
+diagram-back (op.Compare cond o rn operand) h =
+    compare_operand-back _ o _ operand h.registers.0 h.registers.1 h.immediates
 diagram-back (op.Transfer cond load byte pre up write rn rd offset) h =
     transfer-back _ _ _ _ _ _ _ _ offset h.registers.0 h.registers.1.0 h.registers.1.1 h.immediates h.offsets
 diagram-back (op.Block cond load pre up user write rn list) h = block-back _ _ _ _ _ _ _ _ h.registers.0 h.immediates.0
@@ -254,7 +313,8 @@ within-Within (one ∷ rest) all =
     let later : within rest ≡ true = within-Within rest all.1 in
     grind (arith, nat_tests)
 
-pub fitting : (o : ArmOp) → within (registers_of o) ≡ true → within (immediates_of o) ≡ true → within (offsets_of o) ≡ true → Fits o
+pub fitting : (o : ArmOp) → within (registers_of o) ≡ true → within (immediates_of o) ≡ true
+    → within (offsets_of o) ≡ true → Fits o
 fitting o r i f = record { registers = Within-within _ r; immediates = Within-within _ i; offsets = Within-within _ f }
 
 -- an operation whose fields fit is encoded
@@ -273,7 +333,8 @@ encoding-back o h =
     subst P (sym (encoding-Fits o h)) (operation-diagram o h)
 
 -- the operation of a word is encoded as a word that decodes to it
-pub operation-again : (word : ℕ) → IfSome (operation word) (λ o. IsOkAnd (encoding o) (λ again. operation again ≡ Some o))
+pub operation-again : (word : ℕ)
+    → IfSome (operation word) (λ o. IsOkAnd (encoding o) (λ again. operation again ≡ Some o))
 operation-again word = IfSome_then (operation word) (operation-Fits word) encoding-back
 
 -- ---- bits that should be one or zero

@@ -40,7 +40,8 @@ shift-there : (n : ℕ) → n < 4 → shift_number (shift_of n) ≡ n
 shift-there n small = eqb-true _ _ (all_below-at shift_stays 4 (unfold all_below in refl) n small)
 
 abbrev processing_stays : ℕ → Bool
-processing_stays n = if n / 4 == 2 then nat_eq (compare_number (compare_of n)) n else nat_eq (compute_number (compute_of n)) n
+processing_stays n =
+    if n / 4 == 2 then nat_eq (compare_number (compare_of n)) n else nat_eq (compute_number (compute_of n)) n
 
 all_processing_stay : all_below processing_stays 16 ≡ true
 unfolding all_below
@@ -95,8 +96,10 @@ all_settled = refl
 
 settled-rows : (word : ℕ) → settled (format_in rows word) (field word 20 8) (field word 4 4) ≡ true
 settled-rows word =
-    let row : all_below (settled_at (field word 20 8)) 16 ≡ true = all_below-at _ 256 all_settled (field word 20 8) (omega arith) in
-    let cell : settled_at (field word 20 8) (field word 4 4) ≡ true = all_below-at (settled_at (field word 20 8)) 16 row (field word 4 4) (omega arith) in
+    let row : all_below (settled_at (field word 20 8)) 16 ≡ true =
+    all_below-at _ 256 all_settled (field word 20 8) (omega arith) in
+    let cell : settled_at (field word 20 8) (field word 4 4) ≡ true =
+    all_below-at (settled_at (field word 20 8)) 16 row (field word 4 4) (omega arith) in
     ap (λ f. settled f (field word 20 8) (field word 4 4)) (format_in-key word) ∙ cell
 
 -- ---- each format
@@ -124,10 +127,15 @@ multiply-there : (word : ℕ) → word < 2 ^ 32 → Settled format.Multiply word
 multiply-there word small s m =
     let high : field word 20 8 / 4 ≡ 0 = grind (arith, nat_tests) in
     let low : field word 4 4 ≡ 9 = grind (arith, nat_tests) in
-    rw (condition-there (field word 28 4) (omega arith), flag-there (field word 21 1) (omega arith), flag-there (field word 20 1) (omega arith))
+    rw (
+      condition-there (field word 28 4) (omega arith),
+      flag-there (field word 21 1) (omega arith),
+      flag-there (field word 20 1) (omega arith),
+    )
     (omega arith)
 
-multiply_long-there : (word : ℕ) → word < 2 ^ 32 → Settled format.MultiplyLong word → Writes word (multiply_long (field word))
+multiply_long-there : (word : ℕ) → word < 2 ^ 32 → Settled format.MultiplyLong word
+    → Writes word (multiply_long (field word))
 multiply_long-there word small s m =
     let high : field word 20 8 / 8 ≡ 1 = grind (arith, nat_tests) in
     let low : field word 4 4 ≡ 9 = grind (arith, nat_tests) in
@@ -147,9 +155,11 @@ swap-there word small s m =
     let zeros : field word 8 4 ≡ 0 = grind (arith, nat_tests) in
     rw (condition-there (field word 28 4) (omega arith), flag-there (field word 22 1) (omega arith)) (omega arith)
 
-half_number-there : (kind : HalfKind) (word : ℕ) → word < 2 ^ 32 → field word 25 3 ≡ 0 → field word 7 1 ≡ 1 → field word 4 1 ≡ 1
-    → flag_number (is_load kind) ≡ field word 20 1 → half_code kind ≡ field word 5 2 → field word 22 1 ≡ 1
-    → pack (diagram (op.Half (condition (field word)) kind (flag (field word) 24) (flag (field word) 23) (flag (field word) 21)
+half_number-there : (kind : HalfKind) (word : ℕ) → word < 2 ^ 32 → field word 25 3 ≡ 0 → field word 7 1 ≡ 1
+    → field word 4 1 ≡ 1 → flag_number (is_load kind) ≡ field word 20 1 → half_code kind ≡ field word 5 2
+    → field word 22 1 ≡ 1
+    → pack (diagram (op.Half (condition (field word)) kind (flag (field word) 24) (flag (field word) 23)
+    (flag (field word) 21)
     (field word 16 4) (field word 12 4) (half_offset.Number (field word 8 4 * 16 + field word 0 4)))) ≡ word
 half_number-there kind word small h25 h7 h4 load code number =
     rw (
@@ -162,10 +172,11 @@ half_number-there kind word small h25 h7 h4 load code number =
     )
     (omega arith)
 
-half_plain-there : (kind : HalfKind) (word : ℕ) → word < 2 ^ 32 → field word 25 3 ≡ 0 → field word 7 1 ≡ 1 → field word 4 1 ≡ 1
-    → flag_number (is_load kind) ≡ field word 20 1 → half_code kind ≡ field word 5 2 → field word 22 1 ≡ 0 → field word 8 4 ≡ 0
-    → pack (diagram (op.Half (condition (field word)) kind (flag (field word) 24) (flag (field word) 23) (flag (field word) 21)
-    (field word 16 4) (field word 12 4) (half_offset.Plain (field word 0 4)))) ≡ word
+half_plain-there : (kind : HalfKind) (word : ℕ) → word < 2 ^ 32 → field word 25 3 ≡ 0 → field word 7 1 ≡ 1
+    → field word 4 1 ≡ 1 → flag_number (is_load kind) ≡ field word 20 1 → half_code kind ≡ field word 5 2
+    → field word 22 1 ≡ 0 → field word 8 4 ≡ 0
+    → pack (diagram (op.Half (condition (field word)) kind (flag (field word) 24) (flag (field word) 23)
+    (flag (field word) 21) (field word 16 4) (field word 12 4) (half_offset.Plain (field word 0 4)))) ≡ word
 half_plain-there kind word small h25 h7 h4 load code plain zeros =
     rw (
       condition-there (field word 28 4) (omega arith),
@@ -177,24 +188,27 @@ half_plain-there kind word small h25 h7 h4 load code plain zeros =
     )
     (omega arith)
 
-half-cases : (kind : HalfKind) (word : ℕ) → word < 2 ^ 32 → field word 25 3 ≡ 0 → field word 7 1 ≡ 1 → field word 4 1 ≡ 1
-    → flag_number (is_load kind) ≡ field word 20 1 → half_code kind ≡ field word 5 2 → (b : Bool) → flag (field word) 22 ≡ b
-    → (let offset = if b then half_offset.Number (field word 8 4 * 16 + field word 0 4) else half_offset.Plain (field word 0 4) in
+half-cases : (kind : HalfKind) (word : ℕ) → word < 2 ^ 32 → field word 25 3 ≡ 0 → field word 7 1 ≡ 1
+    → field word 4 1 ≡ 1 → flag_number (is_load kind) ≡ field word 20 1 → half_code kind ≡ field word 5 2 → (b : Bool)
+    → flag (field word) 22 ≡ b → (let offset =
+    if b then half_offset.Number (field word 8 4 * 16 + field word 0 4) else half_offset.Plain (field word 0 4) in
     has_manual_half offset (field word) ≡ true
-    → pack (diagram (op.Half (condition (field word)) kind (flag (field word) 24) (flag (field word) 23) (flag (field word) 21)
-    (field word 16 4) (field word 12 4) offset)) ≡ word)
-half-cases kind word small h25 h7 h4 load code true b m = half_number-there kind word small h25 h7 h4 load code (eqb-true _ _ b)
+    → pack (diagram (op.Half (condition (field word)) kind (flag (field word) 24) (flag (field word) 23)
+    (flag (field word) 21) (field word 16 4) (field word 12 4) offset)) ≡ word)
+half-cases kind word small h25 h7 h4 load code true b m =
+    half_number-there kind word small h25 h7 h4 load code (eqb-true _ _ b)
 half-cases kind word small h25 h7 h4 load code false b m =
     let clear : field word 22 1 ≡ 0 = grind (arith, nat_tests) in
     half_plain-there kind word small h25 h7 h4 load code clear (eqb-true _ _ m)
 
-half-there : (kind : HalfKind) (word : ℕ) → word < 2 ^ 32 → field word 20 8 / 32 ≡ 0 → field word 4 4 / 8 ≡ 1 → field word 4 4 % 2 ≡ 1
-    → flag_number (is_load kind) ≡ field word 20 1 → half_code kind ≡ field word 5 2 → Writes word (half kind (field word))
+half-there : (kind : HalfKind) (word : ℕ) → word < 2 ^ 32 → field word 20 8 / 32 ≡ 0 → field word 4 4 / 8 ≡ 1
+    → field word 4 4 % 2 ≡ 1 → flag_number (is_load kind) ≡ field word 20 1 → half_code kind ≡ field word 5 2
+    → Writes word (half kind (field word))
 half-there kind word small h25 h7 h4 load code m =
     half-cases kind word small (omega arith) (omega arith) (omega arith) load code (flag (field word) 22) refl m
 
-unsigned_half-there : (word : ℕ) → word < 2 ^ 32 → Settled format.HalfTransfer word → (b : Bool) → flag (field word) 20 ≡ b
-    → Writes word (half (if b then LoadHalf else StoreHalf) (field word))
+unsigned_half-there : (word : ℕ) → word < 2 ^ 32 → Settled format.HalfTransfer word → (b : Bool)
+    → flag (field word) 20 ≡ b → Writes word (half (if b then LoadHalf else StoreHalf) (field word))
 unsigned_half-there word small s true b m =
     let high : field word 20 8 / 32 ≡ 0 = grind (arith, nat_tests) in
     let low : field word 4 4 ≡ 11 = grind (arith, nat_tests) in
@@ -205,14 +219,16 @@ unsigned_half-there word small s false b m =
     let clear : 0 ≡ field word 20 1 = grind (arith, nat_tests) in
     half-there StoreHalf word small high (omega arith) (omega arith) clear (omega arith) m
 
-signed_byte-there : (word : ℕ) → word < 2 ^ 32 → Settled format.SignedByteLoad word → Writes word (half LoadSignedByte (field word))
+signed_byte-there : (word : ℕ) → word < 2 ^ 32 → Settled format.SignedByteLoad word
+    → Writes word (half LoadSignedByte (field word))
 signed_byte-there word small s m =
     let high : field word 20 8 / 32 ≡ 0 = grind (arith, nat_tests) in
     let load : field word 20 8 % 2 ≡ 1 = grind (arith, nat_tests) in
     let low : field word 4 4 ≡ 13 = grind (arith, nat_tests) in
     half-there LoadSignedByte word small high (omega arith) (omega arith) (omega arith) (omega arith) m
 
-signed_half-there : (word : ℕ) → word < 2 ^ 32 → Settled format.SignedHalfLoad word → Writes word (half LoadSignedHalf (field word))
+signed_half-there : (word : ℕ) → word < 2 ^ 32 → Settled format.SignedHalfLoad word
+    → Writes word (half LoadSignedHalf (field word))
 signed_half-there word small s m =
     let high : field word 20 8 / 32 ≡ 0 = grind (arith, nat_tests) in
     let load : field word 20 8 % 2 ≡ 1 = grind (arith, nat_tests) in
@@ -245,7 +261,8 @@ write_immediate-there word small s m =
     let ones : field word 12 4 ≡ 15 = grind (arith, nat_tests) in
     rw (condition-there (field word 28 4) (omega arith), flag-there (field word 22 1) (omega arith)) (omega arith)
 
-number-there : (word : ℕ) → word < 2 ^ 32 → Settled format.TransferNumber word → Writes word (transfer (number_offset (field word)) (field word))
+number-there : (word : ℕ) → word < 2 ^ 32 → Settled format.TransferNumber word
+    → Writes word (transfer (number_offset (field word)) (field word))
 number-there word small s m =
     let high : field word 20 8 / 32 ≡ 2 = grind (arith, nat_tests) in
     rw (
@@ -258,7 +275,8 @@ number-there word small s m =
     )
     (omega arith)
 
-shifted-there : (word : ℕ) → word < 2 ^ 32 → Settled format.TransferShifted word → Writes word (transfer (shifted_offset (field word)) (field word))
+shifted-there : (word : ℕ) → word < 2 ^ 32 → Settled format.TransferShifted word
+    → Writes word (transfer (shifted_offset (field word)) (field word))
 shifted-there word small s m =
     let high : field word 20 8 / 32 ≡ 3 = grind (arith, nat_tests) in
     let low : field word 4 4 % 2 ≡ 0 = grind (arith, nat_tests) in
@@ -297,7 +315,11 @@ signed-there n small = signed-cases n small (nat_lt n (2 ^ 23)) refl
 branch-there : (word : ℕ) → word < 2 ^ 32 → Settled format.Branch word → Writes word (branch (field word))
 branch-there word small s m =
     let high : field word 20 8 / 32 ≡ 5 = grind (arith, nat_tests) in
-    rw (condition-there (field word 28 4) (omega arith), flag-there (field word 24 1) (omega arith), signed-there (field word 0 24) (omega arith))
+    rw (
+      condition-there (field word 28 4) (omega arith),
+      flag-there (field word 24 1) (omega arith),
+      signed-there (field word 0 24) (omega arith),
+    )
     (omega arith)
 
 interrupt-there : (word : ℕ) → word < 2 ^ 32 → Settled format.Interrupt word → Writes word (interrupt (field word))
@@ -307,23 +329,28 @@ interrupt-there word small s m =
 
 -- the parts of data processing are the word's, whichever operation it is
 abbrev Processes : ℕ → Operand → Type 0
-Processes word operand = (number rd : ℕ) (set : Bool) → number ≡ field word 21 4 → flag_number set ≡ field word 20 1 → rd ≡ field word 12 4
+Processes word operand =
+    (number rd : ℕ) (set : Bool) → number ≡ field word 21 4 → flag_number set ≡ field word 20 1 → rd ≡ field word 12 4
     → pack (processing_parts (condition (field word)) number set (field word 16 4) rd operand) ≡ word
 
-by_register-there : (word : ℕ) → word < 2 ^ 32 → Settled format.ProcessingByRegister word → Processes word (by_register (field word))
+by_register-there : (word : ℕ) → word < 2 ^ 32 → Settled format.ProcessingByRegister word
+    → Processes word (by_register (field word))
 by_register-there word small s number rd set n f r =
     let high : field word 20 8 / 32 ≡ 0 = grind (arith, nat_tests) in
     let low : field word 4 4 % 2 ≡ 1 = grind (arith, nat_tests) in
     let clear : field word 4 4 / 8 ≡ 0 = grind (arith, nat_tests) in
-    rw (condition-there (field word 28 4) (omega arith), shift-there (field word 5 2) (omega arith), n, f, r) (omega arith)
+    rw (condition-there (field word 28 4) (omega arith), shift-there (field word 5 2) (omega arith), n, f, r)
+    (omega arith)
 
 fixed-there : (word : ℕ) → word < 2 ^ 32 → Settled format.ProcessingFixed word → Processes word (fixed (field word))
 fixed-there word small s number rd set n f r =
     let high : field word 20 8 / 32 ≡ 0 = grind (arith, nat_tests) in
     let low : field word 4 4 % 2 ≡ 0 = grind (arith, nat_tests) in
-    rw (condition-there (field word 28 4) (omega arith), shift-there (field word 5 2) (omega arith), n, f, r) (omega arith)
+    rw (condition-there (field word 28 4) (omega arith), shift-there (field word 5 2) (omega arith), n, f, r)
+    (omega arith)
 
-immediate-there : (word : ℕ) → word < 2 ^ 32 → Settled format.ProcessingImmediate word → Processes word (immediate (field word))
+immediate-there : (word : ℕ) → word < 2 ^ 32 → Settled format.ProcessingImmediate word
+    → Processes word (immediate (field word))
 immediate-there word small s number rd set n f r =
     let high : field word 20 8 / 32 ≡ 1 = grind (arith, nat_tests) in
     rw (condition-there (field word 28 4) (omega arith), n, f, r) (omega arith)
@@ -338,7 +365,8 @@ processing-there : (word : ℕ) (operand : Operand) → Processes word operand �
     → Writes word (processing operand (field word))
 processing-there word operand writes s =
     either-there (Writes word) (is_compare (field word)) (compare operand (field word)) (compute operand (field word))
-    (λ is m. writes (compare_number (compare_of (field word 21 4))) 0 true (compare-there (field word 21 4) (omega arith) is)
+    (λ is m. writes (compare_number (compare_of (field word 21 4))) 0 true
+    (compare-there (field word 21 4) (omega arith) is)
     (sym (sets-there (field word 20 8) (field word 21 4) (omega arith) s is) ∙ omega arith)
     (sym (eqb-true _ _ m)))
     (λ is_not m. writes (compute_number (compute_of (field word 21 4))) (field word 12 4) (flag (field word) 20)
@@ -346,7 +374,8 @@ processing-there word operand writes s =
     (flag-there (field word 20 1) (omega arith))
     refl)
 
-format-there : (f : Format) (word : ℕ) → word < 2 ^ 32 → Settled f word → IfSome (operation_of f (field word)) (Writes word)
+format-there : (f : Format) (word : ℕ) → word < 2 ^ 32 → Settled f word
+    → IfSome (operation_of f (field word)) (Writes word)
 format-there format.Exchange word small s = exchange-there word small s
 format-there format.Multiply word small s = multiply-there word small s
 format-there format.MultiplyLong word small s = multiply_long-there word small s
@@ -357,9 +386,11 @@ format-there format.SignedHalfLoad word small s = signed_half-there word small s
 format-there format.StatusRead word small s = read_status-there word small s
 format-there format.StatusWriteRegister word small s = write_plain-there word small s
 format-there format.StatusWriteImmediate word small s = write_immediate-there word small s
-format-there format.ProcessingByRegister word small s = processing-there word _ (by_register-there word small s) (grind arith)
+format-there format.ProcessingByRegister word small s =
+    processing-there word _ (by_register-there word small s) (grind arith)
 format-there format.ProcessingFixed word small s = processing-there word _ (fixed-there word small s) (grind arith)
-format-there format.ProcessingImmediate word small s = processing-there word _ (immediate-there word small s) (grind arith)
+format-there format.ProcessingImmediate word small s =
+    processing-there word _ (immediate-there word small s) (grind arith)
 format-there format.TransferNumber word small s = number-there word small s
 format-there format.TransferShifted word small s = shifted-there word small s
 format-there format.Block word small s = block-there word small s

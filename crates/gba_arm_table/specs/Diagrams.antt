@@ -101,8 +101,8 @@ half_code LoadSignedHalf = 3
 -- data processing (A3.4): the number of the operation in bits 24 to 21
 abbrev pub processing_parts : Condition → ℕ → Bool → ℕ → ℕ → Operand → List Part
 processing_parts cond number set rn rd operand =
-    condition_part cond ∷ part 2 0 ∷ flag_part (is_immediate operand) ∷ part 4 number ∷ flag_part set ∷ part 4 rn ∷ part 4 rd
-    ∷ operand_parts operand
+    condition_part cond ∷ part 2 0 ∷ flag_part (is_immediate operand) ∷ part 4 number ∷ flag_part set ∷ part 4 rn
+    ∷ part 4 rd ∷ operand_parts operand
 
 -- the word of an operation, from bit 31 down
 abbrev pub diagram : ArmOp → List Part
@@ -133,7 +133,8 @@ diagram (op.Transfer cond load byte pre up write rn rd offset) =
 diagram (op.Block cond load pre up user write rn list) =
     condition_part cond ∷ part 3 4 ∷ flag_part pre ∷ flag_part up ∷ flag_part user ∷ flag_part write ∷ flag_part load
     ∷ part 4 rn ∷ part 16 list ∷ []
-diagram (op.Branch cond link offset) = condition_part cond ∷ part 3 5 ∷ flag_part link ∷ part 24 (cast_unsigned w32 offset) ∷ []
+diagram (op.Branch cond link offset) =
+    condition_part cond ∷ part 3 5 ∷ flag_part link ∷ part 24 (cast_unsigned w32 offset) ∷ []
 diagram (op.Interrupt cond comment) = condition_part cond ∷ part 4 15 ∷ part 24 comment ∷ []
 
 -- whether the bits of a word that should be one or zero are, where no field of the operation names them (A4.1, A5.3)

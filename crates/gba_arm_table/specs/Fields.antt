@@ -47,12 +47,14 @@ swap bits = op.Swap (condition bits) (flag bits 22) (bits 16 4) (bits 12 4) (bit
 
 -- the offset of a halfword transfer (A5.3): with bit 22 the number in bits 11 to 8 and 3 to 0, else Rm
 abbrev pub half_offset_of : Bits → HalfOffset
-half_offset_of bits = if flag bits 22 then half_offset.Number (bits 8 4 * 16 + bits 0 4) else half_offset.Plain (bits 0 4)
+half_offset_of bits =
+    if flag bits 22 then half_offset.Number (bits 8 4 * 16 + bits 0 4) else half_offset.Plain (bits 0 4)
 
 -- LDRH, STRH, LDRSB, LDRSH (A5.3): P in bit 24, U in bit 23, W in bit 21, Rn in bits 19 to 16, Rd in 15 to 12
 abbrev pub half : HalfKind → Bits → ArmOp
 half kind bits =
-    op.Half (condition bits) kind (flag bits 24) (flag bits 23) (flag bits 21) (bits 16 4) (bits 12 4) (half_offset_of bits)
+    op.Half (condition bits) kind (flag bits 24) (flag bits 23) (flag bits 21) (bits 16 4) (bits 12 4)
+    (half_offset_of bits)
 
 -- an unsigned halfword: bit 20 loads
 abbrev pub unsigned_half_kind : Bits → HalfKind
@@ -84,7 +86,8 @@ compare operand bits = op.Compare (condition bits) (compare_of (bits 21 4)) (bit
 -- data processing that writes Rd (A3.4): the operation in bits 24 to 21, S in bit 20, Rn in bits 19 to 16, Rd in
 -- 15 to 12
 abbrev pub compute : Operand → Bits → ArmOp
-compute operand bits = op.Compute (condition bits) (compute_of (bits 21 4)) (flag bits 20) (bits 16 4) (bits 12 4) operand
+compute operand bits =
+    op.Compute (condition bits) (compute_of (bits 21 4)) (flag bits 20) (bits 16 4) (bits 12 4) operand
 
 abbrev pub processing : Operand → Bits → ArmOp
 processing operand bits = if is_compare bits then compare operand bits else compute operand bits

@@ -62,7 +62,8 @@ registers_of (op.ReadStatus cond saved rd) = register rd ∷ []
 registers_of (op.WriteStatus cond saved fields source) = source_registers source
 registers_of (op.Compute cond op set rn rd operand) = register rn ∷ register rd ∷ operand_registers operand
 registers_of (op.Compare cond op rn operand) = register rn ∷ operand_registers operand
-registers_of (op.Transfer cond load byte pre up write rn rd offset) = register rn ∷ register rd ∷ transfer_registers offset
+registers_of (op.Transfer cond load byte pre up write rn rd offset) =
+    register rn ∷ register rd ∷ transfer_registers offset
 registers_of (op.Block cond load pre up user write rn list) = register rn ∷ []
 registers_of (op.Branch cond link offset) = []
 registers_of (op.Interrupt cond comment) = []

@@ -15,8 +15,8 @@ pub record Row : Type 0 where
 abbrev pub row : ℕ → ℕ → Format → Row
 row mask value format = record { mask = mask; value = value; format = format }
 
--- The twenty rows, in the order in which they are tried (ARM Architecture Reference Manual, A3.1, for version 4T).
--- No mask has the condition, bits 31 to 28. Of bits that should be zero or one, BX, MRS and MSR by a register have bits 7
+-- The twenty rows, in the order in which they are tried (ARM Architecture Reference Manual, A3.1, for version 4T). No
+-- mask has the condition, bits 31 to 28. Of bits that should be zero or one, BX, MRS and MSR by a register have bits 7
 -- to 4 in their masks, which part them from each other; the other masks leave such bits out.
 unfoldable pub rows : List Row
 rows =

@@ -104,8 +104,8 @@ items_bytes-mark labels w (u ∷ old) new mark image first rest =
     let same : u ≡ Mark mark = cc in
     rw (rest, same) refl
 
-refusal_of : (left all : Result (List ℕ) AsmKind) (first image : List ℕ) (kind : AsmKind) → onto first all ≡ onto image left
-    → left ≡ Err kind → all ≡ Err kind
+refusal_of : (left all : Result (List ℕ) AsmKind) (first image : List ℕ) (kind : AsmKind)
+    → onto first all ≡ onto image left → left ≡ Err kind → all ≡ Err kind
 refusal_of left (Err e) first image kind h e' = cc
 refusal_of (Err e) (Ok bytes) first image kind h e' = absurd cc
 refusal_of (Ok rest) (Ok bytes) first image kind h e' = absurd cc

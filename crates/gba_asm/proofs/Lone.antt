@@ -29,7 +29,8 @@ use Rattle.gba_asm.specs.Places.{Labels, labels_from, labels_of, no_labels, star
 use Rattle.gba_asm.specs.Statements.{Statement, Nothing, Mode, Data, Space, Align, Arm, Thumb, line_says, label_of, size_of, padding, directive_form, statement_of}
 use Rattle.gba_asm.proofs.Passes.{given_line}
 
-item_size : (f : Labels) (w : Width) (word bytes : List ℕ) → item_bytes f w word ≡ Ok bytes → length bytes ≡ width_size w
+item_size : (f : Labels) (w : Width) (word bytes : List ℕ) → item_bytes f w word ≡ Ok bytes
+    → length bytes ≡ width_size w
 unfolding item_bytes
 item_size f width.Word word bytes h =
     let g = bind-ok (or_operand (target_of word) >>= address_of f) _ bytes h in
@@ -94,8 +95,8 @@ was_in_range : {T : Type 0} (o : Option T) (x : T) → in_range o ≡ Ok x → o
 was_in_range (Some y) x h = cc
 was_in_range None x h = absurd cc
 
-thumb_statement_size : (f : Labels) (address : ℕ) (s : thumb.ThumbStatement) (bytes : List ℕ) → thumb_code f address s ≡ Ok bytes
-    → length bytes ≡ thumb_placing.size_of s
+thumb_statement_size : (f : Labels) (address : ℕ) (s : thumb.ThumbStatement) (bytes : List ℕ)
+    → thumb_code f address s ≡ Ok bytes → length bytes ≡ thumb_placing.size_of s
 unfolding thumb_code
 thumb_statement_size f address s bytes h =
     let t = bind-ok (address_in f (thumb_placing.target_of s)) _ bytes h in
@@ -131,8 +132,8 @@ bytes_size f address (Arm s) bytes h =
 bytes_size f address (Thumb s) bytes h = thumb_statement_size f address s bytes h
 
 -- a statement with bytes leaves the state
-stays : (f : Labels) (address : ℕ) (s : Statement) (bytes : List ℕ) (thumb : Bool) → statement_bytes f address s ≡ Ok bytes
-    → 0 < length bytes → state_after thumb s ≡ thumb
+stays : (f : Labels) (address : ℕ) (s : Statement) (bytes : List ℕ) (thumb : Bool)
+    → statement_bytes f address s ≡ Ok bytes → 0 < length bytes → state_after thumb s ≡ thumb
 unfolding statement_bytes
 stays f address Nothing bytes thumb h some = refl
 stays f address (Mode state) bytes thumb h some =
@@ -150,8 +151,8 @@ pub record IsLone (thumb : Bool) (address : ℕ) (line bytes : List ℕ) : Type 
   pub next : place_after (record { address = address; thumb = thumb }) line
       ≡ record { address = address + length bytes; thumb = thumb }
 
-after_by : (p : Place) (r : Result Statement AsmKind) (s : Statement) → r ≡ Ok s → fits p.address (size_of p.address s) ≡ true
-    → past_statement p r ≡ after_statement p s
+after_by : (p : Place) (r : Result Statement AsmKind) (s : Statement) → r ≡ Ok s
+    → fits p.address (size_of p.address s) ≡ true → past_statement p r ≡ after_statement p s
 after_by p r s e h = rw (e, h) refl
 
 given_by : (number : ℕ) (p : Place) (line : List ℕ) (s : Statement) (bytes : List ℕ) → line_says p.thumb line ≡ Ok s
@@ -189,7 +190,8 @@ pub told : (thumb : Bool) (address : ℕ) (line : List ℕ) (tokens : List Token
     → lone_bytes thumb address line ≡ Ok bytes
 unfolding lone_bytes
 told thumb address line tokens bytes same none t =
-    given_by 1 (record { address = address; thumb = thumb }) line t.statement bytes (same ∙ t.said) t.inside none t.given
+    given_by 1 (record { address = address; thumb = thumb }) line t.statement bytes (same ∙ t.said) t.inside
+    none t.given
 
 word_target : (word : List ℕ) (n : ℕ) → number_of word ≡ Some n → target_of word ≡ Some (Address n)
 unfolding target_of
@@ -249,8 +251,8 @@ halves_say : (thumb : Bool) (v w : List ℕ) (m n : ℕ) → number_of v ≡ Som
 unfolding statement_of directive_of directive_form are_items
 halves_say thumb v w m n h k = rw (h, k) refl
 
-halves_give : (address : ℕ) (v w : List ℕ) (m n : ℕ) → number_of v ≡ Some m → number_of w ≡ Some n → m < 2 ^ 16 → n < 2 ^ 16
-    → address % 2 ≡ 0
+halves_give : (address : ℕ) (v w : List ℕ) (m n : ℕ) → number_of v ≡ Some m → number_of w ≡ Some n → m < 2 ^ 16
+    → n < 2 ^ 16 → address % 2 ≡ 0
     → statement_bytes no_labels address (Data width.Half (Word v ∷ Mark 44 ∷ Word w ∷ []))
     ≡ Ok (to_le_bytes w16 m ++ to_le_bytes w16 n)
 unfolding statement_bytes items_bytes item_bytes
@@ -259,7 +261,8 @@ halves_give address v w m n h k small low a = rw (h, lt-ltb _ _ small, k, lt-ltb
 -- `.half` and two numbers
 pub halves_line : (thumb : Bool) (address : ℕ) (v w : List ℕ) (m n : ℕ) → number_of v ≡ Some m → number_of w ≡ Some n
     → m < 2 ^ 16 → n < 2 ^ 16 → address % 2 ≡ 0 → address + 4 ≤ 33554432
-    → Tells thumb address (Word (codes ".half") ∷ Word v ∷ Mark 44 ∷ Word w ∷ []) (to_le_bytes w16 m ++ to_le_bytes w16 n)
+    → Tells thumb address (Word (codes ".half") ∷ Word v ∷ Mark 44 ∷ Word w ∷ [])
+    (to_le_bytes w16 m ++ to_le_bytes w16 n)
 unfolding size_of count_words
 halves_line thumb address v w m n h k small low a room = record {
   statement = Data width.Half (Word v ∷ Mark 44 ∷ Word w ∷ []);
@@ -300,7 +303,8 @@ AreLone thumb address (line ∷ lines) bytes =
 
 pub lone_give : (thumb : Bool) (address number : ℕ) (before : List ℕ) (ls : List (List ℕ)) (bytes : List ℕ)
     → AreLone thumb address ls bytes
-    → lines_say (sources no_labels) number (record { bytes = before; place = record { address = address; thumb = thumb } }) ls
+    → lines_say (sources no_labels) number
+    (record { bytes = before; place = record { address = address; thumb = thumb } }) ls
     ≡ Ok (before ++ bytes)
 lone_give thumb address number before [] bytes h =
     lines_say-end (sources no_labels) number _
@@ -309,8 +313,8 @@ lone_give thumb address number before (line ∷ ls) bytes h =
     let lone = h.2 in
     let step = given_line no_labels (number + 1) before h.0 (record { address = address; thumb = thumb })
     (record { address = address + length h.0; thumb = thumb }) line (lone.given (number + 1)) lone.next in
-    lines_say-more (sources no_labels) number (record { bytes = before; place = record { address = address; thumb = thumb } })
-    line ls _ step
+    lines_say-more (sources no_labels) number
+    (record { bytes = before; place = record { address = address; thumb = thumb } }) line ls _ step
     ∙ lone_give thumb (address + length h.0) (number + 1) (before ++ h.0) ls h.1 h.4
     ∙ ap Ok (append_assoc before h.0 h.1 ∙ ap (λ more. before ++ more) (sym h.5))
 
@@ -338,7 +342,10 @@ thumb_says : statement_of false (Word (codes ".thumb") ∷ []) ≡ Ok (Mode true
 unfolding statement_of directive_of directive_form
 thumb_says = refl
 
-turned : (line : List ℕ) → line_says false line ≡ Ok (Mode true) → place_after start line ≡ record { address = 0; thumb = true }
+turned : (line : List ℕ) → line_says false line ≡ Ok (Mode true) → place_after start line ≡ record {
+  address = 0;
+  thumb = true;
+}
 unfolding place_after size_of
 turned line h = rw h refl
 
@@ -356,7 +363,8 @@ lone_thumb source line bytes rest short split says none h =
     let said = says ∙ thumb_says in
     let found : labels_of source ≡ no_labels =
     rw (split, none, turned line said) (lone_labels true 0 1 rest bytes h) in
-    let step = given_line no_labels 1 [] [] start (record { address = 0; thumb = true }) line (mode_gives line said none)
+    let step =
+    given_line no_labels 1 [] [] start (record { address = 0; thumb = true }) line (mode_gives line said none)
     (turned line said) in
     answer_of-lines (sources (labels_of source)) source (Ok bytes) short
     (ap (λ (f : Labels). lines_say (sources f) 0 begun (lines source)) found

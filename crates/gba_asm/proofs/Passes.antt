@@ -58,7 +58,8 @@ found_more source f g old new p q line h o added moved = λ name.
     let known : g ≡ with_label (old.number + 1) p.address (label_of line) f =
     same_labels g _ (rw o.number at added) in
     let here : labels_from f old.number p (line ∷ new.lines) name ≡ labels_of source name = rw o.lines at (h name) in
-    rw (known, moved, o.number) (ap (λ (k : Labels). k name) (sym (labels_from-more f old.number p line new.lines)) ∙ here)
+    rw (known, moved, o.number)
+    (ap (λ (k : Labels). k name) (sym (labels_from-more f old.number p line new.lines)) ∙ here)
 
 pub found_all : (source : List ℕ) (f : Labels) (old : Reading) (p : Place) → AreFound source f old.number p old.lines
     → None ≡ first_of old.lines → (name : List ℕ) → f name ≡ labels_of source name
@@ -70,8 +71,8 @@ pub place_after-is : (p : Place) (line : List ℕ) → past_statement p (line_sa
 unfolding place_after
 place_after-is p line = refl
 
-same_name : (f : Labels) (label name : List ℕ) (place : LabelPlace) → f label ≡ None → (t : Bool) → bytes_eq label name ≡ t
-    → cond t (Some place) (f name) ≡ cond t (first_some (f name) (Some place)) (f name)
+same_name : (f : Labels) (label name : List ℕ) (place : LabelPlace) → f label ≡ None → (t : Bool)
+    → bytes_eq label name ≡ t → cond t (Some place) (f name) ≡ cond t (first_some (f name) (Some place)) (f name)
 same_name f label name place none true e =
     let same : label ≡ name = grind (arith, bytes_eq-Decides) in
     let absent : f name ≡ None = rw same at none in
@@ -90,7 +91,8 @@ unfolding split_label
 split_few [] = omega arith
 split_few (Mark m ∷ ts) = omega arith
 split_few (Word w ∷ ts) = by_test (is_label w && begins 58 ts) where
-  by_test : (t : Bool) → length (cond t (record { label = Some w; rest = other_tokens ts }) (unlabelled (Word w ∷ ts))).rest
+  by_test : (t : Bool)
+      → length (cond t (record { label = Some w; rest = other_tokens ts }) (unlabelled (Word w ∷ ts))).rest
       ≤ length (Word w ∷ ts)
   by_test true = few ts where
     few : (ts : List Token) → length (other_tokens ts) ≤ length (Word w ∷ ts)
@@ -125,7 +127,8 @@ onto-is (Err kind) image after h = absurd cc
 -- a line that gives these bytes, after those that were given before
 pub given_line : (labels : Labels) (n : ℕ) (before bytes : List ℕ) (p q : Place) (line : List ℕ)
     → line_bytes labels n p line ≡ Ok bytes → place_after p line ≡ q
-    → assembled_with labels n (record { bytes = before; place = p }) line ≡ Ok (record { bytes = before ++ bytes; place = q })
+    → assembled_with labels n (record { bytes = before; place = p }) line
+    ≡ Ok (record { bytes = before ++ bytes; place = q })
 unfolding assembled_with
 given_line labels n before bytes p q line h moved = rw (h, moved) refl
 

@@ -11,9 +11,9 @@ use Rattle.gba_asm.specs.Encoding.{statement_bytes}
 use Rattle.gba_asm.specs.Places.{Labels, no_labels, start, fits, place_after, labels_of, is_repeated}
 use Rattle.gba_asm.specs.Statements.{line_says, label_of, size_of}
 
--- The bytes of the line of this number, or why it is refused. The tests in their order: the line's length, its bytes and
--- its statement's name, its operands; the image's size; a repeated label; a label that no line has; a number or an address.
--- The size of an image is known only of a line that has a form, so it is tested there.
+-- The bytes of the line of this number, or why it is refused. The tests in their order: the line's length, its bytes
+-- and its statement's name, its operands; the image's size; a repeated label; a label that no line has; a number or an
+-- address. The size of an image is known only of a line that has a form, so it is tested there.
 unfoldable pub line_bytes : Labels → ℕ → Place → List ℕ → Result (List ℕ) AsmKind
 line_bytes labels number p line = do
   s ← line_says p.thumb line

@@ -5,8 +5,8 @@ use Rattle.gba_asm_words.specs.Kinds.{AsmError}
 use Rattle.gba_asm.specs.Assembly.{sources, assembly_of}
 use Rattle.gba_asm.specs.Places.{labels_of}
 
--- What a source comes to: the bytes of all its lines, one line's after another's, or its first refused line. Its labels are
--- those of all its lines.
+-- What a source comes to: the bytes of all its lines, one line's after another's, or its first refused line. Its labels
+-- are those of all its lines.
 abbrev pub Says : List ℕ → Result (List ℕ) AsmError → Type 0
 Says source answer = languages.Says (sources (labels_of source)) source answer
 

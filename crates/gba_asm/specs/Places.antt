@@ -49,7 +49,8 @@ no_labels name = None
 abbrev pub with_label : ℕ → ℕ → Option (List ℕ) → Labels → Labels
 with_label number address None labels name = labels name
 with_label number address (Some label) labels name =
-    if bytes_eq label name then first_some (labels name) (Some (record { line = number; address = address })) else labels name
+    if bytes_eq label name then first_some (labels name) (Some (record { line = number; address = address }))
+    else labels name
 
 -- the labels of lines that stand after so many others, beside those that are known
 unfoldable pub labels_from : Labels → ℕ → Place → List (List ℕ) → Labels

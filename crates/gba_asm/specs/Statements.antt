@@ -60,7 +60,8 @@ split_label tokens = labelled tokens
 -- what a directive says with its operands
 unfoldable pub directive_form : Directive → List Token → Result Statement AsmKind
 directive_form (directive.Mode thumb) tokens = end_at tokens >>= (λ _. Ok (Mode thumb))
-directive_form (directive.Data width) tokens = if are_items width true tokens then Ok (Data width tokens) else Err kind.Operand
+directive_form (directive.Data width) tokens =
+    if are_items width true tokens then Ok (Data width tokens) else Err kind.Operand
 directive_form directive.Space tokens = number_at tokens >>= (λ n. end_at n.left >>= (λ _. Ok (Space n.value)))
 directive_form directive.Align tokens = end_at tokens >>= (λ _. Ok Align)
 
@@ -82,7 +83,8 @@ abbrev pub unless_faulty : {T : Type 0} → Option AsmKind → T → (AsmKind �
 unless_faulty None x f = x
 unless_faulty (Some kind) x f = f kind
 
--- What a line says after its label. The tests in their order: its length, its bytes, its statement's name, its operands.
+-- What a line says after its label. The tests in their order: its length, its bytes, its statement's name,
+-- its operands.
 unfoldable pub line_says : Bool → List ℕ → Result Statement AsmKind
 line_says thumb line =
     unless_faulty (fault_of line) (statement_of thumb (split_label (tokens (code_of line))).rest) (λ kind. Err kind)

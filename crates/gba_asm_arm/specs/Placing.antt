@@ -13,8 +13,8 @@ target_of (Operation op) = None
 target_of (Branch cond link target) = Some target
 target_of (Load cond rd target) = Some target
 
--- How far a target is from the address that r15 is read as, the statement's own plus 8. It is a number modulo 2 ^ 32, and
--- from 2 ^ 31 on a negative one.
+-- How far a target is from the address that r15 is read as, the statement's own plus 8. It is a number modulo 2 ^ 32,
+-- and from 2 ^ 31 on a negative one.
 abbrev pub distance : ℕ → ℕ → ℕ
 distance address target = (target + (2 ^ 32 - (address + 8) % 2 ^ 32)) % 2 ^ 32
 

@@ -463,8 +463,8 @@ fn thumb_numbers_without_an_encoding_are_out_of_range(rt: HostRuntime) {
     }
 }
 
-// The first refused line decides, and on it Size, Unknown, Operand, Repeated, Label, Range in this order; the image's size is
-// tested where a statement has a form.
+// The first refused line decides, and on it Size, Unknown, Operand, Repeated, Label, Range in this order; the image's
+// size is tested where a statement has a form.
 #[test]
 fn the_first_refused_line_decides(rt: HostRuntime) {
     static CASES: [(&[u8], u64, AsmKind); 46] = [

@@ -124,7 +124,8 @@ fn the_other_thumb_statements_are_encoded(rt: HostRuntime) {
     }
 }
 
-// Two low registers are added and moved by format 5 and compared by format 4; branches to numbers, reckoned by hand from address 0.
+// Two low registers are added and moved by format 5 and compared by format 4; branches to numbers, reckoned by hand
+// from address 0.
 #[test]
 fn the_form_as_written_picks_the_format(rt: HostRuntime) {
     static CASES: [(&[u8], u16); 21] = [

@@ -1,5 +1,5 @@
--- The forms of Thumb statements: what a name says with its operands. The operands as they are written choose the format,
--- and never their values (GBATEK, THUMB.1 to THUMB.19).
+-- The forms of Thumb statements: what a name says with its operands. The operands as they are written choose the
+-- format, and never their values (GBATEK, THUMB.1 to THUMB.19).
 use Rattle.std.specs.Prelude.{ℕ, ◌-◌, ◌/◌, ◌%◌, ◌^◌, Bool, true, false, nat_le, nat_lt, ◌&&◌, ◌==◌, List, Option, Some, None, option_map, Result, Ok, Err, if◌then◌else◌}
 use Rattle.gba_word.specs.declared.kinds.Shift.{Shift}
 use Rattle.gba_word.specs.declared.kinds.Shift.TheVariants.{Lsl, Lsr, Asr, Ror}

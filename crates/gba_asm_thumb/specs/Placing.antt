@@ -20,8 +20,8 @@ size_of (Branch target) = 2
 size_of (BranchIf cond target) = 2
 size_of (Call target) = 4
 
--- How far a target is from the statement's own address plus 4. It is a number modulo 2 ^ 32, and from 2 ^ 31 on a negative
--- one.
+-- How far a target is from the statement's own address plus 4. It is a number modulo 2 ^ 32, and from 2 ^ 31 on a
+-- negative one.
 abbrev pub distance : ℕ → ℕ → ℕ
 distance address target = (target + (2 ^ 32 - (address + 4) % 2 ^ 32)) % 2 ^ 32
 

@@ -107,8 +107,8 @@ impl<'a> ThumbStatement<'a> {
         }
     }
 
-    /// The operations of the statement at this address, whose target, if it has one, is at that one. None where a number
-    /// has no encoding. Whether an operation itself has one, `gba_thumb_table::encode` tells.
+    /// The operations of the statement at this address, whose target, if it has one, is at that one. None where a
+    /// number has no encoding. Whether an operation itself has one, `gba_thumb_table::encode` tells.
     #[tactic(auto, unfolding(crate::specs::Placing::operations_at))]
     pub fn operations_at(&self, address: u32, target: u32) -> Option<ThumbOps>
         ensures { result ≡ operations_at_of address target (statement_value self.now) }

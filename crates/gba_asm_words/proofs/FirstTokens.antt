@@ -28,7 +28,8 @@ tokens-blanks bs text e = by_blanks bs ∙ ap tokens (sym (e ∙ drop-back is_bl
 pub no_blank-first : (bs : List ℕ) (b : ℕ) (rest : List ℕ) → b ∷ rest ≡ drop (prefix_len is_blank bs) bs
     → is_blank b ≡ false
 no_blank-first bs b rest e =
-    let h : stops is_blank (b ∷ rest) ≡ true = ap (stops is_blank) (e ∙ drop-back is_blank bs) ∙ back-stops is_blank bs in
+    let h : stops is_blank (b ∷ rest) ≡ true =
+    ap (stops is_blank) (e ∙ drop-back is_blank bs) ∙ back-stops is_blank bs in
     negated _ h
 
 pub tokens_mark : (b : ℕ) (bs : List ℕ) → is_blank b ≡ false → is_word_byte b ≡ false

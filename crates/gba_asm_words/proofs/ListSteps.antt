@@ -8,7 +8,8 @@ use Rattle.gba_asm_words.specs.Lists.{list_from, list_step, is_closed}
 use Rattle.gba_asm_words.specs.Readers.{first_token, other_tokens}
 use Rattle.gba_asm_words.specs.Tokens.{Token}
 
-pub list_from-closed : (s : ListState) (ts : List Token) → is_closed s.place ≡ true → list_from s ts ≡ Ok (taken s.list ts)
+pub list_from-closed : (s : ListState) (ts : List Token) → is_closed s.place ≡ true
+    → list_from s ts ≡ Ok (taken s.list ts)
 unfolding list_from
 list_from-closed s [] h = rw h refl
 list_from-closed s (t ∷ ts) h = rw h refl

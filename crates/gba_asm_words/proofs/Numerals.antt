@@ -20,11 +20,12 @@ by_range (Err r) word value all e some h =
       by_test true u = absurd (h (some, grind (arith, nat_tests)))
       by_test false u = grind (arith, nat_tests)
 
-pub decimal-parsed : {E : Type 0} (word : List ℕ) (r : Result ℕ E) → ParsesUnsigned 32 10 word r → all_digits word ≡ true
-    → 0 < length word → result_ok r ≡ decimal_of word
+pub decimal-parsed : {E : Type 0} (word : List ℕ) (r : Result ℕ E) → ParsesUnsigned 32 10 word r
+    → all_digits word ≡ true → 0 < length word → result_ok r ≡ decimal_of word
 unfolding decimal_of
 decimal-parsed word r h all some =
-    by_range r word (digits_value 10 word) (all_digits word) all some (parse_digits (numerals_by_value (λ ds. all_digits ds
+    by_range r word (digits_value 10 word) (all_digits word) all some
+    (parse_digits (numerals_by_value (λ ds. all_digits ds
     ≡ true) (search rules)) 32 word r h all)
 
 same_range : {E : Type 0} (r : Result ℕ E) (value : ℕ) {P Q : Type 0} → OkIff r ((P × Q) × (value < 2 ^ 32)) value

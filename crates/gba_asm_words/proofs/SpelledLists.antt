@@ -16,7 +16,8 @@ abbrev pub listed : (ℕ → List ℕ) → ℕ → ℕ → Bool → ℕ → List
 listed name zero n first list = []
 listed name (suc more) n first list =
     cond (list / 2 ^ n % 2 == 1)
-    (cond first (Word (name n) ∷ listed name more (n + 1) false list) (Mark 44 ∷ Word (name n) ∷ listed name more (n + 1) false list))
+    (cond first (Word (name n) ∷ listed name more (n + 1) false list)
+    (Mark 44 ∷ Word (name n) ∷ listed name more (n + 1) false list))
     (listed name more (n + 1) first list)
 
 place_of : Bool → ℕ → ListPlace
@@ -49,7 +50,8 @@ closed_read acc rest k true = list_from-closed (state acc Closed) rest refl
 closed_read acc rest k false = list_from-closed (state acc Closed) rest refl
 
 word_read : (acc n : ℕ) (word : List ℕ) (ts : List Token) (k : ℕ) → register_of word ≡ Some n
-    → list_from (state acc (place_of true k)) (Word word ∷ ts) ≡ list_from (state (bit_or acc (2 ^ n)) (place_of false n)) ts
+    → list_from (state acc (place_of true k)) (Word word ∷ ts)
+    ≡ list_from (state (bit_or acc (2 ^ n)) (place_of false n)) ts
 unfolding list_from list_step place_of
 word_read acc n word ts k h = rw h refl
 
@@ -70,10 +72,12 @@ read_by : (name : ℕ → List ℕ) (acc n list k : ℕ) (more : List Token) (fi
     ≡ Ok (taken (list % 2 ^ 16) rest)
 read_by name acc n list k more true true rest others e named same deeper passed =
     let set : list / 2 ^ n % 2 ≡ 1 = grind (arith, nat_tests) in
-    word_read acc n (name n) (more ++ Mark 125 ∷ rest) k named ∙ deeper (bit_or acc (2 ^ n)) n (joined_bit list n acc same set)
+    word_read acc n (name n) (more ++ Mark 125 ∷ rest) k named
+    ∙ deeper (bit_or acc (2 ^ n)) n (joined_bit list n acc same set)
 read_by name acc n list k more false true rest others e named same deeper passed =
     let set : list / 2 ^ n % 2 ≡ 1 = grind (arith, nat_tests) in
-    next_read acc n (name n) (more ++ Mark 125 ∷ rest) k named ∙ deeper (bit_or acc (2 ^ n)) n (joined_bit list n acc same set)
+    next_read acc n (name n) (more ++ Mark 125 ∷ rest) k named
+    ∙ deeper (bit_or acc (2 ^ n)) n (joined_bit list n acc same set)
 read_by name acc n list k more first false rest others e named same deeper passed =
     passed acc k (left_bit list n acc same e)
 
@@ -92,8 +96,8 @@ read_from name named (suc more) n list acc k first rest e same =
     (λ a j h. read_from name named more (n + 1) list a j first rest later h)
 
 -- a list of sixteen bits in braces (123 and 125)
-pub list_spelled : (name : ℕ → List ℕ) → ((n : ℕ) → n < 16 → register_of (name n) ≡ Some n) → (list : ℕ) (rest : List Token)
-    → list < 2 ^ 16
+pub list_spelled : (name : ℕ → List ℕ) → ((n : ℕ) → n < 16 → register_of (name n) ≡ Some n)
+    → (list : ℕ) (rest : List Token) → list < 2 ^ 16
     → list_at (Mark 123 ∷ (listed name 16 0 true list ++ Mark 125 ∷ rest)) ≡ Ok (taken list rest)
 unfolding list_at place_of
 list_spelled name named list rest h =

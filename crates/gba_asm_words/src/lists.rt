@@ -157,7 +157,8 @@ fn is_closed(place: ListPlace) -> bool
 
 /// The rest of a list, up to its `}`.
 fn list_from(tokens: &mut Tokens<'_>) -> Result<u16, AsmKind>
-    ensures { Takes (λ list. list) result tokens.new (list_from (record { list = 0; place = ListPlace.Opened }) tokens.old) }
+    ensures { Takes (λ list. list) result tokens.new
+        (list_from (record { list = 0; place = ListPlace.Opened }) tokens.old) }
 {
     let mut state = ListState {
         list: 0,

@@ -450,8 +450,8 @@ static MOVES: [&[Move]; 37] = [
         Advance(1),
         Pair(2, -4096, -4096),
     ],
-    // A goes left at full volume by timer 0, and B right at half volume by timer 1. The pair has the bytes that were taken
-    // in its cycle.
+    // A goes left at full volume by timer 0, and B right at half volume by timer 1. The pair has the bytes that were
+    // taken in its cycle.
     &[
         Store(0x084, Half, 0x0080),
         Store(0x082, Half, 0x5204),
@@ -478,8 +478,8 @@ static MOVES: [&[Move]; 37] = [
         Queue(0, 0, 0x03),
         Pair(1, 0, 0),
     ],
-    // Channel 1 at volume 15 to both sides gives 15 times 8 times 4 times 8 for four periods of 32,768 cycles, which the pair
-    // of clock 131,072 is past. Its place is told before the cycles are paid.
+    // Channel 1 at volume 15 to both sides gives 15 times 8 times 4 times 8 for four periods of 32,768 cycles, which
+    // the pair of clock 131,072 is past. Its place is told before the cycles are paid.
     &[
         Store(0x084, Half, 0x0080),
         Store(0x080, Word, 0x0002_1177),
@@ -530,8 +530,8 @@ static MOVES: [&[Move]; 37] = [
         Advance(1),
         Tone(3, 0x6000),
     ],
-    // A byte write keeps the stored other byte, also of bits that don't read, and starts a channel by bit 15. Words are their
-    // halfwords. SOUNDCNT_X keeps its bit by a write of its other byte.
+    // A byte write keeps the stored other byte, also of bits that don't read, and starts a channel by bit 15. Words are
+    // their halfwords. SOUNDCNT_X keeps its bit by a write of its other byte.
     &[
         Store(0x085, Byte, 0x00),
         Load(0x084, Half, 0x0000),
@@ -557,7 +557,8 @@ static MOVES: [&[Move]; 37] = [
         Load(0x080, Word, 0x770F_0000),
         Kept(0x082, 0x770F),
     ],
-    // A length that is timed runs out by the clock alone: SOUNDCNT_X shows it where it is read and where it is looked at.
+    // A length that is timed runs out by the clock alone: SOUNDCNT_X shows it where it is read and where it
+    // is looked at.
     &[
         Store(0x084, Half, 0x0080),
         Store(0x062, Half, 0xF0BF),
@@ -583,8 +584,8 @@ static MOVES: [&[Move]; 37] = [
         Advance(1),
         Kept(0x064, 0x05DC),
     ],
-    // The registers of the wave are those of the bank that isn't the first, and are written while the sound is off, too. That
-    // makes the others 0 but SOUNDCNT_H.
+    // The registers of the wave are those of the bank that isn't the first, and are written while the sound is off,
+    // too. That makes the others 0 but SOUNDCNT_H.
     &[
         Store(0x090, Word, 0x7654_3210),
         Wave(1, 0x10),
@@ -702,7 +703,8 @@ static MOVES: [&[Move]; 37] = [
         Kept(0x202, 0x0000),
         Kept(0x0DE, 0x0000),
     ],
-    // DMA0 starts DMA3 with its first unit, and ends its run before DMA3's first. A word at 06000000h stands there first.
+    // DMA0 starts DMA3 with its first unit, and ends its run before DMA3's first. A word at 06000000h stands
+    // there first.
     &[
         Store(0x0200_0000, Half, 0x8000),
         Store(0x0D4, Word, 0x0200_0000),
@@ -825,8 +827,8 @@ static MOVES: [&[Move]; 37] = [
         Unit(Some(6)),
         Unit(None),
     ],
-    // The inner points grow by PB and PD where a line that is seen comes to HBlank, a write of either half makes a point
-    // the whole new one, and VBlank makes them the written ones.
+    // The inner points grow by PB and PD where a line that is seen comes to HBlank, a write of either half makes a
+    // point the whole new one, and VBlank makes them the written ones.
     &[
         Store(0x022, Half, 0x0100),
         Store(0x026, Half, 0xFF80),

@@ -1,4 +1,5 @@
-//! The serial unit on the board: its registers at every width, and what the cable does, by moves and what they must show.
+//! The serial unit on the board: its registers at every width, and what the cable does, by moves and what
+//! they must show.
 
 use crate::bench::{Bench, Seat};
 use crate::shown::{NOTHING, Shown, flag, is, number, shows, two};
@@ -37,7 +38,8 @@ enum Move {
     Reply(u64, u32, u64, LinkMode, u32),
     /// End what is due.
     Ends,
-    /// The step tells the mode with a start's speed and word or without, and a reply's word or none; or it tells nothing.
+    /// The step tells the mode with a start's speed and word or without, and a reply's word or none; or it
+    /// tells nothing.
     Tells(u64, LinkMode, Option<(u8, u32)>, Option<u32>),
     Silent,
     /// So many transfers ended, and so many are kept.
@@ -207,8 +209,8 @@ const WIDTHS: [Move; 30] = [
     Count(0, 0),
 ];
 
-/// Bytes of SIOCNT keep the other one: the mode by its high byte, and a start by its low one. A word over SIOCNT and the
-/// send word starts with the old send word.
+/// Bytes of SIOCNT keep the other one: the mode by its high byte, and a start by its low one. A word over SIOCNT and
+/// the send word starts with the old send word.
 const BYTES: [Move; 18] = [
     Store(0x134, Half, 0),
     Store(0x12A, Half, 0x1111),
@@ -271,8 +273,8 @@ const MULTI: [Move; 25] = [
     Count(1, 1),
 ];
 
-/// A transfer ends before a signal that arrives at its end, so that reply comes too late. Without bit 14 no interrupt is
-/// requested. It is counted where it isn't kept.
+/// A transfer ends before a signal that arrives at its end, so that reply comes too late. Without bit 14 no interrupt
+/// is requested. It is counted where it isn't kept.
 const LATE: [Move; 12] = [
     Store(0x134, Half, 0),
     Store(0x12A, Half, 0x1234),

@@ -159,8 +159,8 @@ fn come<R: Abort>(rt: &R, bench: &mut Bench) -> Devices {
     devices
 }
 
-/// A board of another one's parts, lines and memories makes what that one makes: the rest of a frame whose first lines had other
-/// colours, the pairs of samples of sounds that had begun, and the end of a transfer that ran.
+/// A board of another one's parts, lines and memories makes what that one makes: the rest of a frame whose first lines
+/// had other colours, the pairs of samples of sounds that had begun, and the end of a transfer that ran.
 #[test]
 fn a_poured_board_goes_on(rt: HostRuntime) -> Result<(), Fail> {
     let mut one = bench_of(rt.alloc())?;
@@ -227,8 +227,8 @@ fn pour_counts<R: Abort>(rt: &R, bench: &mut Bench, counts: Counts) {
     costs(rt, bench, false, 4);
 }
 
-/// The counts go on from any numbers. What asks for more than an instruction, and what an access to the ROM costs, are the poured
-/// devices': halted, and WAITCNT with 3 waits for the first access and 1 for the next.
+/// The counts go on from any numbers. What asks for more than an instruction, and what an access to the ROM costs, are
+/// the poured devices': halted, and WAITCNT with 3 waits for the first access and 1 for the next.
 #[test]
 fn counts_are_poured(rt: HostRuntime) -> Result<(), Fail> {
     for &counts in &COUNTS {

@@ -8,8 +8,8 @@ use std::alloc::Global;
 use std::process::Abort;
 use std::test::Fail;
 
-/// The registers that run, as words: direct sound from timers 0 and 1, four tone channels, four timers of which timer 1 counts
-/// timer 0's overflows, with their interrupts, and the picture's interrupts with line 3 to match.
+/// The registers that run, as words: direct sound from timers 0 and 1, four tone channels, four timers of which timer 1
+/// counts timer 0's overflows, with their interrupts, and the picture's interrupts with line 3 to match.
 pub(crate) static RUNNING: [(u32, u32); 17] = [
     (0x084, 0x0000_0080),
     (0x080, 0x4302_FF77),
@@ -145,10 +145,12 @@ fn boards_skip_as_they_step(rt: HostRuntime) -> Result<(), Fail> {
     Ok(())
 }
 
-/// Moves by so many cycles, and then owes steps of so many, at most so many: how many it owes, and the clock and the pairs then.
+/// Moves by so many cycles, and then owes steps of so many, at most so many: how many it owes, and the clock and the
+/// pairs then.
 type Owing = (u32, u32, u32, [u64; 3]);
 
-/// With nothing that runs, the steps go to the pair of samples at clock 512, to the limit of the quiet cycles, and to HBlank.
+/// With nothing that runs, the steps go to the pair of samples at clock 512, to the limit of the quiet cycles,
+/// and to HBlank.
 static HEARD: [Owing; 4] = [
     (0, 16, 20, [20, 320, 0]),
     (0, 16, 20, [11, 496, 0]),
@@ -156,8 +158,8 @@ static HEARD: [Owing; 4] = [
     (16, 1, 511, [493, 1005, 1]),
 ];
 
-/// Where samples aren't kept the steps go on past the pair, and past the 512 cycles of a look, to HBlank: the second twenty are
-/// twelve up to the end of the first look at 512 and eight of the next.
+/// Where samples aren't kept the steps go on past the pair, and past the 512 cycles of a look, to HBlank: the second
+/// twenty are twelve up to the end of the first look at 512 and eight of the next.
 static NOT_HEARD: [Owing; 5] = [
     (0, 16, 20, [20, 320, 0]),
     (0, 16, 20, [20, 640, 1]),

@@ -17,7 +17,8 @@ either-wait false one other here there = there
 
 chosen-wait : (choice : ℕ) → IsWait (chosen_wait choice)
 chosen-wait choice =
-    either-wait (choice == 0) 4 (if choice == 1 then 3 else if choice == 2 then 2 else 8) (record { most = omega arith })
+    either-wait (choice == 0) 4 (if choice == 1 then 3 else if choice == 2 then 2 else 8)
+    (record { most = omega arith })
     (either-wait (choice == 1) 3 (if choice == 2 then 2 else 8) (record { most = omega arith })
     (either-wait (choice == 2) 2 8 (record { most = omega arith }) (record { most = omega arith })))
 

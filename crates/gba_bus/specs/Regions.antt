@@ -2,8 +2,9 @@ use Rattle.std.specs.Prelude.{ℕ, Bool, true, false, ◌/◌, ◌^◌, ◌==◌
 use Rattle.gba_bus.specs.declared.region.Region.{Region}
 use Rattle.gba_bus.specs.declared.region.Region.TheVariants.{Bios, Work, Inner, Io, Palette, Vram, Oam, Rom0, Rom1, Rom2, Sram, Other}
 
--- The region of an address, by the 16 MiB block that it stands in (GBATEK, GBA Memory Map). The BIOS and the I/O registers
--- are at the front of their blocks and aren't repeated there; the SRAM has two blocks (this project's profile).
+-- The region of an address, by the 16 MiB block that it stands in (GBATEK, GBA Memory Map). The BIOS and the
+-- I/O registers are at the front of their blocks and aren't repeated there; the SRAM has two blocks (this
+-- project's profile).
 abbrev pub region_in_block : ℕ → ℕ → Region
 region_in_block block address =
     if block == 0x0 then (if nat_lt address 0x4000 then Bios else Other)

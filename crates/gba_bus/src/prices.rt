@@ -6,9 +6,9 @@ ghost use Rattle.gba_bus.specs.Prices.{by_width, first_wait, price, rom_price, s
 use crate::{Region, Width};
 use gba_word::{bit, bits};
 
-/// WAITCNT as it is stored (GBATEK, GBA System Control). Bits 0 and 1 choose the wait of the SRAM; bits 2 and 3, 5 and 6, 8
-/// and 9 those of a first access to ROM view 0, 1 and 2: 4, 3, 2 or 8 cycles. Bits 4, 7 and 10 choose those of a second
-/// access: 2 or 1, 4 or 1, 8 or 1. No other bit changes a price (this project's profile).
+/// WAITCNT as it is stored (GBATEK, GBA System Control). Bits 0 and 1 choose the wait of the SRAM; bits 2 and 3, 5 and
+/// 6, 8 and 9 those of a first access to ROM view 0, 1 and 2: 4, 3, 2 or 8 cycles. Bits 4, 7 and 10 choose those of a
+/// second access: 2 or 1, 4 or 1, 8 or 1. No other bit changes a price (this project's profile).
 #[derive(Clone, Copy, Debug, PartialEq, Eq)]
 pub struct WaitControl {
     pub value: u16,
@@ -61,8 +61,8 @@ fn price_by_width(narrow: u32, wide: u32, width: Width) -> u32
     }
 }
 
-/// What an access costs, in cycles of 16,777,216 Hz (GBATEK, GBA Memory Map and GBA System Control; the SRAM at 16 and 32
-/// bits this project's profile). The law [`crate::laws::prices_are_within`] says that it is from 1 to 18.
+/// What an access costs, in cycles of 16,777,216 Hz (GBATEK, GBA Memory Map and GBA System Control; the SRAM at 16 and
+/// 32 bits this project's profile). The law [`crate::laws::prices_are_within`] says that it is from 1 to 18.
 #[tactic(auto, unfolding(crate::specs::Prices::price))]
 pub fn price(region: Region, width: Width, sequential: bool, waits: &WaitControl) -> u32
     ensures { result ≡ price region width sequential waits.now.value }

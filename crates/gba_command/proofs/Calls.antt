@@ -11,35 +11,40 @@ use Rattle.gba_command.specs.Writing.{Call, Output, SinkState, WriteEnd, Wrote, 
 
 -- the whole list of calls ends as its rest does from here
 unfoldable pub Leads : Type 0 → List Call → List Call → SinkState → SinkState → Type 0
-Leads Tells whole rest old mid = (new : SinkState) (end : WriteEnd) → PerformsAll Tells rest mid new end → PerformsAll Tells whole old new end
+Leads Tells whole rest old mid =
+    (new : SinkState) (end : WriteEnd) → PerformsAll Tells rest mid new end → PerformsAll Tells whole old new end
 
 pub leads-first : (Tells : Type 0) (whole : List Call) (old : SinkState) → Leads Tells whole whole old old
 unfolding Leads
 leads-first Tells whole old = λ new end h. h
 
 -- a call was done
-pub leads-next : (Tells : Type 0) (whole rest left : List Call) (call : Call) (old mid next : SinkState) → left ≡ call ∷ rest
-    → Leads Tells whole left old mid → Performs Tells call mid next Wrote → Leads Tells whole rest old next
+pub leads-next : (Tells : Type 0) (whole rest left : List Call) (call : Call) (old mid next : SinkState)
+    → left ≡ call ∷ rest → Leads Tells whole left old mid → Performs Tells call mid next Wrote
+    → Leads Tells whole rest old next
 unfolding Leads PerformsAll
 leads-next Tells whole rest left call old mid next is leads done = λ new end h.
     leads new end (subst (λ calls. PerformsAll Tells calls mid new end) (sym is) (inr (next, done, h)))
 
 -- a call wasn't done
-pub leads-stop : (Tells : Type 0) (whole rest left : List Call) (call : Call) (old mid new : SinkState) (end : WriteEnd) → left ≡ call ∷ rest
-    → Leads Tells whole left old mid → Performs Tells call mid new end → IsStopped end → PerformsAll Tells whole old new end
+pub leads-stop : (Tells : Type 0) (whole rest left : List Call) (call : Call) (old mid new : SinkState) (end : WriteEnd)
+    → left ≡ call ∷ rest → Leads Tells whole left old mid → Performs Tells call mid new end → IsStopped end
+    → PerformsAll Tells whole old new end
 unfolding Leads PerformsAll
 leads-stop Tells whole rest left call old mid new end is leads done stopped =
     leads new end (subst (λ calls. PerformsAll Tells calls mid new end) (sym is) (inl (done, stopped)))
 
 -- every call was done
-pub leads-last : (Tells : Type 0) (whole left : List Call) (old mid : SinkState) → left ≡ [] → Leads Tells whole left old mid
-    → PerformsAll Tells whole old mid Wrote
+pub leads-last : (Tells : Type 0) (whole left : List Call) (old mid : SinkState) → left ≡ []
+    → Leads Tells whole left old mid → PerformsAll Tells whole old mid Wrote
 unfolding Leads PerformsAll
-leads-last Tells whole left old mid none leads = leads mid Wrote (subst (λ calls. PerformsAll Tells calls mid mid Wrote) (sym none) (refl, refl))
+leads-last Tells whole left old mid none leads =
+    leads mid Wrote (subst (λ calls. PerformsAll Tells calls mid mid Wrote) (sym none) (refl, refl))
 
 -- calls that were all done, and calls behind them
 pub performs-then : (Tells : Type 0) (before after : List Call) (old mid new : SinkState) (end : WriteEnd)
-    → PerformsAll Tells before old mid Wrote → PerformsAll Tells after mid new end → PerformsAll Tells (before ++ after) old new end
+    → PerformsAll Tells before old mid Wrote → PerformsAll Tells after mid new end
+    → PerformsAll Tells (before ++ after) old new end
 unfolding PerformsAll
 performs-then Tells [] after old mid new end done h = subst (λ state. PerformsAll Tells after state new end) done.0 h
 performs-then Tells (call ∷ before) after old mid new end (inl done) h = absurd done.1
@@ -85,8 +90,8 @@ module _ (Tells : Type 0) (call : Output → Call) where
         (files-then here rest mid next new end done h))
 
     -- one of them wasn't
-    pub leads-broken : (new : SinkState) (end : WriteEnd) → PerformsAll Tells (map call here) mid new end → IsStopped end
-        → PerformsAll Tells whole old new end
+    pub leads-broken : (new : SinkState) (end : WriteEnd) → PerformsAll Tells (map call here) mid new end
+        → IsStopped end → PerformsAll Tells whole old new end
     unfolding Leads
     leads-broken new end done stopped =
         leads new end (subst (λ files. PerformsAll Tells (map call files) mid new end) (sym is)
@@ -103,8 +108,9 @@ stopped (writing.Fault name) = tt
 stopped writing.NoMemory = tt
 
 -- a stop and its report close a run
-pub closes-stop : (Tells : Type 0) (status : ℕ) (conclusion : Result (List ℕ) Cause) (stop : WriteStop) (old new : SinkState)
-    → status ≡ end_status (write_stop_value stop) → Reported Tells (end_report (write_stop_value stop)) old new
+pub closes-stop : (Tells : Type 0) (status : ℕ) (conclusion : Result (List ℕ) Cause) (stop : WriteStop)
+    (old new : SinkState) → status ≡ end_status (write_stop_value stop)
+    → Reported Tells (end_report (write_stop_value stop)) old new
     → Closes Tells status conclusion (write_stop_value stop) old new
 closes-stop Tells status conclusion (writing.Fault name) old new is reported = (is, reported)
 closes-stop Tells status conclusion writing.NoMemory old new is reported = (is, reported)
@@ -123,12 +129,15 @@ unfolding PerformsAll
 performs-none Tells old = (refl, refl)
 
 -- the calls of files, from a place on: the file's there, and then those behind it
-pub calls-from : {X Y Z : Type 0} (view : X → Y) (call : Y → Z) (files : List X) (i : ℕ) (file : X) → i < length files → file ≡ get_or files i file
+pub calls-from : {X Y Z : Type 0} (view : X → Y) (call : Y → Z) (files : List X) (i : ℕ) (file : X) → i < length files
+    → file ≡ get_or files i file
     → map call (map view (drop i files)) ≡ call (view file) ∷ map call (map view (drop (i + 1) files))
 calls-from view call files i file within is =
-    let split : drop i files ≡ file ∷ drop (i + 1) files = rw add-one (drop-cons files i file within ∙ ap (λ x. x ∷ drop (suc i) files) (sym is)) in
+    let split : drop i files ≡ file ∷ drop (i + 1) files =
+    rw add-one (drop-cons files i file within ∙ ap (λ x. x ∷ drop (suc i) files) (sym is)) in
     ap (λ xs. map call (map view xs)) split
 
 -- and none where the place is their end
-pub calls-none : {X Y Z : Type 0} (view : X → Y) (call : Y → Z) (files : List X) (i : ℕ) → length files ≤ i → map call (map view (drop i files)) ≡ []
+pub calls-none : {X Y Z : Type 0} (view : X → Y) (call : Y → Z) (files : List X) (i : ℕ) → length files ≤ i
+    → map call (map view (drop i files)) ≡ []
 calls-none view call files i past = ap (λ xs. map call (map view xs)) (drop_of_length-le files past)

@@ -12,8 +12,8 @@ ComesTo (Done x) y = x ≡ y
 ComesTo (Refuse cause) y = ⊥
 ComesTo (Read name most long next) y = (bytes : List ℕ) × ComesTo (next bytes) y
 
-pub goes-comes : {Store X : Type 0} (gives : List ℕ → ℕ → Result (List ℕ) ReadError → Store → Store → Type 0) (plan : Plan X) (old new : Store) (x : X)
-    → GoesTo gives plan old new (Ok x) → ComesTo plan x
+pub goes-comes : {Store X : Type 0} (gives : List ℕ → ℕ → Result (List ℕ) ReadError → Store → Store → Type 0)
+    (plan : Plan X) (old new : Store) (x : X) → GoesTo gives plan old new (Ok x) → ComesTo plan x
 unfolding GoesTo ComesTo
 goes-comes gives (Done y) old new x (inl h) = absurd cc
 goes-comes gives (Done y) old new x (inr h) = cc
@@ -22,15 +22,17 @@ goes-comes gives (Refuse cause) old new x (inr h) = absurd cc
 goes-comes gives (Read name most long next) old new x (inl h) = absurd cc
 goes-comes gives (Read name most long next) old new x (inr (inl h)) = absurd cc
 goes-comes gives (Read name most long next) old new x (inr (inr (inl h))) = absurd cc
-goes-comes gives (Read name most long next) old new x (inr (inr (inr h))) = (h.1, goes-comes gives (next h.1) h.0 new x h.4)
+goes-comes gives (Read name most long next) old new x (inr (inr (inr h))) =
+    (h.1, goes-comes gives (next h.1) h.0 new x h.4)
 
 -- a file that is there and isn't too long
 pub record IsRead (found : Option (List ℕ)) (most : ℕ) (bytes : List ℕ) : Type 0 where
   pub there : found ≡ Some bytes
   pub short : nat_lt most (length bytes) ≡ false
 
-pub file-ok : {Y : Type 0} (name : List ℕ) (most : ℕ) (long : Cause) (next : List ℕ → Result Y Stop) (found : Option (List ℕ)) (y : Y)
-    → after_file name most long next found ≡ Ok y → (bytes : List ℕ) × IsRead found most bytes × (next bytes ≡ Ok y)
+pub file-ok : {Y : Type 0} (name : List ℕ) (most : ℕ) (long : Cause) (next : List ℕ → Result Y Stop)
+    (found : Option (List ℕ)) (y : Y) → after_file name most long next found ≡ Ok y
+    → (bytes : List ℕ) × IsRead found most bytes × (next bytes ≡ Ok y)
 file-ok name most long next None y h = absurd cc
 file-ok {Y} name most long next (Some bytes) y h = by_length (nat_lt most (length bytes)) refl h where
   by_length : (t : Bool) → nat_lt most (length bytes) ≡ t → cond t (Err (Refused long)) (next bytes) ≡ Ok y
@@ -38,8 +40,9 @@ file-ok {Y} name most long next (Some bytes) y h = by_length (nat_lt most (lengt
   by_length true e s = absurd cc
   by_length false e s = (bytes, record { there = refl; short = e }, s)
 
-pub file-reads : {Y : Type 0} (name : List ℕ) (most : ℕ) (long : Cause) (next : List ℕ → Result Y Stop) (found : Option (List ℕ)) (bytes : List ℕ)
-    → IsRead found most bytes → after_file name most long next found ≡ next bytes
+pub file-reads : {Y : Type 0} (name : List ℕ) (most : ℕ) (long : Cause) (next : List ℕ → Result Y Stop)
+    (found : Option (List ℕ)) (bytes : List ℕ) → IsRead found most bytes
+    → after_file name most long next found ≡ next bytes
 file-reads name most long next found bytes h = rw (h.there, h.short) refl
 
 pub outcome-comes : {X : Type 0} (files : Files) (plan : Plan X) (x : X) → outcome files plan ≡ Ok x → ComesTo plan x
@@ -70,7 +73,8 @@ comes-done x y h = h
 
 -- the outcome of a plan and of what follows from it
 pub outcome-parts : {X Y : Type 0} (files : Files) (plan : Plan X) (following : X → Plan Y) (y : Y)
-    → outcome files (bind plan following) ≡ Ok y → (x : X) × (outcome files plan ≡ Ok x) × (outcome files (following x) ≡ Ok y)
+    → outcome files (bind plan following) ≡ Ok y
+    → (x : X) × (outcome files plan ≡ Ok x) × (outcome files (following x) ≡ Ok y)
 unfolding outcome
 outcome-parts files (Done x) following y h = (x, refl, h)
 outcome-parts files (Refuse cause) following y h = absurd cc

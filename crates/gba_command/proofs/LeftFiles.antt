@@ -18,7 +18,8 @@ pub own-name : (a : List ℕ) → bytes_eq a a ≡ true
 own-name a = grind (arith, bytes_eq-Decides)
 
 pub other-name : (a b : List ℕ) → bytes_eq a b ≡ false → a ≢ b
-other-name a b h is = let same : bytes_eq a b ≡ true = subst (λ (c : List ℕ). bytes_eq a c ≡ true) is (own-name a) in absurd cc
+other-name a b h is = let same : bytes_eq a b ≡ true = subst (λ (c : List ℕ). bytes_eq a c ≡ true) is (own-name a) in
+    absurd cc
 
 pub names-apart : (a b : List ℕ) → a ≢ b → bytes_eq a b ≡ false
 names-apart a b apart = by (bytes_eq a b) refl where
@@ -64,11 +65,13 @@ module _ (Tells : Type 0) where
         → new.files name ≡ (if b then Some (unwrap_or (old.files name) [] ++ piece) else old.files name)
     by true is =
         let same : other ≡ name = same-name other name is in
-        ap new.files (sym same) ∙ (h.1 tells).file ∙ ap (λ (n : List ℕ). Some (unwrap_or (old.files n) [] ++ piece)) same
+        ap new.files (sym same) ∙ (h.1 tells).file
+        ∙ ap (λ (n : List ℕ). Some (unwrap_or (old.files n) [] ++ piece)) same
     by false is = (h.1 tells).others name (λ same. other-name other name is (sym same))
 
   -- calls and those behind them: the first are all done, or one of them isn't
-  split : (before after : List Call) (old new : SinkState) (end : WriteEnd) → PerformsAll Tells (before ++ after) old new end
+  split : (before after : List Call) (old new : SinkState) (end : WriteEnd)
+      → PerformsAll Tells (before ++ after) old new end
       → ((mid : SinkState) × PerformsAll Tells before old mid Wrote × PerformsAll Tells after mid new end)
       ⊎ (PerformsAll Tells before old new end × IsStopped end)
   unfolding PerformsAll
@@ -109,7 +112,8 @@ module _ (Tells : Type 0) where
       }
 
   made-first : (output : Output) (outputs : List Output) (name : List ℕ) (before : Option (List ℕ))
-      → left_in outputs [] name (if bytes_eq output.name name then Some [] else before) ≡ left_in (output ∷ outputs) [] name before
+      → left_in outputs [] name (if bytes_eq output.name name then Some [] else before)
+      ≡ left_in (output ∷ outputs) [] name before
   unfolding is_among added
   made-first output outputs name before = by (bytes_eq output.name name) (is_among name outputs) where
     by : (a b : Bool) → (if b then Some [] else (if a then Some [] else before)) ≡ (if a || b then Some [] else before)
@@ -138,8 +142,9 @@ module _ (Tells : Type 0) where
     by false = is ∙ ap Some (sym (append-nil bytes))
 
   -- pieces that are added to a file that is there
-  adds-leave : (pieces : List Output) (old new : SinkState) → Tells → PerformsAll Tells (map addition pieces) old new Wrote
-      → (name bytes : List ℕ) → old.files name ≡ Some bytes → new.files name ≡ Some (bytes ++ added name pieces)
+  adds-leave : (pieces : List Output) (old new : SinkState) → Tells
+      → PerformsAll Tells (map addition pieces) old new Wrote → (name bytes : List ℕ) → old.files name ≡ Some bytes
+      → new.files name ≡ Some (bytes ++ added name pieces)
   unfolding PerformsAll added
   adds-leave [] old new tells h name bytes is =
       ap (λ (s : SinkState). s.files name) h.0 ∙ is ∙ ap Some (sym (append-nil bytes))
@@ -206,7 +211,8 @@ module _ (Tells : Type 0) where
       let call : (name : List ℕ) → new.files name ≡ after_one (line_call summary) name (old.files name)
       = λ name. ap (λ (s : SinkState). s.files name) h.2.0 ∙ done-one (line_call summary) old h.0 tells h.1 name in (
         call standard_output
-            ∙ ap (λ (b : Bool). if b then Some (unwrap_or (old.files standard_output) [] ++ summary) else old.files standard_output)
+            ∙ ap (λ (b : Bool). if b then Some (unwrap_or (old.files standard_output) [] ++ summary)
+            else old.files standard_output)
             (own-name standard_output),
         λ name apart. call name
             ∙ ap (λ (b : Bool). if b then Some (unwrap_or (old.files name) [] ++ summary) else old.files name)
@@ -307,8 +313,8 @@ module _ (Tells : Type 0) where
       }
 
   stops-adding : (run : Run) (old made new : SinkState) (stop : WriteEnd) → Tells → HasOwnFiles run
-      → PerformsAll Tells (map creation run.outputs) old made Wrote → PerformsAll Tells (map addition run.pieces) made new stop
-      → IsStopped stop → Stopped run old new stop
+      → PerformsAll Tells (map creation run.outputs) old made Wrote
+      → PerformsAll Tells (map addition run.pieces) made new stop → IsStopped stop → Stopped run old new stop
   unfolding NextCall
   stops-adding run old made new stop tells own creates h stopped =
       let s : StopsAt addition run.pieces made new stop = stops-at addition run.pieces made new stop h stopped in
@@ -320,7 +326,8 @@ module _ (Tells : Type 0) where
         stopped = record { files = all-made run; pieces = s.place; files_first = inl refl };
         mid = s.mid;
         held = leaves run.outputs s.before (s.one ∷ s.after) old made s.mid tells
-            (subst (λ (l : List Output). All (λ (piece : Output). is_among piece.name run.outputs ≡ true) l) s.place own.own)
+            (subst (λ (l : List Output). All (λ (piece : Output). is_among piece.name run.outputs ≡ true) l) s.place
+            own.own)
             creates s.done;
         call = addition s.one;
         next = inr (inl (s.one, s.after, refl, refl, refl));
@@ -328,7 +335,8 @@ module _ (Tells : Type 0) where
       }
 
   stops-ending : (run : Run) (old made whole new : SinkState) (stop : WriteEnd) → Tells → HasOwnFiles run
-      → PerformsAll Tells (map creation run.outputs) old made Wrote → PerformsAll Tells (map addition run.pieces) made whole Wrote
+      → PerformsAll Tells (map creation run.outputs) old made Wrote
+      → PerformsAll Tells (map addition run.pieces) made whole Wrote
       → PerformsAll Tells (summary_calls run.end) whole new stop → IsStopped stop → Stopped run old new stop
   unfolding NextCall
   stops-ending run old made whole new stop tells own creates adds h stopped =
@@ -396,7 +404,14 @@ module _ (Tells : Type 0) where
       record {
         failing = elim f.file [
           | inl same ↦ inl (ap new.files (sym is) ∙ same ∙ ap mid.files is)
-          | inr none ↦ inr (inl (record { output = output; later = n.1; next = n.2; named = is; file = ap new.files (sym is) ∙ none }))
+          | inr none ↦
+              inr (inl (record {
+                output = output;
+                later = n.1;
+                next = n.2;
+                named = is;
+                file = ap new.files (sym is) ∙ none;
+              }))
         ];
         others = λ other apart. f.others other (λ same. apart (same ∙ is));
       }
@@ -457,7 +472,9 @@ module _ (Tells : Type 0) where
         front = s.front;
         left = s.left;
         stopped = s.stopped;
-        failing = subst (λ (o : Option (List ℕ)). MayHold run s.unmade s.left name o (new.files name)) (s.held name) f.failing;
+        failing =
+            subst (λ (o : Option (List ℕ)). MayHold run s.unmade s.left name o (new.files name))
+            (s.held name) f.failing;
         others = λ other apart. f.others other apart ∙ s.held other;
       }
 
@@ -480,8 +497,12 @@ module _ (Tells : Type 0) where
     by : (end : WriteEnd) → PerformsAll Tells (calls_of run) old h.0 end → Closes Tells 0 run.end end h.0 new
         → (summary : List ℕ) × (run.end ≡ Ok summary) × LeavesFiles run old.files new.files
     by Wrote calls closes =
-        let c = concluded run.end h.0 new closes in
-        (c.0, c.1, subst (λ (s : SinkState). LeavesFiles run old.files s.files) (sym c.2) (left-files run old h.0 tells own calls))
+        let c = concluded run.end h.0 new closes in (
+          c.0,
+          c.1,
+          subst (λ (s : SinkState). LeavesFiles run old.files s.files) (sym c.2)
+              (left-files run old h.0 tells own calls),
+        )
     by (SinkFails name) calls closes = absurd (let nine : 0 ≡ 9 = closes.0 in cc)
     by SinkLacks calls closes = absurd (let ten : 0 ≡ 10 = closes.0 in cc)
 

@@ -26,14 +26,17 @@ unfolding ArePart
 part-late [] name names h = tt
 part-late (output ∷ outputs) name names h = inr h
 
-pub part-append : (outputs more : List Output) (names others : List (List ℕ)) → ArePart outputs names → ArePart more others
-    → ArePart (outputs ++ more) (names ++ others)
+pub part-append : (outputs more : List Output) (names others : List (List ℕ)) → ArePart outputs names
+    → ArePart more others → ArePart (outputs ++ more) (names ++ others)
 unfolding ArePart
 part-append [] more [] others h k = k
-part-append [] more (name ∷ names) others h k = part-late more name (names ++ others) (part-append [] more names others tt k)
+part-append [] more (name ∷ names) others h k =
+    part-late more name (names ++ others) (part-append [] more names others tt k)
 part-append (output ∷ outputs) more [] others h k = absurd h
-part-append (output ∷ outputs) more (name ∷ names) others (inl h) k = inl (h.0, part-append outputs more names others h.1 k)
-part-append (output ∷ outputs) more (name ∷ names) others (inr h) k = inr (part-append (output ∷ outputs) more names others h k)
+part-append (output ∷ outputs) more (name ∷ names) others (inl h) k =
+    inl (h.0, part-append outputs more names others h.1 k)
+part-append (output ∷ outputs) more (name ∷ names) others (inr h) k =
+    inr (part-append (output ∷ outputs) more names others h k)
 
 pub neither : (a b : Bool) → (a || b) ≡ false → (a ≡ false) × (b ≡ false)
 neither true b h = absurd cc

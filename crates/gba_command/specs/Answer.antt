@@ -53,8 +53,8 @@ module _ (Tells : Type 0) (status : ℕ) where
       × Refuses 10 (stop_report LacksMemory) mid new)
 
   -- What is left to answer where no count of faults or absences rose: what the words and the files come to, or memory
-  -- was wanting, before anything was written or in a call of the sink. Where they come to an absent file no other end is
-  -- left: memory was wanting before its read.
+  -- was wanting, before anything was written or in a call of the sink. Where they come to an absent file no other end
+  -- is left: memory was wanting before its read.
   abbrev pub Completes : Result Run Stop → SinkState → SinkState → Type 0
   Completes (Ok run) old new = Completed run old new ⊎ Refuses 10 (stop_report LacksMemory) old new
   Completes (Err (Refused cause)) old new =

@@ -34,7 +34,8 @@ module _ {Store : Type 0} (gives : List ℕ → ℕ → Result (List ℕ) ReadEr
       × (GoesTo gives plan old new (Err (StoreFails name)) → Rose (faults old) (faults new))
 
   -- Where a store counts exactly, no count rose if memory was wanting: an absence or a fault isn't hidden behind it.
-  abbrev pub HidesNothing : (List ℕ → ℕ → Option ReadError → Store → Store → Type 0) → (Store → ℕ) → (Store → ℕ) → Type 0
+  abbrev pub HidesNothing : (List ℕ → ℕ → Option ReadError → Store → Store → Type 0) → (Store → ℕ) → (Store → ℕ)
+      → Type 0
   HidesNothing Reads absences faults =
       CountsExactly Reads absences faults → (plan : Plan Run) (old new : Store)
       → GoesTo gives plan old new (Err LacksMemory)
@@ -56,4 +57,5 @@ status_after (Err cause) = status_of cause
 abbrev pub CountsItsEnds : Type 0 → Type 0
 CountsItsEnds Tells =
     (status : ℕ) (run : Run) (old new : SinkState) → Answers Tells status (Ok run) old new
-    → (status ≡ status_after run.end) ⊎ ((status ≡ 9) × Rose old.faults new.faults) ⊎ ((status ≡ 10) × Rose old.wants new.wants)
+    → (status ≡ status_after run.end) ⊎ ((status ≡ 9) × Rose old.faults new.faults)
+    ⊎ ((status ≡ 10) × Rose old.wants new.wants)

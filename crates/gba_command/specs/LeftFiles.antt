@@ -27,8 +27,8 @@ unfoldable pub NamesDiffer : List Output → Type 0
 NamesDiffer [] = Unit {0}
 NamesDiffer (output ∷ outputs) = (is_among output.name outputs ≡ false) × NamesDiffer outputs
 
--- None of a run's files is standard output, each piece is one of a file, and the pieces of a file, one after another, are
--- its bytes.
+-- None of a run's files is standard output, each piece is one of a file, and the pieces of a file, one after another,
+-- are its bytes.
 pub record HasOwnFiles (run : Run) : Type 0 where
   pub apart : is_among standard_output run.outputs ≡ false
   pub own : All (λ piece. is_among piece.name run.outputs ≡ true) run.pieces
@@ -39,20 +39,20 @@ abbrev pub with_summary : Result (List ℕ) Cause → Option (List ℕ) → Opti
 with_summary (Ok summary) before = Some (unwrap_or before [] ++ summary)
 with_summary (Err cause) before = before
 
--- After a run's calls each of its files holds its bytes, whatever it held before; standard output has gained the summary
--- alone; and every other file is as before.
+-- After a run's calls each of its files holds its bytes, whatever it held before; standard output has gained the
+-- summary alone; and every other file is as before.
 pub record LeavesFiles (run : Run) (old new : Files) : Type 0 where
   pub outputs : All (λ output. new output.name ≡ Some output.bytes) run.outputs
   pub summary : new standard_output ≡ with_summary run.end (old standard_output)
   pub others : (name : List ℕ) → is_among name run.outputs ≡ false → name ≢ standard_output → new name ≡ old name
 
--- What a name's file holds once the files of `made` were made empty and the pieces of `front` added: a file that wasn't made
--- is as before.
+-- What a name's file holds once the files of `made` were made empty and the pieces of `front` added: a file that wasn't
+-- made is as before.
 abbrev pub left_in : List Output → List Output → List ℕ → Option (List ℕ) → Option (List ℕ)
 left_in made front name before = if is_among name made then Some (added name front) else before
 
--- The files that were made empty and the pieces that were added before the calls of a run stopped, and those that weren't. No
--- piece is added before all files are made.
+-- The files that were made empty and the pieces that were added before the calls of a run stopped, and those that
+-- weren't. No piece is added before all files are made.
 pub record HasStopped (run : Run) (made unmade front left : List Output) : Type 0 where
   pub files : run.outputs ≡ made ++ unmade
   pub pieces : run.pieces ≡ front ++ left
@@ -77,7 +77,8 @@ pub record GainsPiece (unmade left : List Output) (name : List ℕ) (before now 
   pub file : now ≡ Some (unwrap_or before [] ++ take count piece.bytes)
 
 -- all files are whole, and standard output holds a front of the summary more
-pub record GainsSummary (run : Run) (unmade left : List Output) (name : List ℕ) (before now : Option (List ℕ)) : Type 0 where
+pub record GainsSummary (run : Run) (unmade left : List Output) (name : List ℕ)
+    (before now : Option (List ℕ)) : Type 0 where
   pub summary : List ℕ
   pub count : ℕ
   pub all_made : unmade ≡ []
@@ -135,5 +136,5 @@ module _ (Tells : Type 0) where
 -- a run that adds each file in one piece, where names differ
 abbrev pub AtOnceIsWhole : Type 0
 AtOnceIsWhole =
-    (outputs : List Output) (end : Result (List ℕ) Cause) → NamesDiffer outputs → is_among standard_output outputs ≡ false
-    → HasOwnFiles (at_once outputs end)
+    (outputs : List Output) (end : Result (List ℕ) Cause) → NamesDiffer outputs
+    → is_among standard_output outputs ≡ false → HasOwnFiles (at_once outputs end)

@@ -13,9 +13,10 @@ pub record Output : Type 0 where
   pub name : List ℕ
   pub bytes : List ℕ
 
--- What a command writes that isn't refused before: its files, whole, in the order in which they are made empty; the pieces
--- that are added to them, in their order, each with its file's name; and then the summary on standard output; or, where a
--- digest that is stated of one of these files isn't its digest, the cause of the refusal, once all files are whole.
+-- What a command writes that isn't refused before: its files, whole, in the order in which they are made empty; the
+-- pieces that are added to them, in their order, each with its file's name; and then the summary on standard output;
+-- or, where a digest that is stated of one of these files isn't its digest, the cause of the refusal, once all files
+-- are whole.
 pub record Run : Type 0 where
   pub outputs : List Output
   pub pieces : List Output

@@ -30,14 +30,14 @@ pub fn counts_its_ends<O: Sink>()
     ensures { CountsItsEnds O.Tells }
 {}
 
-/// Where the sink tells its files and no call of a run failed, each of the run's files holds its bytes, standard output has
-/// gained the summary alone, and every other file is as before.
+/// Where the sink tells its files and no call of a run failed, each of the run's files holds its bytes, standard output
+/// has gained the summary alone, and every other file is as before.
 pub fn leaves_its_files<O: Sink>()
     ensures { LeavesItsFiles O.Tells }
 {}
 
-/// Where a call of a run failed, the file of that call holds a front of its piece more at most, and every other one exactly
-/// the pieces that were added before; where memory was wanting in the call, so does each.
+/// Where a call of a run failed, the file of that call holds a front of its piece more at most, and every other one
+/// exactly the pieces that were added before; where memory was wanting in the call, so does each.
 pub fn leaves_its_fronts<O: Sink>()
     ensures { LeavesItsFronts O.Tells }
 {}

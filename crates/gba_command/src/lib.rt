@@ -1,6 +1,7 @@
 #![tactic(auto)]
-//! A command as one plan of reads and one list of calls of the sink: what is read, in which order, with each cause of a
-//! refusal; how the reads ended; what is written; and what is answered; and the words of the commands. It knows no console.
+//! A command as one plan of reads and one list of calls of the sink: what is read, in which order, with each cause
+//! of a refusal; how the reads ended; what is written; and what is answered; and the words of the commands. It
+//! knows no console.
 
 mod answering;
 mod cause;

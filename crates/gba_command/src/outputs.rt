@@ -13,8 +13,8 @@ pub struct OutputFile {
     pub ghost named: { string_len name ≤ 200 },
 }
 
-/// What a run writes: its files in their order, each of another name, and then the summary on standard output; or why it is
-/// refused once all its files are whole.
+/// What a run writes: its files in their order, each of another name, and then the summary on standard output; or why
+/// it is refused once all its files are whole.
 #[derive(Drop)]
 pub struct Outputs {
     pub files: Vec<OutputFile>,

@@ -148,8 +148,8 @@ fn made_jobs_are_run(rt: HostRuntime) -> Result<(), Fail> {
     Ok(())
 }
 
-/// Numbers of creates and of appends that fail, and the file that is told. No transfer ends within 1,000 cycles, so that the
-/// files of the words get no append.
+/// Numbers of creates and of appends that fail, and the file that is told. No transfer ends within 1,000 cycles, so
+/// that the files of the words get no append.
 static FAILURES: [(&[u64], &[u64], &[u8]); 9] = [
     (&[1], &[], b"sink g.0.bios\n"),
     (&[4], &[], b"sink g.3.bios\n"),

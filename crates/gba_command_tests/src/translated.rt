@@ -1,5 +1,5 @@
-//! Sources that are assembled, and images that are listed. Words and halfwords are those of the ARM Architecture manual's
-//! diagrams.
+//! Sources that are assembled, and images that are listed. Words and halfwords are those of the ARM Architecture
+//! manual's diagrams.
 
 use crate::calls::{Case, Failing, NOTHING_FAILS, call, call_with};
 use std::test::Fail;

@@ -20,7 +20,8 @@ least-alone : (m : Machine) (delays : Delays) (sent : List Sent) → least conso
 least-alone m delays sent = same-if (nat_lt (clock_of m) (clock_of m)) 0
 
 -- whether it goes on
-test-alone : (until : ℕ) (m : Machine) (delays : Delays) (sent : List Sent) (test : Bool) → nat_lt (clock_of m) until ≡ test
+test-alone : (until : ℕ) (m : Machine) (delays : Delays) (sent : List Sent) (test : Bool)
+    → nat_lt (clock_of m) until ≡ test
     → nat_lt (clock_at console_kind (alone m delays sent) (least console_kind (alone m delays sent))) until ≡ test
 test-alone until m delays sent test is =
     ap (λ i. nat_lt (clock_at console_kind (alone m delays sent) i) until) (least-alone m delays sent) ∙ is

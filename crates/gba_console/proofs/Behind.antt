@@ -46,7 +46,8 @@ two-in-front true first old one other =
 two-in-front false first old one other = refl
 
 -- a cycle
-made-in-front : (c : Core) (first m : Made) → made_in_cycle c (made_behind first m) ≡ made_behind first (made_in_cycle c m)
+made-in-front : (c : Core) (first m : Made)
+    → made_in_cycle c (made_behind first m) ≡ made_behind first (made_in_cycle c m)
 made-in-front c first m =
     let made = made_in_cycle c m in
     let sounds = device_cycle c.devices in
@@ -64,9 +65,11 @@ made-in-front c first m =
 cycle-in-front : (first b : Board) → board_cycle (board_behind first b) ≡ board_behind first (board_cycle b)
 unfolding board_cycle
 cycle-in-front first b =
-    ap (λ (made : Made). record (board_behind first (board_cycle b)) { made = made }) (made-in-front b.core first.made b.made)
+    ap (λ (made : Made). record (board_behind first (board_cycle b)) { made = made })
+    (made-in-front b.core first.made b.made)
 
-after-in-front : (count : ℕ) (first b : Board) → board_after count (board_behind first b) ≡ board_behind first (board_after count b)
+after-in-front : (count : ℕ) (first b : Board)
+    → board_after count (board_behind first b) ≡ board_behind first (board_after count b)
 unfolding board_after
 after-in-front zero first b = refl
 after-in-front (suc count) first b =
@@ -80,7 +83,8 @@ transfer-in-front (Some transfer) first e =
     ap (λ (words : List Transfer). record (with_transfer (Some transfer) e) { words = words })
     (in-front e.keeps_words first.words e.words (transfer ∷ []))
 
-ended-in-front : (clock : ℕ) (first b : Board) → board_ended clock (board_behind first b) ≡ board_behind first (board_ended clock b)
+ended-in-front : (clock : ℕ) (first b : Board)
+    → board_ended clock (board_behind first b) ≡ board_behind first (board_ended clock b)
 ended-in-front clock first b =
     ap (λ (e : Ended). record (board_behind first (board_ended clock b)) { ended = e })
     (transfer-in-front (ending clock b.core.serial) first.ended b.ended)
@@ -88,7 +92,8 @@ ended-in-front clock first b =
 heard_one : Incoming → Board → Board
 heard_one due b = record b { core = core_heard due b.core }
 
-one-in-front : (due : Incoming) (first b : Board) → board_taken due (board_behind first b) ≡ board_behind first (board_taken due b)
+one-in-front : (due : Incoming) (first b : Board)
+    → board_taken due (board_behind first b) ≡ board_behind first (board_taken due b)
 unfolding heard_one
 one-in-front due first b = ap (heard_one due) (ended-in-front due.arrival first b)
 
@@ -111,15 +116,17 @@ done-in-front dues first m =
 
 what-in-front : (dues : List Incoming) (first m : Machine) → what_in dues (behind first m) ≡ what_in dues m
 what-in-front dues first m =
-    ap (λ (b : Board). what_acted m.registers (after_keys (clock_of m) (left_of m) b.core)) (heard-in-front dues first m)
+    ap (λ (b : Board). what_acted m.registers (after_keys (clock_of m) (left_of m) b.core))
+    (heard-in-front dues first m)
 
 -- a step tells what it did, whatever was told before it
-one-told : (first : What) (test : Bool) (one other : What) → last_behind first one ≡ one → last_behind first other ≡ other
-    → last_behind first (if test then one else other) ≡ (if test then one else other)
+one-told : (first : What) (test : Bool) (one other : What) → last_behind first one ≡ one
+    → last_behind first other ≡ other → last_behind first (if test then one else other) ≡ (if test then one else other)
 one-told first true one other here there = here
 one-told first false one other here there = there
 
-instructed-told : (first : What) (file : List ℕ) (b : Core) → last_behind first (what_instructed file b) ≡ what_instructed file b
+instructed-told : (first : What) (file : List ℕ) (b : Core)
+    → last_behind first (what_instructed file b) ≡ what_instructed file b
 instructed-told first file b =
     one-told first (in_thumb file) (Thumb (register file 15) (instruction Half file b))
     (Arm (register file 15) (instruction Word file b)) refl refl
@@ -138,7 +145,8 @@ pub acted-told : (first : What) (file : List ℕ) (b : Core) → last_behind fir
 unfolding what_acted
 acted-told first file b = for-told first (next_unit b.devices.channels) file b
 
-on-in-front : (dues : List Incoming) (first m : Machine) → stepped_on dues (behind first m) ≡ behind first (stepped_on dues m)
+on-in-front : (dues : List Incoming) (first m : Machine)
+    → stepped_on dues (behind first m) ≡ behind first (stepped_on dues m)
 unfolding stepped_on
 on-in-front dues first m =
     let changed = behind first m in
@@ -163,12 +171,13 @@ unfolding told_on
 told-on-in-front dues first m =
     ap (λ (done : Done Core). outgoing (clock_of m) done.bus.serial) (done-in-front dues first m)
 
-pub stepped-in-front : (dues : List Incoming) (first m : Machine) → stepped dues (behind first m) ≡ behind first (stepped dues m)
+pub stepped-in-front : (dues : List Incoming) (first m : Machine)
+    → stepped dues (behind first m) ≡ behind first (stepped dues m)
 unfolding stepped
 stepped-in-front dues first m =
     let changed = behind first m in
-    both (behind first) (is_off m) (stepped_off dues m) (stepped_on dues m) (stepped_off dues changed) (stepped_on dues changed)
-    (off-in-front dues first m) (on-in-front dues first m)
+    both (behind first) (is_off m) (stepped_off dues m) (stepped_on dues m) (stepped_off dues changed)
+    (stepped_on dues changed) (off-in-front dues first m) (on-in-front dues first m)
 
 pub told-in-front : (dues : List Incoming) (first m : Machine) → told dues (behind first m) ≡ told dues m
 unfolding told
@@ -215,7 +224,8 @@ ended-again e = ap (λ (words : List Transfer). record e { words = words }) (app
 
 board-again : (b : Board) → board_behind b (board_emptied b) ≡ b
 board-again b =
-    ap (λ (made : Made). record b { made = made; ended = ended_behind b.ended (ended_emptied b.ended) }) (made-again b.made)
+    ap (λ (made : Made). record b { made = made; ended = ended_behind b.ended (ended_emptied b.ended) })
+    (made-again b.made)
     ∙ ap (λ (ended : Ended). record b { ended = ended }) (ended-again b.ended)
 
 pub behind-forgotten : (m : Machine) → behind m (forgotten m) ≡ m

@@ -144,7 +144,8 @@ none-ends quiet clock b before =
     }) (quiet.ending clock u before)
     ∙ ap (λ (v : SerialUnit). record b { core = record b.core { serial = v } }) (quiet.ended clock u before)
 
-begun-same : (core : Core) → begun core.devices ≡ core.devices → silent core.serial ≡ core.serial → core_begun core ≡ core
+begun-same : (core : Core) → begun core.devices ≡ core.devices → silent core.serial ≡ core.serial
+    → core_begun core ≡ core
 begun-same core devices serial =
     ap (λ (d : Devices). record core { devices = d; serial = silent core.serial }) devices
     ∙ ap (λ (u : SerialUnit). record core { serial = u }) serial
@@ -206,8 +207,8 @@ idle-next begins quiet m idle on early before =
     let devices = and-first (is_idle core.devices) (not (has_news core.serial)) idle in
     let told = not-second (is_idle core.devices) (has_news core.serial) idle in
     stepped-is-on [] m on
-    ∙ step-is m Idle (idle_done m.registers core) (heard-none quiet m (begins.idle core.devices devices) told before) early
-    (idle-tells m.registers core devices) (idle-acts m.registers core devices)
+    ∙ step-is m Idle (idle_done m.registers core) (heard-none quiet m (begins.idle core.devices devices) told before)
+    early (idle-tells m.registers core devices) (idle-acts m.registers core devices)
 
 pub plain-next : CalmHasBegun → StaysQuiet → (m : Machine) → IsPlain m
     → next m ≡ record m {
@@ -228,8 +229,8 @@ plain-next begins quiet m plain =
     plain.keys (calm-tells m.registers core devices) (calm-acts m.registers core devices)
 
 -- what an instruction leaves, put together
-pub put-together : (done : Done Core) (file : List ℕ) (mid : Core) (after : Board) (cycles was clock : ℕ) (what told : What)
-    (m : Machine) → file ≡ done.registers → mid ≡ done.bus → cycles ≡ done.cycles
+pub put-together : (done : Done Core) (file : List ℕ) (mid : Core) (after : Board) (cycles was clock : ℕ)
+    (what told : What) (m : Machine) → file ≡ done.registers → mid ≡ done.bus → cycles ≡ done.cycles
     → after ≡ board_after cycles (record m.board { core = mid }) → was ≡ clock → what ≡ told
     → (record m { registers = file; board = after; was = was; last = what }) ≡ (record m {
       registers = done.registers;

@@ -36,7 +36,8 @@ concat-more lines line =
     ∙ ap (λ (bytes : List ℕ). flat_map (λ x. x) lines ++ bytes) (append-nil line)
     ∙ ap (λ (bytes : List ℕ). bytes ++ line) (sym (concat_is lines))
 
-length-more : (lines : List (List ℕ)) (line : List ℕ) → length (concat (lines ++ (line ∷ []))) ≡ length (concat lines) + length line
+length-more : (lines : List (List ℕ)) (line : List ℕ)
+    → length (concat (lines ++ (line ∷ []))) ≡ length (concat lines) + length line
 length-more lines line = ap length (concat-more lines line) ∙ length-append (concat lines) line
 
 -- a cycle
@@ -51,9 +52,9 @@ bytes-in false ends count next lines line whole before same = omega (arith, befo
 last-line : (p : Position) → IsPosition p → draws_at (place_cycle p) ≡ true → ends_frame p ≡ true → lines_drawn p ≡ 159
 last-line p sound draws ends = grind (arith, nat_tests, sound.line, sound.dot, draws, ends)
 
-frames-in : (draws ends keeps : Bool) (frames : List ℕ) (lines : List (List ℕ)) (line : List ℕ) (count drawn : ℕ) → keeps ≡ true
-    → length line ≡ 480 → length (concat lines) ≡ 480 * drawn → (draws ≡ true → ends ≡ true → drawn ≡ 159)
-    → length frames ≡ 76800 * count
+frames-in : (draws ends keeps : Bool) (frames : List ℕ) (lines : List (List ℕ)) (line : List ℕ) (count drawn : ℕ)
+    → keeps ≡ true → length line ≡ 480 → length (concat lines) ≡ 480 * drawn
+    → (draws ≡ true → ends ≡ true → drawn ≡ 159) → length frames ≡ 76800 * count
     → length (if (draws && ends) && keeps then frames ++ concat (lines ++ (line ∷ [])) else frames)
     ≡ 76800 * (if draws && ends then count + 1 else count)
 frames-in true true true frames lines line count drawn kept whole before last same =
@@ -89,8 +90,8 @@ module _ (keeps : (d : Devices) → CyclePasses d) where
             drawn-in draws (ends_frame p) (lines_drawn p) (lines_drawn (place_cycle p)) b.core.lines line counts.drawn
             (lines-go p counts.sound);
         bytes =
-            bytes-in draws (ends_frame p) (lines_drawn p) (lines_drawn (place_cycle p)) b.core.lines line whole counts.bytes
-            (lines-go p counts.sound);
+            bytes-in draws (ends_frame p) (lines_drawn p) (lines_drawn (place_cycle p)) b.core.lines line whole
+            counts.bytes (lines-go p counts.sound);
         frames = λ kept.
             frames-in draws (ends_frame p) b.made.keeps_frames b.made.frames b.core.lines line b.made.frame_count
             (lines_drawn p) kept whole counts.bytes (last-line p counts.sound) (counts.frames kept);
@@ -100,14 +101,15 @@ module _ (keeps : (d : Devices) → CyclePasses d) where
       })
 
   after-counts : (cycles : ℕ) (b : Board) → CountsMade b.core.lines b.core.devices.place b.made
-      → CountsMade (board_after cycles b).core.lines (board_after cycles b).core.devices.place (board_after cycles b).made
+      → CountsMade (board_after cycles b).core.lines (board_after cycles b).core.devices.place
+      (board_after cycles b).made
   unfolding board_after
   after-counts zero b counts = counts
   after-counts (suc cycles) b counts = cycle-counts (board_after cycles b) (after-counts cycles b counts)
 
 -- transfers
-words-in : (keeps : Bool) (words : List Transfer) (transfer : Transfer) (count : ℕ) → keeps ≡ true → length words ≡ count
-    → length (if keeps then words ++ (transfer ∷ []) else words) ≡ count + 1
+words-in : (keeps : Bool) (words : List Transfer) (transfer : Transfer) (count : ℕ) → keeps ≡ true
+    → length words ≡ count → length (if keeps then words ++ (transfer ∷ []) else words) ≡ count + 1
 words-in true words transfer count kept same = length-append words (transfer ∷ []) ∙ omega (arith, same)
 words-in false words transfer count kept same = absurd cc
 
@@ -146,7 +148,8 @@ either-kinds true m one other here there = here
 either-kinds false m one other here there = there
 
 -- a step
-module _ (keeps : (d : Devices) → CyclePasses d) (acts : ActsPass) (passes : (cycles : ℕ) (b : Board) → BoardPasses cycles b) where
+module _ (keeps : (d : Devices) → CyclePasses d) (acts : ActsPass)
+    (passes : (cycles : ℕ) (b : Board) → BoardPasses cycles b) where
   on-counts : (dues : List Incoming) (m : Machine) → Counts m → Counts (stepped_on dues m)
   unfolding stepped_on
   on-counts dues m counts =
@@ -175,14 +178,16 @@ module _ (keeps : (d : Devices) → CyclePasses d) (acts : ActsPass) (passes : (
     made =
         subst (λ (lines : List (List ℕ)). CountsMade lines (prepared_off dues m).devices.place m.board.made)
         (sym (off-time dues m).lines)
-        (subst (λ (p : Position). CountsMade m.board.core.lines p m.board.made) (sym (off-time dues m).place) counts.made);
+        (subst (λ (p : Position). CountsMade m.board.core.lines p m.board.made) (sym (off-time dues m).place)
+        counts.made);
     ended = counts.ended;
   }
 
   step-counts : (dues : List Incoming) (m : Machine) → Counts m → Counts (stepped dues m)
   unfolding stepped
   step-counts dues m counts =
-      either-counts (is_off m) (stepped_off dues m) (stepped_on dues m) (off-counts dues m counts) (on-counts dues m counts)
+      either-counts (is_off m) (stepped_off dues m) (stepped_on dues m) (off-counts dues m counts)
+      (on-counts dues m counts)
 
   on-kinds : (dues : List Incoming) (m : Machine) → KeepsKinds m (stepped_on dues m)
   unfolding stepped_on

@@ -77,7 +77,25 @@ single_send = search sendable depth 80 fits 100000
 operation_send : IsSend (ArmOp.the_field).row
 operation_send = search sendable depth 80 fits 100000
 
-ruleset parts_send = (tt, arg_send, copied_send, param_send, byte_send, halfword_send, word_send, test_send, compute_send, condition_send, width_send, shift_send, block_send, unit_send, plain_block_send, single_send, operation_send)
+ruleset parts_send = (
+  tt,
+  arg_send,
+  copied_send,
+  param_send,
+  byte_send,
+  halfword_send,
+  word_send,
+  test_send,
+  compute_send,
+  condition_send,
+  width_send,
+  shift_send,
+  block_send,
+  unit_send,
+  plain_block_send,
+  single_send,
+  operation_send,
+)
 
 quick_send : IsSend (Quick.the_field).row
 quick_send =
@@ -85,7 +103,8 @@ quick_send =
     enum_send (shape Quick.the_type)
     (split_send 16 all (search parts_send depth 40 fits 20000)
     (split_send 16 (drop 16 all) (search parts_send depth 40 fits 20000)
-    (split_send 16 (drop 16 (drop 16 all)) (search parts_send depth 40 fits 20000) (search parts_send depth 40 fits 20000))))
+    (split_send 16 (drop 16 (drop 16 all)) (search parts_send depth 40 fits 20000)
+    (search parts_send depth 40 fits 20000))))
 
 form_send : IsSend (Form.the_field).row
 form_send =
@@ -111,7 +130,8 @@ registers_send : IsSend (RegisterFile.the_field).row
 registers_send = search sendable depth 40 fits 20000
 
 pub console_send : IsSend Console.the_row
-console_send = search (board_send, registers_send, decoded_send, kept_send, keys_send, crosses, sendable) depth 60 fits 100000
+console_send =
+    search (board_send, registers_send, decoded_send, kept_send, keys_send, crosses, sendable) depth 60 fits 100000
 
 byte_sync : IsSync (UInt w8)
 byte_sync = search sendable
@@ -152,7 +172,25 @@ single_sync = search sendable depth 80 fits 100000
 operation_sync : IsSync (ArmOp.the_field).row
 operation_sync = search sendable depth 80 fits 100000
 
-ruleset parts_sync = (tt, arg_sync, copied_sync, param_sync, byte_sync, halfword_sync, word_sync, test_sync, compute_sync, condition_sync, width_sync, shift_sync, block_sync, unit_sync, plain_block_sync, single_sync, operation_sync)
+ruleset parts_sync = (
+  tt,
+  arg_sync,
+  copied_sync,
+  param_sync,
+  byte_sync,
+  halfword_sync,
+  word_sync,
+  test_sync,
+  compute_sync,
+  condition_sync,
+  width_sync,
+  shift_sync,
+  block_sync,
+  unit_sync,
+  plain_block_sync,
+  single_sync,
+  operation_sync,
+)
 
 quick_sync : IsSync (Quick.the_field).row
 quick_sync =
@@ -160,7 +198,8 @@ quick_sync =
     enum_sync (shape Quick.the_type)
     (split_sync 16 all (search parts_sync depth 40 fits 20000)
     (split_sync 16 (drop 16 all) (search parts_sync depth 40 fits 20000)
-    (split_sync 16 (drop 16 (drop 16 all)) (search parts_sync depth 40 fits 20000) (search parts_sync depth 40 fits 20000))))
+    (split_sync 16 (drop 16 (drop 16 all)) (search parts_sync depth 40 fits 20000)
+    (search parts_sync depth 40 fits 20000))))
 
 form_sync : IsSync (Form.the_field).row
 form_sync =
@@ -186,4 +225,5 @@ registers_sync : IsSync (RegisterFile.the_field).row
 registers_sync = search sendable depth 40 fits 20000
 
 pub console_sync : IsSync Console.the_row
-console_sync = search (board_sync, registers_sync, decoded_sync, kept_sync, keys_sync, crosses, sendable) depth 60 fits 100000
+console_sync =
+    search (board_sync, registers_sync, decoded_sync, kept_sync, keys_sync, crosses, sendable) depth 60 fits 100000

@@ -36,7 +36,8 @@ ended-last None [] e = refl
 ended-last (Some transfer) [] e = refl
 ended-last one (transfer ∷ transfers) e = ended-last one transfers (with_transfer (Some transfer) e)
 
-taken-ended : (dues : List Incoming) (b : Board) → (all_taken dues b).ended ≡ all_ended (fed_ends dues b.core.serial) b.ended
+taken-ended : (dues : List Incoming) (b : Board)
+    → (all_taken dues b).ended ≡ all_ended (fed_ends dues b.core.serial) b.ended
 taken-ended [] b = refl
 taken-ended (due ∷ dues) b =
     let u = b.core.serial in
@@ -61,8 +62,8 @@ pub records-ends : ((count : ℕ) (b : Board) → BoardPasses count b) → Recor
 unfolding stepped stepped_on stepped_off
 records-ends cycles dues m =
     let done = done_in dues m in
-    either-ended (is_off m) (stepped_off dues m) (stepped_on dues m) (ends (clock_of m) dues (silent m.board.core.serial))
-    m.board.ended refl
+    either-ended (is_off m) (stepped_off dues m) (stepped_on dues m)
+    (ends (clock_of m) dues (silent m.board.core.serial)) m.board.ended refl
     ((cycles done.cycles (record (heard dues m) { core = done.bus })).ended
     ∙ heard-ended (clock_of m) dues (board_begun m.board))
 
@@ -77,7 +78,8 @@ all-fresh : (consoles : List Machine) (round : ℕ)
     → ((i : ℕ) (m : Machine) → slice_get consoles i ≡ Some m → IsAtReset i (length consoles) round m)
     → All (IsFresh console_kind) consoles
 all-fresh consoles round at i d below =
-    fresh i (length consoles) round (get_or consoles i d) (at i (get_or consoles i d) (slice_get-get_or consoles i d below))
+    fresh i (length consoles) round (get_or consoles i d)
+    (at i (get_or consoles i d) (slice_get-get_or consoles i d below))
 
 seat-at : (consoles : List Machine) (delays : Delays) (i : ℕ) (m : Machine)
     → IsAtReset i (length consoles) (hop_of delays 0 1 + hop_of delays 1 0) m

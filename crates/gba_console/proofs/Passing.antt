@@ -96,9 +96,11 @@ sound-after clock cycles b after e passes room fits same begun short =
       step = passes.step room.step;
       ends = record {
         apart =
-            subst (λ (ended : Ended). AreApart clock (next_end (board_after cycles b).core.serial) ended.count ended.base)
+            subst
+            (λ (ended : Ended). AreApart clock (next_end (board_after cycles b).core.serial) ended.count ended.base)
             (sym passes.ended)
-            (subst (λ (u : SerialUnit). AreApart clock (next_end u) b.ended.count b.ended.base) (sym passes.serial) fits.apart);
+            (subst (λ (u : SerialUnit). AreApart clock (next_end u) b.ended.count b.ended.base) (sym passes.serial)
+            fits.apart);
         seat = let count = ap (λ (u : SerialUnit). u.count) passes.serial in omega (arith, count, fits.seat);
         few = let until = ap (λ (ended : Ended). ended.until) passes.ended in omega (arith, until, fits.few);
       };
@@ -149,12 +151,13 @@ pub step-sound : (clock cycles : ℕ) (b after : Board) (core : Core) → IsRead
     → BoardPasses cycles (record b { core = core }) → IsSound (after.core.devices.clock - cycles) after
 step-sound clock cycles b after core ready same keeps short e passes =
     subst (λ n. IsSound n after) (sym (step-was clock cycles (record b { core = core }) after e passes same))
-    (sound-after clock cycles (record b { core = core }) after e passes (ready-room clock cycles b core ready same keeps short)
+    (sound-after clock cycles (record b { core = core }) after e passes
+    (ready-room clock cycles b core ready same keeps short)
     (acted-fit clock b core ready.fits ready.same keeps) ready.until same short)
 
 -- a sound board is ready for a plain step
-pub sound-ready : (was : ℕ) (b : Board) → IsSound was b → was ≤ b.core.devices.clock → b.core.devices.clock < b.made.until
-    → IsReady b.core.devices.clock b
+pub sound-ready : (was : ℕ) (b : Board) → IsSound was b → was ≤ b.core.devices.clock
+    → b.core.devices.clock < b.made.until → IsReady b.core.devices.clock b
 sound-ready was b sound after early = record {
   same = refl;
   fits = record {
@@ -179,9 +182,10 @@ pub left-clock : (before core : Core) (done : Done Core) → core ≡ done.bus �
 left-clock before core done e passes = ap (λ (c : Core). c.devices.clock) e ∙ passes.clock
 
 -- what a step leaves has no nearer end
-pub ends-after : (cycles bound : ℕ) (b after : Board) (core : Core) → after ≡ board_after cycles (record b { core = core })
-    → BoardPasses cycles (record b { core = core }) → KeepsCourse b.core core → 1 ≤ b.core.serial.count
-    → bound ≤ b.core.devices.clock + 512 → bound ≤ next_end b.core.serial → bound ≤ next_end after.core.serial
+pub ends-after : (cycles bound : ℕ) (b after : Board) (core : Core)
+    → after ≡ board_after cycles (record b { core = core }) → BoardPasses cycles (record b { core = core })
+    → KeepsCourse b.core core → 1 ≤ b.core.serial.count → bound ≤ b.core.devices.clock + 512
+    → bound ≤ next_end b.core.serial → bound ≤ next_end after.core.serial
 ends-after cycles bound b after core e passes keeps seat soon before =
     let kept = keeps.next bound seat soon before in
     let same = ap (λ (b : Board). next_end b.core.serial) e in

@@ -15,8 +15,9 @@ use Rattle.gba_mem.specs.Memories.{Memories}
 use Rattle.gba_console.proofs.Images.{HasImages}
 use Rattle.gba_console.proofs.Resting.{wakes-sound}
 
-poured-rests : (off was until : ℕ) (parts : BoardParts) (lines : List (List ℕ)) (b : Board) → CanPour was until parts lines
-    → IsPosition parts.devices.place → 1 ≤ parts.serial.count → IsResting off (board_poured_at off parts lines until b)
+poured-rests : (off was until : ℕ) (parts : BoardParts) (lines : List (List ℕ)) (b : Board)
+    → CanPour was until parts lines → IsPosition parts.devices.place → 1 ≤ parts.serial.count
+    → IsResting off (board_poured_at off parts lines until b)
 poured-rests off was until parts lines b can place seat = record {
   begins = refl;
   ends = refl;
@@ -57,8 +58,8 @@ poured-images devices serial lines b after e = record {
   rom = ap (λ (c : Core). c.memory.rom) e;
 }
 
--- What is poured makes a console again, but for what no step looks at: by the memories, the key changes, the clock to be off
--- below and what is kept of another one.
+-- What is poured makes a console again, but for what no step looks at: by the memories, the key changes, the clock to
+-- be off below and what is kept of another one.
 framed : Memories → List KeyState → ℕ → Bool → Bool → Bool → Machine → Machine
 framed memory keys off frames samples words m = record m {
   keys = keys;
@@ -72,8 +73,8 @@ framed memory keys off frames samples words m = record m {
 
 again-by : (until : ℕ) (start m : Machine)
     → shorn (machine_poured (parts_of m) m.board.core.lines until start)
-    ≡ shorn (framed start.board.core.memory start.keys start.off start.board.made.keeps_frames start.board.made.keeps_samples
-    start.board.ended.keeps_words m)
+    ≡ shorn (framed start.board.core.memory start.keys start.off start.board.made.keeps_frames
+    start.board.made.keeps_samples start.board.ended.keeps_words m)
 unfolding framed
 again-by until start m = refl
 
@@ -85,11 +86,13 @@ framed-same start m same =
     let made = start.board.made in
     let words = start.board.ended.keeps_words in
     ap (λ (x : Memories). framed x start.keys start.off made.keeps_frames made.keeps_samples words m) same.memory
-    ∙ ap (λ (x : List KeyState). framed m.board.core.memory x start.off made.keeps_frames made.keeps_samples words m) same.keys
+    ∙ ap (λ (x : List KeyState). framed m.board.core.memory x start.off made.keeps_frames made.keeps_samples words m)
+    same.keys
     ∙ ap (λ (x : ℕ). framed m.board.core.memory m.keys x made.keeps_frames made.keeps_samples words m) same.off
     ∙ ap (λ (x : Bool). framed m.board.core.memory m.keys m.off x made.keeps_samples words m) same.frames
     ∙ ap (λ (x : Bool). framed m.board.core.memory m.keys m.off m.board.made.keeps_frames x words m) same.samples
-    ∙ ap (λ (x : Bool). framed m.board.core.memory m.keys m.off m.board.made.keeps_frames m.board.made.keeps_samples x m)
+    ∙ ap
+    (λ (x : Bool). framed m.board.core.memory m.keys m.off m.board.made.keeps_frames m.board.made.keeps_samples x m)
     same.words
 
 pub poured-again : PoursAgain

@@ -48,7 +48,8 @@ rests-on off b core rest below clock place lines count =
     first-same off b.core.devices.clock below ∙ ap (first_on off) (sym clock) in
     let same : begun_at (first_on off b.core.devices.clock) (base_of b)
     ≡ begun_at (first_on off core.devices.clock) (base_of (record b { core = core })) =
-    ap (λ (n : ℕ). base-at b n b.core.devices.place) first ∙ ap (base-at b (first_on off core.devices.clock)) (sym place) in
+    ap (λ (n : ℕ). base-at b n b.core.devices.place) first
+    ∙ ap (base-at b (first_on off core.devices.clock)) (sym place) in
     record {
       begins = rest.begins ∙ same;
       ends = rest.ends ∙ same;
@@ -140,7 +141,8 @@ off-kept dues m core kept below early e =
     record {
       most = kept.most;
       on = λ on.
-          wakes-sound m.off (core.devices.clock - 16) after then began on (omega (arith, clock, early)) kept.few kept.same;
+          wakes-sound m.off (core.devices.clock - 16) after
+          then began on (omega (arith, clock, early)) kept.few kept.same;
       rests = λ _. then;
       short = omega (arith, clock);
       clock = omega (arith, clock, early);
@@ -151,7 +153,8 @@ off-kept dues m core kept below early e =
 -- at reset
 pub reset-kept : (off was until : ℕ) (b : Board) (player count round : ℕ) (bios : List ℕ) (cart save : Option (List ℕ))
     (backup : Backup) (room : Room) → off ≤ 2 ^ 39 → was ≡ 0 → until ≤ 2 ^ 39 → player < count
-    → b ≡ board_begun_at (first_on off 0) until (board_at_start player count round bios cart save backup room) → IsKept off was b
+    → b ≡ board_begun_at (first_on off 0) until (board_at_start player count round bios cart save backup room)
+    → IsKept off was b
 reset-kept off was until b player count round bios cart save backup room most first few seated e =
     let start = board_begun_at (first_on off 0) until (board_at_start player count round bios cart save backup room) in
     let rest : IsResting off start = record {
@@ -176,9 +179,9 @@ reset-kept off was until b player count round bios cart save backup room most fi
     })
 
 -- what the code has is what the step says
-pub prepares-off : (m : Machine) (dues : List Incoming) (begun learned keyed : Core) (clock : ℕ) (changes : List KeyState)
-    → begun ≡ core_begun m.board.core → learned ≡ all_learned dues begun → clock ≡ clock_of m → changes ≡ left_of m
-    → keyed ≡ after_keys clock changes learned → keyed ≡ prepared_off dues m
+pub prepares-off : (m : Machine) (dues : List Incoming) (begun learned keyed : Core) (clock : ℕ)
+    (changes : List KeyState) → begun ≡ core_begun m.board.core → learned ≡ all_learned dues begun → clock ≡ clock_of m
+    → changes ≡ left_of m → keyed ≡ after_keys clock changes learned → keyed ≡ prepared_off dues m
 prepares-off m dues begun learned keyed clock changes start heard same list e =
     e ∙ ap (λ (n : ℕ). after_keys n changes learned) same
     ∙ ap (λ (list : List KeyState). after_keys (clock_of m) list learned) list
@@ -190,7 +193,12 @@ left-off m dues core e = ap (λ (b : Core). b.devices.clock) e ∙ (off-time due
 
 pub off-made : (m : Machine) (dues : List Incoming) (core : Core) (applied : ℕ)
     → core ≡ core_rested 16 (prepared_off dues m) → applied ≡ applied_in m
-    → (record m { board = record m.board { core = core }; applied = applied; was = core.devices.clock - 16; last = Off })
+    → (record m {
+      board = record m.board { core = core };
+      applied = applied;
+      was = core.devices.clock - 16;
+      last = Off;
+    })
     ≡ stepped_off dues m
 unfolding stepped_off
 off-made m dues core applied e left =

@@ -47,8 +47,8 @@ alone-unlimited {end = end} {x = x} (Steps y alone early) =
     let made : GoesAlone end (without_limit x) (stepped [] (without_limit y)) (told [] (without_limit y))
     = Steps (without_limit y) (alone-unlimited alone) early in
     subst (λ (m : Machine). GoesAlone end (without_limit x) m (told [] y)) (stepped-unlimited [] y)
-    (subst (λ (o : Option Signal). GoesAlone end (without_limit x) (stepped [] (without_limit y)) o) (told-unlimited [] y)
-    made)
+    (subst (λ (o : Option Signal). GoesAlone end (without_limit x) (stepped [] (without_limit y)) o)
+    (told-unlimited [] y) made)
 
 module _ (passes : (m : Machine) → StepPasses [] m) where
   -- what a step tells is what the console then keeps

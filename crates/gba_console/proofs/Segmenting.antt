@@ -58,7 +58,8 @@ forgotten-clocks = record {
 
 pub forgets-soundly : AreAlike console_kind → (cut : Cut Machine) → ForgetsSoundly cut
 forgets-soundly alike cut =
-    let same = ap (λ (ms : List Machine). let c : Cut Machine = record cut { consoles = ms } in c) (each-forgotten cut.consoles) in
+    let same =
+    ap (λ (ms : List Machine). let c : Cut Machine = record cut { consoles = ms } in c) (each-forgotten cut.consoles) in
     let both = alike (λ i. forgotten) (λ i m. m) cut (forgotten_cut cut) forgotten-clocks
     (same ∙ sym (left-mapped (forgotten_cut cut))) in
     record { sound = both.sound; awaited = λ one. sym (both.same_awaited one) }

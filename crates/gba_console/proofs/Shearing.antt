@@ -21,7 +21,8 @@ unfolding told told_on
 told-rested dues m = refl
 
 -- the lists, what was in them put in front again
-stepped-forgotten : (dues : List Incoming) (m : Machine) → forgotten (stepped dues (forgotten m)) ≡ forgotten (stepped dues m)
+stepped-forgotten : (dues : List Incoming) (m : Machine)
+    → forgotten (stepped dues (forgotten m)) ≡ forgotten (stepped dues m)
 stepped-forgotten dues m =
     sym (ap forgotten (stepped-in-front dues m (forgotten m)))
     ∙ ap (λ (x : Machine). forgotten (stepped dues x)) (behind-forgotten m)

@@ -58,8 +58,8 @@ applied-is m clock applied changes same list e =
     e ∙ ap (λ (n : ℕ). m.applied + due_count n changes) same
     ∙ ap (λ (list : List KeyState). m.applied + due_count (clock_of m) list) list
 
-pub step-is-made : (m : Machine) (dues : List Incoming) (b after : Board) (file : List ℕ) (core : Core) (cycles was applied : ℕ)
-    (what : What) → b ≡ heard dues m → Leaves (done_in dues m) file core cycles
+pub step-is-made : (m : Machine) (dues : List Incoming) (b after : Board) (file : List ℕ) (core : Core)
+    (cycles was applied : ℕ) (what : What) → b ≡ heard dues m → Leaves (done_in dues m) file core cycles
     → after ≡ board_after cycles (record b { core = core }) → applied ≡ applied_in m → was ≡ clock_of m
     → what ≡ what_in dues m
     → (record m { registers = file; board = after; applied = applied; was = was; last = what }) ≡ stepped_on dues m
@@ -70,8 +70,10 @@ step-is-made m dues b after file core cycles was applied what here leaves moved 
     let taken = leaves.cycles_taken in
     rw (moved, here, registers, bus, taken, left, same, told) refl
 
-pub told-is : ActsPass → (m : Machine) (dues : List Incoming) (file : List ℕ) (core : Core) (cycles : ℕ) (signal : Option Signal)
-    → Leaves (done_in dues m) file core cycles → signal ≡ outgoing core.devices.clock core.serial → signal ≡ told_on dues m
+pub told-is : ActsPass
+    → (m : Machine) (dues : List Incoming) (file : List ℕ) (core : Core) (cycles : ℕ) (signal : Option Signal)
+    → Leaves (done_in dues m) file core cycles → signal ≡ outgoing core.devices.clock core.serial
+    → signal ≡ told_on dues m
 unfolding told_on
 told-is acts m dues file core cycles signal leaves e =
     let done = done_in dues m in
@@ -108,8 +110,8 @@ module _ (stay : EndsStayFit) (dues : List Incoming) (m : Machine) (sound : IsSo
       let kept = record m.board { core = b.core; ended = b.ended } in
       let in_step : Made → Type 0 = λ made. IsInStep (record kept { made = made }) in
       subst in_step (sym (taken-made dues (board_begun m.board)))
-      (core-in-step m.board b.core b.ended (taken-clock dues (board_begun m.board)) (taken-place dues (board_begun m.board))
-      (taken-lines dues (board_begun m.board)) sound.step)
+      (core-in-step m.board b.core b.ended (taken-clock dues (board_begun m.board))
+      (taken-place dues (board_begun m.board)) (taken-lines dues (board_begun m.board)) sound.step)
 
   pub ready-heard : IsReady (clock_of m) (heard dues m)
   ready-heard =

@@ -24,7 +24,8 @@ all-map P Q xs f h k d below = f _ (h k d below)
 pairs-head : (R : Incoming → Incoming → Type 0) (x : Incoming) (xs : List Incoming) → AllPairs R (x ∷ xs) → All (R x) xs
 pairs-head R x xs h k d below = h 0 (suc k) d (omega arith) (omega arith)
 
-pairs-tail : (R : Incoming → Incoming → Type 0) (x : Incoming) (xs : List Incoming) → AllPairs R (x ∷ xs) → AllPairs R xs
+pairs-tail : (R : Incoming → Incoming → Type 0) (x : Incoming) (xs : List Incoming) → AllPairs R (x ∷ xs)
+    → AllPairs R xs
 pairs-tail R x xs h i j d less below = h (suc i) (suc j) d (omega arith) (omega arith)
 
 later : (a b : Incoming) → Precedes a b → a.arrival ≤ b.arrival
@@ -61,12 +62,14 @@ takes stay was clock bound (one ∷ dues) b ordered due after past fits early =
 
 -- The same at a place of the list.
 abbrev pub no_signal : Incoming
-no_signal = record { sender = 0; arrival = 0; signal = record { clock = 0; mode = Normal8; start = None; reply = None } }
+no_signal =
+    record { sender = 0; arrival = 0; signal = record { clock = 0; mode = Normal8; start = None; reply = None } }
 
 abbrev pub due_at : List Incoming → ℕ → Incoming
 due_at dues place = get_or dues place no_signal
 
-from : (dues : List Incoming) (place : ℕ) → place < length dues → drop place dues ≡ due_at dues place ∷ drop (place + 1) dues
+from : (dues : List Incoming) (place : ℕ) → place < length dues
+    → drop place dues ≡ due_at dues place ∷ drop (place + 1) dues
 from dues place inside = drop_more dues place no_signal inside
 
 pub can-at : (dues : List Incoming) (place : ℕ) (b : Board) → place < length dues → CanTakeAll (drop place dues) b
@@ -85,6 +88,7 @@ pub learned-at : (dues : List Incoming) (place : ℕ) (b : Core) → place < len
     → all_learned (drop (place + 1) dues) (core_learned (due_at dues place) b) ≡ all_learned (drop place dues) b
 learned-at dues place b inside = sym (ap (λ (list : List Incoming). all_learned list b) (from dues place inside))
 
-pub learned-all : (dues : List Incoming) (place : ℕ) (b : Core) → length dues ≤ place → b ≡ all_learned (drop place dues) b
+pub learned-all : (dues : List Incoming) (place : ℕ) (b : Core) → length dues ≤ place
+    → b ≡ all_learned (drop place dues) b
 learned-all dues place b past =
     sym (ap (λ (list : List Incoming). all_learned list b) (drop_of_length-le dues past))

@@ -22,7 +22,8 @@ cycle-unlimited : (b : Board) → board_cycle (board_without_limit b) ≡ board_
 unfolding board_cycle
 cycle-unlimited b = refl
 
-after-unlimited : (count : ℕ) (b : Board) → board_after count (board_without_limit b) ≡ board_without_limit (board_after count b)
+after-unlimited : (count : ℕ) (b : Board)
+    → board_after count (board_without_limit b) ≡ board_without_limit (board_after count b)
 unfolding board_after
 after-unlimited zero b = refl
 after-unlimited (suc count) b = ap board_cycle (after-unlimited count b) ∙ cycle-unlimited (board_after count b)
@@ -32,7 +33,8 @@ transfer-unlimited : (transfer : Option Transfer) (e : Ended)
 transfer-unlimited None e = refl
 transfer-unlimited (Some transfer) e = refl
 
-ended-unlimited : (clock : ℕ) (b : Board) → board_ended clock (board_without_limit b) ≡ board_without_limit (board_ended clock b)
+ended-unlimited : (clock : ℕ) (b : Board)
+    → board_ended clock (board_without_limit b) ≡ board_without_limit (board_ended clock b)
 ended-unlimited clock b =
     ap (λ (e : Ended). record (board_without_limit (board_ended clock b)) { ended = e })
     (transfer-unlimited (ending clock b.core.serial) b.ended)
@@ -40,7 +42,8 @@ ended-unlimited clock b =
 heard_one : Incoming → Board → Board
 heard_one due b = record b { core = core_heard due b.core }
 
-one-unlimited : (due : Incoming) (b : Board) → board_taken due (board_without_limit b) ≡ board_without_limit (board_taken due b)
+one-unlimited : (due : Incoming) (b : Board)
+    → board_taken due (board_without_limit b) ≡ board_without_limit (board_taken due b)
 unfolding heard_one
 one-unlimited due b = ap (heard_one due) (ended-unlimited due.arrival b)
 
@@ -50,7 +53,8 @@ taken-unlimited [] b = refl
 taken-unlimited (due ∷ dues) b =
     ap (all_taken dues) (one-unlimited due b) ∙ taken-unlimited dues (board_taken due b)
 
-heard-unlimited : (dues : List Incoming) (m : Machine) → heard dues (without_limit m) ≡ board_without_limit (heard dues m)
+heard-unlimited : (dues : List Incoming) (m : Machine)
+    → heard dues (without_limit m) ≡ board_without_limit (heard dues m)
 heard-unlimited dues m =
     ap (board_ended (clock_of m)) (taken-unlimited dues (board_begun m.board))
     ∙ ended-unlimited (clock_of m) (all_taken dues (board_begun m.board))
@@ -63,7 +67,8 @@ what-unlimited : (dues : List Incoming) (m : Machine) → what_in dues (without_
 what-unlimited dues m =
     ap (λ (b : Board). what_acted m.registers (after_keys (clock_of m) (left_of m) b.core)) (heard-unlimited dues m)
 
-on-unlimited : (dues : List Incoming) (m : Machine) → stepped_on dues (without_limit m) ≡ without_limit (stepped_on dues m)
+on-unlimited : (dues : List Incoming) (m : Machine)
+    → stepped_on dues (without_limit m) ≡ without_limit (stepped_on dues m)
 unfolding stepped_on
 on-unlimited dues m =
     let plain = without_limit m in
@@ -76,7 +81,8 @@ on-unlimited dues m =
     ∙ ap (λ (b : Board). record (moved (heard dues m) m what done) { board = b })
     (after-unlimited done.cycles (record (heard dues m) { core = done.bus }))
 
-off-unlimited : (dues : List Incoming) (m : Machine) → stepped_off dues (without_limit m) ≡ without_limit (stepped_off dues m)
+off-unlimited : (dues : List Incoming) (m : Machine)
+    → stepped_off dues (without_limit m) ≡ without_limit (stepped_off dues m)
 unfolding stepped_off
 off-unlimited dues m = refl
 
@@ -84,12 +90,13 @@ told-on-unlimited : (dues : List Incoming) (m : Machine) → told_on dues (witho
 unfolding told_on
 told-on-unlimited dues m = ap (λ (done : Done Core). outgoing (clock_of m) done.bus.serial) (done-unlimited dues m)
 
-pub stepped-unlimited : (dues : List Incoming) (m : Machine) → stepped dues (without_limit m) ≡ without_limit (stepped dues m)
+pub stepped-unlimited : (dues : List Incoming) (m : Machine)
+    → stepped dues (without_limit m) ≡ without_limit (stepped dues m)
 unfolding stepped
 stepped-unlimited dues m =
     let plain = without_limit m in
-    both without_limit (is_off m) (stepped_off dues m) (stepped_on dues m) (stepped_off dues plain) (stepped_on dues plain)
-    (off-unlimited dues m) (on-unlimited dues m)
+    both without_limit (is_off m) (stepped_off dues m) (stepped_on dues m) (stepped_off dues plain)
+    (stepped_on dues plain) (off-unlimited dues m) (on-unlimited dues m)
 
 pub told-unlimited : (dues : List Incoming) (m : Machine) → told dues (without_limit m) ≡ told dues m
 unfolding told

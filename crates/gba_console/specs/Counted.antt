@@ -12,9 +12,9 @@ use Rattle.gba_console.specs.Machine.{Machine, reset}
 use Rattle.gba_console.specs.Step.{stepped}
 use Rattle.gba_console.specs.declared.keys.KeyState.{KeyState}
 
--- What a console keeps is what it counts (this project's profile): where whole frames are kept, 76,800 bytes for each that it
--- counts; where pairs of samples are, 4 for each; where transfers are, each of them. Of the present frame it has the lines
--- that are drawn, which have 480 bytes each.
+-- What a console keeps is what it counts (this project's profile): where whole frames are kept, 76,800 bytes for each
+-- that it counts; where pairs of samples are, 4 for each; where transfers are, each of them. Of the present frame it
+-- has the lines that are drawn, which have 480 bytes each.
 pub record CountsMade (lines : List (List ℕ)) (place : Position) (m : Made) : Type 0 where
   pub sound : IsPosition place
   pub drawn : length lines ≡ lines_drawn place

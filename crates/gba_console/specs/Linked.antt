@@ -15,13 +15,13 @@ use Rattle.gba_console.specs.Machine.{Machine, is_off, reset, without_limit}
 use Rattle.gba_console.specs.Step.{stepped}
 use Rattle.gba_console.specs.declared.keys.KeyState.{KeyState}
 
--- A console as the laws on transfers see it: its serial unit, which has nothing to tell between two steps, since the next
--- one begins with that.
+-- A console as the laws on transfers see it: its serial unit, which has nothing to tell between two steps, since the
+-- next one begins with that.
 abbrev pub console_view : UnitView Machine
 console_view = record { unit = λ m. silent m.board.core.serial; is_on = λ m. not (is_off m) }
 
--- What the laws call recorded is what a console counts, and keeps where its transfers are asked for: those that end in a
--- step, one after another.
+-- What the laws call recorded is what a console counts, and keeps where its transfers are asked for: those that end in
+-- a step, one after another.
 abbrev pub all_ended : List Transfer → Ended → Ended
 all_ended [] e = e
 all_ended (transfer ∷ transfers) e = all_ended transfers (with_transfer (Some transfer) e)

@@ -9,9 +9,9 @@ use Rattle.gba_console.specs.declared.doing.What.{What}
 use Rattle.gba_console.specs.declared.doing.What.TheVariants.{Nothing}
 use Rattle.gba_console.specs.declared.keys.KeyState.{KeyState}
 
--- a console: its 37 registers in the order of the register names, its board, all changes of its keys in their order and how
--- many of them are applied, the clock below which it is off, the clock at which the last step began, 0 before the first,
--- and what that step did
+-- a console: its 37 registers in the order of the register names, its board, all changes of its keys in their order and
+-- how many of them are applied, the clock below which it is off, the clock at which the last step began, 0 before the
+-- first, and what that step did
 pub record Machine : Type 0 where
   pub registers : List ℕ
   pub board : Board
@@ -48,14 +48,14 @@ board_without_limit b = board_from at_reset 0 b
 abbrev pub without_limit : Machine → Machine
 without_limit m = record m { board = board_without_limit m.board }
 
--- The clock of the first step with which a console is on that is off below a clock, from another clock: up to it its clock rises by
--- 16 cycles at a time. It is that clock itself where the console is on by then.
+-- The clock of the first step with which a console is on that is off below a clock, from another clock: up to it its
+-- clock rises by 16 cycles at a time. It is that clock itself where the console is on by then.
 abbrev pub first_on : ℕ → ℕ → ℕ
 first_on off clock = clock + (off - clock + 15) / 16 * 16
 
--- a console at reset, from its player number, the number of consoles, the way from player 0 to player 1 and back, the clock below which it
--- is off, a BIOS, a cartridge, a save, what it is kept in, the changes of its keys and what is to be kept of what it makes, which begins with
--- its first step
+-- a console at reset, from its player number, the number of consoles, the way from player 0 to player 1 and back, the
+-- clock below which it is off, a BIOS, a cartridge, a save, what it is kept in, the changes of its keys and what is to
+-- be kept of what it makes, which begins with its first step
 abbrev pub reset : ℕ → ℕ → ℕ → ℕ → List ℕ → Option (List ℕ) → Option (List ℕ) → Backup → List KeyState → Room → Machine
 reset player count round off bios cart save backup keys room = record {
   registers = reset_file;

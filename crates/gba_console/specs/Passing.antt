@@ -4,8 +4,9 @@ use Rattle.gba_io.specs.Core.{Core}
 use Rattle.gba_serial.specs.Apart.{next_end}
 use Rattle.gba_console.specs.Step.{acted, instruction_done}
 
--- What a step does before its devices move leaves the picture's place and the lines that are drawn, and no end of a transfer
--- that is nearer than 512 cycles and that wasn't there before. Only private functions cite this and the next two.
+-- What a step does before its devices move leaves the picture's place and the lines that are drawn, and no end of
+-- a transfer that is nearer than 512 cycles and that wasn't there before. Only private functions cite this and
+-- the next two.
 pub record KeepsCourse (before after : Core) : Type 0 where
   pub place : after.devices.place ≡ before.devices.place
   pub lines : after.lines ≡ before.lines

@@ -13,9 +13,10 @@ use Rattle.gba_console.specs.declared.pouring.ConsoleParts.{ConsoleParts}
 
 -- A console whose numbers are replaced, as no step does it.
 
--- What it needs of the parts of its board, its lines, the clock at which its last step began, and the end of its room: the last
--- step took at most 512 cycles and began below that end, the lines are those that the picture's place says, and the counts
--- are below 2^40. A transfer may run whose end has passed, and the counts needn't be those of the clock; nor of a console that is off.
+-- What it needs of the parts of its board, its lines, the clock at which its last step began, and the end of its room:
+-- the last step took at most 512 cycles and began below that end, the lines are those that the picture's place says,
+-- and the counts are below 2^40. A transfer may run whose end has passed, and the counts needn't be those of the clock;
+-- nor of a console that is off.
 pub record CanPour (was until : ℕ) (parts : BoardParts) (lines : List (List ℕ)) : Type 0 where
   pub begun : was ≤ parts.devices.clock
   pub short : parts.devices.clock ≤ was + 512
@@ -27,13 +28,14 @@ pub record CanPour (was until : ℕ) (parts : BoardParts) (lines : List (List �
   pub near : until ≤ parts.devices.clock + 16777216
   pub room : parts.devices.clock ≤ until + 511
 
--- The board of these parts. What it makes begins with the first step with which the console is on that is off below a clock.
+-- The board of these parts. What it makes begins with the first step with which the console is on that is off
+-- below a clock.
 abbrev pub board_poured_at : ℕ → BoardParts → List (List ℕ) → ℕ → Board → Board
 board_poured_at off parts lines until b =
     board_begun_at (first_on off parts.devices.clock) until (board_poured parts lines until b)
 
--- The console of these parts, which stand beside its memories, all changes of its keys, and the clock below which it is off. Its
--- lists are empty, and what its last step did isn't told.
+-- The console of these parts, which stand beside its memories, all changes of its keys, and the clock below which it is
+-- off. Its lists are empty, and what its last step did isn't told.
 abbrev pub machine_poured : ConsoleParts → List (List ℕ) → ℕ → Machine → Machine
 machine_poured parts lines until m = record m {
   registers = parts.registers;

@@ -6,8 +6,9 @@ use Rattle.link_node.specs.declared.signal.Signal.{Signal}
 use Rattle.gba_console.specs.Machine.{Machine, clock_of}
 use Rattle.gba_console.specs.Step.{next, node_next, stepped, told}
 
--- A console has come to another one by a step, which raised the clock by 1 to 512 cycles, keeps its own start, and leaves
--- the end of the room and the clock below which the console is off. What it told can be read from the serial unit after it.
+-- A console has come to another one by a step, which raised the clock by 1 to 512 cycles, keeps its own start, and
+-- leaves the end of the room and the clock below which the console is off. What it told can be read from the serial
+-- unit after it.
 pub record Follows (m after : Machine) (signal : Option Signal) : Type 0 where
   pub raised : clock_of m < clock_of after
   pub short : clock_of after ≤ clock_of m + 512

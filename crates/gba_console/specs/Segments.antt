@@ -49,8 +49,8 @@ forgotten_cut cut = plain_cut forgotten cut
 abbrev pub joined : Cut Machine → Cut Machine → Cut Machine
 joined first cut = mapped (λ i. behind_if (slice_get first.consoles i)) cut
 
--- A run to one clock, and from there, with the lists emptied, to a later one, is the run to that but for the lists; and each
--- list of that run is the first part's followed by the second's.
+-- A run to one clock, and from there, with the lists emptied, to a later one, is the run to that but for the lists; and
+-- each list of that run is the first part's followed by the second's.
 abbrev pub Segments : Type 0
 Segments =
     (cut : Cut Machine) (first until : ℕ) → first ≤ until

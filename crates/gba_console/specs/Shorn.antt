@@ -12,8 +12,8 @@ use Rattle.gba_console.specs.Step.{board_begun, stepped}
 abbrev pub rested : Machine → Machine
 rested m = record m { board = board_begun m.board }
 
--- and the three lists are empty, where they begin is as at reset, the end of their room is 0, and what the last step did
--- isn't told
+-- and the three lists are empty, where they begin is as at reset, the end of their room is 0, and what the last step
+-- did isn't told
 abbrev pub shorn_board : Board → Board
 shorn_board b = board_without_limit (board_emptied b)
 

@@ -90,8 +90,8 @@ unit_done unit file b = record { registers = file; bus = core_after_unit unit b;
 abbrev pub undisturbed_done : List ℕ → Core → Done Core
 undisturbed_done file b = if idles b then idle_done file b else awake_done file (core_woken b)
 
--- What a step does before its devices move, with its keys applied: a unit of the lowest active DMA channel, which neither
--- idles nor wakes, and else what the processor does.
+-- What a step does before its devices move, with its keys applied: a unit of the lowest active DMA channel, which
+-- neither idles nor wakes, and else what the processor does.
 abbrev pub acted_for : Option DmaUnit → List ℕ → Core → Done Core
 acted_for (Some unit) file b = unit_done unit file b
 acted_for None file b = undisturbed_done file b
@@ -162,8 +162,8 @@ stepped_on dues m = moved (heard dues m) m (what_in dues m) (done_in dues m)
 unfoldable pub told_on : List Incoming → Machine → Option Signal
 told_on dues m = outgoing (clock_of m) (done_in dues m).bus.serial
 
--- the core of a console that is off once it has learned what it can of the signals that are due, one after another, and the
--- keys that are due changed
+-- the core of a console that is off once it has learned what it can of the signals that are due, one after another, and
+-- the keys that are due changed
 abbrev pub all_learned : List Incoming → Core → Core
 all_learned [] b = b
 all_learned (due ∷ dues) b = all_learned dues (core_learned due b)
@@ -171,8 +171,8 @@ all_learned (due ∷ dues) b = all_learned dues (core_learned due b)
 abbrev pub prepared_off : List Incoming → Machine → Core
 prepared_off dues m = after_keys (clock_of m) (left_of m) (all_learned dues (core_begun m.board.core))
 
--- A step of a console that is off: the modes of due peers are known and the keys that are due change, and then 16 cycles
--- pass in which no device moves.
+-- A step of a console that is off: the modes of due peers are known and the keys that are due change, and then 16
+-- cycles pass in which no device moves.
 unfoldable pub stepped_off : List Incoming → Machine → Machine
 stepped_off dues m = record m {
   board = record m.board { core = core_rested 16 (prepared_off dues m) };

@@ -259,8 +259,8 @@ module _ (writes : WritesKeepTime) (ends : WritesKeepEnds) where
       → GoesOn b.devices.clock bound (execution one file b).bus
   going execution keeps one file b bound seat soon before =
       goes-by b.devices.clock bound (execution one file b).bus
-      (keeps (goes_on b.devices.clock bound) (loads-go b.devices.clock bound) (stores-go b.devices.clock bound soon) one file b
-      (by-goes b.devices.clock bound b (record { same = refl; seat = seat; next = before })))
+      (keeps (goes_on b.devices.clock bound) (loads-go b.devices.clock bound) (stores-go b.devices.clock bound soon)
+      one file b (by-goes b.devices.clock bound b (record { same = refl; seat = seat; next = before })))
 
   kept-ends : (execution : ℕ → List ℕ → Core → Done Core) → KeepsTests execution
       → (one : ℕ) (file : List ℕ) (b : Core) → KeepsCourse b (execution one file b).bus
@@ -313,7 +313,8 @@ unit-ends writes ends unit b = record {
   seat = λ seat. omega (arith, ends.count b unit.target unit.width (unit_value unit b), seat);
 }
 
-unit-passes : WritesKeepTime → WritesKeepEnds → (unit : DmaUnit) (file : List ℕ) (b : Core) → Passes b (unit_done unit file b)
+unit-passes : WritesKeepTime → WritesKeepEnds → (unit : DmaUnit) (file : List ℕ) (b : Core)
+    → Passes b (unit_done unit file b)
 unfolding core_after_unit
 unit-passes writes ends unit file b =
     let read = core_code_prices b unit.source unit.width (not unit.first) in
@@ -455,7 +456,8 @@ off-time dues m =
 pub off-serial : (dues : List Incoming) (m : Machine) → (prepared_off dues m).serial
     ≡ record (silent m.board.core.serial) { known = known_after dues (silent m.board.core.serial) }
 off-serial dues m =
-    keys-serial (clock_of m) (left_of m) (all_learned dues (core_begun m.board.core)) ∙ learned-serial dues (core_begun m.board.core)
+    keys-serial (clock_of m) (left_of m) (all_learned dues (core_begun m.board.core))
+    ∙ learned-serial dues (core_begun m.board.core)
 
 either-follows : (test : Bool) (m one other : Machine) (first second : Option Signal) → Follows m one first
     → Follows m other second → Follows m (if test then one else other) (if test then first else second)

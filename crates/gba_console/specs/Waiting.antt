@@ -11,7 +11,8 @@ use Rattle.link_node.specs.declared.signal.Incoming.{Incoming}
 use Rattle.gba_console.specs.Keys.{due_of}
 use Rattle.gba_console.specs.Machine.{Machine, clock_of, first_on, left_of}
 
--- what the taking of one signal needs: it was sent before it arrives, and there is room for a transfer that ends before it
+-- what the taking of one signal needs: it was sent before it arrives, and there is room for a transfer that
+-- ends before it
 pub record CanTake (due : Incoming) (b : Board) : Type 0 where
   pub fits : EndsFit due.arrival b
   pub room : NextEndFits b
@@ -23,8 +24,8 @@ abbrev pub CanTakeAll : List Incoming → Board → Type 0
 CanTakeAll [] b = Unit {0}
 CanTakeAll (due ∷ dues) b = CanTake due b × CanTakeAll dues (board_taken due b)
 
--- What holds of the board of each console that is on between its steps, the last of which began at a clock and took at most 512
--- cycles: what it made and its transfers are those of its clocks, and there is room for more.
+-- What holds of the board of each console that is on between its steps, the last of which began at a clock and took at
+-- most 512 cycles: what it made and its transfers are those of its clocks, and there is room for more.
 pub record IsSound (was : ℕ) (b : Board) : Type 0 where
   pub step : IsInStep b
   pub ends : EndsFit was b
@@ -33,8 +34,8 @@ pub record IsSound (was : ℕ) (b : Board) : Type 0 where
   pub few : b.made.until ≤ 2 ^ 39
   pub same : b.ended.until ≡ b.made.until
 
--- What holds of the board of a console that is off: its lists are empty, and begin with the first step with which it is on, at the
--- place of the picture and with the counts that it has.
+-- What holds of the board of a console that is off: its lists are empty, and begin with the first step with which it is
+-- on, at the place of the picture and with the counts that it has.
 pub record IsResting (off : ℕ) (b : Board) : Type 0 where
   pub begins : b.made.base ≡ begun_at (first_on off b.core.devices.clock) (base_of b)
   pub ends : b.ended.base ≡ begun_at (first_on off b.core.devices.clock) (base_of b)

@@ -136,8 +136,8 @@ fn first_half(registers: &mut Registers, core: &mut Core, halves: &mut [KeptHalf
     thumb::execute(registers, core, half)
 }
 
-/// Executes the instruction at r15, a halfword in Thumb state, and else a word, and tells which it was: what it was stands
-/// in that table then. It has one caller, into which all of it goes.
+/// Executes the instruction at r15, a halfword in Thumb state, and else a word, and tells which it was: what it was
+/// stands in that table then. It has one caller, into which all of it goes.
 #[tactic(auto, unfolding(crate::specs::Step::instruction_done))]
 #[inline(always)]
 pub(crate) fn execute(

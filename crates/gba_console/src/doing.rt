@@ -19,7 +19,8 @@ pub enum What {
     Thumb { address: u32, half: u16 },
 }
 
-/// Where it stands what the last step did: an instruction in the table of decoded words or halfwords, anything else aside.
+/// Where it stands what the last step did: an instruction in the table of decoded words or halfwords,
+/// anything else aside.
 #[derive(Clone, Copy)]
 pub(crate) enum Told {
     Word,

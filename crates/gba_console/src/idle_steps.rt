@@ -67,8 +67,9 @@ impl Console {
         steps
     }
 
-    /// Makes idle steps, up to the first one in which something happens and that one too, but no more than 64, and
-    /// answers whether nothing asks for more than idling after them. All of them begin below `stop`, and they tell nothing.
+    /// Makes idle steps, up to the first one in which something happens and that one too, but no more than 64,
+    /// and answers whether nothing asks for more than idling after them. All of them begin below `stop`, and they
+    /// tell nothing.
     #[inline(always)]
     fn go_past_event(&mut self, stop: u64) -> bool
         requires below { clock_of self.old < stop }

@@ -5,8 +5,8 @@ ghost use Rattle.gba_console.specs.Keys.{after_keys, due_count};
 
 use gba_io::Core;
 
-/// A change of the keys: from its clock on, in cycles since reset, these are pressed, 1 for pressed: A, B, Select, Start,
-/// Right, Left, Up, Down, R, L are bits 0 to 9.
+/// A change of the keys: from its clock on, in cycles since reset, these are pressed, 1 for pressed: A, B, Select,
+/// Start, Right, Left, Up, Down, R, L are bits 0 to 9.
 #[derive(Clone, Copy, Debug, PartialEq, Eq)]
 pub struct KeyState {
     pub clock: u64,

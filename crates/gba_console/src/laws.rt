@@ -40,8 +40,8 @@ pub(crate) fn acts_pass()
     writes_keep_ends();
 }
 
-/// Each step raises the clock by 1 to 512 cycles, whatever the console's numbers are and whatever it takes, keeps its own
-/// start, and leaves the end of its room and the clock below which it is off.
+/// Each step raises the clock by 1 to 512 cycles, whatever the console's numbers are and whatever it takes, keeps its
+/// own start, and leaves the end of its room and the clock below which it is off.
 pub fn steps_pass()
     ensures { (dues : List Incoming) (m : Machine) → StepPasses dues m }
 {
@@ -71,8 +71,8 @@ pub fn runs_alone()
     enough();
 }
 
-/// Each step does to the serial unit what the laws on transfers ask of it: where the console is on, the unit hears what is
-/// due, is written some times, and tells; where it is off, the unit learns modes of its peers and tells nothing.
+/// Each step does to the serial unit what the laws on transfers ask of it: where the console is on, the unit hears what
+/// is due, is written some times, and tells; where it is off, the unit learns modes of its peers and tells nothing.
 pub fn has_unit()
     ensures { HasUnit console_kind console_view }
 {
@@ -87,9 +87,9 @@ pub fn records_ends()
     board_passes();
 }
 
-/// What a console keeps is what it counts: where whole frames are kept, 76,800 bytes for each, where pairs of samples are, 4 for
-/// each, and where transfers are, each of them. So it is at reset, and so it stays in each step; and no step changes what is
-/// kept.
+/// What a console keeps is what it counts: where whole frames are kept, 76,800 bytes for each, where pairs of samples
+/// are, 4 for each, and where transfers are, each of them. So it is at reset, and so it stays in each step; and no step
+/// changes what is kept.
 pub fn counts_what_it_keeps()
     ensures { CountsAlways }
 {
@@ -98,13 +98,15 @@ pub fn counts_what_it_keeps()
     cycle_keeps();
 }
 
-/// Consoles at reset, each in its place on a cable and with nothing sent, are a cut from which the laws on transfers speak.
+/// Consoles at reset, each in its place on a cable and with nothing sent, are a cut from which the laws on
+/// transfers speak.
 pub fn starts_linked()
     ensures { StartsLinked }
 {}
 
-/// No way from player 0 is shorter over another console. Player 0 starts a Multi transfer, and every other console is in
-/// Multi and idle when it takes the start: all that reach the end record the same end, the same four words and no error.
+/// No way from player 0 is shorter over another console. Player 0 starts a Multi transfer, and every other console
+/// is in Multi and idle when it takes the start: all that reach the end record the same end, the same four words
+/// and no error.
 pub fn multi()
     ensures { AgreesMulti console_kind console_view }
 {
@@ -112,7 +114,8 @@ pub fn multi()
     units_agree_in_multi::<Console>();
 }
 
-/// Player 0 or 1 starts a Normal transfer that the other one answers: both record the same end, and each the other's word.
+/// Player 0 or 1 starts a Normal transfer that the other one answers: both record the same end, and each the
+/// other's word.
 pub fn normal()
     ensures { AgreesNormal console_kind console_view }
 {
@@ -120,8 +123,8 @@ pub fn normal()
     units_agree_in_normal::<Console>();
 }
 
-/// No step sees the lists that a console keeps. A cut with emptied lists is sound where the cut is, and has the same live
-/// signals; and what was emptied, put in front again, makes the console again.
+/// No step sees the lists that a console keeps. A cut with emptied lists is sound where the cut is, and has the same
+/// live signals; and what was emptied, put in front again, makes the console again.
 pub fn forgets()
     ensures unseen { (firsts : ℕ → Option Machine) → IsUnseen console_kind (λ i. behind_if (firsts i)) (λ i m. m) }
     ensures again { (m : Machine) → behind m (forgotten m) ≡ m }
@@ -130,22 +133,23 @@ pub fn forgets()
     alike::<Console>();
 }
 
-/// No step sees the lists that a console keeps, where they begin, the end of their room, what the last step did, nor what a
-/// step resets at its start: consoles that differ in nothing else have the same clock and began their last step at the same one, and those that
-/// take the same signals tell the same, and differ in nothing else again; and their steps do the same.
+/// No step sees the lists that a console keeps, where they begin, the end of their room, what the last step did, nor
+/// what a step resets at its start: consoles that differ in nothing else have the same clock and began their last step
+/// at the same one, and those that take the same signals tell the same, and differ in nothing else again; and their
+/// steps do the same.
 pub fn shorn_unseen()
     ensures unseen { IsUnseen console_kind (λ i. shorn) (λ i. shorn) }
     ensures tells { TellsAlike }
 {}
 
-/// The parts and the lines of a console, poured into one with the same memories, key changes and clock to be off below that keeps
-/// the same lists, make it again, but for what no step sees.
+/// The parts and the lines of a console, poured into one with the same memories, key changes and clock to be off below
+/// that keeps the same lists, make it again, but for what no step sees.
 pub fn pours_again()
     ensures { PoursAgain }
 {}
 
-/// A run in two segments, between which the lists are emptied, is the whole run: but for the lists, and each list of the
-/// whole run is that of the first segment followed by that of the second.
+/// A run in two segments, between which the lists are emptied, is the whole run: but for the lists, and each list of
+/// the whole run is that of the first segment followed by that of the second.
 pub fn segments()
     ensures all { Segments }
     ensures live { LiveSegments }

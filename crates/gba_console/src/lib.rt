@@ -75,8 +75,8 @@ fn due_at(off: u64, clock: u64, changes: &[KeyState], applied: usize) -> u64
     }
 }
 
-/// The clock of the first step with which a console is on that is off below a clock, from another clock: up to it its clock rises
-/// by 16 at a time.
+/// The clock of the first step with which a console is on that is off below a clock, from another clock: up to it its
+/// clock rises by 16 at a time.
 fn first_on(off: u64, clock: u64) -> u64
     requires off { off ≤ 2 ^ 39 }
     requires clock { clock ≤ 2 ^ 39 + 511 }
@@ -92,21 +92,21 @@ fn first_on(off: u64, clock: u64) -> u64
 pub struct Console {
     registers: Registers,
     board: Board,
-    // The key changes, how many of them are applied, and the clock of the next one, which is 0 while the console is off, so
-    // that no step is plain.
+    // The key changes, how many of them are applied, and the clock of the next one, which is 0 while the console is
+    // off, so that no step is plain.
     keys: Vec<KeyState>,
     applied: usize,
     due: u64,
     // The clock below which it is off.
     off: u64,
-    // The cycles of the last step, and where it stands what it did: an instruction by its address and by the entry there in
-    // the table of decoded words or halfwords.
+    // The cycles of the last step, and where it stands what it did: an instruction by its address and by the entry
+    // there in the table of decoded words or halfwords.
     cycles: u32,
     told: Told,
     at: u32,
     aside: What,
-    // Words and halfwords that were decoded at their addresses. An entry counts only where it is the one that is read, or
-    // stands where nothing is written.
+    // Words and halfwords that were decoded at their addresses. An entry counts only where it is the one that is read,
+    // or stands where nothing is written.
     words: Vec<DecodedWord>,
     halves: Vec<KeptHalf>,
 }
@@ -145,12 +145,13 @@ impl Console {
     ghost use Rattle.gba_image.specs.Checks.{SaveFits};
     ghost use Rattle.gba_serial.specs.Apart.{next_end};
 
-    /// A console at reset, at clock 0, of a player below `count`, on a cable of 1 to 4 consoles whose signals take `round`
-    /// cycles from player 0 to player 1 and back, from 2 to 2,048, from its images, whose save was checked for their backup,
-    /// and the changes of its keys; they are dropped on refusal. Below the clock `off` it is off: no device moves, due signals
-    /// only tell the modes of its peers, key changes are applied, and each step takes 16 cycles (this project's profile); 0
-    /// means from the start on. It takes the memory of its RAM, of the decoded instructions and of all that it keeps of what
-    /// it makes in 2^24 cycles, and no more later: it runs up to `room.until`, at most 2^24, and on after a call of `forget`.
+    /// A console at reset, at clock 0, of a player below `count`, on a cable of 1 to 4 consoles whose signals take
+    /// `round` cycles from player 0 to player 1 and back, from 2 to 2,048, from its images, whose save was checked for
+    /// their backup, and the changes of its keys; they are dropped on refusal. Below the clock `off` it is off: no
+    /// device moves, due signals only tell the modes of its peers, key changes are applied, and each step takes 16
+    /// cycles (this project's profile); 0 means from the start on. It takes the memory of its RAM, of the decoded
+    /// instructions and of all that it keeps of what it makes in 2^24 cycles, and no more later: it runs up to
+    /// `room.until`, at most 2^24, and on after a call of `forget`.
     pub fn new(
         alloc: Global,
         player: u32,
@@ -287,16 +288,16 @@ impl Console {
         self.board.made.samples()
     }
 
-    /// The whole frames, each of 160 lines of 240 colours: 16 bits each, low byte first, of which the lowest five are red,
-    /// the next green and then blue. Empty where they aren't kept.
+    /// The whole frames, each of 160 lines of 240 colours: 16 bits each, low byte first, of which the lowest five are
+    /// red, the next green and then blue. Empty where they aren't kept.
     pub fn frames(&self) -> &[u8]
         ensures { result.now ≡ self.now.board.made.frames }
     {
         self.board.made.frames()
     }
 
-    /// The transfers that ended since the last call of `forget`, in the order of their ends, which are at least 512 cycles
-    /// apart. Empty where they aren't kept.
+    /// The transfers that ended since the last call of `forget`, in the order of their ends, which are at least 512
+    /// cycles apart. Empty where they aren't kept.
     pub fn words(&self) -> &[Transfer]
         ensures words { result.now ≡ self.now.board.ended.words }
         ensures few { length result.now ≤ 32770 }
@@ -313,9 +314,9 @@ impl Console {
         self.board.counts()
     }
 
-    /// Empties the lists of whole frames, pairs of samples and ended transfers, all of which stay counted, forgets what the
-    /// last step did, and makes `until` the end of its room: the clock below which the last step begins, at most 511 cycles
-    /// back, and at most 2^24 cycles on.
+    /// Empties the lists of whole frames, pairs of samples and ended transfers, all of which stay counted, forgets what
+    /// the last step did, and makes `until` the end of its room: the clock below which the last step begins, at most
+    /// 511 cycles back, and at most 2^24 cycles on.
     pub fn forget(&mut self, until: u64)
         requires most { until ≤ 2 ^ 39 }
         requires later { clock_of self.old ≤ until + 511 }

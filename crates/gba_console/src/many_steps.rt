@@ -9,8 +9,8 @@ impl Console {
     ghost use Rattle.gba_console.specs.Machine.{clock_of};
     ghost use Rattle.gba_console.specs.Run.{GoesAlone, run_to};
 
-    /// Makes steps with nothing due until the clock is at least `end`, which is no more than the end of the room, or one of
-    /// them tells something, and answers that.
+    /// Makes steps with nothing due until the clock is at least `end`, which is no more than the end of the room, or
+    /// one of them tells something, and answers that.
     pub fn go_alone(&mut self, end: u64) -> Option<Signal>
         requires { end ≤ self.old.board.made.until }
         ensures alone { GoesAlone end self.old self.new result }
@@ -46,8 +46,8 @@ impl Console {
         None
     }
 
-    /// Makes steps until the clock is at least `until`, which is no more than the end of the room. Nothing is due in them, and
-    /// what they tell nobody hears.
+    /// Makes steps until the clock is at least `until`, which is no more than the end of the room. Nothing is due in
+    /// them, and what they tell nobody hears.
     pub fn run_to(&mut self, until: u64)
         requires { until ≤ self.old.board.made.until }
         ensures run { self.new ≡ run_to until self.old }

@@ -64,8 +64,8 @@ impl Console {
         self.board.core.signal(self.was())
     }
 
-    /// Makes plain steps until something asks for more or `most` cycles have passed, from 1 to 512. In these cycles no keys
-    /// change and no transfer ends. Only the last step may tell something.
+    /// Makes plain steps until something asks for more or `most` cycles have passed, from 1 to 512. In these cycles no
+    /// keys change and no transfer ends. Only the last step may tell something.
     #[inline(never)]
     pub(crate) fn go_plainly_for(&mut self, most: u32)
         requires some { 1 ≤ most }
@@ -91,7 +91,8 @@ impl Console {
         }
     }
 
-    /// Makes steps while they are plain, the clock is below `end` and they tell nothing, and answers what the last one tells.
+    /// Makes steps while they are plain, the clock is below `end` and they tell nothing, and answers what the
+    /// last one tells.
     #[inline(never)]
     pub(crate) fn go_plainly(&mut self, end: u64) -> Option<Signal>
         requires { end ≤ self.old.board.made.until }

@@ -11,8 +11,8 @@ use gba_io::{Board, BoardParts};
 use gba_mem::MemoryPart;
 use gba_psr::Registers;
 
-/// What a console is made of beside its memories, the lines that are drawn, the changes of its keys, and the clock below which
-/// it is off.
+/// What a console is made of beside its memories, the lines that are drawn, the changes of its keys, and the clock
+/// below which it is off.
 #[derive(Debug, Drop)]
 pub struct ConsoleParts {
     pub registers: Registers,
@@ -57,8 +57,8 @@ impl Console {
     ghost use Rattle.gba_mem.specs.Replacing.{part_length};
     ghost use Rattle.gba_console.specs.Pouring.{CanPour, machine_cleared, machine_poured, machine_with_flash, machine_with_part};
 
-    /// Puts these parts and lines beside the memories. The three lists are emptied and begin here, and `until` is the end of their
-    /// room, as after [`Console::forget`]; which of them are kept stays. It takes no memory.
+    /// Puts these parts and lines beside the memories. The three lists are emptied and begin here, and `until` is the
+    /// end of their room, as after [`Console::forget`]; which of them are kept stays. It takes no memory.
     pub fn pour(&mut self, parts: ConsoleParts, lines: &[[u8; 480]], until: u64)
         requires applied { parts.applied ≤ length self.old.keys }
         requires fit { CanPour parts.was until parts.board lines.now }
@@ -89,7 +89,8 @@ impl Console {
         self.board.core.set_bytes(part, place, bytes);
     }
 
-    /// Makes every byte of the memories that are written 0, those of the SRAM or the flash too. The lines that are drawn stay.
+    /// Makes every byte of the memories that are written 0, those of the SRAM or the flash too. The lines that are
+    /// drawn stay.
     pub fn clear_memories(&mut self)
         ensures { self.new ≡ machine_cleared self.old }
     {

@@ -17,8 +17,8 @@ use std::process::Abort;
 use std::test::Fail;
 
 static COURSES: [Course; 21] = [
-    // BL to 8, where BEQ isn't executed, and then B to 4000h, where no memory is: words 0 there, ANDEQ r0, r0, r0, are not
-    // executed and go on.
+    // BL to 8, where BEQ isn't executed, and then B to 4000h, where no memory is: words 0 there, ANDEQ r0, r0, r0, are
+    // not executed and go on.
     Course {
         name: "jumps and no memory",
         bios: Words(&[0xEB00_0000, 0, 0x0A00_0000, 0xEA00_0FFB]),
@@ -141,8 +141,8 @@ static COURSES: [Course; 21] = [
         moves: &[Steps(5), Shows(Register(0), 0xFFFF_0000)],
         ..PLAIN
     },
-    // A program copies two words into the inner RAM and runs them there: LDR r0, [r3] of the BIOS reads 0 from outside it,
-    // and MOV r5, #1 is changed into MOV r5, #2 by the word before it, which is seen at once.
+    // A program copies two words into the inner RAM and runs them there: LDR r0, [r3] of the BIOS reads 0 from outside
+    // it, and MOV r5, #1 is changed into MOV r5, #2 by the word before it, which is seen at once.
     Course {
         name: "code in the inner RAM",
         bios: Words(&[
@@ -232,8 +232,8 @@ static COURSES: [Course; 21] = [
         ],
         ..PLAIN
     },
-    // Loads and stores through the memory map with the wait control at 0: a word of the cartridge, a halfword past its end,
-    // a load that isn't aligned, the VRAM's second half at its repeat, and the SRAM at 8 and 32 bits.
+    // Loads and stores through the memory map with the wait control at 0: a word of the cartridge, a halfword past its
+    // end, a load that isn't aligned, the VRAM's second half at its repeat, and the SRAM at 8 and 32 bits.
     Course {
         name: "prices of the memory map",
         bios: Words(&[
@@ -280,8 +280,8 @@ static COURSES: [Course; 21] = [
         ],
         ..PLAIN
     },
-    // LDMIA r0, {r0-r15} that stands in ROM view 2 and reads it: 18 of code, 14 and 15 times 18 of data, 1, and 18 and 14 of
-    // the jump.
+    // LDMIA r0, {r0-r15} that stands in ROM view 2 and reads it: 18 of code, 14 and 15 times 18 of data, 1, and 18 and
+    // 14 of the jump.
     Course {
         name: "a whole block from view 2",
         // MOV r0, #0C000000h; ADD r0, r0, #C0h; MOV r15, r0.
@@ -425,8 +425,8 @@ static COURSES: [Course; 21] = [
         ],
         ..PLAIN
     },
-    // DMA3 moves 65,536 words, which a count of 0 stands for, from the work RAM to the inner RAM: each is a step, the first
-    // of 6 + 1 + 2 cycles and the others of 6 + 1.
+    // DMA3 moves 65,536 words, which a count of 0 stands for, from the work RAM to the inner RAM: each is a step, the
+    // first of 6 + 1 + 2 cycles and the others of 6 + 1.
     Course {
         name: "a count of 0 moves 65,536 units",
         bios: Words(&[
@@ -457,8 +457,8 @@ static COURSES: [Course; 21] = [
         ],
         ..PLAIN
     },
-    // DMA3 writes byte 301h twice, so that its second unit is done in the halt, though an interrupt is pending: the step
-    // after it goes on.
+    // DMA3 writes byte 301h twice, so that its second unit is done in the halt, though an interrupt is pending: the
+    // step after it goes on.
     Course {
         name: "a unit wakes nothing",
         bios: Words(&[
@@ -501,8 +501,8 @@ static COURSES: [Course; 21] = [
         ],
         ..PLAIN
     },
-    // A branch to itself for 1,024 cycles: two pairs, at 512 and at 1,024, and the sound is off. They are forgotten and stay
-    // counted, and the pair at 1,536 is kept.
+    // A branch to itself for 1,024 cycles: two pairs, at 512 and at 1,024, and the sound is off. They are forgotten and
+    // stay counted, and the pair at 1,536 is kept.
     Course {
         name: "pairs go with the clock",
         bios: Words(&[0xEAFF_FFFE]),
@@ -629,8 +629,8 @@ fn halts(alloc: Global, master: u32, status: u32) -> Result<Play, Fail> {
     console_of_words(alloc, &words)
 }
 
-/// A halt that timer 0 ends, which overflows at 47: the step that begins at 52 goes on behind it, and enters the interrupt
-/// only where IME is 1 and I is 0.
+/// A halt that timer 0 ends, which overflows at 47: the step that begins at 52 goes on behind it, and enters the
+/// interrupt only where IME is 1 and I is 0.
 #[test]
 fn a_halt_ends(rt: HostRuntime) -> Result<(), Fail> {
     for &(case, master, status, clock, at, zero) in &HALTS {

@@ -32,8 +32,8 @@ fn console_of(alloc: Global, source: &[u8], off: u64, keys: &[KeyState]) -> Resu
     Play::new(alloc, ALONE, off, images, keys, room)
 }
 
-/// Where it is off below a clock and steps up to another one, the clock that it comes to: 16 cycles at a time up to the first
-/// multiple of 16 at which it is on, and from there 3 at a time.
+/// Where it is off below a clock and steps up to another one, the clock that it comes to: 16 cycles at a time up to the
+/// first multiple of 16 at which it is on, and from there 3 at a time.
 static CLOCKS: [(u64, u64, u64); 11] = [
     (0, 1, 3),
     (1, 1, 16),
@@ -57,8 +57,8 @@ fn clocks_rise_by_sixteen(rt: HostRuntime) -> Result<(), Fail> {
     Ok(())
 }
 
-/// The clock below which it is off, that of its first step, and how many pairs of samples it has 196,896 cycles later: one for
-/// each multiple of 512 behind the first step. By then its first frame is whole, and 3 cycles earlier it isn't.
+/// The clock below which it is off, that of its first step, and how many pairs of samples it has 196,896 cycles later:
+/// one for each multiple of 512 behind the first step. By then its first frame is whole, and 3 cycles earlier it isn't.
 static MAKES: [(&str, u64, u64, u64); 7] = [
     ("off below 0", 0, 0, 384),
     ("off below 1", 1, 16, 384),

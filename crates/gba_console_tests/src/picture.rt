@@ -9,8 +9,8 @@ use std::process::Abort;
 use std::test::Fail;
 
 static COURSES: [Course; 2] = [
-    // Line 159 of a frame is drawn in the cycle that ends at clock 196,894 of it, and 280,896 cycles later in the next. A
-    // branch to itself takes 3 cycles, so that the first frame is whole in the step that ends at 196,896.
+    // Line 159 of a frame is drawn in the cycle that ends at clock 196,894 of it, and 280,896 cycles later in the next.
+    // A branch to itself takes 3 cycles, so that the first frame is whole in the step that ends at 196,896.
     Course {
         name: "frames are whole with line 159",
         bios: Words(&[0xEAFF_FFFE]),
@@ -48,8 +48,8 @@ static COURSES: [Course; 2] = [
         ],
         ..PLAIN
     },
-    // DISPCNT as 0080h makes the screen white, whatever else is set: MOV r0, #04000000h; MOV r1, #80h; STRH r1, [r0]; and
-    // a branch to itself.
+    // DISPCNT as 0080h makes the screen white, whatever else is set: MOV r0, #04000000h; MOV r1, #80h; STRH r1, [r0];
+    // and a branch to itself.
     Course {
         name: "a blank screen is white",
         bios: Words(&[0xE3A0_0301, 0xE3A0_1080, 0xE1C0_10B0, 0xEAFF_FFFE]),
@@ -79,8 +79,8 @@ fn has_line<R: Abort>(rt: &R, console: &Play, frame: usize, line: usize) {
     }
 }
 
-/// A program that stores VCOUNT as the backdrop's colour all the time: each line has its own number as its colour, since
-/// it is drawn when its HBlank begins, by the palette as it is then.
+/// A program that stores VCOUNT as the backdrop's colour all the time: each line has its own number as its colour,
+/// since it is drawn when its HBlank begins, by the palette as it is then.
 #[test]
 fn lines_are_drawn_when_their_hblank_begins(rt: HostRuntime) -> Result<(), Fail> {
     // MOV r0, #04000000h; MOV r1, #05000000h; LDRH r2, [r0, #6]; STRH r2, [r1]; B back to the load

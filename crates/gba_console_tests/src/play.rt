@@ -273,8 +273,8 @@ impl Play {
         self.console.until()
     }
 
-    /// Pours these devices and counts into a console, beside its own registers and serial unit, and makes its last step one of four
-    /// cycles. So many key changes are applied.
+    /// Pours these devices and counts into a console, beside its own registers and serial unit, and makes its last step
+    /// one of four cycles. So many key changes are applied.
     pub fn pour<R: Abort>(
         &mut self,
         rt: &R,

@@ -85,7 +85,8 @@ const GOES_ON: [Move; 3] = [
     Shows(Half(0x130), 0x3FF),
 ];
 
-/// And by the second key change. The clock is 3,000 or at most two steps of 3 cycles more, so that five pairs were made.
+/// And by the second key change. The clock is 3,000 or at most two steps of 3 cycles more, so that five
+/// pairs were made.
 const RUNS_ON: [Move; 3] = [Run(3_000), Shows(Half(0x130), 0x3FD), Shows(Pairs, 15)];
 
 /// Moves of a poured console, and what its last step did behind them.
@@ -110,8 +111,8 @@ fn goes_on<R: Abort>(rt: &R, console: &mut Play) {
     }
 }
 
-/// A poured console has the clocks and the counts, its lists are empty, its last step isn't told, and it goes on with what stands in
-/// its memories, whatever was decoded before; the second key change is the next one.
+/// A poured console has the clocks and the counts, its lists are empty, its last step isn't told, and it goes on with
+/// what stands in its memories, whatever was decoded before; the second key change is the next one.
 #[test]
 fn a_poured_console_goes_on(rt: HostRuntime) -> Result<(), Fail> {
     let mut console = running(&rt, rt.alloc())?;
@@ -134,7 +135,8 @@ const COMES_ON: [Move; 8] = [
     Shows(Frames, 7),
 ];
 
-/// A poured console that is off keeps its counts, and comes on with the first of its steps that ends where it may be on.
+/// A poured console that is off keeps its counts, and comes on with the first of its steps that ends where
+/// it may be on.
 #[test]
 fn a_poured_console_that_is_off_comes_on(rt: HostRuntime) -> Result<(), Fail> {
     let images = images_of_source(rt.alloc(), SOURCE)?;

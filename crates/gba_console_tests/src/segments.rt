@@ -1,5 +1,5 @@
-//! A console that runs in segments, between which its lists are emptied: the lists of the segments, one behind the other,
-//! are those of one run.
+//! A console that runs in segments, between which its lists are emptied: the lists of the segments, one behind the
+//! other, are those of one run.
 
 use crate::course::Look::{
     Clock, Dot, FrameBytes, Frames, Line, Pairs, SampleBytes, Transfers, TransfersKept, Until, Was,
@@ -220,8 +220,8 @@ static STRETCHES: [(u64, u64, u64, u64); 4] = [
     (33_554_432, 33_554_435, 32_766, 59),
 ];
 
-/// A pair is made at each multiple of 512, and a frame is whole at clock 196,894 and each 280,896 cycles from there on. The
-/// steps end 3 cycles past the multiples of 16.
+/// A pair is made at each multiple of 512, and a frame is whole at clock 196,894 and each 280,896 cycles from there on.
+/// The steps end 3 cycles past the multiples of 16.
 #[test]
 fn segments_have_their_pairs_and_frames(rt: HostRuntime) -> Result<(), Fail> {
     let mut console = console_of(rt.alloc(), IDLES, 0, 0)?;

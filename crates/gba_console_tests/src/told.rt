@@ -57,9 +57,9 @@ const MOVES_WORDS: &[u32] = &[
     0xEAFF_FFFE, // 20 B to itself
 ];
 
-/// Of a program of the BIOS, the clock below which its console is off, the clock that it runs to, what its last step did, and
-/// the clock at which that step began: steps one by one, many of the same at once, and those in which no instruction is executed.
-/// BEQ at 8 isn't, but is told.
+/// Of a program of the BIOS, the clock below which its console is off, the clock that it runs to, what its last step
+/// did, and the clock at which that step began: steps one by one, many of the same at once, and those in which no
+/// instruction is executed. BEQ at 8 isn't, but is told.
 static COURSES: [(&str, &[u32], u64, u64, What, u64); 15] = [
     ("loops until 0", LOOPS, 0, 0, Nothing, 0),
     (
@@ -206,8 +206,8 @@ fn steps_tell_what_they_did(rt: HostRuntime) -> Result<(), Fail> {
     Ok(())
 }
 
-/// Of a program, the clock below which its console is off and the clock that it runs to, the line of its last step: none yet, a
-/// branch, a Thumb instruction, a halt, an interrupt, a unit of DMA, and a console that is off.
+/// Of a program, the clock below which its console is off and the clock that it runs to, the line of its last step:
+/// none yet, a branch, a Thumb instruction, a halt, an interrupt, a unit of DMA, and a console that is off.
 static LINES: [(&[u32], u64, u64, &[u8]); 7] = [
     (
         LOOPS,

@@ -106,7 +106,8 @@ word:   .word 0x01234567
 go:     .word 0x1081
 ";
 
-/// In Normal8 by the step at 100, since each statement before it takes a cycle, and so do the zeros, which aren't executed.
+/// In Normal8 by the step at 100, since each statement before it takes a cycle, and so do the zeros, which
+/// aren't executed.
 const TELLS_LATER: &[u8] = b"
         mov r5, #0x04000000
         add r5, r5, #0x100
@@ -180,7 +181,8 @@ const PLAIN: Meeting = Meeting {
 };
 
 static MEETINGS: [Meeting; 6] = [
-    // Both end 5,220 cycles after the start with both words, and player 0, which asked for it, has its interrupt requested.
+    // Both end 5,220 cycles after the start with both words, and player 0, which asked for it, has its interrupt
+    // requested.
     Meeting {
         name: "two consoles in Multi",
         sources: [STARTS_MULTI, AWAITS_MULTI],
@@ -236,8 +238,8 @@ static MEETINGS: [Meeting; 6] = [
         halves: &[(0x12A, 0x00A5, 0x005A)],
         ..PLAIN
     },
-    // Player 0 starts a Multi transfer while player 1 is off, and ends it alone, with an error. Player 1, which is on before
-    // that end, ends none.
+    // Player 0 starts a Multi transfer while player 1 is off, and ends it alone, with an error. Player 1, which is on
+    // before that end, ends none.
     Meeting {
         name: "a start is lost on a console that is off",
         delay: 16,

@@ -56,8 +56,8 @@ fn cycle<R: Abort>(rt: &R, devices: &mut Devices) {
     devices.cycle();
 }
 
-/// HBlank comes in the sixth cycle and the overflow in the twentieth, so that five cycles and then thirteen are owed at once, and
-/// no more.
+/// HBlank comes in the sixth cycle and the overflow in the twentieth, so that five cycles and then thirteen are owed at
+/// once, and no more.
 #[test]
 fn devices_are_made_of_their_parts(rt: HostRuntime) -> Result<(), Fail> {
     let mut devices = made();

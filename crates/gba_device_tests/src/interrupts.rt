@@ -108,8 +108,8 @@ fn keypad_asks_at_each_edge(rt: HostRuntime) -> Result<(), Fail> {
     Ok(())
 }
 
-/// The pressed keys and KEYCNT that a keypad is made of, what KEYINPUT then reads, and whether letting the keys go and pressing
-/// them again makes the condition true.
+/// The pressed keys and KEYCNT that a keypad is made of, what KEYINPUT then reads, and whether letting the keys go and
+/// pressing them again makes the condition true.
 static MADE: [(u16, u16, u16, bool); 4] = [
     (0x000, 0x0000, 0x3FF, false),
     (0x201, 0x4001, 0x1FE, true),

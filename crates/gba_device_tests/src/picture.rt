@@ -97,7 +97,8 @@ static QUIET: [(u32, u32); 9] = [
     (900, 105),
 ];
 
-/// Dots, how many cycles are looked at, and for how many of them nothing comes: HBlank comes 1,006 cycles after a line began.
+/// Dots, how many cycles are looked at, and for how many of them nothing comes: HBlank comes 1,006 cycles after
+/// a line began.
 static FAR: [(u32, u32, u32); 5] = [
     (0, 1024, 1005),
     (0, 7, 7),

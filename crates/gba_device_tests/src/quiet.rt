@@ -21,8 +21,8 @@ const STOPPED: PlainTimer = PlainTimer {
     phase: 0,
 };
 
-/// Writes a timer's control at its offset: its prescaler, whether it counts the timer below, and whether it runs. Timer 0
-/// counts none below.
+/// Writes a timer's control at its offset: its prescaler, whether it counts the timer below, and whether it runs. Timer
+/// 0 counts none below.
 fn write_control(timers: &mut Timers, plain: &mut PlainTimer, offset: u32, chance: &mut Chance) {
     let cascade = if offset == 0x102 || chance.below(3) < 2 {
         0

@@ -182,8 +182,8 @@ static FAR: [Move; 10] = [
     Cycles(1, 1, 1),
 ];
 
-/// Timer 0 at FFFFh with prescaler 64 and phase 60, the others stopped. Then the prescaler 256, and the prescaler 1, for
-/// which the phase is past its end.
+/// Timer 0 at FFFFh with prescaler 64 and phase 60, the others stopped. Then the prescaler 256, and the prescaler 1,
+/// for which the phase is past its end.
 static PHASE_60: [Move; 10] = [
     Write(0x100, 0xFFFF),
     Write(0x102, 0x0081),
@@ -197,7 +197,8 @@ static PHASE_60: [Move; 10] = [
     Quiet(0),
 ];
 
-/// The last count of each prescaler: with 1,024 the overflow is past the 512 cycles that are looked at, up to its phase 512.
+/// The last count of each prescaler: with 1,024 the overflow is past the 512 cycles that are looked at, up to its
+/// phase 512.
 static LAST_COUNTS: [Move; 14] = [
     Write(0x104, 0xFFFF),
     Write(0x106, 0x0080),
@@ -215,8 +216,8 @@ static LAST_COUNTS: [Move; 14] = [
     QuietOf(1, 511),
 ];
 
-/// Timer 1 counts the overflows of timer 0, which come every second cycle, and timer 2 those of timer 1. A stopped timer
-/// ends the row.
+/// Timer 1 counts the overflows of timer 0, which come every second cycle, and timer 2 those of timer 1. A stopped
+/// timer ends the row.
 static QUIET_CASCADES: [Move; 17] = [
     Write(0x100, 0xFFFE),
     Write(0x104, 0xFFFE),
@@ -309,8 +310,8 @@ fn timer((counter, reload, control, phase): Numbers) -> Timer {
     }
 }
 
-/// What timers are made of, and what they are after a cycle: one at its last count, a cascade timer above it, one at the last
-/// cycle of 64, and one whose phase is past its 256 cycles, as after a change of its prescaler.
+/// What timers are made of, and what they are after a cycle: one at its last count, a cascade timer above it, one at
+/// the last cycle of 64, and one whose phase is past its 256 cycles, as after a change of its prescaler.
 static MADE: [(Numbers, Numbers); 4] = [
     ((0xFFFF, 0x1234, 0x0080, 0), (0x1234, 0x1234, 0x0080, 0)),
     ((5, 9, 0x0084, 40), (6, 9, 0x0084, 40)),

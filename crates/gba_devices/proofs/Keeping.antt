@@ -39,7 +39,8 @@ whole-keeps : (offset value lanes : ℕ) (d : Devices) → Keeps d (whole_writte
 unfolding whole_written
 whole-keeps offset value lanes d = owner-keeps (owner_of offset) offset value lanes d
 
-half-keeps : (d : Devices) (offset value lanes : ℕ) (s : Devices) → Keeps d s → Keeps d (half_written offset value lanes s)
+half-keeps : (d : Devices) (offset value lanes : ℕ) (s : Devices) → Keeps d s
+    → Keeps d (half_written offset value lanes s)
 half-keeps d offset value lanes s before =
     let last = whole-keeps offset (merged (half_kept offset s) value lanes) lanes s in
     record {

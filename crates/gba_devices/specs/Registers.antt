@@ -129,8 +129,8 @@ half_written offset value lanes d = put_by half_kept whole_written offset value 
 abbrev pub io_loaded : ℕ → Width → Devices → ℕ
 io_loaded offset width d = loaded_by_halves (λ place. half_read place d) offset width
 
--- The queue that an access writes: words at 0A0h go into queue A, 0, and those at 0A4h into queue B, 1. Narrower writes there
--- are dropped (this project's profile).
+-- The queue that an access writes: words at 0A0h go into queue A, 0, and those at 0A4h into queue B, 1. Narrower writes
+-- there are dropped (this project's profile).
 abbrev pub queue_of : ℕ → Width → Option ℕ
 queue_of offset Word =
     if offset - offset % 4 == 0x0a0 then Some 0

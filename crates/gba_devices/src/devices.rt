@@ -149,7 +149,8 @@ impl Devices {
         self.set.tones_after(self.debt)
     }
 
-    /// The cycles since the sound was turned on, modulo 262,144, by which the tone channels' lengths, sweep and envelopes tick.
+    /// The cycles since the sound was turned on, modulo 262,144, by which the tone channels' lengths, sweep and
+    /// envelopes tick.
     pub fn sequencer(&self) -> u32
         ensures value { result ≡ self.now.tones.sequencer }
         ensures most { result < 0x40000 }
@@ -206,7 +207,8 @@ impl Devices {
         self.silence = self.horizon.min(self.set.pairless());
     }
 
-    /// The same where no more can be owed, or fewer cycles than these only because no more than 1,024 are looked at at once.
+    /// The same where no more can be owed, or fewer cycles than these only because no more than 1,024 are
+    /// looked at at once.
     fn renew_due(&mut self, cycles: u32)
         ensures { self.new ≡ self.old }
     {
@@ -322,8 +324,8 @@ impl Devices {
         steps
     }
 
-    /// Moves by as many of so many steps of so many cycles as one look tells that nothing happens in but pairs of samples, and
-    /// answers how many.
+    /// Moves by as many of so many steps of so many cycles as one look tells that nothing happens in but pairs of
+    /// samples, and answers how many.
     fn owe_looked(&mut self, cycles: u32, most: u32) -> u32
         requires some { 1 ≤ cycles }
         requires clock { self.old.clock < 2 ^ 61 }
@@ -347,8 +349,8 @@ impl Devices {
         steps
     }
 
-    /// Moves by as many of so many steps of so many cycles as nothing happens in but pairs of samples, and answers how many. All
-    /// of them take no more than 1,024 cycles.
+    /// Moves by as many of so many steps of so many cycles as nothing happens in but pairs of samples, and answers how
+    /// many. All of them take no more than 1,024 cycles.
     pub fn owe_unheard(&mut self, cycles: u32, most: u32) -> u32
         requires some { 1 ≤ cycles }
         requires clock { self.old.clock + 1024 < 2 ^ 61 }

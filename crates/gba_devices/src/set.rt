@@ -309,8 +309,8 @@ impl DeviceSet {
         self.interrupts.master && self.interrupts.pending()
     }
 
-    /// Whether nothing asks for more than an instruction: no halt, no interrupt that IME lets in, no active DMA channel,
-    /// and no other prices.
+    /// Whether nothing asks for more than an instruction: no halt, no interrupt that IME lets in, no active DMA
+    /// channel, and no other prices.
     #[inline]
     pub fn is_calm(&self) -> bool
         ensures { result ≡ is_calm self.now }
@@ -379,8 +379,8 @@ impl DeviceSet {
         self.request_if(rose, 12);
     }
 
-    /// What is stored at a halfword of the picture's registers while the picture is at a place, and of bits that are only
-    /// read what they read.
+    /// What is stored at a halfword of the picture's registers while the picture is at a place, and of bits that are
+    /// only read what they read.
     pub(crate) fn picture_listed(&self, offset: u32, at: &Position) -> u16
         ensures { result ≡ bit_or (picture_kept offset self.now.picture)
             (picture_read_at offset at.now self.now.picture) }

@@ -23,7 +23,8 @@ long_3 a b c xs = grind (arith, nat_tests)
 long_5 : (a b c d e : ℕ) (xs : List ℕ) → nat_lt (length (a ∷ b ∷ c ∷ d ∷ e ∷ xs)) 5 ≡ false
 long_5 a b c d e xs = grind (arith, nat_tests)
 
-tail_none : (c : Condition) → is_never c ≡ false → condition_first (condition_text c ++ codes "") ≡ conditioned c (codes "")
+tail_none : (c : Condition) → is_never c ≡ false
+    → condition_first (condition_text c ++ codes "") ≡ conditioned c (codes "")
 unfolding condition_first condition_of
 tail_none Equal h = refl
 tail_none NotEqual h = refl
@@ -42,7 +43,8 @@ tail_none LessOrEqual h = refl
 tail_none Always h = refl
 tail_none Never h = absurd cc
 
-tail_s : (c : Condition) → is_never c ≡ false → condition_first (condition_text c ++ codes "s") ≡ conditioned c (codes "s")
+tail_s : (c : Condition) → is_never c ≡ false
+    → condition_first (condition_text c ++ codes "s") ≡ conditioned c (codes "s")
 unfolding condition_first condition_of
 tail_s Equal h = refl
 tail_s NotEqual h = refl
@@ -61,7 +63,8 @@ tail_s LessOrEqual h = refl
 tail_s Always h = refl
 tail_s Never h = absurd cc
 
-tail_b : (c : Condition) → is_never c ≡ false → condition_first (condition_text c ++ codes "b") ≡ conditioned c (codes "b")
+tail_b : (c : Condition) → is_never c ≡ false
+    → condition_first (condition_text c ++ codes "b") ≡ conditioned c (codes "b")
 unfolding condition_first condition_of
 tail_b Equal h = refl
 tail_b NotEqual h = refl
@@ -80,7 +83,8 @@ tail_b LessOrEqual h = refl
 tail_b Always h = refl
 tail_b Never h = absurd cc
 
-tail_t : (c : Condition) → is_never c ≡ false → condition_first (condition_text c ++ codes "t") ≡ conditioned c (codes "t")
+tail_t : (c : Condition) → is_never c ≡ false
+    → condition_first (condition_text c ++ codes "t") ≡ conditioned c (codes "t")
 unfolding condition_first condition_of
 tail_t Equal h = refl
 tail_t NotEqual h = refl
@@ -99,7 +103,8 @@ tail_t LessOrEqual h = refl
 tail_t Always h = refl
 tail_t Never h = absurd cc
 
-tail_bt : (c : Condition) → is_never c ≡ false → condition_first (condition_text c ++ codes "bt") ≡ conditioned c (codes "bt")
+tail_bt : (c : Condition) → is_never c ≡ false
+    → condition_first (condition_text c ++ codes "bt") ≡ conditioned c (codes "bt")
 unfolding condition_first condition_of
 tail_bt Equal h = refl
 tail_bt NotEqual h = refl
@@ -118,7 +123,8 @@ tail_bt LessOrEqual h = refl
 tail_bt Always h = refl
 tail_bt Never h = absurd cc
 
-tail_h : (c : Condition) → is_never c ≡ false → condition_first (condition_text c ++ codes "h") ≡ conditioned c (codes "h")
+tail_h : (c : Condition) → is_never c ≡ false
+    → condition_first (condition_text c ++ codes "h") ≡ conditioned c (codes "h")
 unfolding condition_first condition_of
 tail_h Equal h = refl
 tail_h NotEqual h = refl
@@ -137,7 +143,8 @@ tail_h LessOrEqual h = refl
 tail_h Always h = refl
 tail_h Never h = absurd cc
 
-tail_sb : (c : Condition) → is_never c ≡ false → condition_first (condition_text c ++ codes "sb") ≡ conditioned c (codes "sb")
+tail_sb : (c : Condition) → is_never c ≡ false
+    → condition_first (condition_text c ++ codes "sb") ≡ conditioned c (codes "sb")
 unfolding condition_first condition_of
 tail_sb Equal h = refl
 tail_sb NotEqual h = refl
@@ -156,7 +163,8 @@ tail_sb LessOrEqual h = refl
 tail_sb Always h = refl
 tail_sb Never h = absurd cc
 
-tail_sh : (c : Condition) → is_never c ≡ false → condition_first (condition_text c ++ codes "sh") ≡ conditioned c (codes "sh")
+tail_sh : (c : Condition) → is_never c ≡ false
+    → condition_first (condition_text c ++ codes "sh") ≡ conditioned c (codes "sh")
 unfolding condition_first condition_of
 tail_sh Equal h = refl
 tail_sh NotEqual h = refl
@@ -175,7 +183,8 @@ tail_sh LessOrEqual h = refl
 tail_sh Always h = refl
 tail_sh Never h = absurd cc
 
-tail_ia : (c : Condition) → is_never c ≡ false → condition_first (condition_text c ++ codes "ia") ≡ conditioned c (codes "ia")
+tail_ia : (c : Condition) → is_never c ≡ false
+    → condition_first (condition_text c ++ codes "ia") ≡ conditioned c (codes "ia")
 unfolding condition_first condition_of
 tail_ia Equal h = refl
 tail_ia NotEqual h = refl
@@ -194,7 +203,8 @@ tail_ia LessOrEqual h = refl
 tail_ia Always h = refl
 tail_ia Never h = absurd cc
 
-tail_ib : (c : Condition) → is_never c ≡ false → condition_first (condition_text c ++ codes "ib") ≡ conditioned c (codes "ib")
+tail_ib : (c : Condition) → is_never c ≡ false
+    → condition_first (condition_text c ++ codes "ib") ≡ conditioned c (codes "ib")
 unfolding condition_first condition_of
 tail_ib Equal h = refl
 tail_ib NotEqual h = refl
@@ -213,7 +223,8 @@ tail_ib LessOrEqual h = refl
 tail_ib Always h = refl
 tail_ib Never h = absurd cc
 
-tail_da : (c : Condition) → is_never c ≡ false → condition_first (condition_text c ++ codes "da") ≡ conditioned c (codes "da")
+tail_da : (c : Condition) → is_never c ≡ false
+    → condition_first (condition_text c ++ codes "da") ≡ conditioned c (codes "da")
 unfolding condition_first condition_of
 tail_da Equal h = refl
 tail_da NotEqual h = refl
@@ -232,7 +243,8 @@ tail_da LessOrEqual h = refl
 tail_da Always h = refl
 tail_da Never h = absurd cc
 
-tail_db : (c : Condition) → is_never c ≡ false → condition_first (condition_text c ++ codes "db") ≡ conditioned c (codes "db")
+tail_db : (c : Condition) → is_never c ≡ false
+    → condition_first (condition_text c ++ codes "db") ≡ conditioned c (codes "db")
 unfolding condition_first condition_of
 tail_db Equal h = refl
 tail_db NotEqual h = refl
@@ -251,42 +263,51 @@ tail_db LessOrEqual h = refl
 tail_db Always h = refl
 tail_db Never h = absurd cc
 
-pub multiply_named : (c : Condition) (set : Bool) (ts : List Token) → is_never c ≡ false → arm_statement (codes "mul" ++ condition_text c ++ letters_if set (codes "s")) ts ≡ multiply_form c set ts
+pub multiply_named : (c : Condition) (set : Bool) (ts : List Token) → is_never c ≡ false
+    → arm_statement (codes "mul" ++ condition_text c ++ letters_if set (codes "s")) ts ≡ multiply_form c set ts
 unfolding arm_statement arm_name three_name with_tail compute_of compare_of other_of suffix_of mnemonic_of form_of
 multiply_named c true ts h = rw (long_3 109 117 108 (condition_text c ++ codes "s"), tail_s c h) refl
 multiply_named c false ts h = rw (long_3 109 117 108 (condition_text c ++ codes ""), tail_none c h) refl
 
-pub accumulate_named : (c : Condition) (set : Bool) (ts : List Token) → is_never c ≡ false → arm_statement (codes "mla" ++ condition_text c ++ letters_if set (codes "s")) ts ≡ accumulate_form c set ts
+pub accumulate_named : (c : Condition) (set : Bool) (ts : List Token) → is_never c ≡ false
+    → arm_statement (codes "mla" ++ condition_text c ++ letters_if set (codes "s")) ts ≡ accumulate_form c set ts
 unfolding arm_statement arm_name three_name with_tail compute_of compare_of other_of suffix_of mnemonic_of form_of
 accumulate_named c true ts h = rw (long_3 109 108 97 (condition_text c ++ codes "s"), tail_s c h) refl
 accumulate_named c false ts h = rw (long_3 109 108 97 (condition_text c ++ codes ""), tail_none c h) refl
 
-pub swap_named : (c : Condition) (byte : Bool) (ts : List Token) → is_never c ≡ false → arm_statement (codes "swp" ++ condition_text c ++ letters_if byte (codes "b")) ts ≡ swap_form c byte ts
+pub swap_named : (c : Condition) (byte : Bool) (ts : List Token) → is_never c ≡ false
+    → arm_statement (codes "swp" ++ condition_text c ++ letters_if byte (codes "b")) ts ≡ swap_form c byte ts
 unfolding arm_statement arm_name three_name with_tail compute_of compare_of other_of suffix_of mnemonic_of form_of
 swap_named c true ts h = rw (long_3 115 119 112 (condition_text c ++ codes "b"), tail_b c h) refl
 swap_named c false ts h = rw (long_3 115 119 112 (condition_text c ++ codes ""), tail_none c h) refl
 
-pub mrs_named : (c : Condition) (ts : List Token) → is_never c ≡ false → arm_statement (codes "mrs" ++ condition_text c ++ []) ts ≡ read_status_form c ts
+pub mrs_named : (c : Condition) (ts : List Token) → is_never c ≡ false
+    → arm_statement (codes "mrs" ++ condition_text c ++ []) ts ≡ read_status_form c ts
 unfolding arm_statement arm_name three_name with_tail compute_of compare_of other_of suffix_of mnemonic_of form_of
 mrs_named c ts h = rw (long_3 109 114 115 (condition_text c ++ codes ""), tail_none c h) refl
 
-pub msr_named : (c : Condition) (ts : List Token) → is_never c ≡ false → arm_statement (codes "msr" ++ condition_text c ++ []) ts ≡ write_status_form c ts
+pub msr_named : (c : Condition) (ts : List Token) → is_never c ≡ false
+    → arm_statement (codes "msr" ++ condition_text c ++ []) ts ≡ write_status_form c ts
 unfolding arm_statement arm_name three_name with_tail compute_of compare_of other_of suffix_of mnemonic_of form_of
 msr_named c ts h = rw (long_3 109 115 114 (condition_text c ++ codes ""), tail_none c h) refl
 
-pub swi_named : (c : Condition) (ts : List Token) → is_never c ≡ false → arm_statement (codes "swi" ++ condition_text c ++ []) ts ≡ interrupt_form c ts
+pub swi_named : (c : Condition) (ts : List Token) → is_never c ≡ false
+    → arm_statement (codes "swi" ++ condition_text c ++ []) ts ≡ interrupt_form c ts
 unfolding arm_statement arm_name three_name with_tail compute_of compare_of other_of suffix_of mnemonic_of form_of
 swi_named c ts h = rw (long_3 115 119 105 (condition_text c ++ codes ""), tail_none c h) refl
 
-pub compare_named : (c : Condition) (op : CompareOp) (ts : List Token) → is_never c ≡ false → arm_statement (compare_text op ++ condition_text c ++ []) ts ≡ compare_form c op ts
+pub compare_named : (c : Condition) (op : CompareOp) (ts : List Token) → is_never c ≡ false
+    → arm_statement (compare_text op ++ condition_text c ++ []) ts ≡ compare_form c op ts
 unfolding arm_statement arm_name three_name with_tail compute_of compare_of other_of suffix_of mnemonic_of form_of
 compare_named c Tst ts h = rw (long_3 116 115 116 (condition_text c ++ codes ""), tail_none c h) refl
 compare_named c Teq ts h = rw (long_3 116 101 113 (condition_text c ++ codes ""), tail_none c h) refl
 compare_named c Cmp ts h = rw (long_3 99 109 112 (condition_text c ++ codes ""), tail_none c h) refl
 compare_named c Cmn ts h = rw (long_3 99 109 110 (condition_text c ++ codes ""), tail_none c h) refl
 
-bic_named : (c : Condition) (set : Bool) (ts : List Token) → is_never c ≡ false → arm_statement (codes "bic" ++ condition_text c ++ letters_if set (codes "s")) ts ≡ compute_form c Bic set ts
-unfolding arm_statement arm_name three_name with_tail compute_of compare_of other_of suffix_of mnemonic_of form_of condition_first condition_of
+bic_named : (c : Condition) (set : Bool) (ts : List Token) → is_never c ≡ false
+    → arm_statement (codes "bic" ++ condition_text c ++ letters_if set (codes "s")) ts ≡ compute_form c Bic set ts
+unfolding arm_statement arm_name three_name with_tail compute_of compare_of other_of suffix_of mnemonic_of form_of
+    condition_first condition_of
 bic_named Equal true ts h = refl
 bic_named NotEqual true ts h = refl
 bic_named CarrySet true ts h = refl
@@ -319,7 +340,8 @@ bic_named LessOrEqual false ts h = refl
 bic_named Always false ts h = refl
 bic_named Never set ts h = absurd cc
 
-pub compute_named : (c : Condition) (op : ComputeOp) (set : Bool) (ts : List Token) → is_never c ≡ false → arm_statement (compute_text op ++ condition_text c ++ letters_if set (codes "s")) ts ≡ compute_form c op set ts
+pub compute_named : (c : Condition) (op : ComputeOp) (set : Bool) (ts : List Token) → is_never c ≡ false
+    → arm_statement (compute_text op ++ condition_text c ++ letters_if set (codes "s")) ts ≡ compute_form c op set ts
 unfolding arm_statement arm_name three_name with_tail compute_of compare_of other_of suffix_of mnemonic_of form_of
 compute_named c And true ts h = rw (long_3 97 110 100 (condition_text c ++ codes "s"), tail_s c h) refl
 compute_named c And false ts h = rw (long_3 97 110 100 (condition_text c ++ codes ""), tail_none c h) refl
@@ -346,7 +368,9 @@ compute_named c Bic false ts h = bic_named c false ts h
 compute_named c Mvn true ts h = rw (long_3 109 118 110 (condition_text c ++ codes "s"), tail_s c h) refl
 compute_named c Mvn false ts h = rw (long_3 109 118 110 (condition_text c ++ codes ""), tail_none c h) refl
 
-pub transfer_named : (c : Condition) (load byte user : Bool) (ts : List Token) → is_never c ≡ false → arm_statement (transfer_base load ++ condition_text c ++ transfer_suffix byte user) ts ≡ transfer_form c load byte user ts
+pub transfer_named : (c : Condition) (load byte user : Bool) (ts : List Token) → is_never c ≡ false
+    → arm_statement (transfer_base load ++ condition_text c ++ transfer_suffix byte user) ts
+    ≡ transfer_form c load byte user ts
 unfolding arm_statement arm_name three_name with_tail compute_of compare_of other_of suffix_of mnemonic_of form_of
 transfer_named c true true true ts h = rw (long_3 108 100 114 (condition_text c ++ codes "bt"), tail_bt c h) refl
 transfer_named c true true false ts h = rw (long_3 108 100 114 (condition_text c ++ codes "b"), tail_b c h) refl
@@ -357,14 +381,16 @@ transfer_named c false true false ts h = rw (long_3 115 116 114 (condition_text 
 transfer_named c false false true ts h = rw (long_3 115 116 114 (condition_text c ++ codes "t"), tail_t c h) refl
 transfer_named c false false false ts h = rw (long_3 115 116 114 (condition_text c ++ codes ""), tail_none c h) refl
 
-pub half_named : (c : Condition) (kind : HalfKind) (ts : List Token) → is_never c ≡ false → arm_statement (half_base kind ++ condition_text c ++ half_suffix kind) ts ≡ half_form c kind ts
+pub half_named : (c : Condition) (kind : HalfKind) (ts : List Token) → is_never c ≡ false
+    → arm_statement (half_base kind ++ condition_text c ++ half_suffix kind) ts ≡ half_form c kind ts
 unfolding arm_statement arm_name three_name with_tail compute_of compare_of other_of suffix_of mnemonic_of form_of
 half_named c StoreHalf ts h = rw (long_3 115 116 114 (condition_text c ++ codes "h"), tail_h c h) refl
 half_named c LoadHalf ts h = rw (long_3 108 100 114 (condition_text c ++ codes "h"), tail_h c h) refl
 half_named c LoadSignedByte ts h = rw (long_3 108 100 114 (condition_text c ++ codes "sb"), tail_sb c h) refl
 half_named c LoadSignedHalf ts h = rw (long_3 108 100 114 (condition_text c ++ codes "sh"), tail_sh c h) refl
 
-pub block_named : (c : Condition) (load pre up : Bool) (ts : List Token) → is_never c ≡ false → arm_statement (block_base load ++ condition_text c ++ block_suffix pre up) ts ≡ block_form c load pre up ts
+pub block_named : (c : Condition) (load pre up : Bool) (ts : List Token) → is_never c ≡ false
+    → arm_statement (block_base load ++ condition_text c ++ block_suffix pre up) ts ≡ block_form c load pre up ts
 unfolding arm_statement arm_name three_name with_tail compute_of compare_of other_of suffix_of mnemonic_of form_of
 block_named c true true true ts h = rw (long_3 108 100 109 (condition_text c ++ codes "ib"), tail_ib c h) refl
 block_named c true true false ts h = rw (long_3 108 100 109 (condition_text c ++ codes "db"), tail_db c h) refl
@@ -375,26 +401,62 @@ block_named c false true false ts h = rw (long_3 115 116 109 (condition_text c +
 block_named c false false true ts h = rw (long_3 115 116 109 (condition_text c ++ codes "ia"), tail_ia c h) refl
 block_named c false false false ts h = rw (long_3 115 116 109 (condition_text c ++ codes "da"), tail_da c h) refl
 
-pub long_named : (c : Condition) (signed accumulate set : Bool) (ts : List Token) → is_never c ≡ false → arm_statement (listed.long_base signed accumulate ++ condition_text c ++ letters_if set (codes "s")) ts ≡ long_form c signed accumulate set ts
-unfolding arm_statement arm_name three_name long_name long_base with_tail compute_of compare_of other_of suffix_of mnemonic_of form_of
+pub long_named : (c : Condition) (signed accumulate set : Bool) (ts : List Token) → is_never c ≡ false
+    → arm_statement (listed.long_base signed accumulate ++ condition_text c ++ letters_if set (codes "s")) ts
+    ≡ long_form c signed accumulate set ts
+unfolding arm_statement arm_name three_name long_name long_base with_tail compute_of compare_of other_of suffix_of
+    mnemonic_of form_of
 long_named c false false true ts h =
-    rw (long_3 117 109 117 (108 ∷ 108 ∷ condition_text c ++ codes "s"), long_5 117 109 117 108 108 (condition_text c ++ codes "s"), tail_s c h) refl
+    rw (
+      long_3 117 109 117 (108 ∷ 108 ∷ condition_text c ++ codes "s"),
+      long_5 117 109 117 108 108 (condition_text c ++ codes "s"),
+      tail_s c h,
+    ) refl
 long_named c false false false ts h =
-    rw (long_3 117 109 117 (108 ∷ 108 ∷ condition_text c ++ codes ""), long_5 117 109 117 108 108 (condition_text c ++ codes ""), tail_none c h) refl
+    rw (
+      long_3 117 109 117 (108 ∷ 108 ∷ condition_text c ++ codes ""),
+      long_5 117 109 117 108 108 (condition_text c ++ codes ""),
+      tail_none c h,
+    ) refl
 long_named c false true true ts h =
-    rw (long_3 117 109 108 (97 ∷ 108 ∷ condition_text c ++ codes "s"), long_5 117 109 108 97 108 (condition_text c ++ codes "s"), tail_s c h) refl
+    rw (
+      long_3 117 109 108 (97 ∷ 108 ∷ condition_text c ++ codes "s"),
+      long_5 117 109 108 97 108 (condition_text c ++ codes "s"),
+      tail_s c h,
+    ) refl
 long_named c false true false ts h =
-    rw (long_3 117 109 108 (97 ∷ 108 ∷ condition_text c ++ codes ""), long_5 117 109 108 97 108 (condition_text c ++ codes ""), tail_none c h) refl
+    rw (
+      long_3 117 109 108 (97 ∷ 108 ∷ condition_text c ++ codes ""),
+      long_5 117 109 108 97 108 (condition_text c ++ codes ""),
+      tail_none c h,
+    ) refl
 long_named c true false true ts h =
-    rw (long_3 115 109 117 (108 ∷ 108 ∷ condition_text c ++ codes "s"), long_5 115 109 117 108 108 (condition_text c ++ codes "s"), tail_s c h) refl
+    rw (
+      long_3 115 109 117 (108 ∷ 108 ∷ condition_text c ++ codes "s"),
+      long_5 115 109 117 108 108 (condition_text c ++ codes "s"),
+      tail_s c h,
+    ) refl
 long_named c true false false ts h =
-    rw (long_3 115 109 117 (108 ∷ 108 ∷ condition_text c ++ codes ""), long_5 115 109 117 108 108 (condition_text c ++ codes ""), tail_none c h) refl
+    rw (
+      long_3 115 109 117 (108 ∷ 108 ∷ condition_text c ++ codes ""),
+      long_5 115 109 117 108 108 (condition_text c ++ codes ""),
+      tail_none c h,
+    ) refl
 long_named c true true true ts h =
-    rw (long_3 115 109 108 (97 ∷ 108 ∷ condition_text c ++ codes "s"), long_5 115 109 108 97 108 (condition_text c ++ codes "s"), tail_s c h) refl
+    rw (
+      long_3 115 109 108 (97 ∷ 108 ∷ condition_text c ++ codes "s"),
+      long_5 115 109 108 97 108 (condition_text c ++ codes "s"),
+      tail_s c h,
+    ) refl
 long_named c true true false ts h =
-    rw (long_3 115 109 108 (97 ∷ 108 ∷ condition_text c ++ codes ""), long_5 115 109 108 97 108 (condition_text c ++ codes ""), tail_none c h) refl
+    rw (
+      long_3 115 109 108 (97 ∷ 108 ∷ condition_text c ++ codes ""),
+      long_5 115 109 108 97 108 (condition_text c ++ codes ""),
+      tail_none c h,
+    ) refl
 
-pub bx_named : (c : Condition) (ts : List Token) → is_never c ≡ false → arm_statement (codes "bx" ++ condition_text c ++ []) ts ≡ exchange_form c ts
+pub bx_named : (c : Condition) (ts : List Token) → is_never c ≡ false
+    → arm_statement (codes "bx" ++ condition_text c ++ []) ts ≡ exchange_form c ts
 unfolding arm_statement arm_name condition_of form_of
 bx_named Equal ts h = refl
 bx_named NotEqual ts h = refl
@@ -413,7 +475,8 @@ bx_named LessOrEqual ts h = refl
 bx_named Always ts h = refl
 bx_named Never ts h = absurd cc
 
-pub b_named : (c : Condition) (ts : List Token) → is_never c ≡ false → arm_statement (codes "b" ++ condition_text c ++ []) ts ≡ branch_form c false ts
+pub b_named : (c : Condition) (ts : List Token) → is_never c ≡ false
+    → arm_statement (codes "b" ++ condition_text c ++ []) ts ≡ branch_form c false ts
 unfolding arm_statement arm_name condition_of form_of
 b_named Equal ts h = refl
 b_named NotEqual ts h = refl
@@ -432,7 +495,8 @@ b_named LessOrEqual ts h = refl
 b_named Always ts h = refl
 b_named Never ts h = absurd cc
 
-pub bl_named : (c : Condition) (ts : List Token) → is_never c ≡ false → arm_statement (codes "bl" ++ condition_text c ++ []) ts ≡ branch_form c true ts
+pub bl_named : (c : Condition) (ts : List Token) → is_never c ≡ false
+    → arm_statement (codes "bl" ++ condition_text c ++ []) ts ≡ branch_form c true ts
 unfolding arm_statement arm_name condition_of form_of
 bl_named Equal ts h = refl
 bl_named NotEqual ts h = refl

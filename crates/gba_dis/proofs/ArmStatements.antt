@@ -40,14 +40,17 @@ reg n = Word (register_name n)
 abbrev pub num : ℕ → Token
 num n = Word (number_text n)
 
-pub exchange_said : (c : Condition) (rm : ℕ) → rm < 16 → exchange_form c (reg rm ∷ []) ≡ Ok (Operation (Some (op.Exchange c rm)))
+pub exchange_said : (c : Condition) (rm : ℕ) → rm < 16
+    → exchange_form c (reg rm ∷ []) ≡ Ok (Operation (Some (op.Exchange c rm)))
 unfolding exchange_form
 exchange_said c rm h = rw (register_read rm _ h) refl
 
 pub multiply_said : (c : Condition) (set : Bool) (rd rs rm : ℕ) → rd < 16 → rs < 16 → rm < 16
-    → multiply_form c set (reg rd ∷ Mark 44 ∷ reg rm ∷ Mark 44 ∷ reg rs ∷ []) ≡ Ok (Operation (Some (op.Multiply c false set rd 0 rs rm)))
+    → multiply_form c set (reg rd ∷ Mark 44 ∷ reg rm ∷ Mark 44 ∷ reg rs ∷ [])
+    ≡ Ok (Operation (Some (op.Multiply c false set rd 0 rs rm)))
 unfolding multiply_form
-multiply_said c set rd rs rm h k l = rw (register_read rd _ h, next_register_read rm _ l, next_register_read rs _ k) refl
+multiply_said c set rd rs rm h k l =
+    rw (register_read rd _ h, next_register_read rm _ l, next_register_read rs _ k) refl
 
 pub accumulate_said : (c : Condition) (set : Bool) (rd rn rs rm : ℕ) → rd < 16 → rn < 16 → rs < 16 → rm < 16
     → accumulate_form c set (reg rd ∷ Mark 44 ∷ reg rm ∷ Mark 44 ∷ reg rs ∷ Mark 44 ∷ reg rn ∷ [])
@@ -70,7 +73,8 @@ unfolding swap_form
 swap_said c byte rn rd rm h k l = rw (register_read rd _ k, next_register_read rm _ l, register_read rn _ h) refl
 
 pub read_status_said : (c : Condition) (saved : Bool) (rd : ℕ) → rd < 16
-    → read_status_form c (reg rd ∷ Mark 44 ∷ Word (status_text saved) ∷ []) ≡ Ok (Operation (Some (op.ReadStatus c saved rd)))
+    → read_status_form c (reg rd ∷ Mark 44 ∷ Word (status_text saved) ∷ [])
+    ≡ Ok (Operation (Some (op.ReadStatus c saved rd)))
 unfolding read_status_form saved_at saved_of
 read_status_said c true rd h = rw (register_read rd _ h) refl
 read_status_said c false rd h = rw (register_read rd _ h) refl
@@ -103,7 +107,8 @@ turned_small value turn h =
     quotient_le : (n m : ℕ) → n / m ≤ n
     quotient_le n m = omega arith
 
-operand_is : (o : Option Operand) (value turn : ℕ) → is_operand o value turn ≡ true → o ≡ Some (operand.Immediate value turn)
+operand_is : (o : Option Operand) (value turn : ℕ) → is_operand o value turn ≡ true
+    → o ≡ Some (operand.Immediate value turn)
 operand_is (Some (operand.Immediate v t)) value turn h =
     let a : v ≡ value = grind (arith, nat_tests) in
     let b : t ≡ turn = grind (arith, nat_tests) in
@@ -113,7 +118,8 @@ operand_is (Some (operand.ByRegister rm kind rs)) value turn h = absurd cc
 operand_is None value turn h = absurd cc
 
 shift_named : (kind : Shift) (rm n amount : ℕ) → n < 2 ^ 32 → amount_of kind n ≡ Some amount
-    → register_operand rm (Mark 44 ∷ Word (shift_text kind) ∷ Mark 35 ∷ num n ∷ []) ≡ Ok (taken (Some (operand.Fixed rm kind amount)) [])
+    → register_operand rm (Mark 44 ∷ Word (shift_text kind) ∷ Mark 35 ∷ num n ∷ [])
+    ≡ Ok (taken (Some (operand.Fixed rm kind amount)) [])
 unfolding register_operand shift_name_at shift_name_of shifted_as shifted_by
 shift_named Lsl rm n amount h e = rw (number_read n _ h, e) refl
 shift_named Lsr rm n amount h e = rw (number_read n _ h, e) refl
@@ -121,11 +127,13 @@ shift_named Asr rm n amount h e = rw (number_read n _ h, e) refl
 shift_named Ror rm n amount h e = rw (number_read n _ h, e) refl
 
 by_zero : (kind : Shift) (rm amount : ℕ) → amount < 32 → amount_of kind amount ≡ Some amount
-    → register_operand rm (Mark 44 ∷ Word (shift_text kind) ∷ Mark 35 ∷ num amount ∷ []) ≡ Ok (taken (Some (operand.Fixed rm kind amount)) [])
+    → register_operand rm (Mark 44 ∷ Word (shift_text kind) ∷ Mark 35 ∷ num amount ∷ [])
+    ≡ Ok (taken (Some (operand.Fixed rm kind amount)) [])
 by_zero kind rm amount h e = shift_named kind rm amount amount (omega (arith, h)) e
 
 lsl_said : (rm amount : ℕ) (t : Bool) → (amount == 0) ≡ t → amount < 32
-    → register_operand rm (tokens_of (cond t [] (shifted Lsl amount))) ≡ Ok (taken (Some (operand.Fixed rm Lsl amount)) [])
+    → register_operand rm (tokens_of (cond t [] (shifted Lsl amount)))
+    ≡ Ok (taken (Some (operand.Fixed rm Lsl amount)) [])
 unfolding register_operand
 lsl_said rm amount true e h =
     let none : amount ≡ 0 = grind (arith, nat_tests) in
@@ -151,15 +159,16 @@ shift_said Asr rm amount h =
 shift_said Ror rm amount h = ror_said rm amount (amount == 0) refl h
 
 register_shift : (kind : Shift) (rm rs : ℕ) → rs < 16
-    → register_operand rm (Mark 44 ∷ Word (shift_text kind) ∷ reg rs ∷ []) ≡ Ok (taken (Some (operand.ByRegister rm kind rs)) [])
+    → register_operand rm (Mark 44 ∷ Word (shift_text kind) ∷ reg rs ∷ [])
+    ≡ Ok (taken (Some (operand.ByRegister rm kind rs)) [])
 unfolding register_operand shift_name_at shift_name_of shifted_as shifted_by
 register_shift Lsl rm rs h = rw (register_read rs _ h) refl
 register_shift Lsr rm rs h = rw (register_read rs _ h) refl
 register_shift Asr rm rs h = rw (register_read rs _ h) refl
 register_shift Ror rm rs h = rw (register_read rs _ h) refl
 
-pub second_said : (o : Operand) → Within (operand_registers o) → Within (operand_immediates o) → is_operand_told o ≡ true
-    → second_at (tokens_of (second o)) ≡ Ok (taken (Some o) [])
+pub second_said : (o : Operand) → Within (operand_registers o) → Within (operand_immediates o)
+    → is_operand_told o ≡ true → second_at (tokens_of (second o)) ≡ Ok (taken (Some o) [])
 unfolding second_at second
 second_said (operand.Immediate value turn) r h told =
     rw (number_read (turned value turn) _ (turned_small value turn h.1.0))
@@ -179,11 +188,12 @@ pub compare_said : (c : Condition) (o : CompareOp) (rn : ℕ) (x : Operand) → 
 unfolding compare_form
 compare_said c o rn x h r i told = rw (register_read rn (Mark 44 ∷ tokens_of (second x)) h, next_second x r i told) refl
 
-pub move_said : (c : Condition) (o : ComputeOp) (set : Bool) (rd : ℕ) (x : Operand) → rd < 16 → Within (operand_registers x)
-    → Within (operand_immediates x) → is_operand_told x ≡ true
+pub move_said : (c : Condition) (o : ComputeOp) (set : Bool) (rd : ℕ) (x : Operand) → rd < 16
+    → Within (operand_registers x) → Within (operand_immediates x) → is_operand_told x ≡ true
     → move_form c o set (reg rd ∷ Mark 44 ∷ tokens_of (second x)) ≡ Ok (Operation (Some (op.Compute c o set 0 rd x)))
 unfolding move_form
-move_said c o set rd x h r i told = rw (register_read rd (Mark 44 ∷ tokens_of (second x)) h, next_second x r i told) refl
+move_said c o set rd x h r i told =
+    rw (register_read rd (Mark 44 ∷ tokens_of (second x)) h, next_second x r i told) refl
 
 pub three_said : (c : Condition) (o : ComputeOp) (set : Bool) (rn rd : ℕ) (x : Operand) → rn < 16 → rd < 16
     → Within (operand_registers x) → Within (operand_immediates x) → is_operand_told x ≡ true

@@ -122,8 +122,8 @@ long_starts false true = record { first = 117; rest = codes "mlal"; split = refl
 long_starts true false = record { first = 115; rest = codes "mull"; split = refl; letter = refl }
 long_starts true true = record { first = 115; rest = codes "mlal"; split = refl; letter = refl }
 
-machine_said : (word : List ℕ) (ts : List Token) (s : ArmStatement) → directive_of word ≡ None → arm_statement word ts ≡ Ok s
-    → statement_of false (Word word ∷ ts) ≡ Ok (Arm s)
+machine_said : (word : List ℕ) (ts : List Token) (s : ArmStatement) → directive_of word ≡ None
+    → arm_statement word ts ≡ Ok s → statement_of false (Word word ∷ ts) ≡ Ok (Arm s)
 unfolding statement_of
 machine_said word ts s none h = rw (none, h) refl
 
@@ -133,9 +133,10 @@ word_given : (at target word : ℕ) (s : ArmStatement) (o : ArmOp) → address_i
 unfolding statement_bytes arm_word
 word_given at target word s o t p e a = rw (t, a, p, e) refl
 
-arm_line : (at target word : ℕ) (name : List ℕ) (ts : List Token) (s : ArmStatement) (o : ArmOp) → directive_of name ≡ None
-    → arm_statement name ts ≡ Ok s → address_in no_labels (target_of s) ≡ Ok target → operation_at at target s ≡ Some o
-    → encoding o ≡ Ok word → at % 4 ≡ 0 → at + 4 ≤ 33554432 → Tells false at (Word name ∷ ts) (to_le_bytes w32 word)
+arm_line : (at target word : ℕ) (name : List ℕ) (ts : List Token) (s : ArmStatement) (o : ArmOp)
+    → directive_of name ≡ None → arm_statement name ts ≡ Ok s → address_in no_labels (target_of s) ≡ Ok target
+    → operation_at at target s ≡ Some o → encoding o ≡ Ok word → at % 4 ≡ 0 → at + 4 ≤ 33554432
+    → Tells false at (Word name ∷ ts) (to_le_bytes w32 word)
 unfolding size_of
 arm_line at target word name ts s o none h t p e a room = record {
   statement = Arm s;
@@ -153,8 +154,8 @@ plain_line at word name ts o none h e a room =
     arm_line at 0 word name ts (Operation (Some o)) o none h refl refl e a room
 
 compute_said : (c : Condition) (o : ComputeOp) (set : Bool) (rn rd : ℕ) (x : Operand) → rn < 16 → rd < 16
-    → Within (operand_registers x) → Within (operand_immediates x) → is_first_told o rn ≡ true → is_operand_told x ≡ true
-    → compute_form c o set (reg rd ∷ Mark 44 ∷ tokens_of (first_operand o rn ++ second x))
+    → Within (operand_registers x) → Within (operand_immediates x) → is_first_told o rn ≡ true
+    → is_operand_told x ≡ true → compute_form c o set (reg rd ∷ Mark 44 ∷ tokens_of (first_operand o rn ++ second x))
     ≡ Ok (Operation (Some (op.Compute c o set rn rd x)))
 compute_said c And set rn rd x h k r i first told = three_said c And set rn rd x h k r i told
 compute_said c Eor set rn rd x h k r i first told = three_said c Eor set rn rd x h k r i told
@@ -174,20 +175,24 @@ compute_said c Mvn set rn rd x h k r i first told =
     rw none (move_said c Mvn set rd x k r i told)
 
 branch_named : (c : Condition) (link : Bool) (target : ℕ) → is_never c ≡ false → target < 2 ^ 32
-    → arm_statement (branch_base link ++ condition_text c ++ []) (Word (digits_text 8 target) ∷ []) ≡ Ok (Branch c link (Address target))
+    → arm_statement (branch_base link ++ condition_text c ++ []) (Word (digits_text 8 target) ∷ [])
+    ≡ Ok (Branch c link (Address target))
 branch_named c true target n h = bl_named c _ n ∙ branch_said c true target h
 branch_named c false target n h = b_named c _ n ∙ branch_said c false target h
 
-branch_line : (at word : ℕ) (c : Condition) (link : Bool) (offset : ℤ) → is_never c ≡ false → Fits (op.Branch c link offset)
-    → encoding (op.Branch c link offset) ≡ Ok word → at % 4 ≡ 0 → at + 4 ≤ 33554432
-    → Tells false at (Word (branch_base link ++ condition_text c ++ []) ∷ Word (digits_text 8 (branch_target at offset)) ∷ [])
+branch_line : (at word : ℕ) (c : Condition) (link : Bool) (offset : ℤ) → is_never c ≡ false
+    → Fits (op.Branch c link offset) → encoding (op.Branch c link offset) ≡ Ok word → at % 4 ≡ 0 → at + 4 ≤ 33554432
+    → Tells false at (Word (branch_base link ++ condition_text c ++ []) ∷ Word (digits_text 8 (branch_target at offset))
+    ∷ [])
     (to_le_bytes w32 word)
 unfolding operation_at
 branch_line at word c link offset n f e a room =
     let target = branch_target at offset in
-    arm_line at target word (branch_base link ++ condition_text c ++ []) (Word (digits_text 8 target) ∷ []) (Branch c link (Address target))
+    arm_line at target word (branch_base link ++ condition_text c ++ []) (Word (digits_text 8 target) ∷ [])
+    (Branch c link (Address target))
     (op.Branch c link offset) (name_none (branch_base link) (condition_text c) [] (branch_starts link))
-    (branch_named c link target n (target_small at offset)) refl (branch_back at c link offset (omega arith) f.offsets.0) e a room
+    (branch_named c link target n (target_small at offset)) refl
+    (branch_back at c link offset (omega arith) f.offsets.0) e a room
 
 unused : (rn : ℕ) → (false || rn == 0) ≡ true → rn ≡ 0
 unused rn h = grind (arith, nat_tests)
@@ -197,62 +202,81 @@ pub arm_tells : (at word : ℕ) (o : ArmOp) → Fits o → is_arm_told o ≡ tru
     → at + 4 ≤ 33554432 → Tells false at (tokens_of (arm_pieces at o)) (to_le_bytes w32 word)
 unfolding arm_pieces
 arm_tells at word (op.Exchange c rm) f told e a room =
-    plain_line at word _ _ _ (name_none (codes "bx") (condition_text c) [] (record { first = 98; rest = codes "x"; split = refl; letter = refl }))
+    plain_line at word _ _ _ (name_none (codes "bx") (condition_text c) []
+    (record { first = 98; rest = codes "x"; split = refl; letter = refl }))
     (bx_named c _ (negated _ told) ∙ exchange_said c rm f.registers.0) e a room
 arm_tells at word (op.Multiply c false set rd rn rs rm) f told e a room =
     let never = negated _ (first_of_all _ _ told) in
     let none : rn ≡ 0 = unused rn (rest_of_all (not (is_never c)) _ told) in
     let e0 : encoding (op.Multiply c false set rd 0 rs rm) ≡ Ok word = rw none at e in
-    plain_line at word _ _ _ (name_none (codes "mul") (condition_text c) (letters_if set (codes "s")) (record { first = 109; rest = codes "ul"; split = refl; letter = refl }))
-    (multiply_named c set _ never ∙ multiply_said c set rd rs rm f.registers.0 f.registers.1.1.0 f.registers.1.1.1.0) e0 a room
+    plain_line at word _ _ _ (name_none (codes "mul") (condition_text c) (letters_if set (codes "s"))
+    (record { first = 109; rest = codes "ul"; split = refl; letter = refl }))
+    (multiply_named c set _ never ∙ multiply_said c set rd rs rm f.registers.0 f.registers.1.1.0 f.registers.1.1.1.0)
+    e0 a room
 arm_tells at word (op.Multiply c true set rd rn rs rm) f told e a room =
     let never = negated _ (first_of_all _ _ told) in
-    plain_line at word _ _ _ (name_none (codes "mla") (condition_text c) (letters_if set (codes "s")) (record { first = 109; rest = codes "la"; split = refl; letter = refl }))
+    plain_line at word _ _ _ (name_none (codes "mla") (condition_text c) (letters_if set (codes "s"))
+    (record { first = 109; rest = codes "la"; split = refl; letter = refl }))
     (accumulate_named c set _ never ∙ accumulate_said c set rd rn rs rm f.registers.0 f.registers.1.0 f.registers.1.1.0
     f.registers.1.1.1.0) e a room
 arm_tells at word (op.MultiplyLong c signed accumulate set hi lo rs rm) f told e a room =
-    plain_line at word _ _ _ (name_none (long_base signed accumulate) (condition_text c) (letters_if set (codes "s")) (long_starts
+    plain_line at word _ _ _ (name_none (long_base signed accumulate) (condition_text c) (letters_if set (codes "s"))
+    (long_starts
     signed accumulate))
-    (long_named c signed accumulate set _ (negated _ told) ∙ long_said c signed accumulate set hi lo rs rm f.registers.0 f.registers.1.0
+    (long_named c signed accumulate set _ (negated _ told)
+    ∙ long_said c signed accumulate set hi lo rs rm f.registers.0 f.registers.1.0
     f.registers.1.1.0 f.registers.1.1.1.0) e a room
 arm_tells at word (op.Swap c byte rn rd rm) f told e a room =
-    plain_line at word _ _ _ (name_none (codes "swp") (condition_text c) (letters_if byte (codes "b")) (record { first = 115; rest = codes "wp"; split = refl; letter = refl }))
-    (swap_named c byte _ (negated _ told) ∙ swap_said c byte rn rd rm f.registers.0 f.registers.1.0 f.registers.1.1.0) e a room
+    plain_line at word _ _ _ (name_none (codes "swp") (condition_text c) (letters_if byte (codes "b"))
+    (record { first = 115; rest = codes "wp"; split = refl; letter = refl }))
+    (swap_named c byte _ (negated _ told) ∙ swap_said c byte rn rd rm f.registers.0 f.registers.1.0 f.registers.1.1.0)
+    e a room
 arm_tells at word (op.Half c kind pre up write rn rd offset) f told e a room =
     let never = negated _ (first_of_all _ _ told) in
     plain_line at word _ _ _ (name_none (half_base kind) (condition_text c) _ (half_starts kind))
-    (half_named c kind _ never ∙ half_said c kind pre up write rn rd offset f.registers.0 f.registers.1.0 f.registers.1.1 f.offsets
+    (half_named c kind _ never
+    ∙ half_said c kind pre up write rn rd offset f.registers.0 f.registers.1.0 f.registers.1.1 f.offsets
     (rest_of_all (not (is_never c)) _ told)) e a room
 arm_tells at word (op.ReadStatus c saved rd) f told e a room =
-    plain_line at word _ _ _ (name_none (codes "mrs") (condition_text c) [] (record { first = 109; rest = codes "rs"; split = refl; letter = refl }))
+    plain_line at word _ _ _ (name_none (codes "mrs") (condition_text c) []
+    (record { first = 109; rest = codes "rs"; split = refl; letter = refl }))
     (mrs_named c _ (negated _ told) ∙ read_status_said c saved rd f.registers.0) e a room
 arm_tells at word (op.WriteStatus c saved fields source) f told e a room =
     let never = negated _ (first_of_all _ _ told) in
     let both = rest_of_all (not (is_never c)) _ told in
-    plain_line at word _ _ _ (name_none (codes "msr") (condition_text c) [] (record { first = 109; rest = codes "sr"; split = refl; letter = refl }))
-    (msr_named c _ never ∙ write_status_said c saved fields source f.immediates.0 (negated _ (first_of_all _ _ both)) f.registers
+    plain_line at word _ _ _ (name_none (codes "msr") (condition_text c) []
+    (record { first = 109; rest = codes "sr"; split = refl; letter = refl }))
+    (msr_named c _ never
+    ∙ write_status_said c saved fields source f.immediates.0 (negated _ (first_of_all _ _ both)) f.registers
     f.immediates.1 (rest_of_all (not (fields == 0)) _ both)) e a room
 arm_tells at word (op.Compute c o set rn rd operand) f told e a room =
     let never = negated _ (first_of_all _ _ told) in
     let both = rest_of_all (not (is_never c)) _ told in
-    plain_line at word _ _ _ (name_none (compute_text o) (condition_text c) (letters_if set (codes "s")) (compute_starts o))
-    (compute_named c o set _ never ∙ compute_said c o set rn rd operand f.registers.0 f.registers.1.0 f.registers.1.1 f.immediates
+    plain_line at word _ _ _
+    (name_none (compute_text o) (condition_text c) (letters_if set (codes "s")) (compute_starts o))
+    (compute_named c o set _ never
+    ∙ compute_said c o set rn rd operand f.registers.0 f.registers.1.0 f.registers.1.1 f.immediates
     (first_of_all _ _ both) (rest_of_all (is_first_told o rn) _ both)) e a room
 arm_tells at word (op.Compare c o rn operand) f told e a room =
     let never = negated _ (first_of_all _ _ told) in
     plain_line at word _ _ _ (name_none (compare_text o) (condition_text c) [] (compare_starts o))
-    (compare_named c o _ never ∙ compare_said c o rn operand f.registers.0 f.registers.1 f.immediates (rest_of_all (not (is_never c)) _
+    (compare_named c o _ never
+    ∙ compare_said c o rn operand f.registers.0 f.registers.1 f.immediates (rest_of_all (not (is_never c)) _
     told)) e a room
 arm_tells at word (op.Transfer c load byte pre up write rn rd offset) f told e a room =
     plain_line at word _ _ _ (name_none (transfer_base load) (condition_text c) _ (transfer_starts load))
-    (transfer_named c load byte (not pre && write) _ (negated _ told) ∙ transfer_said c load byte pre up write rn rd offset
+    (transfer_named c load byte (not pre && write) _ (negated _ told)
+    ∙ transfer_said c load byte pre up write rn rd offset
     f.registers.0 f.registers.1.0 f.registers.1.1 f.immediates f.offsets) e a room
 arm_tells at word (op.Block c load pre up user write rn list) f told e a room =
     plain_line at word _ _ _ (name_none (block_base load) (condition_text c) _ (block_starts load))
-    (block_named c load pre up _ (negated _ told) ∙ block_said c load pre up user write rn list f.registers.0 f.immediates.0) e a room
-arm_tells at word (op.Branch c link offset) f told e a room = branch_line at word c link offset (negated _ told) f e a room
+    (block_named c load pre up _ (negated _ told)
+    ∙ block_said c load pre up user write rn list f.registers.0 f.immediates.0) e a room
+arm_tells at word (op.Branch c link offset) f told e a room =
+    branch_line at word c link offset (negated _ told) f e a room
 arm_tells at word (op.Interrupt c comment) f told e a room =
-    plain_line at word _ _ _ (name_none (codes "swi") (condition_text c) [] (record { first = 115; rest = codes "wi"; split = refl; letter = refl }))
+    plain_line at word _ _ _ (name_none (codes "swi") (condition_text c) []
+    (record { first = 115; rest = codes "wi"; split = refl; letter = refl }))
     (swi_named c _ (negated _ told) ∙ interrupt_said c comment f.immediates.0) e a room
 
 word_by : (at word : ℕ) (o : Option ArmOp) → operation word ≡ o → IfSome o Fits
@@ -268,4 +292,5 @@ word_by at word (Some o) e f back a room = λ bits say.
     stated false at (unit.Word word) t ∙ is
 
 pub words_told : TellsWords
-words_told at word h a room = word_by at word (operation word) refl (operation-Fits word) (encoding-operation word h) a room
+words_told at word h a room =
+    word_by at word (operation word) refl (operation-Fits word) (encoding-operation word h) a room

@@ -35,7 +35,8 @@ use Rattle.gba_dis.proofs.RegisterLists.{list_read, tokens_append}
 use Rattle.gba_dis.proofs.Spelling.{tokens_of}
 
 -- MSR
-source_is : (o : Option Source) (value turn : ℕ) → is_source o value turn ≡ true → o ≡ Some (source.Immediate value turn)
+source_is : (o : Option Source) (value turn : ℕ) → is_source o value turn ≡ true
+    → o ≡ Some (source.Immediate value turn)
 source_is (Some (source.Immediate v t)) value turn h =
     let a : v ≡ value = grind (arith, nat_tests) in
     let b : t ≡ turn = grind (arith, nat_tests) in
@@ -51,8 +52,8 @@ source_said (source.Immediate value turn) r h told =
     (ap (λ x. Ok (taken x [])) (source_is (immediate_source (least_turn (turned value turn))) value turn told))
 source_said (source.Plain rm) r h told = rw (register_read rm _ r.0) refl
 
-fields_said : (c : Condition) (saved : Bool) (fields : ℕ) (ts : List Token) (s : Source) → fields < 16 → (fields == 0) ≡ false
-    → source_at ts ≡ Ok (taken (Some s) [])
+fields_said : (c : Condition) (saved : Bool) (fields : ℕ) (ts : List Token) (s : Source) → fields < 16
+    → (fields == 0) ≡ false → source_at ts ≡ Ok (taken (Some s) [])
     → write_status_form c (Word (status_text saved ++ fields_text fields) ∷ Mark 44 ∷ ts)
     ≡ Ok (Operation (Some (op.WriteStatus c saved fields s)))
 unfolding write_status_form status_at status_of saved_of fields_of
@@ -79,15 +80,24 @@ fields_said c true (suc (suc (suc (suc (suc (suc (suc (suc (suc (suc zero)))))))
 fields_said c false (suc (suc (suc (suc (suc (suc (suc (suc (suc (suc zero)))))))))) ts s h none e = rw e refl
 fields_said c true (suc (suc (suc (suc (suc (suc (suc (suc (suc (suc (suc zero))))))))))) ts s h none e = rw e refl
 fields_said c false (suc (suc (suc (suc (suc (suc (suc (suc (suc (suc (suc zero))))))))))) ts s h none e = rw e refl
-fields_said c true (suc (suc (suc (suc (suc (suc (suc (suc (suc (suc (suc (suc zero)))))))))))) ts s h none e = rw e refl
-fields_said c false (suc (suc (suc (suc (suc (suc (suc (suc (suc (suc (suc (suc zero)))))))))))) ts s h none e = rw e refl
-fields_said c true (suc (suc (suc (suc (suc (suc (suc (suc (suc (suc (suc (suc (suc zero))))))))))))) ts s h none e = rw e refl
-fields_said c false (suc (suc (suc (suc (suc (suc (suc (suc (suc (suc (suc (suc (suc zero))))))))))))) ts s h none e = rw e refl
-fields_said c true (suc (suc (suc (suc (suc (suc (suc (suc (suc (suc (suc (suc (suc (suc zero)))))))))))))) ts s h none e = rw e refl
-fields_said c false (suc (suc (suc (suc (suc (suc (suc (suc (suc (suc (suc (suc (suc (suc zero)))))))))))))) ts s h none e = rw e refl
-fields_said c true (suc (suc (suc (suc (suc (suc (suc (suc (suc (suc (suc (suc (suc (suc (suc zero))))))))))))))) ts s h none e = rw e refl
-fields_said c false (suc (suc (suc (suc (suc (suc (suc (suc (suc (suc (suc (suc (suc (suc (suc zero))))))))))))))) ts s h none e = rw e refl
-fields_said c saved (suc (suc (suc (suc (suc (suc (suc (suc (suc (suc (suc (suc (suc (suc (suc (suc n)))))))))))))))) ts s h none e = absurd (omega arith)
+fields_said c true (suc (suc (suc (suc (suc (suc (suc (suc (suc (suc (suc (suc zero)))))))))))) ts s h none e =
+    rw e refl
+fields_said c false (suc (suc (suc (suc (suc (suc (suc (suc (suc (suc (suc (suc zero)))))))))))) ts s h none e =
+    rw e refl
+fields_said c true (suc (suc (suc (suc (suc (suc (suc (suc (suc (suc (suc (suc (suc zero))))))))))))) ts s h none e =
+    rw e refl
+fields_said c false (suc (suc (suc (suc (suc (suc (suc (suc (suc (suc (suc (suc (suc zero))))))))))))) ts s h none e =
+    rw e refl
+fields_said c true (suc (suc (suc (suc (suc (suc (suc (suc (suc (suc (suc (suc (suc (suc zero)))))))))))))) ts s h none
+    e = rw e refl
+fields_said c false (suc (suc (suc (suc (suc (suc (suc (suc (suc (suc (suc (suc (suc (suc zero)))))))))))))) ts s h none
+    e = rw e refl
+fields_said c true (suc (suc (suc (suc (suc (suc (suc (suc (suc (suc (suc (suc (suc (suc (suc zero))))))))))))))) ts s h
+    none e = rw e refl
+fields_said c false (suc (suc (suc (suc (suc (suc (suc (suc (suc (suc (suc (suc (suc (suc (suc zero))))))))))))))) ts s
+    h none e = rw e refl
+fields_said c saved (suc (suc (suc (suc (suc (suc (suc (suc (suc (suc (suc (suc (suc (suc (suc (suc n)))))))))))))))) ts
+    s h none e = absurd (omega arith)
 
 pub write_status_said : (c : Condition) (saved : Bool) (fields : ℕ) (s : Source) → fields < 16 → (fields == 0) ≡ false
     → Within (source_registers s) → Within (source_immediates s) → is_source_told s ≡ true
@@ -113,7 +123,8 @@ unfolding register_offset
 lsl_offset rm amount rest true e h last =
     let none : amount ≡ 0 = grind (arith, nat_tests) in
     rw (none, last) refl
-lsl_offset rm amount rest false e h last = named_offset Lsl rm amount amount rest (omega (arith, h)) (rw (lt-ltb _ _ h) refl)
+lsl_offset rm amount rest false e h last =
+    named_offset Lsl rm amount amount rest (omega (arith, h)) (rw (lt-ltb _ _ h) refl)
 
 ror_offset : (rm amount : ℕ) (rest : List Token) (t : Bool) → (amount == 0) ≡ t → amount < 32
     → register_offset true rm (tokens_of (cond t (Comma ∷ Plain (codes "rrx") ∷ []) (shifted Ror amount)) ++ rest)
@@ -129,9 +140,11 @@ shift_offset : (kind : Shift) (rm amount : ℕ) (rest : List Token) → amount <
     ≡ Ok (taken (Some (transfer_offset.Shifted rm kind amount)) rest)
 shift_offset Lsl rm amount rest h last = lsl_offset rm amount rest (amount == 0) refl h last
 shift_offset Lsr rm amount rest h last =
-    named_offset Lsr rm (or_32 amount) amount rest (small_by amount (amount == 0) h) (amount_by amount (amount == 0) refl h)
+    named_offset Lsr rm (or_32 amount) amount rest (small_by amount (amount == 0) h)
+    (amount_by amount (amount == 0) refl h)
 shift_offset Asr rm amount rest h last =
-    named_offset Asr rm (or_32 amount) amount rest (small_by amount (amount == 0) h) (amount_by amount (amount == 0) refl h)
+    named_offset Asr rm (or_32 amount) amount rest (small_by amount (amount == 0) h)
+    (amount_by amount (amount == 0) refl h)
 shift_offset Ror rm amount rest h last = ror_offset rm amount rest (amount == 0) refl h
 
 number_read_distance : (shifts up : Bool) (value : ℕ) (rest : List Token) → value < 2 ^ 32
@@ -148,9 +161,11 @@ unfolding transfer_distance distance_at register_distance
 distance_read up (transfer_offset.Number value) rest last r i o =
     number_read_distance true up value rest (omega (arith, o.0))
 distance_read true (transfer_offset.Shifted rm kind amount) rest last r i o =
-    rw (register_read rm (tokens_of (shift_pieces kind amount) ++ rest) r.0, shift_offset kind rm amount rest i.0 last) refl
+    rw (register_read rm (tokens_of (shift_pieces kind amount) ++ rest) r.0, shift_offset kind rm amount rest i.0 last)
+    refl
 distance_read false (transfer_offset.Shifted rm kind amount) rest last r i o =
-    rw (register_read rm (tokens_of (shift_pieces kind amount) ++ rest) r.0, shift_offset kind rm amount rest i.0 last) refl
+    rw (register_read rm (tokens_of (shift_pieces kind amount) ++ rest) r.0, shift_offset kind rm amount rest i.0 last)
+    refl
 
 -- an offset of a halfword's transfer as it is read
 as_transfer : HalfOffset → TransferOffset
@@ -159,7 +174,8 @@ as_transfer (half.Plain rm) = transfer_offset.Shifted rm Lsl 0
 
 half_distance_read : (up : Bool) (offset : HalfOffset) (rest : List Token) → Within (half_registers offset)
     → Within (half_offsets offset)
-    → distance_at false (tokens_of (half_distance up offset) ++ rest) ≡ Ok (taken (distance up (Some (as_transfer offset))) rest)
+    → distance_at false (tokens_of (half_distance up offset) ++ rest)
+    ≡ Ok (taken (distance up (Some (as_transfer offset))) rest)
 unfolding half_distance distance_at register_distance register_offset as_transfer
 half_distance_read up (half.Number value) rest r o = number_read_distance false up value rest (omega (arith, o.0))
 half_distance_read true (half.Plain rm) rest r o = rw (register_read rm rest r.0) refl
@@ -174,13 +190,15 @@ address_tokens pre write rn ds =
 
 -- an address whose distance is read
 address_by : (shifts pre write up : Bool) (rn : ℕ) (ts : List Token) (o : TransferOffset) → rn < 16
-    → ((rest : List Token) → begins 44 rest ≡ false → distance_at shifts (ts ++ rest) ≡ Ok (taken (distance up (Some o)) rest))
+    → ((rest : List Token) → begins 44 rest ≡ false
+    → distance_at shifts (ts ++ rest) ≡ Ok (taken (distance up (Some o)) rest))
     → address_at shifts (tokens_of (open_address pre rn) ++ (ts ++ tokens_of (close_address pre write)))
     ≡ Ok (taken (transfers.address rn pre (pre && write) (distance up (Some o))) [])
 unfolding open_address close_address address_at in_brackets indexed past_bracket after_access
 address_by shifts true true up rn ts o h d =
     rw (register_read rn (Mark 44 ∷ (ts ++ Mark 93 ∷ Mark 33 ∷ [])) h, d (Mark 93 ∷ Mark 33 ∷ []) refl) refl
-address_by shifts true false up rn ts o h d = rw (register_read rn (Mark 44 ∷ (ts ++ Mark 93 ∷ [])) h, d (Mark 93 ∷ []) refl) refl
+address_by shifts true false up rn ts o h d =
+    rw (register_read rn (Mark 44 ∷ (ts ++ Mark 93 ∷ [])) h, d (Mark 93 ∷ []) refl) refl
 address_by shifts false write up rn ts o h d = rw (register_read rn (Mark 93 ∷ Mark 44 ∷ (ts ++ [])) h, d [] refl) refl
 
 and_false : (t : Bool) → (t && false) ≡ false
@@ -189,7 +207,8 @@ and_false false = refl
 
 access_said : (c : Condition) (load byte pre up write : Bool) (rn rd : ℕ) (ts : List Token) (o : TransferOffset)
     → address_at true ts ≡ Ok (taken (transfers.address rn pre (pre && write) (distance up (Some o))) [])
-    → access_form c load byte (not pre && write) rd ts ≡ Ok (Operation (Some (op.Transfer c load byte pre up write rn rd o)))
+    → access_form c load byte (not pre && write) rd ts
+    ≡ Ok (Operation (Some (op.Transfer c load byte pre up write rn rd o)))
 unfolding access_form
 access_said c load byte true up true rn rd ts o e = rw e refl
 access_said c load byte true up false rn rd ts o e = rw e refl
@@ -199,7 +218,8 @@ access_said c load byte false up false rn rd ts o e = rw e refl
 accessed : (c : Condition) (load byte user : Bool) (rd : ℕ) (ts : List Token) → rd < 16 → begins 91 ts ≡ true
     → transfer_form c load byte user (reg rd ∷ Mark 44 ∷ ts) ≡ access_form c load byte user rd ts
 unfolding transfer_form
-accessed c load byte user rd ts h e = rw (register_read rd (Mark 44 ∷ ts) h, e, and_false (load && not byte && not user)) refl
+accessed c load byte user rd ts h e =
+    rw (register_read rd (Mark 44 ∷ ts) h, e, and_false (load && not byte && not user)) refl
 
 opens : (pre : Bool) (rn : ℕ) (ts : List Token) → begins 91 (tokens_of (open_address pre rn) ++ ts) ≡ true
 unfolding open_address
@@ -208,7 +228,8 @@ opens false rn ts = refl
 
 pub transfer_said : (c : Condition) (load byte pre up write : Bool) (rn rd : ℕ) (o : TransferOffset) → rn < 16 → rd < 16
     → Within (transfer_registers o) → Within (transfer_immediates o) → Within (transfer_offsets o)
-    → transfer_form c load byte (not pre && write) (reg rd ∷ Mark 44 ∷ tokens_of (address pre write rn (transfer_distance up o)))
+    → transfer_form c load byte (not pre && write)
+    (reg rd ∷ Mark 44 ∷ tokens_of (address pre write rn (transfer_distance up o)))
     ≡ Ok (Operation (Some (op.Transfer c load byte pre up write rn rd o)))
 transfer_said c load byte pre up write rn rd o h k r i l =
     let ds = transfer_distance up o in
@@ -218,8 +239,8 @@ transfer_said c load byte pre up write rn rd o h k r i l =
     ∙ access_said c load byte pre up write rn rd (tokens_of (open_address pre rn) ++ tail) o
     (address_by true pre write up rn (tokens_of ds) o h (λ rest last. distance_read up o rest last r i l))
 
-halved : (c : Condition) (kind : HalfKind) (pre up write : Bool) (rn rd : ℕ) (ts : List Token) (o : HalfOffset) → rd < 16
-    → (pre || not write) ≡ true
+halved : (c : Condition) (kind : HalfKind) (pre up write : Bool) (rn rd : ℕ) (ts : List Token) (o : HalfOffset)
+    → rd < 16 → (pre || not write) ≡ true
     → address_at false ts ≡ Ok (taken (transfers.address rn pre (pre && write) (distance up (Some (as_transfer o)))) [])
     → half_form c kind (reg rd ∷ Mark 44 ∷ ts) ≡ Ok (Operation (Some (op.Half c kind pre up write rn rd o)))
 unfolding half_form as_transfer
@@ -283,4 +304,5 @@ branch_back at c link (pos n) a h =
 branch_back at c link (negsuc n) a h =
     let d : placing.distance at (branch_target at (negsuc n)) ≡ 2 ^ 32 - 4 * n - 4 = omega arith in
     let q : (2 ^ 32 - 1 - (2 ^ 32 - 4 * n - 4)) / 4 ≡ n = omega arith in
-    rw d (words_by c link (2 ^ 32 - 4 * n - 4) (negsuc n) (omega arith) (behind (2 ^ 32 - 4 * n - 4) (omega arith) ∙ ap negsuc q))
+    rw d (words_by c link (2 ^ 32 - 4 * n - 4) (negsuc n) (omega arith)
+    (behind (2 ^ 32 - 4 * n - 4) (omega arith) ∙ ap negsuc q))

@@ -150,7 +150,8 @@ lines_split thumb at u us =
     ∙ line_first (line_text thumb at u) (lines_of thumb (at + size_of u) us)
     (text_clean (line_pieces thumb at u) (line_fine thumb at u).spelled)
 
-are_lone : (thumb : Bool) (at : ℕ) (us : List Unit) → ArePlaced at us → AreLone thumb at (lines (lines_of thumb at us)) (whole us)
+are_lone : (thumb : Bool) (at : ℕ) (us : List Unit) → ArePlaced at us
+    → AreLone thumb at (lines (lines_of thumb at us)) (whole us)
 are_lone thumb at [] h = rw (lines_end thumb at, lines_none) refl
 are_lone thumb at (u ∷ us) h =
     let rest : AreLone thumb (at + length (bytes_of u)) (lines (lines_of thumb (at + size_of u) us)) (whole us) =
@@ -247,8 +248,8 @@ call_whole false first second us vs bs cs ds h k e f =
 thumb_whole : (bs : List ℕ) → AreBytes bs → whole (thumb_units bs) ≡ bs
 unfolding thumb_units
 thumb_whole (a ∷ b ∷ c ∷ d ∷ rest) h =
-    call_whole _ (half_of a b) (half_of c d) (thumb_units rest) (thumb_units (c ∷ d ∷ rest)) (a ∷ b ∷ []) (c ∷ d ∷ []) rest
-    (thumb_whole rest h.1.1.1.1) (thumb_whole (c ∷ d ∷ rest) h.1.1) (half_back a b (h.0, (h.1.0, tt)))
+    call_whole _ (half_of a b) (half_of c d) (thumb_units rest) (thumb_units (c ∷ d ∷ rest)) (a ∷ b ∷ [])
+    (c ∷ d ∷ []) rest (thumb_whole rest h.1.1.1.1) (thumb_whole (c ∷ d ∷ rest) h.1.1) (half_back a b (h.0, (h.1.0, tt)))
     (half_back c d (h.1.1.0, (h.1.1.1.0, tt)))
 thumb_whole (a ∷ b ∷ c ∷ []) h = ap (λ xs. xs ++ (c ∷ [])) (half_back a b (h.0, (h.1.0, tt)))
 thumb_whole (a ∷ b ∷ []) h = ap (λ xs. xs ++ []) (half_back a b (h.0, (h.1.0, tt)))
@@ -261,7 +262,8 @@ call_placed : (t : Bool) (at first second : ℕ) (us vs : List Unit) → first <
 call_placed true at first second us vs h k even inside u v = ((h, k, even), inside, u)
 call_placed false at first second us vs h k even inside u v = ((h, even), omega (arith, inside), v)
 
-thumb_placed : (at : ℕ) (bs : List ℕ) → AreBytes bs → at % 2 ≡ 0 → at + length bs ≤ 33554432 → ArePlaced at (thumb_units bs)
+thumb_placed : (at : ℕ) (bs : List ℕ) → AreBytes bs → at % 2 ≡ 0 → at + length bs ≤ 33554432
+    → ArePlaced at (thumb_units bs)
 unfolding thumb_units
 thumb_placed at (a ∷ b ∷ c ∷ d ∷ rest) h even inside =
     call_placed _ at (half_of a b) (half_of c d) (thumb_units rest) (thumb_units (c ∷ d ∷ rest))
@@ -280,7 +282,8 @@ arm_back bytes h inside =
     let us = arm_units bytes in
     let all = arm_whole bytes h in
     let placed = arm_placed 0 bytes h refl (omega (arith, inside)) in
-    lone_arm (lines_of false 0 us) (whole us) (omega (arith, lines_short false 0 us, ap length all, inside)) (are_lone false 0 us placed)
+    lone_arm (lines_of false 0 us) (whole us) (omega (arith, lines_short false 0 us, ap length all, inside))
+    (are_lone false 0 us placed)
     ∙ ap Ok all
 
 heading_split : (rest : List ℕ) → lines ((codes ".thumb" ++ 10 ∷ []) ++ rest) ≡ codes ".thumb" ∷ lines rest
@@ -294,13 +297,21 @@ thumb_back bytes h inside =
     let placed = thumb_placed 0 bytes h refl (omega (arith, inside)) in
     let head : List Piece = Plain (codes ".thumb") ∷ [] in
     let spelled : IsSpelling head = (record { bytes = refl; some = lit< tt }, tt, tt) in
-    lone_thumb ((codes ".thumb" ++ 10 ∷ []) ++ lines_of true 0 us) (codes ".thumb") (whole us) (lines (lines_of true 0 us))
-    (omega (arith, lines_short true 0 us, ap length all, inside, length-append (codes ".thumb" ++ 10 ∷ []) (lines_of true 0 us)))
-    (heading_split (lines_of true 0 us)) (spelled_says false head spelled (lit≤ tt)) (spelled_label head spelled (lit≤ tt))
-    (are_lone true 0 us placed)
+    lone_thumb ((codes ".thumb" ++ 10 ∷ []) ++ lines_of true 0 us) (codes ".thumb") (whole us)
+    (lines (lines_of true 0 us))
+    (omega (
+      arith,
+      lines_short true 0 us,
+      ap length all,
+      inside,
+      length-append (codes ".thumb" ++ 10 ∷ []) (lines_of true 0 us),
+    ))
+    (heading_split (lines_of true 0 us)) (spelled_says false head spelled (lit≤ tt))
+    (spelled_label head spelled (lit≤ tt)) (are_lone true 0 us placed)
     ∙ ap Ok all
 
-both_back : (set : Set) (bytes : List ℕ) → AreBytes bytes → length bytes ≤ 33554432 → assembly_of (listing set bytes) ≡ Ok bytes
+both_back : (set : Set) (bytes : List ℕ) → AreBytes bytes → length bytes ≤ 33554432
+    → assembly_of (listing set bytes) ≡ Ok bytes
 both_back Arm bytes h inside = arm_back bytes h inside
 both_back Thumb bytes h inside = thumb_back bytes h inside
 

@@ -20,14 +20,18 @@ IsPlaced at (Byte byte) = byte < 2 ^ 8
 
 pub data_fine : (u : Unit) → Fine 30 (data_pieces u)
 data_fine (Word word) =
-    wider (lit≤ tt) (after_name {k = 5} (record { all = refl; few = lit≤ tt }) (lit< tt) (after_digits 8 word (lit≤ tt) tt done))
+    wider (lit≤ tt)
+    (after_name {k = 5} (record { all = refl; few = lit≤ tt }) (lit< tt) (after_digits 8 word (lit≤ tt) tt done))
 data_fine (Half half) =
-    wider (lit≤ tt) (after_name {k = 5} (record { all = refl; few = lit≤ tt }) (lit< tt) (after_digits 4 half (lit≤ tt) tt done))
+    wider (lit≤ tt)
+    (after_name {k = 5} (record { all = refl; few = lit≤ tt }) (lit< tt) (after_digits 4 half (lit≤ tt) tt done))
 data_fine (Call first second) =
-    wider (lit≤ tt) (after_name {k = 5} (record { all = refl; few = lit≤ tt }) (lit< tt) (after_digits 4 first (lit≤ tt) tt
+    wider (lit≤ tt) (after_name {k = 5} (record { all = refl; few = lit≤ tt }) (lit< tt)
+    (after_digits 4 first (lit≤ tt) tt
     (after_comma (after_digits 4 second (lit≤ tt) tt done))))
 data_fine (Byte byte) =
-    wider (lit≤ tt) (after_name {k = 5} (record { all = refl; few = lit≤ tt }) (lit< tt) (after_digits 2 byte (lit≤ tt) tt done))
+    wider (lit≤ tt)
+    (after_name {k = 5} (record { all = refl; few = lit≤ tt }) (lit< tt) (after_digits 2 byte (lit≤ tt) tt done))
 
 data_tells : (thumb : Bool) (at : ℕ) (u : Unit) → IsPlaced at u → at + size_of u ≤ 33554432
     → Tells thumb at (tokens_of (data_pieces u)) (bytes_of u)

@@ -15,7 +15,8 @@ hex_more k n h = ap (λ j. hex j n) (suc_before k h)
 pub hex_pushed : (line new start : List ℕ) (k n : ℕ) (all : List ℕ) → 0 < k → line ++ hex k n ≡ all
     → new ≡ line ++ hex_digit (n / 2 ^ (4 * (k - 1)) % 16) ∷ [] → new ++ hex (k - 1) n ≡ all
 hex_pushed line new start k n all h e pushed =
-    ap (λ xs. xs ++ hex (k - 1) n) pushed ∙ append_assoc line (hex_digit (n / 2 ^ (4 * (k - 1)) % 16) ∷ []) (hex (k - 1) n)
+    ap (λ xs. xs ++ hex (k - 1) n) pushed
+    ∙ append_assoc line (hex_digit (n / 2 ^ (4 * (k - 1)) % 16) ∷ []) (hex (k - 1) n)
     ∙ ap (λ ds. line ++ ds) (sym (hex_more k n h)) ∙ e
 
 left_over : (n : ℕ) → n < 16 → 16 - n ≡ suc (16 - (n + 1))
@@ -32,7 +33,8 @@ set_by more n list true t e h = rw (e, h) refl
 set_by more n list false t e h = rw (e, h) refl
 
 pub entries_set : (n list : ℕ) (first : Bool) → n < 16 → bit list n ≡ true
-    → text_of (entries_from (16 - n) n first list) ≡ entry first n ++ text_of (entries_from (16 - (n + 1)) (n + 1) false list)
+    → text_of (entries_from (16 - n) n first list)
+    ≡ entry first n ++ text_of (entries_from (16 - (n + 1)) (n + 1) false list)
 entries_set n list first h set =
     ap (λ more. text_of (entries_from more n first list)) (left_over n h)
     ∙ set_by (16 - (n + 1)) n list first (bit list n) refl set

@@ -6,7 +6,8 @@ use Rattle.gba_dis.specs.declared.units.Unit.TheVariants.{Word, Half, Call, Byte
 use Rattle.gba_dis.specs.Units.{arm_units, half_of, is_call, left_bytes, thumb_units}
 
 pub arm_word : (bs : List ℕ) → 4 ≤ length bs
-    → arm_units bs ≡ Word (from_le_bytes w32 (get_or bs 0 0 ∷ get_or bs 1 0 ∷ get_or bs 2 0 ∷ get_or bs 3 0 ∷ [])) ∷ arm_units (drop 4 bs)
+    → arm_units bs ≡ Word (from_le_bytes w32 (get_or bs 0 0 ∷ get_or bs 1 0 ∷ get_or bs 2 0 ∷ get_or bs 3 0 ∷ []))
+    ∷ arm_units (drop 4 bs)
 unfolding arm_units
 arm_word (a ∷ b ∷ c ∷ d ∷ rest) h = refl
 arm_word (a ∷ b ∷ c ∷ []) h = absurd (omega arith)
@@ -14,7 +15,8 @@ arm_word (a ∷ b ∷ []) h = absurd (omega arith)
 arm_word (a ∷ []) h = absurd (omega arith)
 arm_word [] h = absurd (omega arith)
 
-pub arm_byte : (bs : List ℕ) → 0 < length bs → length bs < 4 → arm_units bs ≡ Byte (get_or bs 0 0) ∷ arm_units (drop 1 bs)
+pub arm_byte : (bs : List ℕ) → 0 < length bs → length bs < 4
+    → arm_units bs ≡ Byte (get_or bs 0 0) ∷ arm_units (drop 1 bs)
 unfolding arm_units
 arm_byte (a ∷ b ∷ c ∷ d ∷ rest) h few = absurd (omega arith)
 arm_byte (a ∷ b ∷ c ∷ []) h few = refl
@@ -29,7 +31,8 @@ arm_none (a ∷ rest) h = absurd (omega arith)
 
 pub thumb_call : (bs : List ℕ) → 4 ≤ length bs
     → is_call (half_of (get_or bs 0 0) (get_or bs 1 0)) (half_of (get_or bs 2 0) (get_or bs 3 0)) ≡ true
-    → thumb_units bs ≡ Call (half_of (get_or bs 0 0) (get_or bs 1 0)) (half_of (get_or bs 2 0) (get_or bs 3 0)) ∷ thumb_units (drop 4 bs)
+    → thumb_units bs ≡ Call (half_of (get_or bs 0 0) (get_or bs 1 0)) (half_of (get_or bs 2 0) (get_or bs 3 0))
+    ∷ thumb_units (drop 4 bs)
 unfolding thumb_units
 thumb_call (a ∷ b ∷ c ∷ d ∷ rest) h call = rw call refl
 thumb_call (a ∷ b ∷ c ∷ []) h call = absurd (omega arith)

@@ -29,7 +29,8 @@ line_added thumb at next u us all text lined new whole h split line feed place =
 pub all_added : (thumb : Bool) (at : ℕ) (all : List Unit) (text whole : List ℕ) → text ++ lines_of thumb at all ≡ whole
     → all ≡ [] → text ≡ whole
 all_added thumb at all text whole h none =
-    sym (append-nil text) ∙ ap (λ bs. text ++ bs) (sym (lines_end thumb at)) ∙ ap (λ v. text ++ lines_of thumb at v) (sym none) ∙ h
+    sym (append-nil text) ∙ ap (λ bs. text ++ bs) (sym (lines_end thumb at))
+    ∙ ap (λ v. text ++ lines_of thumb at v) (sym none) ∙ h
 
 -- all of what is left of bytes
 pub left_whole : (k : ℕ) (bs : List ℕ) → take (length bs - k) (drop k bs) ≡ drop k bs
@@ -37,7 +38,8 @@ left_whole k bs =
     ap (λ n. take n (drop k bs)) (sym (length-drop k bs)) ∙ take-length (drop k bs)
 
 pub split_left : (set : Set) (bs : List ℕ) (at size : ℕ) (u : Unit)
-    → units set (take (length bs - at) (drop at bs)) ≡ u ∷ units set (drop (size_of u) (take (length bs - at) (drop at bs)))
+    → units set (take (length bs - at) (drop at bs))
+    ≡ u ∷ units set (drop (size_of u) (take (length bs - at) (drop at bs)))
     → size ≡ size_of u → units set (drop at bs) ≡ u ∷ units set (drop (at + size) bs)
 split_left set bs at size u h same =
     let here : units set (drop at bs) ≡ u ∷ units set (drop (size_of u) (drop at bs)) = rw (left_whole at bs) at h in

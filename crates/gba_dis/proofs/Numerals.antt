@@ -51,7 +51,8 @@ hex_value (suc c) n acc =
     let digit = digit_back d (nibble n c) in
     let rest = hex_value c n (acc * 16 + digit_value (hex_digit d)) in
     let wide : 2 ^ (4 * suc c) ≡ 16 * 2 ^ (4 * c) = pow_four c in
-    rest ∙ by_parts acc (2 ^ (4 * c)) (2 ^ (4 * suc c)) d (digit_value (hex_digit d)) (n % 2 ^ (4 * c)) (n % 2 ^ (4 * suc c))
+    rest
+    ∙ by_parts acc (2 ^ (4 * c)) (2 ^ (4 * suc c)) d (digit_value (hex_digit d)) (n % 2 ^ (4 * c)) (n % 2 ^ (4 * suc c))
     digit wide (more_digits c n)
   where
     pow_four : (c : ℕ) → 2 ^ (4 * suc c) ≡ 16 * 2 ^ (4 * c)

@@ -32,7 +32,8 @@ register_back (suc (suc (suc (suc (suc (suc (suc (suc (suc (suc (suc (suc zero))
 register_back (suc (suc (suc (suc (suc (suc (suc (suc (suc (suc (suc (suc (suc zero))))))))))))) h = refl
 register_back (suc (suc (suc (suc (suc (suc (suc (suc (suc (suc (suc (suc (suc (suc zero)))))))))))))) h = refl
 register_back (suc (suc (suc (suc (suc (suc (suc (suc (suc (suc (suc (suc (suc (suc (suc zero))))))))))))))) h = refl
-register_back (suc (suc (suc (suc (suc (suc (suc (suc (suc (suc (suc (suc (suc (suc (suc (suc n)))))))))))))))) h = absurd (omega arith)
+register_back (suc (suc (suc (suc (suc (suc (suc (suc (suc (suc (suc (suc (suc (suc (suc (suc n)))))))))))))))) h =
+    absurd (omega arith)
 
 pub register_read : (n : ℕ) (ts : List Token) → n < 16 → register_at (Word (register_name n) ∷ ts) ≡ Ok (taken n ts)
 unfolding register_at

@@ -59,7 +59,8 @@ braces_read : (list : ℕ) → list < 2 ^ 16 → list_at (tokens_of (braces list
 braces_read list h = ap (λ ps. list_at (tokens_of ps)) (sym (append-nil (braces list))) ∙ list_read list [] h
 
 pub push_said : (r : Bool) (list : ℕ) → list < 256
-    → thumb_statement (codes "push") (tokens_of (braces (stack_list false r list))) ≡ Ok (Operation (Some (Format14 false r list)))
+    → thumb_statement (codes "push") (tokens_of (braces (stack_list false r list)))
+    ≡ Ok (Operation (Some (Format14 false r list)))
 unfolding thumb_statement thumb_name other_of form_of stack_form
 push_said false list h = rw (braces_read list (omega arith), lt-ltb _ _ h) refl
 push_said true list h =
@@ -69,7 +70,8 @@ push_said true list h =
     rw (braces_read (list + 2 ^ 14) (omega arith), none, some, rest, lt-ltb _ _ h) refl
 
 pub pop_said : (r : Bool) (list : ℕ) → list < 256
-    → thumb_statement (codes "pop") (tokens_of (braces (stack_list true r list))) ≡ Ok (Operation (Some (Format14 true r list)))
+    → thumb_statement (codes "pop") (tokens_of (braces (stack_list true r list)))
+    ≡ Ok (Operation (Some (Format14 true r list)))
 unfolding thumb_statement thumb_name other_of form_of stack_form
 pop_said false list h = rw (braces_read list (omega arith), lt-ltb _ _ h) refl
 pop_said true list h =

@@ -116,7 +116,8 @@ register_some : (n : ℕ) → 0 < length (register_name n)
 unfolding register_name
 register_some n = register_some_by n (nat_lt n 10)
 
-pub after_register : {k : ℕ} {ps : List Piece} (n : ℕ) → n < 16 → EndsWord ps → Fine k ps → Fine (3 + k) (register n ∷ ps)
+pub after_register : {k : ℕ} {ps : List Piece} (n : ℕ) → n < 16 → EndsWord ps → Fine k ps
+    → Fine (3 + k) (register n ∷ ps)
 after_register n h ends f = after_word (register_letters n h) (register_some n) ends f
 
 digits_letters : (c n : ℕ) → c ≤ 8 → Letters 10 (digits_text c n)
@@ -130,7 +131,8 @@ digits_some : (c n : ℕ) → 0 < length (digits_text c n)
 unfolding digits_text
 digits_some c n = omega arith
 
-pub after_digits : {k : ℕ} {ps : List Piece} (c n : ℕ) → c ≤ 8 → EndsWord ps → Fine k ps → Fine (10 + k) (digits c n ∷ ps)
+pub after_digits : {k : ℕ} {ps : List Piece} (c n : ℕ) → c ≤ 8 → EndsWord ps → Fine k ps
+    → Fine (10 + k) (digits c n ∷ ps)
 after_digits c n h ends f = after_word (digits_letters c n h) (digits_some c n) ends f
 
 few_digits : (n : ℕ) → digit_count n ≤ 8
@@ -162,7 +164,8 @@ entry_fine : (m n list more : ℕ) (first t : Bool) → n < 16 → EndsWord (ent
     → Fine (5 + m) (cond t (cond first (register n ∷ entries_from more (n + 1) false list) (Comma ∷ register n
     ∷ entries_from more (n + 1) false list)) (entries_from more (n + 1) first list))
 entry_fine m n list more true true h ends rest = wider (omega arith) (after_register n h ends (rest false))
-entry_fine m n list more false true h ends rest = wider (omega arith) (after_comma (after_register n h ends (rest false)))
+entry_fine m n list more false true h ends rest =
+    wider (omega arith) (after_comma (after_register n h ends (rest false)))
 entry_fine m n list more first false h ends rest = wider (omega arith) (rest first)
 
 -- so many registers of a list, before the others
@@ -179,8 +182,10 @@ front_fine (suc j) m n list others more e h rest first =
     let one : more ≡ suc (j + others) = omega (arith, e) in
     let place : n + suc j ≡ n + 1 + j = omega arith in
     let deeper : (first : Bool) → Fine (5 * j + m) (entries_from (j + others) (n + 1) first list) =
-    λ first. front_fine j m (n + 1) list others (j + others) refl (omega (arith, h)) (λ f. rw place at (rest f)) first in
-    rw one (wider (omega arith) (entry_fine (5 * j + m) n list (j + others) first (bit list n) (omega (arith, h)) (entry_ends
+    λ first. front_fine j m (n + 1) list others (j + others) refl (omega (arith, h)) (λ f. rw place at (rest f))
+    first in
+    rw one (wider (omega arith) (entry_fine (5 * j + m) n list (j + others) first (bit list n) (omega (arith, h))
+    (entry_ends
     (j + others) (n + 1) list) deeper))
 
 none_left : (n list : ℕ) (first : Bool) → Fine 0 (entries_from 0 n first list)
@@ -307,7 +312,8 @@ fields_letters fields =
     (if_letters (bit fields 0) 1 (codes "c") (record { all = refl; few = lit≤ tt }))
 
 -- operands
-pub immediate_fine : {k : ℕ} {ps : List Piece} (n : ℕ) → EndsWord ps → Fine k ps → Fine (11 + k) (Mark 35 ∷ number n ∷ ps)
+pub immediate_fine : {k : ℕ} {ps : List Piece} (n : ℕ) → EndsWord ps → Fine k ps
+    → Fine (11 + k) (Mark 35 ∷ number n ∷ ps)
 immediate_fine n ends f = wider (omega arith) (after_mark 35 refl (after_number n ends f))
 
 shifted_fine : (s : Shift) (n : ℕ) → Fine 17 (shifted s n)
@@ -319,7 +325,8 @@ unshifted_by s n true = wider (lit≤ tt) done
 unshifted_by s n false = shifted_fine s n
 
 extended_by : (n : ℕ) (t : Bool) → Fine 17 (cond t (Comma ∷ Plain (codes "rrx") ∷ []) (shifted Ror n))
-extended_by n true = wider (lit≤ tt) (after_comma (after_word {k = 3} (record { all = refl; few = lit≤ tt }) (lit< tt) tt done))
+extended_by n true =
+    wider (lit≤ tt) (after_comma (after_word {k = 3} (record { all = refl; few = lit≤ tt }) (lit< tt) tt done))
 extended_by n false = shifted_fine Ror n
 
 shift_fine : (s : Shift) (n : ℕ) → Fine 17 (shift_pieces s n)
@@ -371,7 +378,8 @@ close_ends false write = tt
 
 half_fine : (up : Bool) (o : HalfOffset) → Within (half_registers o) → Fine 21 (half_distance up o)
 unfolding half_distance
-half_fine up (half.Number value) h = wider (lit≤ tt) (after_mark 35 refl (minus_fine (not up) (after_number value tt done)))
+half_fine up (half.Number value) h =
+    wider (lit≤ tt) (after_mark 35 refl (minus_fine (not up) (after_number value tt done)))
 half_fine up (half.Plain rm) h = wider (lit≤ tt) (minus_fine (not up) (after_register rm h.0 tt done))
 
 transfer_fine : (up : Bool) (o : TransferOffset) → Within (transfer_registers o) → Fine 21 (transfer_distance up o)
@@ -381,16 +389,19 @@ transfer_fine up (transfer.Number value) h =
 transfer_fine up (transfer.Shifted rm kind amount) h =
     minus_fine (not up) (after_register rm h.0 (shift_ends kind amount) (shift_fine kind amount))
 
-open_fine : {k : ℕ} {ps : List Piece} (pre : Bool) (rn : ℕ) → rn < 16 → Fine k ps → Fine (7 + k) (open_address pre rn ++ ps)
+open_fine : {k : ℕ} {ps : List Piece} (pre : Bool) (rn : ℕ) → rn < 16 → Fine k ps
+    → Fine (7 + k) (open_address pre rn ++ ps)
 unfolding open_address
 open_fine true rn h f = wider (omega arith) (after_mark 91 refl (after_register rn h tt (after_comma f)))
-open_fine false rn h f = wider (omega arith) (after_mark 91 refl (after_register rn h tt (after_mark 93 refl (after_comma f))))
+open_fine false rn h f =
+    wider (omega arith) (after_mark 91 refl (after_register rn h tt (after_mark 93 refl (after_comma f))))
 
 address_fine : (pre write : Bool) (rn : ℕ) (ds : List Piece) → rn < 16 → Fine 21 ds → Fine 30 (address pre write rn ds)
 address_fine pre write rn ds h f =
     open_fine pre rn h (appended f (close_fine pre write) (close_ends pre write))
 
-first_fine : {k : ℕ} {ps : List Piece} (o : ComputeOp) (rn : ℕ) → rn < 16 → Fine k ps → Fine (5 + k) (first_operand o rn ++ ps)
+first_fine : {k : ℕ} {ps : List Piece} (o : ComputeOp) (rn : ℕ) → rn < 16 → Fine k ps
+    → Fine (5 + k) (first_operand o rn ++ ps)
 first_fine And rn h f = wider (omega arith) (after_register rn h tt (after_comma f))
 first_fine Eor rn h f = wider (omega arith) (after_register rn h tt (after_comma f))
 first_fine Sub rn h f = wider (omega arith) (after_register rn h tt (after_comma f))
@@ -413,7 +424,8 @@ block_fine : (rn list : ℕ) (write user : Bool) → rn < 16
     → Fine 89 (register rn ∷ (block_mark write ++ (braces list ++ user_mark user)))
 unfolding block_mark
 block_fine rn list true user h =
-    wider (lit≤ tt) (after_register rn h tt (after_mark 33 refl (after_comma (braces_fine list (entries_fine list) (user_fine user)))))
+    wider (lit≤ tt) (after_register rn h tt
+    (after_mark 33 refl (after_comma (braces_fine list (entries_fine list) (user_fine user)))))
 block_fine rn list false user h =
     wider (lit≤ tt) (after_register rn h tt (after_comma (braces_fine list (entries_fine list) (user_fine user))))
 
@@ -421,56 +433,72 @@ block_fine rn list false user h =
 pub arm_fine : (at : ℕ) (o : ArmOp) → Fits o → Fine 123 (arm_pieces at o)
 unfolding arm_pieces
 arm_fine at (operation.Exchange c rm) h =
-    wider (lit≤ tt) (named {j = 2} {k = 0} {base = codes "bx"} {suffix = []} c (record { all = refl; few = lit≤ tt }) (lit< tt) (record { all = refl; few = lit≤ tt })
-    (after_register rm h.registers.0 tt done))
+    wider (lit≤ tt) (named {j = 2} {k = 0} {base = codes "bx"} {suffix = []} c (record { all = refl; few = lit≤ tt })
+    (lit< tt) (record { all = refl; few = lit≤ tt }) (after_register rm h.registers.0 tt done))
 arm_fine at (operation.Multiply c false set rd rn rs rm) h =
-    wider (lit≤ tt) (named {j = 3} {k = 1} {base = codes "mul"} c (record { all = refl; few = lit≤ tt }) (lit< tt) (if_letters set 1 (codes "s") (record { all = refl; few = lit≤ tt }))
-    (after_register rd h.registers.0 tt (after_comma (after_register rm h.registers.1.1.1.0 tt (after_comma (after_register rs h.registers.1.1.0 tt
+    wider (lit≤ tt) (named {j = 3} {k = 1} {base = codes "mul"} c (record { all = refl; few = lit≤ tt }) (lit< tt)
+    (if_letters set 1 (codes "s") (record { all = refl; few = lit≤ tt }))
+    (after_register rd h.registers.0 tt
+    (after_comma (after_register rm h.registers.1.1.1.0 tt (after_comma (after_register rs h.registers.1.1.0 tt
     done))))))
 arm_fine at (operation.Multiply c true set rd rn rs rm) h =
-    wider (lit≤ tt) (named {j = 3} {k = 1} {base = codes "mla"} c (record { all = refl; few = lit≤ tt }) (lit< tt) (if_letters set 1 (codes "s") (record { all = refl; few = lit≤ tt }))
-    (after_register rd h.registers.0 tt (after_comma (after_register rm h.registers.1.1.1.0 tt (after_comma (after_register rs h.registers.1.1.0 tt
+    wider (lit≤ tt) (named {j = 3} {k = 1} {base = codes "mla"} c (record { all = refl; few = lit≤ tt }) (lit< tt)
+    (if_letters set 1 (codes "s") (record { all = refl; few = lit≤ tt }))
+    (after_register rd h.registers.0 tt
+    (after_comma (after_register rm h.registers.1.1.1.0 tt (after_comma (after_register rs h.registers.1.1.0 tt
     (after_comma (after_register rn h.registers.1.0 tt done))))))))
 arm_fine at (operation.MultiplyLong c signed accumulate set hi lo rs rm) h =
     wider (lit≤ tt) (named {k = 1} c (long_letters signed accumulate).0 (long_letters signed accumulate).1
     (if_letters set 1 (codes "s") (record { all = refl; few = lit≤ tt }))
-    (after_register lo h.registers.1.0 tt (after_comma (after_register hi h.registers.0 tt (after_comma (after_register rm h.registers.1.1.1.0 tt
+    (after_register lo h.registers.1.0 tt
+    (after_comma (after_register hi h.registers.0 tt (after_comma (after_register rm h.registers.1.1.1.0 tt
     (after_comma (after_register rs h.registers.1.1.0 tt done))))))))
 arm_fine at (operation.Swap c byte rn rd rm) h =
-    wider (lit≤ tt) (named {j = 3} {k = 1} {base = codes "swp"} c (record { all = refl; few = lit≤ tt }) (lit< tt) (if_letters byte 1 (codes "b") (record { all = refl; few = lit≤ tt }))
-    (after_register rd h.registers.1.0 tt (after_comma (after_register rm h.registers.1.1.0 tt (after_comma (after_mark 91 refl
+    wider (lit≤ tt) (named {j = 3} {k = 1} {base = codes "swp"} c (record { all = refl; few = lit≤ tt }) (lit< tt)
+    (if_letters byte 1 (codes "b") (record { all = refl; few = lit≤ tt }))
+    (after_register rd h.registers.1.0 tt
+    (after_comma (after_register rm h.registers.1.1.0 tt (after_comma (after_mark 91 refl
     (after_register rn h.registers.0 tt (after_mark 93 refl done))))))))
 arm_fine at (operation.Half c kind pre up write rn rd offset) h =
     let l = half_letters kind in
-    wider (lit≤ tt) (named c l.0 l.1 l.2 (after_register rd h.registers.1.0 tt (after_comma (address_fine pre write rn _ h.registers.0
+    wider (lit≤ tt) (named c l.0 l.1 l.2
+    (after_register rd h.registers.1.0 tt (after_comma (address_fine pre write rn _ h.registers.0
     (half_fine up offset h.registers.1.1)))))
 arm_fine at (operation.ReadStatus c saved rd) h =
-    wider (lit≤ tt) (named {j = 3} {k = 0} {base = codes "mrs"} {suffix = []} c (record { all = refl; few = lit≤ tt }) (lit< tt) (record { all = refl; few = lit≤ tt })
+    wider (lit≤ tt) (named {j = 3} {k = 0} {base = codes "mrs"} {suffix = []} c (record { all = refl; few = lit≤ tt })
+    (lit< tt) (record { all = refl; few = lit≤ tt })
     (after_register rd h.registers.0 tt (after_comma (after_word (status_letters saved) (omega (
       arith,
       status_some saved [],
       length-append (status_text saved) [],
     )) tt done))))
 arm_fine at (operation.WriteStatus c saved fields source) h =
-    wider (lit≤ tt) (named {j = 3} {k = 0} {base = codes "msr"} {suffix = []} c (record { all = refl; few = lit≤ tt }) (lit< tt) (record { all = refl; few = lit≤ tt })
+    wider (lit≤ tt) (named {j = 3} {k = 0} {base = codes "msr"} {suffix = []} c (record { all = refl; few = lit≤ tt })
+    (lit< tt) (record { all = refl; few = lit≤ tt })
     (after_word (joined (status_letters saved) (fields_letters fields)) (status_some saved (fields_text fields)) tt
     (after_comma (source_fine source h.registers))))
 arm_fine at (operation.Compute c op set rn rd operand) h =
-    wider (lit≤ tt) (named {k = 1} c (compute_letters op).0 (compute_letters op).1 (if_letters set 1 (codes "s") (record { all = refl; few = lit≤ tt }))
-    (after_register rd h.registers.1.0 tt (after_comma (first_fine op rn h.registers.0 (second_fine operand h.registers.1.1)))))
+    wider (lit≤ tt) (named {k = 1} c (compute_letters op).0 (compute_letters op).1
+    (if_letters set 1 (codes "s") (record { all = refl; few = lit≤ tt }))
+    (after_register rd h.registers.1.0 tt
+    (after_comma (first_fine op rn h.registers.0 (second_fine operand h.registers.1.1)))))
 arm_fine at (operation.Compare c op rn operand) h =
-    wider (lit≤ tt) (named {k = 0} {suffix = []} c (compare_letters op).0 (compare_letters op).1 (record { all = refl; few = lit≤ tt })
+    wider (lit≤ tt) (named {k = 0} {suffix = []} c (compare_letters op).0 (compare_letters op).1
+    (record { all = refl; few = lit≤ tt })
     (after_register rn h.registers.0 tt (after_comma (second_fine operand h.registers.1))))
 arm_fine at (operation.Transfer c load byte pre up write rn rd offset) h =
-    wider (lit≤ tt) (named c (transfer_letters load).0 (transfer_letters load).1 (suffix_letters byte (not pre && write))
-    (after_register rd h.registers.1.0 tt (after_comma (address_fine pre write rn _ h.registers.0 (transfer_fine up offset
+    wider (lit≤ tt) (named c (transfer_letters load).0 (transfer_letters load).1
+    (suffix_letters byte (not pre && write))
+    (after_register rd h.registers.1.0 tt
+    (after_comma (address_fine pre write rn _ h.registers.0 (transfer_fine up offset
     h.registers.1.1)))))
 arm_fine at (operation.Block c load pre up user write rn list) h =
-    wider (lit≤ tt) (named c (block_letters load).0 (block_letters load).1 (end_letters pre up) (block_fine rn list write user
+    wider (lit≤ tt) (named c (block_letters load).0 (block_letters load).1 (end_letters pre up)
+    (block_fine rn list write user
     h.registers.0))
 arm_fine at (operation.Branch c link offset) h =
-    wider (lit≤ tt) (named {k = 0} {suffix = []} c (branch_letters link).0 (branch_letters link).1 (record { all = refl; few = lit≤ tt })
-    (after_digits 8 _ (lit≤ tt) tt done))
+    wider (lit≤ tt) (named {k = 0} {suffix = []} c (branch_letters link).0 (branch_letters link).1
+    (record { all = refl; few = lit≤ tt }) (after_digits 8 _ (lit≤ tt) tt done))
 arm_fine at (operation.Interrupt c comment) h =
-    wider (lit≤ tt) (named {j = 3} {k = 0} {base = codes "swi"} {suffix = []} c (record { all = refl; few = lit≤ tt }) (lit< tt) (record { all = refl; few = lit≤ tt })
-    (immediate_fine comment tt done))
+    wider (lit≤ tt) (named {j = 3} {k = 0} {base = codes "swi"} {suffix = []} c (record { all = refl; few = lit≤ tt })
+    (lit< tt) (record { all = refl; few = lit≤ tt }) (immediate_fine comment tt done))

@@ -102,7 +102,8 @@ tokens_back (Name w ∷ ps) h =
 tokens_back (Plain w ∷ ps) h =
     word_tokens w (text_of ps) h.0 (ends ps h.1 h.2) ∙ ap (λ ts. Word w ∷ ts) (tokens_back ps h.2)
 tokens_back (Comma ∷ ps) h =
-    tokens_mark 44 (32 ∷ text_of ps) refl refl ∙ ap (λ ts. token.Mark 44 ∷ ts) (tokens_blank (text_of ps) ∙ tokens_back ps h)
+    tokens_mark 44 (32 ∷ text_of ps) refl refl
+    ∙ ap (λ ts. token.Mark 44 ∷ ts) (tokens_blank (text_of ps) ∙ tokens_back ps h)
 tokens_back (Mark m ∷ ps) h =
     tokens_mark m (text_of ps) (mark_no_blank m h.0) (mark_no_word m h.0)
     ∙ ap (λ ts. token.Mark m ∷ ts) (tokens_back ps h.1)
@@ -121,7 +122,8 @@ pub both : (s t : Bool) → s ≡ true → t ≡ true → (s && t) ≡ true
 both true t e f = f
 both false t e f = cc
 
-pub all_append : (p : ℕ → Bool) (xs ys : List ℕ) → list_all p xs ≡ true → list_all p ys ≡ true → list_all p (xs ++ ys) ≡ true
+pub all_append : (p : ℕ → Bool) (xs ys : List ℕ) → list_all p xs ≡ true → list_all p ys ≡ true
+    → list_all p (xs ++ ys) ≡ true
 all_append p [] ys h k = k
 all_append p (x ∷ xs) ys h k =
     both _ _ (first_of_all _ _ h) (all_append p xs ys (rest_of_all (p x) (list_all p xs) h) k)
@@ -129,7 +131,8 @@ all_append p (x ∷ xs) ys h k =
 all_clean : (w : List ℕ) → list_all is_word_byte w ≡ true → list_all is_clean w ≡ true
 all_clean [] h = refl
 all_clean (b ∷ w) h =
-    both _ _ (word_clean b (first_of_all _ _ h)) (all_clean w (rest_of_all (is_word_byte b) (list_all is_word_byte w) h))
+    both _ _ (word_clean b (first_of_all _ _ h))
+    (all_clean w (rest_of_all (is_word_byte b) (list_all is_word_byte w) h))
 
 piece_clean : (p : Piece) (ps : List Piece) → IsSpelling (p ∷ ps) → list_all is_clean (piece_text p) ≡ true
 piece_clean (Name w) ps h = all_append is_clean w (32 ∷ []) (all_clean w h.0.bytes) refl

@@ -6,7 +6,8 @@ use Rattle.gba_dis.specs.Pieces.{Piece, piece_text, text_of}
 pub text_of_append : (front bs : List Piece) → text_of (front ++ bs) ≡ text_of front ++ text_of bs
 text_of_append [] bs = refl
 text_of_append (a ∷ front) bs =
-    ap (λ rest. piece_text a ++ rest) (text_of_append front bs) ∙ sym (append_assoc (piece_text a) (text_of front) (text_of bs))
+    ap (λ rest. piece_text a ++ rest) (text_of_append front bs)
+    ∙ sym (append_assoc (piece_text a) (text_of front) (text_of bs))
 
 pub on_ok : {T E P Q : Type 0} (r : Result T E) → (P → Q) → OnOk r P → OnOk r Q
 on_ok (Ok x) f h = f h

@@ -23,19 +23,45 @@ picked false a b f g = g
 
 shift_is : (op : ℕ) → IsName 5 (shift_name op)
 shift_is op =
-    picked (op == 0) (codes "lsl") _ (record { letters = record { all = refl; few = lit≤ tt }; some = lit< tt }) (picked (op == 1) (codes "lsr") (codes "asr") (record { letters = record { all = refl; few = lit≤ tt }; some = lit< tt }) (record { letters = record { all = refl; few = lit≤ tt }; some = lit< tt }))
+    picked (op == 0) (codes "lsl") _ (record { letters = record { all = refl; few = lit≤ tt }; some = lit< tt })
+    (picked (op == 1) (codes "lsr") (codes "asr")
+    (record { letters = record { all = refl; few = lit≤ tt }; some = lit< tt })
+    (record { letters = record { all = refl; few = lit≤ tt }; some = lit< tt }))
 
 number_is : (op : ℕ) → IsName 5 (number_name op)
 number_is op =
-    picked (op == 0) (codes "mov") _ (record { letters = record { all = refl; few = lit≤ tt }; some = lit< tt }) (picked (op == 1) (codes "cmp") _ (record { letters = record { all = refl; few = lit≤ tt }; some = lit< tt }) (picked (op == 2) (codes "add") (codes "sub") (record { letters = record { all = refl; few = lit≤ tt }; some = lit< tt }) (record { letters = record { all = refl; few = lit≤ tt }; some = lit< tt })))
+    picked (op == 0) (codes "mov") _ (record { letters = record { all = refl; few = lit≤ tt }; some = lit< tt })
+    (picked (op == 1) (codes "cmp") _ (record { letters = record { all = refl; few = lit≤ tt }; some = lit< tt })
+    (picked (op == 2) (codes "add") (codes "sub")
+    (record { letters = record { all = refl; few = lit≤ tt }; some = lit< tt })
+    (record { letters = record { all = refl; few = lit≤ tt }; some = lit< tt })))
 
 two_register_is : (op : ℕ) → IsName 5 (two_register_name op)
 two_register_is op =
-    picked (op == 0) (codes "and") _ (record { letters = record { all = refl; few = lit≤ tt }; some = lit< tt }) (picked (op == 1) (codes "eor") _ (record { letters = record { all = refl; few = lit≤ tt }; some = lit< tt }) (picked (op == 2) (codes "lsl") _ (record { letters = record { all = refl; few = lit≤ tt }; some = lit< tt }) (picked (op == 3) (codes "lsr") _ (record { letters = record { all = refl; few = lit≤ tt }; some = lit< tt }) (picked (op == 4) (codes "asr") _ (record { letters = record { all = refl; few = lit≤ tt }; some = lit< tt }) (picked (op == 5) (codes "adc") _ (record { letters = record { all = refl; few = lit≤ tt }; some = lit< tt }) (picked (op == 6) (codes "sbc") _ (record { letters = record { all = refl; few = lit≤ tt }; some = lit< tt }) (picked (op == 7) (codes "ror") _ (record { letters = record { all = refl; few = lit≤ tt }; some = lit< tt }) (picked (op == 8) (codes "tst") _ (record { letters = record { all = refl; few = lit≤ tt }; some = lit< tt }) (picked (op == 9) (codes "neg") _ (record { letters = record { all = refl; few = lit≤ tt }; some = lit< tt }) (picked (op == 10) (codes "cmp") _ (record { letters = record { all = refl; few = lit≤ tt }; some = lit< tt }) (picked (op == 11) (codes "cmn") _ (record { letters = record { all = refl; few = lit≤ tt }; some = lit< tt }) (picked (op == 12) (codes "orr") _ (record { letters = record { all = refl; few = lit≤ tt }; some = lit< tt }) (picked (op == 13) (codes "mul") _ (record { letters = record { all = refl; few = lit≤ tt }; some = lit< tt }) (picked (op == 14) (codes "bic") (codes "mvn") (record { letters = record { all = refl; few = lit≤ tt }; some = lit< tt }) (record { letters = record { all = refl; few = lit≤ tt }; some = lit< tt })))))))))))))))
+    picked (op == 0) (codes "and") _ (record { letters = record { all = refl; few = lit≤ tt }; some = lit< tt })
+    (picked (op == 1) (codes "eor") _ (record { letters = record { all = refl; few = lit≤ tt }; some = lit< tt })
+    (picked (op == 2) (codes "lsl") _ (record { letters = record { all = refl; few = lit≤ tt }; some = lit< tt })
+    (picked (op == 3) (codes "lsr") _ (record { letters = record { all = refl; few = lit≤ tt }; some = lit< tt })
+    (picked (op == 4) (codes "asr") _ (record { letters = record { all = refl; few = lit≤ tt }; some = lit< tt })
+    (picked (op == 5) (codes "adc") _ (record { letters = record { all = refl; few = lit≤ tt }; some = lit< tt })
+    (picked (op == 6) (codes "sbc") _ (record { letters = record { all = refl; few = lit≤ tt }; some = lit< tt })
+    (picked (op == 7) (codes "ror") _ (record { letters = record { all = refl; few = lit≤ tt }; some = lit< tt })
+    (picked (op == 8) (codes "tst") _ (record { letters = record { all = refl; few = lit≤ tt }; some = lit< tt })
+    (picked (op == 9) (codes "neg") _ (record { letters = record { all = refl; few = lit≤ tt }; some = lit< tt })
+    (picked (op == 10) (codes "cmp") _ (record { letters = record { all = refl; few = lit≤ tt }; some = lit< tt })
+    (picked (op == 11) (codes "cmn") _ (record { letters = record { all = refl; few = lit≤ tt }; some = lit< tt })
+    (picked (op == 12) (codes "orr") _ (record { letters = record { all = refl; few = lit≤ tt }; some = lit< tt })
+    (picked (op == 13) (codes "mul") _ (record { letters = record { all = refl; few = lit≤ tt }; some = lit< tt })
+    (picked (op == 14) (codes "bic") (codes "mvn")
+    (record { letters = record { all = refl; few = lit≤ tt }; some = lit< tt })
+    (record { letters = record { all = refl; few = lit≤ tt }; some = lit< tt })))))))))))))))
 
 high_is : (op : ℕ) → IsName 5 (high_name op)
 high_is op =
-    picked (op == 0) (codes "add") _ (record { letters = record { all = refl; few = lit≤ tt }; some = lit< tt }) (picked (op == 1) (codes "cmp") (codes "mov") (record { letters = record { all = refl; few = lit≤ tt }; some = lit< tt }) (record { letters = record { all = refl; few = lit≤ tt }; some = lit< tt }))
+    picked (op == 0) (codes "add") _ (record { letters = record { all = refl; few = lit≤ tt }; some = lit< tt })
+    (picked (op == 1) (codes "cmp") (codes "mov")
+    (record { letters = record { all = refl; few = lit≤ tt }; some = lit< tt })
+    (record { letters = record { all = refl; few = lit≤ tt }; some = lit< tt }))
 
 sum_is : (t : Bool) → IsName 5 (sum_name t)
 sum_is true = (record { letters = record { all = refl; few = lit≤ tt }; some = lit< tt })
@@ -86,7 +112,8 @@ two_fine w a b n h k =
 
 three_fine : (w : List ℕ) (a b c : ℕ) → IsName 5 w → a < 16 → b < 16 → c < 16 → Fine 61 (three_pieces w a b c)
 three_fine w a b c n h k l =
-    wider (lit≤ tt) (name_fine n (after_register a h tt (after_comma (after_register b k tt (after_comma (after_register c l tt
+    wider (lit≤ tt)
+    (name_fine n (after_register a h tt (after_comma (after_register b k tt (after_comma (after_register c l tt
     done))))))
 
 number_fine : (w : List ℕ) (a n : ℕ) → IsName 5 w → a < 16 → Fine 61 (number_pieces w a n)
@@ -94,7 +121,8 @@ number_fine w a n i h = wider (lit≤ tt) (name_fine i (after_register a h tt (a
 
 two_number_fine : (w : List ℕ) (a b n : ℕ) → IsName 5 w → a < 16 → b < 16 → Fine 61 (two_number_pieces w a b n)
 two_number_fine w a b n i h k =
-    wider (lit≤ tt) (name_fine i (after_register a h tt (after_comma (after_register b k tt (after_comma (immediate_fine n tt
+    wider (lit≤ tt)
+    (name_fine i (after_register a h tt (after_comma (after_register b k tt (after_comma (immediate_fine n tt
     done))))))
 
 sum_fine : (i t : Bool) (x rs rd : ℕ) → x < 16 → rs < 16 → rd < 16 → Fine 61 (sum_pieces i t x rs rd)
@@ -108,17 +136,21 @@ high_small false n h = omega (arith, h)
 high_by : (op : ℕ) (t h1 h2 : Bool) (rs rd : ℕ) → rs < 8 → rd < 8
     → Fine 61 (cond t (Name (codes "bx") ∷ register (high_register h2 rs) ∷ []) (two_pieces (high_name op)
     (high_register h1 rd) (high_register h2 rs)))
-high_by op true h1 h2 rs rd h k = wider (lit≤ tt) (name_fine (record { letters = record { all = refl; few = lit≤ tt }; some = lit< tt }) (after_register _ (high_small h2 rs h) tt done))
+high_by op true h1 h2 rs rd h k =
+    wider (lit≤ tt) (name_fine (record { letters = record { all = refl; few = lit≤ tt }; some = lit< tt })
+    (after_register _ (high_small h2 rs h) tt done))
 high_by op false h1 h2 rs rd h k = two_fine _ _ _ (high_is op) (high_small h1 rd k) (high_small h2 rs h)
 
 by_register_fine : (w : List ℕ) (a b c : ℕ) → IsName 5 w → a < 16 → b < 16 → c < 16 → Fine 61 (by_register w a b c)
 by_register_fine w a b c n h k l =
-    wider (lit≤ tt) (name_fine n (after_register a h tt (after_comma (after_mark 91 refl (after_register b k tt (after_comma
+    wider (lit≤ tt)
+    (name_fine n (after_register a h tt (after_comma (after_mark 91 refl (after_register b k tt (after_comma
     (after_register c l tt (after_mark 93 refl done))))))))
 
 by_number_fine : (w : List ℕ) (a b n : ℕ) → IsName 5 w → a < 16 → b < 16 → Fine 61 (by_number w a b n)
 by_number_fine w a b n i h k =
-    wider (lit≤ tt) (name_fine i (after_register a h tt (after_comma (after_mark 91 refl (after_register b k tt (after_comma
+    wider (lit≤ tt)
+    (name_fine i (after_register a h tt (after_comma (after_mark 91 refl (after_register b k tt (after_comma
     (immediate_fine n tt (after_mark 93 refl done))))))))
 
 -- a register that isn't in a list is passed over
@@ -153,13 +185,34 @@ gap_fine list h =
 
 low_gap : (list : ℕ) → list < 256 → HasGap list
 low_gap list h =
-    record { r8 = omega arith; r9 = omega arith; r10 = omega arith; r11 = omega arith; r12 = omega arith; r13 = omega arith }
+    record {
+      r8 = omega arith;
+      r9 = omega arith;
+      r10 = omega arith;
+      r11 = omega arith;
+      r12 = omega arith;
+      r13 = omega arith;
+    }
 
 stack_gap : (l r : Bool) (list : ℕ) → list < 256 → HasGap (stack_list l r list)
 stack_gap true true list h =
-    record { r8 = omega arith; r9 = omega arith; r10 = omega arith; r11 = omega arith; r12 = omega arith; r13 = omega arith }
+    record {
+      r8 = omega arith;
+      r9 = omega arith;
+      r10 = omega arith;
+      r11 = omega arith;
+      r12 = omega arith;
+      r13 = omega arith;
+    }
 stack_gap false true list h =
-    record { r8 = omega arith; r9 = omega arith; r10 = omega arith; r11 = omega arith; r12 = omega arith; r13 = omega arith }
+    record {
+      r8 = omega arith;
+      r9 = omega arith;
+      r10 = omega arith;
+      r11 = omega arith;
+      r12 = omega arith;
+      r13 = omega arith;
+    }
 stack_gap l false list h = low_gap list h
 
 list_fine : (list : ℕ) → HasGap list → Fine 52 (braces list)
@@ -198,7 +251,8 @@ unfolding thumb_pieces
 thumb_fine at (operation.Format1 op o5 rs rd) h =
     two_number_fine _ rd rs _ (shift_is op) (omega (arith, h.registers.1.0)) (omega (arith, h.registers.0))
 thumb_fine at (operation.Format2 true t x3 rs rd) h =
-    sum_fine true t x3 rs rd (omega (arith, h.immediates.0)) (omega (arith, h.registers.0)) (omega (arith, h.registers.1.0))
+    sum_fine true t x3 rs rd (omega (arith, h.immediates.0)) (omega (arith, h.registers.0))
+    (omega (arith, h.registers.1.0))
 thumb_fine at (operation.Format2 false t x3 rs rd) h =
     sum_fine false t x3 rs rd (omega (arith, h.registers.0)) (omega (arith, h.registers.1.0))
     (omega (arith, h.registers.1.1.0))
@@ -206,7 +260,9 @@ thumb_fine at (operation.Format3 op rd n8) h = number_fine _ rd n8 (number_is op
 thumb_fine at (operation.Format4 op rs rd) h =
     two_fine _ rd rs (two_register_is op) (omega (arith, h.registers.1.0)) (omega (arith, h.registers.0))
 thumb_fine at (operation.Format5 op h1 h2 rs rd) h = high_by op (op == 3) h1 h2 rs rd h.registers.0 h.registers.1.0
-thumb_fine at (operation.Format6 rd n8) h = by_number_fine _ rd 15 _ (record { letters = record { all = refl; few = lit≤ tt }; some = lit< tt }) (omega (arith, h.registers.0)) (lit< tt)
+thumb_fine at (operation.Format6 rd n8) h =
+    by_number_fine _ rd 15 _ (record { letters = record { all = refl; few = lit≤ tt }; some = lit< tt })
+    (omega (arith, h.registers.0)) (lit< tt)
 thumb_fine at (operation.Format7 l b ro rb rd) h =
     by_register_fine _ rd rb ro (byte_is l b) (omega (arith, h.registers.1.1.0)) (omega (arith, h.registers.1.0))
     (omega (arith, h.registers.0))
@@ -217,17 +273,22 @@ thumb_fine at (operation.Format9 b l o5 rb rd) h =
     by_number_fine _ rd rb _ (byte_is l b) (omega (arith, h.registers.1.0)) (omega (arith, h.registers.0))
 thumb_fine at (operation.Format10 l o5 rb rd) h =
     by_number_fine _ rd rb _ (half_is l) (omega (arith, h.registers.1.0)) (omega (arith, h.registers.0))
-thumb_fine at (operation.Format11 l rd n8) h = by_number_fine _ rd 13 _ (load_is l) (omega (arith, h.registers.0)) (lit< tt)
+thumb_fine at (operation.Format11 l rd n8) h =
+    by_number_fine _ rd 13 _ (load_is l) (omega (arith, h.registers.0)) (lit< tt)
 thumb_fine at (operation.Format12 p rd n8) h =
-    two_number_fine _ rd _ _ (record { letters = record { all = refl; few = lit≤ tt }; some = lit< tt }) (omega (arith, h.registers.0)) (base_small p)
+    two_number_fine _ rd _ _ (record { letters = record { all = refl; few = lit≤ tt }; some = lit< tt })
+    (omega (arith, h.registers.0)) (base_small p)
 thumb_fine at (operation.Format13 s n7) h = number_fine _ 13 _ (sum_is s) (lit< tt)
 thumb_fine at (operation.Format14 l r list8) h =
     wider (lit≤ tt) (name_fine (stack_is l) (list_fine _ (stack_gap l r list8 h.immediates.0)))
 thumb_fine at (operation.Format15 l rb list8) h =
     block_fine (block_name l) rb list8 (block_is l) (omega (arith, h.registers.0)) h.immediates.0
 thumb_fine at (operation.Format16 c n8) h = branch_fine _ _ (branch_is c)
-thumb_fine at (operation.Format17 n8) h = wider (lit≤ tt) (name_fine (record { letters = record { all = refl; few = lit≤ tt }; some = lit< tt }) (immediate_fine n8 tt done))
-thumb_fine at (operation.Format18 n11) h = branch_fine _ _ (record { letters = record { all = refl; few = lit≤ tt }; some = lit< tt })
+thumb_fine at (operation.Format17 n8) h =
+    wider (lit≤ tt) (name_fine (record { letters = record { all = refl; few = lit≤ tt }; some = lit< tt })
+    (immediate_fine n8 tt done))
+thumb_fine at (operation.Format18 n11) h =
+    branch_fine _ _ (record { letters = record { all = refl; few = lit≤ tt }; some = lit< tt })
 thumb_fine at (operation.Format19 second n11) h = wider (lit≤ tt) done
 
 pub call_fine : (at first second : ℕ) → Fine 61 (call_pieces at first second)

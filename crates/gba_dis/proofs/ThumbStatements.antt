@@ -79,7 +79,8 @@ small_32 : (n : ℕ) → n < 32 → or_32 n < 2 ^ 32
 small_32 n h = small_by n (n == 0) h
 
 shift_said : (op o5 rs rd : ℕ) → o5 < 32 → rs < 8 → rd < 8 → op < 3
-    → Said (Format1 op o5 rs rd) (Word (shift_name op) ∷ reg rd ∷ Mark 44 ∷ reg rs ∷ Mark 44 ∷ Mark 35 ∷ num (shift_amount op o5) ∷ [])
+    → Said (Format1 op o5 rs rd) (Word (shift_name op) ∷ reg rd ∷ Mark 44 ∷ reg rs ∷ Mark 44 ∷ Mark 35
+    ∷ num (shift_amount op o5) ∷ [])
 unfolding directive_of thumb_statement thumb_name other_of form_of shift_form fixed_shift
 shift_said zero o5 rs rd few h k op = record {
   word = codes "lsl";
@@ -93,20 +94,23 @@ shift_said (suc zero) o5 rs rd few h k op = record {
   rest = reg rd ∷ Mark 44 ∷ reg rs ∷ Mark 44 ∷ Mark 35 ∷ num (or_32 o5) ∷ [];
   split = refl;
   none = refl;
-  said = rw (low_read rd _ k, next_low_read rs _ h, immediate_read (or_32 o5) _ (small_32 o5 few), amount_32 o5 few) refl;
+  said =
+      rw (low_read rd _ k, next_low_read rs _ h, immediate_read (or_32 o5) _ (small_32 o5 few), amount_32 o5 few) refl;
 }
 shift_said (suc (suc zero)) o5 rs rd few h k op = record {
   word = codes "asr";
   rest = reg rd ∷ Mark 44 ∷ reg rs ∷ Mark 44 ∷ Mark 35 ∷ num (or_32 o5) ∷ [];
   split = refl;
   none = refl;
-  said = rw (low_read rd _ k, next_low_read rs _ h, immediate_read (or_32 o5) _ (small_32 o5 few), amount_32 o5 few) refl;
+  said =
+      rw (low_read rd _ k, next_low_read rs _ h, immediate_read (or_32 o5) _ (small_32 o5 few), amount_32 o5 few) refl;
 }
 shift_said (suc (suc (suc n))) o5 rs rd few h k op = absurd (omega arith)
 
 sum_said : (i down : Bool) (x rs rd : ℕ) → x < 8 → rs < 8 → rd < 8
     → Said (Format2 i down x rs rd) (tokens_of (sum_pieces i down x rs rd))
-unfolding directive_of thumb_statement thumb_name other_of form_of add_form add_register add_number subtract_form subtract_register subtract_number three_register_form
+unfolding directive_of thumb_statement thumb_name other_of form_of add_form add_register add_number subtract_form
+    subtract_register subtract_number three_register_form
 sum_said true false x rs rd l h k =
     let a : rd < 16 = omega arith in
     let b : rs < 16 = omega arith in
@@ -117,7 +121,9 @@ sum_said true false x rs rd l h k =
       rest = reg rd ∷ Mark 44 ∷ reg rs ∷ Mark 44 ∷ Mark 35 ∷ num x ∷ [];
       split = refl;
       none = refl;
-      said = rw (register_read rd _ a, register_read rs _ b, lt-ltb _ _ k, number_read x _ m, lt-ltb _ _ h, scaled_1 x n) refl;
+      said =
+          rw (register_read rd _ a, register_read rs _ b, lt-ltb _ _ k, number_read x _ m, lt-ltb _ _ h, scaled_1 x n)
+          refl;
     }
 sum_said true true x rs rd l h k =
     let a : rd < 16 = omega arith in
@@ -129,7 +135,9 @@ sum_said true true x rs rd l h k =
       rest = reg rd ∷ Mark 44 ∷ reg rs ∷ Mark 44 ∷ Mark 35 ∷ num x ∷ [];
       split = refl;
       none = refl;
-      said = rw (register_read rd _ a, register_read rs _ b, lt-ltb _ _ k, lt-ltb _ _ h, number_read x _ m, scaled_1 x n) refl;
+      said =
+          rw (register_read rd _ a, register_read rs _ b, lt-ltb _ _ k, lt-ltb _ _ h, number_read x _ m, scaled_1 x n)
+          refl;
     }
 sum_said false false x rs rd l h k =
     let a : rd < 16 = omega arith in
@@ -164,7 +172,8 @@ no_15 n h = grind (arith, nat_tests)
 
 number_said : (op rd n : ℕ) → rd < 8 → n < 256 → op < 4
     → Said (Format3 op rd n) (Word (number_name op) ∷ reg rd ∷ Mark 44 ∷ Mark 35 ∷ num n ∷ [])
-unfolding directive_of thumb_statement thumb_name other_of form_of move_form compare_form add_form subtract_form number_form
+unfolding directive_of thumb_statement thumb_name other_of form_of move_form compare_form add_form subtract_form
+    number_form
 number_said zero rd n h k op =
     let a : rd < 16 = omega arith in
     let s : n < 2 ^ 16 = omega arith in
@@ -218,7 +227,8 @@ two_said number rs rd h k = rw (low_read rd _ k, next_low_read rs _ h) refl
 
 operation_said : (op rs rd : ℕ) → rs < 8 → rd < 8 → op < 16
     → Said (Format4 op rs rd) (Word (two_register_name op) ∷ reg rd ∷ Mark 44 ∷ reg rs ∷ [])
-unfolding directive_of thumb_statement thumb_name other_of access_of two_register_of form_of shift_form compare_form compare_register
+unfolding directive_of thumb_statement thumb_name other_of access_of two_register_of form_of shift_form compare_form
+    compare_register
 operation_said zero rs rd h k op = record {
   word = codes "and";
   rest = reg rd ∷ Mark 44 ∷ reg rs ∷ [];
@@ -294,7 +304,9 @@ operation_said (suc (suc (suc (suc (suc (suc (suc (suc (suc (suc zero)))))))))) 
   rest = reg rd ∷ Mark 44 ∷ reg rs ∷ [];
   split = refl;
   none = refl;
-  said = rw (register_read rd _ (omega (arith, k)), register_read rs _ (omega (arith, h)), lt-ltb _ _ k, lt-ltb _ _ h) refl;
+  said =
+      rw (register_read rd _ (omega (arith, k)), register_read rs _ (omega (arith, h)), lt-ltb _ _ k, lt-ltb _ _ h)
+      refl;
 }
 operation_said (suc (suc (suc (suc (suc (suc (suc (suc (suc (suc (suc zero))))))))))) rs rd h k op = record {
   word = codes "cmn";
@@ -310,28 +322,32 @@ operation_said (suc (suc (suc (suc (suc (suc (suc (suc (suc (suc (suc (suc zero)
   none = refl;
   said = two_said 12 rs rd h k;
 }
-operation_said (suc (suc (suc (suc (suc (suc (suc (suc (suc (suc (suc (suc (suc zero))))))))))))) rs rd h k op = record {
-  word = codes "mul";
-  rest = reg rd ∷ Mark 44 ∷ reg rs ∷ [];
-  split = refl;
-  none = refl;
-  said = two_said 13 rs rd h k;
-}
-operation_said (suc (suc (suc (suc (suc (suc (suc (suc (suc (suc (suc (suc (suc (suc zero)))))))))))))) rs rd h k op = record {
-  word = codes "bic";
-  rest = reg rd ∷ Mark 44 ∷ reg rs ∷ [];
-  split = refl;
-  none = refl;
-  said = two_said 14 rs rd h k;
-}
-operation_said (suc (suc (suc (suc (suc (suc (suc (suc (suc (suc (suc (suc (suc (suc (suc zero))))))))))))))) rs rd h k op = record {
-  word = codes "mvn";
-  rest = reg rd ∷ Mark 44 ∷ reg rs ∷ [];
-  split = refl;
-  none = refl;
-  said = two_said 15 rs rd h k;
-}
-operation_said (suc (suc (suc (suc (suc (suc (suc (suc (suc (suc (suc (suc (suc (suc (suc (suc op)))))))))))))))) rs rd h k less = absurd (omega arith)
+operation_said (suc (suc (suc (suc (suc (suc (suc (suc (suc (suc (suc (suc (suc zero))))))))))))) rs rd h k op =
+    record {
+      word = codes "mul";
+      rest = reg rd ∷ Mark 44 ∷ reg rs ∷ [];
+      split = refl;
+      none = refl;
+      said = two_said 13 rs rd h k;
+    }
+operation_said (suc (suc (suc (suc (suc (suc (suc (suc (suc (suc (suc (suc (suc (suc zero)))))))))))))) rs rd h k op =
+    record {
+      word = codes "bic";
+      rest = reg rd ∷ Mark 44 ∷ reg rs ∷ [];
+      split = refl;
+      none = refl;
+      said = two_said 14 rs rd h k;
+    }
+operation_said (suc (suc (suc (suc (suc (suc (suc (suc (suc (suc (suc (suc (suc (suc (suc zero))))))))))))))) rs rd h k
+    op = record {
+      word = codes "mvn";
+      rest = reg rd ∷ Mark 44 ∷ reg rs ∷ [];
+      split = refl;
+      none = refl;
+      said = two_said 15 rs rd h k;
+    }
+operation_said (suc (suc (suc (suc (suc (suc (suc (suc (suc (suc (suc (suc (suc (suc (suc (suc op)))))))))))))))) rs rd
+    h k less = absurd (omega arith)
 
 top : (t : Bool) (n : ℕ) → n < 8 → nat_le 8 (high_register t n) ≡ t
 top true n h = le-leb _ _ (omega (arith, h))
@@ -344,8 +360,8 @@ rest_of false n h = omega (arith, h)
 high_back : (op : ℕ) (h1 h2 : Bool) (rs rd : ℕ) → rs < 8 → rd < 8
     → high op (high_register h1 rd) (high_register h2 rs) ≡ Format5 op h1 h2 rs rd
 high_back op h1 h2 rs rd h k =
-    same (nat_le 8 (high_register h1 rd)) (nat_le 8 (high_register h2 rs)) (high_register h2 rs % 8) (high_register h1 rd % 8)
-    (top h1 rd k) (top h2 rs h) (rest_of h2 rs h) (rest_of h1 rd k)
+    same (nat_le 8 (high_register h1 rd)) (nat_le 8 (high_register h2 rs)) (high_register h2 rs % 8)
+    (high_register h1 rd % 8) (top h1 rd k) (top h2 rs h) (rest_of h2 rs h) (rest_of h1 rd k)
   where
     same : (a b : Bool) (c d : ℕ) → a ≡ h1 → b ≡ h2 → c ≡ rs → d ≡ rd → Format5 op a b c d ≡ Format5 op h1 h2 rs rd
     same a b c d e f g i = cc
@@ -366,27 +382,41 @@ one_high false false rs rd h k e = absurd cc
 
 high_said : (op : ℕ) (h1 h2 : Bool) (rs rd : ℕ) → rs < 8 → rd < 8 → op < 4 → is_high_told op h1 h2 rd ≡ true
     → Said (Format5 op h1 h2 rs rd) (tokens_of (high_pieces op h1 h2 rs rd))
-unfolding directive_of thumb_statement thumb_name other_of form_of add_form add_register compare_form compare_register move_form move_register exchange_form
+unfolding directive_of thumb_statement thumb_name other_of form_of add_form add_register compare_form compare_register
+    move_form move_register exchange_form
 high_said zero h1 h2 rs rd h k op told = record {
   word = codes "add";
   rest = reg (high_register h1 rd) ∷ Mark 44 ∷ reg (high_register h2 rs) ∷ [];
   split = refl;
   none = refl;
-  said = rw (register_read (high_register h1 rd) _ (high_small h1 rd k), register_read (high_register h2 rs) _ (high_small h2 rs h)) (ap (λ o. Ok (Operation (Some o))) (high_back 0 h1 h2 rs rd h k));
+  said =
+      rw (
+        register_read (high_register h1 rd) _ (high_small h1 rd k),
+        register_read (high_register h2 rs) _ (high_small h2 rs h),
+      ) (ap (λ o. Ok (Operation (Some o))) (high_back 0 h1 h2 rs rd h k));
 }
 high_said (suc zero) h1 h2 rs rd h k op told = record {
   word = codes "cmp";
   rest = reg (high_register h1 rd) ∷ Mark 44 ∷ reg (high_register h2 rs) ∷ [];
   split = refl;
   none = refl;
-  said = rw (register_read (high_register h1 rd) _ (high_small h1 rd k), register_read (high_register h2 rs) _ (high_small h2 rs h), one_high h1 h2 rs rd h k told) (ap (λ o. Ok (Operation (Some o))) (high_back 1 h1 h2 rs rd h k));
+  said =
+      rw (
+        register_read (high_register h1 rd) _ (high_small h1 rd k),
+        register_read (high_register h2 rs) _ (high_small h2 rs h),
+        one_high h1 h2 rs rd h k told,
+      ) (ap (λ o. Ok (Operation (Some o))) (high_back 1 h1 h2 rs rd h k));
 }
 high_said (suc (suc zero)) h1 h2 rs rd h k op told = record {
   word = codes "mov";
   rest = reg (high_register h1 rd) ∷ Mark 44 ∷ reg (high_register h2 rs) ∷ [];
   split = refl;
   none = refl;
-  said = rw (register_read (high_register h1 rd) _ (high_small h1 rd k), register_read (high_register h2 rs) _ (high_small h2 rs h)) (ap (λ o. Ok (Operation (Some o))) (high_back 2 h1 h2 rs rd h k));
+  said =
+      rw (
+        register_read (high_register h1 rd) _ (high_small h1 rd k),
+        register_read (high_register h2 rs) _ (high_small h2 rs h),
+      ) (ap (λ o. Ok (Operation (Some o))) (high_back 2 h1 h2 rs rd h k));
 }
 high_said (suc (suc (suc zero))) true h2 rs rd h k op told = absurd cc
 high_said (suc (suc (suc zero))) false h2 rs rd h k op told =
@@ -396,7 +426,9 @@ high_said (suc (suc (suc zero))) false h2 rs rd h k op told =
       rest = reg (high_register h2 rs) ∷ [];
       split = refl;
       none = refl;
-      said = rw (register_read (high_register h2 rs) _ (high_small h2 rs h), none) (ap (λ o. Ok (Operation (Some o))) (high_back 3 false h2 rs 0 h (lit< tt)));
+      said =
+          rw (register_read (high_register h2 rs) _ (high_small h2 rs h), none)
+          (ap (λ o. Ok (Operation (Some o))) (high_back 3 false h2 rs 0 h (lit< tt)));
     }
 high_said (suc (suc (suc (suc op)))) h1 h2 rs rd h k less told = absurd (omega arith)
 
@@ -413,7 +445,8 @@ counter_said rd n h k =
       said = rw (low_read rd _ h, register_read 15 _ (lit< tt), number_read (4 * n) _ m, scaled_4 n s) refl;
     }
 
-stack_said : (l : Bool) (rd n : ℕ) → rd < 8 → n < 256 → Said (Format11 l rd n) (tokens_of (by_number (load_name l) rd 13 (4 * n)))
+stack_said : (l : Bool) (rd n : ℕ) → rd < 8 → n < 256
+    → Said (Format11 l rd n) (tokens_of (by_number (load_name l) rd 13 (4 * n)))
 unfolding directive_of thumb_statement thumb_name other_of access_of form_of transfer_form number_access register_access
 stack_said true rd n h k =
     let s : n < 2 ^ 16 = omega arith in
@@ -436,7 +469,8 @@ stack_said false rd n h k =
       said = rw (low_read rd _ h, register_read 13 _ (lit< tt), number_read (4 * n) _ m, scaled_4 n s) refl;
     }
 
-register_said : (l b : Bool) (ro rb rd : ℕ) → ro < 8 → rb < 8 → rd < 8 → Said (Format7 l b ro rb rd) (tokens_of (by_register (byte_name l b) rd rb ro))
+register_said : (l b : Bool) (ro rb rd : ℕ) → ro < 8 → rb < 8 → rd < 8
+    → Said (Format7 l b ro rb rd) (tokens_of (by_register (byte_name l b) rd rb ro))
 unfolding directive_of thumb_statement thumb_name other_of access_of form_of transfer_form number_access register_access
 register_said true true ro rb rd h k i =
     let b : rb < 16 = omega arith in
@@ -475,7 +509,8 @@ register_said false false ro rb rd h k i =
       said = rw (low_read rd _ i, register_read rb _ b, lt-ltb _ _ k, low_read ro _ h) refl;
     }
 
-signed_said : (hh s : Bool) (ro rb rd : ℕ) → ro < 8 → rb < 8 → rd < 8 → Said (Format8 hh s ro rb rd) (tokens_of (by_register (signed_name hh s) rd rb ro))
+signed_said : (hh s : Bool) (ro rb rd : ℕ) → ro < 8 → rb < 8 → rd < 8
+    → Said (Format8 hh s ro rb rd) (tokens_of (by_register (signed_name hh s) rd rb ro))
 unfolding directive_of thumb_statement thumb_name other_of access_of form_of transfer_form number_access register_access
 signed_said true true ro rb rd h k i =
     let b : rb < 16 = omega arith in
@@ -514,7 +549,8 @@ signed_said false false ro rb rd h k i =
       said = rw (low_read rd _ i, register_read rb _ b, lt-ltb _ _ k, low_read ro _ h) refl;
     }
 
-offset_said : (b l : Bool) (n rb rd : ℕ) → n < 32 → rb < 8 → rd < 8 → Said (Format9 b l n rb rd) (tokens_of (by_number (byte_name l b) rd rb (bytes_scaled b n)))
+offset_said : (b l : Bool) (n rb rd : ℕ) → n < 32 → rb < 8 → rd < 8
+    → Said (Format9 b l n rb rd) (tokens_of (by_number (byte_name l b) rd rb (bytes_scaled b n)))
 unfolding directive_of thumb_statement thumb_name other_of access_of form_of transfer_form number_access register_access
 offset_said true true n rb rd h k i =
     let b : rb < 16 = omega arith in
@@ -561,7 +597,8 @@ offset_said false false n rb rd h k i =
       said = rw (low_read rd _ i, register_read rb _ b, number_read (4 * n) _ m, lt-ltb _ _ k, scaled_4 n s) refl;
     }
 
-half_said : (l : Bool) (n rb rd : ℕ) → n < 32 → rb < 8 → rd < 8 → Said (Format10 l n rb rd) (tokens_of (by_number (half_name l) rd rb (2 * n)))
+half_said : (l : Bool) (n rb rd : ℕ) → n < 32 → rb < 8 → rd < 8
+    → Said (Format10 l n rb rd) (tokens_of (by_number (half_name l) rd rb (2 * n)))
 unfolding directive_of thumb_statement thumb_name other_of access_of form_of transfer_form number_access register_access
 half_said true n rb rd h k i =
     let b : rb < 16 = omega arith in
@@ -586,7 +623,8 @@ half_said false n rb rd h k i =
       said = rw (low_read rd _ i, register_read rb _ b, number_read (2 * n) _ m, lt-ltb _ _ k, scaled_2 n s) refl;
     }
 
-address_said : (p : Bool) (rd n : ℕ) → rd < 8 → n < 256 → Said (Format12 p rd n) (tokens_of (two_number_pieces (codes "add") rd (cond p 13 15) (4 * n)))
+address_said : (p : Bool) (rd n : ℕ) → rd < 8 → n < 256
+    → Said (Format12 p rd n) (tokens_of (two_number_pieces (codes "add") rd (cond p 13 15) (4 * n)))
 unfolding directive_of thumb_statement thumb_name other_of form_of add_form add_register add_number
 address_said true rd n h k =
     let a : rd < 16 = omega arith in
@@ -597,7 +635,9 @@ address_said true rd n h k =
       rest = reg rd ∷ Mark 44 ∷ reg 13 ∷ Mark 44 ∷ Mark 35 ∷ num (4 * n) ∷ [];
       split = refl;
       none = refl;
-      said = rw (register_read rd _ a, register_read 13 _ (lit< tt), lt-ltb _ _ h, number_read (4 * n) _ m, scaled_4 n s) refl;
+      said =
+          rw (register_read rd _ a, register_read 13 _ (lit< tt), lt-ltb _ _ h, number_read (4 * n) _ m, scaled_4 n s)
+          refl;
     }
 address_said false rd n h k =
     let a : rd < 16 = omega arith in
@@ -608,10 +648,13 @@ address_said false rd n h k =
       rest = reg rd ∷ Mark 44 ∷ reg 15 ∷ Mark 44 ∷ Mark 35 ∷ num (4 * n) ∷ [];
       split = refl;
       none = refl;
-      said = rw (register_read rd _ a, register_read 15 _ (lit< tt), lt-ltb _ _ h, number_read (4 * n) _ m, scaled_4 n s) refl;
+      said =
+          rw (register_read rd _ a, register_read 15 _ (lit< tt), lt-ltb _ _ h, number_read (4 * n) _ m, scaled_4 n s)
+          refl;
     }
 
-adjust_said : (down : Bool) (n : ℕ) → n < 128 → Said (Format13 down n) (tokens_of (number_pieces (sum_name down) 13 (4 * n)))
+adjust_said : (down : Bool) (n : ℕ) → n < 128
+    → Said (Format13 down n) (tokens_of (number_pieces (sum_name down) 13 (4 * n)))
 unfolding directive_of thumb_statement thumb_name other_of form_of add_form subtract_form adjust_form
 adjust_said false n k =
     let s : n < 2 ^ 16 = omega arith in
@@ -698,7 +741,8 @@ behind : (reach d : ℕ) → 2 ^ 32 - 1 - d < reach → is_within reach d ≡ tr
 behind reach d h = rw (lt-ltb _ _ h) (or_true (nat_lt d reach))
 
 back_128 : (at n : ℕ) (t : Bool) → nat_lt n 128 ≡ t → at ≤ 33554432 → n < 256
-    → halfwords 256 (distance at (cond t ((at + 4 + 2 * n) % 2 ^ 32) ((at + 4 + 2 ^ 32 + 2 * n - 4 * 128) % 2 ^ 32))) ≡ Some n
+    → halfwords 256 (distance at (cond t ((at + 4 + 2 * n) % 2 ^ 32) ((at + 4 + 2 ^ 32 + 2 * n - 4 * 128) % 2 ^ 32)))
+    ≡ Some n
 back_128 at n true e a h =
     let low : n < 128 = grind (arith, nat_tests) in
     let d : distance at ((at + 4 + 2 * n) % 2 ^ 32) ≡ 2 * n = omega arith in
@@ -706,10 +750,12 @@ back_128 at n true e a h =
 back_128 at n false e a h =
     let high : 128 ≤ n = grind (arith, nat_tests) in
     let d : distance at ((at + 4 + 2 ^ 32 + 2 * n - 4 * 128) % 2 ^ 32) ≡ 2 ^ 32 - 512 + 2 * n = omega arith in
-    rw d (halves_by 256 (2 ^ 32 - 512 + 2 * n) n (omega arith) (behind 256 (2 ^ 32 - 512 + 2 * n) (omega arith)) (omega arith))
+    rw d (halves_by 256 (2 ^ 32 - 512 + 2 * n) n (omega arith) (behind 256 (2 ^ 32 - 512 + 2 * n) (omega arith))
+    (omega arith))
 
 back_1024 : (at n : ℕ) (t : Bool) → nat_lt n 1024 ≡ t → at ≤ 33554432 → n < 2048
-    → halfwords 2048 (distance at (cond t ((at + 4 + 2 * n) % 2 ^ 32) ((at + 4 + 2 ^ 32 + 2 * n - 4 * 1024) % 2 ^ 32))) ≡ Some n
+    → halfwords 2048 (distance at (cond t ((at + 4 + 2 * n) % 2 ^ 32) ((at + 4 + 2 ^ 32 + 2 * n - 4 * 1024) % 2 ^ 32)))
+    ≡ Some n
 back_1024 at n true e a h =
     let low : n < 1024 = grind (arith, nat_tests) in
     let d : distance at ((at + 4 + 2 * n) % 2 ^ 32) ≡ 2 * n = omega arith in
@@ -717,10 +763,12 @@ back_1024 at n true e a h =
 back_1024 at n false e a h =
     let high : 1024 ≤ n = grind (arith, nat_tests) in
     let d : distance at ((at + 4 + 2 ^ 32 + 2 * n - 4 * 1024) % 2 ^ 32) ≡ 2 ^ 32 - 4096 + 2 * n = omega arith in
-    rw d (halves_by 2048 (2 ^ 32 - 4096 + 2 * n) n (omega arith) (behind 2048 (2 ^ 32 - 4096 + 2 * n) (omega arith)) (omega arith))
+    rw d (halves_by 2048 (2 ^ 32 - 4096 + 2 * n) n (omega arith) (behind 2048 (2 ^ 32 - 4096 + 2 * n) (omega arith))
+    (omega arith))
 
 back_call : (at n : ℕ) (t : Bool) → nat_lt n 2097152 ≡ t → at ≤ 33554432 → n < 4194304
-    → halfwords 4194304 (distance at (cond t ((at + 4 + 2 * n) % 2 ^ 32) ((at + 4 + 2 ^ 32 + 2 * n - 4 * 2097152) % 2 ^ 32)))
+    → halfwords 4194304
+    (distance at (cond t ((at + 4 + 2 * n) % 2 ^ 32) ((at + 4 + 2 ^ 32 + 2 * n - 4 * 2097152) % 2 ^ 32)))
     ≡ Some n
 back_call at n true e a h =
     let low : n < 2097152 = grind (arith, nat_tests) in
@@ -729,21 +777,24 @@ back_call at n true e a h =
 back_call at n false e a h =
     let high : 2097152 ≤ n = grind (arith, nat_tests) in
     let d : distance at ((at + 4 + 2 ^ 32 + 2 * n - 4 * 2097152) % 2 ^ 32) ≡ 2 ^ 32 - 8388608 + 2 * n = omega arith in
-    rw d (halves_by 4194304 (2 ^ 32 - 8388608 + 2 * n) n (omega arith) (behind 4194304 (2 ^ 32 - 8388608 + 2 * n) (omega arith))
-    (omega arith))
+    rw d (halves_by 4194304 (2 ^ 32 - 8388608 + 2 * n) n (omega arith)
+    (behind 4194304 (2 ^ 32 - 8388608 + 2 * n) (omega arith)) (omega arith))
 
-target_by : (at n reach : ℕ) (t : Bool) → cond t ((at + 4 + 2 * n) % 2 ^ 32) ((at + 4 + 2 ^ 32 + 2 * n - 4 * reach) % 2 ^ 32) < 2 ^ 32
+target_by : (at n reach : ℕ) (t : Bool)
+    → cond t ((at + 4 + 2 * n) % 2 ^ 32) ((at + 4 + 2 ^ 32 + 2 * n - 4 * reach) % 2 ^ 32) < 2 ^ 32
 target_by at n reach true = mod_below (at + 4 + 2 * n) (2 ^ 32) (lit< tt)
 target_by at n reach false = mod_below (at + 4 + 2 ^ 32 + 2 * n - 4 * reach) (2 ^ 32) (lit< tt)
 
 target_small : (reach at n : ℕ) → branch_target reach at n < 2 ^ 32
 target_small reach at n = target_by at n reach (nat_lt n reach)
 
-jump_said : (target : ℕ) → target < 2 ^ 32 → thumb_statement (codes "b") (Word (digits_text 8 target) ∷ []) ≡ Ok (Branch (Address target))
+jump_said : (target : ℕ) → target < 2 ^ 32
+    → thumb_statement (codes "b") (Word (digits_text 8 target) ∷ []) ≡ Ok (Branch (Address target))
 unfolding thumb_statement thumb_name other_of form_of branch_form
 jump_said target h = rw (address_read target _ h) refl
 
-bl_said : (target : ℕ) → target < 2 ^ 32 → thumb_statement (codes "bl") (Word (digits_text 8 target) ∷ []) ≡ Ok (Call (Address target))
+bl_said : (target : ℕ) → target < 2 ^ 32
+    → thumb_statement (codes "bl") (Word (digits_text 8 target) ∷ []) ≡ Ok (Call (Address target))
 unfolding thumb_statement thumb_name other_of form_of call_form
 bl_said target h = rw (address_read target _ h) refl
 
@@ -759,19 +810,29 @@ branch_said (suc zero) target h k = record { none = refl; said = rw (address_rea
 branch_said (suc (suc zero)) target h k = record { none = refl; said = rw (address_read target _ k) refl }
 branch_said (suc (suc (suc zero))) target h k = record { none = refl; said = rw (address_read target _ k) refl }
 branch_said (suc (suc (suc (suc zero)))) target h k = record { none = refl; said = rw (address_read target _ k) refl }
-branch_said (suc (suc (suc (suc (suc zero))))) target h k = record { none = refl; said = rw (address_read target _ k) refl }
-branch_said (suc (suc (suc (suc (suc (suc zero)))))) target h k = record { none = refl; said = rw (address_read target _ k) refl }
-branch_said (suc (suc (suc (suc (suc (suc (suc zero))))))) target h k = record { none = refl; said = rw (address_read target _ k) refl }
-branch_said (suc (suc (suc (suc (suc (suc (suc (suc zero)))))))) target h k = record { none = refl; said = rw (address_read target _ k) refl }
-branch_said (suc (suc (suc (suc (suc (suc (suc (suc (suc zero))))))))) target h k = record { none = refl; said = rw (address_read target _ k) refl }
-branch_said (suc (suc (suc (suc (suc (suc (suc (suc (suc (suc zero)))))))))) target h k = record { none = refl; said = rw (address_read target _ k) refl }
-branch_said (suc (suc (suc (suc (suc (suc (suc (suc (suc (suc (suc zero))))))))))) target h k = record { none = refl; said = rw (address_read target _ k) refl }
-branch_said (suc (suc (suc (suc (suc (suc (suc (suc (suc (suc (suc (suc zero)))))))))))) target h k = record { none = refl; said = rw (address_read target _ k) refl }
-branch_said (suc (suc (suc (suc (suc (suc (suc (suc (suc (suc (suc (suc (suc zero))))))))))))) target h k = record { none = refl; said = rw (address_read target _ k) refl }
-branch_said (suc (suc (suc (suc (suc (suc (suc (suc (suc (suc (suc (suc (suc (suc c)))))))))))))) target h k = absurd (omega arith)
+branch_said (suc (suc (suc (suc (suc zero))))) target h k =
+    record { none = refl; said = rw (address_read target _ k) refl }
+branch_said (suc (suc (suc (suc (suc (suc zero)))))) target h k =
+    record { none = refl; said = rw (address_read target _ k) refl }
+branch_said (suc (suc (suc (suc (suc (suc (suc zero))))))) target h k =
+    record { none = refl; said = rw (address_read target _ k) refl }
+branch_said (suc (suc (suc (suc (suc (suc (suc (suc zero)))))))) target h k =
+    record { none = refl; said = rw (address_read target _ k) refl }
+branch_said (suc (suc (suc (suc (suc (suc (suc (suc (suc zero))))))))) target h k =
+    record { none = refl; said = rw (address_read target _ k) refl }
+branch_said (suc (suc (suc (suc (suc (suc (suc (suc (suc (suc zero)))))))))) target h k =
+    record { none = refl; said = rw (address_read target _ k) refl }
+branch_said (suc (suc (suc (suc (suc (suc (suc (suc (suc (suc (suc zero))))))))))) target h k =
+    record { none = refl; said = rw (address_read target _ k) refl }
+branch_said (suc (suc (suc (suc (suc (suc (suc (suc (suc (suc (suc (suc zero)))))))))))) target h k =
+    record { none = refl; said = rw (address_read target _ k) refl }
+branch_said (suc (suc (suc (suc (suc (suc (suc (suc (suc (suc (suc (suc (suc zero))))))))))))) target h k =
+    record { none = refl; said = rw (address_read target _ k) refl }
+branch_said (suc (suc (suc (suc (suc (suc (suc (suc (suc (suc (suc (suc (suc (suc c)))))))))))))) target h k =
+    absurd (omega arith)
 
-operation_line : (at half : ℕ) (op : ThumbOp) (tokens : List Token) → Said op tokens → encoding op ≡ Ok half → at % 2 ≡ 0
-    → at + 2 ≤ 33554432 → Tells true at tokens (to_le_bytes w16 half)
+operation_line : (at half : ℕ) (op : ThumbOp) (tokens : List Token) → Said op tokens → encoding op ≡ Ok half
+    → at % 2 ≡ 0 → at + 2 ≤ 33554432 → Tells true at tokens (to_le_bytes w16 half)
 unfolding operations_at
 operation_line at half op tokens s e even room =
     rw s.split (thumb_line at 0 half s.word s.rest (Operation (Some op)) op s.none s.said refl refl e refl even room)
@@ -789,8 +850,10 @@ jump_line : (at half n : ℕ) → n < 2048 → encoding (Format18 n) ≡ Ok half
 unfolding operations_at
 jump_line at half n h e even room =
     let target = branch_target 1024 at n in
-    thumb_line at target half (codes "b") (Word (digits_text 8 target) ∷ []) (Branch (Address target)) (Format18 n) none_b
-    (jump_said target (target_small 1024 at n)) refl (rw (back_1024 at n (nat_lt n 1024) refl (omega arith) h) refl) e refl even room
+    thumb_line at target half (codes "b") (Word (digits_text 8 target) ∷ []) (Branch (Address target))
+    (Format18 n) none_b
+    (jump_said target (target_small 1024 at n)) refl (rw (back_1024 at n (nat_lt n 1024) refl (omega arith) h) refl) e
+    refl even room
 
 branch_line : (at half c n : ℕ) → c < 14 → n < 256 → encoding (Format16 c n) ≡ Ok half → at % 2 ≡ 0 → at + 2 ≤ 33554432
     → Tells true at (tokens_of (branch_pieces (branch_name c) (branch_target 128 at n))) (to_le_bytes w16 half)
@@ -798,13 +861,14 @@ unfolding operations_at
 branch_line at half c n k h e even room =
     let target = branch_target 128 at n in
     let s = branch_said c target k (target_small 128 at n) in
-    thumb_line at target half (branch_name c) (Word (digits_text 8 target) ∷ []) (BranchIf c (Address target)) (Format16 c n)
-    s.none s.said refl (rw (back_128 at n (nat_lt n 128) refl (omega arith) h) refl) e refl even room
+    thumb_line at target half (branch_name c) (Word (digits_text 8 target) ∷ []) (BranchIf c (Address target))
+    (Format16 c n) s.none s.said refl (rw (back_128 at n (nat_lt n 128) refl (omega arith) h) refl) e refl even room
 
 -- BL comes to its two halves
 pub call_tells : (at first second n : ℕ) → n < 4194304 → encoding (Format19 false (n / 2048)) ≡ Ok first
     → encoding (Format19 true (n % 2048)) ≡ Ok second → at % 2 ≡ 0 → at + 4 ≤ 33554432
-    → Tells true at (tokens_of (branch_pieces (codes "bl") (branch_target 2097152 at n))) (to_le_bytes w16 first ++ to_le_bytes w16 second)
+    → Tells true at (tokens_of (branch_pieces (codes "bl") (branch_target 2097152 at n)))
+    (to_le_bytes w16 first ++ to_le_bytes w16 second)
 unfolding operations_at
 call_tells at first second n h e f even room =
     let target = branch_target 2097152 at n in
@@ -817,7 +881,8 @@ pub thumb_tells : (at half : ℕ) (op : ThumbOp) → Fits op → is_told op ≡ 
     → at + 2 ≤ 33554432 → Tells true at (tokens_of (thumb_pieces at op)) (to_le_bytes w16 half)
 unfolding thumb_pieces
 thumb_tells at half (Format1 op o5 rs rd) h told e even room =
-    operation_line at half _ _ (shift_said op o5 rs rd h.immediates.1.0 h.registers.0 h.registers.1.0 h.immediates.0) e even room
+    operation_line at half _ _ (shift_said op o5 rs rd h.immediates.1.0 h.registers.0 h.registers.1.0 h.immediates.0) e
+    even room
 thumb_tells at half (Format2 true t x3 rs rd) h told e even room =
     operation_line at half _ _ (sum_said true t x3 rs rd h.immediates.0 h.registers.0 h.registers.1.0) e even room
 thumb_tells at half (Format2 false t x3 rs rd) h told e even room =
@@ -849,6 +914,7 @@ thumb_tells at half (Format14 l r list8) h told e even room =
 thumb_tells at half (Format15 l rb list8) h told e even room =
     operation_line at half _ _ (moved_said l rb list8 h.registers.0 h.immediates.0) e even room
 thumb_tells at half (Format16 c n8) h told e even room = branch_line at half c n8 h.immediates.0 h.offsets.0 e even room
-thumb_tells at half (Format17 n8) h told e even room = operation_line at half _ _ (interrupt_said n8 h.immediates.0) e even room
+thumb_tells at half (Format17 n8) h told e even room =
+    operation_line at half _ _ (interrupt_said n8 h.immediates.0) e even room
 thumb_tells at half (Format18 n11) h told e even room = jump_line at half n11 h.offsets.0 e even room
 thumb_tells at half (Format19 second n11) h told e even room = absurd cc

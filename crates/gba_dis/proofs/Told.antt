@@ -47,8 +47,8 @@ stated thumb at u t =
     (told thumb at (text_of (statement at u)) (tokens_of (statement at u)) (bytes_of u)
     (spelled_says thumb (statement at u) spelled short) (spelled_label (statement at u) spelled short) t))
 
-half_by : (at half : ℕ) (o : Option ThumbOp) → operation half ≡ o → IfSome o Fits → IfSome o (λ op. encoding op ≡ Ok half)
-    → at % 2 ≡ 0 → at + 2 ≤ 33554432
+half_by : (at half : ℕ) (o : Option ThumbOp) → operation half ≡ o → IfSome o Fits
+    → IfSome o (λ op. encoding op ≡ Ok half) → at % 2 ≡ 0 → at + 2 ≤ 33554432
     → IfSome o (λ op. IsTrue (is_told op) → line_pieces true at (Half half) ≡ thumb_pieces at op)
 half_by at half None e fits back even room = tt
 half_by at half (Some op) e fits back even room = λ say.
@@ -81,7 +81,8 @@ call_is at first second h k e f even room =
     let low : n % 2048 ≡ second % 2048 = omega arith in
     call_tells at first second n (omega arith)
     (ap (λ x. encoding (Format19 false x)) high ∙ first_half first (first % 2048) (omega arith) (omega arith))
-    (ap (λ x. encoding (Format19 true x)) low ∙ second_half second (second % 2048) (omega arith) (omega arith)) even room
+    (ap (λ x. encoding (Format19 true x)) low ∙ second_half second (second % 2048) (omega arith) (omega arith))
+    even room
 
 pub calls_told : TellsCalls
 calls_told at first second h k call even room =

@@ -198,8 +198,8 @@ abbrev pub multiply_pieces : Condition → Bool → Bool → ℕ → ℕ → ℕ
 multiply_pieces cond false set rd rn rs rm =
     name (codes "mul") cond (letters_if set (codes "s")) ∷ register rd ∷ Comma ∷ register rm ∷ Comma ∷ register rs ∷ []
 multiply_pieces cond true set rd rn rs rm =
-    name (codes "mla") cond (letters_if set (codes "s")) ∷ register rd ∷ Comma ∷ register rm ∷ Comma ∷ register rs ∷ Comma
-    ∷ register rn ∷ []
+    name (codes "mla") cond (letters_if set (codes "s")) ∷ register rd ∷ Comma ∷ register rm ∷ Comma
+    ∷ register rs ∷ Comma ∷ register rn ∷ []
 
 abbrev pub long_registers : ℕ → ℕ → ℕ → ℕ → List Piece
 long_registers lo hi rm rs = register lo ∷ Comma ∷ register hi ∷ Comma ∷ register rm ∷ Comma ∷ register rs ∷ []
@@ -226,7 +226,8 @@ write_status_pieces cond saved fields source =
 
 abbrev pub compute_pieces : Condition → ComputeOp → Bool → ℕ → ℕ → Operand → List Piece
 compute_pieces cond op set rn rd operand =
-    name (compute_text op) cond (letters_if set (codes "s")) ∷ register rd ∷ Comma ∷ (first_operand op rn ++ second operand)
+    name (compute_text op) cond (letters_if set (codes "s")) ∷ register rd ∷ Comma
+    ∷ (first_operand op rn ++ second operand)
 
 abbrev pub compare_pieces : Condition → CompareOp → ℕ → Operand → List Piece
 compare_pieces cond op rn operand = name (compare_text op) cond [] ∷ register rn ∷ Comma ∷ second operand

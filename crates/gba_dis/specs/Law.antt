@@ -56,7 +56,8 @@ is_source (Some (source.Immediate v t)) value turn = v == value && t == turn
 is_source _ value turn = false
 
 abbrev pub is_operand_told : Operand → Bool
-is_operand_told (operand.Immediate value turn) = is_operand (immediate_operand (least_turn (turned value turn))) value turn
+is_operand_told (operand.Immediate value turn) =
+    is_operand (immediate_operand (least_turn (turned value turn))) value turn
 is_operand_told (operand.Fixed rm kind amount) = true
 is_operand_told (operand.ByRegister rm kind rs) = true
 
@@ -80,8 +81,10 @@ is_arm_told (op.MultiplyLong cond signed accumulate set hi lo rs rm) = not (is_n
 is_arm_told (op.Swap cond byte rn rd rm) = not (is_never cond)
 is_arm_told (op.Half cond kind pre up write rn rd offset) = not (is_never cond) && (pre || not write)
 is_arm_told (op.ReadStatus cond saved rd) = not (is_never cond)
-is_arm_told (op.WriteStatus cond saved fields source) = not (is_never cond) && (not (fields == 0) && is_source_told source)
-is_arm_told (op.Compute cond o set rn rd operand) = not (is_never cond) && (is_first_told o rn && is_operand_told operand)
+is_arm_told (op.WriteStatus cond saved fields source) =
+    not (is_never cond) && (not (fields == 0) && is_source_told source)
+is_arm_told (op.Compute cond o set rn rd operand) =
+    not (is_never cond) && (is_first_told o rn && is_operand_told operand)
 is_arm_told (op.Compare cond o rn operand) = not (is_never cond) && is_operand_told operand
 is_arm_told (op.Transfer cond load byte pre up write rn rd offset) = not (is_never cond)
 is_arm_told (op.Block cond load pre up user write rn list) = not (is_never cond)

@@ -78,8 +78,8 @@ scaled byte o5 = if byte then o5 else 4 * o5
 abbrev pub stack_list : Bool → Bool → ℕ → ℕ
 stack_list load more list = if more then (if load then list + 2 ^ 15 else list + 2 ^ 14) else list
 
--- Where a branch at this address leads: so many halfwords from the address plus 4, modulo 2 ^ 32. The number of halfwords is
--- a signed one, from -reach to reach - 1.
+-- Where a branch at this address leads: so many halfwords from the address plus 4, modulo 2 ^ 32. The number of
+-- halfwords is a signed one, from -reach to reach - 1.
 abbrev pub branch_target : ℕ → ℕ → ℕ → ℕ
 branch_target reach at n =
     if nat_lt n reach then (at + 4 + 2 * n) % 2 ^ 32 else (at + 4 + 2 ^ 32 + 2 * n - 4 * reach) % 2 ^ 32
@@ -163,4 +163,5 @@ thumb_statement at None = []
 
 -- BL to where its two halves lead
 unfoldable pub call_pieces : ℕ → ℕ → ℕ → List Piece
-call_pieces at first second = branch_pieces (codes "bl") (branch_target 2097152 at (first % 2048 * 2048 + second % 2048))
+call_pieces at first second =
+    branch_pieces (codes "bl") (branch_target 2097152 at (first % 2048 * 2048 + second % 2048))

@@ -254,7 +254,8 @@ fn add_factors(line: &mut Vec<u8>, rd: u8, rm: u8, rs: u8) -> Result<(), AllocEr
     requires rd { rd < 16 }
     requires rm { rm < 16 }
     requires rs { rs < 16 }
-    ensures { OnOk result (line.new.items ≡ line.old.items ++ (register_name rd ++ (44 ∷ 32 ∷ register_name rm) ++ (44 ∷ 32 ∷ register_name rs))) }
+    ensures { OnOk result (line.new.items
+        ≡ line.old.items ++ (register_name rd ++ (44 ∷ 32 ∷ register_name rm) ++ (44 ∷ 32 ∷ register_name rs))) }
 {
     add_register(line, rd)?;
     add_next_register(line, rm)?;
@@ -367,7 +368,8 @@ fn half_suffix(kind: HalfKind) -> &'static [u8]
 fn add_open_transfer(line: &mut Vec<u8>, rd: u8, pre: bool, rn: u8) -> Result<(), AllocError>
     requires rd { rd < 16 }
     requires rn { rn < 16 }
-    ensures { OnOk result (line.new.items ≡ line.old.items ++ (register_name rd ++ (44 ∷ 32 ∷ text_of (open_address pre rn)))) }
+    ensures { OnOk result
+        (line.new.items ≡ line.old.items ++ (register_name rd ++ (44 ∷ 32 ∷ text_of (open_address pre rn)))) }
 {
     add_register(line, rd)?;
     add(line, b", ")?;
@@ -389,7 +391,8 @@ fn add_half(
     requires rn { rn < 16 }
     requires rd { rd < 16 }
     requires offset { Within (half_registers offset) }
-    ensures { OnOk result (line.new.items ≡ line.old.items ++ text_of (half_pieces cond kind pre up write rn rd offset)) }
+    ensures { OnOk result
+        (line.new.items ≡ line.old.items ++ text_of (half_pieces cond kind pre up write rn rd offset)) }
 {
     add_name(line, half_base(kind), cond, half_suffix(kind))?;
     add_open_transfer(line, rd, pre, rn)?;
@@ -550,7 +553,8 @@ fn add_transfer(
     requires rn { rn < 16 }
     requires rd { rd < 16 }
     requires offset { Within (transfer_registers offset) }
-    ensures { OnOk result (line.new.items ≡ line.old.items ++ text_of (transfer_pieces cond load byte pre up write rn rd offset)) }
+    ensures { OnOk result
+        (line.new.items ≡ line.old.items ++ text_of (transfer_pieces cond load byte pre up write rn rd offset)) }
 {
     add_name(
         line,
@@ -612,7 +616,8 @@ fn add_block(
     list: u16,
 ) -> Result<(), AllocError>
     requires { rn < 16 }
-    ensures { OnOk result (line.new.items ≡ line.old.items ++ text_of (block_pieces cond load pre up user write rn list)) }
+    ensures { OnOk result
+        (line.new.items ≡ line.old.items ++ text_of (block_pieces cond load pre up user write rn list)) }
 {
     add_name(line, block_base(load), cond, block_suffix(pre, up))?;
     add_block_base(line, rn, write)?;

@@ -1,6 +1,6 @@
 #![tactic(auto)]
-//! The disassembler: `disassemble` gives the listing of bytes, a source that the assembler turns into the same bytes, and
-//! `statement` that of one word or halfword.
+//! The disassembler: `disassemble` gives the listing of bytes, a source that the assembler turns into the same bytes,
+//! and `statement` that of one word or halfword.
 
 mod arm;
 pub mod laws;

@@ -149,8 +149,8 @@ fn data_length(unit: Unit) -> usize {
     }
 }
 
-/// At least as many bytes as the listing has, and a few more only where a statement is left for data. No clause says so:
-/// what is said of the listing holds whatever number this is.
+/// At least as many bytes as the listing has, and a few more only where a statement is left for data. No clause says
+/// so: what is said of the listing holds whatever number this is.
 fn enough_room(alloc: Global, set: Set, bytes: &[u8]) -> Result<usize, AllocError>
     requires { length bytes.now ≤ 33554432 }
 {
@@ -179,9 +179,9 @@ fn list_bytes(alloc: Global, bytes: &[u8], set: Set) -> Result<Vec<u8>, NoMemory
 }
 
 /// The listing of bytes that begin at address 0, as ARM or as Thumb code: a line for each word or halfword, its
-/// statement, or its data where the statement wouldn't be assembled to the same bits there. The listing's memory is asked
-/// for once, and that of a line beside it. No clause says that it is enough: were it not, the text would be moved and be
-/// the same.
+/// statement, or its data where the statement wouldn't be assembled to the same bits there. The listing's memory is
+/// asked for once, and that of a line beside it. No clause says that it is enough: were it not, the text would be moved
+/// and be the same.
 pub fn disassemble(alloc: Global, bytes: &[u8], set: Set) -> Result<Vec<u8>, NoMemory>
     requires { length bytes.now ≤ 33554432 }
     ensures listing { IfOk result (λ text. text.items ≡ listing set bytes.now) }

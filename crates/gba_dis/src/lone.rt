@@ -34,8 +34,8 @@ fn is_told(alloc: Global, set: Set, unit: Unit) -> Result<bool, NoMemory>
 }
 
 /// Adds the statement of one word, or in Thumb code of one halfword, as it stands at this address, or its data where a
-/// listing has its data: the half of a BL too. An address is any number of 32 bits. There is no line feed behind it. What is
-/// added has at most 100 bytes.
+/// listing has its data: the half of a BL too. An address is any number of 32 bits. There is no line feed behind it.
+/// What is added has at most 100 bytes.
 #[tactic(auto, unfolding(crate::specs::Lone::lone_pieces))]
 pub fn statement(
     alloc: Global,

@@ -98,7 +98,8 @@ pub(crate) fn add_number(line: &mut Vec<u8>, number: u32) -> Result<(), AllocErr
 /// A comma where another register stands before, and a register's name.
 fn add_entry(line: &mut Vec<u8>, register: u8, first: bool) -> Result<(), AllocError>
     requires { register < 16 }
-    ensures { OnOk result (line.new.items ≡ line.old.items ++ (if first then register_name register else 44 ∷ 32 ∷ register_name register)) }
+    ensures { OnOk result (line.new.items
+        ≡ line.old.items ++ (if first then register_name register else 44 ∷ 32 ∷ register_name register)) }
 {
     if first {
         add_register(line, register)

@@ -54,7 +54,8 @@ fn is_call(first: u16, second: u16) -> bool
 }
 
 fn first_arm(bytes: &[u8]) -> Option<Unit>
-    ensures unit { MatchOption result (arm_units bytes.now ≡ []) (λ u. arm_units bytes.now ≡ u ∷ arm_units (drop (size_of u) bytes.now)) }
+    ensures unit { MatchOption result (arm_units bytes.now ≡ [])
+        (λ u. arm_units bytes.now ≡ u ∷ arm_units (drop (size_of u) bytes.now)) }
     ensures some { MatchOption result (length bytes.now ≡ 0) (λ u. 0 < size_of u) }
     ensures within { IfSome result (λ u. size_of u ≤ length bytes.now) }
 {
@@ -66,7 +67,8 @@ fn first_arm(bytes: &[u8]) -> Option<Unit>
 }
 
 fn first_thumb(bytes: &[u8]) -> Option<Unit>
-    ensures unit { MatchOption result (thumb_units bytes.now ≡ []) (λ u. thumb_units bytes.now ≡ u ∷ thumb_units (drop (size_of u) bytes.now)) }
+    ensures unit { MatchOption result (thumb_units bytes.now ≡ [])
+        (λ u. thumb_units bytes.now ≡ u ∷ thumb_units (drop (size_of u) bytes.now)) }
     ensures some { MatchOption result (length bytes.now ≡ 0) (λ u. 0 < size_of u) }
     ensures within { IfSome result (λ u. size_of u ≤ length bytes.now) }
 {
@@ -88,7 +90,8 @@ fn first_thumb(bytes: &[u8]) -> Option<Unit>
 
 /// The unit that bytes begin with.
 pub(crate) fn first_unit(set: Set, bytes: &[u8]) -> Option<Unit>
-    ensures unit { MatchOption result (units set bytes.now ≡ []) (λ u. units set bytes.now ≡ u ∷ units set (drop (size_of u) bytes.now)) }
+    ensures unit { MatchOption result (units set bytes.now ≡ [])
+        (λ u. units set bytes.now ≡ u ∷ units set (drop (size_of u) bytes.now)) }
     ensures some { MatchOption result (length bytes.now ≡ 0) (λ u. 0 < size_of u) }
     ensures within { IfSome result (λ u. size_of u ≤ length bytes.now) }
 {

@@ -50,7 +50,8 @@ fn each_class_has_its_statement(rt: HostRuntime) -> Result<(), Fail> {
     Ok(())
 }
 
-// Data processing with every kind of operand (A5.1): immediates by their least turn, shifts by constants and by registers.
+// Data processing with every kind of operand (A5.1): immediates by their least turn, shifts by constants and by
+// registers.
 #[test]
 fn data_processing_has_its_operands(rt: HostRuntime) -> Result<(), Fail> {
     static CASES: [(u32, &[u8]); 34] = [
@@ -98,7 +99,8 @@ fn data_processing_has_its_operands(rt: HostRuntime) -> Result<(), Fail> {
     Ok(())
 }
 
-// Loads and stores (A5.2, A5.3) with every kind of address. A load from r15 is no target, and U 0 with offset 0 has its sign.
+// Loads and stores (A5.2, A5.3) with every kind of address. A load from r15 is no target, and U 0 with offset 0
+// has its sign.
 #[test]
 fn transfers_have_their_addresses(rt: HostRuntime) -> Result<(), Fail> {
     static CASES: [(u32, &[u8]); 27] = [
@@ -139,7 +141,8 @@ fn transfers_have_their_addresses(rt: HostRuntime) -> Result<(), Fail> {
     Ok(())
 }
 
-// Words without an operation, under condition 15, or with bits that no statement gives: bits that should be one or zero, fields that a statement leaves out, a turn that isn't the least.
+// Words without an operation, under condition 15, or with bits that no statement gives: bits that should be one or
+// zero, fields that a statement leaves out, a turn that isn't the least.
 #[test]
 fn other_words_are_data(rt: HostRuntime) -> Result<(), Fail> {
     static CASES: [(u32, &[u8]); 21] = [

@@ -31,8 +31,8 @@ fn left_bytes_stand_at_the_end(rt: HostRuntime) {
     }
 }
 
-// The two halves of BL are one line, at an address that is no multiple of 4 too. A half that stands alone, comes first twice
-// or second first, or is the last halfword is data.
+// The two halves of BL are one line, at an address that is no multiple of 4 too. A half that stands alone, comes first
+// twice or second first, or is the last halfword is data.
 #[test]
 fn the_halves_of_a_call_are_one_line(rt: HostRuntime) {
     static CASES: [(&[u8], &[u8]); 9] = [

@@ -3,7 +3,8 @@
 use gba_dis::{Set, statement};
 use std::test::Fail;
 
-/// A word at an address: branches by where they stand, up to the wrap of 32 bits, and what no statement gives as its data.
+/// A word at an address: branches by where they stand, up to the wrap of 32 bits, and what no statement gives
+/// as its data.
 static WORDS: [(u32, u32, &[u8]); 4] = [
     (0x0800_0000, 0xEAFF_FFFE, b"; b 0x08000000"),
     (0xFFFF_FFFC, 0xEB00_0000, b"; bl 0x00000004"),

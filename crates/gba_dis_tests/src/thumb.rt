@@ -117,7 +117,8 @@ fn the_other_formats_have_their_statements(rt: HostRuntime) -> Result<(), Fail> 
     Ok(())
 }
 
-// Halfwords without an operation, or that the assembler writes otherwise: CMP of two low registers by format 5, BX with bits of a register that it hasn't, and a half of BL.
+// Halfwords without an operation, or that the assembler writes otherwise: CMP of two low registers by format 5, BX with
+// bits of a register that it hasn't, and a half of BL.
 #[test]
 fn other_halfwords_are_data(rt: HostRuntime) -> Result<(), Fail> {
     static CASES: [(u16, &[u8]); 10] = [

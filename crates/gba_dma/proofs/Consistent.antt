@@ -33,7 +33,8 @@ either : (first : Bool) (c d : Channel) → IsConsistent c → IsConsistent d �
 either true c d h k = h
 either false c d h k = k
 
-pub write_keeps : (number place value : ℕ) (c : Channel) → IsConsistent c → IsConsistent (half_stored number place value c)
+pub write_keeps : (number place value : ℕ) (c : Channel) → IsConsistent c
+    → IsConsistent (half_stored number place value c)
 write_keeps number place value c h =
     either (nat_eq place 0) _ _ (same_run c (with_low value c.source) c.target c.count h)
     (either (nat_eq place 2) _ _ (same_run c (with_high value c.source) c.target c.count h)
@@ -42,7 +43,8 @@ write_keeps number place value c h =
     (either (nat_eq place 8) _ _ (same_run c c.source c.target value h)
     (either (nat_eq place 10) _ _ (control_written number value c h) h)))))
 
-pub event_keeps : (event : DmaEvent) (number : ℕ) (c : Channel) → IsConsistent c → IsConsistent (after_event event number c)
+pub event_keeps : (event : DmaEvent) (number : ℕ) (c : Channel) → IsConsistent c
+    → IsConsistent (after_event event number c)
 event_keeps event number c h = record {
   enabled = λ e. grind (arith, h.enabled);
   left = λ e. grind (arith, h.left);
@@ -71,11 +73,13 @@ four cs a b c d = record { channel0 = a; channel1 = b; channel2 = c; channel3 = 
 pub at_reset : AreConsistent channels_at_reset
 at_reset = four channels_at_reset one_at_reset one_at_reset one_at_reset one_at_reset
 
-stored_keeps : (number offset value : ℕ) (c : Channel) → IsConsistent c → IsConsistent (half_stored_at number offset value c)
+stored_keeps : (number offset value : ℕ) (c : Channel) → IsConsistent c
+    → IsConsistent (half_stored_at number offset value c)
 stored_keeps number offset value c h =
     either (has_offset number offset) _ c (write_keeps number (place_in number offset) value c h) h
 
-pub all_written : (offset value : ℕ) (cs : FourChannels) → AreConsistent cs → AreConsistent (dma_written offset value cs)
+pub all_written : (offset value : ℕ) (cs : FourChannels) → AreConsistent cs
+    → AreConsistent (dma_written offset value cs)
 all_written offset value cs h =
     four (dma_written offset value cs)
     (stored_keeps 0 offset _ cs.channel0 h.channel0)

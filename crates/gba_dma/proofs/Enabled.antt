@@ -13,7 +13,8 @@ either : (first : Bool) (c d : Channel) → IsEnabledRun c → IsEnabledRun d �
 either true c d h k = h
 either false c d h k = k
 
-pub write_enables : (number place value : ℕ) (c : Channel) → IsEnabledRun c → IsEnabledRun (half_stored number place value c)
+pub write_enables : (number place value : ℕ) (c : Channel) → IsEnabledRun c
+    → IsEnabledRun (half_stored number place value c)
 write_enables number place value c h =
     either (nat_eq place 0) (record c { source = with_low value c.source }) _ h
     (either (nat_eq place 2) (record c { source = with_high value c.source }) _ h
@@ -22,7 +23,8 @@ write_enables number place value c h =
     (either (nat_eq place 8) (record c { count = value }) _ h
     (either (nat_eq place 10) (with_control number value c) c (control_enables number value c h) h)))))
 
-pub event_enables : (event : DmaEvent) (number : ℕ) (c : Channel) → IsEnabledRun c → IsEnabledRun (after_event event number c)
+pub event_enables : (event : DmaEvent) (number : ℕ) (c : Channel) → IsEnabledRun c
+    → IsEnabledRun (after_event event number c)
 event_enables event number c h = λ e. grind (arith, h)
 
 unit_enables_by : (number : ℕ) (c : Channel) (last : Bool) → IsEnabledRun c

@@ -59,8 +59,8 @@ with_control number value c = record c {
   left = if starts value c then count_loaded number c else c.left;
 }
 
--- What triggers a channel that is enabled and waits: the event of its timing, of timing 3 a request of the queue to which
--- its inner destination points. A trigger of an active channel is ignored.
+-- What triggers a channel that is enabled and waits: the event of its timing, of timing 3 a request of the queue to
+-- which its inner destination points. A trigger of an active channel is ignored.
 abbrev pub queue_address : DmaEvent → ℕ
 queue_address VBlank = 0
 queue_address HBlank = 0

@@ -15,8 +15,8 @@ pub record AreConsistent (cs : FourChannels) : Type 0 where
   pub channel2 : IsConsistent cs.channel2
   pub channel3 : IsConsistent cs.channel3
 
--- Of channels with any numbers, also with such as no program comes to, the first of these holds alone: an enabled channel that
--- waits may have no unit left. A run that then begins is one unit long.
+-- Of channels with any numbers, also with such as no program comes to, the first of these holds alone: an enabled
+-- channel that waits may have no unit left. A run that then begins is one unit long.
 abbrev pub IsEnabledRun : Channel → Type 0
 IsEnabledRun c = c.active ≡ true → is_enabled c ≡ true
 

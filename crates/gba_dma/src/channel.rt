@@ -7,8 +7,8 @@ use crate::{DmaEvent, Unit};
 use gba_bus::Width;
 use gba_word::{bit, bits};
 
-/// One channel (GBATEK, GBA DMA Transfers): what was written to its registers, as it is stored, and the inner numbers of
-/// its run.
+/// One channel (GBATEK, GBA DMA Transfers): what was written to its registers, as it is stored, and the inner numbers
+/// of its run.
 #[derive(Clone, Copy, Debug, PartialEq, Eq)]
 pub struct Channel {
     /// The source, 28 bits, on channel 0 27.

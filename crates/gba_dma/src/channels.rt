@@ -24,11 +24,26 @@ impl Model for Channels {
 
     ghost Value = { FourChannels };
 
-    ghost view = { λ cs. record { channel0 = cs.channel0; channel1 = cs.channel1; channel2 = cs.channel2; channel3 = cs.channel3 } };
+    ghost view = { λ cs. record {
+      channel0 = cs.channel0;
+      channel1 = cs.channel1;
+      channel2 = cs.channel2;
+      channel3 = cs.channel3;
+    } };
 
-    ghost inverse = { λ cs. record { channel0 = cs.channel0; channel1 = cs.channel1; channel2 = cs.channel2; channel3 = cs.channel3 } };
+    ghost inverse = { λ cs. record {
+      channel0 = cs.channel0;
+      channel1 = cs.channel1;
+      channel2 = cs.channel2;
+      channel3 = cs.channel3;
+    } };
 
-    ghost invariant = { λ cs. RunsAreEnabled (record { channel0 = cs.channel0; channel1 = cs.channel1; channel2 = cs.channel2; channel3 = cs.channel3 }) };
+    ghost invariant = { λ cs. RunsAreEnabled (record {
+      channel0 = cs.channel0;
+      channel1 = cs.channel1;
+      channel2 = cs.channel2;
+      channel3 = cs.channel3;
+    }) };
 }
 
 /// The bits of a halfword that a write stores.
@@ -83,8 +98,18 @@ impl Channels {
         channel2: Channel,
         channel3: Channel,
     ) -> Channels
-        requires { RunsAreEnabled (record { channel0 = channel0; channel1 = channel1; channel2 = channel2; channel3 = channel3 }) }
-        ensures { result ≡ record { channel0 = channel0; channel1 = channel1; channel2 = channel2; channel3 = channel3 } }
+        requires { RunsAreEnabled (record {
+          channel0 = channel0;
+          channel1 = channel1;
+          channel2 = channel2;
+          channel3 = channel3;
+        }) }
+        ensures { result ≡ record {
+          channel0 = channel0;
+          channel1 = channel1;
+          channel2 = channel2;
+          channel3 = channel3;
+        } }
     {
         Channels {
             channel0,
@@ -129,7 +154,8 @@ impl Channels {
         self.kept(offset) & read_mask(offset)
     }
 
-    /// Writes the halfword at an offset. A control that becomes enabled starts its channel. Elsewhere nothing is written.
+    /// Writes the halfword at an offset. A control that becomes enabled starts its channel. Elsewhere
+    /// nothing is written.
     pub fn write(&mut self, offset: u32, value: u16)
         ensures { self.new ≡ dma_written offset value self.old }
     {
@@ -192,8 +218,9 @@ impl Channels {
         }
     }
 
-    /// Ends a unit of a channel below 4, and answers the channel if this requests its interrupt, which is bit 8 + k of IF
-    /// for channel k. Nothing changes where the channel isn't active, since a unit's own write may have ended its run.
+    /// Ends a unit of a channel below 4, and answers the channel if this requests its interrupt, which is bit 8 +
+    /// k of IF for channel k. Nothing changes where the channel isn't active, since a unit's own write may have
+    /// ended its run.
     pub fn unit_done_of(&mut self, channel: u32) -> Option<u32>
         requires { channel < 4 }
         ensures channels { self.new ≡ after_unit_at channel self.old }

@@ -40,19 +40,23 @@ use Rattle.gba_exec_quick.specs.declared.quick.Quick.TheVariants as quick
 
 -- ---- operands and results that aren't r15
 
-operand-plain : (file : List ℕ) (counter number : ℕ) → (number == 15) ≡ false → register file number ≡ operand_register file counter number
+operand-plain : (file : List ℕ) (counter number : ℕ) → (number == 15) ≡ false
+    → register file number ≡ operand_register file counter number
 unfolding operand_register
 operand-plain file counter number n = rw n refl
 
-result-plain : (file : List ℕ) (number value : ℕ) → (number == 15) ≡ false → with_register file number value ≡ with_result file number value
+result-plain : (file : List ℕ) (number value : ℕ) → (number == 15) ≡ false
+    → with_register file number value ≡ with_result file number value
 unfolding with_result
 result-plain file number value n = rw n refl
 
-cost-plain : (number : ℕ) (code : Bool → ℕ) → (number == 15) ≡ false → code true ≡ code true + 0 + refill_cost number code
+cost-plain : (number : ℕ) (code : Bool → ℕ) → (number == 15) ≡ false
+    → code true ≡ code true + 0 + refill_cost number code
 cost-plain number code n = rw n (omega arith)
 
 -- the carry doesn't count for the value
-value-any : (kind : ComputeOp) (a b : ℕ) (carry : Bool) (now : Flags) → (outcome_of kind a b false now).value ≡ (outcome_of kind a b carry now).value
+value-any : (kind : ComputeOp) (a b : ℕ) (carry : Bool) (now : Flags)
+    → (outcome_of kind a b false now).value ≡ (outcome_of kind a b carry now).value
 value-any And a b carry now = refl
 value-any Eor a b carry now = refl
 value-any Sub a b carry now = refl
@@ -66,21 +70,23 @@ value-any Mov a b carry now = refl
 value-any Bic a b carry now = refl
 value-any Mvn a b carry now = refl
 
-compute-value : (kind : ComputeOp) (rn rd : ℕ) (file : List ℕ) (counter : ℕ) (second : ℕ × Bool) → (rn == 15) ≡ false → (rd == 15) ≡ false
-    → with_register file rd (value_of kind (register file rn) second.0 file)
+compute-value : (kind : ComputeOp) (rn rd : ℕ) (file : List ℕ) (counter : ℕ) (second : ℕ × Bool) → (rn == 15) ≡ false
+    → (rd == 15) ≡ false → with_register file rd (value_of kind (register file rn) second.0 file)
     ≡ with_outcome false rd (outcome_of kind (operand_register file counter rn) second.0 second.1 (flags file)) file
 unfolding with_outcome
 compute-value kind rn rd file counter second n d =
     ap (λ a. with_register file rd (value_of kind a second.0 file)) (operand-plain file counter rn n)
-    ∙ ap (λ v. with_register file rd v) (value-any kind (operand_register file counter rn) second.0 second.1 (flags file))
+    ∙ ap (λ v. with_register file rd v)
+    (value-any kind (operand_register file counter rn) second.0 second.1 (flags file))
     ∙ result-plain file rd (outcome_of kind (operand_register file counter rn) second.0 second.1 (flags file)).value d
 
-set-outcome : (rd : ℕ) (file : List ℕ) (one : _) → (rd == 15) ≡ false → with_flags_and rd one file ≡ with_outcome true rd one file
+set-outcome : (rd : ℕ) (file : List ℕ) (one : _) → (rd == 15) ≡ false
+    → with_flags_and rd one file ≡ with_outcome true rd one file
 unfolding with_outcome
 set-outcome rd file one d = rw d (result-plain (with_flags file (flags_after one)) rd one.value d)
 
-compute-set : (kind : ComputeOp) (rn rd : ℕ) (file : List ℕ) (counter : ℕ) (second : ℕ × Bool) → (rn == 15) ≡ false → (rd == 15) ≡ false
-    → with_flags_and rd (outcome_in kind (register file rn) second.0 second.1 file) file
+compute-set : (kind : ComputeOp) (rn rd : ℕ) (file : List ℕ) (counter : ℕ) (second : ℕ × Bool) → (rn == 15) ≡ false
+    → (rd == 15) ≡ false → with_flags_and rd (outcome_in kind (register file rn) second.0 second.1 file) file
     ≡ with_outcome true rd (outcome_of kind (operand_register file counter rn) second.0 second.1 (flags file)) file
 compute-set kind rn rd file counter second n d =
     ap (λ a. with_flags_and rd (outcome_in kind a second.0 second.1 file) file) (operand-plain file counter rn n)
@@ -99,12 +105,14 @@ plain-operand : (rm amount counter : ℕ) (carry : Bool) (file : List ℕ) → (
 unfolding operand_of operand_register
 plain-operand rm amount counter carry file m a = rw (m, a) refl
 
-shifted-operand : (rm : ℕ) (shift : Shift) (amount counter : ℕ) (carry : Bool) (file : List ℕ) → (rm == 15) ≡ false → (amount == 0) ≡ false
+shifted-operand : (rm : ℕ) (shift : Shift) (amount counter : ℕ) (carry : Bool) (file : List ℕ) → (rm == 15) ≡ false
+    → (amount == 0) ≡ false
     → nonzero_shift shift (register file rm) amount ≡ operand_of (operand.Fixed rm shift amount) counter carry file
 unfolding operand_of operand_register
 shifted-operand rm shift amount counter carry file m a = rw (m, a) refl
 
-turned-carry : (unturned : Bool) (one other : Bool) → (if not unturned then one else other) ≡ (if unturned then other else one)
+turned-carry : (unturned : Bool) (one other : Bool)
+    → (if not unturned then one else other) ≡ (if unturned then other else one)
 turned-carry true one other = refl
 turned-carry false one other = refl
 
@@ -124,8 +132,8 @@ module _ {State : Type 0} (price : Price State) (load : Load State) (store : Sto
 
   -- ---- data processing that writes Rd
 
-  number-value : (cond : Condition) (kind : ComputeOp) (rn rd value turn : ℕ) (site : Site) (file : List ℕ) (bus : State)
-      → (rn == 15) ≡ false → (rd == 15) ≡ false
+  number-value : (cond : Condition) (kind : ComputeOp) (rn rd value turn : ℕ) (site : Site) (file : List ℕ)
+      (bus : State) → (rn == 15) ≡ false → (rd == 15) ≡ false
       → effect_of_quick price load store (quick.Number kind rn rd (rotation value (2 * turn))) site file bus
       ≡ effect price load store (op.Compute cond kind false rn rd (operand.Immediate value turn)) site file bus
   unfolding effect_of_quick effect outcome operand_of
@@ -182,8 +190,8 @@ module _ {State : Type 0} (price : Price State) (load : Load State) (store : Sto
   set_plain_form-is Add rn rd rm site file bus = refl
   set_plain_form-is kind rn rd rm site file bus = refl
 
-  set_shifted_form-is : (kind : ComputeOp) (rn rd rm : ℕ) (shift : Shift) (amount : ℕ) (site : Site) (file : List ℕ) (bus : State)
-      → effect_of_quick price load store (set_shifted_form kind rn rd rm shift amount) site file bus
+  set_shifted_form-is : (kind : ComputeOp) (rn rd rm : ℕ) (shift : Shift) (amount : ℕ) (site : Site) (file : List ℕ)
+      (bus : State) → effect_of_quick price load store (set_shifted_form kind rn rd rm shift amount) site file bus
       ≡ effect_of_quick price load store (quick.SetShifted kind rn rd rm shift amount) site file bus
   unfolding effect_of_quick
   set_shifted_form-is Mov rn rd rm shift amount site file bus = refl
@@ -205,7 +213,8 @@ module _ {State : Type 0} (price : Price State) (load : Load State) (store : Sto
 
   number-set : (cond : Condition) (kind : ComputeOp) (rn rd value turn : ℕ) (site : Site) (file : List ℕ) (bus : State)
       → (rn == 15) ≡ false → (rd == 15) ≡ false
-      → effect_of_quick price load store (quick.SetNumber kind rn rd (rotation value (2 * turn)) (not (turn == 0))) site file bus
+      → effect_of_quick price load store (quick.SetNumber kind rn rd (rotation value (2 * turn)) (not (turn == 0))) site
+      file bus
       ≡ effect price load store (op.Compute cond kind true rn rd (operand.Immediate value turn)) site file bus
   unfolding effect_of_quick effect outcome operand_of
   number-set cond kind rn rd value turn site file bus n d =
@@ -216,8 +225,8 @@ module _ {State : Type 0} (price : Price State) (load : Load State) (store : Sto
       ∙ compute-set kind rn rd file (counter site) (immediate_value value turn (flags file).carry) n d)
       (cost-plain rd (code_cost price bus site) d)
 
-  fixed-value : (cond : Condition) (kind : ComputeOp) (rn rd rm : ℕ) (shift : Shift) (amount : ℕ) (second : ℕ × Bool) (site : Site)
-      (file : List ℕ) (bus : State)
+  fixed-value : (cond : Condition) (kind : ComputeOp) (rn rd rm : ℕ) (shift : Shift) (amount : ℕ) (second : ℕ × Bool)
+      (site : Site) (file : List ℕ) (bus : State)
       → second ≡ operand_of (operand.Fixed rm shift amount) (counter site) (flags file).carry file
       → (rn == 15) ≡ false → (rd == 15) ≡ false
       → internal price load store bus (with_register file rd (value_of kind (register file rn) second.0 file))
@@ -231,12 +240,13 @@ module _ {State : Type 0} (price : Price State) (load : Load State) (store : Sto
       (outcome_of kind (operand_register file (counter site) rn) s.0 s.1 (flags file)) file) is)
       (cost-plain rd (code_cost price bus site) d)
 
-  fixed-set : (cond : Condition) (kind : ComputeOp) (rn rd rm : ℕ) (shift : Shift) (amount : ℕ) (second : ℕ × Bool) (site : Site)
-      (file : List ℕ) (bus : State)
+  fixed-set : (cond : Condition) (kind : ComputeOp) (rn rd rm : ℕ) (shift : Shift) (amount : ℕ) (second : ℕ × Bool)
+      (site : Site) (file : List ℕ) (bus : State)
       → second ≡ operand_of (operand.Fixed rm shift amount) (counter site) (flags file).carry file
       → (rn == 15) ≡ false → (rd == 15) ≡ false
       → internal price load store bus
-      (with_flags_and rd (outcome_in kind (register file rn) second.0 second.1 file) file) (code_cost price bus site true)
+      (with_flags_and rd (outcome_in kind (register file rn) second.0 second.1 file) file)
+      (code_cost price bus site true)
       ≡ effect price load store (op.Compute cond kind true rn rd (operand.Fixed rm shift amount)) site file bus
   unfolding effect outcome
   fixed-set cond kind rn rd rm shift amount second site file bus is n d =
@@ -250,10 +260,11 @@ module _ {State : Type 0} (price : Price State) (load : Load State) (store : Sto
   form-effect : (one : Quick) (whole : ArmOp) (form : Quick) (site : Site) (file : List ℕ) (bus : State) → form ≡ one
       → effect_of_quick price load store one site file bus ≡ effect price load store whole site file bus
       → effect_of_quick price load store form site file bus ≡ effect price load store whole site file bus
-  form-effect one whole form site file bus is same = ap (λ q. effect_of_quick price load store q site file bus) is ∙ same
+  form-effect one whole form site file bus is same =
+      ap (λ q. effect_of_quick price load store q site file bus) is ∙ same
 
-  shifted-is : (cond : Condition) (kind : ComputeOp) (set : Bool) (rn rd rm : ℕ) (shift : Shift) (amount : ℕ) (site : Site)
-      (file : List ℕ) (bus : State) → (rn == 15) ≡ false → (rd == 15) ≡ false
+  shifted-is : (cond : Condition) (kind : ComputeOp) (set : Bool) (rn rd rm : ℕ) (shift : Shift) (amount : ℕ)
+      (site : Site) (file : List ℕ) (bus : State) → (rn == 15) ≡ false → (rd == 15) ≡ false
       → (m a : Bool) → (rm == 15) ≡ m → (amount == 0) ≡ a
       → effect_of_quick price load store
       (compute_shifted (op.Compute cond kind set rn rd (operand.Fixed rm shift amount)) kind set rn rd rm shift amount)
@@ -264,8 +275,8 @@ module _ {State : Type 0} (price : Price State) (load : Load State) (store : Sto
       other-is _ (op.Compute cond kind set rn rd (operand.Fixed rm shift amount)) site file bus (rw m' refl)
   shifted-is cond kind true rn rd rm Lsl amount site file bus n d false true m a =
       let whole = op.Compute cond kind true rn rd (operand.Fixed rm Lsl amount) in
-      form-effect (set_plain_form kind rn rd rm) whole (compute_shifted whole kind true rn rd rm Lsl amount) site file bus
-      (rw (m, a) refl)
+      form-effect (set_plain_form kind rn rd rm) whole (compute_shifted whole kind true rn rd rm Lsl amount) site
+      file bus (rw (m, a) refl)
       (set_plain_form-is kind rn rd rm site file bus
       ∙ fixed-set cond kind rn rd rm Lsl amount (register file rm, (flags file).carry) site file bus
       (plain-operand rm amount (counter site) (flags file).carry file m a) n d)
@@ -296,9 +307,10 @@ module _ {State : Type 0} (price : Price State) (load : Load State) (store : Sto
       (fixed-value cond kind rn rd rm shift amount (nonzero_shift shift (register file rm) amount) site file bus
       (shifted-operand rm shift amount (counter site) (flags file).carry file m a) n d)
 
-  compute-is : (cond : Condition) (kind : ComputeOp) (set : Bool) (rn rd : ℕ) (second : Operand) (site : Site) (file : List ℕ)
-      (bus : State) → (rn == 15) ≡ false → (rd == 15) ≡ false
-      → effect_of_quick price load store (compute_form (op.Compute cond kind set rn rd second) kind set rn rd second) site file bus
+  compute-is : (cond : Condition) (kind : ComputeOp) (set : Bool) (rn rd : ℕ) (second : Operand) (site : Site)
+      (file : List ℕ) (bus : State) → (rn == 15) ≡ false → (rd == 15) ≡ false
+      → effect_of_quick price load store (compute_form (op.Compute cond kind set rn rd second) kind set rn rd second)
+      site file bus
       ≡ effect price load store (op.Compute cond kind set rn rd second) site file bus
   compute-is cond kind true rn rd (operand.Immediate value turn) site file bus n d =
       set_number_form-is kind rn rd (rotation value (2 * turn)) (not (turn == 0)) site file bus
@@ -311,8 +323,8 @@ module _ {State : Type 0} (price : Price State) (load : Load State) (store : Sto
   compute-is cond kind set rn rd (operand.ByRegister rm shift rs) site file bus n d =
       other-is _ (op.Compute cond kind set rn rd (operand.ByRegister rm shift rs)) site file bus refl
 
-  compute-tested : (cond : Condition) (kind : ComputeOp) (set : Bool) (rn rd : ℕ) (second : Operand) (site : Site) (file : List ℕ)
-      (bus : State) (n d : Bool) → (rn == 15) ≡ n → (rd == 15) ≡ d
+  compute-tested : (cond : Condition) (kind : ComputeOp) (set : Bool) (rn rd : ℕ) (second : Operand) (site : Site)
+      (file : List ℕ) (bus : State) (n d : Bool) → (rn == 15) ≡ n → (rd == 15) ≡ d
       → effect_of_quick price load store (quick_of (op.Compute cond kind set rn rd second)) site file bus
       ≡ effect price load store (op.Compute cond kind set rn rd second) site file bus
   unfolding quick_of
@@ -329,8 +341,8 @@ module _ {State : Type 0} (price : Price State) (load : Load State) (store : Sto
   cost-compare : (bus : State) (site : Site) → code_cost price bus site true ≡ code_cost price bus site true + 0
   cost-compare bus site = omega arith
 
-  fixed-compare : (cond : Condition) (kind : CompareOp) (rn rm : ℕ) (shift : Shift) (amount : ℕ) (second : ℕ × Bool) (site : Site)
-      (file : List ℕ) (bus : State)
+  fixed-compare : (cond : Condition) (kind : CompareOp) (rn rm : ℕ) (shift : Shift) (amount : ℕ) (second : ℕ × Bool)
+      (site : Site) (file : List ℕ) (bus : State)
       → second ≡ operand_of (operand.Fixed rm shift amount) (counter site) (flags file).carry file
       → (rn == 15) ≡ false
       → internal price load store bus
@@ -342,7 +354,8 @@ module _ {State : Type 0} (price : Price State) (load : Load State) (store : Sto
       same-internal bus _ _ _ _
       (compare-set (compute_op_of kind) rn file (counter site) second n
       ∙ ap (λ (s : ℕ × Bool). with_flags file
-      (flags_after (outcome_of (compute_op_of kind) (operand_register file (counter site) rn) s.0 s.1 (flags file)))) is)
+      (flags_after (outcome_of (compute_op_of kind) (operand_register file (counter site) rn) s.0 s.1 (flags file))))
+      is)
       (cost-compare bus site)
 
   number-compare : (cond : Condition) (kind : CompareOp) (rn value turn : ℕ) (site : Site) (file : List ℕ) (bus : State)
@@ -363,7 +376,8 @@ module _ {State : Type 0} (price : Price State) (load : Load State) (store : Sto
       (file : List ℕ) (bus : State) → (rn == 15) ≡ false
       → (m a : Bool) → (rm == 15) ≡ m → (amount == 0) ≡ a
       → effect_of_quick price load store
-      (compare_shifted (op.Compare cond kind rn (operand.Fixed rm shift amount)) (compute_op_of kind) rn rm shift amount)
+      (compare_shifted (op.Compare cond kind rn (operand.Fixed rm shift amount)) (compute_op_of kind) rn rm
+      shift amount)
       site file bus
       ≡ effect price load store (op.Compare cond kind rn (operand.Fixed rm shift amount)) site file bus
   unfolding effect_of_quick
@@ -389,9 +403,10 @@ module _ {State : Type 0} (price : Price State) (load : Load State) (store : Sto
       (fixed-compare cond kind rn rm shift amount (nonzero_shift shift (register file rm) amount) site file bus
       (shifted-operand rm shift amount (counter site) (flags file).carry file m a) n)
 
-  compare-is : (cond : Condition) (kind : CompareOp) (rn : ℕ) (second : Operand) (site : Site) (file : List ℕ) (bus : State)
-      → (rn == 15) ≡ false
-      → effect_of_quick price load store (compare_form (op.Compare cond kind rn second) (compute_op_of kind) rn second) site file bus
+  compare-is : (cond : Condition) (kind : CompareOp) (rn : ℕ) (second : Operand) (site : Site) (file : List ℕ)
+      (bus : State) → (rn == 15) ≡ false
+      → effect_of_quick price load store (compare_form (op.Compare cond kind rn second) (compute_op_of kind) rn second)
+      site file bus
       ≡ effect price load store (op.Compare cond kind rn second) site file bus
   compare-is cond kind rn (operand.Immediate value turn) site file bus n =
       compare_number_form-is (compute_op_of kind) rn (rotation value (2 * turn)) (not (turn == 0)) site file bus
@@ -401,8 +416,8 @@ module _ {State : Type 0} (price : Price State) (load : Load State) (store : Sto
   compare-is cond kind rn (operand.ByRegister rm shift rs) site file bus n =
       other-is _ (op.Compare cond kind rn (operand.ByRegister rm shift rs)) site file bus refl
 
-  compare-tested : (cond : Condition) (kind : CompareOp) (rn : ℕ) (second : Operand) (site : Site) (file : List ℕ) (bus : State)
-      (n : Bool) → (rn == 15) ≡ n
+  compare-tested : (cond : Condition) (kind : CompareOp) (rn : ℕ) (second : Operand) (site : Site) (file : List ℕ)
+      (bus : State) (n : Bool) → (rn == 15) ≡ n
       → effect_of_quick price load store (quick_of (op.Compare cond kind rn second)) site file bus
       ≡ effect price load store (op.Compare cond kind rn second) site file bus
   unfolding quick_of
@@ -414,7 +429,8 @@ module _ {State : Type 0} (price : Price State) (load : Load State) (store : Sto
 
   -- ---- transfers
 
-  address-is : (up : Bool) (base distance : ℕ) → (base + signed_offset up distance) % 2 ^ 32 ≡ offset_address up base distance
+  address-is : (up : Bool) (base distance : ℕ)
+      → (base + signed_offset up distance) % 2 ^ 32 ≡ offset_address up base distance
   address-is true base distance = refl
   address-is false base distance = omega arith
 
@@ -422,7 +438,8 @@ module _ {State : Type 0} (price : Price State) (load : Load State) (store : Sto
       → (register file rn + signed_offset up distance) % 2 ^ 32
       ≡ offset_address up (operand_register file (counter site) rn) distance
   address-plain up rn distance site file n =
-      address-is up (register file rn) distance ∙ ap (λ base. offset_address up base distance) (operand-plain file (counter site) rn n)
+      address-is up (register file rn) distance
+      ∙ ap (λ base. offset_address up base distance) (operand-plain file (counter site) rn n)
 
   load-plain : (kind : LoadUnit) (up : Bool) (rn rd distance : ℕ) (site : Site) (file : List ℕ) (bus : State)
       → (rn == 15) ≡ false → (rd == 15) ≡ false
@@ -433,10 +450,15 @@ module _ {State : Type 0} (price : Price State) (load : Load State) (store : Sto
   load-plain kind up rn rd distance site file bus n d =
       let made : ℕ → Done State = λ address.
       let got = unit_load price load store kind site address bus in
-      record { registers = with_register file rd got.value; bus = got.after; cycles = code_cost price bus site true + got.price + 1 } in
+      record {
+        registers = with_register file rd got.value;
+        bus = got.after;
+        cycles = code_cost price bus site true + got.price + 1;
+      } in
       let address = offset_address up (operand_register file (counter site) rn) distance in
       let got = unit_load price load store kind site address bus in
-      let more : code_cost price bus site true + got.price + 1 ≡ code_cost price bus site true + got.price + 1 + 0 = omega arith in
+      let more : code_cost price bus site true + got.price + 1 ≡ code_cost price bus site true + got.price + 1 + 0 =
+      omega arith in
       ap made (address-plain up rn distance site file n)
       ∙ rw d (same-done (with_register file rd got.value) (with_register file rd got.value) got.after _ _ refl more)
 
@@ -457,36 +479,44 @@ module _ {State : Type 0} (price : Price State) (load : Load State) (store : Sto
   plain-is : (cond : Condition) (load' byte up : Bool) (rn rd distance : ℕ) (site : Site) (file : List ℕ) (bus : State)
       → (rn == 15) ≡ false → (rd == 15) ≡ false
       → effect_of_quick price load store (plain_transfer load' byte rn rd (signed_offset up distance)) site file bus
-      ≡ effect price load store (op.Transfer cond load' byte true up false rn rd (transfer_offset.Number distance)) site file bus
+      ≡ effect price load store (op.Transfer cond load' byte true up false rn rd (transfer_offset.Number distance)) site
+      file bus
   unfolding effect_of_quick effect transfer_distance
   plain-is cond true true up rn rd distance site file bus n d = load-plain unit.Byte up rn rd distance site file bus n d
-  plain-is cond true false up rn rd distance site file bus n d = load-plain unit.Word up rn rd distance site file bus n d
-  plain-is cond false true up rn rd distance site file bus n d = store-plain width.Byte up rn rd distance site file bus n d
-  plain-is cond false false up rn rd distance site file bus n d = store-plain width.Word up rn rd distance site file bus n d
+  plain-is cond true false up rn rd distance site file bus n d =
+      load-plain unit.Word up rn rd distance site file bus n d
+  plain-is cond false true up rn rd distance site file bus n d =
+      store-plain width.Byte up rn rd distance site file bus n d
+  plain-is cond false false up rn rd distance site file bus n d =
+      store-plain width.Word up rn rd distance site file bus n d
 
-  general-is : (cond : Condition) (load' byte pre up write : Bool) (rn rd distance : ℕ) (site : Site) (file : List ℕ) (bus : State)
-      → effect_of_quick price load store
+  general-is : (cond : Condition) (load' byte pre up write : Bool) (rn rd distance : ℕ) (site : Site) (file : List ℕ)
+      (bus : State) → effect_of_quick price load store
       (general_transfer load' byte
       (record { pre = pre; up = up; write = write; rn = rn; rd = rd; distance = distance })) site file bus
-      ≡ effect price load store (op.Transfer cond load' byte pre up write rn rd (transfer_offset.Number distance)) site file bus
+      ≡ effect price load store (op.Transfer cond load' byte pre up write rn rd (transfer_offset.Number distance)) site
+      file bus
   unfolding effect_of_quick effect transfer_distance
   general-is cond true byte pre up write rn rd distance site file bus = refl
   general-is cond false byte pre up write rn rd distance site file bus = refl
 
-  transfer-tested : (cond : Condition) (load' byte pre up write : Bool) (rn rd distance : ℕ) (site : Site) (file : List ℕ)
-      (bus : State) (n d : Bool) → (rn == 15) ≡ n → (rd == 15) ≡ d
+  transfer-tested : (cond : Condition) (load' byte pre up write : Bool) (rn rd distance : ℕ) (site : Site)
+      (file : List ℕ) (bus : State) (n d : Bool) → (rn == 15) ≡ n → (rd == 15) ≡ d
       → effect_of_quick price load store
       (number_transfer load' byte
       (record { pre = pre; up = up; write = write; rn = rn; rd = rd; distance = distance })) site file bus
-      ≡ effect price load store (op.Transfer cond load' byte pre up write rn rd (transfer_offset.Number distance)) site file bus
+      ≡ effect price load store (op.Transfer cond load' byte pre up write rn rd (transfer_offset.Number distance)) site
+      file bus
   transfer-tested cond load' byte false up write rn rd distance site file bus n d n' d' =
       general-is cond load' byte false up write rn rd distance site file bus
   transfer-tested cond load' byte true up true rn rd distance site file bus n d n' d' =
       general-is cond load' byte true up true rn rd distance site file bus
   transfer-tested cond load' byte true up false rn rd distance site file bus true d n' d' =
-      form-effect _ _ _ site file bus (rw n' refl) (general-is cond load' byte true up false rn rd distance site file bus)
+      form-effect _ _ _ site file bus (rw n' refl)
+      (general-is cond load' byte true up false rn rd distance site file bus)
   transfer-tested cond load' byte true up false rn rd distance site file bus false true n d =
-      form-effect _ _ _ site file bus (rw (n, d) refl) (general-is cond load' byte true up false rn rd distance site file bus)
+      form-effect _ _ _ site file bus (rw (n, d) refl)
+      (general-is cond load' byte true up false rn rd distance site file bus)
   transfer-tested cond load' byte true up false rn rd distance site file bus false false n d =
       form-effect _ _ _ site file bus (rw (n, d) refl) (plain-is cond load' byte up rn rd distance site file bus n d)
 
@@ -519,7 +549,8 @@ module _ {State : Type 0} (price : Price State) (load : Load State) (store : Sto
       compare-tested cond kind rn second site file bus (rn == 15) refl
   quick_of-is (op.Transfer cond load' byte pre up write rn rd (transfer_offset.Number distance)) site file bus =
       transfer-tested cond load' byte pre up write rn rd distance site file bus (rn == 15) (rd == 15) refl refl
-  quick_of-is (op.Transfer cond load' byte pre up write rn rd (transfer_offset.Shifted rm kind amount)) site file bus = refl
+  quick_of-is (op.Transfer cond load' byte pre up write rn rd (transfer_offset.Shifted rm kind amount)) site file bus =
+      refl
   quick_of-is (op.Half cond StoreHalf pre up write rn rd (half_offset.Number distance)) site file bus = refl
   quick_of-is (op.Half cond LoadHalf pre up write rn rd (half_offset.Number distance)) site file bus = refl
   quick_of-is (op.Half cond LoadSignedByte pre up write rn rd (half_offset.Number distance)) site file bus = refl
@@ -528,8 +559,10 @@ module _ {State : Type 0} (price : Price State) (load : Load State) (store : Sto
   quick_of-is (op.Block cond load' pre up user write rn list) site file bus =
       let block : BlockTransfer = record { pre = pre; up = up; user = user; write = write; rn = rn; list = list } in
       block-tested cond load' block site file bus (is_plain block) refl
-  quick_of-is (op.Branch cond true offset) site file bus = rw (branch-target (counter site) (4 * cast_unsigned w32 offset)) refl
-  quick_of-is (op.Branch cond false offset) site file bus = rw (branch-target (counter site) (4 * cast_unsigned w32 offset)) refl
+  quick_of-is (op.Branch cond true offset) site file bus =
+      rw (branch-target (counter site) (4 * cast_unsigned w32 offset)) refl
+  quick_of-is (op.Branch cond false offset) site file bus =
+      rw (branch-target (counter site) (4 * cast_unsigned w32 offset)) refl
   quick_of-is (op.Exchange cond rm) site file bus = refl
   quick_of-is (op.Multiply cond accumulate set rd rn rs rm) site file bus = refl
   quick_of-is (op.MultiplyLong cond signed accumulate set hi lo rs rm) site file bus = refl
@@ -539,7 +572,8 @@ module _ {State : Type 0} (price : Price State) (load : Load State) (store : Sto
   quick_of-is (op.Interrupt cond comment) site file bus = refl
 
   pub quick_of_word-is : (one : Option ArmOp) (site : Site) (file : List ℕ) (bus : State)
-      → effect_of_quick price load store (quick_of_word one) site file bus ≡ effect_of_word price load store one site file bus
+      → effect_of_quick price load store (quick_of_word one) site file bus
+      ≡ effect_of_word price load store one site file bus
   unfolding effect_of_quick effect_of_word
   quick_of_word-is None site file bus = refl
   quick_of_word-is (Some whole) site file bus = quick_of-is whole site file bus

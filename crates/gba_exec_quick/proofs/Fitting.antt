@@ -23,7 +23,8 @@ use Rattle.gba_exec_quick.specs.Making.{QuickFits, compare_form, compare_number_
 use Rattle.gba_exec_quick.specs.declared.quick.Quick.{Quick}
 use Rattle.gba_exec_quick.specs.declared.quick.Quick.TheVariants as quick
 
-either-fits : (test : Bool) (one other : Quick) → QuickFits one → QuickFits other → QuickFits (if test then one else other)
+either-fits : (test : Bool) (one other : Quick) → QuickFits one → QuickFits other
+    → QuickFits (if test then one else other)
 either-fits true one other here there = here
 either-fits false one other here there = there
 
@@ -66,7 +67,8 @@ set_number_form-fits : (kind : ComputeOp) (rn rd value : ℕ) (turned : Bool) �
 set_number_form-fits Add rn rd value turned n d = (n, d)
 set_number_form-fits kind rn rd value turned n d = (n, d)
 
-set_plain_form-fits : (kind : ComputeOp) (rn rd rm : ℕ) → rn < 16 → rd < 16 → rm < 16 → QuickFits (set_plain_form kind rn rd rm)
+set_plain_form-fits : (kind : ComputeOp) (rn rd rm : ℕ) → rn < 16 → rd < 16 → rm < 16
+    → QuickFits (set_plain_form kind rn rd rm)
 set_plain_form-fits Add rn rd rm n d m = (n, d, m)
 set_plain_form-fits kind rn rd rm n d m = (n, d, m)
 
@@ -75,7 +77,8 @@ set_shifted_form-fits : (kind : ComputeOp) (rn rd rm : ℕ) (shift : Shift) (amo
 set_shifted_form-fits Mov rn rd rm shift amount n d m least most = (n, d, m, least, most)
 set_shifted_form-fits kind rn rd rm shift amount n d m least most = (n, d, m, least, most)
 
-compare_number_form-fits : (kind : ComputeOp) (rn value : ℕ) (turned : Bool) → rn < 16 → QuickFits (compare_number_form kind rn value turned)
+compare_number_form-fits : (kind : ComputeOp) (rn value : ℕ) (turned : Bool) → rn < 16
+    → QuickFits (compare_number_form kind rn value turned)
 compare_number_form-fits Sub rn value turned n = n
 compare_number_form-fits kind rn value turned n = n
 
@@ -83,12 +86,14 @@ compare_plain_form-fits : (kind : ComputeOp) (rn rm : ℕ) → rn < 16 → rm < 
 compare_plain_form-fits Sub rn rm n m = (n, m)
 compare_plain_form-fits kind rn rm n m = (n, m)
 
-compute_shifted-fits : (whole : ArmOp) (kind : ComputeOp) (set : Bool) (rn rd rm : ℕ) (shift : Shift) (amount : ℕ) → Fits whole
-    → rn < 16 → rd < 16 → rm < 16 → amount < 32 → QuickFits (compute_shifted whole kind set rn rd rm shift amount)
+compute_shifted-fits : (whole : ArmOp) (kind : ComputeOp) (set : Bool) (rn rd rm : ℕ) (shift : Shift) (amount : ℕ)
+    → Fits whole → rn < 16 → rd < 16 → rm < 16 → amount < 32
+    → QuickFits (compute_shifted whole kind set rn rd rm shift amount)
 compute_shifted-fits whole kind set rn rd rm shift amount fits n d m a =
     let other = quick.Other whole in
     let plain = if set then set_plain_form kind rn rd rm else plain_form kind rn rd rm in
-    let shifts = if set then set_shifted_form kind rn rd rm shift amount else quick.Shifted kind rn rd rm shift amount in
+    let shifts =
+    if set then set_shifted_form kind rn rd rm shift amount else quick.Shifted kind rn rd rm shift amount in
     either-fits (rm == 15) other (if amount == 0 then (if is_lsl shift then plain else other) else shifts) fits
     (tested-fits (amount == 0) amount (if is_lsl shift then plain else other) shifts refl
     (either-fits (is_lsl shift) plain other
@@ -98,8 +103,9 @@ compute_shifted-fits whole kind set rn rd rm shift amount fits n d m a =
     either-fits set (set_shifted_form kind rn rd rm shift amount) (quick.Shifted kind rn rd rm shift amount)
     (set_shifted_form-fits kind rn rd rm shift amount n d m positive most) (n, d, m, positive, most)))
 
-compute_form-fits : (whole : ArmOp) (kind : ComputeOp) (set : Bool) (rn rd : ℕ) (second : Operand) → Fits whole → rn < 16 → rd < 16
-    → Within (operand_registers second) → Within (operand_immediates second) → QuickFits (compute_form whole kind set rn rd second)
+compute_form-fits : (whole : ArmOp) (kind : ComputeOp) (set : Bool) (rn rd : ℕ) (second : Operand) → Fits whole
+    → rn < 16 → rd < 16 → Within (operand_registers second) → Within (operand_immediates second)
+    → QuickFits (compute_form whole kind set rn rd second)
 compute_form-fits whole kind set rn rd (operand.Immediate value turn) fits n d r i =
     let word = rotation value (2 * turn) in
     either-fits set (set_number_form kind rn rd word (not (turn == 0))) (number_form kind rn rd word)
@@ -121,24 +127,28 @@ compare_shifted-fits whole kind rn rm shift amount fits n m a =
     (λ positive. (n, m, positive, omega arith)))
 
 compare_form-fits : (whole : ArmOp) (kind : ComputeOp) (rn : ℕ) (second : Operand) → Fits whole → rn < 16
-    → Within (operand_registers second) → Within (operand_immediates second) → QuickFits (compare_form whole kind rn second)
+    → Within (operand_registers second) → Within (operand_immediates second)
+    → QuickFits (compare_form whole kind rn second)
 compare_form-fits whole kind rn (operand.Immediate value turn) fits n r i =
     compare_number_form-fits kind rn (rotation value (2 * turn)) (not (turn == 0)) n
 compare_form-fits whole kind rn (operand.Fixed rm shift amount) fits n r i =
     compare_shifted-fits whole kind rn rm shift amount fits n r.0 i.0
 compare_form-fits whole kind rn (operand.ByRegister rm shift rs) fits n r i = fits
 
-plain_transfer-fits : (load byte : Bool) (rn rd offset : ℕ) → rn < 16 → rd < 16 → QuickFits (plain_transfer load byte rn rd offset)
+plain_transfer-fits : (load byte : Bool) (rn rd offset : ℕ) → rn < 16 → rd < 16
+    → QuickFits (plain_transfer load byte rn rd offset)
 plain_transfer-fits true true rn rd offset n d = (n, d)
 plain_transfer-fits true false rn rd offset n d = (n, d)
 plain_transfer-fits false true rn rd offset n d = (n, d)
 plain_transfer-fits false false rn rd offset n d = (n, d)
 
-general_transfer-fits : (load byte : Bool) (one : SingleTransfer) → one.rn < 16 → one.rd < 16 → QuickFits (general_transfer load byte one)
+general_transfer-fits : (load byte : Bool) (one : SingleTransfer) → one.rn < 16 → one.rd < 16
+    → QuickFits (general_transfer load byte one)
 general_transfer-fits true byte one n d = (n, d)
 general_transfer-fits false byte one n d = (n, d)
 
-number_transfer-fits : (load byte : Bool) (one : SingleTransfer) → one.rn < 16 → one.rd < 16 → QuickFits (number_transfer load byte one)
+number_transfer-fits : (load byte : Bool) (one : SingleTransfer) → one.rn < 16 → one.rd < 16
+    → QuickFits (number_transfer load byte one)
 number_transfer-fits load byte one n d =
     let offset = signed_offset one.up one.distance in
     either-fits (one.pre && not one.write && not (one.rn == 15) && not (one.rd == 15))
@@ -179,7 +189,8 @@ unfolding quick_of
 quick_of-fits (op.Compute cond kind set rn rd second) fits =
     let whole = op.Compute cond kind set rn rd second in
     either-fits (rn == 15 || rd == 15) (quick.Other whole) (compute_form whole kind set rn rd second) fits
-    (compute_form-fits whole kind set rn rd second fits fits.registers.0 fits.registers.1.0 fits.registers.1.1 fits.immediates)
+    (compute_form-fits whole kind set rn rd second fits fits.registers.0 fits.registers.1.0 fits.registers.1.1
+    fits.immediates)
 quick_of-fits (op.Compare cond kind rn second) fits =
     let whole = op.Compare cond kind rn second in
     either-fits (rn == 15) (quick.Other whole) (compare_form whole (compute_op_of kind) rn second) fits

@@ -66,7 +66,8 @@ module _ {State : Type 0} (price : Price State) (load : Load State) (store : Sto
   after_set_shifted kind rn rd rm shift amount site file bus =
       let second = nonzero_shift shift (register file rm) amount in
       internal price load store bus
-      (with_flags_and rd (outcome_in kind (register file rn) second.0 second.1 file) file) (code_cost price bus site true)
+      (with_flags_and rd (outcome_in kind (register file rn) second.0 second.1 file) file)
+      (code_cost price bus site true)
 
   -- the flags of a register and a number, and of two registers
   abbrev pub after_compare_number : ComputeOp → ℕ → ℕ → Bool → Site → List ℕ → State → Done State

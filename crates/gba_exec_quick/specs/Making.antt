@@ -93,7 +93,8 @@ abbrev pub compute_shifted : ArmOp → ComputeOp → Bool → ℕ → ℕ → �
 compute_shifted whole kind set rn rd rm shift amount =
     if rm == 15 then quick.Other whole
     else if amount == 0 then
-    (if is_lsl shift then (if set then set_plain_form kind rn rd rm else plain_form kind rn rd rm) else quick.Other whole)
+    (if is_lsl shift then (if set then set_plain_form kind rn rd rm else plain_form kind rn rd rm)
+    else quick.Other whole)
     else if set then set_shifted_form kind rn rd rm shift amount
     else quick.Shifted kind rn rd rm shift amount
 
@@ -175,9 +176,9 @@ abbrev pub quick_of_word : Option ArmOp → Quick
 quick_of_word None = quick.Trap
 quick_of_word (Some operation) = quick_of operation
 
--- A quick form with the commonest operations taken back into their classes: data processing of a register and a number, of two
--- registers, and of a register and a shifted one, without S, with S, and of the flags alone; loads and stores at a base plus an
--- offset that keep the base; and the rest.
+-- A quick form with the commonest operations taken back into their classes: data processing of a register and a number,
+-- of two registers, and of a register and a shifted one, without S, with S, and of the flags alone; loads and stores at
+-- a base plus an offset that keep the base; and the rest.
 pub data General : Type 0 where
   Number : ComputeOp → ℕ → ℕ → ℕ → General
   Plain : ComputeOp → ℕ → ℕ → ℕ → General

@@ -1,6 +1,6 @@
 #![tactic(auto)]
-//! Quick forms: the common shapes of operations, found once when a word is decoded, so that performing them asks nothing
-//! more about r15, operands or forms. Each has the effect of its operation.
+//! Quick forms: the common shapes of operations, found once when a word is decoded, so that performing them asks
+//! nothing more about r15, operands or forms. Each has the effect of its operation.
 
 pub mod laws;
 mod making;

@@ -533,8 +533,8 @@ fn write_shifted<B: Bus>(
     requires rm { rm < 16 }
     requires least { 0 < amount }
     requires most { amount ≤ 31 }
-    ensures { Leaves (effect_of_quick B.code_price_of B.load_of B.store_of (Quick.Shifted op rn rd rm kind amount) site registers.old
-        (B.state bus.now)) registers.new (B.state bus.now) result }
+    ensures { Leaves (effect_of_quick B.code_price_of B.load_of B.store_of (Quick.Shifted op rn rd rm kind amount) site
+        registers.old (B.state bus.now)) registers.new (B.state bus.now) result }
 {
     let second = shift_within(kind, registers.get(u32::from(rm)), amount);
     let value = value_of(registers, op, registers.get(u32::from(rn)), second);
@@ -557,8 +557,8 @@ pub fn set_number<B: Bus>(
 ) -> u32
     requires rn { rn < 16 }
     requires rd { rd < 16 }
-    ensures { Leaves (effect_of_quick B.code_price_of B.load_of B.store_of (Quick.SetNumber op rn rd value turned) site registers.old
-        (B.state bus.now)) registers.new (B.state bus.now) result }
+    ensures { Leaves (effect_of_quick B.code_price_of B.load_of B.store_of (Quick.SetNumber op rn rd value turned) site
+        registers.old (B.state bus.now)) registers.new (B.state bus.now) result }
 {
     let carry = number_carry(registers, value, turned);
     let outcome = outcome_in(registers, op, registers.get(u32::from(rn)), value, carry);
@@ -581,8 +581,8 @@ pub fn set_plain<B: Bus>(
     requires rn { rn < 16 }
     requires rd { rd < 16 }
     requires rm { rm < 16 }
-    ensures { Leaves (effect_of_quick B.code_price_of B.load_of B.store_of (Quick.SetPlain op rn rd rm) site registers.old
-        (B.state bus.now)) registers.new (B.state bus.now) result }
+    ensures { Leaves (effect_of_quick B.code_price_of B.load_of B.store_of (Quick.SetPlain op rn rd rm) site
+        registers.old (B.state bus.now)) registers.new (B.state bus.now) result }
 {
     let second = registers.get(u32::from(rm));
     let carry = registers.flags().carry;
@@ -610,8 +610,8 @@ fn set_shifted<B: Bus>(
     requires rm { rm < 16 }
     requires least { 0 < amount }
     requires most { amount ≤ 31 }
-    ensures { Leaves (effect_of_quick B.code_price_of B.load_of B.store_of (Quick.SetShifted op rn rd rm kind amount) site registers.old
-        (B.state bus.now)) registers.new (B.state bus.now) result }
+    ensures { Leaves (effect_of_quick B.code_price_of B.load_of B.store_of (Quick.SetShifted op rn rd rm kind amount)
+        site registers.old (B.state bus.now)) registers.new (B.state bus.now) result }
 {
     let (second, carry) = shift(kind, registers.get(u32::from(rm)), amount, false);
     let outcome = outcome_in(registers, op, registers.get(u32::from(rn)), second, carry);
@@ -655,8 +655,8 @@ pub fn move_left<B: Bus>(
     requires rm { rm < 16 }
     requires least { 0 < amount }
     requires most { amount ≤ 31 }
-    ensures { Leaves (effect_of_quick B.code_price_of B.load_of B.store_of (Quick.SetMovShifted rn rd rm Lsl amount) site registers.old
-        (B.state bus.now)) registers.new (B.state bus.now) result }
+    ensures { Leaves (effect_of_quick B.code_price_of B.load_of B.store_of (Quick.SetMovShifted rn rd rm Lsl amount)
+        site registers.old (B.state bus.now)) registers.new (B.state bus.now) result }
 {
     let value = registers.get(u32::from(rm));
     let second = shift_within(Shift::Lsl, value, amount);
@@ -689,8 +689,8 @@ pub fn move_right<B: Bus>(
     requires rm { rm < 16 }
     requires least { 0 < amount }
     requires most { amount ≤ 31 }
-    ensures { Leaves (effect_of_quick B.code_price_of B.load_of B.store_of (Quick.SetMovShifted rn rd rm Lsr amount) site registers.old
-        (B.state bus.now)) registers.new (B.state bus.now) result }
+    ensures { Leaves (effect_of_quick B.code_price_of B.load_of B.store_of (Quick.SetMovShifted rn rd rm Lsr amount)
+        site registers.old (B.state bus.now)) registers.new (B.state bus.now) result }
 {
     let value = registers.get(u32::from(rm));
     let second = shift_within(Shift::Lsr, value, amount);
@@ -719,8 +719,8 @@ pub fn compare_number<B: Bus>(
     turned: bool,
 ) -> u32
     requires { rn < 16 }
-    ensures { Leaves (effect_of_quick B.code_price_of B.load_of B.store_of (Quick.CompareNumber op rn value turned) site registers.old
-        (B.state bus.now)) registers.new (B.state bus.now) result }
+    ensures { Leaves (effect_of_quick B.code_price_of B.load_of B.store_of (Quick.CompareNumber op rn value turned) site
+        registers.old (B.state bus.now)) registers.new (B.state bus.now) result }
 {
     let carry = number_carry(registers, value, turned);
     let outcome = outcome_in(registers, op, registers.get(u32::from(rn)), value, carry);
@@ -741,8 +741,8 @@ pub fn compare_plain<B: Bus>(
 ) -> u32
     requires rn { rn < 16 }
     requires rm { rm < 16 }
-    ensures { Leaves (effect_of_quick B.code_price_of B.load_of B.store_of (Quick.ComparePlain op rn rm) site registers.old
-        (B.state bus.now)) registers.new (B.state bus.now) result }
+    ensures { Leaves (effect_of_quick B.code_price_of B.load_of B.store_of (Quick.ComparePlain op rn rm) site
+        registers.old (B.state bus.now)) registers.new (B.state bus.now) result }
 {
     let second = registers.get(u32::from(rm));
     let carry = registers.flags().carry;
@@ -768,8 +768,8 @@ fn compare_shifted<B: Bus>(
     requires rm { rm < 16 }
     requires least { 0 < amount }
     requires most { amount ≤ 31 }
-    ensures { Leaves (effect_of_quick B.code_price_of B.load_of B.store_of (Quick.CompareShifted op rn rm kind amount) site registers.old
-        (B.state bus.now)) registers.new (B.state bus.now) result }
+    ensures { Leaves (effect_of_quick B.code_price_of B.load_of B.store_of (Quick.CompareShifted op rn rm kind amount)
+        site registers.old (B.state bus.now)) registers.new (B.state bus.now) result }
 {
     let (second, carry) = shift(kind, registers.get(u32::from(rm)), amount, false);
     let outcome = outcome_in(registers, op, registers.get(u32::from(rn)), second, carry);

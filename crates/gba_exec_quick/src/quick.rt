@@ -5,8 +5,8 @@ use gba_bus::Width;
 use gba_exec_transfers::{BlockTransfer, LoadUnit, PlainBlock, SingleTransfer};
 use gba_word::Shift;
 
-/// An operation in the form in which it is performed. But for the forms that hold a transfer or the operation itself, no
-/// register is r15, a number is already turned, and a shift is by 1 to 31 places.
+/// An operation in the form in which it is performed. But for the forms that hold a transfer or the operation itself,
+/// no register is r15, a number is already turned, and a shift is by 1 to 31 places.
 #[derive(Clone, Copy)]
 pub enum Quick {
     /// `rd` takes `op` of `rn` and a number.

@@ -4,7 +4,8 @@ use Rattle.gba_arm_table.specs.declared.operation.Condition.{Condition}
 use Rattle.gba_arm_table.specs.declared.operation.Condition.TheVariants.{Equal, NotEqual, CarrySet, CarryClear, Minus, Plus, Overflow, NoOverflow, Higher, LowerOrSame, GreaterOrEqual, Less, Greater, LessOrEqual, Always, Never}
 use Rattle.gba_psr.specs.declared.condition.Flags.{Flags}
 
--- whether a condition holds (ARM Architecture Reference Manual, A3.2; that the last never does is this project's profile)
+-- whether a condition holds (ARM Architecture Reference Manual, A3.2; that the last never does is this
+-- project's profile)
 abbrev pub holds : Condition → Flags → Bool
 holds Equal flags = flags.zero
 holds NotEqual flags = not flags.zero

@@ -68,7 +68,12 @@ compute_op_of Cmn = Add
 -- the flags of a result (ARM Architecture Reference Manual, A3.4)
 abbrev pub flags_after : Outcome → Flags
 flags_after outcome =
-    record { negative = bit outcome.value 31; zero = outcome.value == 0; carry = outcome.carry; overflow = outcome.overflow }
+    record {
+      negative = bit outcome.value 31;
+      zero = outcome.value == 0;
+      carry = outcome.carry;
+      overflow = outcome.overflow;
+    }
 
 -- the outcome of an operation in a register file
 unfoldable pub outcome : ComputeOp → ℕ → Operand → Site → List ℕ → Outcome

@@ -52,18 +52,18 @@ module _ {State : Type 0} (price : Price State) (load : Load State) (store : Sto
       ∙ loads-from user site numbers lowest done (length numbers) 0 (omega arith)
       ∙ ap (λ m. after_loads load store user site numbers lowest done m) (omega arith)
 
-  store-next : (user : Bool) (site : Site) (write : Bool) (rn base : ℕ) (numbers : List ℕ) (lowest : ℕ) (done : Done State)
-      (k : ℕ) (rest : List ℕ)
-      → stores price load store user site write rn base (get_or numbers k 0 ∷ rest) (access_address lowest k) (is_sequential k)
-      (after_stores load store user site write rn base numbers lowest done k)
+  store-next : (user : Bool) (site : Site) (write : Bool) (rn base : ℕ) (numbers : List ℕ) (lowest : ℕ)
+      (done : Done State) (k : ℕ) (rest : List ℕ)
+      → stores price load store user site write rn base (get_or numbers k 0 ∷ rest) (access_address lowest k)
+      (is_sequential k) (after_stores load store user site write rn base numbers lowest done k)
       ≡ stores price load store user site write rn base rest ((access_address lowest k + 4) % 2 ^ 32) true
       (after_stores load store user site write rn base numbers lowest done (suc k))
   unfolding stores after_stores
   store-next user site write rn base numbers lowest done zero rest = refl
   store-next user site write rn base numbers lowest done (suc k) rest = refl
 
-  stores-from : (user : Bool) (site : Site) (write : Bool) (rn base : ℕ) (numbers : List ℕ) (lowest : ℕ) (done : Done State)
-      (n k : ℕ) → k + n ≡ length numbers
+  stores-from : (user : Bool) (site : Site) (write : Bool) (rn base : ℕ) (numbers : List ℕ) (lowest : ℕ)
+      (done : Done State) (n k : ℕ) → k + n ≡ length numbers
       → stores price load store user site write rn base (drop k numbers) (access_address lowest k) (is_sequential k)
       (after_stores load store user site write rn base numbers lowest done k)
       ≡ after_stores load store user site write rn base numbers lowest done (k + n)
@@ -77,17 +77,20 @@ module _ {State : Type 0} (price : Price State) (load : Load State) (store : Sto
       let rest = stores-from user site write rn base numbers lowest done n (suc k) (omega arith) in
       let left = drop (suc k) numbers in
       let state = after_stores load store user site write rn base numbers lowest done in
-      ap (λ list. stores price load store user site write rn base list (access_address lowest k) (is_sequential k) (state k)) more
+      ap (λ list. stores price load store user site write rn base list (access_address lowest k) (is_sequential k)
+      (state k)) more
       ∙ store-next user site write rn base numbers lowest done k left
-      ∙ ap (λ address. stores price load store user site write rn base left address true (state (suc k))) (next-address lowest k)
+      ∙ ap (λ address. stores price load store user site write rn base left address true (state (suc k)))
+      (next-address lowest k)
       ∙ rest ∙ ap state later
 
-  pub stores-accesses : (user : Bool) (site : Site) (write : Bool) (rn base : ℕ) (numbers : List ℕ) (lowest : ℕ) (done : Done State)
-      → lowest < 2 ^ 32
+  pub stores-accesses : (user : Bool) (site : Site) (write : Bool) (rn base : ℕ) (numbers : List ℕ) (lowest : ℕ)
+      (done : Done State) → lowest < 2 ^ 32
       → stores price load store user site write rn base numbers lowest false done
       ≡ after_stores load store user site write rn base numbers lowest done (length numbers)
   unfolding after_stores
   stores-accesses user site write rn base numbers lowest done small =
-      ap (λ address. stores price load store user site write rn base numbers address false done) (first-address lowest small)
+      ap (λ address. stores price load store user site write rn base numbers address false done)
+      (first-address lowest small)
       ∙ stores-from user site write rn base numbers lowest done (length numbers) 0 (omega arith)
       ∙ ap (λ m. after_stores load store user site write rn base numbers lowest done m) (omega arith)

@@ -33,7 +33,8 @@ module _ {State : Type 0} (price : Price State) (load : Load State) (store : Sto
   kept-loads user site (number ∷ rest) address sequential done holds =
       kept-loads user site rest ((address + 4) % 2 ^ 32) true
       (record {
-        registers = with_block_register user done.registers number (load done.bus site.address address Word sequential).value;
+        registers =
+            with_block_register user done.registers number (load done.bus site.address address Word sequential).value;
         bus = (load done.bus site.address address Word sequential).after;
         cycles = done.cycles + (load done.bus site.address address Word sequential).price;
       })
@@ -148,9 +149,11 @@ module _ {State : Type 0} (price : Price State) (load : Load State) (store : Sto
       (record { pre = pre; up = up; write = write; rn = rn; rd = rd; distance = transfer_distance offset site file })
       site file bus holds
   kept-effect (op.Block cond true pre up user write rn list) site file bus holds =
-      kept-load-block (record { pre = pre; up = up; user = user; write = write; rn = rn; list = list }) site file bus holds
+      kept-load-block (record { pre = pre; up = up; user = user; write = write; rn = rn; list = list }) site file
+      bus holds
   kept-effect (op.Block cond false pre up user write rn list) site file bus holds =
-      kept-store-block (record { pre = pre; up = up; user = user; write = write; rn = rn; list = list }) site file bus holds
+      kept-store-block (record { pre = pre; up = up; user = user; write = write; rn = rn; list = list }) site file
+      bus holds
   kept-effect (op.Branch cond link offset) site file bus holds = holds
   kept-effect (op.Interrupt cond comment) site file bus holds = holds
 

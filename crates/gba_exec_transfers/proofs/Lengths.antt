@@ -28,7 +28,8 @@ use Rattle.gba_exec_transfers.specs.declared.units.SingleTransfer.{SingleTransfe
 
 -- How long operations take where each price of the bus is from 1 to 18.
 
-kept_below : (test : Bool) (first : ℕ) (rest : List ℕ) (count : ℕ) → length rest ≤ count → length (if test then first ∷ rest else rest) ≤ suc count
+kept_below : (test : Bool) (first : ℕ) (rest : List ℕ) (count : ℕ) → length rest ≤ count
+    → length (if test then first ∷ rest else rest) ≤ suc count
 kept_below true first rest count below = omega arith
 kept_below false first rest count below = omega arith
 
@@ -42,7 +43,8 @@ registers_in_below : (list : ℕ) → length (registers_in list 0 16) ≤ 16
 unfolding registers_in
 registers_in_below list = filter_below (λ number. bit list number) 0 16
 
-multiplier_below : (signed : Bool) (value : ℕ) → (1 ≤ multiplier_cycles signed value) × (multiplier_cycles signed value ≤ 4)
+multiplier_below : (signed : Bool) (value : ℕ)
+    → (1 ≤ multiplier_cycles signed value) × (multiplier_cycles signed value ≤ 4)
 unfolding multiplier_cycles
 multiplier_below signed value = grind (arith, nat_tests)
 
@@ -64,13 +66,17 @@ module _ {State : Type 0} (price : Price State) (load : Load State) (store : Sto
   code_price : (bus : State) (site : Site) (sequential : Bool) → IsPrice (code_cost price bus site sequential)
   code_price bus site sequential = code_prices bus site.address (code_width site) sequential
 
-  refill_below : (bus : State) (site : Site) (flag : Bool) → (if flag then code_cost price bus site true + code_cost price bus site false else 0) ≤ 36
+  refill_below : (bus : State) (site : Site) (flag : Bool)
+      → (if flag then code_cost price bus site true + code_cost price bus site false else 0) ≤ 36
   refill_below bus site flag =
       let first = code_price bus site true in
       let second = code_price bus site false in
-      chosen_below flag (code_cost price bus site true + code_cost price bus site false) (omega (arith, first.most, second.most))
+      chosen_below flag (code_cost price bus site true + code_cost price bus site false)
+      (omega (arith, first.most, second.most))
 
-  loads_length : (user : Bool) (site : Site) (numbers : List ℕ) (address : ℕ) (sequential : Bool) (done : Done State) → (done.cycles ≤ (loads price load store user site numbers address sequential done).cycles) × ((loads price load store user site numbers address sequential done).cycles ≤ done.cycles + 18 * length numbers)
+  loads_length : (user : Bool) (site : Site) (numbers : List ℕ) (address : ℕ) (sequential : Bool) (done : Done State)
+      → (done.cycles ≤ (loads price load store user site numbers address sequential done).cycles)
+      × ((loads price load store user site numbers address sequential done).cycles ≤ done.cycles + 18 * length numbers)
   unfolding loads
   loads_length user site [] address sequential done = (omega arith, omega arith)
   loads_length user site (number ∷ rest) address sequential done =
@@ -78,13 +84,18 @@ module _ {State : Type 0} (price : Price State) (load : Load State) (store : Sto
       let later =
       loads_length user site rest ((address + 4) % 2 ^ 32) true
       (record {
-        registers = with_block_register user done.registers number (load done.bus site.address address Word sequential).value;
+        registers =
+            with_block_register user done.registers number (load done.bus site.address address Word sequential).value;
         bus = (load done.bus site.address address Word sequential).after;
         cycles = done.cycles + (load done.bus site.address address Word sequential).price;
       }) in
       (omega (arith, one.least, later.0), omega (arith, one.most, later.1))
 
-  stores_length : (user : Bool) (site : Site) (write : Bool) (rn base : ℕ) (numbers : List ℕ) (address : ℕ) (sequential : Bool) (done : Done State) → (done.cycles ≤ (stores price load store user site write rn base numbers address sequential done).cycles) × ((stores price load store user site write rn base numbers address sequential done).cycles ≤ done.cycles + 18 * length numbers)
+  stores_length : (user : Bool) (site : Site) (write : Bool) (rn base : ℕ) (numbers : List ℕ) (address : ℕ)
+      (sequential : Bool) (done : Done State)
+      → (done.cycles ≤ (stores price load store user site write rn base numbers address sequential done).cycles)
+      × ((stores price load store user site write rn base numbers address sequential done).cycles
+      ≤ done.cycles + 18 * length numbers)
   unfolding stores
   stores_length user site write rn base [] address sequential done = (omega arith, omega arith)
   stores_length user site write rn base (number ∷ rest) address sequential done =
@@ -94,7 +105,9 @@ module _ {State : Type 0} (price : Price State) (load : Load State) (store : Sto
       (record {
         registers = if sequential then done.registers else with_write_back write rn base done.registers;
         bus = (store done.bus address Word (block_register user site done.registers number) sequential).after;
-        cycles = done.cycles + (store done.bus address Word (block_register user site done.registers number) sequential).price;
+        cycles =
+            done.cycles
+            + (store done.bus address Word (block_register user site done.registers number) sequential).price;
       }) in
       (omega (arith, one.least, later.0), omega (arith, one.most, later.1))
 
@@ -104,7 +117,8 @@ module _ {State : Type 0} (price : Price State) (load : Load State) (store : Sto
       let second = code_price bus site false in
       record { least = omega (arith, first.least); most = omega (arith, first.most, second.most) }
 
-  load_length : (kind : LoadUnit) (one : SingleTransfer) (site : Site) (file : List ℕ) (bus : State) → IsStepLength (after_load price load store kind one site file bus).cycles
+  load_length : (kind : LoadUnit) (one : SingleTransfer) (site : Site) (file : List ℕ) (bus : State)
+      → IsStepLength (after_load price load store kind one site file bus).cycles
   unfolding after_load unit_load
   load_length kind one site file bus =
       let code = code_price bus site true in
@@ -114,14 +128,18 @@ module _ {State : Type 0} (price : Price State) (load : Load State) (store : Sto
       let refill = refill_below bus site (one.rd == 15) in
       record { least = omega (arith, code.least); most = omega (arith, code.most, price_of_data.most, refill) }
 
-  store_length : (kind : Width) (one : SingleTransfer) (site : Site) (file : List ℕ) (bus : State) → IsStepLength (after_store price load store kind one site file bus).cycles
+  store_length : (kind : Width) (one : SingleTransfer) (site : Site) (file : List ℕ) (bus : State)
+      → IsStepLength (after_store price load store kind one site file bus).cycles
   unfolding after_store unit_store
   store_length kind one site file bus =
       let code = code_price bus site false in
-      let price_of_data = store_prices bus (aligned kind (transfer_address one site file)) kind (operand_register file (late_counter site) one.rd) false in
+      let price_of_data =
+      store_prices bus (aligned kind (transfer_address one site file)) kind
+      (operand_register file (late_counter site) one.rd) false in
       record { least = omega (arith, code.least); most = omega (arith, code.most, price_of_data.most) }
 
-  swap_length : (byte : Bool) (rn rd rm : ℕ) (site : Site) (file : List ℕ) (bus : State) → IsStepLength (after_swap price load store byte rn rd rm site file bus).cycles
+  swap_length : (byte : Bool) (rn rd rm : ℕ) (site : Site) (file : List ℕ) (bus : State)
+      → IsStepLength (after_swap price load store byte rn rd rm site file bus).cycles
   unfolding after_swap unit_load unit_store
   swap_length byte rn rd rm site file bus =
       let code = code_price bus site true in
@@ -135,7 +153,8 @@ module _ {State : Type 0} (price : Price State) (load : Load State) (store : Sto
       let refill = refill_below bus site (rd == 15) in
       record { least = omega (arith, code.least); most = omega (arith, code.most, read.most, wrote.most, refill) }
 
-  load_block_length : (block : BlockTransfer) (site : Site) (file : List ℕ) (bus : State) → IsStepLength (after_load_block price load store block site file bus).cycles
+  load_block_length : (block : BlockTransfer) (site : Site) (file : List ℕ) (bus : State)
+      → IsStepLength (after_load_block price load store block site file bus).cycles
   unfolding after_load_block
   load_block_length block site file bus =
       let code = code_price bus site true in
@@ -144,26 +163,31 @@ module _ {State : Type 0} (price : Price State) (load : Load State) (store : Sto
       let refill = refill_below bus site counter_loaded in
       let few = registers_in_below (full_list block.list) in
       let run =
-      loads_length (block.user && not counter_loaded) site (registers_in (full_list block.list) 0 16) (first_address block base) false
-      (record {
-        registers = with_write_back (block.write && not (bit block.list block.rn)) block.rn (offset_address block.up base (span block.list)) file;
+      loads_length (block.user && not counter_loaded) site (registers_in (full_list block.list) 0 16)
+      (first_address block base) false (record {
+        registers =
+            with_write_back (block.write && not (bit block.list block.rn)) block.rn
+            (offset_address block.up base (span block.list)) file;
         bus = bus;
         cycles = code_cost price bus site true + 1;
       }) in
       record { least = omega (arith, run.0); most = omega (arith, code.most, run.1, few, refill) }
 
-  store_block_length : (block : BlockTransfer) (site : Site) (file : List ℕ) (bus : State) → IsStepLength (after_store_block price load store block site file bus).cycles
+  store_block_length : (block : BlockTransfer) (site : Site) (file : List ℕ) (bus : State)
+      → IsStepLength (after_store_block price load store block site file bus).cycles
   unfolding after_store_block
   store_block_length block site file bus =
       let code = code_price bus site false in
       let base = operand_register file (counter site) block.rn in
       let few = registers_in_below (full_list block.list) in
       let run =
-      stores_length block.user site block.write block.rn (offset_address block.up base (span block.list)) (registers_in (full_list block.list) 0 16) (first_address block base) false
+      stores_length block.user site block.write block.rn (offset_address block.up base (span block.list))
+      (registers_in (full_list block.list) 0 16) (first_address block base) false
       (record { registers = file; bus = bus; cycles = code_cost price bus site false }) in
       record { least = omega (arith, code.least, run.0); most = omega (arith, code.most, run.1, few) }
 
-  performed_length : (one : ArmOp) (site : Site) (file : List ℕ) (bus : State) → IsStepLength (effect price load store one site file bus).cycles
+  performed_length : (one : ArmOp) (site : Site) (file : List ℕ) (bus : State)
+      → IsStepLength (effect price load store one site file bus).cycles
   unfolding effect
   performed_length (op.Exchange cond rm) site file bus = jump_length site bus
   performed_length (op.Multiply cond accumulate set rd rn rs rm) site file bus =
@@ -179,10 +203,22 @@ module _ {State : Type 0} (price : Price State) (load : Load State) (store : Sto
       let refill = refill_below bus site (hi == 15 || lo == 15) in
       record { least = omega (arith, code.least); most = omega (arith, code.most, cycles.1, one, refill) }
   performed_length (op.Swap cond byte rn rd rm) site file bus = swap_length byte rn rd rm site file bus
-  performed_length (op.Half cond StoreHalf pre up write rn rd offset) site file bus = store_length width.Half (record { pre = pre; up = up; write = write; rn = rn; rd = rd; distance = half_distance offset site file }) site file bus
-  performed_length (op.Half cond LoadHalf pre up write rn rd offset) site file bus = load_length unit.Half (record { pre = pre; up = up; write = write; rn = rn; rd = rd; distance = half_distance offset site file }) site file bus
-  performed_length (op.Half cond LoadSignedByte pre up write rn rd offset) site file bus = load_length unit.SignedByte (record { pre = pre; up = up; write = write; rn = rn; rd = rd; distance = half_distance offset site file }) site file bus
-  performed_length (op.Half cond LoadSignedHalf pre up write rn rd offset) site file bus = load_length unit.SignedHalf (record { pre = pre; up = up; write = write; rn = rn; rd = rd; distance = half_distance offset site file }) site file bus
+  performed_length (op.Half cond StoreHalf pre up write rn rd offset) site file bus =
+      store_length width.Half
+      (record { pre = pre; up = up; write = write; rn = rn; rd = rd; distance = half_distance offset site file }) site
+      file bus
+  performed_length (op.Half cond LoadHalf pre up write rn rd offset) site file bus =
+      load_length unit.Half
+      (record { pre = pre; up = up; write = write; rn = rn; rd = rd; distance = half_distance offset site file }) site
+      file bus
+  performed_length (op.Half cond LoadSignedByte pre up write rn rd offset) site file bus =
+      load_length unit.SignedByte
+      (record { pre = pre; up = up; write = write; rn = rn; rd = rd; distance = half_distance offset site file }) site
+      file bus
+  performed_length (op.Half cond LoadSignedHalf pre up write rn rd offset) site file bus =
+      load_length unit.SignedHalf
+      (record { pre = pre; up = up; write = write; rn = rn; rd = rd; distance = half_distance offset site file }) site
+      file bus
   performed_length (op.ReadStatus cond saved rd) site file bus =
       let code = code_price bus site true in
       let refill = refill_below bus site (rd == 15) in
@@ -199,14 +235,23 @@ module _ {State : Type 0} (price : Price State) (load : Load State) (store : Sto
       let code = code_price bus site true in
       let shift = shift_below one in
       record { least = omega (arith, code.least); most = omega (arith, code.most, shift) }
-  performed_length (op.Transfer cond true byte pre up write rn rd offset) site file bus = load_length (if byte then unit.Byte else unit.Word) (record { pre = pre; up = up; write = write; rn = rn; rd = rd; distance = transfer_distance offset site file }) site file bus
-  performed_length (op.Transfer cond false byte pre up write rn rd offset) site file bus = store_length (if byte then width.Byte else width.Word) (record { pre = pre; up = up; write = write; rn = rn; rd = rd; distance = transfer_distance offset site file }) site file bus
-  performed_length (op.Block cond true pre up user write rn list) site file bus = load_block_length (record { pre = pre; up = up; user = user; write = write; rn = rn; list = list }) site file bus
-  performed_length (op.Block cond false pre up user write rn list) site file bus = store_block_length (record { pre = pre; up = up; user = user; write = write; rn = rn; list = list }) site file bus
+  performed_length (op.Transfer cond true byte pre up write rn rd offset) site file bus =
+      load_length (if byte then unit.Byte else unit.Word)
+      (record { pre = pre; up = up; write = write; rn = rn; rd = rd; distance = transfer_distance offset site file })
+      site file bus
+  performed_length (op.Transfer cond false byte pre up write rn rd offset) site file bus =
+      store_length (if byte then width.Byte else width.Word)
+      (record { pre = pre; up = up; write = write; rn = rn; rd = rd; distance = transfer_distance offset site file })
+      site file bus
+  performed_length (op.Block cond true pre up user write rn list) site file bus =
+      load_block_length (record { pre = pre; up = up; user = user; write = write; rn = rn; list = list }) site file bus
+  performed_length (op.Block cond false pre up user write rn list) site file bus =
+      store_block_length (record { pre = pre; up = up; user = user; write = write; rn = rn; list = list }) site file bus
   performed_length (op.Branch cond link offset) site file bus = jump_length site bus
   performed_length (op.Interrupt cond comment) site file bus = jump_length site bus
 
-  pub word_length : (one : Option ArmOp) (site : Site) (file : List ℕ) (bus : State) → IsStepLength (effect_of_word price load store one site file bus).cycles
+  pub word_length : (one : Option ArmOp) (site : Site) (file : List ℕ) (bus : State)
+      → IsStepLength (effect_of_word price load store one site file bus).cycles
   unfolding effect_of_word
   word_length None site file bus =
       let jump = jump_length site bus in

@@ -8,11 +8,13 @@ use lib.Count.{ones, ones_step}
 use Rattle.gba_terms.specs.Bits.{bit}
 use Rattle.gba_exec_transfers.specs.Blocks.{registers_in}
 
-registers_in-suc_in : (list first count : ℕ) → bit list first ≡ true → registers_in list first (suc count) ≡ first ∷ registers_in list (first + 1) count
+registers_in-suc_in : (list first count : ℕ) → bit list first ≡ true
+    → registers_in list first (suc count) ≡ first ∷ registers_in list (first + 1) count
 unfolding registers_in
 registers_in-suc_in list first count is = rw is refl
 
-registers_in-suc_out : (list first count : ℕ) → bit list first ≡ false → registers_in list first (suc count) ≡ registers_in list (first + 1) count
+registers_in-suc_out : (list first count : ℕ) → bit list first ≡ false
+    → registers_in list first (suc count) ≡ registers_in list (first + 1) count
 unfolding registers_in
 registers_in-suc_out list first count is = rw is refl
 
@@ -43,7 +45,8 @@ none_more : (n : ℕ) → 0 + n ≡ n
 none_more n = omega arith
 
 -- as many registers are listed as the number has ones
-pub length-registers_in : (list first count : ℕ) → list / 2 ^ first < 2 ^ count → length (registers_in list first count) ≡ ones (list / 2 ^ first)
+pub length-registers_in : (list first count : ℕ) → list / 2 ^ first < 2 ^ count
+    → length (registers_in list first count) ≡ ones (list / 2 ^ first)
 length-registers_in list first zero small =
     let none : list / 2 ^ first ≡ 0 = omega arith in
     ap length (registers_in-none list first) ∙ sym (ap ones none ∙ ones-zero)

@@ -94,7 +94,8 @@ module _ {State : Type 0} (price : Price State) (load : Load State) (store : Sto
       let made : Bool → ℕ → ℕ → Done State = λ writes first moved.
       loads price load store false site (registers_in block.list 0 16) (aligned Word first) false
       (done_of (with_write_back writes block.rn moved file) bus (code_cost price bus site true + 1)) in
-      let writes : plain.load_writes ≡ (block.write && not (bit block.list block.rn)) = ap (λ p. p.load_writes) is.whole in
+      let writes : plain.load_writes ≡ (block.write && not (bit block.list block.rn)) =
+      ap (λ p. p.load_writes) is.whole in
       let first : (base + plain.first) % 2 ^ 32 ≡ lowest block.pre block.up base size =
       ap (λ p. (base + p.first) % 2 ^ 32) is.whole ∙ sym (first-moved block.pre block.up base size small) in
       let moved : (base + plain.moved) % 2 ^ 32 ≡ offset_address block.up base size =
@@ -106,9 +107,9 @@ module _ {State : Type 0} (price : Price State) (load : Load State) (store : Sto
       ∙ ap (made (block.write && not (bit block.list block.rn)) (lowest block.pre block.up base size)) moved)
 
   -- LDM of a plain block
-  pub plain_loads : (plain : PlainBlock) (site : Site) (rn list base address cost : ℕ) (file file' : List ℕ) (bus : State)
-      → IsPlain plain → rn ≡ plain.block.rn → list ≡ plain.block.list → base ≡ register file rn → base < 2 ^ 32
-      → address ≡ aligned Word ((base + plain.first) % 2 ^ 32)
+  pub plain_loads : (plain : PlainBlock) (site : Site) (rn list base address cost : ℕ) (file file' : List ℕ)
+      (bus : State) → IsPlain plain → rn ≡ plain.block.rn → list ≡ plain.block.list → base ≡ register file rn
+      → base < 2 ^ 32 → address ≡ aligned Word ((base + plain.first) % 2 ^ 32)
       → file' ≡ with_write_back plain.load_writes plain.block.rn ((base + plain.moved) % 2 ^ 32) file
       → cost ≡ code_cost price bus site true
       → after_load_block price load store plain.block site file bus
@@ -140,8 +141,8 @@ module _ {State : Type 0} (price : Price State) (load : Load State) (store : Sto
   stores_next site list number rest address file bus bus' cycles cost some small n r e₁ e₂ =
       let below : number < 15 = rw n (first_below list some small) in
       let value = sym (stored-present site file number below) in
-      stores_first price load store false site false 0 0 list number rest address true file file bus bus' cycles cost some
-      (omega arith) n r refl (e₁ ∙ ap (λ v. (store bus address Word v true).after) value)
+      stores_first price load store false site false 0 0 list number rest address true file file bus bus' cycles
+      cost some (omega arith) n r refl (e₁ ∙ ap (λ v. (store bus address Word v true).after) value)
       (e₂ ∙ ap (λ v. (store bus address Word v true).price) value)
 
   plain-stores : (plain : PlainBlock) (site : Site) (number rest address : ℕ) (file file' : List ℕ) (bus bus' : State)
@@ -150,7 +151,8 @@ module _ {State : Type 0} (price : Price State) (load : Load State) (store : Sto
       → address ≡ aligned Word ((register file plain.block.rn + plain.first) % 2 ^ 32)
       → bus' ≡ (store bus address Word (register file number) false).after
       → cost ≡ (store bus address Word (register file number) false).price
-      → file' ≡ with_write_back plain.block.write plain.block.rn ((register file plain.block.rn + plain.moved) % 2 ^ 32) file
+      → file'
+      ≡ with_write_back plain.block.write plain.block.rn ((register file plain.block.rn + plain.moved) % 2 ^ 32) file
       → after_store_block price load store plain.block site file bus
       ≡ stores price load store false site false 0 0 (registers_in rest 0 16) ((address + 4) % 2 ^ 32) true
       (done_of file' bus' (code_cost price bus site false + cost))
@@ -175,8 +177,9 @@ module _ {State : Type 0} (price : Price State) (load : Load State) (store : Sto
       ∙ sym (ap (λ a. made a target) first ∙ ap (made (lowest block.pre block.up base size)) moved)
       ∙ ap (λ at. stores price load store false site block.write block.rn target (registers_in list 0 16) at false
       (done_of file bus code)) (sym a)
-      ∙ sym (stores_first price load store false site block.write block.rn target list number rest address false file file'
-      bus bus' code cost is.some (omega arith) n r e₃ (e₁ ∙ ap (λ v. (store bus address Word v false).after) value)
+      ∙ sym (stores_first price load store false site block.write block.rn target list number rest address false
+      file file' bus bus' code cost is.some (omega arith) n r e₃
+      (e₁ ∙ ap (λ v. (store bus address Word v false).after) value)
       (e₂ ∙ ap (λ v. (store bus address Word v false).price) value))
       ∙ stores-behind site block.write block.rn target (registers_in rest 0 16) ((address + 4) % 2 ^ 32) _
 
@@ -193,7 +196,8 @@ module _ {State : Type 0} (price : Price State) (load : Load State) (store : Sto
       → after_store_block price load store plain.block site file bus
       ≡ stores price load store false site false 0 0 (registers_in rest 0 16) ((address + 4) % 2 ^ 32) true
       (done_of file' bus' (code + cost))
-  plain_stores plain site rn list base number rest address cost code file file' bus bus' is n l b small t r a e₁ e₂ e₃ k =
+  plain_stores plain site rn list base number rest address cost code file file' bus bus' is n l b small t r a e₁
+      e₂ e₃ k =
       let small' : register file plain.block.rn < 2 ^ 32 = rw (← n, ← b) small in
       let base' : base ≡ register file plain.block.rn = b ∙ ap (register file) n in
       rw k

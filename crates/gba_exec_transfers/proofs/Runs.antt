@@ -14,8 +14,8 @@ abbrev pub done_of : {State : Type 0} → List ℕ → State → ℕ → Done St
 done_of file bus cycles = record { registers = file; bus = bus; cycles = cycles }
 
 module _ {State : Type 0} (price : Price State) (load : Load State) (store : Store State) where
-  loads-cons : (user : Bool) (site : Site) (number : ℕ) (rest : List ℕ) (address : ℕ) (sequential : Bool) (file : List ℕ)
-      (bus : State) (cycles : ℕ)
+  loads-cons : (user : Bool) (site : Site) (number : ℕ) (rest : List ℕ) (address : ℕ) (sequential : Bool)
+      (file : List ℕ) (bus : State) (cycles : ℕ)
       → loads price load store user site (number ∷ rest) address sequential (done_of file bus cycles)
       ≡ (let read = load bus site.address address Word sequential in
       loads price load store user site rest ((address + 4) % 2 ^ 32) true
@@ -67,16 +67,18 @@ module _ {State : Type 0} (price : Price State) (load : Load State) (store : Sto
   stores-nil user site write rn base address sequential done = refl
 
   -- the first register of a list stored
-  pub stores_first : (user : Bool) (site : Site) (write : Bool) (rn base list number rest address : ℕ) (sequential : Bool)
-      (file file' : List ℕ) (bus bus' : State) (cycles cost : ℕ) → 0 < list → list < 2 ^ 16
+  pub stores_first : (user : Bool) (site : Site) (write : Bool) (rn base list number rest address : ℕ)
+      (sequential : Bool) (file file' : List ℕ) (bus bus' : State) (cycles cost : ℕ) → 0 < list → list < 2 ^ 16
       → number ≡ trailing_zeros w32 list → rest ≡ bit_and list (list - 1)
       → file' ≡ (if sequential then file else with_write_back write rn base file)
       → bus' ≡ (store bus address Word (block_register user site file number) sequential).after
       → cost ≡ (store bus address Word (block_register user site file number) sequential).price
       → stores price load store user site write rn base (registers_in rest 0 16) ((address + 4) % 2 ^ 32) true
       (done_of file' bus' (cycles + cost))
-      ≡ stores price load store user site write rn base (registers_in list 0 16) address sequential (done_of file bus cycles)
-  stores_first user site write rn base list number rest address sequential file file' bus bus' cycles cost some small n r e₁ e₂ e₃ =
+      ≡ stores price load store user site write rn base (registers_in list 0 16) address sequential
+      (done_of file bus cycles)
+  stores_first user site write rn base list number rest address sequential file file' bus bus' cycles cost some small n
+      r e₁ e₂ e₃ =
       rw (e₁, e₂, e₃, n, r)
       (sym (ap
       (λ numbers. stores price load store user site write rn base numbers address sequential (done_of file bus cycles))
@@ -89,5 +91,6 @@ module _ {State : Type 0} (price : Price State) (load : Load State) (store : Sto
       (done : Done State) → list ≡ 0
       → stores price load store user site write rn base (registers_in list 0 16) address sequential done ≡ done
   stores_done user site write rn base list address sequential done none =
-      ap (λ numbers. stores price load store user site write rn base numbers address sequential done) (none_listed list none)
+      ap (λ numbers. stores price load store user site write rn base numbers address sequential done)
+      (none_listed list none)
       ∙ stores-nil user site write rn base address sequential done

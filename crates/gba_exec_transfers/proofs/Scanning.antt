@@ -16,7 +16,8 @@ either_bit P clear set (suc (suc x)) small = absurd (omega arith)
 -- the places of the set bits among the lowest `count` of x, where the lowest has the place `base`
 set_bits : ℕ → ℕ → ℕ → List ℕ
 set_bits zero base x = []
-set_bits (suc count) base x = cond (x % 2 == 1) (base ∷ set_bits count (base + 1) (x / 2)) (set_bits count (base + 1) (x / 2))
+set_bits (suc count) base x =
+    cond (x % 2 == 1) (base ∷ set_bits count (base + 1) (x / 2)) (set_bits count (base + 1) (x / 2))
 
 registers_in-set_bits : (list count first : ℕ) → registers_in list first count ≡ set_bits count first (list / 2 ^ first)
 unfolding registers_in set_bits

@@ -12,13 +12,15 @@ use Rattle.gba_exec_transfers.specs.Blocks.{registers_in, with_block_register}
 use Rattle.gba_exec_transfers.specs.Done.{Done}
 
 step-least : (test : Bool) (first : ℕ) (rest : List ℕ) → ((i : ℕ) → i < length rest → first + 1 ≤ get_or rest i 0)
-    → (i : ℕ) → i < length (if test then first ∷ rest else rest) → first ≤ get_or (if test then first ∷ rest else rest) i 0
+    → (i : ℕ) → i < length (if test then first ∷ rest else rest)
+    → first ≤ get_or (if test then first ∷ rest else rest) i 0
 step-least true first rest least zero within = omega arith
 step-least true first rest least (suc i) within = let far = least i (omega arith) in omega arith
 step-least false first rest least i within = let far = least i within in omega arith
 
-step-most : (test : Bool) (first : ℕ) (rest : List ℕ) (end : ℕ) → first < end → ((i : ℕ) → i < length rest → get_or rest i 0 < end)
-    → (i : ℕ) → i < length (if test then first ∷ rest else rest) → get_or (if test then first ∷ rest else rest) i 0 < end
+step-most : (test : Bool) (first : ℕ) (rest : List ℕ) (end : ℕ) → first < end
+    → ((i : ℕ) → i < length rest → get_or rest i 0 < end) → (i : ℕ) → i < length (if test then first ∷ rest else rest)
+    → get_or (if test then first ∷ rest else rest) i 0 < end
 step-most true first rest end small most zero within = small
 step-most true first rest end small most (suc i) within = most i (omega arith)
 step-most false first rest end small most i within = most i within
@@ -39,7 +41,8 @@ filter-least p first (suc count) i within =
     step-least (p first) first (filter p (range_with_len (first + 1) count)) (filter-least p (first + 1) count) i within
 
 filter-most : (p : ℕ → Bool) (first count end : ℕ) → first + count ≤ end
-    → (i : ℕ) → i < length (filter p (range_with_len first count)) → get_or (filter p (range_with_len first count)) i 0 < end
+    → (i : ℕ) → i < length (filter p (range_with_len first count))
+    → get_or (filter p (range_with_len first count)) i 0 < end
 filter-most p first zero end bound i within = absurd (omega arith)
 filter-most p first (suc count) end bound i within =
     step-most (p first) first (filter p (range_with_len (first + 1) count)) end (omega arith)
@@ -61,13 +64,16 @@ unfolding registers_in
 registers_in-most list = filter-most (λ number. bit list number) 0 16 16 (omega arith)
 
 module _ {State : Type 0} (load : Load State) (store : Store State)
-    (same : (file : List ℕ) (number value : ℕ) → IsRegisterFile file → number < 16 → register (with_register file number value) number ≡ value)
+    (same : (file : List ℕ) (number value : ℕ) → IsRegisterFile file → number < 16
+    → register (with_register file number value) number ≡ value)
     (others : (file : List ℕ) (number other value : ℕ) → number < 16 → other < 16 → other ≢ number
     → register (with_register file number value) other ≡ register file other)
-    (kept : (file : List ℕ) (number value : ℕ) → IsRegisterFile file → number < 16 → IsRegisterFile (with_register file number value))
+    (kept : (file : List ℕ) (number value : ℕ) → IsRegisterFile file → number < 16
+    → IsRegisterFile (with_register file number value))
     (site : Site) (numbers : List ℕ) (lowest : ℕ) (done : Done State) (is : IsRegisterFile done.registers)
     (small : (k : ℕ) → k < length numbers → get_or numbers k 0 < 16) (rises : Rises numbers) where
-  file-after : (m : ℕ) → m ≤ length numbers → IsRegisterFile (after_loads load store false site numbers lowest done m).registers
+  file-after : (m : ℕ) → m ≤ length numbers
+      → IsRegisterFile (after_loads load store false site numbers lowest done m).registers
   unfolding after_loads with_block_register
   file-after zero within = is
   file-after (suc m) within =
@@ -82,20 +88,26 @@ module _ {State : Type 0} (load : Load State) (store : Store State)
   word-after zero k before within = absurd (omega arith)
   word-after (suc m) k before within =
       let file = (after_loads load store false site numbers lowest done m).registers in
-      let value : ℕ → ℕ = λ n. (block_load load store site lowest n (after_loads load store false site numbers lowest done n).bus).value in
+      let value : ℕ → ℕ =
+      λ n. (block_load load store site lowest n (after_loads load store false site numbers lowest done n).bus).value in
       ⊎_elim
       (λ (here : k ≡ m).
-      let P : ℕ → Type 0 = λ n. register (with_register file (get_or numbers m 0) (value m)) (get_or numbers n 0) ≡ value n in
-      subst P (sym here) (same file (get_or numbers m 0) (value m) (file-after m (omega arith)) (small m (omega arith))))
+      let P : ℕ → Type 0 =
+      λ n. register (with_register file (get_or numbers m 0) (value m)) (get_or numbers n 0) ≡ value n in
+      subst P (sym here)
+      (same file (get_or numbers m 0) (value m) (file-after m (omega arith)) (small m (omega arith))))
       (λ (apart : k ≡ m → ⊥).
       let earlier : k < m = omega arith in
       let below = rises k m earlier (omega arith) in
-      others file (get_or numbers m 0) (get_or numbers k 0) (value m) (small m (omega arith)) (small k (omega arith)) (omega arith)
+      others file (get_or numbers m 0) (get_or numbers k 0) (value m) (small m (omega arith)) (small k (omega arith))
+      (omega arith)
       ∙ word-after m k earlier (omega arith))
       (cases_eq k m)
 
-  rest-after : (m number : ℕ) → number < 16 → ((k : ℕ) → k < length numbers → get_or numbers k 0 ≢ number) → m ≤ length numbers
-      → register (after_loads load store false site numbers lowest done m).registers number ≡ register done.registers number
+  rest-after : (m number : ℕ) → number < 16 → ((k : ℕ) → k < length numbers → get_or numbers k 0 ≢ number)
+      → m ≤ length numbers
+      → register (after_loads load store false site numbers lowest done m).registers number
+      ≡ register done.registers number
   unfolding after_loads with_block_register
   rest-after zero number within apart all = refl
   rest-after (suc m) number within apart all =

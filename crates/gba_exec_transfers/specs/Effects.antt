@@ -41,7 +41,8 @@ module _ {State : Type 0} (price : Price State) (load : Load State) (store : Sto
       if is_load then after_load_block price load store block site file bus
       else after_store_block price load store block site file bus
 
-  -- What an operation whose condition holds leaves: its effect. In the file, r15 is the address of the next instruction.
+  -- What an operation whose condition holds leaves: its effect. In the file, r15 is the address of the next
+  -- instruction.
   unfoldable pub effect : ArmOp → Site → List ℕ → State → Done State
   effect (op.Exchange cond rm) site file bus =
       internal bus (after_exchange rm site file) (jump_cost (code_cost price bus site))

@@ -11,8 +11,8 @@ use Rattle.gba_exec_transfers.specs.declared.units.PlainBlock.{PlainBlock}
 abbrev pub is_plain : BlockTransfer → Bool
 is_plain block = not block.user && nat_lt block.rn 15 && not (block.list == 0) && nat_lt block.list (2 ^ 15)
 
--- A base that is in the list isn't written by LDM. How far the first access is from the base and how far the base moves,
--- modulo 2 ^ 32: where they are at a base of 0.
+-- A base that is in the list isn't written by LDM. How far the first access is from the base and how far the base
+-- moves, modulo 2 ^ 32: where they are at a base of 0.
 abbrev pub plain_of : BlockTransfer → PlainBlock
 plain_of block =
     record {

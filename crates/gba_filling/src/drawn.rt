@@ -26,8 +26,8 @@ fn bytes_of_line(colours: &[u16]) -> [u8; 480]
     bytes
 }
 
-/// The drawn lines of the present frame, each as its bytes, from the top down; and whether one of them had another number than the
-/// number of those before it, from which on no further line is kept.
+/// The drawn lines of the present frame, each as its bytes, from the top down; and whether one of them had another
+/// number than the number of those before it, from which on no further line is kept.
 #[derive(Drop)]
 pub struct Drawn {
     lines: Vec<[u8; 480]>,
@@ -65,7 +65,8 @@ impl Drawn {
     pub fn keep(&mut self, line: u32, colours: &[u16])
         requires line { line < drawn_end }
         requires colours { length colours.now ≡ 240 }
-        ensures { (drawn : List (ℕ × List ℕ)) → AreLines drawn self.old → AreLines (drawn ++ (line, colours.now) ∷ []) self.new }
+        ensures { (drawn : List (ℕ × List ℕ)) → AreLines drawn self.old
+            → AreLines (drawn ++ (line, colours.now) ∷ []) self.new }
     {
         if self.has_gap {
             return;

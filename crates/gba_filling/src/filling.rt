@@ -50,8 +50,8 @@ impl Filling {
     ghost use Rattle.gba_frozen.specs.Reading.{nothing_read};
     ghost use Rattle.gba_filling.specs.Filling.{IsFilledJob};
 
-    /// Before the first line. It takes the memory of all that a file may say: for each console about 600 kilobytes, and for the
-    /// signals about 800 kilobytes. No line takes more.
+    /// Before the first line. It takes the memory of all that a file may say: for each console about 600 kilobytes, and
+    /// for the signals about 800 kilobytes. No line takes more.
     pub fn new(alloc: Global, setup: &Setup) -> Result<Filling, NoMemory>
         requires { setup.now.consoles ≤ 4 }
         ensures { IfOk result (λ filling. IsFilledJob filling setup.now nothing_read) }

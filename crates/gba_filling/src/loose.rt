@@ -12,8 +12,8 @@ use std::alloc::{AllocError, Global};
 use std::marker::Model;
 
 /// A console that is being filled. Its numbers are set one by one, each within its range; whether they go together, and
-/// with the bytes of its I/O registers, is asked only of the whole. Contracts see the record of its numbers, of the bytes of
-/// its memories, and of its drawn lines.
+/// with the bytes of its I/O registers, is asked only of the whole. Contracts see the record of its numbers, of the
+/// bytes of its memories, and of its drawn lines.
 #[derive(Drop)]
 pub struct Loose {
     numbers: Numbers,
@@ -44,8 +44,8 @@ impl Loose {
     ghost use Rattle.gba_filling.specs.Loose.{with_numbers};
     ghost use Rattle.gba_filling.specs.Memories.{HaveLengths, bytes_of, with_memory};
 
-    /// A console whose saves are kept so, of which nothing was said: its numbers are those of [`Numbers::new`], its bytes
-    /// are 0, and no line is drawn. It takes all memory that it needs, about 600 kilobytes.
+    /// A console whose saves are kept so, of which nothing was said: its numbers are those of [`Numbers::new`], its
+    /// bytes are 0, and no line is drawn. It takes all memory that it needs, about 600 kilobytes.
     pub fn new(alloc: Global, backup: Backup) -> Result<Loose, AllocError>
         ensures { IfOk result (λ loose. IsFilled backup console_at_first loose) }
     {
@@ -94,7 +94,8 @@ impl Loose {
         fits(field, value)
     }
 
-    /// Sets a number to one of its range. With the length of a queue its bytes below the new length stay, and new ones are
+    /// Sets a number to one of its range. With the length of a queue its bytes below the new length stay, and
+    /// new ones are
     /// 0. A byte of a queue has to be one of those that the queue holds.
     pub fn set(&mut self, field: Field, value: u64)
         requires known { is_field field ≡ true }

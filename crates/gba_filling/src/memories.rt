@@ -40,8 +40,9 @@ fn put_at(memory: &mut Vec<u8>, offset: usize, bytes: &[u8])
     memory.as_mut_slice()[offset..offset + bytes.len()].copy_from_slice(bytes);
 }
 
-/// The bytes of a console's I/O registers as its file says them, and of the memories that it writes: the work RAM, the inner RAM,
-/// the palette, the VRAM, the OAM, and the SRAM or the flash. Contracts see the list of them in the order of a frozen file.
+/// The bytes of a console's I/O registers as its file says them, and of the memories that it writes: the work RAM, the
+/// inner RAM, the palette, the VRAM, the OAM, and the SRAM or the flash. Contracts see the list of them in the order of
+/// a frozen file.
 #[derive(Drop)]
 pub struct Memories {
     io: Vec<u8>,
@@ -59,7 +60,8 @@ impl Model for Memories {
     ghost Value = { List (List ℕ) };
 
     ghost view = { λ m.
-        m.io.items ∷ m.work.items ∷ m.inner.items ∷ m.palette.items ∷ m.vram.items ∷ m.oam.items ∷ m.backup.items ∷ [] };
+        m.io.items ∷ m.work.items ∷ m.inner.items ∷ m.palette.items ∷ m.vram.items ∷ m.oam.items
+        ∷ m.backup.items ∷ [] };
 }
 
 impl Memories {

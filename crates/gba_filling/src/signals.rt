@@ -50,7 +50,8 @@ impl Signals {
     /// One signal more, behind the others. It takes no memory.
     pub fn keep(&mut self, sender: u32, signal: Signal)
         requires { FitsWidths signal }
-        ensures { (sent : List (ℕ × Signal)) → AreSignals sent self.old → AreSignals (sent ++ (sender, signal) ∷ []) self.new }
+        ensures { (sent : List (ℕ × Signal)) → AreSignals sent self.old
+            → AreSignals (sent ++ (sender, signal) ∷ []) self.new }
     {
         if self.sent.len() >= MOST_SIGNALS {
             self.more = true;

@@ -27,7 +27,8 @@ kept-by command.EraseSector place at bytes all sector =
 kept-by command.Nothing place at bytes all sector = refl
 
 -- one test is false where the other is true
-apart-by : (armed is_value : Bool) (a b : ℕ) → armed && (is_value && (a == b)) ≡ false → armed && is_value ≡ true → a ≢ b
+apart-by : (armed is_value : Bool) (a b : ℕ) → armed && (is_value && (a == b)) ≡ false
+    → armed && is_value ≡ true → a ≢ b
 apart-by true true a b none both same = grind (arith, nat_tests, none, same)
 apart-by true false a b none both same = absurd cc
 apart-by false is_value a b none both same = absurd cc

@@ -102,7 +102,8 @@ stays-sound offset value f sound = sound-in f.machine.state offset value f refl 
 
 -- ---- its kind
 
-kind-in : (state : FlashState) (offset value : ℕ) (f : FlashMemory) → (written_in state offset value f).backup ≡ f.backup
+kind-in : (state : FlashState) (offset value : ℕ) (f : FlashMemory)
+    → (written_in state offset value f).backup ≡ f.backup
 kind-in Ready offset value f = refl
 kind-in First offset value f = refl
 kind-in Second offset value f = refl

@@ -1,5 +1,5 @@
--- The flash of a cartridge (GBATEK, GBA Cart Backup Flash ROM). The machine of its states, and that commands take no time and
--- a programmed byte keeps its zeros, are this project's profile.
+-- The flash of a cartridge (GBATEK, GBA Cart Backup Flash ROM). The machine of its states, and that commands take no
+-- time and a programmed byte keeps its zeros, are this project's profile.
 use Rattle.std.specs.Prelude.{ℕ, zero, suc, ◌+◌, ◌*◌, ◌/◌, ◌%◌, ◌==◌, Bool, true, false, ◌&&◌, bit_and, List, length, slice_index, slice_set, if◌then◌else◌}
 use Rattle.gba_image.specs.declared.backup.Backup.{Backup}
 use Rattle.gba_image.specs.declared.backup.Backup.TheVariants.{Sram, Flash64, Flash128}

@@ -133,8 +133,8 @@ impl FlashMachine {
     }
 }
 
-/// The flash of a cartridge, of 65,536 or of 131,072 bytes (GBATEK, GBA Cart Backup Flash ROM; its machine of states is this
-/// project's profile). An offset is an address modulo 65,536. Commands take no time.
+/// The flash of a cartridge, of 65,536 or of 131,072 bytes (GBATEK, GBA Cart Backup Flash ROM; its machine of states is
+/// this project's profile). An offset is an address modulo 65,536. Commands take no time.
 #[derive(Drop)]
 pub struct Flash {
     bytes: Vec<u8>,

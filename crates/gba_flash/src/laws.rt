@@ -8,7 +8,8 @@ pub fn keeps_bytes()
     ensures { KeepsBytes }
 {}
 
-/// A flash keeps the number of its bytes, and one of 65,536 bytes has no second bank and awaits none, whatever is written.
+/// A flash keeps the number of its bytes, and one of 65,536 bytes has no second bank and awaits none,
+/// whatever is written.
 pub fn stays_sound()
     ensures { StaysSound }
 {}

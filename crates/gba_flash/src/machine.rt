@@ -1,7 +1,7 @@
 //! What a flash remembers beside its bytes.
 
-/// What the last writes were: the front of a command, or a command that awaits its byte (GBATEK, GBA Cart Backup Flash ROM; the
-/// states are this project's profile).
+/// What the last writes were: the front of a command, or a command that awaits its byte (GBATEK, GBA Cart Backup Flash
+/// ROM; the states are this project's profile).
 #[derive(Clone, Copy, Debug, PartialEq, Eq)]
 pub enum FlashState {
     /// No command has begun.

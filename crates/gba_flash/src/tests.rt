@@ -101,7 +101,8 @@ fn machine_of(numbers: Numbers) -> FlashMachine {
 /// A machine, the offset and the byte of a write, and what these come to.
 type Row = (Numbers, u32, u8, Numbers, Change);
 
-/// Rows that both kinds of flash share. In the other states the machine isn't armed, since only the command before it arms.
+/// Rows that both kinds of flash share. In the other states the machine isn't armed, since only the command
+/// before it arms.
 static BOTH: [Row; 36] = [
     (
         (Ready, false, false, 0),

@@ -142,8 +142,9 @@ fn add_body(
     add_statement(alloc, into, what)
 }
 
-/// Adds the line of a console's last step: its player, the clock at which the step began, what it did, the registers after it
-/// and, of an instruction, its statement, as a disassembler has it at that address. A line has at most 400 bytes.
+/// Adds the line of a console's last step: its player, the clock at which the step began, what it did, the
+/// registers after it and, of an instruction, its statement, as a disassembler has it at that address. A line has
+/// at most 400 bytes.
 #[tactic(auto, unfolding(crate::specs::StepLine::step_line))]
 pub fn step_line(alloc: Global, after: &Console, into: &mut Vec<u8>) -> Result<(), NoMemory>
     ensures { OnOk result (into.new.items ≡ into.old.items ++ line_of_step after.now) }

@@ -35,7 +35,8 @@ pub are_none : AreWords []
 unfolding AreWords
 are_none = tt
 
-pub are_more : (word : List ℕ) (words : List (List ℕ)) → list_all no_space word ≡ true → AreWords words → AreWords (word ∷ words)
+pub are_more : (word : List ℕ) (words : List (List ℕ)) → list_all no_space word ≡ true → AreWords words
+    → AreWords (word ∷ words)
 unfolding AreWords
 are_more word words is rest = (is, rest)
 
@@ -48,17 +49,20 @@ pieces-joined word (next ∷ words) is are =
     pieces-more word (joined next words) is ∙ ap (λ rest. word ∷ rest) (pieces-joined next words are.0 are.1)
 
 -- the first piece of a line, by the length of its front
-ended_by : (bs before after : List ℕ) → before ++ after ≡ bs → list_all no_space before ≡ true → stops no_space after ≡ true
-    → 0 < length after → pieces bs ≡ before ∷ pieces (drop 1 after)
+ended_by : (bs before after : List ℕ) → before ++ after ≡ bs → list_all no_space before ≡ true
+    → stops no_space after ≡ true → 0 < length after → pieces bs ≡ before ∷ pieces (drop 1 after)
 ended_by bs before [] e h s long = absurd (omega arith)
 ended_by bs before (c ∷ after) e h s long =
     let space : c ≡ 32 = grind (arith, nat_tests) in
     rw (← e, space) (pieces-more before after h)
 
-pub piece_alone : (bs : List ℕ) → drop (prefix_len no_space bs) bs ≡ [] → pieces bs ≡ take (prefix_len no_space bs) bs ∷ []
+pub piece_alone : (bs : List ℕ) → drop (prefix_len no_space bs) bs ≡ []
+    → pieces bs ≡ take (prefix_len no_space bs) bs ∷ []
 piece_alone bs none =
     let gone : back no_space bs ≡ [] = sym (drop-back no_space bs) ∙ none in
-    let whole : front no_space bs ≡ bs = sym (append-nil (front no_space bs)) ∙ ap (λ t. front no_space bs ++ t) (sym gone) ∙ front-append-back no_space bs in
+    let whole : front no_space bs ≡ bs =
+    sym (append-nil (front no_space bs)) ∙ ap (λ t. front no_space bs ++ t) (sym gone)
+    ∙ front-append-back no_space bs in
     let passes : list_all no_space bs ≡ true = ap (list_all no_space) (sym whole) ∙ front-passes no_space bs in
     pieces-last bs passes ∙ ap (λ t. t ∷ []) (sym (take-front no_space bs ∙ whole))
 

@@ -46,12 +46,14 @@ values_at-none spelling left values words is = ap (λ n. values_at spelling n va
 -- the values that are left are the next one and those after it
 pub all_fit-more : (until : ℕ) (which : Row) (part : ℕ) (values : List ℕ) → part < length values
     → all_fit until which part (drop part values)
-    ≡ (field_fits (field_of which part) (get_or values part 0) && in_time until (field_of which part) (get_or values part 0)
+    ≡ (field_fits (field_of which part) (get_or values part 0)
+    && in_time until (field_of which part) (get_or values part 0)
     && all_fit until which (part + 1) (drop (part + 1) values))
 unfolding all_fit
 all_fit-more until which part values inside =
     ap (all_fit until which part) (drop-cons values part 0 inside)
-    ∙ ap (λ k. field_fits (field_of which part) (get_or values part 0) && in_time until (field_of which part) (get_or values part 0)
+    ∙ ap (λ k. field_fits (field_of which part) (get_or values part 0)
+    && in_time until (field_of which part) (get_or values part 0)
     && all_fit until which (part + 1) (drop k values)) (sym (add-one part))
 
 pub all_fit-none : (until : ℕ) (which : Row) (part : ℕ) (values : List ℕ) → drop part values ≡ []

@@ -19,8 +19,9 @@ use Rattle.gba_frozen.specs.declared.places.Slot.{Slot}
 use Rattle.gba_frozen.specs.declared.places.Slot.TheVariants.{Version, Digest, Fixed, Queue, Wave, Memory, Drawn, Signals, End, Past}
 use Rattle.gba_frozen.specs.declared.rows.Row.{Row}
 
--- what a line says: nothing beyond itself; the values of a row; of a queue its number, its current byte and its bytes; of a bank of
--- the wave its number and its bytes; 32 bytes of a memory; a drawn line and its colours; or a player and its live signal
+-- what a line says: nothing beyond itself; the values of a row; of a queue its number, its current byte and its bytes;
+-- of a bank of the wave its number and its bytes; 32 bytes of a memory; a drawn line and its colours; or a player and
+-- its live signal
 pub data Said : Type 0 where
   Nothing : Said
   Values : Row → List ℕ → Said

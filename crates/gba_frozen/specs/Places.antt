@@ -43,7 +43,8 @@ after_row player row.Heading = Fixed (row.Console player)
 after_row player (row.Console _) = Fixed row.Clock
 after_row player row.Clock = Fixed row.Halted
 after_row player row.Halted = Fixed (row.Register 0)
-after_row player (row.Register register) = Fixed (if nat_lt register 36 then row.Register (register + 1) else row.Timer 0)
+after_row player (row.Register register) =
+    Fixed (if nat_lt register 36 then row.Register (register + 1) else row.Timer 0)
 after_row player (row.Timer timer) = Fixed (if nat_lt timer 3 then row.Timer (timer + 1) else row.Dma 0)
 after_row player (row.Dma channel) = if nat_lt channel 3 then Fixed (row.Dma (channel + 1)) else Queue 0
 after_row player row.Sequencer = Fixed (row.Tone 1)

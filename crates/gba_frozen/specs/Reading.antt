@@ -1,4 +1,5 @@
--- A frozen file as a language of lines: which lines may follow one another, what they come to, and which one is refused.
+-- A frozen file as a language of lines: which lines may follow one another, what they come to, and which
+-- one is refused.
 use Rattle.std.specs.Prelude.{ℕ, ◌+◌, ◌-◌, ◌==◌, Bool, true, false, ◌&&◌, nat_lt, List, [], ◌∷◌, ◌++◌, length, take, slice_index, Option, Some, None, Result, Ok, Err, if◌then◌else◌}
 use Rattle.gba_text.specs.Languages.{Language, error_at}
 use Rattle.gba_text.specs.Lines.{onto_front}
@@ -23,8 +24,8 @@ use Rattle.gba_frozen.specs.declared.places.Slot.TheVariants as slot
 use Rattle.gba_frozen.specs.declared.rows.Row.{Row}
 use Rattle.gba_frozen.specs.declared.rows.Row.TheVariants as row
 
--- The lines of a file, each with the line feed (10) that ends it; the last one has none where the file doesn't end in one. Nothing
--- else ends a line.
+-- The lines of a file, each with the line feed (10) that ends it; the last one has none where the file doesn't end in
+-- one. Nothing else ends a line.
 unfoldable pub fed_lines : List ℕ → List (List ℕ)
 fed_lines [] = []
 fed_lines (b ∷ bs) = if b == 10 then (b ∷ []) ∷ fed_lines bs else onto_front b (fed_lines bs)
@@ -32,7 +33,8 @@ fed_lines (b ∷ bs) = if b == 10 then (b ∷ []) ∷ fed_lines bs else onto_fro
 -- a line without its line feed, if it has one
 unfoldable pub without_feed : List ℕ → Option (List ℕ)
 without_feed line =
-    if nat_lt 0 (length line) && slice_index line (length line - 1) == 10 then Some (take (length line - 1) line) else None
+    if nat_lt 0 (length line) && slice_index line (length line - 1) == 10 then Some (take (length line - 1) line)
+    else None
 
 -- where a file is read on behind a line
 unfoldable pub after_said : Setup → Place → Said → Place
@@ -53,7 +55,8 @@ fed_said setup at (Some line) = said_at setup (place_for setup (pieces line) at)
 unfoldable pub read_at : Setup → Place → List ℕ → Result (Taken Place Said) ThawKind
 read_at setup at line = fed_said setup at (without_feed line)
 
--- What the lines of a console come to so far: its numbers, the bytes of its memories that were given, and its drawn lines.
+-- What the lines of a console come to so far: its numbers, the bytes of its memories that were given, and its
+-- drawn lines.
 pub record ConsoleDraft : Type 0 where
   pub numbers : ConsoleNumbers
   pub memory : List (MemoryPlace × List ℕ)
@@ -65,7 +68,8 @@ console_at_first = record { numbers = numbers_at_first; memory = []; drawn = [] 
 -- with the values of a row, from one of its parts on
 unfoldable pub with_values : Row → ℕ → List ℕ → ConsoleNumbers → ConsoleNumbers
 with_values which part [] n = n
-with_values which part (value ∷ values) n = with_values which (part + 1) values (with_value (field_of which part) value n)
+with_values which part (value ∷ values) n =
+    with_values which (part + 1) values (with_value (field_of which part) value n)
 
 -- with bytes, from a place on
 abbrev pub queue_byte : ℕ → ℕ → Field
@@ -93,8 +97,8 @@ with_line_of (MemoryBytes place bytes) d = record d { memory = d.memory ++ (plac
 with_line_of (Colours line colours) d = record d { drawn = d.drawn ++ (line, colours) ∷ [] }
 with_line_of _ d = d
 
--- What the lines of a file come to so far: where it is read on, its consoles, of which the last one's lines may not be over, and the
--- live signals with their senders.
+-- What the lines of a file come to so far: where it is read on, its consoles, of which the last one's lines may not be
+-- over, and the live signals with their senders.
 pub record Draft : Type 0 where
   pub at : Place
   pub consoles : List ConsoleDraft
@@ -130,8 +134,8 @@ abbrev pub judged : {A : Type 0} → ℕ → Option A → Result A (LineError Th
 judged number (Some whole) = Ok whole
 judged number None = Err (error_at number kind.Unsound)
 
--- A file whose last line isn't the last one of a frozen file ends too early; and of a whole file its last line is refused where the
--- whole comes to nothing.
+-- A file whose last line isn't the last one of a frozen file ends too early; and of a whole file its last line is
+-- refused where the whole comes to nothing.
 unfoldable pub at_end : {A : Type 0} → (Draft → Option A) → ℕ → Draft → Result A (LineError ThawKind)
 at_end whole_of number d =
     if is_past d.at.slot then judged number (whole_of d) else Err (error_at (number + 1) kind.Spelling)

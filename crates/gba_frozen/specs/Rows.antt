@@ -1,5 +1,5 @@
--- The fixed lines of a console: a first word, a number that may follow it, and as many numbers as the line has, each of which is a
--- number of the console.
+-- The fixed lines of a console: a first word, a number that may follow it, and as many numbers as the line has, each of
+-- which is a number of the console.
 use Rattle.std.specs.Prelude.{ℕ, ◌+◌, ◌^◌, ◌==◌, Bool, true, ◌&&◌, nat_le, nat_lt, List, [], ◌∷◌, ◌++◌, codes, decimal, slice_index_or, Option, Some, None, if◌then◌else◌}
 use Rattle.gba_terms.specs.RegisterNames.{register_names}
 use Rattle.gba_numbers.specs.Ranges.{field_fits}
@@ -177,4 +177,5 @@ in_time until _ value = true
 unfoldable pub all_fit : ℕ → Row → ℕ → List ℕ → Bool
 all_fit until which part [] = true
 all_fit until which part (value ∷ values) =
-    field_fits (field_of which part) value && in_time until (field_of which part) value && all_fit until which (part + 1) values
+    field_fits (field_of which part) value && in_time until (field_of which part) value
+    && all_fit until which (part + 1) values

@@ -8,7 +8,8 @@ use Rattle.gba_text.specs.Numbers.{is_number}
 use Rattle.gba_frozen.specs.declared.rows.Spelling.{Spelling}
 use Rattle.gba_frozen.specs.declared.rows.Spelling.TheVariants.{Decimal, Word}
 
--- the pieces of a line between its spaces (32): one more than it has spaces, and two spaces have an empty piece between them
+-- the pieces of a line between its spaces (32): one more than it has spaces, and two spaces have an empty piece
+-- between them
 unfoldable pub pieces : List ℕ → List (List ℕ)
 pieces [] = [] ∷ []
 pieces (b ∷ bs) = if b == 32 then [] ∷ pieces bs else onto_front b (pieces bs)
@@ -32,8 +33,8 @@ abbrev pub hex_all : ℕ → List ℕ → List ℕ
 hex_all width [] = []
 hex_all width (n ∷ ns) = hex width n ++ hex_all width ns
 
--- The number that a word spells, if printing that number gives the word: 1 to 20 decimal digits without a zero in front. Any that
--- 64 bits don't hold counts as the greatest that they do, which is in no range.
+-- The number that a word spells, if printing that number gives the word: 1 to 20 decimal digits without a zero in
+-- front. Any that 64 bits don't hold counts as the greatest that they do, which is in no range.
 abbrev pub greatest : ℕ
 greatest = 2 ^ 64 - 1
 

@@ -33,12 +33,12 @@ impl fmt::Display for ThawKind {
     }
 }
 
-/// The first refused line of a frozen file, and why it is refused. A file that is too long has line 0, and one that ends before
-/// its last line the number of its lines plus 1.
+/// The first refused line of a frozen file, and why it is refused. A file that is too long has line 0, and one that
+/// ends before its last line the number of its lines plus 1.
 pub type ThawError = LineError<ThawKind>;
 
-/// What a frozen file is read for: how many consoles the job has, 1 to 4, what keeps the saves of each, the digest of the job, and
-/// the cycles to which it runs.
+/// What a frozen file is read for: how many consoles the job has, 1 to 4, what keeps the saves of each, the digest of
+/// the job, and the cycles to which it runs.
 #[derive(Clone, Copy)]
 pub struct Setup {
     pub consoles: u32,

@@ -301,8 +301,8 @@ fn signal_line(mut words: Words<'_>, consoles: u32) -> Result<FrozenLine, ThawKi
     }
 }
 
-/// What a line says, without its line feed, that stands at a place of a frozen file; or why it is refused: Spelling goes before
-/// Number, and Number before Job.
+/// What a line says, without its line feed, that stands at a place of a frozen file; or why it is refused: Spelling
+/// goes before Number, and Number before Job.
 #[tactic(auto, unfolding(crate::specs::Lines::slot_said, crate::specs::Places::is_slot))]
 pub fn read_line(setup: &Setup, at: Place, line: &[u8]) -> Result<FrozenLine, ThawKind>
     requires until { setup.now.until < 2 ^ 63 }

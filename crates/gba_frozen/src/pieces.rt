@@ -16,7 +16,8 @@ fn word_length(line: &[u8]) -> usize
 
 /// The first word, and what follows its space, if it has one.
 fn split_word(line: &[u8]) -> (&[u8], Option<&[u8]>)
-    ensures { MatchOption result.1 (pieces line.now ≡ result.0.now ∷ []) (λ rest. pieces line.now ≡ result.0.now ∷ pieces rest.now) }
+    ensures { MatchOption result.1 (pieces line.now ≡ result.0.now ∷ [])
+        (λ rest. pieces line.now ≡ result.0.now ∷ pieces rest.now) }
 {
     let (word, rest) = line.split_at(word_length(line));
     if rest.is_empty() {
@@ -25,8 +26,8 @@ fn split_word(line: &[u8]) -> (&[u8], Option<&[u8]>)
     (word, Some(&rest[1..]))
 }
 
-/// A line that is read word by word. Words are parted by one space, so that two spaces have an empty word between them. Contracts
-/// see the words that aren't taken yet.
+/// A line that is read word by word. Words are parted by one space, so that two spaces have an empty word between them.
+/// Contracts see the words that aren't taken yet.
 #[derive(Drop)]
 pub(crate) struct Words<'a> {
     rest: &'a [u8],

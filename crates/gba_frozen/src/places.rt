@@ -20,8 +20,8 @@ pub struct MemoryPlace {
     pub offset: u32,
 }
 
-/// What stands at a place of a frozen file. Lines of memory, drawn lines and signals may stand there any number of times; the first
-/// two know the last one that was read.
+/// What stands at a place of a frozen file. Lines of memory, drawn lines and signals may stand there any number of
+/// times; the first two know the last one that was read.
 #[derive(Clone, Copy, Debug, PartialEq, Eq)]
 pub enum Slot {
     Version,
@@ -273,8 +273,8 @@ fn left_for(setup: &Setup, line: &[u8], at: Place) -> Place
     }
 }
 
-/// The place of a line that is read on at a place: behind the lines of memory, the drawn lines or the signals where it isn't one
-/// of these.
+/// The place of a line that is read on at a place: behind the lines of memory, the drawn lines or the signals where it
+/// isn't one of these.
 pub fn place_for(setup: &Setup, line: &[u8], at: Place) -> Place
     requires consoles { setup.now.consoles ≤ 4 }
     requires place { is_place_of at ≡ true }

@@ -13,8 +13,8 @@ pub enum Spelling {
     Word,
 }
 
-/// A line of a console that has as many numbers as its kind says. What stands in a variant is the number of a player, a register, a
-/// timer, a DMA channel, a tone channel (1 to 4) or a background (2 or 3).
+/// A line of a console that has as many numbers as its kind says. What stands in a variant is the number of a player, a
+/// register, a timer, a DMA channel, a tone channel (1 to 4) or a background (2 or 3).
 #[derive(Clone, Copy, Debug, PartialEq, Eq)]
 pub enum Row {
     /// The version of the state file, with which the lines of each console begin.

@@ -39,18 +39,24 @@ after before (b ∷ word) h =
     let digit = first_of_all (is_digit b) (list_all is_digit word) h in
     let rest = after (before * 16 + digit_value b) word (rest_of_all (is_digit b) (list_all is_digit word) h) in
     let longer : 4 * length (b ∷ word) ≡ 4 + 4 * length word = omega arith in
-    let next : 2 ^ (4 * length (b ∷ word)) ≡ 16 * 2 ^ (4 * length word) = ap (λ k. 2 ^ k) longer ∙ pow-add 2 4 (4 * length word) in
+    let next : 2 ^ (4 * length (b ∷ word)) ≡ 16 * 2 ^ (4 * length word) =
+    ap (λ k. 2 ^ k) longer ∙ pow-add 2 4 (4 * length word) in
     let below = digit-small b digit in
     record {
       low = digit_value b * 2 ^ (4 * length word) + rest.low;
-      small = scaled_below (digit_value b) (2 ^ (4 * length word)) rest.low (2 ^ (4 * length (b ∷ word))) next below rest.small;
-      value = rest.value ∙ one_more before (digit_value b) (2 ^ (4 * length word)) rest.low (2 ^ (4 * length (b ∷ word))) next;
+      small =
+          scaled_below (digit_value b) (2 ^ (4 * length word)) rest.low (2 ^ (4 * length (b ∷ word))) next below
+          rest.small;
+      value =
+          rest.value
+          ∙ one_more before (digit_value b) (2 ^ (4 * length word)) rest.low (2 ^ (4 * length (b ∷ word))) next;
     }
 
 last_digit : (before d : ℕ) → d < 16 → (before * 16 + d) % 16 ≡ d
 last_digit before d small = omega arith
 
-pub hex-sound : (before : ℕ) (word : List ℕ) → list_all is_digit word ≡ true → hex (length word) (digits_value_after 16 before word) ≡ word
+pub hex-sound : (before : ℕ) (word : List ℕ) → list_all is_digit word ≡ true
+    → hex (length word) (digits_value_after 16 before word) ≡ word
 hex-sound before [] h = refl
 hex-sound before (b ∷ word) h =
     let digit = first_of_all (is_digit b) (list_all is_digit word) h in
@@ -60,7 +66,8 @@ hex-sound before (b ∷ word) h =
     let below = digit-small b digit in
     let quotient : digits_value_after 16 whole word / 2 ^ (4 * length word) ≡ whole =
     ap (λ v. v / 2 ^ (4 * length word)) made.value ∙ div-mul-add whole (2 ^ (4 * length word)) made.low made.small in
-    let first : digits_value_after 16 whole word / 2 ^ (4 * length word) % 16 ≡ digit_value b = ap (λ v. v % 16) quotient ∙ last_digit before (digit_value b) below in
+    let first : digits_value_after 16 whole word / 2 ^ (4 * length word) % 16 ≡ digit_value b =
+    ap (λ v. v % 16) quotient ∙ last_digit before (digit_value b) below in
     ap (λ d. hex_digit d ∷ hex (length word) (digits_value_after 16 whole word)) first
     ∙ ap (λ c. c ∷ hex (length word) (digits_value_after 16 whole word)) (digit-again b digit)
     ∙ ap (λ (t : List ℕ). b ∷ t) (hex-sound whole word digits)
@@ -68,7 +75,8 @@ hex-sound before (b ∷ word) h =
 pub hex_said-sound : (count : ℕ) (word : List ℕ) (n : ℕ) → hex_said count word ≡ Some n → word ≡ hex count n
 unfolding hex_said
 hex_said-sound count word n h = by_test (has_digits count word) refl h where
-  by_test : (b : Bool) → has_digits count word ≡ b → cond b (Some (digits_value 16 word)) None ≡ Some n → word ≡ hex count n
+  by_test : (b : Bool) → has_digits count word ≡ b → cond b (Some (digits_value 16 word)) None ≡ Some n
+      → word ≡ hex count n
   by_test true e s =
       let value : digits_value 16 word ≡ n = cc in
       let sized = first_of_all (length word == count) (list_all is_digit word) e in

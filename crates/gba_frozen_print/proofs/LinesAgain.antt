@@ -39,7 +39,8 @@ pub decimal-again : (n : ℕ) (rest : LineWords) → n < 2 ^ 64 → decimal_at (
 unfolding decimal_at
 decimal-again n rest small = let said = decimal_said-again n small in rw said refl
 
-pub hex-again : (count n : ℕ) (rest : LineWords) → n < 2 ^ (4 * count) → hex_at count (hex count n ∷ rest) ≡ Ok (taken n rest)
+pub hex-again : (count n : ℕ) (rest : LineWords) → n < 2 ^ (4 * count)
+    → hex_at count (hex count n ∷ rest) ≡ Ok (taken n rest)
 unfolding hex_at
 hex-again count n rest small = let said = hex_said-again count n small in rw said refl
 
@@ -54,7 +55,8 @@ unfolding value_at
 value-again Decimal n rest small = let said = decimal_said-again n (grind (arith, nat_tests)) in rw said refl
 value-again Word n rest small = let said = hex_said-again 8 n (grind (arith, nat_tests)) in rw said refl
 
-pub no_space-spelled : (spelling : Spelling) (n : ℕ) → is_spellable spelling n ≡ true → list_all no_space (spelled spelling n) ≡ true
+pub no_space-spelled : (spelling : Spelling) (n : ℕ) → is_spellable spelling n ≡ true
+    → list_all no_space (spelled spelling n) ≡ true
 no_space-spelled Decimal n small = no_space-decimal n (grind (arith, nat_tests))
 no_space-spelled Word n small = no_space-digits (hex 8 n) (hex-digits 8 n)
 
@@ -64,17 +66,21 @@ unfolding AreSpellable values_at
 values-again spelling front [] are = ap (λ t. Ok (taken t [])) (sym (append-nil front))
 values-again spelling front (value ∷ values) are =
     let first = value-again spelling value (spelled_all spelling values) are.0 in
-    rw first (values-again spelling (front ++ value ∷ []) values are.1 ∙ ap (λ t. Ok (taken t [])) (append_assoc front (value ∷ []) values))
+    rw first (values-again spelling (front ++ value ∷ []) values are.1
+    ∙ ap (λ t. Ok (taken t [])) (append_assoc front (value ∷ []) values))
 
-pub are_words-spelled : (spelling : Spelling) (values : List ℕ) → AreSpellable spelling values → AreWords (spelled_all spelling values)
+pub are_words-spelled : (spelling : Spelling) (values : List ℕ) → AreSpellable spelling values
+    → AreWords (spelled_all spelling values)
 unfolding AreSpellable
 are_words-spelled spelling [] are = are_none
 are_words-spelled spelling (value ∷ values) are =
-    are_more (spelled spelling value) (spelled_all spelling values) (no_space-spelled spelling value are.0) (are_words-spelled spelling values are.1)
+    are_more (spelled spelling value) (spelled_all spelling values) (no_space-spelled spelling value are.0)
+    (are_words-spelled spelling values are.1)
 
 -- one word of digits, and others
 digits_words : (width : ℕ) (ns : List ℕ) → AreWords (hex_all width ns ∷ [])
-digits_words width ns = are_more (hex_all width ns) [] (no_space-digits (hex_all width ns) (hex_all-digits width ns)) are_none
+digits_words width ns =
+    are_more (hex_all width ns) [] (no_space-digits (hex_all width ns) (hex_all-digits width ns)) are_none
 
 counted : (width count : ℕ) (ns : List ℕ) (rest : LineWords) → length ns ≡ count → AreBelow width ns
     → numbers_at width count (hex_all width ns ∷ rest) ≡ Ok (taken ns rest)
@@ -101,7 +107,8 @@ waves-again bank bytes two long are =
     let n = exact-again (decimal bank) rest in
     let b = counted 2 16 bytes [] long are in
     ap (wave_said bank)
-    (pieces-joined (codes "wave") words refl (are_more (decimal bank) rest (no_space-decimal bank (omega arith)) (digits_words 2 bytes)))
+    (pieces-joined (codes "wave") words refl
+    (are_more (decimal bank) rest (no_space-decimal bank (omega arith)) (digits_words 2 bytes)))
     ∙ rw (k, n, b) refl
 
 -- the bytes of a queue
@@ -149,12 +156,16 @@ queues-again queue current bytes two small few are =
     let held = are_bytes-again bytes in
     let fits : nat_le (length bytes) 32 ≡ true = le-leb (length bytes) 32 few in
     let same = queue_bytes-again bytes are in
-    let all = are_more (queue_name queue) now (no_space-queue_name queue) (are_more (hex 2 current) count (no_space-digits (hex 2 current) (hex-digits 2 current))
-    (are_more (decimal (length bytes)) last (no_space-decimal (length bytes) long) (are_more (queue_word bytes) [] (no_space-queue_word bytes) are_none))) in
+    let all =
+    are_more (queue_name queue) now (no_space-queue_name queue)
+    (are_more (hex 2 current) count (no_space-digits (hex 2 current) (hex-digits 2 current))
+    (are_more (decimal (length bytes)) last (no_space-decimal (length bytes) long)
+    (are_more (queue_word bytes) [] (no_space-queue_word bytes) are_none))) in
     ap (queue_said queue) (pieces-joined (codes "queue") words refl all) ∙ rw (k, l, c, n, held, fits, same) refl
 
 -- 32 bytes of a memory
-pub memory_at-again : (name : MemoryName) (rest : LineWords) → memory_at (memory_name name ∷ rest) ≡ Ok (taken name rest)
+pub memory_at-again : (name : MemoryName) (rest : LineWords)
+    → memory_at (memory_name name ∷ rest) ≡ Ok (taken name rest)
 unfolding memory_at memory_named
 memory_at-again memory.Io rest = refl
 memory_at-again memory.Wram rest = refl
@@ -184,8 +195,10 @@ memory-again backup last place bytes long are some small behind within =
     let o = hex-again 6 place.offset rest small in
     let b = counted 2 32 bytes [] long are in
     let all = are_more (memory_name place.name) offset (no_space-memory_name place.name)
-    (are_more (hex 6 place.offset) rest (no_space-digits (hex 6 place.offset) (hex-digits 6 place.offset)) (digits_words 2 bytes)) in
-    ap (memory_said backup last) (pieces-joined (codes "mem") words refl all) ∙ rw (k, m, o, b, behind, some, within) refl
+    (are_more (hex 6 place.offset) rest (no_space-digits (hex 6 place.offset) (hex-digits 6 place.offset))
+    (digits_words 2 bytes)) in
+    ap (memory_said backup last) (pieces-joined (codes "mem") words refl all)
+    ∙ rw (k, m, o, b, behind, some, within) refl
 
 -- a drawn line
 pub drawn-again : DrawnAgain
@@ -198,7 +211,8 @@ drawn-again last line colours long are low below =
     let c = counted 4 240 colours [] long are in
     let fits : nat_lt line 159 ≡ true = lt-ltb line 159 low in
     ap (drawn_said last)
-    (pieces-joined (codes "drawn") words refl (are_more (decimal line) rest (no_space-decimal line (omega arith)) (digits_words 4 colours)))
+    (pieces-joined (codes "drawn") words refl
+    (are_more (decimal line) rest (no_space-decimal line (omega arith)) (digits_words 4 colours)))
     ∙ rw (k, y, c, below, fits) refl
 
 -- a live signal
@@ -214,6 +228,10 @@ signals-again consoles sender signal less few head words packed =
     let a = hex-again 16 (packed_head signal) last head in
     let b = hex-again 16 (packed_words signal) [] words in
     let fits : nat_lt sender consoles ≡ true = lt-ltb sender consoles less in
-    let all = are_more (decimal sender) first (no_space-decimal sender small) (are_more (hex 16 (packed_head signal)) last (no_space-digits (hex 16 (packed_head signal)) (hex-digits 16 (packed_head signal)))
-    (are_more (hex 16 (packed_words signal)) [] (no_space-digits (hex 16 (packed_words signal)) (hex-digits 16 (packed_words signal))) are_none)) in
+    let all =
+    are_more (decimal sender) first (no_space-decimal sender small)
+    (are_more (hex 16 (packed_head signal)) last
+    (no_space-digits (hex 16 (packed_head signal)) (hex-digits 16 (packed_head signal)))
+    (are_more (hex 16 (packed_words signal)) []
+    (no_space-digits (hex 16 (packed_words signal)) (hex-digits 16 (packed_words signal))) are_none)) in
     ap (signal_said consoles) (pieces-joined (codes "signal") all_words refl all) ∙ rw (k, s, a, b, fits, packed) refl

@@ -75,7 +75,8 @@ unfolding AreWords
 are_words-append [] other are rest = rest
 are_words-append (word ∷ one) other are rest = (are.0, are_words-append one other are.1 rest)
 
-number_behind-again : (number : Option ℕ) (rest : LineWords) → number_behind number (number_words number ++ rest) ≡ Ok (taken true rest)
+number_behind-again : (number : Option ℕ) (rest : LineWords)
+    → number_behind number (number_words number ++ rest) ≡ Ok (taken true rest)
 unfolding number_behind
 number_behind-again None rest = refl
 number_behind-again (Some n) rest = exact-again (decimal n) rest
@@ -89,5 +90,7 @@ rows-again until which values is count are =
     let n = number_behind-again (number_of_row which) rest in
     let v : values_at (spelling_of which) (count_of which) [] rest ≡ Ok (taken values []) =
     ap (λ c. values_at (spelling_of which) c [] rest) (sym count) ∙ values-again (spelling_of which) [] values are in
-    let all = are_words-append (number_words (number_of_row which)) rest (are_words-number which is) (are_words-spelled (spelling_of which) values are) in
+    let all =
+    are_words-append (number_words (number_of_row which)) rest (are_words-number which is)
+    (are_words-spelled (spelling_of which) values are) in
     ap (row_said until which) (pieces-joined (keyword_of which) words (no_space-keyword which) all) ∙ rw (k, n, v) refl

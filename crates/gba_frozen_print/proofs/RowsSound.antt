@@ -61,11 +61,13 @@ joined-pieces line first rest h =
     ap (λ w. joined w rest) front ∙ ap (λ ws. joined s.first ws) back ∙ s.whole
 
 -- just this word
-exact-sound : (word : List ℕ) (words : LineWords) (t : Taken LineWords Bool) → exact word words ≡ Ok t → words ≡ word ∷ t.left
+exact-sound : (word : List ℕ) (words : LineWords) (t : Taken LineWords Bool) → exact word words ≡ Ok t
+    → words ≡ word ∷ t.left
 unfolding exact
 exact-sound word [] t h = absurd cc
 exact-sound word (w ∷ ws) t h = by_test (bytes_eq w word) refl h where
-  by_test : (b : Bool) → bytes_eq w word ≡ b → cond b (Ok (taken true ws)) (Err kind.Spelling) ≡ Ok t → w ∷ ws ≡ word ∷ t.left
+  by_test : (b : Bool) → bytes_eq w word ≡ b → cond b (Ok (taken true ws)) (Err kind.Spelling) ≡ Ok t
+      → w ∷ ws ≡ word ∷ t.left
   by_test true e s =
       let same : w ≡ word = (bytes_eq-Decides w word).0 e in
       let left : taken true ws ≡ t = cc in
@@ -86,8 +88,10 @@ record IsDecimal (word : List ℕ) : Type 0 where
 
 plain-parts : (word : List ℕ) → is_plain word ≡ true → IsDecimal word
 plain-parts word h =
-    let number : is_number word ≡ true = first_of_all (is_number word) (length word == 1 || not (slice_index word 0 == 48)) h in
-    let front : (length word == 1 || not (slice_index word 0 == 48)) ≡ true = rest_of_all (is_number word) (length word == 1 || not (slice_index word 0 == 48)) h in
+    let number : is_number word ≡ true =
+    first_of_all (is_number word) (length word == 1 || not (slice_index word 0 == 48)) h in
+    let front : (length word == 1 || not (slice_index word 0 == 48)) ≡ true =
+    rest_of_all (is_number word) (length word == 1 || not (slice_index word 0 == 48)) h in
     let sized = first_of_all (nat_le 1 (length word) && nat_le (length word) 20) (all_digits word) number in
     record {
       some = grind (arith, nat_tests);
@@ -98,7 +102,8 @@ plain-parts word h =
 decimal_said-sound : (word : List ℕ) (n : ℕ) → decimal_said word ≡ Some n → n < greatest → word ≡ decimal n
 unfolding decimal_said
 decimal_said-sound word n h small = by_test (is_plain word) refl h where
-  by_test : (b : Bool) → is_plain word ≡ b → cond b (Some (min (digits_value 10 word) greatest)) None ≡ Some n → word ≡ decimal n
+  by_test : (b : Bool) → is_plain word ≡ b → cond b (Some (min (digits_value 10 word) greatest)) None ≡ Some n
+      → word ≡ decimal n
   by_test true e s =
       let value : min (digits_value 10 word) greatest ≡ n = cc in
       let same : digits_value 10 word ≡ n = omega arith in
@@ -106,21 +111,24 @@ decimal_said-sound word n h small = by_test (is_plain word) refl h where
       sym (decimal-digits_value own word is.digits is.some is.plain (omega arith)) ∙ ap decimal same
   by_test false e s = absurd cc
 
-number_said-sound : (spelling : Spelling) (word : List ℕ) (n : ℕ) → number_said spelling word ≡ Some n → n < greatest → word ≡ spelled spelling n
+number_said-sound : (spelling : Spelling) (word : List ℕ) (n : ℕ) → number_said spelling word ≡ Some n → n < greatest
+    → word ≡ spelled spelling n
 number_said-sound Decimal word n h small = decimal_said-sound word n h small
 number_said-sound Word word n h small = hex_said-sound 8 word n h
 
-value-sound : (spelling : Spelling) (words : LineWords) (t : Taken LineWords ℕ) → value_at spelling words ≡ Ok t → t.value < greatest
-    → words ≡ spelled spelling t.value ∷ t.left
+value-sound : (spelling : Spelling) (words : LineWords) (t : Taken LineWords ℕ) → value_at spelling words ≡ Ok t
+    → t.value < greatest → words ≡ spelled spelling t.value ∷ t.left
 unfolding value_at
 value-sound spelling [] t h small = absurd cc
 value-sound spelling (w ∷ ws) t h small = by_said (number_said spelling w) refl h where
-  by_said : (o : Option ℕ) → number_said spelling w ≡ o → or_refused kind.Spelling ws o ≡ Ok t → w ∷ ws ≡ spelled spelling t.value ∷ t.left
+  by_said : (o : Option ℕ) → number_said spelling w ≡ o → or_refused kind.Spelling ws o ≡ Ok t
+      → w ∷ ws ≡ spelled spelling t.value ∷ t.left
   by_said (Some n) e s =
       let left : taken n ws ≡ t = cc in
       let value : n ≡ t.value = ap (λ (r : Taken LineWords ℕ). r.value) left in
       let same : w ≡ spelled spelling n = number_said-sound spelling w n e (omega arith) in
-      ap (λ (v : List ℕ). v ∷ ws) (same ∙ ap (spelled spelling) value) ∙ ap (λ (r : Taken LineWords ℕ). spelled spelling t.value ∷ r.left) left
+      ap (λ (v : List ℕ). v ∷ ws) (same ∙ ap (spelled spelling) value)
+      ∙ ap (λ (r : Taken LineWords ℕ). spelled spelling t.value ∷ r.left) left
   by_said None e s = absurd cc
 
 -- so many numbers
@@ -146,12 +154,14 @@ values-sound spelling (suc count) front words t h =
     record {
       values = first.value ∷ rest.values;
       all = rest.all ∙ append_assoc front (first.value ∷ []) rest.values;
-      read = λ held. value-sound spelling words first g.1 held.0 ∙ ap (λ (r : LineWords). spelled spelling first.value ∷ r) (rest.read held.1);
+      read =
+          λ held. value-sound spelling words first g.1 held.0
+          ∙ ap (λ (r : LineWords). spelled spelling first.value ∷ r) (rest.read held.1);
     }
 
 -- the number behind the first word
-number_behind-sound : (number : Option ℕ) (words : LineWords) (t : Taken LineWords Bool) → number_behind number words ≡ Ok t
-    → words ≡ number_words number ++ t.left
+number_behind-sound : (number : Option ℕ) (words : LineWords) (t : Taken LineWords Bool)
+    → number_behind number words ≡ Ok t → words ≡ number_words number ++ t.left
 unfolding number_behind
 number_behind-sound None words t h =
     let left : taken true words ≡ t = cc in
@@ -176,9 +186,11 @@ rows-sound until which line values held h =
     let all : read.values ≡ values = sym read.all ∙ same in
     let none : v.0.left ≡ [] = end-sound v.0.left e.0 e.1 in
     let back : n.0.left ≡ spelled_all spelling values =
-    read.read (subst AreHeld (sym all) held) ∙ ap (λ t. spelled_all spelling read.values ++ t) none ∙ append-nil (spelled_all spelling read.values) ∙ ap (spelled_all spelling) all in
+    read.read (subst AreHeld (sym all) held) ∙ ap (λ t. spelled_all spelling read.values ++ t) none
+    ∙ append-nil (spelled_all spelling read.values) ∙ ap (spelled_all spelling) all in
     let behind : k.0.left ≡ number_words (number_of_row which) ++ spelled_all spelling values =
-    number_behind-sound (number_of_row which) k.0.left n.0 n.1 ∙ ap (λ t. number_words (number_of_row which) ++ t) back in
+    number_behind-sound (number_of_row which) k.0.left n.0 n.1
+    ∙ ap (λ t. number_words (number_of_row which) ++ t) back in
     let parted : pieces line ≡ keyword_of which ∷ (number_words (number_of_row which) ++ spelled_all spelling values) =
     exact-sound (keyword_of which) (pieces line) k.0 k.1 ∙ ap (λ t. keyword_of which ∷ t) behind in
     joined-pieces line (keyword_of which) (number_words (number_of_row which) ++ spelled_all spelling values) parted

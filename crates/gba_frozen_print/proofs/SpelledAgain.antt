@@ -45,7 +45,8 @@ no_space-decimal n small = list_all-weaker is_ascii_digit no_space digit-plain (
 decimal-number : (n : ℕ) → n < 2 ^ 64 → is_number (decimal n) ≡ true
 decimal-number n small =
     let some : nat_le 1 (length (decimal n)) ≡ true = le-leb 1 (length (decimal n)) (decimal_nonempty n small) in
-    let few : nat_le (length (decimal n)) 20 ≡ true = le-leb (length (decimal n)) 20 (length-decimal-le 20 n (omega arith) (omega arith) small) in
+    let few : nat_le (length (decimal n)) 20 ≡ true =
+    le-leb (length (decimal n)) 20 (length-decimal-le 20 n (omega arith) (omega arith) small) in
     let all : all_digits (decimal n) ≡ true = digits_decimal own n small in
     rw (some, few, all) refl
 
@@ -88,11 +89,13 @@ all_right-at (suc n) d h lt =
     ]
 
 hex_digit-digit : (d : ℕ) → d < 16 → is_digit (hex_digit d) ≡ true
-hex_digit-digit d lt = first_of_all (is_digit (hex_digit d)) (digit_value (hex_digit d) == d) (all_right-at 16 d refl lt)
+hex_digit-digit d lt =
+    first_of_all (is_digit (hex_digit d)) (digit_value (hex_digit d) == d) (all_right-at 16 d refl lt)
 
 hex_digit-value : (d : ℕ) → d < 16 → digit_value (hex_digit d) ≡ d
 hex_digit-value d lt =
-    eqb-true (digit_value (hex_digit d)) d (rest_of_all (is_digit (hex_digit d)) (digit_value (hex_digit d) == d) (all_right-at 16 d refl lt))
+    eqb-true (digit_value (hex_digit d)) d
+    (rest_of_all (is_digit (hex_digit d)) (digit_value (hex_digit d) == d) (all_right-at 16 d refl lt))
 
 pub hex-digits : (count n : ℕ) → list_all is_digit (hex count n) ≡ true
 hex-digits zero n = refl
@@ -108,17 +111,20 @@ length-hex (suc count) n = ap suc (length-hex count n)
 pub one_more : (before d power rest next : ℕ) → next ≡ 16 * power
     → (before * 16 + d) * power + rest ≡ before * next + (d * power + rest)
 one_more before d power rest next is =
-    ap (λ k. k + rest) (add-mul (before * 16) d power ∙ ap (λ k. k + d * power) (mul_assoc before 16 power ∙ ap (λ q. before * q) (sym is)))
+    ap (λ k. k + rest) (add-mul (before * 16) d power
+    ∙ ap (λ k. k + d * power) (mul_assoc before 16 power ∙ ap (λ q. before * q) (sym is)))
     ∙ add_assoc (before * next) (d * power) rest
 
-hex-after : (count before n : ℕ) → digits_value_after 16 before (hex count n) ≡ before * 2 ^ (4 * count) + n % 2 ^ (4 * count)
+hex-after : (count before n : ℕ)
+    → digits_value_after 16 before (hex count n) ≡ before * 2 ^ (4 * count) + n % 2 ^ (4 * count)
 hex-after zero before n = omega arith
 hex-after (suc count) before n =
     let d : ℕ = n / 2 ^ (4 * count) % 16 in
     let value : digit_value (hex_digit d) ≡ d = hex_digit-value d (omega arith) in
     let longer : 4 * suc count ≡ 4 + 4 * count = omega arith in
     let power : 2 ^ (4 * suc count) ≡ 16 * 2 ^ (4 * count) = ap (λ k. 2 ^ k) longer ∙ pow-add 2 4 (4 * count) in
-    let rest : n % 2 ^ (4 * suc count) ≡ d * 2 ^ (4 * count) + n % 2 ^ (4 * count) = ap (λ k. n % 2 ^ k) longer ∙ mod-pow-add n 4 (4 * count) in
+    let rest : n % 2 ^ (4 * suc count) ≡ d * 2 ^ (4 * count) + n % 2 ^ (4 * count) =
+    ap (λ k. n % 2 ^ k) longer ∙ mod-pow-add n 4 (4 * count) in
     ap (λ v. digits_value_after 16 (before * 16 + v) (hex count n)) value
     ∙ hex-after count (before * 16 + d) n
     ∙ one_more before d (2 ^ (4 * count)) (n % 2 ^ (4 * count)) (2 ^ (4 * suc count)) power
@@ -159,19 +165,23 @@ length-hex_all width (n ∷ ns) =
     ∙ ap (λ k. k + length (hex_all width ns)) (length-hex width n)
     ∙ ap (λ k. width + k) (length-hex_all width ns) ∙ grind arith
 
-pub numbers_in-again : (width : ℕ) (ns : List ℕ) → AreBelow width ns → numbers_in width (length ns) (hex_all width ns) ≡ ns
+pub numbers_in-again : (width : ℕ) (ns : List ℕ) → AreBelow width ns
+    → numbers_in width (length ns) (hex_all width ns) ≡ ns
 unfolding AreBelow numbers_in
 numbers_in-again width [] are = refl
 numbers_in-again width (n ∷ ns) are =
     let front : take width (hex width n ++ hex_all width ns) ≡ hex width n =
-    ap (λ k. take k (hex width n ++ hex_all width ns)) (sym (length-hex width n)) ∙ take-append_seam (hex width n) (hex_all width ns) in
+    ap (λ k. take k (hex width n ++ hex_all width ns)) (sym (length-hex width n))
+    ∙ take-append_seam (hex width n) (hex_all width ns) in
     let back : drop width (hex width n ++ hex_all width ns) ≡ hex_all width ns =
-    ap (λ k. drop k (hex width n ++ hex_all width ns)) (sym (length-hex width n)) ∙ drop-append_seam (hex width n) (hex_all width ns) in
+    ap (λ k. drop k (hex width n ++ hex_all width ns)) (sym (length-hex width n))
+    ∙ drop-append_seam (hex width n) (hex_all width ns) in
     let value = hex-value width n are.0 in
     let rest = numbers_in-again width ns are.1 in
     rw (front, back, value, rest) refl
 
-pub numbers_said-again : (width : ℕ) (ns : List ℕ) → AreBelow width ns → numbers_said width (length ns) (hex_all width ns) ≡ Some ns
+pub numbers_said-again : (width : ℕ) (ns : List ℕ) → AreBelow width ns
+    → numbers_said width (length ns) (hex_all width ns) ≡ Some ns
 unfolding numbers_said
 numbers_said-again width ns are =
     let long : (length (hex_all width ns) == width * length ns) ≡ true = grind (arith, nat_tests, length-hex_all) in

@@ -47,7 +47,8 @@ RowsSound = (until : ℕ) (which : Row) (line values : List ℕ) → AreHeld val
     → row_said until which (pieces line) ≡ Ok (Values which values) → row_line which values ≡ line
 
 abbrev pub DigestAgain : Type 0
-DigestAgain = (digest : List ℕ) → length digest ≡ 32 → AreBelow 2 digest → digest_line digest (pieces (digest_text digest)) ≡ Ok Nothing
+DigestAgain = (digest : List ℕ) → length digest ≡ 32 → AreBelow 2 digest
+    → digest_line digest (pieces (digest_text digest)) ≡ Ok Nothing
 
 abbrev pub WavesAgain : Type 0
 WavesAgain = (bank : ℕ) (bytes : List ℕ) → bank < 2 → length bytes ≡ 16 → AreBelow 2 bytes

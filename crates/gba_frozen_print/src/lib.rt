@@ -1,5 +1,6 @@
 #![tactic(auto)]
-//! The lines of a frozen file, printed, as those of a state file are; and laws that each of them is read again as it was.
+//! The lines of a frozen file, printed, as those of a state file are; and laws that each of them is read
+//! again as it was.
 
 pub mod laws;
 mod print;

@@ -39,7 +39,8 @@ inside consoles player count slot below is within = record {
 }
 
 -- the places behind lines that may be missing
-behind_drawn : (consoles player count : ℕ) (b : Bool) → nat_lt (player + 1) consoles ≡ b → player < consoles → count ≡ player + 1
+behind_drawn : (consoles player count : ℕ) (b : Bool) → nat_lt (player + 1) consoles ≡ b → player < consoles
+    → count ≡ player + 1
     → CountedAt consoles (cond b (placed (player + 1) (Fixed row.Heading)) (placed player Signals)) count
 behind_drawn consoles player count true e below is = record {
   player = grind (arith, nat_tests);
@@ -62,10 +63,14 @@ next-counted setup player (Queue queue) words count left h = absurd cc
 next-counted setup player (Wave bank) words count left h = absurd cc
 next-counted setup player (Memory last) words count left h =
     inside setup.consoles player count _ h.player h.begun
-    (either (λ (r : Row). Inside (Fixed r)) (is_flash (backup_of setup player)) row.Flash row.Was (refl, refl) (refl, refl))
+    (either (λ (r : Row). Inside (Fixed r)) (is_flash (backup_of setup player)) row.Flash row.Was (refl, refl) (
+      refl,
+      refl,
+    ))
 next-counted setup player (Drawn last) words count left h =
     behind_drawn setup.consoles player count (nat_lt (player + 1) setup.consoles) refl h.player h.begun
-next-counted setup player Signals words count left h = record { player = h.player; begun = h.begun; all = λ _. h.all refl }
+next-counted setup player Signals words count left h =
+    record { player = h.player; begun = h.begun; all = λ _. h.all refl }
 next-counted setup player End words count left h = absurd cc
 next-counted setup player Past words count left h = absurd cc
 
@@ -132,7 +137,8 @@ row-inside player (row.Timer n) =
     either (λ (r : Row). Inside (Fixed r)) (nat_lt n 3) (row.Timer (n + 1)) (row.Dma 0) (refl, refl) (refl, refl)
 row-inside player (row.Dma n) = either Inside (nat_lt n 3) (Fixed (row.Dma (n + 1))) (Queue 0) (refl, refl) (refl, refl)
 row-inside player row.Sequencer = (refl, refl)
-row-inside player (row.Tone n) = either Inside (nat_lt n 4) (Fixed (row.Tone (n + 1))) (Wave 0) (refl, refl) (refl, refl)
+row-inside player (row.Tone n) =
+    either Inside (nat_lt n 4) (Fixed (row.Tone (n + 1))) (Wave 0) (refl, refl) (refl, refl)
 row-inside player row.Position = (refl, refl)
 row-inside player (row.Affine n) =
     either (λ (r : Row). Inside (Fixed r)) (n == 2) (row.Affine 3) row.Serial (refl, refl) (refl, refl)
@@ -143,8 +149,8 @@ row-inside player row.Was = (refl, refl)
 row-inside player row.Applied = (refl, refl)
 row-inside player row.Counts = (refl, refl)
 
-row-count : (consoles player : ℕ) (which : Row) (values : List ℕ) (count : ℕ) → CountedAt consoles (placed player (Fixed which)) count
-    → count_with (Values which values) count ≡ player + 1
+row-count : (consoles player : ℕ) (which : Row) (values : List ℕ) (count : ℕ)
+    → CountedAt consoles (placed player (Fixed which)) count → count_with (Values which values) count ≡ player + 1
 unfolding count_with
 row-count consoles player row.Heading values count h = ap (λ n. n + 1) h.begun
 row-count consoles player (row.Console n) values count h = h.begun
@@ -170,26 +176,36 @@ record Goes (setup : Setup) (player : ℕ) (count : ℕ) (said : Said) (at : Pla
   same : at.player ≡ player
   counted : CountedAt setup.consoles at (count_with said count)
 
-slot-goes : (setup : Setup) (player : ℕ) (slot : Slot) (words : LineWords) (count : ℕ) (said : Said) → is_slot slot ≡ true
-    → CountedAt setup.consoles (placed player slot) count → slot_said setup player slot words ≡ Ok said
+slot-goes : (setup : Setup) (player : ℕ) (slot : Slot) (words : LineWords) (count : ℕ) (said : Said)
+    → is_slot slot ≡ true → CountedAt setup.consoles (placed player slot) count
+    → slot_said setup player slot words ≡ Ok said
     → Goes setup player count said (after_said setup (placed player slot) said)
 unfolding slot_said is_slot after_said next_by count_with
 slot-goes setup player Version words count said is h e =
     let s = version-says words said e in
     subst (λ (t : Said). Goes setup player count t (after_said setup (placed player Version) t)) (sym s)
-    (record { fits = tt; same = refl; counted = record { player = h.player; begun = h.begun; all = λ over. absurd cc } })
+    (record {
+      fits = tt;
+      same = refl;
+      counted = record { player = h.player; begun = h.begun; all = λ over. absurd cc };
+    })
 slot-goes setup player Digest words count said is h e =
     let s = digest-says setup.digest words said e in
     subst (λ (t : Said). Goes setup player count t (after_said setup (placed player Digest) t)) (sym s)
-    (record { fits = tt; same = refl; counted = record { player = h.player; begun = h.begun; all = λ over. absurd cc } })
+    (record {
+      fits = tt;
+      same = refl;
+      counted = record { player = h.player; begun = h.begun; all = λ over. absurd cc };
+    })
 slot-goes setup player (Fixed which) words count said is h e =
     let s = row-says setup.until which words said e in
     subst (λ (t : Said). Goes setup player count t (after_said setup (placed player (Fixed which)) t)) s.1
     (record {
       fits = (is, s.2, s.3);
       same = refl;
-      counted = inside setup.consoles player _ (after_row player which) h.player (row-count setup.consoles player which s.0 count h)
-          (row-inside player which);
+      counted =
+          inside setup.consoles player _ (after_row player which) h.player
+          (row-count setup.consoles player which s.0 count h) (row-inside player which);
     })
 slot-goes setup player (Queue queue) words count said is h e =
     let s = queue-says queue words said e in
@@ -212,11 +228,19 @@ slot-goes setup player (Wave bank) words count said is h e =
 slot-goes setup player (Memory last) words count said is h e =
     let s = memory-says (backup_of setup player) last words said e in
     subst (λ (t : Said). Goes setup player count t (after_said setup (placed player (Memory last)) t)) s.2
-    (record { fits = (s.3, s.4); same = refl; counted = inside setup.consoles player count _ h.player h.begun (refl, refl) })
+    (record {
+      fits = (s.3, s.4);
+      same = refl;
+      counted = inside setup.consoles player count _ h.player h.begun (refl, refl);
+    })
 slot-goes setup player (Drawn last) words count said is h e =
     let s = drawn-says last words said e in
     subst (λ (t : Said). Goes setup player count t (after_said setup (placed player (Drawn last)) t)) s.2
-    (record { fits = (s.3, s.4); same = refl; counted = inside setup.consoles player count _ h.player h.begun (refl, refl) })
+    (record {
+      fits = (s.3, s.4);
+      same = refl;
+      counted = inside setup.consoles player count _ h.player h.begun (refl, refl);
+    })
 slot-goes setup player Signals words count said is h e =
     let s = signal-says setup.consoles words said e in
     subst (λ (t : Said). Goes setup player count t (after_said setup (placed player Signals) t)) s.2
@@ -239,24 +263,26 @@ next-slot setup player (Wave bank) words left = absurd cc
 next-slot setup player (Memory last) words left =
     either (λ (r : Row). is_slot (Fixed r) ≡ true) (is_flash (backup_of setup player)) row.Flash row.Was refl refl
 next-slot setup player (Drawn last) words left =
-    either (λ (p : Place). is_slot p.slot ≡ true) (nat_lt (player + 1) setup.consoles) (placed (player + 1) (Fixed row.Heading))
-    (placed player Signals) refl refl
+    either (λ (p : Place). is_slot p.slot ≡ true) (nat_lt (player + 1) setup.consoles)
+    (placed (player + 1) (Fixed row.Heading)) (placed player Signals) refl refl
 next-slot setup player Signals words left = refl
 next-slot setup player End words left = absurd cc
 next-slot setup player Past words left = absurd cc
 
-left-slot : (setup : Setup) (words : LineWords) (at : Place) → is_slot at.slot ≡ true → is_slot (left_for setup words at).slot ≡ true
+left-slot : (setup : Setup) (words : LineWords) (at : Place) → is_slot at.slot ≡ true
+    → is_slot (left_for setup words at).slot ≡ true
 left-slot setup words at h = by_test (is_left at.slot words) refl where
   by_test : (b : Bool) → is_left at.slot words ≡ b → is_slot (cond b (next_place setup at) at).slot ≡ true
   by_test true e = next-slot setup at.player at.slot words e
   by_test false e = h
 
-place-slot : (setup : Setup) (words : LineWords) (at : Place) → is_slot at.slot ≡ true → is_slot (place_for setup words at).slot ≡ true
+place-slot : (setup : Setup) (words : LineWords) (at : Place) → is_slot at.slot ≡ true
+    → is_slot (place_for setup words at).slot ≡ true
 place-slot setup words at h = left-slot setup words (left_for setup words at) (left-slot setup words at h)
 
 -- what a line says is in its ranges, and so many consoles have begun behind it
-said-goes : (setup : Setup) (d : Draft) (line : List ℕ) (at : Place) (said : Said) → is_slot d.at.slot ≡ true → IsCounted setup d
-    → said_at setup (place_for setup (pieces line) d.at) line ≡ Ok (taken said at)
+said-goes : (setup : Setup) (d : Draft) (line : List ℕ) (at : Place) (said : Said) → is_slot d.at.slot ≡ true
+    → IsCounted setup d → said_at setup (place_for setup (pieces line) d.at) line ≡ Ok (taken said at)
     → SaidFits setup at.player said × IsCounted setup (with_next at said d)
 said-goes setup d line at said is h e =
     let here = place_for setup (pieces line) d.at in
@@ -273,12 +299,14 @@ said-goes setup d line at said is h e =
     (subst (λ (p : Place). Goes setup here.player count b.0 p) where_at g) in
     let next : Draft = record d { at = at } in (
       subst (λ (p : ℕ). SaidFits setup p said) (sym there.same) there.fits,
-      subst (λ (p : Place). CountedAt setup.consoles p (length (with_said said next).consoles)) (sym (said-there said next))
+      subst (λ (p : Place). CountedAt setup.consoles p (length (with_said said next).consoles))
+          (sym (said-there said next))
           (subst (λ (n : ℕ). CountedAt setup.consoles at n) (sym (said-count said next)) there.counted),
     )
 
-read-goes : (setup : Setup) (d : Draft) (line : List ℕ) (at : Place) (said : Said) → is_slot d.at.slot ≡ true → IsCounted setup d
-    → read_at setup d.at line ≡ Ok (taken said at) → SaidFits setup at.player said × IsCounted setup (with_next at said d)
+read-goes : (setup : Setup) (d : Draft) (line : List ℕ) (at : Place) (said : Said) → is_slot d.at.slot ≡ true
+    → IsCounted setup d → read_at setup d.at line ≡ Ok (taken said at)
+    → SaidFits setup at.player said × IsCounted setup (with_next at said d)
 unfolding read_at
 read-goes setup d line at said is h e = by_feed (without_feed line) e where
   by_feed : (o : Option (List ℕ)) → fed_said setup d.at o ≡ Ok (taken said at)
@@ -287,11 +315,12 @@ read-goes setup d line at said is h e = by_feed (without_feed line) e where
   by_feed None s = absurd cc
 
 -- a line that is read is the next one
-pub is_next : (setup : Setup) (d : Draft) (from : Place) (line : List ℕ) (at : Place) (said : Said) → d.at ≡ from → is_place from ≡ true
-    → IsCounted setup d → read_at setup from line ≡ Ok (taken said at) → IsNext setup d at said
+pub is_next : (setup : Setup) (d : Draft) (from : Place) (line : List ℕ) (at : Place) (said : Said) → d.at ≡ from
+    → is_place from ≡ true → IsCounted setup d → read_at setup from line ≡ Ok (taken said at) → IsNext setup d at said
 is_next setup d from line at said here is h e =
     let read : read_at setup d.at line ≡ Ok (taken said at) = ap (λ (p : Place). read_at setup p line) here ∙ e in
-    let slot : is_slot d.at.slot ≡ true = ap (λ (p : Place). is_slot p.slot) here ∙ rest_of_all (nat_lt from.player 4) (is_slot from.slot) is in
+    let slot : is_slot d.at.slot ≡ true =
+    ap (λ (p : Place). is_slot p.slot) here ∙ rest_of_all (nat_lt from.player 4) (is_slot from.slot) is in
     let goes = read-goes setup d line at said slot h read in
     record { line = line; read = read; fits = goes.0; before = h; behind = goes.1 }
 
@@ -300,7 +329,8 @@ pub counted_first : (setup : Setup) → 0 < setup.consoles → IsCounted setup n
 counted_first setup some = record { player = some; begun = refl; all = λ over. absurd cc }
 
 -- a file whose last line is read has all consoles
-pub counted_all : (setup : Setup) (d : Draft) → IsCounted setup d → is_past d.at.slot ≡ true → length d.consoles ≡ setup.consoles
+pub counted_all : (setup : Setup) (d : Draft) → IsCounted setup d → is_past d.at.slot ≡ true
+    → length d.consoles ≡ setup.consoles
 counted_all setup d h past = at_past d.at.slot past (length d.consoles) d.at.player h.begun h.all where
   at_past : (slot : Slot) → is_past slot ≡ true → (count player : ℕ) → count ≡ cond (is_begun slot) (player + 1) player
       → (is_behind_consoles slot ≡ true → player + 1 ≡ setup.consoles) → count ≡ setup.consoles

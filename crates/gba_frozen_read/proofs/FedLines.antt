@@ -11,9 +11,11 @@ abbrev pub no_feed : ℕ → Bool
 no_feed b = not (b == 10)
 
 ended_by : (b : ℕ) (bs : List ℕ) (t : Bool) → no_feed b ≡ t
-    → (prefix_len no_feed bs < length bs → fed_lines bs ≡ take (suc (prefix_len no_feed bs)) bs ∷ fed_lines (drop (suc (prefix_len no_feed bs)) bs))
+    → (prefix_len no_feed bs < length bs
+    → fed_lines bs ≡ take (suc (prefix_len no_feed bs)) bs ∷ fed_lines (drop (suc (prefix_len no_feed bs)) bs))
     → cond t (1 + prefix_len no_feed bs) 0 < length (b ∷ bs)
-    → fed_lines (b ∷ bs) ≡ take (suc (cond t (1 + prefix_len no_feed bs) 0)) (b ∷ bs) ∷ fed_lines (drop (suc (cond t (1 + prefix_len no_feed bs) 0)) (b ∷ bs))
+    → fed_lines (b ∷ bs) ≡ take (suc (cond t (1 + prefix_len no_feed bs) 0)) (b ∷ bs)
+    ∷ fed_lines (drop (suc (cond t (1 + prefix_len no_feed bs) 0)) (b ∷ bs))
 unfolding fed_lines
 ended_by b bs true e rest h =
     let plain : (b == 10) ≡ false = negated _ e in

@@ -50,7 +50,8 @@ pub numbers-count : (width count : ℕ) (words : LineWords) (t : Taken LineWords
 unfolding numbers_at
 numbers-count width count [] t h = absurd cc
 numbers-count width count (word ∷ words) t h =
-    numbers_said-count width count word t.value (or_refused-some kind.Spelling words (numbers_said width count word) t h)
+    numbers_said-count width count word t.value
+    (or_refused-some kind.Spelling words (numbers_said width count word) t h)
 
 -- the lines that say nothing beyond themselves
 pub version-says : (words : LineWords) (said : Said) → version_line words ≡ Ok said → said ≡ Nothing
@@ -68,7 +69,8 @@ end-says words said h =
     let e = bind-ok (end_at k.0.left) _ said k.2 in
     let same : Nothing ≡ said = cc in sym same
 
-pub digest-says : (digest : List ℕ) (words : LineWords) (said : Said) → digest_line digest words ≡ Ok said → said ≡ Nothing
+pub digest-says : (digest : List ℕ) (words : LineWords) (said : Said) → digest_line digest words ≡ Ok said
+    → said ≡ Nothing
 unfolding digest_line
 digest-says digest words said h =
     let k = bind-ok (exact (codes "job") words) _ said h in
@@ -79,7 +81,8 @@ digest-says digest words said h =
 
 -- a row
 pub row-says : (until : ℕ) (which : Row) (words : LineWords) (said : Said) → row_said until which words ≡ Ok said
-    → (values : List ℕ) × (Values which values ≡ said) × (length values ≡ count_of which) × (all_fit until which 0 values ≡ true)
+    → (values : List ℕ) × (Values which values ≡ said) × (length values ≡ count_of which)
+    × (all_fit until which 0 values ≡ true)
 unfolding row_said
 row-says until which words said h =
     let k = bind-ok (exact (keyword_of which) words) _ said h in
@@ -88,7 +91,8 @@ row-says until which words said h =
     let e = bind-ok (end_at v.0.left) _ said v.2 in
     let f = bind-ok (holds (all_fit until which 0 v.0.value) kind.Number) _ said e.2 in
     let same : Values which v.0.value ≡ said = cc in
-    let count : length v.0.value ≡ 0 + count_of which = values-count (spelling_of which) (count_of which) [] n.0.left v.0 v.1 in
+    let count : length v.0.value ≡ 0 + count_of which =
+    values-count (spelling_of which) (count_of which) [] n.0.left v.0 v.1 in
     (v.0.value, same, omega (arith, count), held-true (all_fit until which 0 v.0.value) kind.Number f.0 f.1)
 
 -- a sound queue
@@ -137,8 +141,13 @@ memory-says backup last words said h =
     let r = bind-ok (holds (is_behind last place) kind.Spelling) _ said e.2 in
     let z = bind-ok (holds (not (all_zero b.0.value)) kind.Spelling) _ said r.2 in
     let p = bind-ok (holds (is_row_place backup place) kind.Number) _ said z.2 in
-    let same : MemoryBytes place b.0.value ≡ said = cc in
-    (place, b.0.value, same, held-true (is_row_place backup place) kind.Number p.0 p.1, numbers-count 2 32 o.0.left b.0 b.1)
+    let same : MemoryBytes place b.0.value ≡ said = cc in (
+      place,
+      b.0.value,
+      same,
+      held-true (is_row_place backup place) kind.Number p.0 p.1,
+      numbers-count 2 32 o.0.left b.0 b.1,
+    )
 
 -- a drawn line
 pub drawn-says : (last : Option ℕ) (words : LineWords) (said : Said) → drawn_said last words ≡ Ok said
@@ -156,7 +165,8 @@ drawn-says last words said h =
     (y.0.value, c.0.value, same, grind (arith, nat_tests), numbers-count 4 240 y.0.left c.0 c.1)
 
 -- a live signal
-live-says : (sender head words : ℕ) (o : Option Signal) (said : Said) → signal_in head words ≡ o → live_of sender o ≡ Ok said
+live-says : (sender head words : ℕ) (o : Option Signal) (said : Said) → signal_in head words ≡ o
+    → live_of sender o ≡ Ok said
     → (signal : Signal) × (Live sender signal ≡ said) × (signal_in head words ≡ Some signal)
 live-says sender head words (Some signal) said is h = let same : Live sender signal ≡ said = cc in (signal, same, is)
 live-says sender head words None said is h = absurd cc

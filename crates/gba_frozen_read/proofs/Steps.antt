@@ -13,7 +13,8 @@ use Rattle.gba_frozen.specs.declared.rows.Row.TheVariants as row
 use Rattle.gba_frozen_read.specs.Thawed.{with_next}
 
 -- so many lines of a file are read, and come to this; these bytes are left
-pub record IsReading (A : Type 0) (setup : Setup) (bytes : List ℕ) (number : ℕ) (rest : List ℕ) (d : Draft) : Type 0 where
+pub record IsReading (A : Type 0) (setup : Setup) (bytes : List ℕ) (number : ℕ) (rest : List ℕ)
+    (d : Draft) : Type 0 where
   pub said : (whole_of : Draft → Option A) → lines_say (frozen_language setup whole_of) number d (fed_lines rest)
       ≡ lines_say (frozen_language setup whole_of) 0 nothing_read (fed_lines bytes)
   pub count : number + length (fed_lines rest) ≡ length (fed_lines bytes)
@@ -59,8 +60,8 @@ unfolding with_line
 with_line-refused setup d line k read = rw read refl
 
 -- one line more is read
-pub goes_on : (A : Type 0) (setup : Setup) (bytes : List ℕ) (number : ℕ) (rest left line : List ℕ) (d : Draft) (at : Place) (said : Said)
-    → IsReading A setup bytes number rest d → fed_lines rest ≡ line ∷ fed_lines left
+pub goes_on : (A : Type 0) (setup : Setup) (bytes : List ℕ) (number : ℕ) (rest left line : List ℕ) (d : Draft)
+    (at : Place) (said : Said) → IsReading A setup bytes number rest d → fed_lines rest ≡ line ∷ fed_lines left
     → read_at setup d.at line ≡ Ok (taken said at) → IsReading A setup bytes (number + 1) left (with_next at said d)
 goes_on A setup bytes number rest left line d at said h split read = record {
   said = λ whole_of.
@@ -71,18 +72,19 @@ goes_on A setup bytes number rest left line d at said h split read = record {
 }
 
 -- a line is refused
-pub refuses : (A : Type 0) (setup : Setup) (bytes : List ℕ) (number : ℕ) (rest left line : List ℕ) (d : Draft) (k : ThawKind)
-    → length bytes ≤ longest_file → IsReading A setup bytes number rest d → fed_lines rest ≡ line ∷ fed_lines left
-    → read_at setup d.at line ≡ Err k
+pub refuses : (A : Type 0) (setup : Setup) (bytes : List ℕ) (number : ℕ) (rest left line : List ℕ) (d : Draft)
+    (k : ThawKind) → length bytes ≤ longest_file → IsReading A setup bytes number rest d
+    → fed_lines rest ≡ line ∷ fed_lines left → read_at setup d.at line ≡ Err k
     → (whole_of : Draft → Option A) → answer_of (frozen_language setup whole_of) bytes ≡ Err (error_at (number + 1) k)
 refuses A setup bytes number rest left line d k short h split read whole_of =
     answer_of-lines (frozen_language setup whole_of) bytes (Err (error_at (number + 1) k)) short
     (sym (h.said whole_of) ∙ ap (lines_say (frozen_language setup whole_of) number d) split
-    ∙ lines_say-refused (frozen_language setup whole_of) number d line (fed_lines left) k (with_line-refused setup d line k read))
+    ∙ lines_say-refused (frozen_language setup whole_of) number d line (fed_lines left) k
+    (with_line-refused setup d line k read))
 
 -- no line is left
-ends_as : (A : Type 0) (setup : Setup) (bytes : List ℕ) (number : ℕ) (rest : List ℕ) (d : Draft) → length bytes ≤ longest_file
-    → IsReading A setup bytes number rest d → fed_lines rest ≡ []
+ends_as : (A : Type 0) (setup : Setup) (bytes : List ℕ) (number : ℕ) (rest : List ℕ) (d : Draft)
+    → length bytes ≤ longest_file → IsReading A setup bytes number rest d → fed_lines rest ≡ []
     → (whole_of : Draft → Option A) → answer_of (frozen_language setup whole_of) bytes ≡ at_end whole_of number d
 ends_as A setup bytes number rest d short h none whole_of =
     answer_of-lines (frozen_language setup whole_of) bytes (at_end whole_of number d) short
@@ -100,16 +102,17 @@ unfolding at_end
 at_end-early A number d whole_of early = rw early refl
 
 -- all lines are read
-pub ends : (A : Type 0) (setup : Setup) (bytes : List ℕ) (number : ℕ) (rest : List ℕ) (d : Draft) → length bytes ≤ longest_file
-    → IsReading A setup bytes number rest d → fed_lines rest ≡ [] → is_past d.at.slot ≡ true
-    → (whole_of : Draft → Option A) → answer_of (frozen_language setup whole_of) bytes ≡ judged number (whole_of d)
+pub ends : (A : Type 0) (setup : Setup) (bytes : List ℕ) (number : ℕ) (rest : List ℕ) (d : Draft)
+    → length bytes ≤ longest_file → IsReading A setup bytes number rest d → fed_lines rest ≡ []
+    → is_past d.at.slot ≡ true → (whole_of : Draft → Option A)
+    → answer_of (frozen_language setup whole_of) bytes ≡ judged number (whole_of d)
 ends A setup bytes number rest d short h none past whole_of =
     ends_as A setup bytes number rest d short h none whole_of ∙ at_end-past A number d whole_of past
 
 -- the file ends before its last line
-pub ends_early : (A : Type 0) (setup : Setup) (bytes : List ℕ) (number : ℕ) (rest : List ℕ) (d : Draft) → length bytes ≤ longest_file
-    → IsReading A setup bytes number rest d → fed_lines rest ≡ [] → is_past d.at.slot ≡ false
-    → (whole_of : Draft → Option A)
+pub ends_early : (A : Type 0) (setup : Setup) (bytes : List ℕ) (number : ℕ) (rest : List ℕ) (d : Draft)
+    → length bytes ≤ longest_file → IsReading A setup bytes number rest d → fed_lines rest ≡ []
+    → is_past d.at.slot ≡ false → (whole_of : Draft → Option A)
     → answer_of (frozen_language setup whole_of) bytes ≡ Err (error_at (number + 1) kind.Spelling)
 ends_early A setup bytes number rest d short h none early whole_of =
     ends_as A setup bytes number rest d short h none whole_of ∙ at_end-early A number d whole_of early

@@ -15,15 +15,16 @@ use Rattle.gba_frozen.specs.declared.places.Slot.{Slot}
 use Rattle.gba_frozen.specs.declared.places.Slot.TheVariants.{Version, Digest, Fixed, Signals, End, Past}
 use Rattle.gba_frozen.specs.declared.rows.Row.TheVariants as row
 
--- What is said of a player's console, or of the file, is in its ranges: the values of a row, the number of a queue's bytes, a place of
--- a memory, a drawn line, a sender. A live signal is that of two numbers.
+-- What is said of a player's console, or of the file, is in its ranges: the values of a row, the number of a queue's
+-- bytes, a place of a memory, a drawn line, a sender. A live signal is that of two numbers.
 abbrev pub SaidFits : Setup → ℕ → Said → Type 0
 SaidFits setup player Nothing = Unit {0}
 SaidFits setup player (Values which values) =
     (is_row which ≡ true) × (length values ≡ count_of which) × (all_fit setup.until which 0 values ≡ true)
 SaidFits setup player (QueueBytes queue current bytes) = (queue < 2) × (length bytes ≤ most_of_queue)
 SaidFits setup player (WaveBytes bank bytes) = (bank < 2) × (length bytes ≡ 16)
-SaidFits setup player (MemoryBytes place bytes) = (is_row_place (backup_of setup player) place ≡ true) × (length bytes ≡ 32)
+SaidFits setup player (MemoryBytes place bytes) =
+    (is_row_place (backup_of setup player) place ≡ true) × (length bytes ≡ 32)
 SaidFits setup player (Colours line colours) = (line < drawn_end) × (length colours ≡ 240)
 SaidFits setup player (Live sender signal) =
     (sender < setup.consoles) × ((head : ℕ) × (words : ℕ) × (signal_in head words ≡ Some signal))
@@ -63,8 +64,8 @@ pub record IsNext (setup : Setup) (d : Draft) (at : Place) (said : Said) : Type 
   pub before : IsCounted setup d
   pub behind : IsCounted setup (with_next at said d)
 
--- A file whose lines are all right comes to what is held then, if that passes the test of the whole, and is else refused at its last
--- line; any other file has its refusal. This is so whatever the test is.
+-- A file whose lines are all right comes to what is held then, if that passes the test of the whole, and is else
+-- refused at its last line; any other file has its refusal. This is so whatever the test is.
 unfoldable pub IsThawed : (Draft → Type 0) → (A : Type 0) → Setup → List ℕ → Result ℕ (LineError ThawKind) → Type 0
 IsThawed holds A setup bytes (Ok number) =
     (d : Draft) × holds d × (is_past d.at.slot ≡ true) × (length d.consoles ≡ setup.consoles)

@@ -17,10 +17,11 @@ fn refused(line: u64, kind: ThawKind) -> ThawError
     ThawError { line, kind }
 }
 
-/// Hands on what each line of a frozen file says, and answers how many lines it has. Refused is a file of more than 134,217,728
-/// bytes, with line 0; then its first line that isn't one that may stand there; and one that ends before its last line, with the
-/// number of its lines plus 1. A line is ended by LF alone, and by nothing else; a last one that isn't is refused. What was handed
-/// on before a refusal stays. Whether the whole is sound isn't asked here. It takes no memory.
+/// Hands on what each line of a frozen file says, and answers how many lines it has. Refused is a file of more than
+/// 134,217,728 bytes, with line 0; then its first line that isn't one that may stand there; and one that ends before
+/// its last line, with the number of its lines plus 1. A line is ended by LF alone, and by nothing else; a last one
+/// that isn't is refused. What was handed on before a refusal stays. Whether the whole is sound isn't asked here. It
+/// takes no memory.
 pub fn read_frozen<T: Thawing>(setup: &Setup, bytes: &[u8], into: &mut T) -> Result<u64, ThawError>
     requires some { 1 ≤ setup.now.consoles }
     requires consoles { setup.now.consoles ≤ 4 }

@@ -149,7 +149,8 @@ const SECOND: usize = 73;
 /// How many lines the file of two consoles has.
 const COUNT_OF_TWO: usize = 148;
 
-/// A line of the second console, whose lines are counted as those of the only one are; a line of the flash stands before `was`.
+/// A line of the second console, whose lines are counted as those of the only one are; a line of the flash stands
+/// before `was`.
 fn second_line(place: usize) -> &'static [u8] {
     match place {
         3 => b"console 1\n",

@@ -29,8 +29,8 @@ pub(crate) struct Sent {
     pub clock: u64,
 }
 
-/// What is kept: how many lines there were, the clocks and the bytes of queue B by players, and what the lines of memories, the drawn
-/// lines and the signals say.
+/// What is kept: how many lines there were, the clocks and the bytes of queue B by players, and what the lines of
+/// memories, the drawn lines and the signals say.
 #[derive(Drop)]
 pub(crate) struct Kept {
     pub lines: u64,

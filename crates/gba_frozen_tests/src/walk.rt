@@ -69,7 +69,8 @@ fn the_file_is_read(rt: HostRuntime) -> Result<(), Fail> {
     Ok(())
 }
 
-/// A line of memory, a drawn line and a signal may be missing; where any other line is, the next one is refused in its stead.
+/// A line of memory, a drawn line and a signal may be missing; where any other line is, the next one is refused
+/// in its stead.
 #[test]
 fn a_line_is_missing(rt: HostRuntime) -> Result<(), Fail> {
     for place in 0..COUNT {
@@ -118,8 +119,8 @@ fn swapped<R: Abort>(rt: &R, first: usize) -> Option<(usize, ThawKind)> {
     end(rt, walk)
 }
 
-/// The line that comes too early is refused; but where a line of memory, a drawn line or a signal may be missing, or may be a higher
-/// one, it is the other line, which comes too late.
+/// The line that comes too early is refused; but where a line of memory, a drawn line or a signal may be missing, or
+/// may be a higher one, it is the other line, which comes too late.
 #[test]
 fn lines_are_swapped(rt: HostRuntime) -> Result<(), Fail> {
     for first in 0..END {

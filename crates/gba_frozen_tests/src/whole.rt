@@ -1,4 +1,5 @@
-//! Whole frozen files of one console and of two: as they are, and with each line dropped, doubled, swapped, or spelled otherwise.
+//! Whole frozen files of one console and of two: as they are, and with each line dropped, doubled, swapped, or spelled
+//! otherwise.
 
 use crate::files::{JOBS, Job, TWO, count, line_of};
 use crate::keeping::{Bytes, Drawn, Kept, Sent};
@@ -151,8 +152,8 @@ fn what_lines_say_is_kept(rt: HostRuntime) -> Result<(), Fail> {
     Ok(())
 }
 
-/// A line of a memory, a drawn line and a signal may be missing; where any other line is, the next one is refused in its stead, and
-/// behind the last one the end.
+/// A line of a memory, a drawn line and a signal may be missing; where any other line is, the next one is refused in
+/// its stead, and behind the last one the end.
 #[test]
 fn a_line_is_missing(rt: HostRuntime) -> Result<(), Fail> {
     for &job in &JOBS {
@@ -186,8 +187,8 @@ fn a_line_is_doubled(rt: HostRuntime) -> Result<(), Fail> {
     Ok(())
 }
 
-/// The line that comes too early is refused. Behind a place where lines may be missing it may stand, and the other one comes too late;
-/// but signals have no order.
+/// The line that comes too early is refused. Behind a place where lines may be missing it may stand, and the other one
+/// comes too late; but signals have no order.
 #[test]
 fn lines_are_swapped(rt: HostRuntime) -> Result<(), Fail> {
     for &job in &JOBS {

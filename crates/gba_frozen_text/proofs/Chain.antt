@@ -71,8 +71,8 @@ with_line-step : (setup : Setup) (d : Draft) (line : List ℕ) (said : Said) (to
 unfolding with_line
 with_line-step setup d line said to s = let read = s.read in rw read refl
 
-pub one-line : (A : Type 0) (setup : Setup) (whole_of : Draft → Option A) (number : ℕ) (d : Draft) (line : List ℕ) (said : Said)
-    (to : Place) (rest : List ℕ) → Step setup d.at line said to
+pub one-line : (A : Type 0) (setup : Setup) (whole_of : Draft → Option A) (number : ℕ) (d : Draft) (line : List ℕ)
+    (said : Said) (to : Place) (rest : List ℕ) → Step setup d.at line said to
     → lines_say (frozen_language setup whole_of) number d (fed_lines (ended line ++ rest))
     ≡ lines_say (frozen_language setup whole_of) (number + 1) (with_next to said d) (fed_lines rest)
 one-line A setup whole_of number d line said to rest s =
@@ -90,13 +90,13 @@ pub reads_none : (setup : Setup) (at : Place) → Reads setup at [] at
 unfolding Reads
 reads_none setup at = refl
 
-pub reads_more : (setup : Setup) (at mid to : Place) (said : Said) (says : List Said) → Step setup at (said_line said) said mid
-    → Reads setup mid says to → Reads setup at (said ∷ says) to
+pub reads_more : (setup : Setup) (at mid to : Place) (said : Said) (says : List Said)
+    → Step setup at (said_line said) said mid → Reads setup mid says to → Reads setup at (said ∷ says) to
 unfolding Reads
 reads_more setup at mid to said says s rest = (mid, s, rest)
 
-pub reads_both : (setup : Setup) (at mid to : Place) (one other : List Said) → Reads setup at one mid → Reads setup mid other to
-    → Reads setup at (one ++ other) to
+pub reads_both : (setup : Setup) (at mid to : Place) (one other : List Said) → Reads setup at one mid
+    → Reads setup mid other to → Reads setup at (one ++ other) to
 unfolding Reads
 reads_both setup at mid to [] other h k = subst (λ (p : Place). Reads setup p other to) (sym h) k
 reads_both setup at mid to (said ∷ one) other h k = (h.0, h.1, reads_both setup h.0 mid to one other h.2 k)
@@ -106,7 +106,8 @@ unfoldable pub drafted : List Said → Draft → Draft
 drafted [] d = d
 drafted (said ∷ says) d = drafted says (with_said said d)
 
-said-anywhere : (said : Said) (d : Draft) (at : Place) → with_said said (record d { at = at }) ≡ record (with_said said d) { at = at }
+said-anywhere : (said : Said) (d : Draft) (at : Place)
+    → with_said said (record d { at = at }) ≡ record (with_said said d) { at = at }
 unfolding with_said
 said-anywhere Nothing d at = refl
 said-anywhere (Values row.Heading values) d at = refl
@@ -132,7 +133,8 @@ said-anywhere (MemoryBytes place bytes) d at = refl
 said-anywhere (Colours line colours) d at = refl
 said-anywhere (Live sender signal) d at = refl
 
-drafted-anywhere : (says : List Said) (d : Draft) (at : Place) → drafted says (record d { at = at }) ≡ record (drafted says d) { at = at }
+drafted-anywhere : (says : List Said) (d : Draft) (at : Place)
+    → drafted says (record d { at = at }) ≡ record (drafted says d) { at = at }
 unfolding drafted
 drafted-anywhere [] d at = refl
 drafted-anywhere (said ∷ says) d at =
@@ -144,10 +146,11 @@ drafted-both [] other d = refl
 drafted-both (said ∷ one) other d = drafted-both one other (with_said said d)
 
 -- all of them are read
-pub lines-read : (A : Type 0) (setup : Setup) (whole_of : Draft → Option A) (number : ℕ) (d : Draft) (says : List Said) (to : Place)
-    (rest : List (List ℕ)) → Reads setup d.at says to
+pub lines-read : (A : Type 0) (setup : Setup) (whole_of : Draft → Option A) (number : ℕ) (d : Draft) (says : List Said)
+    (to : Place) (rest : List (List ℕ)) → Reads setup d.at says to
     → lines_say (frozen_language setup whole_of) number d (fed_lines (text_of (map said_line says ++ rest)))
-    ≡ lines_say (frozen_language setup whole_of) (number + length says) (record (drafted says d) { at = to }) (fed_lines (text_of rest))
+    ≡ lines_say (frozen_language setup whole_of) (number + length says) (record (drafted says d) { at = to })
+    (fed_lines (text_of rest))
 unfolding Reads drafted text_of
 lines-read A setup whole_of number d [] to rest h =
     let L = lines_say (frozen_language setup whole_of) in
@@ -162,5 +165,7 @@ lines-read A setup whole_of number d (said ∷ says) to rest h =
     ∙ ap (λ (e : Draft). record e { at = to }) (drafted-anywhere says (with_said said d) h.0) in
     one-line A setup whole_of number d (said_line said) said h.0 (text_of (map said_line says ++ rest)) h.1
     ∙ lines-read A setup whole_of (number + 1) next says to rest reads
-    ∙ ap (λ n. lines_say (frozen_language setup whole_of) n (record (drafted says next) { at = to }) (fed_lines (text_of rest))) (omega arith)
-    ∙ ap (λ (e : Draft). lines_say (frozen_language setup whole_of) (number + suc (length says)) e (fed_lines (text_of rest))) same
+    ∙ ap (λ n. lines_say (frozen_language setup whole_of) n (record (drafted says next) { at = to })
+    (fed_lines (text_of rest))) (omega arith)
+    ∙ ap (λ (e : Draft). lines_say (frozen_language setup whole_of) (number + suc (length says)) e
+    (fed_lines (text_of rest))) same

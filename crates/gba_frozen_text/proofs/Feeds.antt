@@ -75,7 +75,8 @@ fed_spelled : (spelling : Spelling) (n : ℕ) → is_spellable spelling n ≡ tr
 fed_spelled Decimal n small = fed_decimal n (grind (arith, nat_tests))
 fed_spelled Word n small = fed_hex 8 n
 
-fed_values : (spelling : Spelling) (values : List ℕ) → AreSpellable spelling values → AreFed (spelled_all spelling values)
+fed_values : (spelling : Spelling) (values : List ℕ) → AreSpellable spelling values
+    → AreFed (spelled_all spelling values)
 unfolding AreSpellable AreFed
 fed_values spelling [] are = tt
 fed_values spelling (value ∷ values) are = (fed_spelled spelling value are.0, fed_values spelling values are.1)
@@ -172,7 +173,10 @@ queue-fed queue current bytes few =
 pub wave-fed : (bank : ℕ) (bytes : List ℕ) → bank < 2 → Fed (wave_text bank bytes)
 unfolding AreFed
 wave-fed bank bytes two =
-    fed_joined (codes "wave") (decimal bank ∷ hex_all 2 bytes ∷ []) refl (fed_decimal bank (omega arith), (fed_all 2 bytes, tt))
+    fed_joined (codes "wave") (decimal bank ∷ hex_all 2 bytes ∷ []) refl (
+      fed_decimal bank (omega arith),
+      (fed_all 2 bytes, tt),
+    )
 
 fed_memory_name : (name : MemoryName) → Fed (memory_name name)
 fed_memory_name memory.Io = refl
@@ -192,7 +196,10 @@ memory-fed place bytes =
 pub drawn-fed : (line : ℕ) (colours : List ℕ) → line < 159 → Fed (drawn_text line colours)
 unfolding AreFed
 drawn-fed line colours low =
-    fed_joined (codes "drawn") (decimal line ∷ hex_all 4 colours ∷ []) refl (fed_decimal line (omega arith), (fed_all 4 colours, tt))
+    fed_joined (codes "drawn") (decimal line ∷ hex_all 4 colours ∷ []) refl (
+      fed_decimal line (omega arith),
+      (fed_all 4 colours, tt),
+    )
 
 pub signal-fed : (sender : ℕ) (signal : Signal) → sender < 2 ^ 64 → Fed (signal_text sender signal)
 unfolding AreFed long_digits

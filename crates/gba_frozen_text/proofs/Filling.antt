@@ -45,8 +45,9 @@ keep-joined (suc k) (x ∷ xs) (y ∷ ys) h e same =
     ap (λ (t : List ℕ). x ∷ t) (keep-joined k xs ys (omega arith) (omega arith) same)
 
 -- one number more
-pub set-one : (n : ConsoleNumbers) (k : ℕ) (a b w0 w1 : List ℕ) → length n.values ≡ 138 → k < 138 → (k == length_a) ≡ false
-    → (k == length_b) ≡ false → with_at k (slice_index n.values k) (partly n k a b w0 w1) ≡ partly n (suc k) a b w0 w1
+pub set-one : (n : ConsoleNumbers) (k : ℕ) (a b w0 w1 : List ℕ) → length n.values ≡ 138 → k < 138
+    → (k == length_a) ≡ false → (k == length_b) ≡ false
+    → with_at k (slice_index n.values k) (partly n k a b w0 w1) ≡ partly n (suc k) a b w0 w1
 unfolding with_at with_single
 set-one n k a b w0 w1 long below no_a no_b =
     let inside : nat_lt k 138 ≡ true = lt-ltb k 138 below in
@@ -81,9 +82,9 @@ later k to (inl low) = inl low
 later k to (inr high) = inr (omega arith)
 
 -- the numbers of a row
-pub row-filled : (n : ConsoleNumbers) (which : Row) (start part count to : ℕ) (a b w0 w1 : List ℕ) → length n.values ≡ 138
-    → ((p : ℕ) → p < part + count → place_of (field_of which p) ≡ start + p) → start + part + count ≡ to → to ≤ 138
-    → Apart (start + part) to
+pub row-filled : (n : ConsoleNumbers) (which : Row) (start part count to : ℕ) (a b w0 w1 : List ℕ)
+    → length n.values ≡ 138 → ((p : ℕ) → p < part + count → place_of (field_of which p) ≡ start + p)
+    → start + part + count ≡ to → to ≤ 138 → Apart (start + part) to
     → with_values which part (row_values which part count n) (partly n (start + part) a b w0 w1) ≡ partly n to a b w0 w1
 unfolding with_values row_values
 row-filled n which start part zero to a b w0 w1 long places end few apart =
@@ -97,7 +98,8 @@ row-filled n which start part (suc count) to a b w0 w1 long places end few apart
     ≡ partly n (start + (part + 1)) a b w0 w1
     = ap (λ (p : ℕ). with_at p (value_of (field_of which part) n) (partly n (start + part) a b w0 w1)) here
     ∙ ap (λ (v : ℕ). with_at (start + part) v (partly n (start + part) a b w0 w1)) value
-    ∙ set-one n (start + part) a b w0 w1 long (omega arith) (not_a (start + part) to (omega arith) apart) (not_b (start + part) to (omega arith) apart)
+    ∙ set-one n (start + part) a b w0 w1 long (omega arith) (not_a (start + part) to (omega arith) apart)
+    (not_b (start + part) to (omega arith) apart)
     ∙ ap (λ (k : ℕ). partly n k a b w0 w1) next in
     ap (with_values which (part + 1) (row_values which (part + 1) count n)) set
     ∙ row-filled n which start (part + 1) count to a b w0 w1 long (λ p below. places p (omega arith)) (omega arith) few
@@ -113,7 +115,8 @@ length-more [] v = refl
 length-more (x ∷ front) v = ap suc (length-more front v) ∙ omega arith
 
 pub bytes-filled : (field : ℕ → Field) (made : List ℕ → ConsoleNumbers) (most : ℕ)
-    → ((bytes : List ℕ) (place value : ℕ) → place < most → with_value (field place) value (made bytes) ≡ made (slice_set bytes place value))
+    → ((bytes : List ℕ) (place value : ℕ) → place < most
+    → with_value (field place) value (made bytes) ≡ made (slice_set bytes place value))
     → (front bytes : List ℕ) → length front + length bytes ≤ most
     → with_bytes field (length front) bytes (made (front ++ replicate (length bytes) 0)) ≡ made (front ++ bytes)
 unfolding with_bytes
@@ -121,7 +124,8 @@ bytes-filled field made most sets front [] few = refl
 bytes-filled field made most sets front (byte ∷ bytes) few =
     let rest : List ℕ = replicate (length bytes) 0 in
     let set : with_value (field (length front)) byte (made (front ++ 0 ∷ rest)) ≡ made ((front ++ byte ∷ []) ++ rest) =
-    sets (front ++ 0 ∷ rest) (length front) byte (omega arith) ∙ ap made (set-front front rest byte 0 ∙ sym (append_assoc front (byte ∷ []) rest)) in
+    sets (front ++ 0 ∷ rest) (length front) byte (omega arith)
+    ∙ ap made (set-front front rest byte 0 ∙ sym (append_assoc front (byte ∷ []) rest)) in
     ap (with_bytes field (length front + 1) bytes) set
     ∙ ap (λ (p : ℕ). with_bytes field p bytes (made ((front ++ byte ∷ []) ++ rest))) (sym (length-more front byte))
     ∙ bytes-filled field made most sets (front ++ byte ∷ []) bytes (omega (arith, length-more front byte))
@@ -147,7 +151,8 @@ row_start row.Was = 133
 row_start row.Applied = 134
 row_start row.Counts = 135
 
-pub row-place : (which : Row) (part : ℕ) → part < count_of which → place_of (field_of which part) ≡ row_start which + part
+pub row-place : (which : Row) (part : ℕ) → part < count_of which
+    → place_of (field_of which part) ≡ row_start which + part
 unfolding count_of field_of place_of board_place row_start
 row-place row.Heading part h = absurd (omega arith)
 row-place (row.Console player) part h = absurd (omega arith)

@@ -182,7 +182,8 @@ first-timely until FlashIdentify = refl
 first-timely until FlashBank = refl
 
 first-fit : (until : ℕ) (field : Field) → is_field field ≡ true
-    → (field_fits field (value_of field numbers_at_first) && in_time until field (value_of field numbers_at_first)) ≡ true
+    → (field_fits field (value_of field numbers_at_first) && in_time until field (value_of field numbers_at_first))
+    ≡ true
 first-fit until field is =
     let timely = first-timely until field in
     let fits : field_fits field (value_of field numbers_at_first) ≡ true =

@@ -41,7 +41,8 @@ lines-few kind.Flash128 memory.Backup = omega arith
 
 -- every later memory stands behind a line
 Ends : Option MemoryPlace → MemoryName → Type 0
-Ends last name = (next : MemoryName) (o : ℕ) → memory_order name < memory_order next → is_behind last (record { name = next; offset = o }) ≡ true
+Ends last name = (next : MemoryName) (o : ℕ) → memory_order name < memory_order next
+    → is_behind last (record { name = next; offset = o }) ≡ true
 
 -- so does the same memory from an offset on
 Below : Option MemoryPlace → MemoryName → ℕ → Type 0
@@ -50,7 +51,8 @@ Below last name offset = (o : ℕ) → offset ≤ o → is_behind last (record {
 row-ends : (name : MemoryName) (offset : ℕ) → Ends (Some (record { name = name; offset = offset })) name
 unfolding Ends is_behind
 row-ends name offset next o less =
-    let behind : nat_lt (memory_order name) (memory_order next) ≡ true = lt-ltb (memory_order name) (memory_order next) less in
+    let behind : nat_lt (memory_order name) (memory_order next) ≡ true =
+    lt-ltb (memory_order name) (memory_order next) less in
     rw behind refl
 
 row-below : (name : MemoryName) (offset : ℕ) → Below (Some (record { name = name; offset = offset })) name (offset + 32)
@@ -76,11 +78,13 @@ below-drop (suc k) (x ∷ xs) h = below-drop k xs h.1
 rows-stand : (backup : Backup) (name : MemoryName) (offset count : ℕ) (bytes : List ℕ) (last : Option MemoryPlace)
     (rest : List (MemoryPlace × List ℕ)) → Ends last name → Below last name offset → offset % 32 ≡ 0
     → offset + 32 * count ≤ memory_length backup name → length bytes ≡ 32 * count → AreBelow 2 bytes
-    → ((l : Option MemoryPlace) → Ends l name → AreRows backup l rest) → AreRows backup last (rows_in name offset count bytes ++ rest)
+    → ((l : Option MemoryPlace) → Ends l name → AreRows backup l rest)
+    → AreRows backup last (rows_in name offset count bytes ++ rest)
 unfolding rows_in AreRows Below is_row_place
 rows-stand backup name offset zero bytes last rest ends below even few long are more = more last ends
 rows-stand backup name offset (suc count) bytes last rest ends below even few long are more =
-    by_zero (all_zero (take 32 bytes)) refl (λ l e b. rows-stand backup name (offset + 32) count (drop 32 bytes) l rest e b (omega arith)
+    by_zero (all_zero (take 32 bytes)) refl
+    (λ l e b. rows-stand backup name (offset + 32) count (drop 32 bytes) l rest e b (omega arith)
     (omega arith) (omega (arith, length-drop {A = ℕ})) (below-drop 32 bytes are) more) where
       next : List (MemoryPlace × List ℕ)
       next = rows_in name (offset + 32) count (drop 32 bytes)
@@ -91,7 +95,8 @@ rows-stand backup name offset (suc count) bytes last rest ends below even few lo
       by_zero true e go = go last ends (λ o high. below o (omega arith))
       by_zero false e go =
           let aligned : (offset % 32 == 0) ≡ true = eq-eqb (offset % 32) 0 even in
-          let inside : nat_lt offset (memory_length backup name) ≡ true = lt-ltb offset (memory_length backup name) (omega arith) in (
+          let inside : nat_lt offset (memory_length backup name) ≡ true =
+          lt-ltb offset (memory_length backup name) (omega arith) in (
             omega (arith, length-take {A = ℕ}),
             below-take 32 bytes are,
             e,
@@ -104,19 +109,22 @@ rows-stand backup name offset (suc count) bytes last rest ends below even few lo
 -- the lines of one memory, and what follows them
 one-stands : (backup : Backup) (bytes : MemoryName → List ℕ) (name : MemoryName) (last : Option MemoryPlace)
     (rest : List (MemoryPlace × List ℕ)) → AreMemories backup bytes → Ends last name → Below last name 0
-    → ((l : Option MemoryPlace) → Ends l name → AreRows backup l rest) → AreRows backup last (rows_of backup bytes name ++ rest)
+    → ((l : Option MemoryPlace) → Ends l name → AreRows backup l rest)
+    → AreRows backup last (rows_of backup bytes name ++ rest)
 unfolding rows_of
 one-stands backup bytes name last rest are ends below more =
     let whole = lines-whole backup name in
-    rows-stand backup name 0 (memory_length backup name / 32) (bytes name) last rest ends below (omega arith) (omega arith)
-    (omega (arith, are.long name)) (are.small name) more
+    rows-stand backup name 0 (memory_length backup name / 32) (bytes name) last rest ends below (omega arith)
+    (omega arith) (omega (arith, are.long name)) (are.small name) more
 
 -- behind the lines of a memory
-then-ends : (last : Option MemoryPlace) (name next : MemoryName) → memory_order name < memory_order next → Ends last name → Ends last next
+then-ends : (last : Option MemoryPlace) (name next : MemoryName) → memory_order name < memory_order next
+    → Ends last name → Ends last next
 unfolding Ends
 then-ends last name next less h later o more = h later o (omega arith)
 
-then-below : (last : Option MemoryPlace) (name next : MemoryName) → memory_order name < memory_order next → Ends last name → Below last next 0
+then-below : (last : Option MemoryPlace) (name next : MemoryName) → memory_order name < memory_order next
+    → Ends last name → Below last next 0
 unfolding Ends Below
 then-below last name next less h o high = h next o less
 
@@ -128,18 +136,20 @@ none-below : (name : MemoryName) → Below None name 0
 unfolding Below is_behind
 none-below name o high = refl
 
-next-stands : (backup : Backup) (bytes : MemoryName → List ℕ) (before name : MemoryName) (rest : List (MemoryPlace × List ℕ))
-    → memory_order before < memory_order name → AreMemories backup bytes
+next-stands : (backup : Backup) (bytes : MemoryName → List ℕ) (before name : MemoryName)
+    (rest : List (MemoryPlace × List ℕ)) → memory_order before < memory_order name → AreMemories backup bytes
     → ((l : Option MemoryPlace) → Ends l name → AreRows backup l rest)
     → (l : Option MemoryPlace) → Ends l before → AreRows backup l (rows_of backup bytes name ++ rest)
 next-stands backup bytes before name rest less are more l ends =
-    one-stands backup bytes name l rest are (then-ends l before name less ends) (then-below l before name less ends) more
+    one-stands backup bytes name l rest are (then-ends l before name less ends)
+    (then-below l before name less ends) more
 
 nothing-stands : (backup : Backup) (name : MemoryName) (l : Option MemoryPlace) → Ends l name → AreRows backup l []
 unfolding AreRows
 nothing-stands backup name l ends = tt
 
-pub stand : (backup : Backup) (bytes : MemoryName → List ℕ) → AreMemories backup bytes → AreRows backup None (memory_rows backup bytes)
+pub stand : (backup : Backup) (bytes : MemoryName → List ℕ) → AreMemories backup bytes
+    → AreRows backup None (memory_rows backup bytes)
 unfolding rows_of_all
 stand backup bytes are =
     one-stands backup bytes memory.Io None _ are (none-ends memory.Io) (none-below memory.Io)
@@ -184,26 +194,33 @@ zeros_only (x ∷ xs) h =
     ap (λ (v : ℕ). v ∷ xs) first ∙ ap (λ (t : List ℕ). 0 ∷ t) (zeros_only xs (rest_of_all (x == 0) (all_zero xs) h))
 
 -- one line replaces bytes 0
-row-put : (name : MemoryName) (offset : ℕ) (front line rest : List ℕ) (count : ℕ) → length front ≡ offset → length line ≡ count
-    → with_row name (record { name = name; offset = offset }, line) (front ++ (replicate count 0 ++ rest)) ≡ (front ++ line) ++ rest
+row-put : (name : MemoryName) (offset : ℕ) (front line rest : List ℕ) (count : ℕ) → length front ≡ offset
+    → length line ≡ count
+    → with_row name (record { name = name; offset = offset }, line) (front ++ (replicate count 0 ++ rest))
+    ≡ (front ++ line) ++ rest
 unfolding with_row
 row-put name offset front line rest count at long =
     let same : (memory_order name == memory_order name) ≡ true = grind (arith, nat_tests) in
     let all : List ℕ = front ++ (replicate count 0 ++ rest) in
-    let before : take offset all ≡ front = ap (λ k. take k all) (sym at) ∙ take_front front (replicate count 0 ++ rest) in
+    let before : take offset all ≡ front =
+    ap (λ k. take k all) (sym at) ∙ take_front front (replicate count 0 ++ rest) in
     let end : offset + length line ≡ length (front ++ replicate count 0) =
     omega (arith, at, long, length-append front (replicate count 0), zeros_count count) in
     let behind : drop (offset + length line) all ≡ rest =
-    ap (λ k. drop k all) end ∙ ap (drop (length (front ++ replicate count 0))) (sym (append_assoc front (replicate count 0) rest))
+    ap (λ k. drop k all) end
+    ∙ ap (drop (length (front ++ replicate count 0))) (sym (append_assoc front (replicate count 0) rest))
     ∙ drop_front (front ++ replicate count 0) rest in
     rw (same, before, behind) refl
 
-rows-put : (name : MemoryName) (offset count : ℕ) (front bytes : List ℕ) → length front ≡ offset → length bytes ≡ 32 * count
+rows-put : (name : MemoryName) (offset count : ℕ) (front bytes : List ℕ) → length front ≡ offset
+    → length bytes ≡ 32 * count
     → with_rows name (rows_in name offset count bytes) (front ++ replicate (32 * count) 0) ≡ front ++ bytes
 unfolding rows_in with_rows
-rows-put name offset zero front bytes at long = ap (λ (t : List ℕ). front ++ t) (sym (nil_from_length bytes (omega arith)))
+rows-put name offset zero front bytes at long =
+    ap (λ (t : List ℕ). front ++ t) (sym (nil_from_length bytes (omega arith)))
 rows-put name offset (suc count) front bytes at long =
-    by_zero (all_zero (take 32 bytes)) refl (λ f h. rows-put name (offset + 32) count f (drop 32 bytes) h (omega (arith, length-drop {A = ℕ}))) where
+    by_zero (all_zero (take 32 bytes)) refl
+    (λ f h. rows-put name (offset + 32) count f (drop 32 bytes) h (omega (arith, length-drop {A = ℕ}))) where
       next : List (MemoryPlace × List ℕ)
       next = rows_in name (offset + 32) count (drop 32 bytes)
 
@@ -227,24 +244,28 @@ rows-put name offset (suc count) front bytes at long =
 
       by_zero : (z : Bool) → all_zero line ≡ z
           → ((f : List ℕ) → length f ≡ offset + 32 → with_rows name next (f ++ left) ≡ f ++ drop 32 bytes)
-          → with_rows name (cond z next ((record { name = name; offset = offset }, line) ∷ next)) (front ++ replicate (32 * suc count) 0)
+          → with_rows name (cond z next ((record { name = name; offset = offset }, line) ∷ next))
+          (front ++ replicate (32 * suc count) 0)
           ≡ front ++ bytes
       by_zero true e go =
           let none : zeros 32 ≡ line = ap zeros (sym made) ∙ sym (zeros_only line e) in
           ap (λ (t : List ℕ). with_rows name next (front ++ t)) (more ∙ ap (λ (t : List ℕ). t ++ left) none)
           ∙ ap (with_rows name next) (sym (append_assoc front line left)) ∙ go (front ++ line) further ∙ whole
       by_zero false e go =
-          ap (λ (t : List ℕ). with_rows name next (with_row name (record { name = name; offset = offset }, line) (front ++ t))) more
-          ∙ ap (with_rows name next) (row-put name offset front line left 32 at made) ∙ go (front ++ line) further ∙ whole
+          ap (λ (t : List ℕ). with_rows name next
+          (with_row name (record { name = name; offset = offset }, line) (front ++ t))) more
+          ∙ ap (with_rows name next) (row-put name offset front line left 32 at made) ∙ go (front ++ line) further
+          ∙ whole
 
 -- lines of another memory change nothing
-row-passes : (name other : MemoryName) (offset : ℕ) (line all : List ℕ) → (memory_order name == memory_order other) ≡ false
+row-passes : (name other : MemoryName) (offset : ℕ) (line all : List ℕ)
+    → (memory_order name == memory_order other) ≡ false
     → with_row name (record { name = other; offset = offset }, line) all ≡ all
 unfolding with_row
 row-passes name other offset line all apart = rw apart refl
 
-rows-pass : (name other : MemoryName) (offset count : ℕ) (bytes all : List ℕ) → (memory_order name == memory_order other) ≡ false
-    → with_rows name (rows_in other offset count bytes) all ≡ all
+rows-pass : (name other : MemoryName) (offset count : ℕ) (bytes all : List ℕ)
+    → (memory_order name == memory_order other) ≡ false → with_rows name (rows_in other offset count bytes) all ≡ all
 unfolding rows_in with_rows
 rows-pass name other offset zero bytes all apart = refl
 rows-pass name other offset (suc count) bytes all apart =
@@ -264,16 +285,18 @@ with_rows-both name [] other all = refl
 with_rows-both name (line ∷ one) other all = with_rows-both name one other (with_row name line all)
 
 -- what a list of lines makes of a memory, where the lines of one memory come first
-passed : (backup : Backup) (bytes : MemoryName → List ℕ) (name other : MemoryName) (rest : List (MemoryPlace × List ℕ)) (all : List ℕ)
-    → (memory_order name == memory_order other) ≡ false
+passed : (backup : Backup) (bytes : MemoryName → List ℕ) (name other : MemoryName) (rest : List (MemoryPlace × List ℕ))
+    (all : List ℕ) → (memory_order name == memory_order other) ≡ false
     → with_rows name (rows_of backup bytes other ++ rest) all ≡ with_rows name rest all
 unfolding rows_of
 passed backup bytes name other rest all apart =
     with_rows-both name (rows_in other 0 (memory_length backup other / 32) (bytes other)) rest all
     ∙ ap (with_rows name rest) (rows-pass name other 0 (memory_length backup other / 32) (bytes other) all apart)
 
-put : (backup : Backup) (bytes : MemoryName → List ℕ) (name : MemoryName) (rest : List (MemoryPlace × List ℕ)) → AreMemories backup bytes
-    → with_rows name (rows_of backup bytes name ++ rest) (replicate (memory_length backup name) 0) ≡ with_rows name rest (bytes name)
+put : (backup : Backup) (bytes : MemoryName → List ℕ) (name : MemoryName) (rest : List (MemoryPlace × List ℕ))
+    → AreMemories backup bytes
+    → with_rows name (rows_of backup bytes name ++ rest) (replicate (memory_length backup name) 0)
+    ≡ with_rows name rest (bytes name)
 unfolding rows_of
 put backup bytes name rest are =
     let count : ℕ = memory_length backup name / 32 in
@@ -289,20 +312,24 @@ abbrev none_of : MemoryName → List MemoryName → Bool
 none_of name [] = true
 none_of name (other ∷ names) = not (memory_order name == memory_order other) && none_of name names
 
-pass-all : (backup : Backup) (bytes : MemoryName → List ℕ) (name : MemoryName) (before after : List MemoryName) (all : List ℕ)
-    → none_of name before ≡ true
-    → with_rows name (rows_of_all backup bytes (before ++ after)) all ≡ with_rows name (rows_of_all backup bytes after) all
+pass-all : (backup : Backup) (bytes : MemoryName → List ℕ) (name : MemoryName) (before after : List MemoryName)
+    (all : List ℕ) → none_of name before ≡ true
+    → with_rows name (rows_of_all backup bytes (before ++ after)) all
+    ≡ with_rows name (rows_of_all backup bytes after) all
 unfolding rows_of_all
 pass-all backup bytes name [] after all h = refl
 pass-all backup bytes name (other ∷ before) after all h =
     let apart : (memory_order name == memory_order other) ≡ false =
-    negated (memory_order name == memory_order other) (first_of_all (not (memory_order name == memory_order other)) (none_of name before) h) in
+    negated (memory_order name == memory_order other)
+    (first_of_all (not (memory_order name == memory_order other)) (none_of name before) h) in
     passed backup bytes name other (rows_of_all backup bytes (before ++ after)) all apart
-    ∙ pass-all backup bytes name before after all (rest_of_all (not (memory_order name == memory_order other)) (none_of name before) h)
+    ∙ pass-all backup bytes name before after all
+    (rest_of_all (not (memory_order name == memory_order other)) (none_of name before) h)
 
-found : (backup : Backup) (bytes : MemoryName → List ℕ) (name : MemoryName) (before after : List MemoryName) → AreMemories backup bytes
-    → none_of name before ≡ true → none_of name after ≡ true
-    → with_rows name (rows_of_all backup bytes (before ++ name ∷ after)) (replicate (memory_length backup name) 0) ≡ bytes name
+found : (backup : Backup) (bytes : MemoryName → List ℕ) (name : MemoryName) (before after : List MemoryName)
+    → AreMemories backup bytes → none_of name before ≡ true → none_of name after ≡ true
+    → with_rows name (rows_of_all backup bytes (before ++ name ∷ after)) (replicate (memory_length backup name) 0)
+    ≡ bytes name
 unfolding rows_of_all with_rows
 found backup bytes name before after are h k =
     pass-all backup bytes name before (name ∷ after) (zeros (memory_length backup name)) h
@@ -313,10 +340,14 @@ found backup bytes name before after are h k =
 pub made_again : (backup : Backup) (bytes : MemoryName → List ℕ) (name : MemoryName) → AreMemories backup bytes
     → with_rows name (memory_rows backup bytes) (replicate (memory_length backup name) 0) ≡ bytes name
 made_again backup bytes memory.Io are = found backup bytes memory.Io [] (drop 1 memories) are refl refl
-made_again backup bytes memory.Wram are = found backup bytes memory.Wram (take 1 memories) (drop 2 memories) are refl refl
-made_again backup bytes memory.Iwram are = found backup bytes memory.Iwram (take 2 memories) (drop 3 memories) are refl refl
-made_again backup bytes memory.Palette are = found backup bytes memory.Palette (take 3 memories) (drop 4 memories) are refl refl
-made_again backup bytes memory.Vram are = found backup bytes memory.Vram (take 4 memories) (drop 5 memories) are refl refl
+made_again backup bytes memory.Wram are =
+    found backup bytes memory.Wram (take 1 memories) (drop 2 memories) are refl refl
+made_again backup bytes memory.Iwram are =
+    found backup bytes memory.Iwram (take 2 memories) (drop 3 memories) are refl refl
+made_again backup bytes memory.Palette are =
+    found backup bytes memory.Palette (take 3 memories) (drop 4 memories) are refl refl
+made_again backup bytes memory.Vram are =
+    found backup bytes memory.Vram (take 4 memories) (drop 5 memories) are refl refl
 made_again backup bytes memory.Oam are = found backup bytes memory.Oam (take 5 memories) (drop 6 memories) are refl refl
 made_again backup bytes memory.Backup are = found backup bytes memory.Backup (take 6 memories) [] are refl refl
 

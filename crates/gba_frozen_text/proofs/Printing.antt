@@ -17,10 +17,11 @@ use Rattle.gba_frozen_text.specs.Memories.{row_text, rows_in}
 use Rattle.gba_frozen_text.specs.Text.{board_rows, memory_of, numbers_say, processor_rows, queue_of, row_of, row_values, said_line, says_text, text_of, tone_rows}
 
 -- a list that grew by the next piece of what is left
-pub grown : {A : Type 0} (old new piece left rest all : List A) → new ≡ old ++ piece → left ≡ piece ++ rest → old ++ left ≡ all
-    → new ++ rest ≡ all
+pub grown : {A : Type 0} (old new piece left rest all : List A) → new ≡ old ++ piece → left ≡ piece ++ rest
+    → old ++ left ≡ all → new ++ rest ≡ all
 grown {A} old new piece left rest all grew split whole =
-    ap (λ (t : List A). t ++ rest) grew ∙ append_assoc old piece rest ∙ ap (λ (t : List A). old ++ t) (sym split) ∙ whole
+    ap (λ (t : List A). t ++ rest) grew ∙ append_assoc old piece rest ∙ ap (λ (t : List A). old ++ t) (sym split)
+    ∙ whole
 
 drop_nothing : {A : Type 0} (k : ℕ) → drop {A = A} k [] ≡ []
 drop_nothing zero = refl
@@ -36,7 +37,8 @@ drop_more (suc k) j (x ∷ xs) =
 -- the lines of a memory
 pub rows_in-more : (name : MemoryName) (offset left count : ℕ) (bytes : List ℕ) → left ≡ suc count
     → says_text (map memory_of (rows_in name offset left bytes))
-    ≡ row_text (record { name = name; offset = offset }) (take 32 bytes) ++ says_text (map memory_of (rows_in name (offset + 32) count (drop 32 bytes)))
+    ≡ row_text (record { name = name; offset = offset }) (take 32 bytes)
+    ++ says_text (map memory_of (rows_in name (offset + 32) count (drop 32 bytes)))
 unfolding rows_in row_text text_of said_line
 rows_in-more name offset left count bytes is =
     ap (λ n. says_text (map memory_of (rows_in name offset n bytes))) is ∙ by_zero (all_zero (take 32 bytes)) where
@@ -63,7 +65,8 @@ pub rows-more : (n : ConsoleNumbers) (rows : List Row) (i : ℕ) → i < length 
 unfolding text_of
 rows-more n rows i inside =
     ap (λ rs. says_text (map (row_of n) rs)) (drop-cons rows i row.Heading inside)
-    ∙ ap (λ k. ended (said_line (row_of n (get_or rows i row.Heading))) ++ says_text (map (row_of n) (drop k rows))) (sym (add-one i))
+    ∙ ap (λ k. ended (said_line (row_of n (get_or rows i row.Heading))) ++ says_text (map (row_of n) (drop k rows)))
+    (sym (add-one i))
 
 pub rows-none : (n : ConsoleNumbers) (rows : List Row) → rows ≡ [] → says_text (map (row_of n) rows) ≡ []
 unfolding text_of
@@ -79,10 +82,12 @@ pub values-none : (which : Row) (part left : ℕ) (n : ConsoleNumbers) → left 
 unfolding row_values
 values-none which part left n is = ap (λ c. row_values which part c n) is
 
-pub all-more : (p : ℕ → Bool) (xs : List ℕ) (x : ℕ) → list_all p xs ≡ true → p x ≡ true → list_all p (xs ++ x ∷ []) ≡ true
+pub all-more : (p : ℕ → Bool) (xs : List ℕ) (x : ℕ) → list_all p xs ≡ true → p x ≡ true
+    → list_all p (xs ++ x ∷ []) ≡ true
 all-more p xs x h k = list_all-append p xs (x ∷ []) ∙ rw (h, k) refl
 
-pub all-at : (p : Row → Bool) (rows : List Row) (i : ℕ) → list_all p rows ≡ true → i < length rows → p (get_or rows i row.Heading) ≡ true
+pub all-at : (p : Row → Bool) (rows : List Row) (i : ℕ) → list_all p rows ≡ true → i < length rows
+    → p (get_or rows i row.Heading) ≡ true
 all-at p [] i h inside = absurd (omega arith)
 all-at p (which ∷ rows) zero h inside = first_of_all (p which) (list_all p rows) h
 all-at p (which ∷ rows) (suc i) h inside = all-at p rows i (rest_of_all (p which) (list_all p rows) h) (omega arith)
@@ -101,16 +106,18 @@ plus old mid new one other h k =
     k ∙ ap (λ (t : List ℕ). t ++ says_text other) h ∙ append_assoc old (says_text one) (says_text other)
     ∙ ap (λ (t : List ℕ). old ++ t) (sym (says_both one other))
 
-pub two : (old mid new : List ℕ) (one other : Said) → mid ≡ old ++ ended (said_line one) → new ≡ mid ++ ended (said_line other)
-    → new ≡ old ++ says_text (one ∷ other ∷ [])
+pub two : (old mid new : List ℕ) (one other : Said) → mid ≡ old ++ ended (said_line one)
+    → new ≡ mid ++ ended (said_line other) → new ≡ old ++ says_text (one ∷ other ∷ [])
 unfolding text_of
 two old mid new one other h k =
-    k ∙ ap (λ (t : List ℕ). t ++ ended (said_line other)) h ∙ append_assoc old (ended (said_line one)) (ended (said_line other))
+    k ∙ ap (λ (t : List ℕ). t ++ ended (said_line other)) h
+    ∙ append_assoc old (ended (said_line one)) (ended (said_line other))
     ∙ ap (λ (t : List ℕ). old ++ (ended (said_line one) ++ t)) (sym (append-nil (ended (said_line other))))
 
 -- the lines of a console before its memories
 pub numbers-added : (n : ConsoleNumbers) (player : ℕ) (old t1 t2 t3 t4 t5 t6 t7 t8 t9 : List ℕ)
-    → t1 ≡ old ++ ended (said_line (Values row.Heading [])) → t2 ≡ t1 ++ ended (said_line (Values (row.Console player) []))
+    → t1 ≡ old ++ ended (said_line (Values row.Heading []))
+    → t2 ≡ t1 ++ ended (said_line (Values (row.Console player) []))
     → t3 ≡ t2 ++ says_text (map (row_of n) processor_rows) → t4 ≡ t3 ++ ended (said_line (queue_of n 0 n.queue_a))
     → t5 ≡ t4 ++ ended (said_line (queue_of n 1 n.queue_b)) → t6 ≡ t5 ++ says_text (map (row_of n) tone_rows)
     → t7 ≡ t6 ++ ended (said_line (WaveBytes 0 n.wave0)) → t8 ≡ t7 ++ ended (said_line (WaveBytes 1 n.wave1))

@@ -25,7 +25,8 @@ status-small value h = saved-small value (first_of_all (is_saved_status value) _
 register-small : (register value : ℕ) → register_fits register value ≡ true → value < 2 ^ 32
 unfolding register_fits
 register-small register value h = by_kind (nat_lt register 31) (register == 31) h where
-  by_kind : (general status : Bool) → cond general (nat_lt value (2 ^ 32)) (cond status (is_status value) (is_saved_status value)) ≡ true
+  by_kind : (general status : Bool)
+      → cond general (nat_lt value (2 ^ 32)) (cond status (is_status value) (is_saved_status value)) ≡ true
       → value < 2 ^ 32
   by_kind true status e = grind (arith, nat_tests)
   by_kind false true e = status-small value e
@@ -40,7 +41,8 @@ unfolding tone_end
 tone-small tone part =
     either_below (part == 0) _ _ _ (omega arith) (either_below (part == 1) _ _ _
     (either_below (nat_le tone 2) _ _ _ (omega arith) (either_below (tone == 3) _ _ _ (omega arith) (omega arith)))
-    (either_below (part == 2) _ _ _ (omega arith) (either_below (part == 3) _ _ _ (omega arith) (either_below (part == 4) _ _ _ (omega arith)
+    (either_below (part == 2) _ _ _ (omega arith)
+    (either_below (part == 3) _ _ _ (omega arith) (either_below (part == 4) _ _ _ (omega arith)
     (either_below (part == 5) _ _ _ (omega arith) (either_below (part == 6) _ _ _ (omega arith) (omega arith)))))))
 
 control-small : (timer value : ℕ) → control_fits timer value ≡ true → value < 2 ^ 64
@@ -117,7 +119,8 @@ spellable row.Applied part value p h = lt-ltb value (2 ^ 64) (field-small consol
 spellable row.Counts part value p h = lt-ltb value (2 ^ 64) (field-small (field_of row.Counts part) value h)
 
 -- the numbers of a row are ones
-row-field : (which : Row) (part : ℕ) → is_row which ≡ true → part < count_of which → is_field (field_of which part) ≡ true
+row-field : (which : Row) (part : ℕ) → is_row which ≡ true → part < count_of which
+    → is_field (field_of which part) ≡ true
 unfolding is_row count_of field_of is_field is_board_field
 row-field row.Heading part is p = absurd (omega arith)
 row-field (row.Console n) part is p = absurd (omega arith)
@@ -170,7 +173,8 @@ row-field row.Counts (suc (suc (suc part))) is p = absurd (omega arith)
 
 -- the numbers of a console that are in their ranges
 abbrev pub Fit : ℕ → ConsoleNumbers → Type 0
-Fit until n = (field : Field) → is_field field ≡ true → (field_fits field (value_of field n) && in_time until field (value_of field n)) ≡ true
+Fit until n = (field : Field) → is_field field ≡ true
+    → (field_fits field (value_of field n) && in_time until field (value_of field n)) ≡ true
 
 pub row-count : (which : Row) (part count : ℕ) (n : ConsoleNumbers) → length (row_values which part count n) ≡ count
 unfolding row_values
@@ -195,7 +199,8 @@ fit_from until which part (suc count) n fit is whole =
     let value = value_of (field_of which part) n in
     let both = fit (field_of which part) (row-field which part is (omega arith)) in
     let fits = first_of_all (field_fits (field_of which part) value) (in_time until (field_of which part) value) both in
-    let timely = rest_of_all (field_fits (field_of which part) value) (in_time until (field_of which part) value) both in
+    let timely =
+    rest_of_all (field_fits (field_of which part) value) (in_time until (field_of which part) value) both in
     let rest = fit_from until which (part + 1) count n fit is (omega arith) in
     rw (fits, timely, rest) refl
 

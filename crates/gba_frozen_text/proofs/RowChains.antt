@@ -37,7 +37,8 @@ pub follow-both : (player : ℕ) (slot mid to : Slot) (k l m : ℕ) (one other :
     → Follow player mid l other to m → Follow player slot k (one ++ other) to m
 unfolding Follow
 follow-both player slot mid to k l m [] other h g =
-    subst (λ (s : Slot). Follow player s k other to m) (sym h.0) (subst (λ (p : ℕ). Follow player mid p other to m) (sym h.1) g)
+    subst (λ (s : Slot). Follow player s k other to m) (sym h.0)
+    (subst (λ (p : ℕ). Follow player mid p other to m) (sym h.1) g)
 follow-both player slot mid to k l m (which ∷ one) other h g =
     (h.0, h.1, h.2, h.3, follow-both player (after_row player which) mid to (k + count_of which) l m one other h.4 g)
 
@@ -49,7 +50,8 @@ follow-rises player slot to k m (which ∷ rows) h =
 
 -- the rows of the registers
 registers-follow : (player left first : ℕ) → first + suc left ≡ 37
-    → Follow player (Fixed (row.Register first)) (2 + first) (rows_from row.Register first (suc left)) (Fixed (row.Timer 0)) 39
+    → Follow player (Fixed (row.Register first)) (2 + first) (rows_from row.Register first (suc left))
+    (Fixed (row.Timer 0)) 39
 unfolding Follow after_row row_start is_row count_of
 registers-follow player zero first sum =
     let last : nat_lt first 36 ≡ false = grind (arith, nat_tests) in
@@ -76,36 +78,50 @@ unfolding Follow after_row row_start is_row count_of
 channels-follow player =
     (refl, refl, refl, refl, (refl, refl, refl, refl, (refl, refl, refl, refl, (refl, refl, refl, refl, (refl, refl)))))
 
-clocks-follow : (player : ℕ) → Follow player (Fixed row.Clock) 0 (row.Clock ∷ row.Halted ∷ []) (Fixed (row.Register 0)) 2
+clocks-follow : (player : ℕ)
+    → Follow player (Fixed row.Clock) 0 (row.Clock ∷ row.Halted ∷ []) (Fixed (row.Register 0)) 2
 unfolding Follow after_row row_start is_row count_of
 clocks-follow player = (refl, refl, refl, refl, (refl, refl, refl, refl, (refl, refl)))
 
 pub processor-follow : (player : ℕ) → Follow player (Fixed row.Clock) 0 processor_rows (Queue 0) 75
 unfolding processor_rows
 processor-follow player =
-    follow-both player (Fixed row.Clock) (Fixed (row.Register 0)) (Queue 0) 0 2 75 (row.Clock ∷ row.Halted ∷ []) _ (clocks-follow player)
-    (follow-both player (Fixed (row.Register 0)) (Fixed (row.Dma 0)) (Queue 0) 2 55 75
+    follow-both player (Fixed row.Clock) (Fixed (row.Register 0)) (Queue 0) 0 2 75 (row.Clock ∷ row.Halted ∷ []) _
+    (clocks-follow player) (follow-both player (Fixed (row.Register 0)) (Fixed (row.Dma 0)) (Queue 0) 2 55 75
     (rows_from row.Register 0 37 ++ rows_from row.Timer 0 4) (rows_from row.Dma 0 4)
-    (follow-both player (Fixed (row.Register 0)) (Fixed (row.Timer 0)) (Fixed (row.Dma 0)) 2 39 55 (rows_from row.Register 0 37)
+    (follow-both player (Fixed (row.Register 0)) (Fixed (row.Timer 0)) (Fixed (row.Dma 0)) 2 39 55
+    (rows_from row.Register 0 37)
     (rows_from row.Timer 0 4) (registers-follow player 36 0 refl) (timers-follow player)) (channels-follow player))
 
 pub tones-follow : (player : ℕ) → Follow player (Fixed row.Sequencer) 79 tone_rows (Wave 0) 112
 unfolding Follow after_row row_start is_row count_of tone_rows
-tones-follow player =
-    (refl, refl, refl, refl, (refl, refl, refl, refl, (refl, refl, refl, refl, (refl, refl, refl, refl, (refl, refl, refl, refl, (refl, refl))))))
+tones-follow player = (
+  refl,
+  refl,
+  refl,
+  refl,
+  (refl, refl, refl, refl, (refl, refl, refl, refl, (refl, refl, refl, refl, (refl, refl, refl, refl, (refl, refl))))),
+)
 
 pub board-follow : (player : ℕ) → Follow player (Fixed row.Position) 112 board_rows (Memory None) 129
 unfolding Follow after_row row_start is_row count_of board_rows
-board-follow player =
-    (refl, refl, refl, refl, (refl, refl, refl, refl, (refl, refl, refl, refl, (refl, refl, refl, refl, (refl, refl, refl, refl, (refl, refl))))))
+board-follow player = (
+  refl,
+  refl,
+  refl,
+  refl,
+  (refl, refl, refl, refl, (refl, refl, refl, refl, (refl, refl, refl, refl, (refl, refl, refl, refl, (refl, refl))))),
+)
 
 pub last-follow : (player : ℕ) → Follow player (Fixed row.Was) 133 last_rows (Drawn None) 138
 unfolding Follow after_row row_start is_row count_of last_rows
 last-follow player = (refl, refl, refl, refl, (refl, refl, refl, refl, (refl, refl, refl, refl, (refl, refl))))
 
 -- a row at its place, which may be one that was moved to
-pub row-step : (setup : Setup) (from : Place) (player : ℕ) (which : Row) (n : ConsoleNumbers) → Fit setup.until n → is_row which ≡ true
-    → place_for setup (pieces (row_line which (row_values which 0 (count_of which) n))) from ≡ placed player (Fixed which)
+pub row-step : (setup : Setup) (from : Place) (player : ℕ) (which : Row) (n : ConsoleNumbers) → Fit setup.until n
+    → is_row which ≡ true
+    → place_for setup (pieces (row_line which (row_values which 0 (count_of which) n))) from
+    ≡ placed player (Fixed which)
     → Step setup from (said_line (row_of n which)) (row_of n which) (placed player (after_row player which))
 unfolding slot_said after_said next_by said_line
 row-step setup from player which n fit is place =
@@ -114,23 +130,27 @@ row-step setup from player which n fit is place =
     let fits = row-fits setup.until which n fit is in
     let says : row_said setup.until which (pieces (row_line which values)) ≡ Ok (Values which values) =
     rows-again setup.until which values is (row-count which 0 (count_of which) n) spelled ∙ rw fits refl in
-    step setup from (placed player (Fixed which)) (row_line which values) (Values which values) (placed player (after_row player which))
-    (row-fed which values is spelled) place says refl
+    step setup from (placed player (Fixed which)) (row_line which values) (Values which values)
+    (placed player (after_row player which)) (row-fed which values is spelled) place says refl
 
 stays : (setup : Setup) (player : ℕ) (which : Row) (words : List (List ℕ))
     → place_for setup words (placed player (Fixed which)) ≡ placed player (Fixed which)
 unfolding is_left
 stays setup player which words = refl
 
-pub rows-read : (setup : Setup) (player : ℕ) (n : ConsoleNumbers) (slot to : Slot) (k m : ℕ) (rows : List Row) → Fit setup.until n
-    → Follow player slot k rows to m → Reads setup (placed player slot) (map (row_of n) rows) (placed player to)
+pub rows-read : (setup : Setup) (player : ℕ) (n : ConsoleNumbers) (slot to : Slot) (k m : ℕ) (rows : List Row)
+    → Fit setup.until n → Follow player slot k rows to m
+    → Reads setup (placed player slot) (map (row_of n) rows) (placed player to)
 unfolding Follow
 rows-read setup player n slot to k m [] fit h =
-    subst (λ (s : Slot). Reads setup (placed player slot) [] (placed player s)) h.0 (reads_none setup (placed player slot))
+    subst (λ (s : Slot). Reads setup (placed player slot) [] (placed player s)) h.0
+    (reads_none setup (placed player slot))
 rows-read setup player n slot to k m (which ∷ rows) fit h =
     subst (λ (s : Slot). Reads setup (placed player s) (map (row_of n) (which ∷ rows)) (placed player to)) (sym h.0)
-    (reads_more setup (placed player (Fixed which)) (placed player (after_row player which)) (placed player to) (row_of n which)
-    (map (row_of n) rows) (row-step setup (placed player (Fixed which)) player which n fit h.2 (stays setup player which _))
+    (reads_more setup (placed player (Fixed which)) (placed player (after_row player which)) (placed player to)
+    (row_of n which)
+    (map (row_of n) rows)
+    (row-step setup (placed player (Fixed which)) player which n fit h.2 (stays setup player which _))
     (rows-read setup player n (after_row player which) to (k + count_of which) m rows fit h.4))
 
 -- what lines of a console come to
@@ -138,7 +158,8 @@ unfoldable pub with_lines : List Said → ConsoleDraft → ConsoleDraft
 with_lines [] c = c
 with_lines (said ∷ says) c = with_lines says (with_line_of said c)
 
-pub with_lines-both : (one other : List Said) (c : ConsoleDraft) → with_lines (one ++ other) c ≡ with_lines other (with_lines one c)
+pub with_lines-both : (one other : List Said) (c : ConsoleDraft)
+    → with_lines (one ++ other) c ≡ with_lines other (with_lines one c)
 unfolding with_lines
 with_lines-both [] other c = refl
 with_lines-both (said ∷ one) other c = with_lines-both one other (with_line_of said c)
@@ -169,10 +190,13 @@ with_last-last : (change : ConsoleDraft → ConsoleDraft) (consoles : List Conso
 unfolding with_last
 with_last-last change [] c = refl
 with_last-last change (one ∷ []) c = refl
-with_last-last change (one ∷ other ∷ consoles) c = ap (λ (t : List ConsoleDraft). one ∷ t) (with_last-last change (other ∷ consoles) c)
+with_last-last change (one ∷ other ∷ consoles) c =
+    ap (λ (t : List ConsoleDraft). one ∷ t) (with_last-last change (other ∷ consoles) c)
 
 pub inner-drafted : (says : List Said) (d : Draft) (consoles : List ConsoleDraft) (c : ConsoleDraft) → AllInner says
-    → drafted says (record d { consoles = consoles ++ c ∷ [] }) ≡ record d { consoles = consoles ++ with_lines says c ∷ [] }
+    → drafted says (record d { consoles = consoles ++ c ∷ [] }) ≡ record d {
+      consoles = consoles ++ with_lines says c ∷ [];
+    }
 unfolding AllInner drafted with_lines
 inner-drafted [] d consoles c h = refl
 inner-drafted (said ∷ says) d consoles c h =
@@ -200,8 +224,8 @@ row-inner row.Was values h d = refl
 row-inner row.Applied values h d = refl
 row-inner row.Counts values h d = refl
 
-pub rows-inner : (player : ℕ) (n : ConsoleNumbers) (slot to : Slot) (k m : ℕ) (rows : List Row) → Follow player slot k rows to m
-    → AllInner (map (row_of n) rows)
+pub rows-inner : (player : ℕ) (n : ConsoleNumbers) (slot to : Slot) (k m : ℕ) (rows : List Row)
+    → Follow player slot k rows to m → AllInner (map (row_of n) rows)
 unfolding Follow
 rows-inner player n slot to k m [] h = inner_none
 rows-inner player n slot to k m (which ∷ rows) h =
@@ -217,9 +241,11 @@ apart_rest : (k l m : ℕ) → k ≤ l → Apart k m → Apart l m
 apart_rest k l m less (inl low) = inl low
 apart_rest k l m less (inr high) = inr (omega arith)
 
-pub rows-filled : (player : ℕ) (n : ConsoleNumbers) (c : ConsoleDraft) (slot to : Slot) (k m : ℕ) (rows : List Row) (a b w0 w1 : List ℕ)
-    → length n.values ≡ 138 → m ≤ 138 → Apart k m → Follow player slot k rows to m
-    → with_lines (map (row_of n) rows) (record c { numbers = partly n k a b w0 w1 }) ≡ record c { numbers = partly n m a b w0 w1 }
+pub rows-filled : (player : ℕ) (n : ConsoleNumbers) (c : ConsoleDraft) (slot to : Slot) (k m : ℕ) (rows : List Row)
+    (a b w0 w1 : List ℕ) → length n.values ≡ 138 → m ≤ 138 → Apart k m → Follow player slot k rows to m
+    → with_lines (map (row_of n) rows) (record c { numbers = partly n k a b w0 w1 }) ≡ record c {
+      numbers = partly n m a b w0 w1;
+    }
 unfolding Follow with_lines with_line_of
 rows-filled player n c slot to k m [] a b w0 w1 long few apart h =
     ap (λ (p : ℕ). record c { numbers = partly n p a b w0 w1 }) h.1
@@ -227,10 +253,15 @@ rows-filled player n c slot to k m (which ∷ rows) a b w0 w1 long few apart h =
     let l = k + count_of which in
     let rise : l ≤ m = follow-rises player (after_row player which) to l m rows h.4 in
     let begin : row_start which + 0 ≡ k = omega (arith, h.1) in
-    let filled : with_values which 0 (row_values which 0 (count_of which) n) (partly n (row_start which + 0) a b w0 w1) ≡ partly n l a b w0 w1 =
-    row-filled n which (row_start which) 0 (count_of which) l a b w0 w1 long (λ p below. row-place which p (omega arith))
+    let filled : with_values which 0 (row_values which 0 (count_of which) n) (partly n (row_start which + 0) a b w0 w1)
+    ≡ partly n l a b w0 w1 =
+    row-filled n which (row_start which) 0 (count_of which) l a b w0 w1 long
+    (λ p below. row-place which p (omega arith))
     (omega (arith, h.1)) (omega arith) (subst (λ (p : ℕ). Apart p l) (sym begin) (apart_part k l m rise apart)) in
-    let here : with_values which 0 (row_values which 0 (count_of which) n) (partly n k a b w0 w1) ≡ partly n l a b w0 w1 =
-    ap (λ (p : ℕ). with_values which 0 (row_values which 0 (count_of which) n) (partly n p a b w0 w1)) (sym begin) ∙ filled in
+    let here : with_values which 0 (row_values which 0 (count_of which) n) (partly n k a b w0 w1)
+    ≡ partly n l a b w0 w1 =
+    ap (λ (p : ℕ). with_values which 0 (row_values which 0 (count_of which) n) (partly n p a b w0 w1)) (sym begin)
+    ∙ filled in
     ap (λ (m : ConsoleNumbers). with_lines (map (row_of n) rows) (record c { numbers = m })) here
-    ∙ rows-filled player n c (after_row player which) to l m rows a b w0 w1 long few (apart_rest k l m (omega arith) apart) h.4
+    ∙ rows-filled player n c (after_row player which) to l m rows a b w0 w1 long few
+    (apart_rest k l m (omega arith) apart) h.4

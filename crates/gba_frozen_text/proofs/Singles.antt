@@ -8,7 +8,8 @@ use Rattle.gba_frozen.specs.declared.rows.Row.{Row}
 use Rattle.gba_frozen.specs.declared.rows.Row.TheVariants as row
 use Rattle.gba_frozen_text.specs.Text.{is_printable}
 
-pub row-single : (which : Row) (part : ℕ) → is_row which ≡ true → part < count_of which → place_of (field_of which part) < 138
+pub row-single : (which : Row) (part : ℕ) → is_row which ≡ true → part < count_of which
+    → place_of (field_of which part) < 138
 unfolding is_row count_of field_of place_of board_place
 row-single row.Heading part is p = absurd (omega arith)
 row-single (row.Console n) part is p = absurd (omega arith)
@@ -55,8 +56,8 @@ row-single row.Counts (suc zero) is p = omega arith
 row-single row.Counts (suc (suc zero)) is p = omega arith
 row-single row.Counts (suc (suc (suc part))) is p = absurd (omega arith)
 
-pub value-fits : (which : Row) (part value : ℕ) → part < count_of which → is_printable (field_of which part) value ≡ true
-    → fits_spelling (spelling_of which) value ≡ true
+pub value-fits : (which : Row) (part value : ℕ) → part < count_of which
+    → is_printable (field_of which part) value ≡ true → fits_spelling (spelling_of which) value ≡ true
 unfolding spelling_of count_of field_of is_printable
 value-fits row.Heading part value p h = absurd (omega arith)
 value-fits (row.Console n) part value p h = absurd (omega arith)

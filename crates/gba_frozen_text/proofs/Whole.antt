@@ -30,7 +30,8 @@ use Rattle.gba_frozen_text.proofs.Drafts.{console-drafted}
 
 -- where the next console begins
 heading-next : (setup : Setup) (player : ℕ) (last : Option ℕ) → player + 1 < setup.consoles
-    → place_for setup (pieces (row_line row.Heading [])) (placed player (Drawn last)) ≡ placed (player + 1) (Fixed row.Heading)
+    → place_for setup (pieces (row_line row.Heading [])) (placed player (Drawn last))
+    ≡ placed (player + 1) (Fixed row.Heading)
 unfolding is_left next_by keyword_of
 heading-next setup player last more =
     let first = first-joined (codes "gbalink-state") (row_words row.Heading []) refl in
@@ -46,22 +47,29 @@ heading-here setup player words = refl
 consoles-read : (setup : Setup) (from : Place) (player : ℕ) (c : ConsoleDraft) (consoles : List ConsoleDraft)
     → player + suc (length consoles) ≡ setup.consoles → setup.consoles ≤ 4 → AreConsoles setup player (c ∷ consoles)
     → place_for setup (pieces (row_line row.Heading [])) from ≡ placed player (Fixed row.Heading)
-    → (last : Option ℕ) × Reads setup from (consoles_say setup player (c ∷ consoles)) (placed (player + length consoles) (Drawn last))
+    → (last : Option ℕ)
+    × Reads setup from (consoles_say setup player (c ∷ consoles)) (placed (player + length consoles) (Drawn last))
 unfolding AreConsoles consoles_say console_says numbers_say
 consoles-read setup from player c [] sum few are begin =
     let last = last_drawn None c.drawn in
-    let one : Reads setup from (Values row.Heading [] ∷ behind_heading (backup_of setup player) player c) (placed player (Drawn last)) =
-    reads_more setup from (placed player (Fixed (row.Console player))) (placed player (Drawn last)) (Values row.Heading []) _
+    let one : Reads setup from (Values row.Heading [] ∷ behind_heading (backup_of setup player) player c)
+    (placed player (Drawn last)) =
+    reads_more setup from (placed player (Fixed (row.Console player))) (placed player (Drawn last))
+    (Values row.Heading []) _
     (heading-step setup from player c.numbers are.0.numbers.fit begin) (body-read setup player c (omega arith) are.0) in
     let same : player ≡ player + 0 = omega arith in (
       last,
-      subst (λ (p : ℕ). Reads setup from ((Values row.Heading [] ∷ behind_heading (backup_of setup player) player c) ++ []) (placed p (Drawn last))) same
-          (reads_both setup from (placed player (Drawn last)) (placed player (Drawn last)) _ [] one (reads_none setup (placed player (Drawn last)))),
+      subst (λ (p : ℕ). Reads setup from ((Values row.Heading [] ∷ behind_heading (backup_of setup player) player c)
+          ++ []) (placed p (Drawn last))) same
+          (reads_both setup from (placed player (Drawn last)) (placed player (Drawn last)) _ [] one
+          (reads_none setup (placed player (Drawn last)))),
     )
 consoles-read setup from player c (next ∷ consoles) sum few are begin =
     let last = last_drawn None c.drawn in
-    let one : Reads setup from (Values row.Heading [] ∷ behind_heading (backup_of setup player) player c) (placed player (Drawn last)) =
-    reads_more setup from (placed player (Fixed (row.Console player))) (placed player (Drawn last)) (Values row.Heading []) _
+    let one : Reads setup from (Values row.Heading [] ∷ behind_heading (backup_of setup player) player c)
+    (placed player (Drawn last)) =
+    reads_more setup from (placed player (Fixed (row.Console player))) (placed player (Drawn last))
+    (Values row.Heading []) _
     (heading-step setup from player c.numbers are.0.numbers.fit begin) (body-read setup player c (omega arith) are.0) in
     let rest = consoles-read setup (placed player (Drawn last)) (player + 1) next consoles (omega arith) few are.1
     (heading-next setup player last (omega arith)) in
@@ -69,25 +77,33 @@ consoles-read setup from player c (next ∷ consoles) sum few are begin =
       rest.0,
       subst (λ (p : ℕ). Reads setup from ((Values row.Heading [] ∷ behind_heading (backup_of setup player) player c)
           ++ consoles_say setup (player + 1) (next ∷ consoles)) (placed p (Drawn rest.0))) same
-          (reads_both setup from (placed player (Drawn last)) (placed (player + 1 + length consoles) (Drawn rest.0)) _ _ one rest.1),
+          (reads_both setup from (placed player (Drawn last)) (placed (player + 1 + length consoles) (Drawn rest.0)) _ _
+          one rest.1),
     )
 
-consoles-drafted : (setup : Setup) (player : ℕ) (consoles : List ConsoleDraft) (d : Draft) → AreConsoles setup player consoles
-    → drafted (consoles_say setup player consoles) d ≡ record d { consoles = d.consoles ++ consoles }
+consoles-drafted : (setup : Setup) (player : ℕ) (consoles : List ConsoleDraft) (d : Draft)
+    → AreConsoles setup player consoles → drafted (consoles_say setup player consoles) d ≡ record d {
+      consoles = d.consoles ++ consoles;
+    }
 unfolding AreConsoles consoles_say drafted
-consoles-drafted setup player [] d are = ap (λ (cs : List ConsoleDraft). record d { consoles = cs }) (sym (append-nil d.consoles))
+consoles-drafted setup player [] d are =
+    ap (λ (cs : List ConsoleDraft). record d { consoles = cs }) (sym (append-nil d.consoles))
 consoles-drafted setup player (c ∷ consoles) d are =
     drafted-both (console_says (backup_of setup player) player c) (consoles_say setup (player + 1) consoles) d
-    ∙ ap (drafted (consoles_say setup (player + 1) consoles)) (console-drafted setup.until (backup_of setup player) player c d are.0.numbers)
+    ∙ ap (drafted (consoles_say setup (player + 1) consoles))
+    (console-drafted setup.until (backup_of setup player) player c d are.0.numbers)
     ∙ consoles-drafted setup (player + 1) consoles (record d { consoles = d.consoles ++ c ∷ [] }) are.1
     ∙ ap (λ (cs : List ConsoleDraft). record d { consoles = cs }) (append_assoc d.consoles (c ∷ []) consoles)
 
 -- the live signals
-signal-first : (setup : Setup) (player : ℕ) (last : Option ℕ) (sender : ℕ) (signal : Signal) → player + 1 ≡ setup.consoles
+signal-first : (setup : Setup) (player : ℕ) (last : Option ℕ) (sender : ℕ) (signal : Signal)
+    → player + 1 ≡ setup.consoles
     → place_for setup (pieces (signal_text sender signal)) (placed player (Drawn last)) ≡ placed player Signals
 unfolding is_left next_by
 signal-first setup player last sender signal all =
-    let first = first-joined (codes "signal") (decimal sender ∷ long_digits (packed_head signal) ∷ long_digits (packed_words signal) ∷ []) refl in
+    let first =
+    first-joined (codes "signal") (decimal sender ∷ long_digits (packed_head signal) ∷ long_digits (packed_words signal)
+    ∷ []) refl in
     let none : nat_lt (player + 1) setup.consoles ≡ false = grind (arith, nat_tests) in
     rw (first, none, first) refl
 
@@ -95,24 +111,28 @@ signal-here : (setup : Setup) (player sender : ℕ) (signal : Signal)
     → place_for setup (pieces (signal_text sender signal)) (placed player Signals) ≡ placed player Signals
 unfolding is_left
 signal-here setup player sender signal =
-    let first = first-joined (codes "signal") (decimal sender ∷ long_digits (packed_head signal) ∷ long_digits (packed_words signal) ∷ []) refl in
+    let first =
+    first-joined (codes "signal") (decimal sender ∷ long_digits (packed_head signal) ∷ long_digits (packed_words signal)
+    ∷ []) refl in
     rw (first, first) refl
 
-signal-step : (setup : Setup) (from : Place) (player : ℕ) (one : ℕ × Signal) (sent : List (ℕ × Signal)) → setup.consoles ≤ 4
-    → AreSent setup.consoles (one ∷ sent)
+signal-step : (setup : Setup) (from : Place) (player : ℕ) (one : ℕ × Signal) (sent : List (ℕ × Signal))
+    → setup.consoles ≤ 4 → AreSent setup.consoles (one ∷ sent)
     → place_for setup (pieces (signal_text one.0 one.1)) from ≡ placed player Signals
     → Step setup from (said_line (live_of one)) (live_of one) (placed player Signals)
 unfolding AreSent slot_said after_said said_line
 signal-step setup from player one sent few are place =
     step setup from (placed player Signals) (signal_text one.0 one.1) (live_of one) (placed player Signals)
-    (signal-fed one.0 one.1 (omega arith)) place (signals-again setup.consoles one.0 one.1 are.0 few are.1 are.2 are.3) refl
+    (signal-fed one.0 one.1 (omega arith)) place (signals-again setup.consoles one.0 one.1 are.0 few are.1 are.2 are.3)
+    refl
 
-signals-read : (setup : Setup) (player : ℕ) (sent : List (ℕ × Signal)) → setup.consoles ≤ 4 → AreSent setup.consoles sent
-    → Reads setup (placed player Signals) (map live_of sent) (placed player Signals)
+signals-read : (setup : Setup) (player : ℕ) (sent : List (ℕ × Signal)) → setup.consoles ≤ 4
+    → AreSent setup.consoles sent → Reads setup (placed player Signals) (map live_of sent) (placed player Signals)
 unfolding AreSent
 signals-read setup player [] few are = reads_none setup (placed player Signals)
 signals-read setup player (one ∷ sent) few are =
-    reads_more setup (placed player Signals) (placed player Signals) (placed player Signals) (live_of one) (map live_of sent)
+    reads_more setup (placed player Signals) (placed player Signals) (placed player Signals) (live_of one)
+    (map live_of sent)
     (signal-step setup (placed player Signals) player one sent few are (signal-here setup player one.0 one.1))
     (signals-read setup player sent few are.4)
 
@@ -124,14 +144,16 @@ end-behind_drawn setup player last all =
     let none : nat_lt (player + 1) setup.consoles ≡ false = grind (arith, nat_tests) in
     rw none refl
 
-end-behind_signals : (setup : Setup) (player : ℕ) → place_for setup (pieces end_text) (placed player Signals) ≡ placed player End
+end-behind_signals : (setup : Setup) (player : ℕ)
+    → place_for setup (pieces end_text) (placed player Signals) ≡ placed player End
 unfolding is_left next_by pieces
 end-behind_signals setup player = refl
 
 end-step : (setup : Setup) (from : Place) (player : ℕ) → place_for setup (pieces end_text) from ≡ placed player End
     → Step setup from end_text Nothing (placed player Past)
 unfolding slot_said after_said next_by end_line exact pieces
-end-step setup from player place = step setup from (placed player End) end_text Nothing (placed player Past) refl place refl refl
+end-step setup from player place =
+    step setup from (placed player End) end_text Nothing (placed player Past) refl place refl refl
 
 -- the signals behind the last console, and where the last line is read
 record Ends (setup : Setup) (player : ℕ) (from : Place) (sent : List (ℕ × Signal)) : Type 0 where
@@ -149,13 +171,17 @@ sent-ends setup player last [] all few are = record {
 }
 sent-ends setup player last (one ∷ sent) all few are = record {
   to = placed player Signals;
-  reads = reads_more setup (placed player (Drawn last)) (placed player Signals) (placed player Signals) (live_of one) (map live_of sent)
-      (signal-step setup (placed player (Drawn last)) player one sent few are (signal-first setup player last one.0 one.1 all))
+  reads = reads_more setup (placed player (Drawn last)) (placed player Signals) (placed player Signals) (live_of one)
+      (map live_of sent)
+      (signal-step setup (placed player (Drawn last)) player one sent few are
+      (signal-first setup player last one.0 one.1 all))
       (signals-read setup player sent few are.4);
   end = end-behind_signals setup player;
 }
 
-sent-drafted : (sent : List (ℕ × Signal)) (d : Draft) → drafted (map live_of sent) d ≡ record d { sent = d.sent ++ sent }
+sent-drafted : (sent : List (ℕ × Signal)) (d : Draft) → drafted (map live_of sent) d ≡ record d {
+  sent = d.sent ++ sent;
+}
 unfolding drafted with_said
 sent-drafted [] d = ap (λ (s : List (ℕ × Signal)). record d { sent = s }) (sym (append-nil d.sent))
 sent-drafted (one ∷ sent) d =
@@ -178,7 +204,9 @@ digest-step setup d is =
 abbrev before_consoles : Draft
 before_consoles = record { at = placed 0 (Fixed row.Heading); consoles = []; sent = [] }
 
-begun : (setup : Setup) → with_next (placed 0 (Fixed row.Heading)) Nothing (with_next (placed 0 Digest) Nothing nothing_read) ≡ before_consoles
+begun : (setup : Setup)
+    → with_next (placed 0 (Fixed row.Heading)) Nothing (with_next (placed 0 Digest) Nothing nothing_read)
+    ≡ before_consoles
 unfolding with_said with_last
 begun setup = refl
 
@@ -191,7 +219,8 @@ nothing-last (c ∷ next ∷ consoles) = ap (λ (t : List ConsoleDraft). c ∷ t
 
 nothing-more : (d : Draft) (at : Place) → with_next at Nothing d ≡ record d { at = at }
 unfolding with_said
-nothing-more d at = ap (λ (cs : List ConsoleDraft). record { at = at; consoles = cs; sent = d.sent }) (nothing-last d.consoles)
+nothing-more d at =
+    ap (λ (cs : List ConsoleDraft). record { at = at; consoles = cs; sent = d.sent }) (nothing-last d.consoles)
 
 at_end-past : (A : Type 0) (number : ℕ) (d : Draft) (whole_of : Draft → Option A) → d.at.slot ≡ Past
     → at_end whole_of number d ≡ judged number (whole_of d)
@@ -200,7 +229,8 @@ at_end-past A number d whole_of past = rw past refl
 
 lines-count : (says : List Said) (first second last : List ℕ)
     → length (first ∷ second ∷ (map said_line says ++ last ∷ [])) ≡ 1 + 1 + length says + 1
-lines-count says first second last = omega (arith, length-append (map said_line says) (last ∷ []), length-map {A = Said} says said_line)
+lines-count says first second last =
+    omega (arith, length-append (map said_line says) (last ∷ []), length-map {A = Said} says said_line)
 
 -- the lines of all consoles, and the player of the last one
 record AllRead (setup : Setup) (consoles : List ConsoleDraft) : Type 0 where
@@ -209,8 +239,8 @@ record AllRead (setup : Setup) (consoles : List ConsoleDraft) : Type 0 where
   all : player + 1 ≡ setup.consoles
   reads : Reads setup (placed 0 (Fixed row.Heading)) (consoles_say setup 0 consoles) (placed player (Drawn last))
 
-all-read : (setup : Setup) (consoles : List ConsoleDraft) → length consoles ≡ setup.consoles → 0 < setup.consoles → setup.consoles ≤ 4
-    → AreConsoles setup 0 consoles → AllRead setup consoles
+all-read : (setup : Setup) (consoles : List ConsoleDraft) → length consoles ≡ setup.consoles → 0 < setup.consoles
+    → setup.consoles ≤ 4 → AreConsoles setup 0 consoles → AllRead setup consoles
 all-read setup [] count some few are = absurd (omega arith)
 all-read setup (c ∷ consoles) count some few are =
     let r = consoles-read setup (placed 0 (Fixed row.Heading)) 0 c consoles (omega arith) few are
@@ -231,7 +261,8 @@ drafted-whole setup d is =
 -- whatever a whole file comes to
 pub again : (A : Type 0) (setup : Setup) (d : Draft) (whole_of : Draft → Option A) → IsWhole setup d
     → length (frozen_text setup d) ≤ longest_file
-    → answer_of (frozen_language setup whole_of) (frozen_text setup d) ≡ judged (length (frozen_lines setup d)) (whole_of d)
+    → answer_of (frozen_language setup whole_of) (frozen_text setup d)
+    ≡ judged (length (frozen_lines setup d)) (whole_of d)
 unfolding frozen_text frozen_lines text_of with_said with_last fed_lines
 again A setup d whole_of is short =
     let says : List Said = consoles_say setup 0 d.consoles ++ map live_of d.sent in
@@ -240,19 +271,21 @@ again A setup d whole_of is short =
     let a = all-read setup d.consoles is.count (omega (arith, is.last)) is.few is.consoles in
     let s = sent-ends setup a.player a.last d.sent a.all is.few is.sent in
     let reads : Reads setup (placed 0 (Fixed row.Heading)) says s.to =
-    reads_both setup (placed 0 (Fixed row.Heading)) (placed a.player (Drawn a.last)) s.to (consoles_say setup 0 d.consoles)
-    (map live_of d.sent) a.reads s.reads in
+    reads_both setup (placed 0 (Fixed row.Heading)) (placed a.player (Drawn a.last)) s.to
+    (consoles_say setup 0 d.consoles) (map live_of d.sent) a.reads s.reads in
     let read : Draft = record (drafted says before_consoles) { at = s.to } in
     let over : Place = placed a.player Past in
-    let number : 1 + 1 + length says + 1 ≡ length (frozen_lines setup d) = sym (lines-count says version_text (digest_text setup.digest) end_text) in
+    let number : 1 + 1 + length says + 1 ≡ length (frozen_lines setup d) =
+    sym (lines-count says version_text (digest_text setup.digest) end_text) in
     let whole : with_next over Nothing read ≡ d =
     nothing-more read over
     ∙ ap (λ (e : Draft). record e { at = over }) (drafted-whole setup d is)
     ∙ ap (λ (p : Place). record { at = p; consoles = d.consoles; sent = d.sent })
     (place-is d.at a.player (omega (arith, is.last, a.all)) is.past) in
-    answer_of-lines (frozen_language setup whole_of) (frozen_text setup d) (judged (length (frozen_lines setup d)) (whole_of d)) short
-    (one-line A setup whole_of 0 nothing_read version_text Nothing (placed 0 Digest) (ended (digest_text setup.digest) ++ text_of rest)
-    (version-step setup)
+    answer_of-lines (frozen_language setup whole_of) (frozen_text setup d)
+    (judged (length (frozen_lines setup d)) (whole_of d)) short
+    (one-line A setup whole_of 0 nothing_read version_text Nothing (placed 0 Digest)
+    (ended (digest_text setup.digest) ++ text_of rest) (version-step setup)
     ∙ one-line A setup whole_of 1 (with_next (placed 0 Digest) Nothing nothing_read) (digest_text setup.digest) Nothing
     (placed 0 (Fixed row.Heading)) (text_of rest) (digest-step setup d is)
     ∙ lines-read A setup whole_of (1 + 1) before_consoles says s.to (end_text ∷ []) reads

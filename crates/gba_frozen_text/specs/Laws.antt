@@ -37,7 +37,8 @@ AreRows backup last (line ∷ lines) =
 unfoldable pub AreDrawn : Option ℕ → List (ℕ × List ℕ) → Type 0
 AreDrawn last [] = Unit {0}
 AreDrawn last (line ∷ lines) =
-    (length line.1 ≡ 240) × AreBelow 4 line.1 × (line.0 < drawn_end) × (is_below last line.0 ≡ true) × AreDrawn (Some line.0) lines
+    (length line.1 ≡ 240) × AreBelow 4 line.1 × (line.0 < drawn_end) × (is_below last line.0 ≡ true)
+    × AreDrawn (Some line.0) lines
 
 pub record IsConsole (until : ℕ) (backup : Backup) (c : ConsoleDraft) : Type 0 where
   pub numbers : AreFrozen until backup c.numbers
@@ -71,11 +72,13 @@ pub record IsWhole (setup : Setup) (d : Draft) : Type 0 where
 abbrev pub FilesAgain : Type 0
 FilesAgain = (setup : Setup) (d : Draft) (whole_of : Draft → Option Draft) → IsWhole setup d
     → length (frozen_text setup d) ≤ longest_file
-    → answer_of (frozen_language setup whole_of) (frozen_text setup d) ≡ judged (length (frozen_lines setup d)) (whole_of d)
+    → answer_of (frozen_language setup whole_of) (frozen_text setup d)
+    ≡ judged (length (frozen_lines setup d)) (whole_of d)
 
 -- there is such a draft: one console as it is at first, without memories, drawn lines and signals
 abbrev pub draft_at_first : Draft
 draft_at_first = record { at = placed 0 Past; consoles = console_at_first ∷ []; sent = [] }
 
 abbrev pub FirstIsWhole : Type 0
-FirstIsWhole = (setup : Setup) → setup.consoles ≡ 1 → length setup.digest ≡ 32 → AreBelow 2 setup.digest → IsWhole setup draft_at_first
+FirstIsWhole = (setup : Setup) → setup.consoles ≡ 1 → length setup.digest ≡ 32 → AreBelow 2 setup.digest
+    → IsWhole setup draft_at_first

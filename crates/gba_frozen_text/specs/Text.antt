@@ -40,7 +40,8 @@ rows_from make first (suc count) = make first ∷ rows_from make (first + 1) cou
 
 -- the rows of a console: before its sound queues, between these and the wave, before its memories, and behind them
 unfoldable pub processor_rows : List Row
-processor_rows = row.Clock ∷ row.Halted ∷ (rows_from row.Register 0 37 ++ rows_from row.Timer 0 4 ++ rows_from row.Dma 0 4)
+processor_rows =
+    row.Clock ∷ row.Halted ∷ (rows_from row.Register 0 37 ++ rows_from row.Timer 0 4 ++ rows_from row.Dma 0 4)
 
 unfoldable pub tone_rows : List Row
 tone_rows = row.Sequencer ∷ rows_from row.Tone 1 4
@@ -76,7 +77,8 @@ numbers_say player n =
 
 unfoldable pub console_says : Backup → ℕ → ConsoleDraft → List Said
 console_says backup player c =
-    numbers_say player c.numbers ++ map memory_of c.memory ++ map (row_of c.numbers) (rows_behind backup) ++ map drawn_of c.drawn
+    numbers_say player c.numbers ++ map memory_of c.memory ++ map (row_of c.numbers) (rows_behind backup)
+    ++ map drawn_of c.drawn
 
 unfoldable pub consoles_say : Setup → ℕ → List ConsoleDraft → List Said
 consoles_say setup player [] = []

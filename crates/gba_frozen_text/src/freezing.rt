@@ -2,8 +2,8 @@
 
 use gba_numbers::Field;
 
-/// A console that is printed: contracts see its numbers, with the bytes of its queues and of its wave. Whether each is in its range
-/// isn't asked.
+/// A console that is printed: contracts see its numbers, with the bytes of its queues and of its wave. Whether each is
+/// in its range isn't asked.
 pub trait Freezing {
     ghost use Rattle.std.specs.Prelude.{◌≡◌, ◌<◌, ◌≤◌, ◌==◌, true, length, if◌then◌else◌};
     ghost use Rattle.gba_numbers.specs.Fields.{is_field, place_of};

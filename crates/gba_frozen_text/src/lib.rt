@@ -1,5 +1,6 @@
 #![tactic(auto)]
-//! The text of a whole frozen file, the law that it is read again as it was, and printers of some of its lines together.
+//! The text of a whole frozen file, the law that it is read again as it was, and printers of some of its
+//! lines together.
 
 mod freezing;
 pub mod laws;

@@ -61,7 +61,8 @@ assembles n ds small is =
     ∙ ap (λ (ls : List (List ℕ)). lines_say (sources known) 0 begun ls) (all-lines n ds is)
     ∙ rows-give 0 0 [] (all_rows n ds) (all-rows n ds small is))
 
-code-is : (number player : ℕ) → code number player ≡ bytes_in (all_rows (seed number player) (decimal (seed number player)))
+code-is : (number player : ℕ)
+    → code number player ≡ bytes_in (all_rows (seed number player) (decimal (seed number player)))
 unfolding code
 code-is number player =
     let n = seed number player in
@@ -76,7 +77,13 @@ is-code number player =
     record {
       says = assembles n (decimal n) small (is-numeral n small) ∙ ap Ok (sym (code-is number player));
       fits = omega (arith, long);
-      whole = omega (arith, long, length-append (code number player) (replicate (bios_length - length (code number player)) 0), length-replicate {A = ℕ} (bios_length - length (code number player)) 0);
+      whole =
+          omega (
+            arith,
+            long,
+            length-append (code number player) (replicate (bios_length - length (code number player)) 0),
+            length-replicate {A = ℕ} (bios_length - length (code number player)) 0,
+          );
     }
 
 pub code-given : (number player : ℕ) (bytes : List ℕ) → assembly_of (source number player) ≡ Ok bytes
@@ -110,5 +117,6 @@ bios-passes number player bytes error is h =
 pub bios-fine : (number player : ℕ) → bios_fault (bios number player) ≡ None
 unfolding bios_fault
 bios-fine number player =
-    let fine : (length (bios number player) == 16384) ≡ true = grind (arith, nat_tests, (is-code number player).whole) in
+    let fine : (length (bios number player) == 16384) ≡ true =
+    grind (arith, nat_tests, (is-code number player).whole) in
     rw fine refl

@@ -32,7 +32,8 @@ both : (s t : Bool) → s ≡ true → t ≡ true → (s && t) ≡ true
 both true t e f = f
 both false t e f = absurd cc
 
-all-append : (p : ℕ → Bool) (xs ys : List ℕ) → list_all p xs ≡ true → list_all p ys ≡ true → list_all p (xs ++ ys) ≡ true
+all-append : (p : ℕ → Bool) (xs ys : List ℕ) → list_all p xs ≡ true → list_all p ys ≡ true
+    → list_all p (xs ++ ys) ≡ true
 all-append p [] ys h k = k
 all-append p (x ∷ xs) ys h k =
     both (p x) (list_all p (xs ++ ys)) (first_of_all (p x) (list_all p xs) h)
@@ -73,7 +74,8 @@ name-longer name more is bytes some few =
     let sum = length-append name more in
     let long : 1 ≤ length name = leb-true 1 (length name) parts.some in
     let least : nat_le 1 (length (name ++ more)) ≡ true = le-leb 1 (length (name ++ more)) (omega (arith, sum, some)) in
-    let most : nat_le (length (name ++ more)) longest_name ≡ true = le-leb (length (name ++ more)) longest_name (omega (arith, sum, few)) in
+    let most : nat_le (length (name ++ more)) longest_name ≡ true =
+    le-leb (length (name ++ more)) longest_name (omega (arith, sum, few)) in
     let all : list_all is_name_byte (name ++ more) ≡ true = all-append is_name_byte name more parts.bytes bytes in
     rw (least, most, all, longer-is name more long some) refl
 
@@ -157,11 +159,13 @@ all-old out =
     let third : List ConsoleJob = console out 2 ∷ fourth in
     let second : List ConsoleJob = console out 1 ∷ third in
     All-cons IsOld (console out 0) second (refl, refl) (All-cons IsOld (console out 1) third (refl, refl)
-    (All-cons IsOld (console out 2) fourth (refl, refl) (All-cons IsOld (console out 3) [] (refl, refl) (All-nil IsOld))))
+    (All-cons IsOld (console out 2) fourth (refl, refl)
+    (All-cons IsOld (console out 3) [] (refl, refl) (All-nil IsOld))))
 
 pub job-read : (cycles : ℕ) (out : List ℕ) → 1 ≤ cycles → cycles ≤ 2 ^ 31 → IsOut out → IsReadAs cycles out
 job-read cycles out some few is =
-    let again = old-again cycles 512 (consoles out) some few (lit≤ tt) (lit≤ tt) (all-sound out is) (all-old out) (lit≤ tt) (lit≤ tt) in
+    let again = old-again cycles 512 (consoles out) some few (lit≤ tt) (lit≤ tt) (all-sound out is) (all-old out)
+    (lit≤ tt) (lit≤ tt) in
     record {
       again = again.again;
       read = ap job_of (sym (text-is cycles out)) ∙ again.read;

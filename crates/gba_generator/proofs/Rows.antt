@@ -50,7 +50,10 @@ known = labels_at no_labels 0 0 all_labels
 -- the line of this number at this address is as its row says
 pub record IsRow (number address : ℕ) (row : Row) : Type 0 where
   pub label : label_of row.line ≡ row.label
-  pub place : place_after (record { address = address; thumb = false }) row.line ≡ record { address = address + 4; thumb = false }
+  pub place : place_after (record { address = address; thumb = false }) row.line ≡ record {
+    address = address + 4;
+    thumb = false;
+  }
   pub bytes : line_bytes known number (record { address = address; thumb = false }) row.line ≡ Ok row.bytes
 
 abbrev pub AreRows : ℕ → ℕ → List Row → Type 0
@@ -63,18 +66,21 @@ pub rows-labels : (labels : Labels) (number address : ℕ) (rows : List Row) →
 unfolding labels_from
 rows-labels labels number address [] are = refl
 rows-labels labels number address (row ∷ rows) are =
-    ap (λ label. labels_from (with_label (number + 1) address label labels) (number + 1) (place_after (record { address = address; thumb = false }) row.line) (map line_in rows)) are.0.label
-    ∙ ap (λ p. labels_from (with_label (number + 1) address row.label labels) (number + 1) p (map line_in rows)) are.0.place
+    ap (λ label. labels_from (with_label (number + 1) address label labels) (number + 1)
+    (place_after (record { address = address; thumb = false }) row.line) (map line_in rows)) are.0.label
+    ∙ ap (λ p. labels_from (with_label (number + 1) address row.label labels) (number + 1) p (map line_in rows))
+    are.0.place
     ∙ rows-labels (with_label (number + 1) address row.label labels) (number + 1) (address + 4) rows are.1
 
 pub rows-give : (number address : ℕ) (before : List ℕ) (rows : List Row) → AreRows number address rows
-    → lines_say (sources known) number (record { bytes = before; place = record { address = address; thumb = false } }) (map line_in rows)
+    → lines_say (sources known) number (record { bytes = before; place = record { address = address; thumb = false } })
+    (map line_in rows)
     ≡ Ok (before ++ bytes_in rows)
 rows-give number address before [] are = lines_say-end (sources known) number _ ∙ ap Ok (sym (append-nil before))
 rows-give number address before (row ∷ rows) are =
     let step = given_line known (number + 1) before row.bytes (record { address = address; thumb = false })
     (record { address = address + 4; thumb = false }) row.line are.0.bytes are.0.place in
-    lines_say-more (sources known) number (record { bytes = before; place = record { address = address; thumb = false } })
-    row.line (map line_in rows) _ step
+    lines_say-more (sources known) number
+    (record { bytes = before; place = record { address = address; thumb = false } }) row.line (map line_in rows) _ step
     ∙ rows-give (number + 1) (address + 4) (before ++ row.bytes) rows are.1
     ∙ ap Ok (append_assoc before row.bytes (bytes_in rows))

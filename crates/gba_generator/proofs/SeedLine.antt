@@ -104,7 +104,8 @@ all-source ds h = all-are is_source_byte digit-source ds h
 
 seed-code : (ds : List ℕ) → all_digits ds ≡ true → code_of (seed_line ds) ≡ seed_line ds
 seed-code ds h =
-    take-front no_semicolon (seed_line ds) ∙ front-all no_semicolon (seed_line ds) (all-are no_semicolon digit-code ds h)
+    take-front no_semicolon (seed_line ds)
+    ∙ front-all no_semicolon (seed_line ds) (all-are no_semicolon digit-code ds h)
 
 seed-fault : (ds : List ℕ) → length ds ≤ 10 → all_digits ds ≡ true → fault_of (seed_line ds) ≡ None
 unfolding fault_of
@@ -126,7 +127,8 @@ no-hexadecimal : (ds : List ℕ) → all_digits ds ≡ true → begins_as_hexade
 no-hexadecimal [] h = refl
 no-hexadecimal (d ∷ []) h = refl
 no-hexadecimal (d ∷ e ∷ ds) h =
-    let second = first_of_all (is_ascii_digit e) (all_digits ds) (rest_of_all (is_ascii_digit d) (all_digits (e ∷ ds)) h) in
+    let second =
+    first_of_all (is_ascii_digit e) (all_digits ds) (rest_of_all (is_ascii_digit d) (all_digits (e ∷ ds)) h) in
     ap (λ t. nat_le 2 (length (d ∷ e ∷ ds)) && t) (no-prefix d e second) ∙ and-false _
 
 digits-number : (n : ℕ) (ds : List ℕ) → n < 2 ^ 32 → IsNumeral n ds → number_of ds ≡ Some n
@@ -146,19 +148,32 @@ seed-label n ds is = rw (seed-fault ds is.few is.digits, seed-code ds is.digits,
 
 seed-place : (n : ℕ) (ds : List ℕ) → n < 2 ^ 32 → IsNumeral n ds
     → place_after (record { address = 100; thumb = false }) (seed_line ds) ≡ record { address = 104; thumb = false }
-unfolding place_after line_says split_label is_label statement_of directive_of directive_form are_items size_of count_words
+unfolding place_after line_says split_label is_label statement_of directive_of directive_form are_items size_of
+    count_words
 seed-place n ds small is =
-    rw (seed-fault ds is.few is.digits, seed-code ds is.digits, seed-tokens ds is.some is.digits, digits-target n ds small is)
+    rw (
+      seed-fault ds is.few is.digits,
+      seed-code ds is.digits,
+      seed-tokens ds is.some is.digits,
+      digits-target n ds small is,
+    )
     refl
 
 seed-bytes : (n : ℕ) (ds : List ℕ) → n < 2 ^ 32 → IsNumeral n ds
     → line_bytes known 26 (record { address = 100; thumb = false }) (seed_line ds) ≡ Ok (to_le_bytes w32 n)
-unfolding line_bytes line_says label_of split_label is_label statement_of directive_of directive_form are_items size_of count_words statement_bytes items_bytes item_bytes
+unfolding line_bytes line_says label_of split_label is_label statement_of directive_of directive_form are_items size_of
+    count_words statement_bytes items_bytes item_bytes
 seed-bytes n ds small is =
-    rw (seed-fault ds is.few is.digits, seed-code ds is.digits, seed-tokens ds is.some is.digits, digits-target n ds small is)
+    rw (
+      seed-fault ds is.few is.digits,
+      seed-code ds is.digits,
+      seed-tokens ds is.some is.digits,
+      digits-target n ds small is,
+    )
     (rw (digits-target n ds small is) refl)
 
-pub seed-row : (n : ℕ) (ds : List ℕ) → n < 2 ^ 32 → IsNumeral n ds → IsRow 26 100 (labelled (codes "seed") (seed_line ds) n)
+pub seed-row : (n : ℕ) (ds : List ℕ) → n < 2 ^ 32 → IsNumeral n ds
+    → IsRow 26 100 (labelled (codes "seed") (seed_line ds) n)
 seed-row n ds small is = record {
   label = seed-label n ds is;
   place = seed-place n ds small is;
@@ -187,4 +202,5 @@ digit-no-feed d h = grind (arith, nat_tests)
 
 pub seed-lines : (n : ℕ) (ds : List ℕ) → IsNumeral n ds → lines (seed_line ds ++ 10 ∷ []) ≡ seed_line ds ∷ []
 seed-lines n ds is =
-    line-first (seed_line ds) [] (all-are no_feed digit-no-feed ds is.digits) ∙ ap (λ rest. seed_line ds ∷ rest) lines_none
+    line-first (seed_line ds) [] (all-are no_feed digit-no-feed ds is.digits)
+    ∙ ap (λ rest. seed_line ds ∷ rest) lines_none

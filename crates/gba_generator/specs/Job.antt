@@ -51,4 +51,5 @@ consoles_text out =
 abbrev pub job_text : ℕ → List ℕ → List ℕ
 job_text cycles out =
     codes "gbalink 1\n"
-    ++ (line_of (codes "cycles") (decimal cycles ∷ []) ++ (line_of (codes "delay") (decimal delay ∷ []) ++ (consoles_text out ++ codes "end\n")))
+    ++ (line_of (codes "cycles") (decimal cycles ∷ [])
+    ++ (line_of (codes "delay") (decimal delay ∷ []) ++ (consoles_text out ++ codes "end\n")))

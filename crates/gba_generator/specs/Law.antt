@@ -8,7 +8,8 @@ use Rattle.gba_joblog.specs.LogLaw.{unlined}
 use Rattle.gba_generator.specs.Job.{job, job_text}
 use Rattle.gba_generator.specs.Source.{bios, bios_length, code, source}
 
--- The source of every player is of the assembly language: its code is what the assembler makes of it, and fits the BIOS.
+-- The source of every player is of the assembly language: its code is what the assembler makes of it, and
+-- fits the BIOS.
 pub record IsCode (number player : ℕ) : Type 0 where
   pub says : assembly_of (source number player) ≡ Ok (code number player)
   pub fits : length (code number player) ≤ bios_length

@@ -7,9 +7,9 @@ use Rattle.gba_asm_words.specs.Kinds.{AsmError}
 abbrev pub seed : ℕ → ℕ → ℕ
 seed number player = (number * 2654435761 + player * 40503 + 1) % 2 ^ 32
 
--- A console joins the cable in Multi mode and begins a sequence, each number of which is the one before it times `factor`
--- plus `adder`. It sends the upper half of each: it waits until no transfer runs and all are ready, and then starts one,
--- which a console that isn't the first can't.
+-- A console joins the cable in Multi mode and begins a sequence, each number of which is the one before it times
+-- `factor` plus `adder`. It sends the upper half of each: it waits until no transfer runs and all are ready, and then
+-- starts one, which a console that isn't the first can't.
 abbrev pub program : List ℕ
 program =
     codes "        mov r4, #0x04000000\n"

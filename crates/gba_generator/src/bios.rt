@@ -70,8 +70,8 @@ fn assembled(alloc: Global, number: u32, player: u32) -> Result<Vec<u8>, NoMemor
     }
 }
 
-/// The BIOS image of a player's console, 0 to 3: the source of the generator with the player's seed, assembled, and zeros
-/// up to the end. This project's profile.
+/// The BIOS image of a player's console, 0 to 3: the source of the generator with the player's seed, assembled, and
+/// zeros up to the end. This project's profile.
 pub fn make_bios(alloc: Global, number: u32, player: u32) -> Result<Bios, NoMemory>
     requires { player < 4 }
     ensures image { IfOk result (λ image. image ≡ bios_of number player) }

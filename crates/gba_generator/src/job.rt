@@ -48,8 +48,8 @@ fn console(alloc: Global, out: &str, player: u64) -> Result<JobConsole, AllocErr
     })
 }
 
-/// The job of four consoles with the images that are made of a number, which run for so many cycles of 16,777,216 Hz and
-/// are asked for their words and their states. This project's profile.
+/// The job of four consoles with the images that are made of a number, which run for so many cycles of 16,777,216 Hz
+/// and are asked for their words and their states. This project's profile.
 pub fn make_job(alloc: Global, cycles: u64, out: &str) -> Result<Job, AllocError>
     requires cycles { (1 ≤ cycles) × (cycles ≤ 2 ^ 31) }
     requires out { IsOut out.now }

@@ -1,7 +1,7 @@
 //! What a cartridge keeps its saves in.
 
-/// What a cartridge keeps its saves in (GBATEK, GBA Cart Backup IDs): SRAM of 32,768 bytes, or flash of 65,536 or of 131,072
-/// bytes.
+/// What a cartridge keeps its saves in (GBATEK, GBA Cart Backup IDs): SRAM of 32,768 bytes, or flash of 65,536 or of
+/// 131,072 bytes.
 #[derive(Clone, Copy, Debug, PartialEq, Eq)]
 pub enum Backup {
     Sram,

@@ -196,8 +196,8 @@ impl Save {
     }
 }
 
-/// What one console is made from: its BIOS, its cartridge and the save of the cartridge, where it has them, and what the
-/// cartridge keeps its saves in.
+/// What one console is made from: its BIOS, its cartridge and the save of the cartridge, where it has them, and what
+/// the cartridge keeps its saves in.
 #[derive(Drop)]
 pub struct ConsoleImages {
     pub bios: Bios,

@@ -22,7 +22,8 @@ module _ {Store X Z : Type 0} (gives : List ℕ → ℕ → Result (List ℕ) Re
   goes_on all xs i x y old mid next lt is h goes =
       let here = rw (at_item xs i x lt is) at h in
       rw map-append
-      (leads-more gives whole console_plan (map inputs all) (console x) (map console (drop (i + 1) xs)) (inputs y) old mid next here goes)
+      (leads-more gives whole console_plan (map inputs all) (console x) (map console (drop (i + 1) xs))
+      (inputs y) old mid next here goes)
 
   -- they aren't
   pub stops : (all : List Z) (xs : List X) (i : ℕ) (x : X) (old mid next : Store) (stop : Stop)
@@ -32,7 +33,8 @@ module _ {Store X Z : Type 0} (gives : List ℕ → ℕ → Result (List ℕ) Re
       → GoesTo gives whole old next (Err stop)
   stops all xs i x old mid next stop lt is h goes =
       let here = rw (at_item xs i x lt is) at h in
-      leads-stop gives whole console_plan (map inputs all) (console x) (map console (drop (i + 1) xs)) old mid next stop here goes
+      leads-stop gives whole console_plan (map inputs all) (console x) (map console (drop (i + 1) xs)) old mid next stop
+      here goes
 
   -- no console is left
   pub ends : (all : List Z) (xs : List X) (i : ℕ) (old mid : Store) → length xs ≤ i

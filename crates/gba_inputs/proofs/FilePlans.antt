@@ -17,8 +17,9 @@ use Rattle.gba_inputs.specs.InputsPlan.{ImageForm, accepted, image_plan, judged_
 
 module _ {Store : Type 0} (gives : List ℕ → ℕ → Result (List ℕ) ReadError → Store → Store → Type 0) where
   -- a read by a name, with a report of a name, both of which are that of the file
-  by_name : (most : ℕ) (cause : List ℕ → Cause) (name report text : List ℕ) (old new : Store) (end : Result (List ℕ) Stop)
-      → text ≡ name → report ≡ text → GoesTo gives (file text most (cause report)) old new end
+  by_name : (most : ℕ) (cause : List ℕ → Cause) (name report text : List ℕ) (old new : Store)
+      (end : Result (List ℕ) Stop) → text ≡ name → report ≡ text
+      → GoesTo gives (file text most (cause report)) old new end
       → GoesTo gives (file name most (cause name)) old new end
   by_name most cause name report text old new end is same goes =
       subst (λ (n : List ℕ). GoesTo gives (file n most (cause n)) old new end) is

@@ -19,7 +19,8 @@ filled_from consoles inputs i =
     ++ filled_consoles (map console_value (drop i consoles)) (map inputs_value (drop i inputs))
 
 pub record Filling (old_consoles consoles : List JobConsole) (old_inputs inputs : List Inputs) (i : ℕ) : Type 0 where
-  pub whole : filled_from consoles inputs i ≡ filled_consoles (map console_value old_consoles) (map inputs_value old_inputs)
+  pub whole : filled_from consoles inputs i
+      ≡ filled_consoles (map console_value old_consoles) (map inputs_value old_inputs)
   pub images : map images_of inputs ≡ map images_of old_inputs
   pub long : length consoles ≡ length inputs
 
@@ -53,11 +54,13 @@ filling-more old_consoles consoles old_inputs inputs i c later x kept h lt here 
     let is = at_item inputs i x (omega (arith, h.long)) read in
     let before = map console_value (take i consoles) in
     let after = filled_consoles (map console_value (drop (i + 1) consoles)) (map inputs_value (drop (i + 1) inputs)) in
-    let step : filled_from (slice_set consoles i later) (slice_set inputs i kept) (i + 1) ≡ filled_from consoles inputs i =
+    let step : filled_from (slice_set consoles i later) (slice_set inputs i kept) (i + 1)
+    ≡ filled_from consoles inputs i =
     rw (front, rest, left, map-append)
     (append_assoc before (console_value later ∷ []) after
     ∙ ap (λ v. before ++ v ∷ after) made
-    ∙ ap (λ ys. before ++ ys) (sym (more-filled (console_value c) (inputs_value x) (map console_value (drop (i + 1) consoles))
+    ∙ ap (λ ys. before ++ ys)
+    (sym (more-filled (console_value c) (inputs_value x) (map console_value (drop (i + 1) consoles))
     (map inputs_value (drop (i + 1) inputs))))
     ∙ ap (λ ys. before ++ filled_consoles (map console_value ys) (map inputs_value (x ∷ drop (i + 1) inputs))) (sym cs)
     ∙ ap (λ ys. before ++ filled_consoles (map console_value (drop i consoles)) (map inputs_value ys)) (sym is)) in

@@ -30,12 +30,14 @@ use Rattle.gba_inputs.proofs.SoundInputs.{accepted-is, filled_consoles-sound, in
 
 -- ---- images
 
-pub judged-ok : {X : Type 0} (files : Files) (due : Result X Cause) (x : X) → outcome files (judgement due) ≡ Ok x → due ≡ Ok x
+pub judged-ok : {X : Type 0} (files : Files) (due : Result X Cause) (x : X) → outcome files (judgement due) ≡ Ok x
+    → due ≡ Ok x
 unfolding outcome
 judged-ok files (Ok y) x h = ap (λ v. Ok v) (ok-is y x h)
 judged-ok files (Err cause) x h = absurd cc
 
-pub ok-judged : {X : Type 0} (files : Files) (due : Result X Cause) (x : X) → due ≡ Ok x → outcome files (judgement due) ≡ Ok x
+pub ok-judged : {X : Type 0} (files : Files) (due : Result X Cause) (x : X) → due ≡ Ok x
+    → outcome files (judgement due) ≡ Ok x
 unfolding outcome
 ok-judged files due x h = rw h refl
 
@@ -43,7 +45,8 @@ pub bytes_eq-same : (bytes : List ℕ) → bytes_eq bytes bytes ≡ true
 bytes_eq-same bytes = (bytes_eq-Decides bytes bytes).1 refl
 
 accepted-again : (form : ImageForm) (named : NamedFile) (bytes : List ℕ) (image : DigestedImage)
-    → accepted form named bytes ≡ Ok image → accepted form (record named { digest = Some image.digest }) bytes ≡ Ok image
+    → accepted form named bytes ≡ Ok image
+    → accepted form (record named { digest = Some image.digest }) bytes ≡ Ok image
 accepted-again form named bytes image h =
     let a = accepted-is form named bytes image h in
     let same = bytes_eq-same (sha256 bytes) in
@@ -56,10 +59,12 @@ image-again : (old new : Files) (form : ImageForm) (named : NamedFile) (image : 
     → outcome new (image_plan form (record named { digest = Some image.digest })) ≡ Ok image
 unfolding outcome
 image-again old new form named image kept h =
-    let f = file-ok named.name form.most _ (λ bytes. outcome old (judged_image form named bytes)) (old named.name) image h in
+    let f =
+    file-ok named.name form.most _ (λ bytes. outcome old (judged_image form named bytes)) (old named.name) image h in
     let was = judged-ok old (accepted form named f.0) image f.2 in
     let is = accepted-again form named f.0 image was in
-    file-reads named.name form.most _ (λ bytes. outcome new (judged_image form (record named { digest = Some image.digest }) bytes))
+    file-reads named.name form.most _
+    (λ bytes. outcome new (judged_image form (record named { digest = Some image.digest }) bytes))
     (new named.name) f.0 (record { there = kept ∙ f.1.there; short = f.1.short })
     ∙ ok-judged new (accepted form (record named { digest = Some image.digest }) f.0) image is
 
@@ -79,9 +84,11 @@ any-again old new form (Some named) None image kept h same = absurd cc
 any-again old new form (Some named) (Some later) image kept h same =
     let parts = outcome-parts old (image_plan form named) found image h in
     let is : Some parts.0 ≡ image = ok-is (Some parts.0) image (sym (outcome-done old (Some parts.0)) ∙ parts.2) in
-    let line : unlined_file later ≡ unlined_file (record named { digest = option_map digest_of image }) = some-is _ _ same in
+    let line : unlined_file later ≡ unlined_file (record named { digest = option_map digest_of image }) =
+    some-is _ _ same in
     let stated : unlined_file later ≡ unlined_file (record named { digest = Some parts.0.digest }) =
-    line ∙ ap (λ (i : Option DigestedImage). unlined_file (record named { digest = option_map digest_of i })) (sym is) in
+    line
+    ∙ ap (λ (i : Option DigestedImage). unlined_file (record named { digest = option_map digest_of i })) (sym is) in
     let again = image-unlined new form later (record named { digest = Some parts.0.digest }) stated
     ∙ image-again old new form named parts.0 kept parts.1 in
     outcome-then new (image_plan form later) found parts.0 (Ok image) again
@@ -111,22 +118,27 @@ IsSaid console inputs outs later =
 abbrev pub Has : Files → ConsoleJob → ConsoleInputs → Type 0
 Has files console inputs = outcome files (console_plan console) ≡ Ok inputs
 
-console-again : (old new : Files) (console later : ConsoleJob) (inputs : ConsoleInputs) (outs : PerKind (Option OutLine))
-    → IsConsole console → KeepsImages old new console → Has old console inputs → IsSaid console inputs outs later
-    → Has new later inputs
+console-again : (old new : Files) (console later : ConsoleJob) (inputs : ConsoleInputs)
+    (outs : PerKind (Option OutLine)) → IsConsole console → KeepsImages old new console → Has old console inputs
+    → IsSaid console inputs outs later → Has new later inputs
 console-again old new console later inputs outs sound kept h said =
     let b = outcome-parts old (bios_plan console.bios) (after_bios console) inputs h in
     let c = outcome-parts old (any_cart_plan console.cart) (after_cart console b.0) inputs b.2 in
     let s = outcome-parts old (any_save_plan console.backup console.save) (after_save console b.0 c.0) inputs c.2 in
-    let k = outcome-parts old (any_keys_plan console.changes console.keys) (after_keys console.backup b.0 c.0 s.0) inputs s.2 in
+    let k =
+    outcome-parts old (any_keys_plan console.changes console.keys) (after_keys console.backup b.0 c.0 s.0) inputs s.2 in
     let is : inputs_of console.backup b.0 c.0 s.0 k.0 ≡ inputs =
-    ok-is (inputs_of console.backup b.0 c.0 s.0 k.0) inputs (sym (outcome-done old (inputs_of console.backup b.0 c.0 s.0 k.0)) ∙ k.2) in
+    ok-is (inputs_of console.backup b.0 c.0 s.0 k.0) inputs
+    (sym (outcome-done old (inputs_of console.backup b.0 c.0 s.0 k.0)) ∙ k.2) in
     let S : ConsoleInputs → Type 0 = λ i. IsSaid console i outs later in
     let here : S (inputs_of console.backup b.0 c.0 s.0 k.0) = subst S (sym is) said in
     let bios = bios-again old new console.bios later.bios b.0 kept.bios b.1 (ap (λ (c : ConsoleJob). c.bios) here) in
-    let cart = any-again old new cart_form console.cart later.cart c.0 kept.cart c.1 (ap (λ (c : ConsoleJob). c.cart) here) in
+    let cart =
+    any-again old new cart_form console.cart later.cart c.0 kept.cart c.1 (ap (λ (c : ConsoleJob). c.cart) here) in
     let backup : later.backup ≡ console.backup = ap (λ (c : ConsoleJob). c.backup) here in
-    let saved = any-again old new (save_form console.backup) console.save later.save s.0 kept.save s.1 (ap (λ (c : ConsoleJob). c.save) here) in
+    let saved =
+    any-again old new (save_form console.backup) console.save later.save s.0 kept.save s.1
+    (ap (λ (c : ConsoleJob). c.save) here) in
     let save : outcome new (any_save_plan later.backup later.save) ≡ Ok s.0 =
     subst (λ (k : Backup). outcome new (any_save_plan k later.save) ≡ Ok s.0) (sym backup) saved in
     let changes : later.changes ≡ k.0 = ap (λ (c : ConsoleJob). c.changes) here in
@@ -135,8 +147,8 @@ console-again old new console later inputs outs sound kept h said =
     outcome-then new (bios_plan later.bios) (after_bios later) b.0 (Ok inputs) bios
     (outcome-then new (any_cart_plan later.cart) (after_cart later b.0) c.0 (Ok inputs) cart
     (outcome-then new (any_save_plan later.backup later.save) (after_save later b.0 c.0) s.0 (Ok inputs) save
-    (outcome-then new (any_keys_plan later.changes later.keys) (after_keys later.backup b.0 c.0 s.0) k.0 (Ok inputs) read
-    (outcome-done new (inputs_of later.backup b.0 c.0 s.0 k.0)
+    (outcome-then new (any_keys_plan later.changes later.keys) (after_keys later.backup b.0 c.0 s.0) k.0
+    (Ok inputs) read (outcome-done new (inputs_of later.backup b.0 c.0 s.0 k.0)
     ∙ ap (λ i. Ok i) (ap (λ kind. inputs_of kind b.0 c.0 s.0 k.0) backup ∙ is)))))
 
 -- ---- consoles
@@ -168,14 +180,15 @@ gives-each files [] done [] given = outcome-done files done ∙ ap (λ i. Ok i) 
 gives-each files [] done (i ∷ inputs) given = absurd given
 gives-each files (console ∷ consoles) done [] given = absurd given
 gives-each files (console ∷ consoles) done (i ∷ inputs) given =
-    outcome-then files (console_plan console) (λ y. each console_plan (done ++ y ∷ []) consoles) i (Ok (done ++ i ∷ inputs))
-    given.0
+    outcome-then files (console_plan console) (λ y. each console_plan (done ++ y ∷ []) consoles) i
+    (Ok (done ++ i ∷ inputs)) given.0
     (gives-each files consoles (done ++ i ∷ []) inputs given.1 ∙ ap (λ all. Ok all) (append_assoc done (i ∷ []) inputs))
 
 -- the consoles that a log says of these
 abbrev AreSaid : List ConsoleJob → List ConsoleInputs → List (PerKind (Option OutLine)) → List ConsoleJob → Type 0
 AreSaid consoles inputs outs later =
-    map unlined_console later ≡ map unlined_console (map without_key_file (with_outputs (filled_consoles consoles inputs) outs))
+    map unlined_console later
+    ≡ map unlined_console (map without_key_file (with_outputs (filled_consoles consoles inputs) outs))
 
 head-is : (x y : ConsoleJob) (xs ys : List ConsoleJob) → x ∷ xs ≡ y ∷ ys → x ≡ y
 head-is x y xs ys h = cc
@@ -197,15 +210,16 @@ consoles-again old new (c ∷ consoles) [] (i ∷ inputs) (o ∷ outs) sound lon
 consoles-again old new (c ∷ consoles) (l ∷ later) (i ∷ inputs) (o ∷ outs) sound long kept has said =
     let first = head-is _ _ _ _ said in
     let rest = tail-is _ _ _ _ said in (
-      console-again old new c l i o (All-head IsConsole c consoles sound) (All-head (KeepsImages old new) c consoles kept) has.0 first,
+      console-again old new c l i o (All-head IsConsole c consoles sound)
+          (All-head (KeepsImages old new) c consoles kept) has.0 first,
       consoles-again old new consoles later inputs outs (All-tail IsConsole c consoles sound) (omega arith)
           (All-tail (KeepsImages old new) c consoles kept) has.1 rest,
     )
 
 -- they are asked for these outputs
-consoles-asked : (consoles later : List ConsoleJob) (inputs : List ConsoleInputs) (outs : List (PerKind (Option OutLine)))
-    → length consoles ≡ length inputs → length outs ≡ length consoles → AreSaid consoles inputs outs later
-    → map asked_of later ≡ outs
+consoles-asked : (consoles later : List ConsoleJob) (inputs : List ConsoleInputs)
+    (outs : List (PerKind (Option OutLine))) → length consoles ≡ length inputs → length outs ≡ length consoles
+    → AreSaid consoles inputs outs later → map asked_of later ≡ outs
 unfolding filled_consoles with_outputs
 consoles-asked [] [] inputs [] read long said = refl
 consoles-asked [] [] inputs (o ∷ outs) read long said = absurd (omega (arith, long))
@@ -215,7 +229,8 @@ consoles-asked (c ∷ consoles) later (i ∷ inputs) [] read long said = absurd 
 consoles-asked (c ∷ consoles) [] (i ∷ inputs) (o ∷ outs) read long said = absurd cc
 consoles-asked (c ∷ consoles) (l ∷ later) (i ∷ inputs) (o ∷ outs) read long said =
     let first : l.outs ≡ o = ap (λ (c : ConsoleJob). c.outs) (head-is _ _ _ _ said) in
-    let rest = consoles-asked consoles later inputs outs (omega (arith, read)) (omega (arith, long)) (tail-is _ _ _ _ said) in
+    let rest =
+    consoles-asked consoles later inputs outs (omega (arith, read)) (omega (arith, long)) (tail-is _ _ _ _ said) in
     rw (first, rest) refl
 
 -- and from when on they are on
@@ -230,13 +245,14 @@ consoles-on (c ∷ consoles) later (i ∷ inputs) [] read long said = absurd (om
 consoles-on (c ∷ consoles) [] (i ∷ inputs) (o ∷ outs) read long said = absurd cc
 consoles-on (c ∷ consoles) (l ∷ later) (i ∷ inputs) (o ∷ outs) read long said =
     let first : l.off ≡ c.off = ap (λ (c : ConsoleJob). c.off) (head-is _ _ _ _ said) in
-    let rest = consoles-on consoles later inputs outs (omega (arith, read)) (omega (arith, long)) (tail-is _ _ _ _ said) in
+    let rest =
+    consoles-on consoles later inputs outs (omega (arith, read)) (omega (arith, long)) (tail-is _ _ _ _ said) in
     rw (first, rest) refl
 
 -- and their backups are the same
-consoles-kept : (consoles later : List ConsoleJob) (inputs : List ConsoleInputs) (outs : List (PerKind (Option OutLine)))
-    → length consoles ≡ length inputs → length outs ≡ length consoles → AreSaid consoles inputs outs later
-    → map backup_of later ≡ map backup_of consoles
+consoles-kept : (consoles later : List ConsoleJob) (inputs : List ConsoleInputs)
+    (outs : List (PerKind (Option OutLine))) → length consoles ≡ length inputs → length outs ≡ length consoles
+    → AreSaid consoles inputs outs later → map backup_of later ≡ map backup_of consoles
 unfolding filled_consoles with_outputs
 consoles-kept [] [] inputs outs read long said = refl
 consoles-kept [] (l ∷ later) inputs outs read long said = absurd cc
@@ -245,7 +261,8 @@ consoles-kept (c ∷ consoles) later (i ∷ inputs) [] read long said = absurd (
 consoles-kept (c ∷ consoles) [] (i ∷ inputs) (o ∷ outs) read long said = absurd cc
 consoles-kept (c ∷ consoles) (l ∷ later) (i ∷ inputs) (o ∷ outs) read long said =
     let first : l.backup ≡ c.backup = ap (λ (c : ConsoleJob). c.backup) (head-is _ _ _ _ said) in
-    let rest = consoles-kept consoles later inputs outs (omega (arith, read)) (omega (arith, long)) (tail-is _ _ _ _ said) in
+    let rest =
+    consoles-kept consoles later inputs outs (omega (arith, read)) (omega (arith, long)) (tail-is _ _ _ _ said) in
     rw (first, rest) refl
 
 -- ---- the job of a log is sound
@@ -259,7 +276,8 @@ with_outputs-sound (c ∷ consoles) [] sound right long = absurd (omega arith)
 with_outputs-sound (c ∷ consoles) (o ∷ outs) sound right long =
     let here = All-head IsConsole c consoles sound in
     let asked = All-head AreOutputs o outs right in
-    let rest = with_outputs-sound consoles outs (All-tail IsConsole c consoles sound) (All-tail AreOutputs o outs right) (omega arith) in
+    let rest = with_outputs-sound consoles outs (All-tail IsConsole c consoles sound) (All-tail AreOutputs o outs right)
+    (omega arith) in
     let first : IsConsole (record c { outs = o }) = record {
       bios = here.bios;
       off = here.off;
@@ -306,7 +324,8 @@ consoles-unlined : (player : ℕ) (consoles : List ConsoleJob)
 unfolding consoles_text
 consoles-unlined player [] = refl
 consoles-unlined player (c ∷ consoles) =
-    ap (λ text. text ++ consoles_text (player + 1) (map unlined_console (map without_key_file consoles))) (console-unlined player c)
+    ap (λ text. text ++ consoles_text (player + 1) (map unlined_console (map without_key_file consoles)))
+    (console-unlined player c)
     ∙ ap (λ text. console_text player c ++ text) (consoles-unlined (player + 1) consoles)
 
 -- a digest is stated again
@@ -333,8 +352,8 @@ console-said console later inputs outs said =
     let off : later.off ≡ console.off = ap (λ (c : ConsoleJob). c.off) said in
     rw (bios, cart, save, backup, off) refl
 
-consoles-said : (consoles later : List ConsoleJob) (inputs : List ConsoleInputs) (outs : List (PerKind (Option OutLine)))
-    → AreSaid consoles inputs outs later
+consoles-said : (consoles later : List ConsoleJob) (inputs : List ConsoleInputs)
+    (outs : List (PerKind (Option OutLine))) → AreSaid consoles inputs outs later
     → map unlined_console (map without_key_file (with_outputs (filled_consoles later inputs) outs))
     ≡ map unlined_console (map without_key_file (with_outputs (filled_consoles consoles inputs) outs))
 unfolding filled_consoles with_outputs
@@ -370,7 +389,8 @@ unfolding log_text
 own-text job again inputs outs cycles delays said =
     let now = with_outputs (filled_consoles again.consoles inputs) outs in
     let was = with_outputs (filled_consoles job.consoles inputs) outs in
-    let long : length now ≡ length was = same-long now was (consoles-said job.consoles again.consoles inputs outs said) in
+    let long : length now ≡ length was =
+    same-long now was (consoles-said job.consoles again.consoles inputs outs said) in
     let text : consoles_text 0 (with_outputs (filled_consoles again.consoles inputs) outs)
     ≡ consoles_text 0 (with_outputs (filled_consoles job.consoles inputs) outs) =
     sym (consoles-unlined 0 (with_outputs (filled_consoles again.consoles inputs) outs))

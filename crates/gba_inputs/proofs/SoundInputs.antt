@@ -106,7 +106,8 @@ console-sound console inputs sound h =
     let b = comes-bind (bios_plan console.bios) (after_bios console) inputs h in
     let c = comes-bind (any_cart_plan console.cart) (after_cart console b.0) inputs b.2 in
     let s = comes-bind (any_save_plan console.backup console.save) (after_save console b.0 c.0) inputs c.2 in
-    let k = comes-bind (any_keys_plan console.changes console.keys) (after_keys console.backup b.0 c.0 s.0) inputs s.2 in
+    let k =
+    comes-bind (any_keys_plan console.changes console.keys) (after_keys console.backup b.0 c.0 s.0) inputs s.2 in
     let is = comes-done (inputs_of console.backup b.0 c.0 s.0 k.0) inputs k.2 in
     let bios = image-sound bios_form console.bios b.0 b.1 in
     let cart = any_cart-sound console.cart c.0 c.1 in

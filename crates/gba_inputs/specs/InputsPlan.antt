@@ -83,7 +83,8 @@ any_cart_plan named = any_image_plan cart_form named
 abbrev pub any_save_plan : Backup → Option NamedFile → Plan (Option DigestedImage)
 any_save_plan backup named = any_image_plan (save_form backup) named
 
--- The changes of a console's keys: those that the job says, or those of its key file, which is read, judged and compared.
+-- The changes of a console's keys: those that the job says, or those of its key file, which is read, judged
+-- and compared.
 abbrev pub keys_or_fault : NamedFile → List ℕ → Result (List KeyChange) JobError → Result (List KeyChange) Cause
 keys_or_fault named bytes (Ok changes) = after_digest changes (compared named bytes)
 keys_or_fault named bytes (Err error) = Err (Job named.name error)
@@ -107,7 +108,8 @@ image_of image = image.image
 abbrev pub digest_of : DigestedImage → List ℕ
 digest_of image = image.digest
 
-abbrev pub inputs_of : Backup → DigestedImage → Option DigestedImage → Option DigestedImage → List KeyChange → ConsoleInputs
+abbrev pub inputs_of : Backup → DigestedImage → Option DigestedImage → Option DigestedImage → List KeyChange
+    → ConsoleInputs
 inputs_of backup bios cart save changes = record {
   images = record {
     bios = image_of bios;
@@ -120,7 +122,8 @@ inputs_of backup bios cart save changes = record {
 }
 
 -- a console's inputs, in this order: the BIOS, the cartridge, the save, the changes of the keys
-abbrev pub after_keys : Backup → DigestedImage → Option DigestedImage → Option DigestedImage → List KeyChange → Plan ConsoleInputs
+abbrev pub after_keys : Backup → DigestedImage → Option DigestedImage → Option DigestedImage → List KeyChange
+    → Plan ConsoleInputs
 after_keys backup bios cart save changes = Done (inputs_of backup bios cart save changes)
 
 abbrev pub after_save : ConsoleJob → DigestedImage → Option DigestedImage → Option DigestedImage → Plan ConsoleInputs

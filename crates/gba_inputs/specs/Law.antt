@@ -31,8 +31,9 @@ digests_of images = record {
   save = option_map sha256 images.save;
 }
 
--- The inputs of a console: each image passes its check, and a cartridge and a save are there where the console names
--- them; the save has the bytes of the console's backup; the digests are those of the images; and the key changes are sound.
+-- The inputs of a console: each image passes its check, and a cartridge and a save are there where the console
+-- names them; the save has the bytes of the console's backup; the digests are those of the images; and the key
+-- changes are sound.
 pub record AreInputs (console : ConsoleJob) (inputs : ConsoleInputs) : Type 0 where
   pub bios : Passes bios_fault inputs.images.bios
   pub cart : IfSome inputs.images.cart (Passes cartridge_fault)
@@ -81,10 +82,11 @@ off_of console = console.off
 abbrev pub backup_of : ConsoleJob → Backup
 backup_of console = console.backup
 
--- The log of a run is read as a job of as many cycles, the same delays, consoles that are off as long and keep their saves in the
--- same, and these outputs. Over these files every input of it passes its check and has the digest that the log states, and is the
--- same; and its own log is this log.
-pub record IsReplayed (files : Files) (job : WholeJob) (inputs : List ConsoleInputs) (outs : List (PerKind (Option OutLine))) : Type 0 where
+-- The log of a run is read as a job of as many cycles, the same delays, consoles that are off as long and keep their
+-- saves in the same, and these outputs. Over these files every input of it passes its check and has the digest that the
+-- log states, and is the same; and its own log is this log.
+pub record IsReplayed (files : Files) (job : WholeJob) (inputs : List ConsoleInputs)
+    (outs : List (PerKind (Option OutLine))) : Type 0 where
   pub again : WholeJob
   pub read : job_of (log_text (log_job job inputs outs)) ≡ Ok again
   pub cycles : again.cycles ≡ job.cycles
@@ -98,7 +100,7 @@ pub record IsReplayed (files : Files) (job : WholeJob) (inputs : List ConsoleInp
 -- The files over which the log is run need the images of the job alone: its key files are written in.
 abbrev pub LogsAreReplayed : Type 0
 LogsAreReplayed =
-    (old new : Files) (job : WholeJob) (inputs : List ConsoleInputs) (outs : List (PerKind (Option OutLine))) → IsJob job
-    → length outs ≡ length job.consoles → All AreOutputs outs
+    (old new : Files) (job : WholeJob) (inputs : List ConsoleInputs) (outs : List (PerKind (Option OutLine)))
+    → IsJob job → length outs ≡ length job.consoles → All AreOutputs outs
     → outcome old (inputs_plan job.consoles) ≡ Ok inputs → All (KeepsImages old new) job.consoles
     → IsReplayed new job inputs outs

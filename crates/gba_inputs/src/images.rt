@@ -142,7 +142,8 @@ pub(crate) fn read_any_cartridge<S: Store>(
 ) -> Result<Option<Digested<Cartridge>>, Refusal>
     requires { IfSome (option_map file_value file.now) IsFile }
     ensures { GoesTo S.gives
-        (any_cart_plan (option_map file_value file.now)) store.old store.new (end_of (option_map digested_value) result) }
+        (any_cart_plan (option_map file_value file.now)) store.old store.new
+        (end_of (option_map digested_value) result) }
 {
     match file {
         Some(file) => {

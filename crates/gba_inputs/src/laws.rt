@@ -13,8 +13,8 @@ pub fn filled_sound()
     ensures law { FilledIsSound }
 {}
 
-/// The log of a run says a job that is run again: over files that have the same images it has the same inputs, each with
-/// the digest that the log states, and its own log is this log. The key files aren't needed again.
+/// The log of a run says a job that is run again: over files that have the same images it has the same inputs, each
+/// with the digest that the log states, and its own log is this log. The key files aren't needed again.
 pub fn inputs_again()
     ensures law { LogsAreReplayed }
 {}

@@ -75,8 +75,8 @@ module _ (keeps : (d : Devices) → CyclePasses d) where
             (subst (frames (d.clock + 1)) (sym kept.place)
             (frames-go d.clock b.made.frame_count before begun p step.place step.frames));
         drawn = subst drawn (sym kept.place)
-            (drawn-in (draws_at (place_cycle p)) (ends_frame p) (lines_drawn p) (lines_drawn (place_cycle p)) b.core.lines
-            (drawn_line b.core) step.drawn (lines-go p step.place));
+            (drawn-in (draws_at (place_cycle p)) (ends_frame p) (lines_drawn p) (lines_drawn (place_cycle p))
+            b.core.lines (drawn_line b.core) step.drawn (lines-go p step.place));
       }
 
   pub passes : (cycles : ℕ) (b : Board) → BoardPasses cycles b
@@ -184,7 +184,8 @@ module _ (keeps : (d : Devices) → CyclePasses d) where
       let m = (unheard count b).made in
       let d = c.devices in
       let sounds = device_cycle d in
-      ap (λ lines. record b { core = record (core_cycled c) { lines = lines }; made = made_in_cycle c m }) (same-lines c no_line)
+      ap (λ lines. record b { core = record (core_cycled c) { lines = lines }; made = made_in_cycle c m })
+      (same-lines c no_line)
       ∙ ap (λ (made : Made). record b { core = core_cycled c; made = made })
       (ap (λ (made : Made). with_pair (makes_pair d) (left_sample sounds) (right_sample sounds) made)
       (no-frame (draws_line d) (ends_frame d.place) (concat (lines_with c)) m no_line)

@@ -16,7 +16,8 @@ place-sound p sound = record { line = grind (arith, nat_tests, sound.line); dot 
 pub frames-go : (clock count before begun : ℕ) (p : Position) → IsPosition p
     → clock + cycles_early p + before ≡ 280896 * count + cycles_in p + begun
     → clock + 1 + cycles_early (place_cycle p) + before
-    ≡ 280896 * (if draws_at (place_cycle p) && ends_frame p then count + 1 else count) + cycles_in (place_cycle p) + begun
+    ≡ 280896 * (if draws_at (place_cycle p) && ends_frame p then count + 1 else count)
+    + cycles_in (place_cycle p) + begun
 frames-go clock count before begun p sound same = grind (arith, nat_tests, sound.line, sound.dot)
 
 -- what is early of a frame goes by its cycles alone

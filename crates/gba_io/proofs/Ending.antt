@@ -33,7 +33,8 @@ either-core P false one other a b = b
 module _ (apart : EndsApart) (seats : StaysSeated) where
   put-count : (clock offset value lanes : ℕ) (u : SerialUnit) → (serial_put clock offset value lanes u).count ≡ u.count
   unfolding serial_put
-  put-count clock offset value lanes u = (seats.written clock offset (merged (serial_kept offset u) value lanes) u).count
+  put-count clock offset value lanes u =
+      (seats.written clock offset (merged (serial_kept offset u) value lanes) u).count
 
   put-next : (clock offset value lanes bound : ℕ) (u : SerialUnit) → 1 ≤ u.count → bound ≤ clock + 512
       → bound ≤ next_end u → bound ≤ next_end (serial_put clock offset value lanes u)
@@ -105,11 +106,13 @@ pub apart-kept : (clock end other count : ℕ) (base : Base) → AreApart clock 
     → ((bound : ℕ) → bound ≤ clock + 512 → bound ≤ end → bound ≤ other) → AreApart clock other count base
 apart-kept clock end other count base apart keeps = record {
   past = apart.past;
-  next = let kept = keeps (512 * (count + 1) - 2 ^ 49) (omega (arith, apart.past)) (omega (arith, apart.next)) in omega arith;
+  next = let kept = keeps (512 * (count + 1) - 2 ^ 49) (omega (arith, apart.past)) (omega (arith, apart.next)) in
+      omega arith;
   since = apart.since;
   soon = λ some.
       let before = apart.soon some in
-      let kept = keeps (512 * (count + 1) + base.clock - (512 * base.words + 1024)) (omega (arith, apart.since)) (omega arith) in
+      let kept = keeps (512 * (count + 1) + base.clock - (512 * base.words + 1024)) (omega (arith, apart.since))
+      (omega arith) in
       omega arith;
   recent = apart.recent;
 }
@@ -162,8 +165,8 @@ fits-by true clock run u e ends apart here few =
     (omega (arith, few, last))
 fits-by false clock run u e ends apart here few = here
 
-fits-of : (run : Option Running) (clock : ℕ) (u : SerialUnit) (e : Ended) → AreApart clock (next_end_of run) e.count e.base
-    → AreApart clock (next_end u) e.count e.base → clock < 2 ^ 39
+fits-of : (run : Option Running) (clock : ℕ) (u : SerialUnit) (e : Ended)
+    → AreApart clock (next_end_of run) e.count e.base → AreApart clock (next_end u) e.count e.base → clock < 2 ^ 39
     → Fits clock (ending_of clock run u) e (ended_of clock run u)
 fits-of None clock u e apart here few = here
 fits-of (Some run) clock u e apart here few = fits-by (nat_le run.end clock) clock run u e refl apart here few

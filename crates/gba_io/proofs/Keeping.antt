@@ -21,7 +21,11 @@ unfolding register_written
 register-keeps-time keep offset width value b =
     either-time (is_serial offset) b _ _
     (record { clock = refl; place = refl; lines = refl })
-    (record { clock = keep.clock offset width value b.devices; place = keep.place offset width value b.devices; lines = refl })
+    (record {
+      clock = keep.clock offset width value b.devices;
+      place = keep.place offset width value b.devices;
+      lines = refl;
+    })
 
 pub writes-keep-time : WritesKeep → WritesKeepTime
 unfolding core_written

@@ -42,7 +42,9 @@ unfolding core_read
 rom_read b from address width e = rw (rom-not-io (region_of address) e) refl
 
 pub inner_written : (b : Core) (address : ℕ) (width : Width) (value : ℕ) → is_inner (region_of address) ≡ true
-    → core_written b address width value ≡ record b { memory = store (picture_mode b.devices.picture) b.memory address width value }
+    → core_written b address width value ≡ record b {
+      memory = store (picture_mode b.devices.picture) b.memory address width value;
+    }
 unfolding core_written
 inner_written b address width value e = rw (inner-not-io (region_of address) e) refl
 

@@ -9,14 +9,14 @@ at_reset = record { clock = 0; pairs = 0; frames = 0; words = 0; cycles = 0 }
 abbrev pub begun_at : ℕ → Base → Base
 begun_at clock base = record base { clock = clock }
 
--- of a frame that is whole already after so many of its cycles, all the cycles of the next one: the last line is drawn in
--- cycle 196,894
+-- of a frame that is whole already after so many of its cycles, all the cycles of the next one: the last line is drawn
+-- in cycle 196,894
 abbrev pub early_at : ℕ → ℕ
 early_at cycles = if nat_le 196894 cycles then 280896 else 0
 
--- The most that the lists hold of what is made in the steps that begin below a clock: the pairs, one each 512 cycles, the
--- whole frames, one each 280,896 cycles, and the transfers. Of these two may end before 512 cycles have passed, since the
--- last step before may have begun as many cycles earlier, and each further one takes 512 cycles.
+-- The most that the lists hold of what is made in the steps that begin below a clock: the pairs, one each 512 cycles,
+-- the whole frames, one each 280,896 cycles, and the transfers. Of these two may end before 512 cycles have passed,
+-- since the last step before may have begun as many cycles earlier, and each further one takes 512 cycles.
 abbrev pub pairs_from : Base → ℕ → ℕ
 pairs_from base until = (until + 511) / 512 - base.clock / 512
 

@@ -16,8 +16,8 @@ use Rattle.gba_io.specs.declared.pouring.BoardParts.{BoardParts}
 
 -- A board: its core, which the processor sees as a bus, what it has made, and the transfers that ended.
 
--- a board at reset, from its player number, the number of consoles, the way from player 0 to player 1 and back, a BIOS, a cartridge, a
--- save and what it is kept in
+-- a board at reset, from its player number, the number of consoles, the way from player 0 to player 1 and back, a BIOS,
+-- a cartridge, a save and what it is kept in
 abbrev pub board_at_start : ℕ → ℕ → ℕ → List ℕ → Option (List ℕ) → Option (List ℕ) → Backup → Room → Board
 board_at_start player count round bios cart save backup room = record {
   core = core_at_start player count round bios cart save backup;
@@ -25,8 +25,9 @@ board_at_start player count round bios cart save backup room = record {
   ended = none_ended room;
 }
 
--- What a cycle makes: where HBlank begins a line of the picture, with the last line of the screen a whole frame, and where the
--- new clock is a multiple of 512 a pair of samples, once the queues have taken their bytes and the tone channels have moved.
+-- What a cycle makes: where HBlank begins a line of the picture, with the last line of the screen a whole frame, and
+-- where the new clock is a multiple of 512 a pair of samples, once the queues have taken their bytes and the tone
+-- channels have moved.
 abbrev pub lines_with : Core → List (List ℕ)
 lines_with c = c.lines ++ (drawn_line c ∷ [])
 
@@ -61,12 +62,13 @@ unfoldable pub board_after : ℕ → Board → Board
 board_after zero b = b
 board_after (suc count) b = board_cycle (board_after count b)
 
--- What a board has made since the base is in step with its clock: the pairs, the whole frames, and the lines that are drawn
--- of the present one.
+-- What a board has made since the base is in step with its clock: the pairs, the whole frames, and the lines that are
+-- drawn of the present one.
 pub record IsInStep (b : Board) : Type 0 where
   pub place : IsPosition b.core.devices.place
   pub pairs : b.made.pairs + b.made.base.clock / 512 ≡ b.made.base.pairs + b.core.devices.clock / 512
-  pub frames : b.core.devices.clock + cycles_early b.core.devices.place + (280896 * b.made.base.frames + b.made.base.cycles)
+  pub frames : b.core.devices.clock + cycles_early b.core.devices.place
+      + (280896 * b.made.base.frames + b.made.base.cycles)
       ≡ 280896 * b.made.frame_count + cycles_in b.core.devices.place
       + (b.made.base.clock + early_at b.made.base.cycles)
   pub drawn : length b.core.lines ≡ lines_drawn b.core.devices.place
@@ -133,8 +135,8 @@ board_begun_at clock until b = record b {
 abbrev pub board_from : Base → ℕ → Board → Board
 board_from base until b = record b { made = made_from base until b.made; ended = ended_from base until b.ended }
 
--- The board of these parts beside its memories: it has made so much, and its lists begin here, empty, with room up to a clock. What
--- it keeps of what it makes stays.
+-- The board of these parts beside its memories: it has made so much, and its lists begin here, empty, with room up to a
+-- clock. What it keeps of what it makes stays.
 abbrev pub board_filled : BoardParts → List (List ℕ) → Board → Board
 board_filled parts lines b = record {
   core = core_poured parts.devices parts.serial lines b.core;

@@ -11,8 +11,8 @@ use Rattle.gba_io.specs.Core.{Core}
 use Rattle.gba_io.specs.SerialRegisters.{is_serial, serial_loaded, serial_written_at}
 
 -- The core of a board as a bus (GBATEK, GBA Memory Map): the I/O registers are those of the devices and of the serial
--- unit, and all else is memory, in whose VRAM the sprites' part begins where the picture's mode says. Prices are those of WAITCNT as it was at
--- the start of the step (this project's profile).
+-- unit, and all else is memory, in whose VRAM the sprites' part begins where the picture's mode says. Prices are those
+-- of WAITCNT as it was at the start of the step (this project's profile).
 
 -- where a register stands: its offset from 04000000h
 abbrev pub io_offset : ℕ → ℕ

@@ -27,7 +27,8 @@ after_transfer transfer d = record d {
   interrupts = with_request_if (asks_interrupt transfer) 7 d.interrupts;
 }
 
--- a board after a transfer whose end is at most a clock: the interrupt is requested, and the transfer is counted and kept
+-- a board after a transfer whose end is at most a clock: the interrupt is requested, and the transfer is
+-- counted and kept
 abbrev pub core_ended : ℕ → Core → Core
 core_ended clock c = record c {
   devices = after_transfer (ending clock c.serial) c.devices;
@@ -54,9 +55,10 @@ abbrev pub NextEndFits : Board → Type 0
 NextEndFits b =
     next_end b.core.serial < b.ended.until → b.ended.count < b.ended.base.words + words_from b.ended.base b.ended.until
 
--- So many transfers ended up to a clock, and the next one ends at `end`. The ends are at least 512 cycles apart: those that
--- came took 512 cycles each, but for 2^40 at the most, and the next one takes as many. The same holds of those since the
--- base, where the first may come at once, and the second 512 cycles after a step that began up to 512 cycles before.
+-- So many transfers ended up to a clock, and the next one ends at `end`. The ends are at least 512 cycles apart:
+-- those that came took 512 cycles each, but for 2^40 at the most, and the next one takes as many. The same holds of
+-- those since the base, where the first may come at once, and the second 512 cycles after a step that began up to 512
+-- cycles before.
 pub record AreApart (clock end count : ℕ) (base : Base) : Type 0 where
   pub past : 512 * count ≤ 2 ^ 49 + clock
   pub next : 512 * (count + 1) ≤ 2 ^ 49 + end

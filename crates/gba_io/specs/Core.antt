@@ -19,16 +19,16 @@ use Rattle.gba_numbers.specs.declared.names.MemoryName.TheVariants.{Io, Wram, Iw
 use Rattle.gba_numbers.specs.declared.names.MemoryName.TheVariants as named
 use Rattle.link_node.specs.declared.signal.Incoming.{Incoming}
 
--- The core of a board: the memories, the devices and the serial unit, and the lines that are drawn of the present frame of the
--- picture, each as its bytes.
+-- The core of a board: the memories, the devices and the serial unit, and the lines that are drawn of the present frame
+-- of the picture, each as its bytes.
 pub record Core : Type 0 where
   pub memory : Memories
   pub devices : Devices
   pub serial : SerialUnit
   pub lines : List (List ℕ)
 
--- a core at reset, from its player number, the number of consoles, the way from player 0 to player 1 and back, a BIOS, a cartridge, a
--- save and what it is kept in
+-- a core at reset, from its player number, the number of consoles, the way from player 0 to player 1 and back, a BIOS,
+-- a cartridge, a save and what it is kept in
 abbrev pub core_at_start : ℕ → ℕ → ℕ → List ℕ → Option (List ℕ) → Option (List ℕ) → Backup → Core
 core_at_start player count round bios cart save backup = record {
   memory = at_start bios cart save backup;
@@ -93,8 +93,8 @@ length_named Vram m = 0x18000
 length_named Oam m = 0x400
 length_named named.Backup m = backup_length (backup_of m.backup)
 
--- What a core is made of is replaced, which is no write of a program and leaves the lines that are drawn: bytes of a memory from a
--- place on, every byte of the memories that are written, and what a flash remembers.
+-- What a core is made of is replaced, which is no write of a program and leaves the lines that are drawn: bytes of a
+-- memory from a place on, every byte of the memories that are written, and what a flash remembers.
 abbrev pub core_with_part : MemoryPart → ℕ → List ℕ → Core → Core
 core_with_part part place new b = record b { memory = with_part part place new b.memory }
 

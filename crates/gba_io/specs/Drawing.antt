@@ -3,8 +3,8 @@ use Rattle.gba_ppu_reg.specs.declared.position.Position.{Position}
 use Rattle.gba_screen.specs.Lines.{line_bytes}
 use Rattle.gba_io.specs.Core.{Core}
 
--- The lines of the picture. One is drawn where HBlank begins in it, with the memories and the registers as they are then. The
--- lines 0 to 159 are a frame, which is whole when line 159 is drawn (this project's profile).
+-- The lines of the picture. One is drawn where HBlank begins in it, with the memories and the registers as they are
+-- then. The lines 0 to 159 are a frame, which is whole when line 159 is drawn (this project's profile).
 abbrev pub drawn_line : Core → List ℕ
 drawn_line b = line_bytes b.devices.picture b.memory b.devices.place.line
 
@@ -12,8 +12,8 @@ drawn_line b = line_bytes b.devices.picture b.memory b.devices.place.line
 abbrev pub ends_frame : Position → Bool
 ends_frame p = p.line == 159
 
--- How much of the frame is drawn at a place: at its lines up to 159 those whose HBlank has begun, and none of the next frame
--- once the frame is whole.
+-- How much of the frame is drawn at a place: at its lines up to 159 those whose HBlank has begun, and none of the next
+-- frame once the frame is whole.
 abbrev pub is_whole : Position → Bool
 is_whole p = nat_le 160 p.line || (p.line == 159 && nat_le 1006 p.dot)
 

@@ -4,8 +4,8 @@ use Rattle.gba_io.specs.declared.base.Base.{Base}
 use Rattle.gba_io.specs.declared.made.Room.{Room}
 use Rattle.gba_serial.specs.declared.transfer.Transfer.{Transfer}
 
--- The transfers that ended. They are kept where they are asked for, and counted anyway. `until` is the clock below which
--- the steps begin that there is room for, and `base` is where those that are kept begin.
+-- The transfers that ended. They are kept where they are asked for, and counted anyway. `until` is the clock below
+-- which the steps begin that there is room for, and `base` is where those that are kept begin.
 pub record Ended : Type 0 where
   pub keeps_words : Bool
   pub until : ℕ

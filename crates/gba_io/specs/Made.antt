@@ -4,9 +4,9 @@ use Rattle.gba_io.specs.Base.{at_reset}
 use Rattle.gba_io.specs.declared.base.Base.{Base}
 use Rattle.gba_io.specs.declared.made.Room.{Room}
 
--- What a console makes beside its state: whole frames of the picture, and pairs of samples. Their bytes are kept where they
--- are asked for, and both are counted anyway. `until` is the clock up to which there is room, and `base` is where the bytes
--- that are kept begin.
+-- What a console makes beside its state: whole frames of the picture, and pairs of samples. Their bytes are kept where
+-- they are asked for, and both are counted anyway. `until` is the clock up to which there is room, and `base` is where
+-- the bytes that are kept begin.
 pub record Made : Type 0 where
   pub keeps_frames : Bool
   pub keeps_samples : Bool

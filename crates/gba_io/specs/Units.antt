@@ -4,8 +4,8 @@ use Rattle.gba_devices.specs.State.{after_dma_unit}
 use Rattle.gba_io.specs.Bus.{core_price, core_read, core_written}
 use Rattle.gba_io.specs.Core.{Core}
 
--- A DMA unit (GBATEK, GBA DMA Transfers): it reads at its source and writes at its target, and then its channel moves on.
--- The BIOS reads 0 to it, as it does to an instruction that stands anywhere else.
+-- A DMA unit (GBATEK, GBA DMA Transfers): it reads at its source and writes at its target, and then its channel moves
+-- on. The BIOS reads 0 to it, as it does to an instruction that stands anywhere else.
 abbrev pub outside_bios : ℕ
 outside_bios = 0x4000
 

@@ -1,7 +1,7 @@
 //! Where the lists of what a board makes begin.
 
-/// The clock at which the lists of what a board makes begin, and how much was made by then: at reset, or where they were
-/// emptied last.
+/// The clock at which the lists of what a board makes begin, and how much was made by then: at reset, or where they
+/// were emptied last.
 #[derive(Clone, Copy, Debug, PartialEq, Eq)]
 pub struct Base {
     /// In cycles since reset.

@@ -24,9 +24,9 @@ impl Board {
     ghost use Rattle.gba_io.specs.Board.{HasRoom, IsInStep, base_of, board_after, board_at_start, board_begun_at, board_cycle, board_emptied};
     ghost use Rattle.gba_io.specs.Board.{board_drawn, board_from, core_in_cycle};
 
-    /// A board at reset, at clock 0, of a player below `count`, on a cable of 1 to 4 consoles whose signals take `round`
-    /// cycles, from 1 to 1,024. Its save was checked for its backup; its images are dropped on refusal. The room for what it
-    /// makes in 2^24 cycles and for the transfers that end in them is taken now.
+    /// A board at reset, at clock 0, of a player below `count`, on a cable of 1 to 4 consoles whose signals take
+    /// `round` cycles, from 1 to 1,024. Its save was checked for its backup; its images are dropped on refusal. The
+    /// room for what it makes in 2^24 cycles and for the transfers that end in them is taken now.
     pub fn new(
         alloc: Global,
         player: u32,
@@ -71,8 +71,8 @@ impl Board {
         }
     }
 
-    /// Makes a clock that hasn't come yet the one at which the lists begin of what it makes, and `until` the end of their room,
-    /// at most 2^24 cycles later: up to that clock the console is off.
+    /// Makes a clock that hasn't come yet the one at which the lists begin of what it makes, and `until` the end of
+    /// their room, at most 2^24 cycles later: up to that clock the console is off.
     pub fn begin_at(&mut self, clock: u64, until: u64)
         requires made { self.old.made.base.clock ≤ clock }
         requires ended { self.old.ended.base.clock ≤ clock }
@@ -84,8 +84,9 @@ impl Board {
         self.ended.begin_at(clock, until);
     }
 
-    /// Empties the lists of what it has made and of the transfers that ended, all of which stay counted, and makes `until`
-    /// the end of their room, at most 2^24 cycles on. It takes no memory: the room for as much was taken at the start.
+    /// Empties the lists of what it has made and of the transfers that ended, all of which stay counted, and makes
+    /// `until` the end of their room, at most 2^24 cycles on. It takes no memory: the room for as much was taken
+    /// at the start.
     pub fn forget(&mut self, until: u64)
         requires near { until ≤ self.old.core.devices.clock + 16777216 }
         requires step { IsInStep self.old }
@@ -185,7 +186,8 @@ impl Board {
         requires step { IsInStep self.old }
         requires unheard { self.old.made.keeps_samples ≡ false }
         ensures owed { self.new ≡ board_after (cycles * result) self.old }
-        ensures idle { (steps : ℕ) → steps ≤ result → is_idle (board_after (cycles * steps) self.old).core.devices ≡ is_idle self.old.core.devices }
+        ensures idle { (steps : ℕ) → steps ≤ result
+            → is_idle (board_after (cycles * steps) self.old).core.devices ≡ is_idle self.old.core.devices }
         ensures most { result ≤ most }
     {
         board_passes();
@@ -197,15 +199,16 @@ impl Board {
         steps
     }
 
-    /// Moves by as many of so many steps of so many cycles as nothing happens in but pairs of samples that aren't kept, and
-    /// answers how many.
+    /// Moves by as many of so many steps of so many cycles as nothing happens in but pairs of samples that aren't kept,
+    /// and answers how many.
     #[inline]
     pub fn owe_steps(&mut self, cycles: u32, most: u32) -> u32
         requires some { 1 ≤ cycles }
         requires clock { self.old.core.devices.clock + 1024 < 2 ^ 40 }
         requires step { IsInStep self.old }
         ensures owed { self.new ≡ board_after (cycles * result) self.old }
-        ensures idle { (steps : ℕ) → steps ≤ result → is_idle (board_after (cycles * steps) self.old).core.devices ≡ is_idle self.old.core.devices }
+        ensures idle { (steps : ℕ) → steps ≤ result
+            → is_idle (board_after (cycles * steps) self.old).core.devices ≡ is_idle self.old.core.devices }
         ensures most { result ≤ most }
     {
         board_passes();

@@ -67,7 +67,8 @@ impl Board {
     /// Counts a transfer that ended, and keeps it where it is asked for.
     fn count(&mut self, transfer: Option<Transfer>)
         requires { MatchOption transfer (Unit {0})
-            (λ _. self.old.ended.count < self.old.ended.base.words + words_from self.old.ended.base self.old.ended.until) }
+            (λ _. self.old.ended.count
+            < self.old.ended.base.words + words_from self.old.ended.base self.old.ended.until) }
         ensures { self.new ≡ record self.old { ended = with_transfer transfer self.old.ended } }
     {
         if let Some(transfer) = transfer {
@@ -75,7 +76,8 @@ impl Board {
         }
     }
 
-    /// Takes a due signal, whose clock is below its arrival. A transfer whose end is at or below the arrival ends before.
+    /// Takes a due signal, whose clock is below its arrival. A transfer whose end is at or below the arrival
+    /// ends before.
     pub fn take(&mut self, due: &Incoming)
         requires arrival { due.now.arrival < self.old.ended.until }
         requires until { self.old.ended.until ≤ 2 ^ 39 }

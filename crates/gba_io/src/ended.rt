@@ -89,8 +89,8 @@ impl Ended {
         self.base
     }
 
-    /// Empties the list of them, which begins at this base from then on, and counts as many as had ended by then. There is
-    /// room for all that end in the steps which begin below `until`, at most 2^24 cycles later.
+    /// Empties the list of them, which begins at this base from then on, and counts as many as had ended by then. There
+    /// is room for all that end in the steps which begin below `until`, at most 2^24 cycles later.
     pub(crate) fn begin_from(&mut self, base: Base, until: u64)
         requires near { until ≤ base.clock + 16777216 }
         requires sound { IsBase base }
@@ -102,8 +102,8 @@ impl Ended {
         self.base = base;
     }
 
-    /// Empties the list of them, which begins at this base from then on, where so many have ended. There is room for all
-    /// that end in the steps which begin below `until`, at most 2^24 cycles later.
+    /// Empties the list of them, which begins at this base from then on, where so many have ended. There is room for
+    /// all that end in the steps which begin below `until`, at most 2^24 cycles later.
     pub(crate) fn forget(&mut self, base: Base, until: u64)
         requires near { until ≤ base.clock + 16777216 }
         requires sound { IsBase base }

@@ -16,8 +16,9 @@ pub fn writes_keep_time()
     writes_keep();
 }
 
-/// Cycles leave the memories, move the devices, and make the frames and the pairs of samples that the clock says; those in
-/// which nothing is made only move the devices, and those that draw no line, where samples aren't kept, count the pairs beside.
+/// Cycles leave the memories, move the devices, and make the frames and the pairs of samples that the clock says; those
+/// in which nothing is made only move the devices, and those that draw no line, where samples aren't kept, count the
+/// pairs beside.
 pub fn board_passes()
     ensures all { (cycles : ℕ) (b : Board) → BoardPasses cycles b }
     ensures quiet { QuietBoard }

@@ -1,6 +1,6 @@
 #![tactic(auto)]
-//! The board of a console: its memories, its devices and its serial unit, as the bus of its processor, what it makes, and
-//! what the cable does to it.
+//! The board of a console: its memories, its devices and its serial unit, as the bus of its processor, what it makes,
+//! and what the cable does to it.
 
 mod base;
 mod board;

@@ -9,8 +9,8 @@ use gba_terms::NoMemory;
 use std::alloc::Global;
 use std::marker::Model;
 
-/// What is kept of what a board makes, and the end of its room: `until` is the clock, in cycles since reset, below which the
-/// last step begins, at most 2^24. `Board::forget` moves it on.
+/// What is kept of what a board makes, and the end of its room: `until` is the clock, in cycles since reset, below
+/// which the last step begins, at most 2^24. `Board::forget` moves it on.
 #[derive(Clone, Copy, Debug, PartialEq, Eq)]
 pub struct Room {
     pub until: u64,
@@ -133,8 +133,8 @@ impl Made {
         self.base
     }
 
-    /// Empties what is kept, which begins at this base from then on, and counts as much as was made by then. There is room up
-    /// to `until`, at most 2^24 cycles later.
+    /// Empties what is kept, which begins at this base from then on, and counts as much as was made by then. There is
+    /// room up to `until`, at most 2^24 cycles later.
     pub(crate) fn begin_from(&mut self, base: Base, until: u64)
         requires near { until ≤ base.clock + 16777216 }
         requires sound { IsBase base }
@@ -171,8 +171,8 @@ impl Made {
         self.until = until;
     }
 
-    /// The whole frames, each of 160 lines of 240 colours: 16 bits each, low byte first, of which the lowest five are red,
-    /// the next green and then blue. Empty where they aren't kept.
+    /// The whole frames, each of 160 lines of 240 colours: 16 bits each, low byte first, of which the lowest five are
+    /// red, the next green and then blue. Empty where they aren't kept.
     pub fn frames(&self) -> &[u8]
         ensures { result.now ≡ self.now.frames }
     {

@@ -41,8 +41,8 @@ pub(crate) fn is_calm(devices: &Devices, serial: &Serial) -> bool
     devices.set().is_calm() && !serial.has_news()
 }
 
-/// The memories, the devices and the serial unit of a console, which its processor sees as a bus, and the lines that are drawn
-/// of the present frame. Contracts see the record of the four.
+/// The memories, the devices and the serial unit of a console, which its processor sees as a bus, and the lines that
+/// are drawn of the present frame. Contracts see the record of the four.
 #[derive(Drop)]
 pub struct Core {
     pub(crate) screen: Screen,
@@ -180,7 +180,8 @@ impl Core {
         self.calm = is_calm(&self.devices, &self.serial);
     }
 
-    /// Takes a due signal while the console is off: its sender's mode is known from then on, and the rest of it is lost.
+    /// Takes a due signal while the console is off: its sender's mode is known from then on, and the rest
+    /// of it is lost.
     pub fn learn(&mut self, due: &Incoming)
         ensures { self.new ≡ core_learned due.now self.old }
     {
@@ -214,7 +215,8 @@ impl Core {
     /// Does one DMA unit of the lowest active channel, and answers its cycles. None exactly where no channel is active.
     pub fn dma_unit(&mut self) -> Option<u32>
         ensures cycles { result ≡ option_map (λ unit. unit_cycles unit self.old) (next_unit self.old.devices.channels) }
-        ensures core { self.new ≡ option_map_or (λ unit. core_after_unit unit self.old) (next_unit self.old.devices.channels) self.old }
+        ensures core { self.new
+            ≡ option_map_or (λ unit. core_after_unit unit self.old) (next_unit self.old.devices.channels) self.old }
     {
         match self.devices.set().next_unit() {
             None => None,
@@ -227,7 +229,8 @@ impl Core {
     pub(crate) fn owe(&mut self, cycles: u32) -> bool
         requires few { cycles ≤ 512 }
         requires clock { self.old.devices.clock + cycles < 2 ^ 40 }
-        ensures owed { result ≡ true → (self.new ≡ core_after cycles self.old) × (makes_within cycles self.old.devices ≡ false) }
+        ensures owed { result ≡ true
+            → (self.new ≡ core_after cycles self.old) × (makes_within cycles self.old.devices ≡ false) }
         ensures idle { is_idle self.new.devices ≡ is_idle self.old.devices }
         ensures serial { self.new.serial ≡ self.old.serial }
         ensures left { result ≡ false → self.new ≡ self.old }
@@ -242,22 +245,24 @@ impl Core {
         requires clock { self.old.devices.clock + 1024 < 2 ^ 40 }
         ensures core { self.new ≡ core_after (cycles * result) self.old }
         ensures silent { makes_within (cycles * result) self.old.devices ≡ false }
-        ensures idle { (steps : ℕ) → steps ≤ result → is_idle (after_cycles (cycles * steps) self.old.devices) ≡ is_idle self.old.devices }
+        ensures idle { (steps : ℕ) → steps ≤ result
+            → is_idle (after_cycles (cycles * steps) self.old.devices) ≡ is_idle self.old.devices }
         ensures most { result ≤ most }
     {
         cycles_pass();
         self.devices.owe_steps(cycles, most)
     }
 
-    /// Moves the devices by as many of so many steps of so many cycles as nothing happens in but pairs of samples, and answers
-    /// how many.
+    /// Moves the devices by as many of so many steps of so many cycles as nothing happens in but pairs of samples, and
+    /// answers how many.
     pub(crate) fn owe_unheard(&mut self, cycles: u32, most: u32) -> u32
         requires some { 1 ≤ cycles }
         requires clock { self.old.devices.clock + 1024 < 2 ^ 40 }
         ensures core { self.new ≡ core_after (cycles * result) self.old }
         ensures clock { self.new.devices.clock ≡ self.old.devices.clock + cycles * result }
         ensures lineless { draws_within (cycles * result) self.old.devices ≡ false }
-        ensures idle { (steps : ℕ) → steps ≤ result → is_idle (after_cycles (cycles * steps) self.old.devices) ≡ is_idle self.old.devices }
+        ensures idle { (steps : ℕ) → steps ≤ result
+            → is_idle (after_cycles (cycles * steps) self.old.devices) ≡ is_idle self.old.devices }
         ensures few { cycles * result ≤ 1024 }
         ensures most { result ≤ most }
     {

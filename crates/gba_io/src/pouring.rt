@@ -26,8 +26,8 @@ impl Core {
     ghost use Rattle.gba_mem.specs.Backups.{backup_of, flash_machine as machine_of_flash};
     ghost use Rattle.gba_mem.specs.Replacing.{part_length};
 
-    /// Replaces bytes of a memory from a place on. Where a program's write would be dropped or doubled it is not here, and a flash
-    /// takes the bytes for no command. The lines that are drawn stay as they are.
+    /// Replaces bytes of a memory from a place on. Where a program's write would be dropped or doubled it is not here,
+    /// and a flash takes the bytes for no command. The lines that are drawn stay as they are.
     pub fn set_bytes(&mut self, part: MemoryPart, place: usize, bytes: &[u8])
         requires { place + length bytes.now ≤ part_length part self.old.memory }
         ensures { self.new ≡ core_with_part part place bytes.now self.old }
@@ -35,7 +35,8 @@ impl Core {
         self.screen.set_bytes(part, place, bytes);
     }
 
-    /// Makes every byte of the memories that are written 0, those of the SRAM or the flash too. The lines that are drawn stay.
+    /// Makes every byte of the memories that are written 0, those of the SRAM or the flash too. The lines that are
+    /// drawn stay.
     pub fn clear_memories(&mut self)
         ensures { self.new ≡ core_cleared self.old }
     {
@@ -49,8 +50,8 @@ impl Core {
         self.screen.memory().backup()
     }
 
-    /// What the flash remembers beside its bytes; nothing where there is none. With the flash of 65,536 bytes its bank is 0
-    /// and it awaits none.
+    /// What the flash remembers beside its bytes; nothing where there is none. With the flash of 65,536 bytes its bank
+    /// is 0 and it awaits none.
     pub fn flash_machine(&self) -> Option<FlashMachine>
         ensures value { result ≡ machine_of_flash self.now.memory.backup }
         ensures sound { IfSome result (λ machine. IsSoundMachine (backup_of self.now.memory.backup) machine) }
@@ -94,9 +95,10 @@ impl Board {
     ghost use Rattle.std.specs.Prelude.{◌≡◌, ◌+◌, ◌<◌, ◌≤◌, ◌^◌, length};
     ghost use Rattle.gba_io.specs.Board.{board_poured};
 
-    /// Puts these parts and lines beside the memories, and makes the counts those of the parts. The lists of what was made and of
-    /// the transfers that ended begin here, empty, and `until` is the end of their room, at most 2^24 cycles on. Which lists are
-    /// kept stays. It takes no memory. The lines are those of the present frame from the top down.
+    /// Puts these parts and lines beside the memories, and makes the counts those of the parts. The lists of what
+    /// was made and of the transfers that ended begin here, empty, and `until` is the end of their room, at most
+    /// 2^24 cycles on. Which lists are kept stays. It takes no memory. The lines are those of the present frame from
+    /// the top down.
     pub fn pour(&mut self, parts: BoardParts, lines: &[[u8; 480]], until: u64)
         requires clock { parts.devices.clock ≤ 2 ^ 39 + 511 }
         requires frames { parts.counts.frames < 2 ^ 40 }

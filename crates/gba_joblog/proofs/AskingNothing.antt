@@ -11,7 +11,8 @@ use Rattle.gba_joblog.proofs.EachKind.{all-kinds}
 
 -- the consoles that are asked for nothing by now, and those that are left once they will be
 abbrev pub unasked_from : List JobConsole → ℕ → List ConsoleJob
-unasked_from consoles i = map console_value (take i consoles) ++ map console_unasked (map console_value (drop i consoles))
+unasked_from consoles i =
+    map console_value (take i consoles) ++ map console_unasked (map console_value (drop i consoles))
 
 -- a sound console is sound without its outputs, and so is a job
 console-sound : (console : ConsoleJob) → IsConsole console → IsConsole (console_unasked console)

@@ -82,7 +82,8 @@ delays-sound every links players range all =
     let delay = delay_of every links players in
     record {
       table = table-again delay;
-      within = λ s r from to. rw (hop-table delay s r from to) (delay-range every links players (pair_of s r) range all);
+      within =
+          λ s r from to. rw (hop-table delay s r from to) (delay-range every links players (pair_of s r) range all);
       apart = λ pair from to no. hop-table delay pair.sender pair.receiver from to ∙ rw no refl;
     }
 
@@ -100,7 +101,9 @@ links_in players delays pairs = flat_map (link_in players delays) pairs
 again-two : (d : Delays) → AreJobDelays 2 d → delays_of usual_delay (links_in 2 d all_pairs) 2 ≡ d
 unfolding delays_of table_of
 again-two d are =
-    let none = λ (s r : ℕ) (from : s < 4) (to : r < 4) (no : is_joined 2 (pair_of s r) ≡ false). are.apart (pair_of s r) from to no in
+    let none =
+    λ (s r : ℕ) (from : s < 4) (to : r < 4) (no : is_joined 2 (pair_of s r) ≡ false). are.apart
+    (pair_of s r) from to no in
     let all : delays_of usual_delay (links_in 2 d all_pairs) 2 ≡ table_of (λ pair. hop_of d pair.sender pair.receiver) =
     rw (
       none 0 0 (lit< tt) (lit< tt) refl,
@@ -123,7 +126,9 @@ again-two d are =
 again-three : (d : Delays) → AreJobDelays 3 d → delays_of usual_delay (links_in 3 d all_pairs) 3 ≡ d
 unfolding delays_of table_of
 again-three d are =
-    let none = λ (s r : ℕ) (from : s < 4) (to : r < 4) (no : is_joined 3 (pair_of s r) ≡ false). are.apart (pair_of s r) from to no in
+    let none =
+    λ (s r : ℕ) (from : s < 4) (to : r < 4) (no : is_joined 3 (pair_of s r) ≡ false). are.apart
+    (pair_of s r) from to no in
     let all : delays_of usual_delay (links_in 3 d all_pairs) 3 ≡ table_of (λ pair. hop_of d pair.sender pair.receiver) =
     rw (
       none 0 0 (lit< tt) (lit< tt) refl,
@@ -142,7 +147,9 @@ again-three d are =
 again-four : (d : Delays) → AreJobDelays 4 d → delays_of usual_delay (links_in 4 d all_pairs) 4 ≡ d
 unfolding delays_of table_of
 again-four d are =
-    let none = λ (s r : ℕ) (from : s < 4) (to : r < 4) (no : is_joined 4 (pair_of s r) ≡ false). are.apart (pair_of s r) from to no in
+    let none =
+    λ (s r : ℕ) (from : s < 4) (to : r < 4) (no : is_joined 4 (pair_of s r) ≡ false). are.apart
+    (pair_of s r) from to no in
     let all : delays_of usual_delay (links_in 4 d all_pairs) 4 ≡ table_of (λ pair. hop_of d pair.sender pair.receiver) =
     rw (
       none 0 0 (lit< tt) (lit< tt) refl,

@@ -80,7 +80,8 @@ cycles-says : (version : JobVersion) (t : ℕ) → 1 ≤ t → t ≤ most_cycles
 unfolding keyword_of refusal_at arguments
 cycles-says version t low high small = let is = number-again 1 (most_cycles version) t [] low high small in rw is refl
 
-cycles-plus : (n : ℕ) (version : JobVersion) (t : ℕ) → plus_statement n (Cycles t) (versioned version) ≡ head (timed version t)
+cycles-plus : (n : ℕ) (version : JobVersion) (t : ℕ)
+    → plus_statement n (Cycles t) (versioned version) ≡ head (timed version t)
 unfolding plus_statement
 cycles-plus n version t = refl
 
@@ -126,14 +127,16 @@ unfolding plus_statement
 opening-plus n top = refl
 
 next-says : (top : Top) (whole : List ConsoleJob) (last : ConsoleJob) → length whole + 1 ≤ 3
-    → words_say (inside top whole (as_draft last)) (codes "console" ∷ decimal (length whole + 1) ∷ []) ≡ Ok (Some (Console (length whole + 1)))
+    → words_say (inside top whole (as_draft last)) (codes "console" ∷ decimal (length whole + 1) ∷ [])
+    ≡ Ok (Some (Console (length whole + 1)))
 unfolding keyword_of refusal_at arguments
 next-says top whole last few =
     let is = player-again (length whole + 1) [] few in
     rw is refl
 
 next-plus : (n : ℕ) (top : Top) (player : ℕ) (whole : List ConsoleJob) (last : ConsoleJob)
-    → plus_statement n (Console player) (inside top whole (as_draft last)) ≡ inside top (whole ++ last ∷ []) silent_console
+    → plus_statement n (Console player) (inside top whole (as_draft last))
+    ≡ inside top (whole ++ last ∷ []) silent_console
 unfolding plus_statement
 next-plus n top player whole last = rw said-again refl
 
@@ -145,7 +148,8 @@ unfolding console_text
 console_text-is player console = refl
 
 -- the consoles after the first ones, which are read but for their lines and key files
-record ConsolesRead (n : ℕ) (top : Top) (whole : List ConsoleJob) (last : ConsoleJob) (consoles : List ConsoleJob) : Type 0 where
+record ConsolesRead (n : ℕ) (top : Top) (whole : List ConsoleJob) (last : ConsoleJob)
+    (consoles : List ConsoleJob) : Type 0 where
   after : ℕ
   before : List ConsoleJob
   latest : ConsoleJob
@@ -167,15 +171,18 @@ consoles-read n top whole last [] sound can few = record {
 }
 consoles-read n top whole last (console ∷ consoles) sound can few =
     let player = length whole + 1 in
-    let opened = line-reads n (inside top whole (as_draft last)) (codes "console") (decimal player ∷ []) (Console player)
+    let opened =
+    line-reads n (inside top whole (as_draft last)) (codes "console") (decimal player ∷ []) (Console player)
     (console-line player (omega arith)) (next-says top whole last (omega arith)) in
     let start = rw (next-plus (n + 1) top player whole last) at opened in
     let body = body-read (n + 1) top (whole ++ last ∷ []) console (All-head IsConsole console consoles sound)
     (All-head (CanStand top.version) console consoles can) in
     let long : length (whole ++ last ∷ []) ≡ length whole + 1 = length-append whole (last ∷ []) in
     let rest = consoles-read body.after top (whole ++ last ∷ []) body.last consoles
-    (All-tail IsConsole console consoles sound) (All-tail (CanStand top.version) console consoles can) (omega (arith, long)) in
-    let P : ℕ → Type 0 = λ k. Reads body.after (inside top (whole ++ last ∷ []) (as_draft body.last)) (consoles_text (k + 1) consoles)
+    (All-tail IsConsole console consoles sound) (All-tail (CanStand top.version) console consoles can)
+    (omega (arith, long)) in
+    let P : ℕ → Type 0 =
+    λ k. Reads body.after (inside top (whole ++ last ∷ []) (as_draft body.last)) (consoles_text (k + 1) consoles)
     rest.after (inside top rest.before (as_draft rest.latest)) in
     let reads : P (length whole + 1) = subst P long rest.reads in
     record {
@@ -184,10 +191,13 @@ consoles-read n top whole last (console ∷ consoles) sound can few =
       latest = rest.latest;
       same = rest.same ∙ ap (λ front. front ++ map unlined_console (map without_key_file consoles))
           (map-append unlined_console (whole ++ last ∷ []) (body.last ∷ []))
-          ∙ append_assoc (map unlined_console (whole ++ last ∷ [])) (unlined_console body.last ∷ []) (map unlined_console (map without_key_file consoles))
-          ∙ ap (λ c. map unlined_console (whole ++ last ∷ []) ++ c ∷ map unlined_console (map without_key_file consoles)) body.same;
+          ∙ append_assoc (map unlined_console (whole ++ last ∷ [])) (unlined_console body.last ∷ [])
+          (map unlined_console (map without_key_file consoles))
+          ∙ ap (λ c. map unlined_console (whole ++ last ∷ []) ++ c
+          ∷ map unlined_console (map without_key_file consoles)) body.same;
       reads = reads-then _ _ _ _ _ _ (console_text player console) _
-          (rw console_text-is (reads-then _ _ _ _ _ _ (line_of (codes "console") (decimal player ∷ [])) _ start body.reads))
+          (rw console_text-is
+          (reads-then _ _ _ _ _ _ (line_of (codes "console") (decimal player ∷ [])) _ start body.reads))
           reads;
     }
 
@@ -205,7 +215,8 @@ all-read : (n : ℕ) (top : Top) (consoles : List ConsoleJob) → All IsConsole 
 unfolding consoles_text
 all-read n top [] sound can some few = absurd (omega arith)
 all-read n top (console ∷ consoles) sound can some few =
-    let opened = line-reads n (head top) (codes "console") (decimal 0 ∷ []) (Console 0) (console-line 0 (omega arith)) (opening-says top) in
+    let opened = line-reads n (head top) (codes "console") (decimal 0 ∷ []) (Console 0) (console-line 0 (omega arith))
+    (opening-says top) in
     let start = rw (opening-plus (n + 1) top) at opened in
     let body = body-read (n + 1) top [] console (All-head IsConsole console consoles sound)
     (All-head (CanStand top.version) console consoles can) in
@@ -224,7 +235,8 @@ all-read n top (console ∷ consoles) sound can some few =
 -- ---- the last line
 
 end-line : IsLine (codes "end") []
-end-line = record { keyword = record { some = omega arith; bytes = refl }; words = are_none; plain = refl; short = lit≤ tt }
+end-line =
+    record { keyword = record { some = omega arith; bytes = refl }; words = are_none; plain = refl; short = lit≤ tt }
 
 end-says : (top : Top) (whole : List ConsoleJob) (last : ConsoleJob)
     → words_say (inside top whole (as_draft last)) (codes "end" ∷ []) ≡ Ok (Some End)
@@ -270,7 +282,9 @@ rest-read : (n : ℕ) (top : Top) (consoles : List ConsoleJob) → All IsConsole
     → All (CanStand top.version) consoles → 1 ≤ length consoles → length consoles ≤ 4 → RestRead n top consoles
 rest-read n top consoles sound can some few =
     let all = all-read n top consoles sound can some few in
-    let last = rw (end-plus (all.after + 1) top all.before all.latest) at (line-reads all.after (inside top all.before (as_draft all.latest))
+    let last =
+    rw (end-plus (all.after + 1) top all.before all.latest)
+    at (line-reads all.after (inside top all.before (as_draft all.latest))
     (codes "end") [] End end-line (end-says top all.before all.latest)) in
     record {
       after = all.after + 1;
@@ -332,7 +346,9 @@ job-again job sound =
     let cycles = cycles-read Two t sound.some_cycles sound.few_cycles (omega (arith, sound.few_cycles)) in
     let cable = cable-read 2 t n job.delays sound.some_consoles sound.few_consoles sound.delays.within in
     let top = linked t (links_in (players_for n) job.delays all_pairs) in
-    let rest = rest-read cable.after top job.consoles sound.each (λ i d lt. record { off = λ some. refl; backup = λ some. refl }) sound.some_consoles sound.few_consoles in
+    let rest =
+    rest-read cable.after top job.consoles sound.each (λ i d lt. record { off = λ some. refl; backup = λ some. refl })
+    sound.some_consoles sound.few_consoles in
     let reads : Reads 0 nothing_said (log_text job) rest.after (ended top rest.whole) =
     reads-then _ _ _ _ _ _ (line_of (codes "gbalink") (codes "2" ∷ [])) _ second-read
     (reads-then _ _ _ _ _ _ (line_of (codes "cycles") (decimal t ∷ [])) _ cycles
@@ -369,10 +385,13 @@ old-again t q consoles low high least most sound old some few =
     let rest = rest-read 3 top consoles sound can some few in
     let reads : Reads 0 nothing_said (old_text t q consoles) rest.after (ended top rest.whole) =
     reads-then _ _ _ _ _ _ (line_of (codes "gbalink") (codes "1" ∷ [])) _ first-read
-    (reads-then _ _ _ _ _ _ (line_of (codes "cycles") (decimal t ∷ [])) _ (cycles-read One t low high (omega (arith, high)))
+    (reads-then _ _ _ _ _ _ (line_of (codes "cycles") (decimal t ∷ [])) _
+    (cycles-read One t low high (omega (arith, high)))
     (reads-then _ _ _ _ _ _ (line_of (codes "delay") (decimal q ∷ [])) _ (delay-read t q least most) rest.reads)) in
     record {
       again = said top rest.whole;
-      read = text-again (old_text t q consoles) rest.after top rest.whole (old-short t q consoles high most few sound) reads;
+      read =
+          text-again (old_text t q consoles) rest.after top rest.whole
+          (old-short t q consoles high most few sound) reads;
       same = same-said top rest.whole consoles (delays_of q [] (players_for (length consoles))) rest.same refl;
     }

@@ -31,7 +31,12 @@ digest-short (Some digest) is =
 
 number-short : (front : List ℕ) (n : ℕ) → length front ≤ 8 → n < 2 ^ 64 → length (line_of front (decimal n ∷ [])) ≤ 30
 number-short front n short small =
-    omega (arith, length-append front (32 ∷ (decimal n ++ codes "\n")), length-append (decimal n) (codes "\n"), decimal-short n small)
+    omega (
+      arith,
+      length-append front (32 ∷ (decimal n ++ codes "\n")),
+      length-append (decimal n) (codes "\n"),
+      decimal-short n small,
+    )
 
 file-short : (front : List ℕ) (file : NamedFile) → length front ≤ 8 → IsFile file → length (file_text front file) ≤ 282
 file-short front file short is =
@@ -75,7 +80,8 @@ asked-short name (Some asked) short is =
     omega (arith, length-append name (after_words (digest_words asked.digest)), digest-short asked.digest is)
 
 out-text_short : (console : ConsoleJob) (out : OutKind) → IsConsole console → length (out_text console out) ≤ 84
-out-text_short console out sound = asked-short (out_name out) (output_of console out) (out-short out) (sound.lines.outs out)
+out-text_short console out sound =
+    asked-short (out_name out) (output_of console out) (out-short out) (sound.lines.outs out)
 
 kinds-short : (console : ConsoleJob) (kinds : List OutKind) → IsConsole console
     → length (flat_map (out_text console) kinds) ≤ 84 * length kinds

@@ -22,7 +22,8 @@ use Rattle.gba_joblog.specs.declared.draft.Place.TheVariants.{Head, Inside}
 use Rattle.gba_joblog.proofs.Spelling.{IsLine, IsWord, are_more, are_none, is_said-line, line_of-spaced, lines-first, spaced, text-line, words-line}
 use Rattle.gba_joblog.proofs.SpelledValues.{AreWords-digest, IsWord-decimal, decimal-short, digits-long}
 
--- a piece of whole lines, which stand after so many others, leads from what was said to what is said after so many lines
+-- a piece of whole lines, which stand after so many others, leads from what was said to what is said after
+-- so many lines
 pub record Reads (n : ℕ) (d : Draft) (piece : List ℕ) (m : ℕ) (e : Draft) : Type 0 where
   pub goes : (rest : List ℕ) (f : Draft) → Leads jobs m e (lines rest) f → Leads jobs n d (lines (piece ++ rest)) f
 
@@ -41,7 +42,8 @@ unfolding said_with line_says
 line-says n d front ws s is says =
     let said = is_said-line front ws is in
     let all = words-line front ws is.keyword is.words in
-    ap (λ a. (a >>= words_say_if d (words (front ++ spaced ws))) >>= (λ statement. Ok (plus_statement_if n d statement)))
+    ap (λ a. (a >>= words_say_if d (words (front ++ spaced ws)))
+    >>= (λ statement. Ok (plus_statement_if n d statement)))
     said
     ∙ ap (λ ws. words_say d ws >>= (λ statement. Ok (plus_statement_if n d statement))) all
     ∙ ap (λ a. a >>= (λ statement. Ok (plus_statement_if n d statement))) says
@@ -70,7 +72,8 @@ number-line front n is plain short small = record {
   keyword = is;
   words = are_more (decimal n) [] (IsWord-decimal n small) are_none;
   plain = plain;
-  short = omega (arith, length-append front (32 ∷ (decimal n ++ [])), length-append (decimal n) [], decimal-short n small);
+  short =
+      omega (arith, length-append front (32 ∷ (decimal n ++ [])), length-append (decimal n) [], decimal-short n small);
 }
 
 stated-short : (stated : Option (List ℕ)) → IfSome stated IsDigest → length (spaced (digest_words stated)) ≤ 72

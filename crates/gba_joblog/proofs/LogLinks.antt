@@ -109,12 +109,16 @@ link-reads n t before players delays pair few are free = by_test (is_joined play
   link = link_of pair.sender pair.receiver delay
 
   by_test : (b : Bool) → is_joined players pair ≡ b
-      → LinkReads n t before (cond b (line_of (codes "link") (decimal pair.sender ∷ decimal pair.receiver ∷ decimal delay ∷ [])) [])
+      → LinkReads n t before
+      (cond b (line_of (codes "link") (decimal pair.sender ∷ decimal pair.receiver ∷ decimal delay ∷ [])) [])
       (cond b (link ∷ []) [])
   by_test true joined =
       let is = joined-pair players delays pair few are joined in
-      let line = line-reads n (head (linked t before)) (codes "link") (decimal pair.sender ∷ decimal pair.receiver ∷ decimal delay ∷ [])
-      (Link link) (link-line pair.sender pair.receiver delay is) (link-says t before pair.sender pair.receiver delay is free) in
+      let line =
+      line-reads n (head (linked t before)) (codes "link")
+      (decimal pair.sender ∷ decimal pair.receiver ∷ decimal delay ∷ [])
+      (Link link) (link-line pair.sender pair.receiver delay is)
+      (link-says t before pair.sender pair.receiver delay is free) in
       record { after = n + 1; reads = rw (link-plus (n + 1) t before link) at line }
   by_test false joined =
       record { after = n; reads = rw (append-nil before) (reads-nothing n (head (linked t before))) }
@@ -126,7 +130,8 @@ are_free players delays before (pair ∷ pairs) =
     not (is_some (link_for pair before)) && are_free players delays (before ++ link_in players delays pair) pairs
 
 -- the lines of these pairs
-pub record LinksRead (n t : ℕ) (before : List CableLink) (players : ℕ) (delays : Delays) (pairs : List Pair) : Type 0 where
+pub record LinksRead (n t : ℕ) (before : List CableLink) (players : ℕ) (delays : Delays)
+    (pairs : List Pair) : Type 0 where
   pub after : ℕ
   pub reads : Reads n (head (linked t before)) (flat_map (link_text players delays) pairs) after
       (head (linked t (before ++ links_in players delays pairs)))

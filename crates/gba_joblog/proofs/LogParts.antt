@@ -38,7 +38,8 @@ use Rattle.gba_joblog.proofs.Spelling.{IsLine, IsWord, are_more, are_none, space
 use Rattle.gba_joblog.proofs.SpelledValues.{IsWord-backup, IsWord-decimal, IsWord-keys, IsWord-name, IsWord-out, backup-again, backup-short, decimal-short, digest-again, keys-again, name-again, number-again, out-again, out-short}
 
 -- a console as far as its lines are read
-abbrev pub part : Option NamedFile → Option NamedFile → Option NamedFile → Option Backup → ℕ → List KeyChange → PerKind (Option OutLine) → DraftConsole
+abbrev pub part : Option NamedFile → Option NamedFile → Option NamedFile → Option Backup → ℕ → List KeyChange
+    → PerKind (Option OutLine) → DraftConsole
 part bios cart save backup off changes outs = record {
   bios = bios;
   cart = cart;
@@ -79,8 +80,8 @@ file_word-short file.Cart = lit≤ tt
 file_word-short file.Save = lit≤ tt
 file_word-short file.Keys = lit≤ tt
 
-file-says : (top : Top) (whole : List ConsoleJob) (last : DraftConsole) (f : FileKind) (name : List ℕ) (stated : Option (List ℕ))
-    → file_refusal f last ≡ None → is_name name ≡ true → IfSome stated IsDigest
+file-says : (top : Top) (whole : List ConsoleJob) (last : DraftConsole) (f : FileKind) (name : List ℕ)
+    (stated : Option (List ℕ)) → file_refusal f last ≡ None → is_name name ≡ true → IfSome stated IsDigest
     → words_say (inside top whole last) (file_word f ∷ name ∷ digest_words stated) ≡ Ok (Some (File f name stated))
 unfolding keyword_of refusal_at arguments
 file-says top whole last file.Bios name stated place named right =
@@ -105,18 +106,20 @@ abbrev pub put_file : FileKind → Option NamedFile → DraftConsole → DraftCo
 put_file f None last = last
 put_file f (Some named) last = with_file f named last
 
-file-plus : (n : ℕ) (top : Top) (whole : List ConsoleJob) (last : DraftConsole) (f : FileKind) (name : List ℕ) (stated : Option (List ℕ))
-    → plus_statement n (File f name stated) (inside top whole last)
+file-plus : (n : ℕ) (top : Top) (whole : List ConsoleJob) (last : DraftConsole) (f : FileKind) (name : List ℕ)
+    (stated : Option (List ℕ)) → plus_statement n (File f name stated) (inside top whole last)
     ≡ inside top whole (with_file f (named_file name stated n) last)
 unfolding plus_statement
 file-plus n top whole last f name stated = refl
 
 -- the line of a file that is named: it is found again, but for its line
-record NamedReads (n : ℕ) (top : Top) (whole : List ConsoleJob) (last : DraftConsole) (f : FileKind) (named : NamedFile) : Type 0 where
+record NamedReads (n : ℕ) (top : Top) (whole : List ConsoleJob) (last : DraftConsole) (f : FileKind)
+    (named : NamedFile) : Type 0 where
   after : ℕ
   found : NamedFile
   same : unlined_file found ≡ unlined_file named
-  reads : Reads n (inside top whole last) (file_text (file_word f) named) after (inside top whole (with_file f found last))
+  reads : Reads n (inside top whole last) (file_text (file_word f) named) after
+      (inside top whole (with_file f found last))
 
 named-reads : (n : ℕ) (top : Top) (whole : List ConsoleJob) (last : DraftConsole) (f : FileKind) (named : NamedFile)
     → file_refusal f last ≡ None → IsFile named → NamedReads n top whole last f named
@@ -135,14 +138,16 @@ named-reads n top whole last f named place sound =
     }
 
 -- the line of a file that may be named
-record FileReads (n : ℕ) (top : Top) (whole : List ConsoleJob) (last : DraftConsole) (f : FileKind) (named : Option NamedFile) : Type 0 where
+record FileReads (n : ℕ) (top : Top) (whole : List ConsoleJob) (last : DraftConsole) (f : FileKind)
+    (named : Option NamedFile) : Type 0 where
   after : ℕ
   found : Option NamedFile
   same : option_map unlined_file found ≡ option_map unlined_file named
-  reads : Reads n (inside top whole last) (any_file_text (file_word f) named) after (inside top whole (put_file f found last))
+  reads : Reads n (inside top whole last) (any_file_text (file_word f) named) after
+      (inside top whole (put_file f found last))
 
-file-reads : (n : ℕ) (top : Top) (whole : List ConsoleJob) (last : DraftConsole) (f : FileKind) (named : Option NamedFile)
-    → file_refusal f last ≡ None → IfSome named IsFile → FileReads n top whole last f named
+file-reads : (n : ℕ) (top : Top) (whole : List ConsoleJob) (last : DraftConsole) (f : FileKind)
+    (named : Option NamedFile) → file_refusal f last ≡ None → IfSome named IsFile → FileReads n top whole last f named
 file-reads n top whole last f None place sound = record {
   after = n;
   found = None;
@@ -158,11 +163,13 @@ file-reads n top whole last f (Some named) place sound =
       reads = line.reads;
     }
 
-put-cart : (a found : Option NamedFile) → put_file file.Cart found (part a None None None 0 [] no_outs) ≡ part a found None None 0 [] no_outs
+put-cart : (a found : Option NamedFile)
+    → put_file file.Cart found (part a None None None 0 [] no_outs) ≡ part a found None None 0 [] no_outs
 put-cart a None = refl
 put-cart a (Some named) = refl
 
-put-save : (a b found : Option NamedFile) → put_file file.Save found (part a b None None 0 [] no_outs) ≡ part a b found None 0 [] no_outs
+put-save : (a b found : Option NamedFile)
+    → put_file file.Save found (part a b None None 0 [] no_outs) ≡ part a b found None 0 [] no_outs
 put-save a b None = refl
 put-save a b (Some named) = refl
 
@@ -183,8 +190,12 @@ pub files-read : (n : ℕ) (top : Top) (whole : List ConsoleJob) (console : Cons
 files-read n top whole console sound =
     let bios = named-reads n top whole (part None None None None 0 [] no_outs) file.Bios console.bios refl sound.bios in
     let image = Some bios.found in
-    let cart = file-reads bios.after top whole (part image None None None 0 [] no_outs) file.Cart console.cart refl sound.lines.cart in
-    let save = file-reads cart.after top whole (part image cart.found None None 0 [] no_outs) file.Save console.save refl sound.lines.save in
+    let cart =
+    file-reads bios.after top whole (part image None None None 0 [] no_outs) file.Cart console.cart refl
+    sound.lines.cart in
+    let save =
+    file-reads cart.after top whole (part image cart.found None None 0 [] no_outs) file.Save console.save refl
+    sound.lines.save in
     let b = rw (put-cart image cart.found) at cart.reads in
     let c = rw (put-save image cart.found save.found) at save.reads in
     record {
@@ -239,7 +250,8 @@ backup-line backup = record {
 }
 
 -- the line of what keeps the saves, where there is one
-pub record BackupRead (n : ℕ) (top : Top) (whole : List ConsoleJob) (bios cart save : Option NamedFile) (backup : Backup)
+pub record BackupRead (n : ℕ) (top : Top) (whole : List ConsoleJob) (bios cart save : Option NamedFile)
+    (backup : Backup)
     : Type 0 where
   pub after : ℕ
   pub reads : Reads n (inside top whole (part bios cart save None 0 [] no_outs)) (backup_text backup) after
@@ -247,7 +259,8 @@ pub record BackupRead (n : ℕ) (top : Top) (whole : List ConsoleJob) (bios cart
 
 said-read : (n : ℕ) (top : Top) (whole : List ConsoleJob) (bios cart save : Option NamedFile) (backup : Backup)
     → is_two top.version ≡ true
-    → Reads n (inside top whole (part bios cart save None 0 [] no_outs)) (line_of (codes "backup") (backup_word backup ∷ []))
+    → Reads n (inside top whole (part bios cart save None 0 [] no_outs))
+    (line_of (codes "backup") (backup_word backup ∷ []))
     (n + 1) (inside top whole (part bios cart save (Some backup) 0 [] no_outs))
 said-read n top whole bios cart save backup two =
     rw (backup-plus (n + 1) top whole bios cart save backup) at
@@ -270,8 +283,8 @@ pub record CanStand (version : JobVersion) (console : ConsoleJob) : Type 0 where
   pub off : 0 < console.off → is_two version ≡ true
   pub backup : has_line console.backup ≡ true → is_two version ≡ true
 
-off-says : (top : Top) (whole : List ConsoleJob) (bios cart save : Option NamedFile) (backup : Option Backup) (off : ℕ) → 0 < off → off < 2 ^ 38
-    → is_two top.version ≡ true
+off-says : (top : Top) (whole : List ConsoleJob) (bios cart save : Option NamedFile) (backup : Option Backup) (off : ℕ)
+    → 0 < off → off < 2 ^ 38 → is_two top.version ≡ true
     → words_say (inside top whole (part bios cart save backup 0 [] no_outs)) (codes "off" ∷ decimal off ∷ [])
     ≡ Ok (Some (Off off))
 unfolding keyword_of refusal_at arguments
@@ -279,8 +292,8 @@ off-says top whole bios cart save backup off some few two =
     let is = number-again 1 (2 ^ 38 - 1) off [] (omega (arith, some)) (omega (arith, few)) (omega (arith, few)) in
     rw (two, is) refl
 
-off-plus : (n : ℕ) (top : Top) (whole : List ConsoleJob) (bios cart save : Option NamedFile) (backup : Option Backup) (off : ℕ)
-    → plus_statement n (Off off) (inside top whole (part bios cart save backup 0 [] no_outs))
+off-plus : (n : ℕ) (top : Top) (whole : List ConsoleJob) (bios cart save : Option NamedFile) (backup : Option Backup)
+    (off : ℕ) → plus_statement n (Off off) (inside top whole (part bios cart save backup 0 [] no_outs))
     ≡ inside top whole (part bios cart save backup off [] no_outs)
 unfolding plus_statement
 off-plus n top whole bios cart save backup off = refl
@@ -295,18 +308,21 @@ off_text-some off some =
     rw later refl
 
 -- the line of the clock, where there is one
-pub record OffRead (n : ℕ) (top : Top) (whole : List ConsoleJob) (bios cart save : Option NamedFile) (backup : Option Backup) (off : ℕ) : Type 0 where
+pub record OffRead (n : ℕ) (top : Top) (whole : List ConsoleJob) (bios cart save : Option NamedFile)
+    (backup : Option Backup) (off : ℕ) : Type 0 where
   pub after : ℕ
   pub reads : Reads n (inside top whole (part bios cart save backup 0 [] no_outs)) (off_text off) after
       (inside top whole (part bios cart save backup off [] no_outs))
 
-pub off-read : (n : ℕ) (top : Top) (whole : List ConsoleJob) (bios cart save : Option NamedFile) (backup : Option Backup) (off : ℕ) → off < 2 ^ 38
-    → (0 < off → is_two top.version ≡ true) → OffRead n top whole bios cart save backup off
+pub off-read : (n : ℕ) (top : Top) (whole : List ConsoleJob) (bios cart save : Option NamedFile)
+    (backup : Option Backup) (off : ℕ) → off < 2 ^ 38 → (0 < off → is_two top.version ≡ true)
+    → OffRead n top whole bios cart save backup off
 off-read n top whole bios cart save backup zero few two =
     record { after = n; reads = reads-nothing n (inside top whole (part bios cart save backup 0 [] no_outs)) }
 off-read n top whole bios cart save backup (suc m) few two =
     let some : 0 < suc m = omega arith in
-    let line = line-reads n (inside top whole (part bios cart save backup 0 [] no_outs)) (codes "off") (decimal (suc m) ∷ [])
+    let line =
+    line-reads n (inside top whole (part bios cart save backup 0 [] no_outs)) (codes "off") (decimal (suc m) ∷ [])
     (Off (suc m)) (off-line (suc m) few) (off-says top whole bios cart save backup (suc m) some few (two some)) in
     record {
       after = n + 1;
@@ -333,7 +349,9 @@ follows-least (b ∷ before) rest change all =
     let long = length-append front (change ∷ rest) in
     let last = last-least front change (omega arith) in
     let rising = all.rising (length front - 1) (length front) change (omega arith) (omega (arith, long)) in
-    let left = ap (λ (c : KeyChange). c.clock) (get_or_append_left front (change ∷ rest) change (length front - 1) (omega arith)) in
+    let left =
+    ap (λ (c : KeyChange). c.clock)
+    (get_or_append_left front (change ∷ rest) change (length front - 1) (omega arith)) in
     let right = ap (λ (c : KeyChange). c.clock) (get_or-append_seam front change rest change) in
     omega (arith, last, rising, left, right)
 
@@ -348,22 +366,28 @@ follows before rest change all =
       room = omega (arith, long, all.few);
     }
 
-change-says : (top : Top) (whole : List ConsoleJob) (bios cart save : Option NamedFile) (backup : Option Backup) (off : ℕ) (before : List KeyChange) (change : KeyChange)
-    → Follows before change
-    → words_say (inside top whole (part bios cart save backup off before no_outs)) (codes "key" ∷ decimal change.clock ∷ keys_word change.keys ∷ [])
+change-says : (top : Top) (whole : List ConsoleJob) (bios cart save : Option NamedFile) (backup : Option Backup)
+    (off : ℕ) (before : List KeyChange) (change : KeyChange) → Follows before change
+    → words_say (inside top whole (part bios cart save backup off before no_outs))
+    (codes "key" ∷ decimal change.clock ∷ keys_word change.keys ∷ [])
     ≡ Ok (Some (Key change))
 unfolding keyword_of refusal_at arguments change_at
 change-says top whole bios cart save backup off before change h =
-    let clock = number-again 0 (2 ^ 38 - 1) change.clock (keys_word change.keys ∷ []) (omega arith) (omega (arith, h.is.early)) (omega (arith, h.is.early)) in
+    let clock =
+    number-again 0 (2 ^ 38 - 1) change.clock (keys_word change.keys ∷ []) (omega arith) (omega (arith, h.is.early))
+    (omega (arith, h.is.early)) in
     let keys = keys-again change.keys [] h.is.keys in
     let rising : nat_le (least_clock before) change.clock ≡ true = le-leb _ _ h.after in
     let room : nat_lt (length before) most_changes ≡ true = lt-ltb _ _ h.room in
     rw (clock, rising, keys, room) refl
 
-change-line : (change : KeyChange) → IsChange change → IsLine (codes "key") (decimal change.clock ∷ keys_word change.keys ∷ [])
+change-line : (change : KeyChange) → IsChange change
+    → IsLine (codes "key") (decimal change.clock ∷ keys_word change.keys ∷ [])
 change-line change is = record {
   keyword = record { some = omega arith; bytes = refl };
-  words = are_more (decimal change.clock) (keys_word change.keys ∷ []) (IsWord-decimal change.clock (omega (arith, is.early)))
+  words =
+      are_more (decimal change.clock) (keys_word change.keys ∷ [])
+      (IsWord-decimal change.clock (omega (arith, is.early)))
       (are_more (keys_word change.keys) [] (IsWord-keys change.keys is.keys) are_none);
   plain = refl;
   short = omega (
@@ -373,19 +397,22 @@ change-line change is = record {
   );
 }
 
-change-plus : (n : ℕ) (top : Top) (whole : List ConsoleJob) (bios cart save : Option NamedFile) (backup : Option Backup) (off : ℕ) (before : List KeyChange) (change : KeyChange)
+change-plus : (n : ℕ) (top : Top) (whole : List ConsoleJob) (bios cart save : Option NamedFile) (backup : Option Backup)
+    (off : ℕ) (before : List KeyChange) (change : KeyChange)
     → plus_statement n (Key change) (inside top whole (part bios cart save backup off before no_outs))
     ≡ inside top whole (part bios cart save backup off (before ++ change ∷ []) no_outs)
 unfolding plus_statement
 change-plus n top whole bios cart save backup off before change = refl
 
 -- the lines of the changes after those before them
-pub record ChangesRead (n : ℕ) (top : Top) (whole : List ConsoleJob) (bios cart save : Option NamedFile) (backup : Option Backup) (off : ℕ) (before changes : List KeyChange) : Type 0 where
+pub record ChangesRead (n : ℕ) (top : Top) (whole : List ConsoleJob) (bios cart save : Option NamedFile)
+    (backup : Option Backup) (off : ℕ) (before changes : List KeyChange) : Type 0 where
   pub after : ℕ
   pub reads : Reads n (inside top whole (part bios cart save backup off before no_outs)) (changes_text changes) after
       (inside top whole (part bios cart save backup off (before ++ changes) no_outs))
 
-pub changes-read : (n : ℕ) (top : Top) (whole : List ConsoleJob) (bios cart save : Option NamedFile) (backup : Option Backup) (off : ℕ) (before changes : List KeyChange)
+pub changes-read : (n : ℕ) (top : Top) (whole : List ConsoleJob) (bios cart save : Option NamedFile)
+    (backup : Option Backup) (off : ℕ) (before changes : List KeyChange)
     → AreChanges (before ++ changes) → ChangesRead n top whole bios cart save backup off before changes
 unfolding changes_text
 changes-read n top whole bios cart save backup off before [] all =
@@ -399,8 +426,10 @@ changes-read n top whole bios cart save backup off before (change ∷ changes) a
     (decimal change.clock ∷ keys_word change.keys ∷ []) (Key change) (change-line change next.is)
     (change-says top whole bios cart save backup off before change next) in
     let here = rw (change-plus (n + 1) top whole bios cart save backup off before change) at line in
-    let joined : (before ++ change ∷ []) ++ changes ≡ before ++ change ∷ changes = append_assoc before (change ∷ []) changes in
-    let rest = changes-read (n + 1) top whole bios cart save backup off (before ++ change ∷ []) changes (rw joined all) in
+    let joined : (before ++ change ∷ []) ++ changes ≡ before ++ change ∷ changes =
+    append_assoc before (change ∷ []) changes in
+    let rest =
+    changes-read (n + 1) top whole bios cart save backup off (before ++ change ∷ []) changes (rw joined all) in
     record {
       after = rest.after;
       reads = reads-then _ _ _ _ _ _ (change_text change) _ here (rw joined at rest.reads);
@@ -422,9 +451,11 @@ put_out out None last = last
 put_out out (Some asked) last = with_output out asked last
 
 -- the line of an output that may be asked for
-record OutReads (n : ℕ) (top : Top) (whole : List ConsoleJob) (last : DraftConsole) (out : OutKind) (asked : Option OutLine) : Type 0 where
+record OutReads (n : ℕ) (top : Top) (whole : List ConsoleJob) (last : DraftConsole) (out : OutKind)
+    (asked : Option OutLine) : Type 0 where
   after : ℕ
-  reads : Reads n (inside top whole last) (asked_text (out_name out) asked) after (inside top whole (put_out out asked last))
+  reads : Reads n (inside top whole last) (asked_text (out_name out) asked) after
+      (inside top whole (put_out out asked last))
 
 out-plus : (n : ℕ) (top : Top) (whole : List ConsoleJob) (last : DraftConsole) (out : OutKind) (asked : OutLine)
     → plus_statement n (Out out asked.digest) (inside top whole last) ≡ inside top whole (with_output out asked last)
@@ -447,8 +478,8 @@ out-reads n top whole last out (Some asked) free sound =
     record { after = n + 1; reads = rw (out-plus (n + 1) top whole last out asked) at reads }
 
 -- an output that isn't asked for yet, put in
-put-out : (kind : OutKind) (found : Option OutLine) (bios cart save : Option NamedFile) (backup : Option Backup) (off : ℕ) (changes : List KeyChange)
-    (outs : PerKind (Option OutLine)) → at_kind outs kind ≡ None
+put-out : (kind : OutKind) (found : Option OutLine) (bios cart save : Option NamedFile) (backup : Option Backup)
+    (off : ℕ) (changes : List KeyChange) (outs : PerKind (Option OutLine)) → at_kind outs kind ≡ None
     → put_out kind found (part bios cart save backup off changes outs)
     ≡ part bios cart save backup off changes (with_kind kind found outs)
 put-out kind (Some asked) bios cart save backup off changes outs free = refl
@@ -473,15 +504,18 @@ all-free : AreFree all_kinds no_outs
 all-free = (refl, λ a. (refl, λ b. (refl, λ c. (refl, λ d. (refl, λ e. tt)))))
 
 -- the lines of a console's outputs of these kinds
-pub record KindsRead (n : ℕ) (top : Top) (whole : List ConsoleJob) (bios cart save : Option NamedFile) (backup : Option Backup) (off : ℕ) (changes : List KeyChange)
+pub record KindsRead (n : ℕ) (top : Top) (whole : List ConsoleJob) (bios cart save : Option NamedFile)
+    (backup : Option Backup) (off : ℕ) (changes : List KeyChange)
     (outs : PerKind (Option OutLine)) (console : ConsoleJob) (kinds : List OutKind) : Type 0 where
   pub after : ℕ
-  pub reads : Reads n (inside top whole (part bios cart save backup off changes outs)) (flat_map (out_text console) kinds) after
+  pub reads : Reads n (inside top whole (part bios cart save backup off changes outs))
+      (flat_map (out_text console) kinds) after
       (inside top whole (part bios cart save backup off changes (all_with kinds console.outs outs)))
 
-kinds-read : (n : ℕ) (top : Top) (whole : List ConsoleJob) (bios cart save : Option NamedFile) (backup : Option Backup) (off : ℕ) (changes : List KeyChange)
-    (outs : PerKind (Option OutLine)) (console : ConsoleJob) (kinds : List OutKind) → IsConsole console
-    → AreFree kinds outs → KindsRead n top whole bios cart save backup off changes outs console kinds
+kinds-read : (n : ℕ) (top : Top) (whole : List ConsoleJob) (bios cart save : Option NamedFile) (backup : Option Backup)
+    (off : ℕ) (changes : List KeyChange) (outs : PerKind (Option OutLine)) (console : ConsoleJob) (kinds : List OutKind)
+    → IsConsole console → AreFree kinds outs
+    → KindsRead n top whole bios cart save backup off changes outs console kinds
 kinds-read n top whole bios cart save backup off changes outs console [] sound free =
     record { after = n; reads = reads-nothing n (inside top whole (part bios cart save backup off changes outs)) }
 kinds-read n top whole bios cart save backup off changes outs console (kind ∷ kinds) sound free =
@@ -490,7 +524,8 @@ kinds-read n top whole bios cart save backup off changes outs console (kind ∷ 
     let unasked : is_some (at_kind last.outs kind) ≡ false = rw free.0 refl in
     let line = out-reads n top whole last kind found unasked (sound.lines.outs kind) in
     let here = rw (put-out kind found bios cart save backup off changes outs free.0) at line.reads in
-    let rest = kinds-read line.after top whole bios cart save backup off changes (with_kind kind found outs) console kinds sound
+    let rest =
+    kinds-read line.after top whole bios cart save backup off changes (with_kind kind found outs) console kinds sound
     (free.1 found) in
     record {
       after = rest.after;
@@ -498,12 +533,14 @@ kinds-read n top whole bios cart save backup off changes outs console (kind ∷ 
     }
 
 -- the lines of a console's outputs
-pub record OutsRead (n : ℕ) (top : Top) (whole : List ConsoleJob) (bios cart save : Option NamedFile) (backup : Option Backup) (off : ℕ) (changes : List KeyChange) (console : ConsoleJob) : Type 0 where
+pub record OutsRead (n : ℕ) (top : Top) (whole : List ConsoleJob) (bios cart save : Option NamedFile)
+    (backup : Option Backup) (off : ℕ) (changes : List KeyChange) (console : ConsoleJob) : Type 0 where
   pub after : ℕ
   pub reads : Reads n (inside top whole (part bios cart save backup off changes no_outs)) (outs_text console) after
       (inside top whole (part bios cart save backup off changes console.outs))
 
-pub outs-read : (n : ℕ) (top : Top) (whole : List ConsoleJob) (bios cart save : Option NamedFile) (backup : Option Backup) (off : ℕ) (changes : List KeyChange) (console : ConsoleJob)
+pub outs-read : (n : ℕ) (top : Top) (whole : List ConsoleJob) (bios cart save : Option NamedFile)
+    (backup : Option Backup) (off : ℕ) (changes : List KeyChange) (console : ConsoleJob)
     → IsConsole console → OutsRead n top whole bios cart save backup off changes console
 outs-read n top whole bios cart save backup off changes console sound =
     let all = kinds-read n top whole bios cart save backup off changes no_outs console all_kinds sound all-free in
@@ -543,7 +580,8 @@ body-read n top whole console sound can =
     let off = off-read backup.after top whole image files.cart files.save said console.off sound.off can.off in
     let changes = changes-read off.after top whole image files.cart files.save said console.off [] console.changes
     sound.lines.changes in
-    let outs = outs-read changes.after top whole image files.cart files.save said console.off console.changes console sound in
+    let outs =
+    outs-read changes.after top whole image files.cart files.save said console.off console.changes console sound in
     record {
       after = outs.after;
       last = record {

@@ -72,7 +72,8 @@ unfolding console_writes
 console_writes-no_tail out player console name e =
     let is : (kind : OutKind) → writes_as out player console name kind ≡ false =
     λ kind. ap (λ t. asks_for console kind && t)
-    (name_is name out (decimal player) (out_name kind) ∙ ap (is_text (out_name kind)) e) ∙ and-false (asks_for console kind) in
+    (name_is name out (decimal player) (out_name kind) ∙ ap (is_text (out_name kind)) e)
+    ∙ and-false (asks_for console kind) in
     any-false (writes_as out player console name) all_kinds is
 
 pub writes-more : (out : List ℕ) (player : ℕ) (console : ConsoleJob) (consoles : List ConsoleJob) (name : List ℕ)

@@ -82,7 +82,8 @@ silent = record {
 }
 
 pub begins : IsDraft nothing_said
-begins = record { cycles = tt; delay = tt; links = All-nil IsLink; last = silent; each = All-nil IsConsole; count = refl }
+begins =
+    record { cycles = tt; delay = tt; links = All-nil IsLink; last = silent; each = All-nil IsConsole; count = refl }
 
 starts : (place : Place) → at_start place ≡ None → place ≡ Start
 starts Start h = refl
@@ -211,23 +212,42 @@ keeps n d keyword.Version ws s h place e =
     let none : length d.consoles ≡ 0 = rw here at h.count in
     rw same (record { cycles = h.cycles; delay = h.delay; links = h.links; last = h.last; each = h.each; count = none })
 keeps n d keyword.Cycles ws s h place e =
-    let b = bind-ok (number_at 1 (most_cycles d.version) ws) (λ cycles. end_at cycles.left >>= (λ _. Ok (Cycles cycles.value))) s e in
+    let b =
+    bind-ok (number_at 1 (most_cycles d.version) ws) (λ cycles. end_at cycles.left >>= (λ _. Ok (Cycles cycles.value)))
+    s e in
     let c = bind-ok (end_at b.0.left) (λ _. Ok (Cycles b.0.value)) s b.2 in
     let same : s ≡ Cycles b.0.value = sym (ok-is (Cycles b.0.value) s c.2) in
     let range = number_at-range 1 (most_cycles d.version) ws b.0 b.1 in
     let few = most-few d.version in
-    rw same (record { cycles = (range.0, omega (arith, range.1, few)); delay = h.delay; links = h.links; last = h.last; each = h.each; count = h.count })
+    rw same (record {
+      cycles = (range.0, omega (arith, range.1, few));
+      delay = h.delay;
+      links = h.links;
+      last = h.last;
+      each = h.each;
+      count = h.count;
+    })
 keeps n d keyword.Delay ws s h place e =
     let b = bind-ok (number_at 1 1024 ws) (λ delay. end_at delay.left >>= (λ _. Ok (Delay delay.value))) s e in
     let c = bind-ok (end_at b.0.left) (λ _. Ok (Delay b.0.value)) s b.2 in
     let same : s ≡ Delay b.0.value = sym (ok-is (Delay b.0.value) s c.2) in
     let range = number_at-range 1 1024 ws b.0 b.1 in
-    rw same (record { cycles = h.cycles; delay = range; links = h.links; last = h.last; each = h.each; count = h.count })
+    rw same (record {
+      cycles = h.cycles;
+      delay = range;
+      links = h.links;
+      last = h.last;
+      each = h.each;
+      count = h.count;
+    })
 keeps n d keyword.Link ws s h place e =
     let b = bind-ok (pair_at ws)
-    (λ pair. holds (not (is_some (link_for pair.value d.links))) Repeated >>= (λ _. number_at 1 1024 pair.left >>= (λ delay. end_at
+    (λ pair. holds (not (is_some (link_for pair.value d.links))) Repeated
+    >>= (λ _. number_at 1 1024 pair.left >>= (λ delay. end_at
     delay.left >>= (λ _. Ok (Link (record { pair = pair.value; delay = delay.value })))))) s e in
-    let c = bind-ok (holds (not (is_some (link_for b.0.value d.links))) Repeated) (λ _. number_at 1 1024 b.0.left >>= (λ delay. end_at
+    let c =
+    bind-ok (holds (not (is_some (link_for b.0.value d.links))) Repeated)
+    (λ _. number_at 1 1024 b.0.left >>= (λ delay. end_at
     delay.left >>= (λ _. Ok (Link (record { pair = b.0.value; delay = delay.value }))))) s b.2 in
     let g = bind-ok (number_at 1 1024 b.0.left) (λ delay. end_at delay.left >>= (λ _. Ok
     (Link (record { pair = b.0.value; delay = delay.value })))) s c.2 in
@@ -263,7 +283,8 @@ keeps n d keyword.Console ws s h place e =
     })
 keeps n d (keyword.File f) ws s h place e =
     let b = bind-ok (name_at ws)
-    (λ name. digest_at name.left >>= (λ digest. end_at digest.left >>= (λ _. Ok (File f name.value digest.value)))) s e in
+    (λ name. digest_at name.left >>= (λ digest. end_at digest.left >>= (λ _. Ok (File f name.value digest.value)))) s
+    e in
     let c = bind-ok (digest_at b.0.left) (λ digest. end_at digest.left >>= (λ _. Ok
     (File f b.0.value digest.value))) s b.2 in
     let g = bind-ok (end_at c.0.left) (λ _. Ok (File f b.0.value c.0.value)) s c.2 in
@@ -330,14 +351,18 @@ keeps n d keyword.Off ws s h place e =
     })
 keeps n d keyword.Out ws s h place e =
     let b = bind-ok (out_kind_at ws)
-    (λ out. holds (not (is_some (at_kind d.last.outs out.value))) Repeated >>= (λ _. digest_at out.left >>= (λ digest. end_at
+    (λ out. holds (not (is_some (at_kind d.last.outs out.value))) Repeated
+    >>= (λ _. digest_at out.left >>= (λ digest. end_at
     digest.left >>= (λ _. Ok (Out out.value digest.value))))) s e in
-    let c = bind-ok (holds (not (is_some (at_kind d.last.outs b.0.value))) Repeated) (λ _. digest_at b.0.left >>= (λ digest. end_at
+    let c =
+    bind-ok (holds (not (is_some (at_kind d.last.outs b.0.value))) Repeated)
+    (λ _. digest_at b.0.left >>= (λ digest. end_at
     digest.left >>= (λ _. Ok (Out b.0.value digest.value)))) s b.2 in
     let g = bind-ok (digest_at b.0.left) (λ digest. end_at digest.left >>= (λ _. Ok
     (Out b.0.value digest.value))) s c.2 in
     let f = bind-ok (end_at g.0.left) (λ _. Ok (Out b.0.value g.0.value)) s g.2 in
-    let same : s ≡ Out b.0.value g.0.value = sym {a = Out b.0.value g.0.value} (ok-is (Out b.0.value g.0.value) s f.2) in
+    let same : s ≡ Out b.0.value g.0.value =
+    sym {a = Out b.0.value g.0.value} (ok-is (Out b.0.value g.0.value) s f.2) in
     let asked : OutLine = asked_output g.0.value in
     rw same (record {
       cycles = h.cycles;
@@ -352,7 +377,8 @@ keeps n d keyword.Out ws s h place e =
           keys = h.last.lines.keys;
           changes = h.last.lines.changes;
           apart = h.last.lines.apart;
-          outs = put-holds IsOutput b.0.value (Some asked) d.last.outs (digest_at-is b.0.left g.0 g.1) h.last.lines.outs;
+          outs =
+              put-holds IsOutput b.0.value (Some asked) d.last.outs (digest_at-is b.0.left g.0 g.1) h.last.lines.outs;
         };
       };
       each = h.each;
@@ -401,7 +427,8 @@ by_keyword d ws s (Some k) h = by_place d k ws s (refusal_at d k) refl h
 
 by_words : (d : Draft) (ws : LineWords) (s : Statement) → words_say d ws ≡ Ok (Some s) → IsStatement d s
 by_words d ws s h =
-    let b = bind-ok (word_at ws) (λ word. unless_ended d.place (keyword_says d word.left (keyword_in d.version word.value)))
+    let b =
+    bind-ok (word_at ws) (λ word. unless_ended d.place (keyword_says d word.left (keyword_in d.version word.value)))
     (Some s) h in
     by_keyword d b.0.left s (keyword_in d.version b.0.value) (not-ended d.place (keyword_says d b.0.left
     (keyword_in d.version b.0.value)) s b.2)
@@ -446,7 +473,8 @@ by_cycles d None n job is range count h = absurd cc
 by_cycles d (Some cycles) n job is range count h =
     let every = unwrap_or d.delay usual_delay in
     let players = players_for (length d.consoles) in
-    subst IsJob (ok-is (record { cycles = cycles; delays = delays_of every d.links players; consoles = d.consoles }) job h)
+    subst IsJob
+    (ok-is (record { cycles = cycles; delays = delays_of every d.links players; consoles = d.consoles }) job h)
     (record {
       some_cycles = range.0;
       few_cycles = range.1;

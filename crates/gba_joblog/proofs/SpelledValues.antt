@@ -65,7 +65,8 @@ number-again least most n ws low high small =
     let to : nat_le n most ≡ true = le-leb n most high in
     rw (is, value, from, to) refl
 
-pub player-again : (player : ℕ) (ws : LineWords) → player ≤ 3 → player_at player (decimal player ∷ ws) ≡ Ok (taken player ws)
+pub player-again : (player : ℕ) (ws : LineWords) → player ≤ 3
+    → player_at player (decimal player ∷ ws) ≡ Ok (taken player ws)
 unfolding player_at number_of
 player-again player ws few =
     let small : player < 2 ^ 64 = omega arith in
@@ -159,7 +160,8 @@ unfolding digits_at
 digits-again digest is = let found = digest_of-again digest is in rw found refl
 
 -- a stated digest
-pub digest-again : (stated : Option (List ℕ)) → IfSome stated IsDigest → digest_at (digest_words stated) ≡ Ok (taken stated [])
+pub digest-again : (stated : Option (List ℕ)) → IfSome stated IsDigest
+    → digest_at (digest_words stated) ≡ Ok (taken stated [])
 unfolding digest_at
 digest-again None is = refl
 digest-again (Some digest) is = let again = digits-again digest is in rw again refl

@@ -97,7 +97,8 @@ text-line keyword ws is are =
 after-spaced : (ws : LineWords) → after_words ws ≡ spaced ws ++ 10 ∷ []
 after-spaced [] = refl
 after-spaced (w ∷ ws) =
-    ap (λ rest. 32 ∷ (w ++ rest)) (after-spaced ws) ∙ ap (λ rest. 32 ∷ rest) (sym (append_assoc w (spaced ws) (10 ∷ [])))
+    ap (λ rest. 32 ∷ (w ++ rest)) (after-spaced ws)
+    ∙ ap (λ rest. 32 ∷ rest) (sym (append_assoc w (spaced ws) (10 ∷ [])))
 
 pub line_of-spaced : (keyword : List ℕ) (ws : LineWords) → line_of keyword ws ≡ (keyword ++ spaced ws) ++ 10 ∷ []
 line_of-spaced keyword ws =

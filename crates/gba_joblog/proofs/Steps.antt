@@ -81,6 +81,7 @@ digest_if-is ws true t h =
     digest_in-is w.0 t w.2
 
 -- what a line states may be a digest
-pub digest_at-is : (ws : LineWords) (t : Taken LineWords (Option (List ℕ))) → digest_at ws ≡ Ok t → IfSome t.value IsDigest
+pub digest_at-is : (ws : LineWords) (t : Taken LineWords (Option (List ℕ))) → digest_at ws ≡ Ok t
+    → IfSome t.value IsDigest
 unfolding digest_at
 digest_at-is ws t h = digest_if-is ws (has_words ws) t h

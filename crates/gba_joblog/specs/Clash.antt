@@ -33,7 +33,8 @@ log_file out = out ++ codes ".log"
 unfoldable pub is_output : List ℕ → List ConsoleJob → List ℕ → Bool
 is_output out consoles name = bytes_eq name (log_file out) || writes out 0 consoles name
 
--- whether a command that does with these consoles what `run` does writes a file of this name, where it may write one file more
+-- whether a command that does with these consoles what `run` does writes a file of this name, where it may write
+-- one file more
 abbrev pub is_written : Option (List ℕ) → List ℕ → List ConsoleJob → List ℕ → Bool
 is_written None out consoles name = is_output out consoles name
 is_written (Some more) out consoles name = bytes_eq name more || is_output out consoles name
@@ -66,8 +67,8 @@ inputs_clash is_written (console ∷ consoles) =
 abbrev pub clash_under : (List ℕ → Bool) → WholeJob → List ℕ → Option ℕ
 clash_under is_written job name = if is_written name then Some 0 else inputs_clash is_written job.consoles
 
--- The clash of a job that is read from the file `name` and writes under `out`: 0 where an output, the log or the file more
--- would be that file, else the least line of an input that one would be.
+-- The clash of a job that is read from the file `name` and writes under `out`: 0 where an output, the log or the file
+-- more would be that file, else the least line of an input that one would be.
 unfoldable pub clash_with : WholeJob → List ℕ → List ℕ → Option (List ℕ) → Option ℕ
 clash_with job name out more = clash_under (is_written more out job.consoles) job name
 

@@ -25,8 +25,8 @@ pub record DraftConsole : Type 0 where
   pub outs : PerKind (Option OutLine)
 
 -- What the lines before have said: the version of the language, where in the job the next line stands, the cycles, the
--- delay of all pairs, the links in their order, the consoles that are whole, and what is said of the console whose lines
--- stand here.
+-- delay of all pairs, the links in their order, the consoles that are whole, and what is said of the console whose
+-- lines stand here.
 pub record Draft : Type 0 where
   pub version : JobVersion
   pub place : Place

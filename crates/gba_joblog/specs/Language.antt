@@ -36,7 +36,8 @@ unless_ended Inside said = said
 
 -- what the words of a line say, the first of which is the keyword
 abbrev pub words_say : Draft → LineWords → Result (Option Statement) JobKind
-words_say d words = word_at words >>= (λ word. unless_ended d.place (keyword_says d word.left (keyword_in d.version word.value)))
+words_say d words =
+    word_at words >>= (λ word. unless_ended d.place (keyword_says d word.left (keyword_in d.version word.value)))
 
 abbrev pub words_say_if : Draft → LineWords → Bool → Result (Option Statement) JobKind
 words_say_if d words false = Ok None

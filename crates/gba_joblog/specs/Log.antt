@@ -103,10 +103,11 @@ link_text players delays pair =
 unfoldable pub links_text : ℕ → Delays → List ℕ
 links_text players delays = flat_map (link_text players delays) all_pairs
 
--- The log of a job, which is of version 2: its lines in the order of the language's table, each word parted from the next
--- by one space, decimal numbers without leading zeros, a link for each pair that the cable joins and no other delay, no
--- comments and no blank lines.
+-- The log of a job, which is of version 2: its lines in the order of the language's table, each word parted from the
+-- next by one space, decimal numbers without leading zeros, a link for each pair that the cable joins and no other
+-- delay, no comments and no blank lines.
 unfoldable pub log_text : WholeJob → List ℕ
 log_text job =
     line_of (codes "gbalink") (codes "2" ∷ []) ++ (line_of (codes "cycles") (decimal job.cycles ∷ [])
-    ++ (links_text (players_for (length job.consoles)) job.delays ++ (consoles_text 0 job.consoles ++ line_of (codes "end") [])))
+    ++ (links_text (players_for (length job.consoles)) job.delays
+    ++ (consoles_text 0 job.consoles ++ line_of (codes "end") [])))

@@ -1,5 +1,5 @@
--- The kinds of output of a console, and one of something for each of them. What is said of every kind is said by these: a
--- further kind is one more entry in each list here, and an own form where its bytes are defined.
+-- The kinds of output of a console, and one of something for each of them. What is said of every kind is said by these:
+-- a further kind is one more entry in each list here, and an own form where its bytes are defined.
 use Rattle.std.specs.Prelude.{ℕ, Bool, List, [], ◌∷◌, codes, Option}
 use Rattle.std.specs.List.{find}
 use Rattle.std.specs.Str.{bytes_eq}

@@ -77,8 +77,8 @@ pub const PAIRS: [Pair; 12] = [
     },
 ];
 
-/// How many players the cable of so many consoles has. Beside a console that is alone it has a second one, since the two
-/// delays between them decide where the console's Normal transfers end.
+/// How many players the cable of so many consoles has. Beside a console that is alone it has a second one, since the
+/// two delays between them decide where the console's Normal transfers end.
 pub fn players_for(consoles: usize) -> usize
     ensures { result ≡ players_for_consoles consoles }
 {

@@ -111,7 +111,9 @@ fn least(a: Option<u64>, b: Option<u64>) -> Option<u64>
 
 /// The line of an input that an output would be.
 fn line_of(out: &[u8], consoles: &[JobConsole], more: Option<&str>, file: &FileLine) -> Option<u64>
-    ensures { result ≡ line_of_of (is_written_of (option_map (λ one. one.now) more.entry) out.now (map console_value consoles.now)) (file_value file.now) }
+    ensures { result
+        ≡ line_of_of (is_written_of (option_map (λ one. one.now) more.entry) out.now (map console_value consoles.now))
+        (file_value file.now) }
 {
     if is_written(out, consoles, more, file.name.as_bytes()) {
         Some(file.line)
@@ -128,7 +130,8 @@ fn any_line_of(
     file: &Option<FileLine>,
 ) -> Option<u64>
     ensures { result
-        ≡ any_line_of_of (is_written_of (option_map (λ one. one.now) more.entry) out.now (map console_value consoles.now)) (option_map file_value file.now) }
+        ≡ any_line_of_of (is_written_of (option_map (λ one. one.now) more.entry) out.now
+        (map console_value consoles.now)) (option_map file_value file.now) }
 {
     match file {
         Some(file) => line_of(out, consoles, more, file),
@@ -145,7 +148,8 @@ fn console_clash(
     console: &JobConsole,
 ) -> Option<u64>
     ensures { result
-        ≡ console_clash_of (is_written_of (option_map (λ one. one.now) more.entry) out.now (map console_value consoles.now)) (console_value console.now) }
+        ≡ console_clash_of (is_written_of (option_map (λ one. one.now) more.entry) out.now
+        (map console_value consoles.now)) (console_value console.now) }
 {
     let bios = line_of(out, consoles, more, &console.bios);
     let cart = any_line_of(out, consoles, more, &console.cart);
@@ -157,7 +161,8 @@ fn console_clash(
 /// The least line of an input that an output would be.
 fn inputs_clash(out: &[u8], consoles: &[JobConsole], more: Option<&str>) -> Option<u64>
     ensures { result
-        ≡ inputs_clash_of (is_written_of (option_map (λ one. one.now) more.entry) out.now (map console_value consoles.now)) (map console_value consoles.now) }
+        ≡ inputs_clash_of (is_written_of (option_map (λ one. one.now) more.entry) out.now
+        (map console_value consoles.now)) (map console_value consoles.now) }
 {
     let mut found = None;
     for console in consoles {
@@ -167,8 +172,8 @@ fn inputs_clash(out: &[u8], consoles: &[JobConsole], more: Option<&str>) -> Opti
 }
 
 impl Job {
-    /// Where an output file or the log of a run with this OUT, or the one file more that a command writes, would be the file of
-    /// the job, line 0, or one of its inputs: then the least line of such an input.
+    /// Where an output file or the log of a run with this OUT, or the one file more that a command writes, would be the
+    /// file of the job, line 0, or one of its inputs: then the least line of such an input.
     #[tactic(auto, unfolding(crate::specs::Clash::clash_with))]
     pub fn clash(&self, job_name: &str, out: &str, more: Option<&str>) -> Option<u64>
         ensures { result

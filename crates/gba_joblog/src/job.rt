@@ -62,9 +62,9 @@ pub struct JobConsole {
 pub struct Job {
     /// In cycles of 16,777,216 Hz, from 1 to 274,877,906,944, in version 1 of the language to 2,147,483,648.
     pub cycles: u64,
-    /// How long a signal takes from each player to each other one, in cycles, from 1 to 1,024; 512 where no line says it.
-    /// It is 512 also for a pair with a player that the cable hasn't, and for a player with itself. The cable of one
-    /// console has two players.
+    /// How long a signal takes from each player to each other one, in cycles, from 1 to 1,024; 512 where no line says
+    /// it. It is 512 also for a pair with a player that the cable hasn't, and for a player with itself. The cable of
+    /// one console has two players.
     pub delays: Delays,
     /// The consoles in the order of their numbers, from 0; one to four.
     pub consoles: Vec<JobConsole>,

@@ -55,7 +55,8 @@ fn read_line(
     requires given { 0 < cursor.old.number }
     requires current { cursor.old.line ≡ line.now }
     requires fresh { cursor.old.words ≡ words line.now }
-    ensures says { Reads line_error result cursor.old.number changes.new.items (changes_with changes.old.items line.now) }
+    ensures says { Reads line_error result cursor.old.number changes.new.items
+        (changes_with changes.old.items line.now) }
     ensures number { cursor.new.number ≡ cursor.old.number }
     ensures lines { cursor.new.lines ≡ cursor.old.lines }
 {

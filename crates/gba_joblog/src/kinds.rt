@@ -22,8 +22,8 @@ pub enum JobKind {
     Name,
     /// The word after `sha256` isn't 64 hexadecimal digits.
     Digest,
-    /// A line stands where it may not, a console isn't the next one, `key` meets `keys`, or a change's clock is less than
-    /// the one before it.
+    /// A line stands where it may not, a console isn't the next one, `key` meets `keys`, or a change's clock is less
+    /// than the one before it.
     Order,
     /// A line that may stand once stands again.
     Repeated,

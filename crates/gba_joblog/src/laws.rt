@@ -1,4 +1,5 @@
-//! Laws of the job language and of key files. Each function takes no value and answers nothing; its contract is its law.
+//! Laws of the job language and of key files. Each function takes no value and answers nothing; its
+//! contract is its law.
 
 ghost use Rattle.gba_joblog.specs.Digests.{DigestsAreSound};
 ghost use Rattle.gba_joblog.specs.KeyFile.{KeysAreAnswered, KeysHaveOneAnswer};
@@ -42,8 +43,8 @@ pub fn digests_sound()
     ensures law { DigestsAreSound }
 {}
 
-/// The log of a job that was read is read as the same job, but for the numbers of its lines and for its key files, which
-/// a log doesn't name.
+/// The log of a job that was read is read as the same job, but for the numbers of its lines and for its key files,
+/// which a log doesn't name.
 pub fn jobs_again()
     ensures law { JobsAreReadAgain }
 {}

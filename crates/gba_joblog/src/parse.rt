@@ -113,8 +113,8 @@ fn read_job(alloc: Global, bytes: &[u8]) -> Result<Job, ParseRefused>
 
 impl Job {
     /// Reads a job. Refused is the first line that isn't of the language, or the whole file with line 0 where it has
-    /// more than 134,217,728 bytes. It takes memory for the consoles, the names and the key changes alone. A job that is
-    /// read has one to four consoles, each with its BIOS image, and each name has 1 to 200 bytes.
+    /// more than 134,217,728 bytes. It takes memory for the consoles, the names and the key changes alone. A job that
+    /// is read has one to four consoles, each with its BIOS image, and each name has 1 to 200 bytes.
     pub fn parse(alloc: Global, bytes: &[u8]) -> Result<Job, ParseRefused>
         ensures said { IsSaid line_error jobs job_value bytes.now result }
         ensures job { Parses line_error job_value result (job_of bytes.now) }

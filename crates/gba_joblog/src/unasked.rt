@@ -25,8 +25,8 @@ fn unask(job: &mut Job)
 }
 
 impl Job {
-    /// The job with no output asked for, in the same memory: its consoles run as before, and nothing has to be kept of what
-    /// they make (this project's profile).
+    /// The job with no output asked for, in the same memory: its consoles run as before, and nothing has to be kept of
+    /// what they make (this project's profile).
     pub fn without_outputs(mut self) -> Job
         ensures value { job_value result ≡ unasked (job_value self) }
         ensures sound { IsJob (job_value self) → IsJob (job_value result) }

@@ -1,6 +1,6 @@
 #![tactic(auto)]
-//! Tests of texts by lines, and of the job language: jobs and key files that are read, those that are refused, clashes, and
-//! logs.
+//! Tests of texts by lines, and of the job language: jobs and key files that are read, those that are refused,
+//! clashes, and logs.
 
 #[cfg(test)]
 mod clash;

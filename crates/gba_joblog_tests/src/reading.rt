@@ -11,8 +11,8 @@ use std::alloc::{AllocError, Global};
 use std::process::Abort;
 use std::test::Fail;
 
-/// What is wanted of a console: its files, and the kinds of output that it is asked for with no digest, in the order of the
-/// language's table.
+/// What is wanted of a console: its files, and the kinds of output that it is asked for with no digest, in the order of
+/// the language's table.
 #[derive(Drop)]
 struct Wanted {
     bios: Named,
@@ -172,8 +172,8 @@ fn cartridges_and_saves_are_read(rt: HostRuntime) -> Result<(), Fail> {
     Ok(())
 }
 
-// The delays of jobs: without a line, the least, the greatest, and before `cycles`. They are those between players 0 and
-// 1, the others of one console's cable stay 512.
+// The delays of jobs: without a line, the least, the greatest, and before `cycles`. They are those between players 0
+// and 1, the others of one console's cable stay 512.
 static DELAYS: [(&[u8], u64); 5] = [
     (b"gbalink 1\ncycles 1\nconsole 0\nbios b\nend\n", 512),
     (b"gbalink 1\ncycles 1\ndelay 1\nconsole 0\nbios b\nend\n", 1),
@@ -219,8 +219,8 @@ fn both_ways(there: u64, back: u64) -> Delays {
     }
 }
 
-// The lines between `gbalink 2` with `cycles 1` and those of so many consoles, and the delays from each player to each other
-// one.
+// The lines between `gbalink 2` with `cycles 1` and those of so many consoles, and the delays from each player to each
+// other one.
 static CABLES: [(&[u8], usize, Delays); 6] = [
     (
         b"",
@@ -518,7 +518,8 @@ fn are_files_of_nothing(console: &JobConsole) -> bool {
         && has_digest(&console.keys, NOTHING)
 }
 
-/// Whether the frames and the words are to have the digest of the empty file, the samples none, and there are no others.
+/// Whether the frames and the words are to have the digest of the empty file, the samples none, and there
+/// are no others.
 fn are_outputs_of_nothing(outs: &PerKind<Option<OutLine>>) -> bool {
     let stated = Some(OutLine {
         digest: Some(NOTHING),

@@ -90,7 +90,9 @@ file-under name word bytes is =
     record {
       differ = differ;
       own = has-own-files (file ∷ []) (one_file name word bytes).end differ apart;
-      under = All-cons (IsUnder name) file [] (record { rest = []; named = sym (append-nil name) }) (All-nil (IsUnder name));
+      under =
+          All-cons (IsUnder name) file [] (record { rest = []; named = sym (append-nil name) })
+          (All-nil (IsUnder name));
     }
 
 -- the trace
@@ -117,7 +119,8 @@ trace-under out text lines =
 abbrev ok_job : WholeJob → Result WholeJob Cause
 ok_job job = Ok job
 
-module _ (law : RunsHaveOwnFiles) (frozen_law : FrozenRunsHaveOwnFiles) (resumed_law : ResumedRunsHaveOwnFiles) (thaws : ThawsSoundly)
+module _ (law : RunsHaveOwnFiles) (frozen_law : FrozenRunsHaveOwnFiles) (resumed_law : ResumedRunsHaveOwnFiles)
+    (thaws : ThawsSoundly)
   where
     job-under : (out : List ℕ) (said : WholeJob) (inputs : List ConsoleInputs) → IsJob said
         → AllZip AreInputs said.consoles inputs → HasFilesUnder out (result_of_run out said inputs)
@@ -136,7 +139,8 @@ module _ (law : RunsHaveOwnFiles) (frozen_law : FrozenRunsHaveOwnFiles) (resumed
         record {
           differ = (written-differ out count whole files lines pieces fine.few_consoles).0;
           own = law out whole images fine many;
-          under = subst (All (IsUnder out)) (sym (written-under out count whole files lines pieces pieces)) (all-under out _);
+          under = subst (All (IsUnder out)) (sym (written-under out count whole files lines pieces pieces))
+              (all-under out _);
         }
 
     -- ---- a job that is frozen
@@ -148,18 +152,21 @@ module _ (law : RunsHaveOwnFiles) (frozen_law : FrozenRunsHaveOwnFiles) (resumed
         let long = job_refusal words (error_at 0 Long) in
         let read = outcome-parts files (file words.job longest_job long) (after_job_for frozen more words) job h in
         sound read.0 job
-        (said frozen more words job (job_of read.0) (judged-ok files (job_or_refusal_for frozen more words read.0) job read.2))
+        (said frozen more words job (job_of read.0)
+        (judged-ok files (job_or_refusal_for frozen more words read.0) job read.2))
 
     clock-same : (files : Files) (words : FreezeWords) (asked found : WholeJob)
         → outcome files (judgement (clock_or_refusal words asked)) ≡ Ok found → found ≡ asked
     clock-same files words asked found h =
         by (nat_le words.clock asked.cycles) (judged-ok files (clock_or_refusal words asked) found h) where
-          by : (early : Bool) → (if early then Ok asked else Err (job_refusal words.run (error_at 0 Number))) ≡ Ok found → found ≡ asked
+          by : (early : Bool) → (if early then Ok asked else Err (job_refusal words.run (error_at 0 Number))) ≡ Ok found
+              → found ≡ asked
           by true same = let is : ok_job asked ≡ ok_job found = same in sym (ok-is asked found is)
           by false same = absurd cc
 
-    frozen-under-out : (words : FreezeWords) (said : WholeJob) (inputs : List ConsoleInputs) → AreFreezeWords words → IsJob said
-        → AllZip AreInputs said.consoles inputs → HasFilesUnder words.run.out (result_of_freeze words said inputs)
+    frozen-under-out : (words : FreezeWords) (said : WholeJob) (inputs : List ConsoleInputs) → AreFreezeWords words
+        → IsJob said → AllZip AreInputs said.consoles inputs
+        → HasFilesUnder words.run.out (result_of_freeze words said inputs)
     frozen-under-out words said inputs named is read =
         let out = words.run.out in
         let whole : WholeJob = job_until words.clock (job_unstated (filled said inputs)) in
@@ -205,15 +212,16 @@ module _ (law : RunsHaveOwnFiles) (frozen_law : FrozenRunsHaveOwnFiles) (resumed
         ∙ ap (λ (rest : List Machine). without_limit m ∷ rest)
         (each-empty ms (λ k d within. empty (suc k) d (omega (arith, within))))
 
-    resumed-under-out : (out : List ℕ) (said : WholeJob) (inputs : List ConsoleInputs) (bytes : List ℕ) (cut : Cut Machine)
-        → IsJob said → AllZip AreInputs said.consoles inputs → thawed_cut said inputs bytes ≡ Ok cut
+    resumed-under-out : (out : List ℕ) (said : WholeJob) (inputs : List ConsoleInputs) (bytes : List ℕ)
+        (cut : Cut Machine) → IsJob said → AllZip AreInputs said.consoles inputs → thawed_cut said inputs bytes ≡ Ok cut
         → HasFilesUnder out (resumed_under out (job_unstated (filled said inputs)) cut)
     resumed-under-out out said inputs bytes cut is read thawed =
         let job : WholeJob = job_unstated (filled said inputs) in
         let images = map images_in inputs in
         let count = length job.consoles in
         let fine : IsJob job = job-unstated-sound (filled said inputs) (filled-sound said inputs is read) in
-        let kept : count ≡ length (filled said inputs).consoles = length-map (filled said inputs).consoles console_unstated in
+        let kept : count ≡ length (filled said inputs).consoles =
+        length-map (filled said inputs).consoles console_unstated in
         let many : length images ≡ count =
         length-map inputs images_in ∙ sym (zip-long said.consoles inputs read)
         ∙ sym (filled_consoles-sound said.consoles inputs is.each read).long ∙ sym kept in
@@ -226,17 +234,19 @@ module _ (law : RunsHaveOwnFiles) (frozen_law : FrozenRunsHaveOwnFiles) (resumed
         length-map cut.consoles without_limit ∙ goes.many ∙ start-long job images fine many in
         record {
           differ = (outputs-differ out count job.consoles files fine.few_consoles).0;
-          own = resumed_law out job plain fine long (can-go-on start cut (start-can job images fine many) goes) goes.whole.live
-              (each-empty cut.consoles goes.empty);
+          own =
+              resumed_law out job plain fine long (can-go-on start cut (start-can job images fine many) goes)
+              goes.whole.live (each-empty cut.consoles goes.empty);
           under = subst (All (IsUnder out)) (sym (outputs-under out 0 count job.consoles files)) (all-under out _);
         }
 
-    resumed-files : (words : ResumeWords) (said : WholeJob) (inputs : List ConsoleInputs) (bytes : List ℕ) (run : Run) → IsJob said
-        → AllZip AreInputs said.consoles inputs → (thawed : Result (Cut Machine) (LineError ThawKind))
+    resumed-files : (words : ResumeWords) (said : WholeJob) (inputs : List ConsoleInputs) (bytes : List ℕ) (run : Run)
+        → IsJob said → AllZip AreInputs said.consoles inputs → (thawed : Result (Cut Machine) (LineError ThawKind))
         → thawed_cut said inputs bytes ≡ thawed → thawed_run words (job_unstated (filled said inputs)) thawed ≡ Ok run
         → HasFilesUnder words.run.out run
     resumed-files words said inputs bytes run is read (Ok cut) same made =
-        subst (HasFilesUnder words.run.out) (ok-is (resumed_under words.run.out (job_unstated (filled said inputs)) cut) run made)
+        subst (HasFilesUnder words.run.out)
+        (ok-is (resumed_under words.run.out (job_unstated (filled said inputs)) cut) run made)
         (resumed-under-out words.run.out said inputs bytes cut is read same)
     resumed-files words said inputs bytes run is read (Err error) same made = absurd cc
 
@@ -244,8 +254,14 @@ module _ (law : RunsHaveOwnFiles) (frozen_law : FrozenRunsHaveOwnFiles) (resumed
 
     plain_made : GenerateWords → List Output
     plain_made words =
-        record { name = bios_file [] 0; bytes = bios words.number 0 } ∷ record { name = bios_file [] 1; bytes = bios words.number 1 }
-        ∷ record { name = bios_file [] 2; bytes = bios words.number 2 } ∷ record { name = bios_file [] 3; bytes = bios words.number 3 }
+        record { name = bios_file [] 0; bytes = bios words.number 0 } ∷ record {
+          name = bios_file [] 1;
+          bytes = bios words.number 1;
+        }
+        ∷ record { name = bios_file [] 2; bytes = bios words.number 2 } ∷ record {
+          name = bios_file [] 3;
+          bytes = bios words.number 3;
+        }
         ∷ record { name = job_file []; bytes = job_text words.cycles words.out } ∷ []
 
     made-is : (words : GenerateWords) → made_files words ≡ map (under words.out) (plain_made words)
@@ -260,7 +276,8 @@ module _ (law : RunsHaveOwnFiles) (frozen_law : FrozenRunsHaveOwnFiles) (resumed
 
     bios-digit : (player : ℕ) → player < 10 → bios_file [] player ≡ digit_bios player
     unfolding digit_bios
-    bios-digit player few = ap (λ (digits : List ℕ). codes "." ++ (digits ++ codes ".bios")) (decimal_digit player (omega (arith, few)))
+    bios-digit player few =
+        ap (λ (digits : List ℕ). codes "." ++ (digits ++ codes ".bios")) (decimal_digit player (omega (arith, few)))
 
     made-part : (words : GenerateWords) → ArePart (plain_made words) made_names
     unfolding ArePart plain_made made_names
@@ -276,14 +293,17 @@ module _ (law : RunsHaveOwnFiles) (frozen_law : FrozenRunsHaveOwnFiles) (resumed
           ),
         )
 
-    four-differ : (all_differ (made_names ++ run_file_names 4) ≡ true) × (all_long (made_names ++ run_file_names 4) ≡ true)
+    four-differ : (all_differ (made_names ++ run_file_names 4) ≡ true)
+        × (all_long (made_names ++ run_file_names 4) ≡ true)
     unfolding all_differ has_name all_long made_names digit_bios player_names
     four-differ = (refl, refl)
 
     all-differ : (count : ℕ) → count ≡ 4
-        → (all_differ (made_names ++ run_file_names count) ≡ true) × (all_long (made_names ++ run_file_names count) ≡ true)
+        → (all_differ (made_names ++ run_file_names count) ≡ true)
+        × (all_long (made_names ++ run_file_names count) ≡ true)
     all-differ count is =
-        subst (λ (n : ℕ). (all_differ (made_names ++ run_file_names n) ≡ true) × (all_long (made_names ++ run_file_names n) ≡ true))
+        subst (λ (n : ℕ). (all_differ (made_names ++ run_file_names n) ≡ true)
+        × (all_long (made_names ++ run_file_names n) ≡ true))
         (sym is) four-differ
 
     made-under : (words : GenerateWords) → IsCommand (Generate words) → HasFilesUnder words.out (generated_run words)
@@ -349,26 +369,30 @@ module _ (law : RunsHaveOwnFiles) (frozen_law : FrozenRunsHaveOwnFiles) (resumed
         subst (HasFilesUnder words.to) (ok-is file run (sym (outcome-done files file) ∙ parts.2))
         (file-under words.to (codes "dis") _ fine.to)
     commands-under files (Generate words) run fine h =
-        subst (HasFilesUnder words.out) (ok-is (generated_run words) run (sym (outcome-done files (generated_run words)) ∙ h))
-        (made-under words fine)
+        subst (HasFilesUnder words.out)
+        (ok-is (generated_run words) run (sym (outcome-done files (generated_run words)) ∙ h)) (made-under words fine)
     commands-under files (Trace words) run fine h =
-        let parts = outcome-parts files (job_plan_with (Some (trace_file words.run.out)) words.run) (traced_plan words) run h in
+        let parts =
+        outcome-parts files (job_plan_with (Some (trace_file words.run.out)) words.run) (traced_plan words) run h in
         let job = parts.0 in
         let read = outcome-parts files (inputs_plan job.consoles) (after_inputs_traced words job) run parts.2 in
         let made = result_of_trace words job read.0 in
         subst (HasFilesUnder words.run.out) (ok-is made run (sym (outcome-done files made) ∙ read.2))
         (trace-under words.run.out _ _)
     commands-under files (Freeze words) run fine h =
-        let parts = outcome-parts files (job_plan_with (Some (frozen_name words.run.out)) words.run) (frozen_plan words) run h in
+        let parts =
+        outcome-parts files (job_plan_with (Some (frozen_name words.run.out)) words.run) (frozen_plan words) run h in
         let asked = parts.0 in
         let read = job-read files None (Some (frozen_name words.run.out)) words.run asked parts.1 in
         let timed = outcome-parts files (judgement (clock_or_refusal words asked)) (after_clock words) run parts.2 in
         let same : timed.0 ≡ asked = clock-same files words asked timed.0 timed.1 in
-        let inputs = outcome-parts files (inputs_plan timed.0.consoles) (after_inputs_frozen words timed.0) run timed.2 in
+        let inputs =
+        outcome-parts files (inputs_plan timed.0.consoles) (after_inputs_frozen words timed.0) run timed.2 in
         let made = result_of_freeze words timed.0 inputs.0 in
         let is : IsJob timed.0 = subst IsJob (sym same) read in
         subst (HasFilesUnder words.run.out) (ok-is made run (sym (outcome-done files made) ∙ inputs.2))
-        (frozen-under-out words timed.0 inputs.0 fine is (inputs-sound files timed.0.consoles inputs.0 is.each inputs.1))
+        (frozen-under-out words timed.0 inputs.0 fine is
+        (inputs-sound files timed.0.consoles inputs.0 is.each inputs.1))
     commands-under files (Resume words) run fine h =
         let parts = outcome-parts files (job_plan_for (Some words.frozen) None words.run) (resumed_plan words) run h in
         let job = parts.0 in
@@ -377,6 +401,8 @@ module _ (law : RunsHaveOwnFiles) (frozen_law : FrozenRunsHaveOwnFiles) (resumed
         let inputs = read.0 in
         let passes = inputs-sound files job.consoles inputs is.each read.1 in
         let long = frozen_refusal words (error_at 0 Spelling) in
-        let found = outcome-parts files (file words.frozen longest_file long) (after_frozen words job inputs) run read.2 in
+        let found =
+        outcome-parts files (file words.frozen longest_file long) (after_frozen words job inputs) run read.2 in
         resumed-files words job inputs found.0 run is passes (thawed_cut job inputs found.0) refl
-        (judged-ok files (thawed_run words (job_unstated (filled job inputs)) (thawed_cut job inputs found.0)) run found.2)
+        (judged-ok files (thawed_run words (job_unstated (filled job inputs)) (thawed_cut job inputs found.0)) run
+        found.2)

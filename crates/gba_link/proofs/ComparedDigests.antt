@@ -37,7 +37,8 @@ filled-stated kind (c ∷ consoles) (i ∷ inputs) zero many = refl
 filled-stated kind (c ∷ consoles) (i ∷ inputs) (suc k) many = filled-stated kind consoles inputs k (omega (arith, many))
 
 -- a job that states the same of its outputs
-module _ (out : List ℕ) (job other : WholeJob) (run : Run) (same : (place : Place) → stated_at other place ≡ stated_at job place) where
+module _ (out : List ℕ) (job other : WholeJob) (run : Run)
+    (same : (place : Place) → stated_at other place ≡ stated_at job place) where
   restated : (end : Result (List ℕ) Cause) → Compares out other run end → Compares out job run end
   restated (Ok summary) h = λ place digest says. h place digest (same place ∙ says)
   restated (Err (Digest name stated got)) h = record {
@@ -68,8 +69,8 @@ run-compared out job inputs is read =
     (λ place. filled-stated place.kind job.consoles inputs place.player (zip-long job.consoles inputs read)) run.end
     (written-compared out count whole (files_at whole (end_with job inputs)) lines pieces refl many)
 
-pub compared : (files : Files) (words : RunWords) (job : WholeJob) (run : Run) → outcome files (whole_run_plan words) ≡ Ok run
-    → SaysJob files words.job job → Compares words.out job run run.end
+pub compared : (files : Files) (words : RunWords) (job : WholeJob) (run : Run)
+    → outcome files (whole_run_plan words) ≡ Ok run → SaysJob files words.job job → Compares words.out job run run.end
 compared files words job run comes says =
     let d = done files words run comes in
     let same : d.job ≡ job = said-once files words.job d.job job d.says says in

@@ -39,7 +39,8 @@ some-console : (x y : ConsoleJob) → Some x ≡ Some y → x ≡ y
 some-console x y same = cc
 
 module _ (always : CountsAlways) where
-  step-keeps : (console : ConsoleJob) (m : Machine) (dues : List Incoming) → Keeps console m → Keeps console (stepped dues m)
+  step-keeps : (console : ConsoleJob) (m : Machine) (dues : List Incoming) → Keeps console m
+      → Keeps console (stepped dues m)
   step-keeps console m dues keeps =
       let same = always.kinds dues m in record {
         counts = always.steps dues m keeps.counts;
@@ -58,8 +59,8 @@ module _ (always : CountsAlways) where
       (step-keeps c x dues (subst (Keeps c) (some-same m x is) all.0), all.1)
   set-keeps (c ∷ consoles) (m ∷ ms) (suc i) x dues is all = (all.0, set-keeps consoles ms i x dues is all.1)
 
-  stepped-keeps : (consoles : List ConsoleJob) (cut : Cut Machine) (i : ℕ) (dues : List Incoming) (there : Option Machine)
-      → slice_get cut.consoles i ≡ there → AllZip Keeps consoles cut.consoles
+  stepped-keeps : (consoles : List ConsoleJob) (cut : Cut Machine) (i : ℕ) (dues : List Incoming)
+      (there : Option Machine) → slice_get cut.consoles i ≡ there → AllZip Keeps consoles cut.consoles
       → AllZip Keeps consoles (step_from console_kind cut i dues there).consoles
   stepped-keeps consoles cut i dues None is all = all
   stepped-keeps consoles cut i dues (Some x) is all = set-keeps consoles cut.consoles i x dues is all
@@ -79,7 +80,8 @@ module _ (always : CountsAlways) where
   start-keeps job player [] images many = tt
   start-keeps job player (c ∷ consoles) [] many = absurd (omega (arith, many))
   start-keeps job player (c ∷ consoles) (one ∷ images) many =
-      let begins : Counts (console_at job player c one) = always.begins player _ _ c.off one.bios one.cart one.save one.backup _ _ in (
+      let begins : Counts (console_at job player c one) =
+      always.begins player _ _ c.off one.bios one.cart one.save one.backup _ _ in (
         record {
           counts = record {
             made = record {

@@ -78,11 +78,11 @@ name-ends out text x y = record { front = out ++ text; is = simp append_assoc }
 module _ (out name : List ℕ) (y : ℕ) (ends : EndsIn name 111 y) where
   file-apart : (player : ℕ) (kind : OutKind) → bytes_eq name (output_file out player kind) ≡ false
   file-apart player Frames =
-      ends-apart name (output_file out player Frames) 111 y 101 115 ends (player-ends out player (codes ".fram") 101 115)
-      (λ same. let first = same.0 in omega (arith, first))
+      ends-apart name (output_file out player Frames) 111 y 101 115 ends
+      (player-ends out player (codes ".fram") 101 115) (λ same. let first = same.0 in omega (arith, first))
   file-apart player Samples =
-      ends-apart name (output_file out player Samples) 111 y 101 115 ends (player-ends out player (codes ".sampl") 101 115)
-      (λ same. let first = same.0 in omega (arith, first))
+      ends-apart name (output_file out player Samples) 111 y 101 115 ends
+      (player-ends out player (codes ".sampl") 101 115) (λ same. let first = same.0 in omega (arith, first))
   file-apart player Words =
       ends-apart name (output_file out player Words) 111 y 100 115 ends (player-ends out player (codes ".wor") 100 115)
       (λ same. let first = same.0 in omega (arith, first))
@@ -158,7 +158,8 @@ module _ (made : List ℕ) (player : ℕ) (later : ConsoleJob) (like : IsLike la
   bios-name = ap (λ (c : ConsoleJob). c.bios.name) like
 
   -- no file of it is an output
-  unclashed : (is_written : List ℕ → Bool) → is_written (bios_file made player) ≡ false → console_clash is_written later ≡ None
+  unclashed : (is_written : List ℕ → Bool) → is_written (bios_file made player) ≡ false
+      → console_clash is_written later ≡ None
   unfolding console_clash
   unclashed is_written free =
       let bios : is_written later.bios.name ≡ false = ap is_written bios-name ∙ free in
@@ -176,7 +177,8 @@ module _ (made : List ℕ) (player : ℕ) (later : ConsoleJob) (like : IsLike la
       let fine = bios-fine number player in
       let is : accepted bios_form named image ≡ Ok (digested image) = rw fine refl in
       let short : length image ≤ 16384 = omega (arith, (is-code number player).whole) in
-      let read = outcome-then files (file named.name 16384 (Image named.name BiosLength)) (judged_image bios_form named) image
+      let read =
+      outcome-then files (file named.name 16384 (Image named.name BiosLength)) (judged_image bios_form named) image
       (Ok (digested image)) (file-gives files named.name 16384 (Image named.name BiosLength) image there short)
       (ok-judged files (accepted bios_form named image) (digested image) is) in
       let first : outcome files (bios_plan later.bios) ≡ Ok (digested image)
@@ -191,9 +193,10 @@ module _ (made : List ℕ) (player : ℕ) (later : ConsoleJob) (like : IsLike la
       let inputs : ConsoleInputs = bare_inputs image in
       outcome-then files (bios_plan later.bios) (after_bios later) (digested image) (Ok inputs) first
       (outcome-then files (any_cart_plan later.cart) (after_cart later (digested image)) None (Ok inputs) cart
-      (outcome-then files (any_save_plan later.backup later.save) (after_save later (digested image) None) None (Ok inputs) save
-      (outcome-then files (any_keys_plan later.changes later.keys) (after_keys later.backup (digested image) None None) [] (Ok inputs)
-      keys
+      (outcome-then files (any_save_plan later.backup later.save) (after_save later (digested image) None) None
+      (Ok inputs) save
+      (outcome-then files (any_keys_plan later.changes later.keys) (after_keys later.backup (digested image) None None)
+      [] (Ok inputs) keys
       (outcome-done files (inputs_of later.backup (digested image) None None [])
       ∙ ap (λ (kind : Backup). Ok (inputs_of kind (digested image) None None [])) in-sram))))
 
@@ -201,8 +204,8 @@ module _ (made : List ℕ) (player : ℕ) (later : ConsoleJob) (like : IsLike la
 abbrev Reads : Files → ConsoleJob → ConsoleInputs → Type 0
 Reads files one inputs = (later : ConsoleJob) → IsLike later one → Has files later inputs
 
-all-given : (files : Files) (later consoles : List ConsoleJob) (inputs : List ConsoleInputs) → AllZip IsLike later consoles
-    → AllZip (Reads files) consoles inputs → AllZip (Has files) later inputs
+all-given : (files : Files) (later consoles : List ConsoleJob) (inputs : List ConsoleInputs)
+    → AllZip IsLike later consoles → AllZip (Reads files) consoles inputs → AllZip (Has files) later inputs
 all-given files [] [] [] like reads = tt
 all-given files [] [] (i ∷ inputs) like reads = absurd reads
 all-given files [] (c ∷ consoles) inputs like reads = absurd like
@@ -228,13 +231,17 @@ unfolding clash_with
 no-clash cycles made out again like =
     let is_written : List ℕ → Bool = is_output out again.consoles in
     let whole : is_written (job_file made) ≡ false
-    = output-apart out (job_file made) 98 (name-ends made (codes ".j") 111 98) again.consoles (λ same. omega (arith, same)) in
-    let image : (player : ℕ) → is_written (bios_file made player) ≡ false
-    = λ player. output-apart out (bios_file made player) 115 (player-ends made player (codes ".bi") 111 115) again.consoles
+    = output-apart out (job_file made) 98 (name-ends made (codes ".j") 111 98) again.consoles
     (λ same. omega (arith, same)) in
+    let image : (player : ℕ) → is_written (bios_file made player) ≡ false
+    = λ player. output-apart out (bios_file made player) 115 (player-ends made player (codes ".bi") 111 115)
+    again.consoles (λ same. omega (arith, same)) in
     let free : (player : ℕ) → IsFree is_written (console made player) (console made player)
     = λ player later same. unclashed made player later same is_written (image player) in
-    rw whole (all-free is_written again.consoles (job cycles made).consoles like (free 0, (free 1, (free 2, (free 3, tt)))))
+    rw whole (all-free is_written again.consoles (job cycles made).consoles like (
+      free 0,
+      (free 1, (free 2, (free 3, tt))),
+    ))
 
 -- ---- no digest is stated of an output
 
@@ -273,7 +280,8 @@ made-again files words out are has =
     let inputs : List ConsoleInputs = made_inputs words.number in
     let is : IsJob made = job-sound words.cycles words.out are.some_cycles are.few_cycles are.out in
     let read : AllZip AreInputs made.consoles inputs = made-sound words.number words.cycles words.out in
-    let again : IsReadAs words.cycles words.out = job-read words.cycles words.out are.some_cycles are.few_cycles are.out in
+    let again : IsReadAs words.cycles words.out =
+    job-read words.cycles words.out are.some_cycles are.few_cycles are.out in
     let like : AllZip IsLike again.again.consoles made.consoles
     = zip-like again.again.consoles made.consoles (ap (λ (j : WholeJob). j.consoles) again.same) in
     let one : Output = job_output words in
@@ -281,9 +289,13 @@ made-again files words out are has =
     → Reads files (console words.out player) (bare_inputs (bios words.number player))
     = λ player there later same. given words.out player later same files words.number there in
     let all : AllZip (Reads files) made.consoles inputs
-    = (reads 0 (has 0 one (lit< tt)), (reads 1 (has 1 one (lit< tt)), (reads 2 (has 2 one (lit< tt)), (reads 3 (has 3 one (lit< tt)), tt)))) in
+    = (
+      reads 0 (has 0 one (lit< tt)),
+      (reads 1 (has 1 one (lit< tt)), (reads 2 (has 2 one (lit< tt)), (reads 3 (has 3 one (lit< tt)), tt))),
+    ) in
     let passes : outcome files (inputs_plan again.again.consoles) ≡ Ok inputs
-    = gives-each files again.again.consoles [] inputs (all-given files again.again.consoles made.consoles inputs like all) in
+    = gives-each files again.again.consoles [] inputs
+    (all-given files again.again.consoles made.consoles inputs like all) in
     let text : List ℕ = job_text words.cycles words.out in
     let short : length text ≤ longest_job
     = text-short words.cycles words.out are.few_cycles are.out in

@@ -101,8 +101,8 @@ module _ (out : List ℕ) (job other : WholeJob) (cut : Cut Machine) (run : Run)
 
 -- ---- the run
 
-run-keeps : (out : List ℕ) (job : WholeJob) (inputs : List ConsoleInputs) → IsJob job → AllZip AreInputs job.consoles inputs
-    → KeepsAsked out job (end_with job inputs) (result_of_run out job inputs)
+run-keeps : (out : List ℕ) (job : WholeJob) (inputs : List ConsoleInputs) → IsJob job
+    → AllZip AreInputs job.consoles inputs → KeepsAsked out job (end_with job inputs) (result_of_run out job inputs)
 run-keeps out job inputs is read =
     let whole : WholeJob = filled job inputs in
     let cut : Cut Machine = end_with job inputs in

@@ -58,7 +58,8 @@ under-unlined out job images =
     let pieces = run_pieces names.consoles ready in
     ap (λ (count : ℕ). run_of (run_names out count) (unlined job) (prepared (unlined job) images)) alike.many
     ∙ ap (λ (s : Consoles). run_of names (unlined job) s) (prepared-alike job (unlined job) images alike)
-    ∙ ap (λ (asks : List (PerKind Bool)). written names (unlined job) (all_files asks (whole_cut ready).consoles) lines pieces)
+    ∙ ap (λ (asks : List (PerKind Bool)). written names (unlined job) (all_files asks (whole_cut ready).consoles)
+    lines pieces)
     (asks-alike job.consoles (map unlined_console job.consoles) alike.each)
     ∙ written-unlined names job (files_at job (whole_cut ready)) lines pieces
 

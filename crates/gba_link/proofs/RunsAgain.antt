@@ -55,7 +55,8 @@ unclashed words job found (Some line) h = absurd cc
 
 pub said : (frozen more : Option (List ℕ)) (words : RunWords) (job : WholeJob) (r : Result WholeJob JobError)
     → without_clash_for frozen more words r ≡ Ok job → r ≡ Ok job
-said frozen more words job (Ok found) h = ap (λ j. Ok j) (unclashed words job found (clash_for frozen more words found) h)
+said frozen more words job (Ok found) h =
+    ap (λ j. Ok j) (unclashed words job found (clash_for frozen more words found) h)
 said frozen more words job (Err error) h = absurd cc
 
 pub file-there : (files : Files) (name : List ℕ) (most : ℕ) (long : Cause) (bytes : List ℕ)
@@ -70,7 +71,8 @@ pub file-gives : (files : Files) (name : List ℕ) (most : ℕ) (long : Cause) (
 unfolding outcome
 file-gives files name most long bytes there short =
     let fits : nat_lt most (length bytes) ≡ false = grind (arith, nat_tests) in
-    file-reads name most long (λ bytes. outcome files (Done bytes)) (files name) bytes (record { there = there; short = fits })
+    file-reads name most long (λ bytes. outcome files (Done bytes)) (files name) bytes
+    (record { there = there; short = fits })
 
 pub record IsDone (files : Files) (words : RunWords) (run : Run) : Type 0 where
   pub job : WholeJob
@@ -91,7 +93,8 @@ done files words run h =
       says = record {
         bytes = read.0;
         there = file-there files words.job longest_job long read.0 read.1;
-        says = said None None words parts.0 (job_of read.0) (judged-ok files (job_or_refusal words read.0) parts.0 read.2);
+        says =
+            said None None words parts.0 (job_of read.0) (judged-ok files (job_or_refusal words read.0) parts.0 read.2);
       };
       inputs = ran.0;
       passes = ran.1;
@@ -108,7 +111,8 @@ comes-to files words job inputs bytes there short says apart passes =
     let long = job_refusal words (error_at 0 Long) in
     let judged : job_or_refusal words bytes ≡ Ok job = rw (says, apart) refl in
     let read = outcome-then files (file words.job longest_job long) (after_job words) bytes (Ok job)
-    (file-gives files words.job longest_job long bytes there short) (ok-judged files (job_or_refusal words bytes) job judged) in
+    (file-gives files words.job longest_job long bytes there short)
+    (ok-judged files (job_or_refusal words bytes) job judged) in
     let run = result_of_run words.out job inputs in
     let ran = outcome-then files (inputs_plan job.consoles) (after_inputs words job) inputs (Ok run) passes
     (outcome-done files run) in
@@ -132,7 +136,8 @@ same-end (Some cause) summary = tt
 
 -- ---- the jobs of a run and of its log
 
-module _ (job : WholeJob) (inputs : List ConsoleInputs) (is : IsJob job) (read : AllZip AreInputs job.consoles inputs) where
+module _ (job : WholeJob) (inputs : List ConsoleInputs) (is : IsJob job)
+    (read : AllZip AreInputs job.consoles inputs) where
   abbrev whole : WholeJob
   whole = filled job inputs
 
@@ -204,7 +209,8 @@ module _ (job : WholeJob) (inputs : List ConsoleInputs) (is : IsJob job) (read :
 
     alike : RunsAlike whole later
     alike =
-        let each = filled-alike job.consoles replay.again.consoles inputs made inputs-many (made-many ∙ whole-many) replay.offs
+        let each =
+        filled-alike job.consoles replay.again.consoles inputs made inputs-many (made-many ∙ whole-many) replay.offs
         replay.asked in
         record {
           cycles = replay.cycles;
@@ -215,7 +221,8 @@ module _ (job : WholeJob) (inputs : List ConsoleInputs) (is : IsJob job) (read :
 
     same-log : log_of later made ≡ log_of whole made
     same-log =
-        ap (λ asked. log_text (log_job replay.again inputs asked)) (outs-again whole.consoles later.consoles made stated-by)
+        ap (λ asked. log_text (log_job replay.again inputs asked))
+        (outs-again whole.consoles later.consoles made stated-by)
         ∙ replay.own
 
     rerun-is : (out : List ℕ) → result_of_run out replay.again inputs
@@ -244,7 +251,8 @@ module _ (job : WholeJob) (inputs : List ConsoleInputs) (is : IsJob job) (read :
         ∙ ap (λ log. pieces_under out ++ log_output names log ∷ []) same-log
         ∙ run-pieces-under out
 
-    rerun-end : (out : List ℕ) → (result_of_run out replay.again inputs).end ≡ Ok (lines ++ log_line (log_of whole made))
+    rerun-end : (out : List ℕ)
+        → (result_of_run out replay.again inputs).end ≡ Ok (lines ++ log_line (log_of whole made))
     rerun-end out =
         ap (λ (run : Run). run.end) (rerun-is out)
         ∙ written-end out (length whole.consoles) whole later made lines (pieces_under out) stated-by same-log
@@ -263,7 +271,8 @@ run-again old new first again run comes has =
     let stated = all-stated whole.consoles made many in
     let replay = replayed old new job inputs (all_outs whole.consoles made) is
     (stated.long ∙ whole-many job inputs is read) stated.each d.passes (has.images job d.says) in
-    let log : has.log ≡ log_of whole made = run-log job inputs is read first.out (log_file first.out) has.log has.is_log.others
+    let log : has.log ≡ log_of whole made =
+    run-log job inputs is read first.out (log_file first.out) has.log has.is_log.others
     (ap (λ (r : Run). r.outputs) d.is ∙ has.is_log.last) in
     let says : job_of has.log ≡ Ok replay.again = ap job_of log ∙ replay.read in
     let short : length has.log ≤ longest_job = omega (arith, ap length log, log-fits job inputs is read) in
@@ -275,8 +284,11 @@ run-again old new first again run comes has =
     rerun-outputs job inputs is read new replay again.out in
     record {
       rerun = result_of_run again.out replay.again inputs;
-      comes = comes-to new again replay.again inputs has.log has.there short says (has.apart replay.again says) replay.passes;
-      bytes = ap (map bytes_of) now ∙ map-under again.out plain ∙ sym (ap (map bytes_of) was ∙ map-under first.out plain);
+      comes =
+          comes-to new again replay.again inputs has.log has.there short says (has.apart replay.again says)
+          replay.passes;
+      bytes =
+          ap (map bytes_of) now ∙ map-under again.out plain ∙ sym (ap (map bytes_of) was ∙ map-under first.out plain);
       files = plain;
       first_names = was;
       names = now;

@@ -31,8 +31,8 @@ use Rattle.gba_text.specs.Languages.{error_at}
 -- ---- the job that is run
 
 -- a file says one job
-pub said-once : (files : Files) (name : List ℕ) (one other : WholeJob) → SaysJob files name one → SaysJob files name other
-    → one ≡ other
+pub said-once : (files : Files) (name : List ℕ) (one other : WholeJob) → SaysJob files name one
+    → SaysJob files name other → one ≡ other
 said-once files name one other is also =
     let bytes : is.bytes ≡ also.bytes = some-is is.bytes also.bytes (sym is.there ∙ also.there) in
     ok-is one other (sym is.says ∙ ap job_of bytes ∙ also.says)
@@ -43,8 +43,9 @@ unclashed words job found None h = refl
 unclashed words job found (Some line) h = absurd cc
 
 -- it has no clash
-apart-said : (files : Files) (words : RunWords) (job : WholeJob) (run : Run) → outcome files (whole_run_plan words) ≡ Ok run
-    → SaysJob files words.job job → clash_of job words.job words.out ≡ None
+apart-said : (files : Files) (words : RunWords) (job : WholeJob) (run : Run)
+    → outcome files (whole_run_plan words) ≡ Ok run → SaysJob files words.job job
+    → clash_of job words.job words.out ≡ None
 apart-said files words job run comes says =
     let parts = outcome-parts files (job_plan words) (run_plan words) run comes in
     let long : Cause = job_refusal words (error_at 0 Long) in
@@ -79,7 +80,8 @@ run-apart : (out name : List ℕ) (job : WholeJob) (inputs : List ConsoleInputs)
     → Spares (result_of_run out job inputs) name
 run-apart out name job inputs apart =
     let whole : WholeJob = filled job inputs in
-    written-apart out name (length whole.consoles) whole (files_at whole (whole_cut (prepared whole (map images_in inputs))))
+    written-apart out name (length whole.consoles) whole
+    (files_at whole (whole_cut (prepared whole (map images_in inputs))))
     [] [] (filled-apart out name job.consoles inputs apart)
 
 -- ---- the inputs of a job without a clash
@@ -92,7 +94,8 @@ both-none (Some m) (Some n) h = absurd (by (nat_le m n) h) where
   by true h = cc
   by false h = cc
 
-module _ (is_written : List ℕ → Bool) (run : Run) (free : (name : List ℕ) → is_written name ≡ false → Spares run name) where
+module _ (is_written : List ℕ → Bool) (run : Run)
+    (free : (name : List ℕ) → is_written name ≡ false → Spares run name) where
   file-spared : (named : NamedFile) → line_of is_written named ≡ None → SparesFile run named
   file-spared named apart = by (is_written named.name) refl apart where
     by : (t : Bool) → is_written named.name ≡ t → (if t then Some named.line else None) ≡ None → SparesFile run named
@@ -119,14 +122,16 @@ module _ (is_written : List ℕ → Bool) (run : Run) (free : (name : List ℕ) 
         keys = any-spared console.keys s.1;
       }
 
-  consoles-spared : (consoles : List ConsoleJob) → inputs_clash is_written consoles ≡ None → All (SparesConsole run) consoles
+  consoles-spared : (consoles : List ConsoleJob) → inputs_clash is_written consoles ≡ None
+      → All (SparesConsole run) consoles
   unfolding inputs_clash
   consoles-spared [] apart = All-nil (SparesConsole run)
   consoles-spared (c ∷ consoles) apart =
       let b = both-none (console_clash is_written c) (inputs_clash is_written consoles) apart in
       All-cons (SparesConsole run) c consoles (console-spared c b.0) (consoles-spared consoles b.1)
 
-  job-spared : (job : WholeJob) (name : List ℕ) → (if is_written name then Some 0 else inputs_clash is_written job.consoles) ≡ None
+  job-spared : (job : WholeJob) (name : List ℕ)
+      → (if is_written name then Some 0 else inputs_clash is_written job.consoles) ≡ None
       → Spares run name × All (SparesConsole run) job.consoles
   job-spared job name apart = by (is_written name) refl apart where
     by : (t : Bool) → is_written name ≡ t → (if t then Some 0 else inputs_clash is_written job.consoles) ≡ None
@@ -134,8 +139,9 @@ module _ (is_written : List ℕ → Bool) (run : Run) (free : (name : List ℕ) 
     by true is h = absurd cc
     by false is h = (free name is, consoles-spared job.consoles h)
 
-pub spared : (files : Files) (words : RunWords) (job : WholeJob) (run : Run) → outcome files (whole_run_plan words) ≡ Ok run
-    → SaysJob files words.job job → Spares run words.job × All (SparesConsole run) job.consoles
+pub spared : (files : Files) (words : RunWords) (job : WholeJob) (run : Run)
+    → outcome files (whole_run_plan words) ≡ Ok run → SaysJob files words.job job
+    → Spares run words.job × All (SparesConsole run) job.consoles
 unfolding clash_with
 spared files words job run comes says =
     let d = done files words run comes in

@@ -13,12 +13,14 @@ use Rattle.link_order.specs.Cut.{Cut, plain_cut}
 use Rattle.sha2.specs.Sha256.{sha256}
 
 -- the cut that is thawed is the one from the consoles of the job, whose digest is that of its log
-pub thawed-as : ThawsPlainly → (job said : WholeJob) (images read : List ConsoleImages) (digest bytes : List ℕ) (start : Cut Machine)
+pub thawed-as : ThawsPlainly
+    → (job said : WholeJob) (images read : List ConsoleImages) (digest bytes : List ℕ) (start : Cut Machine)
     → job ≡ said → images ≡ read → digest ≡ sha256 (log_text job) → plain_cut without_limit start ≡ start_of job images
     → thaw_of (sha256 (log_text said)) said.cycles (start_of said read) bytes ≡ thaw_of digest job.cycles start bytes
 thawed-as plainly job said images read digest bytes start same seen digested begins =
     ap (λ (j : WholeJob). thaw_of (sha256 (log_text j)) j.cycles (start_of j read) bytes) (sym same)
-    ∙ ap (λ (ones : List ConsoleImages). thaw_of (sha256 (log_text job)) job.cycles (start_of job ones) bytes) (sym seen)
+    ∙ ap (λ (ones : List ConsoleImages). thaw_of (sha256 (log_text job)) job.cycles (start_of job ones) bytes)
+    (sym seen)
     ∙ ap (λ (cut : Cut Machine). thaw_of (sha256 (log_text job)) job.cycles cut bytes) (sym begins)
     ∙ ap (λ (one : List ℕ). thaw_of one job.cycles (plain_cut without_limit start) bytes) (sym digested)
     ∙ plainly digest job.cycles start bytes

@@ -43,11 +43,13 @@ refused_run cause = Err cause
 
 -- ---- a run that is written isn't refused for the words
 
-result-fine : (out : List ℕ) (said : WholeJob) (inputs : List ConsoleInputs) → (result_of_run out said inputs).end ≡ Err NoCommand → ⊥
+result-fine : (out : List ℕ) (said : WholeJob) (inputs : List ConsoleInputs)
+    → (result_of_run out said inputs).end ≡ Err NoCommand → ⊥
 result-fine out said inputs h =
     let whole : WholeJob = filled said inputs in
     let names = run_names out (length whole.consoles) in
-    let c = written-cause names whole (files_at whole (end_with said inputs)) (summary_lines (end_with said inputs).consoles)
+    let c =
+    written-cause names whole (files_at whole (end_with said inputs)) (summary_lines (end_with said inputs).consoles)
     (run_pieces names.consoles (prepared whole (map images_in inputs))) NoCommand h in
     let is = c.3 in absurd cc
 
@@ -59,7 +61,8 @@ no-come : (cause : Cause) (run : Run) → ComesTo (judgement (refused_run cause)
 unfolding ComesTo
 no-come cause run h = h
 
-listing-fine : (set : Set) (words : FileWords) (run : Run) → ComesTo (listing_plan set words) run → run.end ≡ Err NoCommand → ⊥
+listing-fine : (set : Set) (words : FileWords) (run : Run) → ComesTo (listing_plan set words) run
+    → run.end ≡ Err NoCommand → ⊥
 listing-fine set words run h =
     let b = comes-bind (image_plan words.from) (after_image set words) run h in
     let is : listed words.to set b.0 ≡ run = comes-done (listed words.to set b.0) run b.2 in
@@ -100,7 +103,9 @@ run-fine (Freeze words) run h e =
 run-fine (Resume words) run h e =
     let b = comes-bind (job_plan_for (Some words.frozen) None words.run) (resumed_plan words) run h in
     let i = comes-bind (inputs_plan b.0.consoles) (after_inputs_resumed words b.0) run b.2 in
-    let f = comes-bind (file words.frozen longest_file (frozen_refusal words (error_at 0 Spelling))) (after_frozen words b.0 i.0) run i.2 in
+    let f =
+    comes-bind (file words.frozen longest_file (frozen_refusal words (error_at 0 Spelling)))
+    (after_frozen words b.0 i.0) run i.2 in
     resumed-fine words (job_unstated (filled b.0 i.0)) (thawed_cut b.0 i.0 f.0) run f.2 e
 
 -- ---- who answers 2
@@ -120,7 +125,8 @@ stop-two (StoreFails name) h = absurd cc
 stop-two LacksMemory h = absurd cc
 
 module _ (Tells : Type 0) where
-  concluded-two : (end : Result (List ℕ) Cause) (old new : SinkState) → Concludes Tells 2 end old new → end ≡ Err NoCommand
+  concluded-two : (end : Result (List ℕ) Cause) (old new : SinkState) → Concludes Tells 2 end old new
+      → end ≡ Err NoCommand
   concluded-two (Ok summary) old new h = absurd (let is : 2 ≡ 0 = h.0 in cc)
   concluded-two (Err cause) old new h = ap (λ (c : Cause). Err c) (cause-two cause h.0)
 

@@ -73,21 +73,24 @@ fault-apart file bytes (Some error) h = cc
 fault-apart file bytes None h = digest-apart (digested bytes) file file.digest (sha256 bytes) h
 
 image-apart : {Y : Type 0} (form : ImageForm) (file : NamedFile) (following : DigestedImage → Plan Y)
-    → ((x : DigestedImage) → Names NoCommand (following x) → ⊥) → Names NoCommand (bind (image_plan form file) following) → ⊥
+    → ((x : DigestedImage) → Names NoCommand (following x) → ⊥)
+    → Names NoCommand (bind (image_plan form file) following) → ⊥
 unfolding Names
 image-apart form file following rest (inl h) = cc
 image-apart form file following rest (inr h) =
     judgement-apart (accepted form file h.0) following (fault-apart file h.0 (form.fault h.0)) rest h.1
 
 any-cart-apart : {Y : Type 0} (file : Option NamedFile) (following : Option DigestedImage → Plan Y)
-    → ((x : Option DigestedImage) → Names NoCommand (following x) → ⊥) → Names NoCommand (bind (any_cart_plan file) following) → ⊥
+    → ((x : Option DigestedImage) → Names NoCommand (following x) → ⊥)
+    → Names NoCommand (bind (any_cart_plan file) following) → ⊥
 any-cart-apart None following rest h = rest None h
 any-cart-apart (Some file) following rest h =
     image-apart cart_form file (λ x. following (Some x)) (λ x k. rest (Some x) k)
     (names-together (cart_plan file) found following h)
 
 any-save-apart : {Y : Type 0} (backup : Backup) (file : Option NamedFile) (following : Option DigestedImage → Plan Y)
-    → ((x : Option DigestedImage) → Names NoCommand (following x) → ⊥) → Names NoCommand (bind (any_save_plan backup file) following) → ⊥
+    → ((x : Option DigestedImage) → Names NoCommand (following x) → ⊥)
+    → Names NoCommand (bind (any_save_plan backup file) following) → ⊥
 any-save-apart backup None following rest h = rest None h
 any-save-apart backup (Some file) following rest h =
     image-apart (save_form backup) file (λ x. following (Some x)) (λ x k. rest (Some x) k)
@@ -99,7 +102,8 @@ keys-not-words file bytes (Ok changes) h = digest-apart changes file file.digest
 keys-not-words file bytes (Err error) h = cc
 
 key-file-apart : {Y : Type 0} (file : NamedFile) (following : List KeyChange → Plan Y)
-    → ((x : List KeyChange) → Names NoCommand (following x) → ⊥) → Names NoCommand (bind (key_file_plan file) following) → ⊥
+    → ((x : List KeyChange) → Names NoCommand (following x) → ⊥) → Names NoCommand (bind (key_file_plan file) following)
+    → ⊥
 unfolding Names
 key-file-apart file following rest (inl h) = cc
 key-file-apart file following rest (inr h) =
@@ -112,16 +116,19 @@ any-keys-apart changes None following rest h = rest changes h
 any-keys-apart changes (Some file) following rest h = key-file-apart file following rest h
 
 console-apart : {Y : Type 0} (console : ConsoleJob) (following : ConsoleInputs → Plan Y)
-    → ((x : ConsoleInputs) → Names NoCommand (following x) → ⊥) → Names NoCommand (bind (console_plan console) following) → ⊥
+    → ((x : ConsoleInputs) → Names NoCommand (following x) → ⊥)
+    → Names NoCommand (bind (console_plan console) following) → ⊥
 console-apart console following rest h =
     let at-end : (bios : DigestedImage) (cart save : Option DigestedImage)
     → Names NoCommand (bind (after_save console bios cart save) following) → ⊥ = λ bios cart save k.
-    any-keys-apart console.changes console.keys (λ changes. bind (after_keys console.backup bios cart save changes) following)
-    (λ changes j. rest _ j)
-    (names-together (any_keys_plan console.changes console.keys) (after_keys console.backup bios cart save) following k) in
+    any-keys-apart console.changes console.keys
+    (λ changes. bind (after_keys console.backup bios cart save changes) following) (λ changes j. rest _ j)
+    (names-together (any_keys_plan console.changes console.keys) (after_keys console.backup bios cart save)
+    following k) in
     let at-save : (bios : DigestedImage) (cart : Option DigestedImage)
     → Names NoCommand (bind (after_cart console bios cart) following) → ⊥ = λ bios cart k.
-    any-save-apart console.backup console.save (λ save. bind (after_save console bios cart save) following) (at-end bios cart)
+    any-save-apart console.backup console.save (λ save. bind (after_save console bios cart save) following)
+    (at-end bios cart)
     (names-together (any_save_plan console.backup console.save) (after_save console bios cart) following k) in
     let at-cart : (bios : DigestedImage) → Names NoCommand (bind (after_bios console bios) following) → ⊥ = λ bios k.
     any-cart-apart console.cart (λ cart. bind (after_cart console bios cart) following) (at-save bios)
@@ -129,8 +136,8 @@ console-apart console following rest h =
     image-apart bios_form console.bios (λ bios. bind (after_bios console bios) following) at-cart
     (names-together (bios_plan console.bios) (after_bios console) following h)
 
-consoles-apart : {Y : Type 0} (done : List ConsoleInputs) (consoles : List ConsoleJob) (following : List ConsoleInputs → Plan Y)
-    → ((x : List ConsoleInputs) → Names NoCommand (following x) → ⊥)
+consoles-apart : {Y : Type 0} (done : List ConsoleInputs) (consoles : List ConsoleJob)
+    (following : List ConsoleInputs → Plan Y) → ((x : List ConsoleInputs) → Names NoCommand (following x) → ⊥)
     → Names NoCommand (bind (each console_plan done consoles) following) → ⊥
 unfolding each
 consoles-apart done [] following rest h = rest done h
@@ -155,7 +162,8 @@ clock-apart words job false h = cc
 frozen-named : (words : FreezeWords) (job : WholeJob) → Names NoCommand (frozen_plan words job) → ⊥
 unfolding Names
 frozen-named words job h =
-    judgement-apart (clock_or_refusal words job) (after_clock words) (clock-apart words job (nat_le words.clock job.cycles))
+    judgement-apart (clock_or_refusal words job) (after_clock words)
+    (clock-apart words job (nat_le words.clock job.cycles))
     (λ found k. consoles-apart [] found.consoles (after_inputs_frozen words found) (λ inputs none. none) k) h
 
 unclashing : (words : RunWords) (job : WholeJob) (clash : Option ℕ) → unless_clash words job clash ≡ Err NoCommand → ⊥
@@ -173,7 +181,8 @@ job-named : (frozen more : Option (List ℕ)) (words : RunWords) (following : Wh
 unfolding Names
 job-named frozen more words following rest (inl h) = cc
 job-named frozen more words following rest (inr h) =
-    judgement-apart (job_or_refusal_for frozen more words h.0) following (not-words frozen more words (job_of h.0)) rest h.1
+    judgement-apart (job_or_refusal_for frozen more words h.0) following (not-words frozen more words (job_of h.0))
+    rest h.1
 
 -- a frozen file that is refused isn't refused for the words
 thawed-apart : (words : ResumeWords) (job : WholeJob) (said : Result (Cut Machine) (LineError ThawKind))

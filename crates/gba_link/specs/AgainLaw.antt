@@ -37,10 +37,9 @@ abbrev pub bytes_of : Output → List ℕ
 bytes_of output = output.bytes
 
 -- The run again: it comes to as many files of the same bytes, in the same order, the log among them, and their names
--- begin with the new OUT where the first ones began with the first OUT; so do those of the pieces, of the same bytes, that
--- are added to them. It ends with a summary: the digests that the log
--- states of the outputs are theirs. Where the first run ended with a summary too, and not with a digest that differs, it
--- is the same.
+-- begin with the new OUT where the first ones began with the first OUT; so do those of the pieces, of the same bytes,
+-- that are added to them. It ends with a summary: the digests that the log states of the outputs are theirs. Where the
+-- first run ended with a summary too, and not with a digest that differs, it is the same.
 pub record RunsAgain (new : Files) (first again : RunWords) (run : Run) : Type 0 where
   pub rerun : Run
   pub comes : outcome new (whole_run_plan again) ≡ Ok rerun

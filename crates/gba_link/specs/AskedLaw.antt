@@ -11,8 +11,8 @@ use Rattle.gba_link.specs.RunPlan.{end_with, whole_run_plan}
 use Rattle.gba_run_files.specs.AskedLaw.{KeepsAsked}
 use Rattle.gba_store.specs.Files.{Files}
 
--- A run of JOB writes each output that the job asks for, with what its console has made in the steps of the global order
--- from the reset with these inputs until the job's cycles are over; beside these it writes its log alone.
+-- A run of JOB writes each output that the job asks for, with what its console has made in the steps of the global
+-- order from the reset with these inputs until the job's cycles are over; beside these it writes its log alone.
 abbrev pub KeepsWhatIsAsked : Type 0
 KeepsWhatIsAsked =
     (files : Files) (words : RunWords) (job : WholeJob) (inputs : List ConsoleInputs) (run : Run)

@@ -25,8 +25,8 @@ pub record HasLines (count : ℕ) (bytes : List ℕ) : Type 0 where
   pub many : length transfers ≡ count
   pub lines : bytes ≡ flat_map words_line transfers
 
--- The bytes of an output are as many as the summary's line of its console counts: 76,800 for each whole frame, 4 for each pair
--- of samples, a line for each transfer.
+-- The bytes of an output are as many as the summary's line of its console counts: 76,800 for each whole frame, 4 for
+-- each pair of samples, a line for each transfer.
 abbrev pub IsCounted : OutKind → Machine → List ℕ → Type 0
 IsCounted Frames m bytes = length bytes ≡ 76800 * m.board.made.frame_count
 IsCounted Samples m bytes = length bytes ≡ 4 * m.board.made.pairs

@@ -24,8 +24,8 @@ out_of (Trace words) = words.run.out
 out_of (Freeze words) = words.run.out
 out_of (Resume words) = words.run.out
 
--- The files of a run under OUT: their names differ and begin with OUT, none is standard output, each piece is one of a file,
--- and the pieces of a file, one after another, are its bytes.
+-- The files of a run under OUT: their names differ and begin with OUT, none is standard output, each piece is one of a
+-- file, and the pieces of a file, one after another, are its bytes.
 pub record HasFilesUnder (out : List ℕ) (run : Run) : Type 0 where
   pub differ : NamesDiffer run.outputs
   pub own : HasOwnFiles run
@@ -34,5 +34,5 @@ pub record HasFilesUnder (out : List ℕ) (run : Run) : Type 0 where
 -- What a command comes to has such files, whatever it reads.
 abbrev pub CommandsHaveFiles : Type 0
 CommandsHaveFiles =
-    (files : Files) (command : Command) (run : Run) → IsCommand command → outcome files (plan_of_command command) ≡ Ok run
-    → HasFilesUnder (out_of command) run
+    (files : Files) (command : Command) (run : Run) → IsCommand command
+    → outcome files (plan_of_command command) ≡ Ok run → HasFilesUnder (out_of command) run

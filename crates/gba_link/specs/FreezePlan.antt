@@ -20,17 +20,17 @@ abbrev pub clock_or_refusal : FreezeWords → WholeJob → Result WholeJob Cause
 clock_or_refusal words job =
     if nat_le words.clock job.cycles then Ok job else Err (job_refusal words.run (error_at 0 Number))
 
--- The run of a job with its inputs up to CLOCK: the consoles go from their reset, in the global order, until the clock of each is at
--- least CLOCK. What they made of frames, samples and words is written as far as the job asks for it, and then their frozen file; the summary has
--- a line for each console. No digest is compared of what is only a part.
+-- The run of a job with its inputs up to CLOCK: the consoles go from their reset, in the global order, until the clock
+-- of each is at least CLOCK. What they made of frames, samples and words is written as far as the job asks for it, and
+-- then their frozen file; the summary has a line for each console. No digest is compared of what is only a part.
 abbrev pub frozen_under : List ℕ → WholeJob → List ℕ → List ConsoleImages → Run
 frozen_under out job digest images =
     frozen_run (freeze_names out (length job.consoles)) job digest (prepared job images)
 
 abbrev pub result_of_freeze : FreezeWords → WholeJob → List ConsoleInputs → Run
 result_of_freeze words job inputs =
-    frozen_under words.run.out (job_until words.clock (job_unstated (filled job inputs))) (job_digest (filled job inputs))
-    (map images_in inputs)
+    frozen_under words.run.out (job_until words.clock (job_unstated (filled job inputs)))
+    (job_digest (filled job inputs)) (map images_in inputs)
 
 abbrev pub after_inputs_frozen : FreezeWords → WholeJob → List ConsoleInputs → Plan Run
 after_inputs_frozen words job inputs = Done (result_of_freeze words job inputs)

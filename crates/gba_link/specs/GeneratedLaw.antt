@@ -18,8 +18,8 @@ HasMade files words = All (λ output. files output.name ≡ Some output.bytes) (
 abbrev pub made_run : GenerateWords → List ℕ → RunWords
 made_run words out = record { job = job_file words.out; out = out }
 
--- The run of that job writes what `gen` itself writes behind the files of the job: as many files of the same bytes, in the
--- same order, and the same pieces. Only that their names begin with this OUT. It ends with the same summary.
+-- The run of that job writes what `gen` itself writes behind the files of the job: as many files of the same bytes, in
+-- the same order, and the same pieces. Only that their names begin with this OUT. It ends with the same summary.
 pub record RunsAsMade (files : Files) (words : GenerateWords) (out : List ℕ) : Type 0 where
   pub rerun : Run
   pub comes : outcome files (whole_run_plan (made_run words out)) ≡ Ok rerun

@@ -9,7 +9,8 @@ use Rattle.gba_link.specs.CommandPlan.{plan_of}
 
 -- Words are refused just where they say no command: then nothing is read, and the end is that refusal or want of
 -- memory.
-abbrev pub RefusesWrongWords : {Store : Type 0} → (List ℕ → ℕ → Result (List ℕ) ReadError → Store → Store → Type 0) → Type 0
+abbrev pub RefusesWrongWords : {Store : Type 0} → (List ℕ → ℕ → Result (List ℕ) ReadError → Store → Store → Type 0)
+    → Type 0
 RefusesWrongWords {Store} gives =
     (words : List (List ℕ)) (old new : Store) (end : Result Run Stop) → GoesTo gives (plan_of words) old new end
     → ((end ≡ Err (Refused NoCommand)) → command_of words ≡ None)
@@ -17,7 +18,8 @@ RefusesWrongWords {Store} gives =
 
 -- The answer is 2 only where the words say no command: no file, no fault, no want of memory and no run that is written
 -- brings it. `Tells` says whether the sink tells its files.
-abbrev pub TwoIsWrongWords : Type 0 → {Store : Type 0} → (List ℕ → ℕ → Result (List ℕ) ReadError → Store → Store → Type 0) → Type 0
+abbrev pub TwoIsWrongWords : Type 0 → {Store : Type 0}
+    → (List ℕ → ℕ → Result (List ℕ) ReadError → Store → Store → Type 0) → Type 0
 TwoIsWrongWords Tells {Store} gives =
     (words : List (List ℕ)) (old new : Store) (end : Result Run Stop) (before after : SinkState)
     → GoesTo gives (plan_of words) old new end → Answers Tells 2 end before after → command_of words ≡ None

@@ -27,9 +27,9 @@ use Rattle.link_order.specs.Cut.{Cut, plain_cut}
 abbrev pub frozen_refusal : ResumeWords → LineError ThawKind → Cause
 frozen_refusal words error = Frozen words.frozen error
 
--- The run of a job's consoles from where they were frozen: in the global order, until the clock of each is at least the job's cycles.
--- What they make of frames, samples and words from there on is written as far as the job asks for it, and then state and save; the
--- summary has a line for each console.
+-- The run of a job's consoles from where they were frozen: in the global order, until the clock of each is at least the
+-- job's cycles. What they make of frames, samples and words from there on is written as far as the job asks for it, and
+-- then state and save; the summary has a line for each console.
 abbrev pub resumed_under : List ℕ → WholeJob → Cut Machine → Run
 resumed_under out job cut =
     resumed_run (names_from out 0 (length job.consoles)) job (resumed job (plain_cut without_limit cut))

@@ -36,7 +36,8 @@ clash_for None more words job = clash_with job words.job words.out more
 clash_for (Some frozen) more words job =
     least (clash_with job words.job words.out more) (clash_with job frozen words.out more)
 
-abbrev pub without_clash_for : Option (List ℕ) → Option (List ℕ) → RunWords → Result WholeJob JobError → Result WholeJob Cause
+abbrev pub without_clash_for : Option (List ℕ) → Option (List ℕ) → RunWords → Result WholeJob JobError
+    → Result WholeJob Cause
 without_clash_for frozen more words (Ok job) = unless_clash words job (clash_for frozen more words job)
 without_clash_for frozen more words (Err error) = Err (job_refusal words error)
 
@@ -78,9 +79,9 @@ after_job words bytes = after_job_with None words bytes
 abbrev pub job_plan : RunWords → Plan WholeJob
 job_plan words = job_plan_with None words
 
--- The run of a job with its inputs: the consoles go from their reset, in the global order, until the clock of each is at
--- least the job's cycles. The files that they are asked for are written under OUT, then the log, and the summary has a line
--- for each console.
+-- The run of a job with its inputs: the consoles go from their reset, in the global order, until the clock of each is
+-- at least the job's cycles. The files that they are asked for are written under OUT, then the log, and the summary has
+-- a line for each console.
 abbrev pub images_in : ConsoleInputs → ConsoleImages
 images_in inputs = inputs.images
 

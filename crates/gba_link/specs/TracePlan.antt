@@ -19,9 +19,9 @@ use Rattle.link_order.specs.Cut.{Cut}
 abbrev pub trace_file : List ℕ → List ℕ
 trace_file out = out ++ codes ".trace"
 
--- The trace of a job with its inputs: the consoles go from their reset, in the global order, and of COUNT steps from step
--- FIRST on, counted from 0, or of all from there that begin below the job's cycles, a line each is written. The summary is a
--- word and the number of lines. Nothing is kept of what the consoles make, whatever the job asks for.
+-- The trace of a job with its inputs: the consoles go from their reset, in the global order, and of COUNT steps from
+-- step FIRST on, counted from 0, or of all from there that begin below the job's cycles, a line each is written. The
+-- summary is a word and the number of lines. Nothing is kept of what the consoles make, whatever the job asks for.
 abbrev pub start_with : WholeJob → List ConsoleInputs → Cut Machine
 start_with job inputs = start_of (unasked (filled job inputs)) (map images_in inputs)
 

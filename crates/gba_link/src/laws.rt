@@ -37,34 +37,34 @@ pub fn spares_its_inputs()
     ensures { SparesItsInputs }
 {}
 
-/// A run writes a file for each output that its job asks for, with the bytes that its console has made by the end of the job's
-/// cycles, and beside these its log alone: none is lost and none is doubled.
+/// A run writes a file for each output that its job asks for, with the bytes that its console has made by the end of
+/// the job's cycles, and beside these its log alone: none is lost and none is doubled.
 pub fn keeps_what_is_asked()
     ensures { KeepsWhatIsAsked }
 {}
 
-/// A file of frames that a job asks for has 76,800 bytes for each whole frame that the summary counts of its console, a file of
-/// samples 4 for each pair, and a file of words a line for each transfer.
+/// A file of frames that a job asks for has 76,800 bytes for each whole frame that the summary counts of its console, a
+/// file of samples 4 for each pair, and a file of words a line for each transfer.
 pub fn counts_its_files()
     ensures { CountsItsFiles }
 {
     counts_what_it_keeps();
 }
 
-/// A run ends with its summary where each digest that the job states of an output is the SHA-256 of the bytes that it writes;
-/// else it is refused for the first output of which it isn't, with the stated digest and that of the bytes.
+/// A run ends with its summary where each digest that the job states of an output is the SHA-256 of the bytes that it
+/// writes; else it is refused for the first output of which it isn't, with the stated digest and that of the bytes.
 pub fn compares_digests()
     ensures { ComparesDigests }
 {}
 
-/// What `gen` makes can be run under every OUT: `run` of its job writes the same bytes as `gen` itself does behind the files of
-/// the job, and the same summary.
+/// What `gen` makes can be run under every OUT: `run` of its job writes the same bytes as `gen` itself does behind the
+/// files of the job, and the same summary.
 pub fn generated_runs_again()
     ensures { GeneratedRunsAgain }
 {}
 
-/// The files of what a command comes to have different names, which begin with OUT, and none is standard output; and the pieces
-/// of a file, one after another, are its bytes.
+/// The files of what a command comes to have different names, which begin with OUT, and none is standard output; and
+/// the pieces of a file, one after another, are its bytes.
 pub fn commands_have_files()
     ensures { CommandsHaveFiles }
 {

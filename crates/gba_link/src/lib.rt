@@ -43,9 +43,9 @@ use std::thread::Threads;
 ///
 /// Two clauses say all of it, over every store and sink: `answer`, that the reads made are those of the plan of the
 /// words, how they end, and what is written and answered for that end; and `complete`, that where no count of absences
-/// or faults rose, it is what the words and the files come to, or memory was wanting. Several consoles run side by side on
-/// threads, whose steps enter the gate: both clauses hold however the threads are scheduled and whatever the gate does.
-/// This project's profile.
+/// or faults rose, it is what the words and the files come to, or memory was wanting. Several consoles run side by side
+/// on threads, whose steps enter the gate: both clauses hold however the threads are scheduled and whatever the gate
+/// does. This project's profile.
 pub fn gba_link<R: Threads + Sync, S: Store, O: Sink, G: Gate + Sync>(
     rt: &R,
     alloc: Global,

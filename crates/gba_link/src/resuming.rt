@@ -35,7 +35,8 @@ fn frozen_cause(words: &ResumeWords<'_>, error: ThawError) -> Cause
     Cause::Frozen(name_in_report(words.frozen), error)
 }
 
-/// Prepares the run of a job with its inputs from where the bytes of FROZEN say that it was frozen. All memory is taken.
+/// Prepares the run of a job with its inputs from where the bytes of FROZEN say that it was frozen. All
+/// memory is taken.
 fn resume_inputs(
     alloc: Global,
     words: &ResumeWords<'_>,
@@ -47,7 +48,8 @@ fn resume_inputs(
     requires sound { IsJob (job_value job) }
     requires inputs { AllZip AreInputs (job_value job).consoles (map inputs_value inputs.items) }
     ensures { Agrees run_itself
-        (run_or_refusal (resume_words_value words.now) (job_value job) (map inputs_value inputs.items) bytes.now) result }
+        (run_or_refusal (resume_words_value words.now) (job_value job) (map inputs_value inputs.items) bytes.now)
+        result }
 {
     thaws_soundly();
     thaws_plainly();

@@ -37,14 +37,16 @@ fn least(a: Option<u64>, b: Option<u64>) -> Option<u64>
     }
 }
 
-/// The line at which a job is refused, since an output file or the one file more is JOB, FROZEN or one of the job's inputs.
+/// The line at which a job is refused, since an output file or the one file more is JOB, FROZEN or one of the
+/// job's inputs.
 fn clash_for(
     job: &Job,
     words: &RunWords<'_>,
     frozen: Option<&str>,
     more: Option<&str>,
 ) -> Option<u64>
-    ensures { result ≡ clash_for_words (option_map (λ one. one.now) frozen.entry) (option_map (λ one. one.now) more.entry)
+    ensures { result
+        ≡ clash_for_words (option_map (λ one. one.now) frozen.entry) (option_map (λ one. one.now) more.entry)
         (run_words_value words.now) (job_value job.now) }
 {
     let clash = job.clash(words.job, words.out, more);
@@ -54,7 +56,8 @@ fn clash_for(
     }
 }
 
-/// The job that the bytes say, where no output file, and not the one file more, is JOB, FROZEN or one of the job's inputs.
+/// The job that the bytes say, where no output file, and not the one file more, is JOB, FROZEN or one of the
+/// job's inputs.
 fn accepted_job(
     alloc: Global,
     words: &RunWords<'_>,
@@ -151,8 +154,8 @@ fn prepare_job<S: Store>(
     }
 }
 
-/// Reads JOB, which may not be written by what its command does, nor be the one file more, nor name such an input; nor may FROZEN be
-/// written.
+/// Reads JOB, which may not be written by what its command does, nor be the one file more, nor name such an input; nor
+/// may FROZEN be written.
 pub(crate) fn read_job<S: Store>(
     alloc: Global,
     store: &mut S,

@@ -34,8 +34,8 @@ pub(crate) fn made(outputs: Result<Outputs, Refusal>) -> Result<Work, Refusal>
     }
 }
 
-/// Writes what a command comes to, or its report, and answers the exit status. The consoles run now, and their files grow
-/// from segment to segment.
+/// Writes what a command comes to, or its report, and answers the exit status. The consoles run now, and their files
+/// grow from segment to segment.
 pub(crate) fn answer_work<R: Threads + Sync, O: Sink, G: Gate + Sync>(
     rt: &R,
     alloc: Global,

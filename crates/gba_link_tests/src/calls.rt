@@ -97,7 +97,8 @@ pub fn call_with<R: Threads + Sync>(
     Ok(Answer { status, out })
 }
 
-/// The status of a call with these words over these files, which writes into a sink, and whose lanes go through this gate.
+/// The status of a call with these words over these files, which writes into a sink, and whose lanes go
+/// through this gate.
 pub fn call_into<R: Threads + Sync, O: Sink, G: Gate + Sync>(
     rt: &R,
     alloc: Global,

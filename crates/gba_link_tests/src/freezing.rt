@@ -62,8 +62,9 @@ const REFUSED: Case<'static> = Case {
     ..ONE
 };
 
-/// The clock is the least one that a step ends at or behind; a digest that is stated isn't compared, since it is of the whole run, and the
-/// job is the same without it. CLOCK may be the job's last, and no later. The frozen file may be no input, and neither the job.
+/// The clock is the least one that a step ends at or behind; a digest that is stated isn't compared, since it is of the
+/// whole run, and the job is the same without it. CLOCK may be the job's last, and no later. The frozen file may be no
+/// input, and neither the job.
 static CASES: [Case<'static>; 9] = [
     ONE,
     Case {

@@ -24,8 +24,8 @@ enum Frozen<'a> {
     Changed(&'a str, &'a str),
 }
 
-/// A call, its job `j` and its frozen file, which reads fail, its status and report, and the files under `g` by what their names have
-/// behind it.
+/// A call, its job `j` and its frozen file, which reads fail, its status and report, and the files under `g` by what
+/// their names have behind it.
 struct Case<'a> {
     words: &'a [&'a str],
     job: &'a str,
@@ -61,7 +61,8 @@ const REFUSED: Case<'static> = Case {
     ..GOES_ON
 };
 
-/// A digest that is stated isn't compared, and the job is the same without it; FROZEN may be named as what `freeze` writes under OUT.
+/// A digest that is stated isn't compared, and the job is the same without it; FROZEN may be named as what `freeze`
+/// writes under OUT.
 static ACCEPTED: [Case<'static>; 3] = [
     GOES_ON,
     Case {
@@ -75,7 +76,8 @@ static ACCEPTED: [Case<'static>; 3] = [
     },
 ];
 
-/// Words that are no command; FROZEN may be none of the files that a run of the job would write, and is read behind the two images.
+/// Words that are no command; FROZEN may be none of the files that a run of the job would write, and is read behind the
+/// two images.
 static UNREAD: [Case<'static>; 7] = [
     Case {
         words: &["resume", "j", "f"],
@@ -255,8 +257,8 @@ const IMAGES: &[(&str, Content<'static>)] = &[
     ("d", Code(&COUNTS_IN_COLOURS)),
 ];
 
-/// The transfer starts at 817, and its END is 18 * 2 * 145 cycles later. There console 1 is between two steps, and console 0 within a
-/// step from 6,036 on.
+/// The transfer starts at 817, and its END is 18 * 2 * 145 cycles later. There console 1 is between two steps, and
+/// console 0 within a step from 6,036 on.
 const TRANSFER: &str =
     "gbalink 1\ncycles 10000\nconsole 0\nbios b\nout samples\nout words\nout state\nconsole 1\nbios c\nout words\nout state\nout save\nend\n";
 

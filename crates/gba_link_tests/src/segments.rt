@@ -1,6 +1,6 @@
-//! A console whose run goes in segments of 2^24 cycles: which calls of the sink are made, in which order, and what is there
-//! where one of them fails. What is written is stated by hand, from the cycles of the programs and the formats; the digests
-//! are those that `sha256sum` gives for these bytes.
+//! A console whose run goes in segments of 2^24 cycles: which calls of the sink are made, in which order, and what is
+//! there where one of them fails. What is written is stated by hand, from the cycles of the programs and the formats;
+//! the digests are those that `sha256sum` gives for these bytes.
 
 use crate::calls::sink_of;
 use crate::{
@@ -80,10 +80,12 @@ fn follow_all<R: Abort + Threads + Sync>(
     Ok(())
 }
 
-/// A pair of samples comes at each multiple of 512, so a segment has 32,768 of them in 131,072 bytes. A frame is whole at
-/// 196,894 and each 280,896 cycles from there on, and has 76,800 bytes: 60 frames in the first segment, 59 in the second.
+/// A pair of samples comes at each multiple of 512, so a segment has 32,768 of them in 131,072 bytes. A frame is
+/// whole at 196,894 and each 280,896 cycles from there on, and has 76,800 bytes: 60 frames in the first segment, 59
+/// in the second.
 static COURSES: [Course<'static>; 5] = [
-    // The step that passes the end of the first segment passes that of the run too, and the second segment makes nothing.
+    // The step that passes the end of the first segment passes that of the run too, and the second segment
+    // makes nothing.
     Course {
         job: "gbalink 1\ncycles 16777217\nconsole 0\nbios b\nout samples\nend\n",
         failing: Failing::NONE,
@@ -226,8 +228,8 @@ const FAILED: Course<'static> = Course {
     written: &[],
 };
 
-/// A failed create leaves no file, and a failed append half of its piece; then the report is the last call. The pieces are
-/// 131,072 and 8 bytes of samples, the save, the log and the summary.
+/// A failed create leaves no file, and a failed append half of its piece; then the report is the last call. The pieces
+/// are 131,072 and 8 bytes of samples, the save, the log and the summary.
 static FAILURES: [Course<'static>; 8] = [
     Course {
         failing: Failing {

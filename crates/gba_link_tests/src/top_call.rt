@@ -59,8 +59,8 @@ enum Report<'a> {
     Lines(&'a str),
 }
 
-/// One call: its words, its job and the files beside it, which calls of the outside fail, and what must come of it, with the
-/// files under an OUT by what their names have behind it.
+/// One call: its words, its job and the files beside it, which calls of the outside fail, and what must come of it,
+/// with the files under an OUT by what their names have behind it.
 #[derive(Clone, Copy)]
 struct Case<'a> {
     words: &'a [&'a str],
@@ -177,8 +177,8 @@ const NO_TRACE: Case<'static> = Case {
     ..TRACED
 };
 
-/// All steps, none behind the end, some of four consoles whose clocks are equal, and those of a console that is off; traces that
-/// would be JOB or an input, as would an output of its run; and a run for which that name is free.
+/// All steps, none behind the end, some of four consoles whose clocks are equal, and those of a console that is off;
+/// traces that would be JOB or an input, as would an output of its run; and a run for which that name is free.
 static TRACES: [Case<'static>; 8] = [
     TRACED,
     Case {
@@ -476,8 +476,8 @@ const NO_JOB: Case<'static> = Case {
     ..REFUSED
 };
 
-/// Jobs whose run would write the job, one of their inputs, the log or another console's output, with the least such line;
-/// and the longest names.
+/// Jobs whose run would write the job, one of their inputs, the log or another console's output, with the least such
+/// line; and the longest names.
 static NAMES: [Case<'static>; 5] = [
     Case {
         words: &["run", "g.0.state", "g"],
@@ -617,7 +617,8 @@ const LOG_OF_SILENCE: &str =
 const SUMMARY_OF_SILENCE: &str =
     "console 0 clock 3 frames 0 samples 0 words 0\nlog ac045c9b0192e3954cd28375232e13a43d0bfae63455a440a8f8b8ea5c1f04f8\n";
 
-/// Other spellings of jobs of one branch, their logs and their summaries. The first is the log that an older program wrote.
+/// Other spellings of jobs of one branch, their logs and their summaries. The first is the log that an older
+/// program wrote.
 static OTHER_SPELLINGS: [Case<'static>; 5] = [
     Case {
         job: "gbalink 1\ncycles 1\ndelay 512\nconsole 0\nbios b sha256 42bc114dbdbbee2e759ce16f2cb8804ae18fefe935a14951d0e07af2a3401d8b\nout state sha256 f5635389d90d8739668892422cd55855e02eebb63ce16ebf1b2d14bf7a5c39a8\nend\n",
@@ -729,7 +730,8 @@ static PROGRAMS: [Case<'static>; 3] = [
     },
 ];
 
-/// MOV r0, #5 and a branch to itself for 10 cycles; a table of two words in the inner RAM; a BIOS that enters Thumb state.
+/// MOV r0, #5 and a branch to itself for 10 cycles; a table of two words in the inner RAM; a BIOS that enters
+/// Thumb state.
 #[test]
 fn programs_run_to_their_states(rt: HostRuntime) -> Result<(), Fail> {
     play_all(&rt, rt.alloc(), &PROGRAMS)
@@ -840,8 +842,8 @@ static IMAGES: [Case<'static>; 9] = [
     },
 ];
 
-/// Each image is read and checked in its order: the BIOS, the cartridge, the save. The first refusal is told, and nothing
-/// is written.
+/// Each image is read and checked in its order: the BIOS, the cartridge, the save. The first refusal is told, and
+/// nothing is written.
 #[test]
 fn images_are_checked_in_their_order(rt: HostRuntime) -> Result<(), Fail> {
     play_all(&rt, rt.alloc(), &IMAGES)
@@ -897,8 +899,8 @@ static SAVED: [Case<'static>; 6] = [
     },
 ];
 
-/// With all its images a console runs; its state file and its save are written, the save as it was read, and as FFh where
-/// none was.
+/// With all its images a console runs; its state file and its save are written, the save as it was read, and as FFh
+/// where none was.
 #[test]
 fn a_save_is_written_as_it_was_read(rt: HostRuntime) -> Result<(), Fail> {
     play_all(&rt, rt.alloc(), &SAVED)

@@ -1,5 +1,5 @@
-//! Every read and every call of the sink fails in turn, in each command. What has to be left is worked out from the list of
-//! calls, as the order of creates and appends is stated, and not from what the program does.
+//! Every read and every call of the sink fails in turn, in each command. What has to be left is worked out from the
+//! list of calls, as the order of creates and appends is stated, and not from what the program does.
 
 use Content::{Cartridge, Code, Filled, Text};
 use gba_link_tests::{
@@ -61,8 +61,8 @@ fn numbered_call<'a>(calls: &'a str, place: usize) -> Option<Numbered<'a>> {
     None
 }
 
-/// How many bytes a file has where the call of this number fails, or None where it isn't there: a failed create leaves no
-/// file, and a failed append half of its piece.
+/// How many bytes a file has where the call of this number fails, or None where it isn't there: a failed create leaves
+/// no file, and a failed append half of its piece.
 fn left_of(calls: &str, failing: usize, name: &str) -> Option<usize> {
     let mut left = None;
     for (at, line) in calls.lines().enumerate() {
@@ -258,8 +258,8 @@ create g.3.words\ncreate g.3.state\ncreate g.log\n\
 append g.0.bios 16384\nappend g.1.bios 16384\nappend g.2.bios 16384\nappend g.3.bios 16384\nappend g.job 212\n\
 append g.0.state ";
 
-/// Up to a clock in the second segment there are 11 more frames and 6,294 more pairs of samples. What is written of a whole
-/// run alone isn't: no state, no save, no log.
+/// Up to a clock in the second segment there are 11 more frames and 6,294 more pairs of samples. What is written of a
+/// whole run alone isn't: no state, no save, no log.
 const FROZEN: &str =
     "create g.0.frames\ncreate g.1.samples\ncreate g.1.words\ncreate g.3.samples\ncreate g.frozen\n\
 append g.0.frames 4608000\nappend g.1.samples 131072\nappend g.3.samples 131072\n\
@@ -270,8 +270,8 @@ append g.frozen ";
 const HALTED_JOB: &str =
     "gbalink 1\ncycles 33564432\nconsole 0\nbios b\nsave s\nout frames\nout samples\nout state\nout save\nend\n";
 
-/// Where it is frozen at the beginning of its 73rd frame: 72 times 280,896 cycles are 20,224,512, and each step of its halt ends 3 cycles
-/// past a multiple of 16. The digest is that of `sha256sum` for the log of its job.
+/// Where it is frozen at the beginning of its 73rd frame: 72 times 280,896 cycles are 20,224,512, and each step of its
+/// halt ends 3 cycles past a multiple of 16. The digest is that of `sha256sum` for the log of its job.
 const HALTED: &str =
     "gbalink-frozen 1\njob 0669642147f4e141bccf5d8e74c6021de575773ac69917b104ae841d0dad6610\n\
 gbalink-state 1\nconsole 0\nclock 20224515\nhalted 1\n\
@@ -291,7 +291,8 @@ mem io 000080 0000000000000000000200000000000000000000000000000000000000000000\n
 mem io 000120 00000000000000000000000000000000ff030000008000000000000000000000\n\
 was 20224499\napplied 0\ncounts 72 39501 0\nend\n";
 
-/// In the second segment 47 frames and 26,035 pairs of samples are left, and in the third one there are 19 pairs. There is no log.
+/// In the second segment 47 frames and 26,035 pairs of samples are left, and in the third one there are 19 pairs. There
+/// is no log.
 const RESUMED: &str = "create g.0.frames\ncreate g.0.samples\ncreate g.0.state\ncreate g.0.save\n\
 append g.0.frames 3609600\nappend g.0.samples 104140\nappend g.0.samples 76\nappend g.0.state ";
 
@@ -339,9 +340,9 @@ static COMMANDS: [Command<'static>; 7] = [
     },
 ];
 
-/// Each create and each append fails, of a run over three segments, of what is frozen in the second one, of what goes on there, of
-/// `trace`, `gen`, `asm` and `dis`: the file of that call is told, what was added before is there, half of the piece of that call, and no
-/// call comes after it but the report.
+/// Each create and each append fails, of a run over three segments, of what is frozen in the second one, of what goes
+/// on there, of `trace`, `gen`, `asm` and `dis`: the file of that call is told, what was added before is there, half of
+/// the piece of that call, and no call comes after it but the report.
 #[test]
 fn each_call_of_the_sink_fails(rt: HostRuntime) -> Result<(), Fail> {
     for command in &COMMANDS {

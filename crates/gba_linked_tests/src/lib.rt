@@ -1,6 +1,6 @@
 #![tactic(auto)]
-//! Tests of consoles on a cable by the top call: whole runs with all their files, lanes that meet, a thousand schedules,
-//! runs in segments, and reads and calls that fail.
+//! Tests of consoles on a cable by the top call: whole runs with all their files, lanes that meet, a thousand
+//! schedules, runs in segments, and reads and calls that fail.
 
 #[cfg(test)]
 mod failing;

@@ -301,7 +301,8 @@ const TWO_FILES: &[(&str, Content<'static>)] = &[
     (".log", Text(TWO_LOG)),
 ];
 
-/// The run of two consoles, whose states are told too. It stands by itself, since a list with so much text in it is checked slowly.
+/// The run of two consoles, whose states are told too. It stands by itself, since a list with so much text in it is
+/// checked slowly.
 static LINKED_PAIR: Linked<'static> = Linked {
     job: TWO,
     inputs: TWO_INPUTS,
@@ -363,8 +364,8 @@ static LINKED: [Linked<'static>; 7] = [
             (".log", Text(UNEVEN_LOG)),
         ],
     },
-    // Player 1's reply comes to player 2 before the start does, and is lost there. The end comes 18 * 3 * 145 cycles after
-    // the start.
+    // Player 1's reply comes to player 2 before the start does, and is lost there. The end comes 18 * 3 * 145 cycles
+    // after the start.
     Linked {
         job: "gbalink 2\ncycles 9000\nlink 0 1 1\nlink 1 2 1\nlink 0 2 1024\nconsole 0\nbios b\nout words\nconsole 1\nbios c\nout words\nconsole 2\nbios c\nout words\nend\n",
         inputs: &[("b", Code(&STARTS_MULTI)), ("c", Code(&AWAITS_MULTI))],

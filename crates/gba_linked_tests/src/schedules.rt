@@ -30,8 +30,8 @@ fn hold(front: u64, turns: u64) {
     }
 }
 
-/// Holds some steps for a while, by a row of numbers that look random, and counts all of them. Or, where it is open, holds
-/// each of some bursts, and counts the questions whether it is open.
+/// Holds some steps for a while, by a row of numbers that look random, and counts all of them. Or, where it is open,
+/// holds each of some bursts, and counts the questions whether it is open.
 #[derive(Drop)]
 struct Holding {
     open: bool,
@@ -75,8 +75,8 @@ impl Gate for Holding {
     }
 }
 
-/// A cable: so many consoles, of which the first runs one program and the others another one, the delay, the job's cycles,
-/// and the words of the first console and of each other one.
+/// A cable: so many consoles, of which the first runs one program and the others another one, the delay, the job's
+/// cycles, and the words of the first console and of each other one.
 #[derive(Clone, Copy)]
 struct Cable<'a> {
     consoles: u32,
@@ -219,8 +219,8 @@ fn have_words<R: Abort>(
     Ok(())
 }
 
-/// All schedules of a cable, with a gate that is open or not, come to what it comes to without a gate. It answers the sum of
-/// the gates' counts.
+/// All schedules of a cable, with a gate that is open or not, come to what it comes to without a gate. It answers the
+/// sum of the gates' counts.
 fn run_cable<R: Abort + Threads + Sync>(
     rt: &R,
     alloc: Global,
@@ -240,7 +240,8 @@ fn run_cable<R: Abort + Threads + Sync>(
     Ok(sum)
 }
 
-/// How many lanes the rounds begin with that all schedules of a cable have: lanes are tried where a delay is 256 or more.
+/// How many lanes the rounds begin with that all schedules of a cable have: lanes are tried where a delay is
+/// 256 or more.
 fn lanes_of(cable: &Cable<'_>) -> u64 {
     if cable.consoles == 1 || cable.delay < 256 {
         0
@@ -253,7 +254,8 @@ fn lanes_of(cable: &Cable<'_>) -> u64 {
 fn a_thousand_schedules_write_the_same(rt: HostRuntime) -> Result<(), Fail> {
     for cable in &CABLES {
         let entries = run_cable(&rt, rt.alloc(), cable, false)?;
-        // each lane goes at least one delay far by itself, and each step of it enters the gate and lasts at most 16 cycles
+        // each lane goes at least one delay far by itself, and each step of it enters the gate and lasts at
+        // most 16 cycles
         let steps = cable.delay.min(cable.cycles) / 16;
         assert!(rt; entries >= lanes_of(cable).saturating_mul(steps));
     }

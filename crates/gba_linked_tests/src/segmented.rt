@@ -1,5 +1,5 @@
-//! Consoles on a cable whose run goes in segments of 2^24 cycles. What is written is stated by hand, from the cycles of the
-//! programs, the rules of transfers and the formats; the digests are those that `sha256sum` gives for these bytes.
+//! Consoles on a cable whose run goes in segments of 2^24 cycles. What is written is stated by hand, from the cycles of
+//! the programs, the rules of transfers and the formats; the digests are those that `sha256sum` gives for these bytes.
 
 use Content::{Code, Filled, Text};
 use Expected::Is;
@@ -13,9 +13,10 @@ use std::sync::atomic::{AtomicBool, AtomicU64, Ordering};
 use std::test::Fail;
 use std::thread::Threads;
 
-/// Counts in r7. Timer 0 overflows at 23 + 65,456 * 64, which is 4,189,207, and then each 2^22 cycles. It wakes the console,
-/// which goes on at 31 + 261,824 * 16, which is 4,189,215: 3 cycles later it writes the count as the backdrop's colour, and
-/// 7 cycles later it starts a Multi transfer at speed 3 with the count. It halts again 16 cycles after it went on.
+/// Counts in r7. Timer 0 overflows at 23 + 65,456 * 64, which is 4,189,207, and then each 2^22 cycles. It wakes the
+/// console, which goes on at 31 + 261,824 * 16, which is 4,189,215: 3 cycles later it writes the count as the
+/// backdrop's colour, and 7 cycles later it starts a Multi transfer at speed 3 with the count. It halts again 16 cycles
+/// after it went on.
 const STARTS: [u32; 30] = [
     0xE3A0_5301, // 00 MOV r5, #04000000h
     0xE285_4C01, // 04 ADD r4, r5, #100h
@@ -64,15 +65,15 @@ const AWAITS: [u32; 11] = [
     0x0000_2003, // 28
 ];
 
-/// The ends come 18 * 4 * 145 cycles after the starts. The fourth transfer is under way where the first segment ends, and
-/// the eighth where the second one does.
+/// The ends come 18 * 4 * 145 cycles after the starts. The fourth transfer is under way where the first segment ends,
+/// and the eighth where the second one does.
 const WORDS: &str = "4199662 multi 1001 03fd 03fb 03f7 0\n8393966 multi 1002 03fd 03fb 03f7 0\n\
 12588270 multi 1003 03fd 03fb 03f7 0\n16782574 multi 1004 03fd 03fb 03f7 0\n\
 20976878 multi 1005 03fd 03fb 03f7 0\n25171182 multi 1006 03fd 03fb 03f7 0\n\
 29365486 multi 1007 03fd 03fb 03f7 0\n33559790 multi 1008 03fd 03fb 03f7 0\n";
 
-/// The calls of the sink. Of the words three lines are of the first segment, four of the second and one of the third, in
-/// which there are 19 pairs of samples and no frame.
+/// The calls of the sink. Of the words three lines are of the first segment, four of the second and one of the third,
+/// in which there are 19 pairs of samples and no frame.
 const CALLS: &str =
     "create g.0.samples\ncreate g.0.words\ncreate g.1.words\ncreate g.2.samples\ncreate g.2.words\n\
 create g.3.words\ncreate g.3.save\ncreate g.log\n\
@@ -199,8 +200,8 @@ fn is_coloured(line: &[u8], colour: &[u8]) -> bool {
     true
 }
 
-/// A line is drawn where its HBlank begins, 1,006 cycles after the line, which has 1,232; a frame has 228 of them, of which
-/// 160 are drawn.
+/// A line is drawn where its HBlank begins, 1,006 cycles after the line, which has 1,232; a frame has 228 of them, of
+/// which 160 are drawn.
 fn are_drawn<R: Abort>(rt: &R, frames: &[u8]) {
     assert_eq!(rt; frames.len(), 119 * 76_800);
     for (number, line) in frames.chunks_exact(480).enumerate() {
@@ -289,8 +290,8 @@ fn one_thread_writes_the_same(rt: HostRuntime) -> Result<(), Fail> {
 const PAIR: &str =
     "gbalink 1\ncycles 33556432\ndelay 1024\nconsole 0\nbios a\nout samples\nconsole 1\nbios a\nout samples\nend\n";
 
-/// How many calls of the sink are due before a step that begins 512 cycles or more after the end of so many segments: three
-/// files are made, and each segment gives two pieces.
+/// How many calls of the sink are due before a step that begins 512 cycles or more after the end of so many segments:
+/// three files are made, and each segment gives two pieces.
 fn calls_due(segments: u64) -> u64 {
     if segments == 0 {
         0
@@ -299,8 +300,8 @@ fn calls_due(segments: u64) -> u64 {
     }
 }
 
-/// Looks before each step at the number of calls that were made. Keeps whether a step came before a call that was due, and in
-/// which segments there were steps.
+/// Looks before each step at the number of calls that were made. Keeps whether a step came before a call that was due,
+/// and in which segments there were steps.
 #[derive(Drop)]
 struct Order {
     made: AtomicU64,

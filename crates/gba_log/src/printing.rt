@@ -225,8 +225,8 @@ fn add_consoles(into: &mut Vec<u8>, consoles: &[JobConsole])
     }
 }
 
-/// Adds the log of a job to a buffer that has room for its `printed_len` bytes. The job is one that was read, or one that
-/// was read with its digests stated and the changes of its key files written in. It takes no memory.
+/// Adds the log of a job to a buffer that has room for its `printed_len` bytes. The job is one that was read, or one
+/// that was read with its digests stated and the changes of its key files written in. It takes no memory.
 #[tactic(auto, unfolding(gba_joblog::specs::Log::log_text))]
 pub fn print(job: &Job, into: &mut Vec<u8>)
     requires sound { IsJob (job_value job.now) }

@@ -113,13 +113,15 @@ module _ (b : Core) (n : ConsoleNumbers) (are : AreNumbersOf b n) (fit : AreInRa
   dot-small = let h = fit board.Dot refl in grind (arith, nat_tests, h)
 
   place-by : (l d k e : ℕ) → l ≡ k → d ≡ e
-      → (let one : Position = record { line = l; dot = d } in one) ≡ (let other : Position = record { line = k; dot = e } in other)
+      → (let one : Position = record { line = l; dot = d } in one)
+      ≡ (let other : Position = record { line = k; dot = e } in other)
   place-by l d k e p q = cc
 
   place-again : place_poured n ≡ b.devices.place
   unfolding board_number is_board_field
   place-again =
-      place-by _ _ _ _ (cut-again 32 _ _ (are board.Line refl) line-small) (cut-again 32 _ _ (are board.Dot refl) dot-small)
+      place-by _ _ _ _ (cut-again 32 _ _ (are board.Line refl) line-small)
+      (cut-again 32 _ _ (are board.Dot refl) dot-small)
 
   x-small : (k : ℕ) → is_board_field (board.ReferenceX k) ≡ true → (reference_of k b.devices.picture).x < 2 ^ 32
   unfolding board_fits board_number is_board_field
@@ -130,7 +132,8 @@ module _ (b : Core) (n : ConsoleNumbers) (are : AreNumbersOf b n) (fit : AreInRa
   y-small k is = let h = fit (board.ReferenceY k) is in grind (arith, nat_tests, h)
 
   reference-by : (x y v w : ℕ) → x ≡ v → y ≡ w
-      → (let one : Reference = record { x = x; y = y } in one) ≡ (let other : Reference = record { x = v; y = w } in other)
+      → (let one : Reference = record { x = x; y = y } in
+      one) ≡ (let other : Reference = record { x = v; y = w } in other)
   reference-by x y v w p q = cc
 
   reference-again : (k : ℕ) → is_board_field (board.ReferenceX k) ≡ true → is_board_field (board.ReferenceY k) ≡ true

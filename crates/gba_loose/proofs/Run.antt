@@ -16,7 +16,8 @@ use Rattle.gba_loose.specs.Numbers.{board_number}
 use Rattle.gba_loose.proofs.Made.{cut-again, truth-again}
 
 players-again : (got : List Bool) → length got ≡ 4
-    → players_of (weight 1 (was_received got 0) + weight 2 (was_received got 1) + weight 4 (was_received got 2) + weight 8 (was_received got 3)) ≡ got
+    → players_of (weight 1 (was_received got 0) + weight 2 (was_received got 1) + weight 4 (was_received got 2)
+    + weight 8 (was_received got 3)) ≡ got
 unfolding players_of
 players-again (true ∷ true ∷ true ∷ true ∷ []) four = refl
 players-again (true ∷ true ∷ true ∷ false ∷ []) four = refl
@@ -40,18 +41,21 @@ players-again (a ∷ b ∷ []) four = absurd (omega (arith, four))
 players-again (a ∷ b ∷ c ∷ []) four = absurd (omega (arith, four))
 players-again (a ∷ b ∷ c ∷ d ∷ e ∷ more) four = absurd (omega (arith, four))
 
-some-by : (a : Bool) (b c d : ℕ) (e : List Bool) (run : Running) → a ≡ run.starter → b ≡ run.end → c ≡ run.sent → d ≡ run.word
-    → e ≡ run.got
+some-by : (a : Bool) (b c d : ℕ) (e : List Bool) (run : Running) → a ≡ run.starter → b ≡ run.end → c ≡ run.sent
+    → d ≡ run.word → e ≡ run.got
     → (let one : Running = record { starter = a; end = b; sent = c; word = d; got = e } in one)
-    ≡ (let other : Running = record { starter = run.starter; end = run.end; sent = run.sent; word = run.word; got = run.got } in other)
+    ≡ (let other : Running =
+    record { starter = run.starter; end = run.end; sent = run.sent; word = run.word; got = run.got } in other)
 some-by a b c d e run p q r s t = cc
 
 run-by : (run : Option Running) (running started end got sent word : ℕ) → (running == 1) ≡ is_some run
-    → (started == 1) ≡ is_starter_of run → end ≡ running_number (λ r. r.end) run → got ≡ running_number received_mask run
-    → sent ≡ running_number (λ r. r.sent) run → word ≡ running_number (λ r. r.word) run
-    → IfSome run (λ r. length r.got ≡ 4)
+    → (started == 1) ≡ is_starter_of run → end ≡ running_number (λ r. r.end) run
+    → got ≡ running_number received_mask run → sent ≡ running_number (λ r. r.sent) run
+    → word ≡ running_number (λ r. r.word) run → IfSome run (λ r. length r.got ≡ 4)
     → (if running == 1
-    then Some (let one : Running = record { starter = started == 1; end = end; sent = sent; word = word; got = players_of got } in one)
+    then
+    Some (let one : Running =
+    record { starter = started == 1; end = end; sent = sent; word = word; got = players_of got } in one)
     else None) ≡ run
 run-by None running started end got sent word a b c d e f four = rw a refl
 run-by (Some run) running started end got sent word a b c d e f four =

@@ -30,7 +30,8 @@ module _ (b : Core) (n : ConsoleNumbers) (are : AreNumbersOf b n) (fit : AreInRa
   unfolding board_fits is_board_field
   sequencer-small = let h = fit board.Sequencer refl in grind (arith, nat_tests, h)
 
-  part-small : (tone part : ℕ) → is_board_field (board.Tone tone part) ≡ true → board_number (board.Tone tone part) b < 2 ^ 32
+  part-small : (tone part : ℕ) → is_board_field (board.Tone tone part) ≡ true
+      → board_number (board.Tone tone part) b < 2 ^ 32
   unfolding board_fits
   part-small tone part is =
       let h = fit (board.Tone tone part) is in
@@ -38,7 +39,40 @@ module _ (b : Core) (n : ConsoleNumbers) (are : AreNumbersOf b n) (fit : AreInRa
 
   tones-again : tone_numbers n ≡ numbers_of b.devices.tones
   unfolding board_number is_board_field tone_field numbers_of
-  tones-again = cons-again (own board.Sequencer refl sequencer-small) (cons-again (own (board.Tone 1 0) refl (part-small 1 0 refl)) (cons-again (own (board.Tone 1 1) refl (part-small 1 1 refl)) (cons-again (own (board.Tone 1 2) refl (part-small 1 2 refl)) (cons-again (own (board.Tone 1 3) refl (part-small 1 3 refl)) (cons-again (own (board.Tone 1 4) refl (part-small 1 4 refl)) (cons-again (own (board.Tone 1 5) refl (part-small 1 5 refl)) (cons-again (own (board.Tone 1 6) refl (part-small 1 6 refl)) (cons-again (own (board.Tone 1 7) refl (part-small 1 7 refl)) (cons-again (own (board.Tone 2 0) refl (part-small 2 0 refl)) (cons-again (own (board.Tone 2 1) refl (part-small 2 1 refl)) (cons-again (own (board.Tone 2 2) refl (part-small 2 2 refl)) (cons-again (own (board.Tone 2 3) refl (part-small 2 3 refl)) (cons-again (own (board.Tone 2 4) refl (part-small 2 4 refl)) (cons-again (own (board.Tone 2 5) refl (part-small 2 5 refl)) (cons-again (own (board.Tone 2 6) refl (part-small 2 6 refl)) (cons-again (own (board.Tone 2 7) refl (part-small 2 7 refl)) (cons-again (own (board.Tone 3 0) refl (part-small 3 0 refl)) (cons-again (own (board.Tone 3 1) refl (part-small 3 1 refl)) (cons-again (own (board.Tone 3 2) refl (part-small 3 2 refl)) (cons-again (own (board.Tone 3 3) refl (part-small 3 3 refl)) (cons-again (own (board.Tone 3 4) refl (part-small 3 4 refl)) (cons-again (own (board.Tone 3 5) refl (part-small 3 5 refl)) (cons-again (own (board.Tone 3 6) refl (part-small 3 6 refl)) (cons-again (own (board.Tone 3 7) refl (part-small 3 7 refl)) (cons-again (own (board.Tone 4 0) refl (part-small 4 0 refl)) (cons-again (own (board.Tone 4 1) refl (part-small 4 1 refl)) (cons-again (own (board.Tone 4 2) refl (part-small 4 2 refl)) (cons-again (own (board.Tone 4 3) refl (part-small 4 3 refl)) (cons-again (own (board.Tone 4 4) refl (part-small 4 4 refl)) (cons-again (own (board.Tone 4 5) refl (part-small 4 5 refl)) (cons-again (own (board.Tone 4 6) refl (part-small 4 6 refl)) (cons-again (own (board.Tone 4 7) refl (part-small 4 7 refl)) refl))))))))))))))))))))))))))))))))
+  tones-again =
+      cons-again (own board.Sequencer refl sequencer-small)
+      (cons-again (own (board.Tone 1 0) refl (part-small 1 0 refl))
+      (cons-again (own (board.Tone 1 1) refl (part-small 1 1 refl))
+      (cons-again (own (board.Tone 1 2) refl (part-small 1 2 refl))
+      (cons-again (own (board.Tone 1 3) refl (part-small 1 3 refl))
+      (cons-again (own (board.Tone 1 4) refl (part-small 1 4 refl))
+      (cons-again (own (board.Tone 1 5) refl (part-small 1 5 refl))
+      (cons-again (own (board.Tone 1 6) refl (part-small 1 6 refl))
+      (cons-again (own (board.Tone 1 7) refl (part-small 1 7 refl))
+      (cons-again (own (board.Tone 2 0) refl (part-small 2 0 refl))
+      (cons-again (own (board.Tone 2 1) refl (part-small 2 1 refl))
+      (cons-again (own (board.Tone 2 2) refl (part-small 2 2 refl))
+      (cons-again (own (board.Tone 2 3) refl (part-small 2 3 refl))
+      (cons-again (own (board.Tone 2 4) refl (part-small 2 4 refl))
+      (cons-again (own (board.Tone 2 5) refl (part-small 2 5 refl))
+      (cons-again (own (board.Tone 2 6) refl (part-small 2 6 refl))
+      (cons-again (own (board.Tone 2 7) refl (part-small 2 7 refl))
+      (cons-again (own (board.Tone 3 0) refl (part-small 3 0 refl))
+      (cons-again (own (board.Tone 3 1) refl (part-small 3 1 refl))
+      (cons-again (own (board.Tone 3 2) refl (part-small 3 2 refl))
+      (cons-again (own (board.Tone 3 3) refl (part-small 3 3 refl))
+      (cons-again (own (board.Tone 3 4) refl (part-small 3 4 refl))
+      (cons-again (own (board.Tone 3 5) refl (part-small 3 5 refl))
+      (cons-again (own (board.Tone 3 6) refl (part-small 3 6 refl))
+      (cons-again (own (board.Tone 3 7) refl (part-small 3 7 refl))
+      (cons-again (own (board.Tone 4 0) refl (part-small 4 0 refl))
+      (cons-again (own (board.Tone 4 1) refl (part-small 4 1 refl))
+      (cons-again (own (board.Tone 4 2) refl (part-small 4 2 refl))
+      (cons-again (own (board.Tone 4 3) refl (part-small 4 3 refl))
+      (cons-again (own (board.Tone 4 4) refl (part-small 4 4 refl))
+      (cons-again (own (board.Tone 4 5) refl (part-small 4 5 refl))
+      (cons-again (own (board.Tone 4 6) refl (part-small 4 6 refl))
+      (cons-again (own (board.Tone 4 7) refl (part-small 4 7 refl)) refl))))))))))))))))))))))))))))))))
 
 pub tones-made-again : TonesAgain
 tones-made-again b n are fit = tones-again b n are fit

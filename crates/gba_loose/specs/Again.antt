@@ -34,11 +34,12 @@ pub record IsSameRun (one other : Channel) : Type 0 where
   pub target : one.inner_target ≡ other.inner_target
   pub left : one.left ≡ other.left
 
--- Timers, the runs of DMA channels, the picture's place and the inner reference points, and the halt are of numbers alone, whatever
--- the bytes of the I/O registers are.
+-- Timers, the runs of DMA channels, the picture's place and the inner reference points, and the halt are of numbers
+-- alone, whatever the bytes of the I/O registers are.
 pub record NumbersMakeAgain (b : Core) (n : ConsoleNumbers) : Type 0 where
   pub timers : timers_poured n ≡ b.devices.timers
-  pub runs : (channel : ℕ) (io : List ℕ) → channel < 4 → IsSameRun (channel_poured channel n io) (channel_at channel b.devices.channels)
+  pub runs : (channel : ℕ) (io : List ℕ) → channel < 4
+      → IsSameRun (channel_poured channel n io) (channel_at channel b.devices.channels)
   pub place : place_poured n ≡ b.devices.place
   pub reference2 : reference_poured 2 n ≡ b.devices.picture.reference2
   pub reference3 : reference_poured 3 n ≡ b.devices.picture.reference3
@@ -79,7 +80,8 @@ RunAgain =
     (b : Core) (n : ConsoleNumbers) → AreNumbersOf b n → AreInRange b → IfSome b.serial.run (λ run. length run.got ≡ 4)
     → run_poured n ≡ b.serial.run
 
--- The numbers of the tone channels are those that they say of themselves, which with the wave and with what is stored in their
--- registers make them again.
+-- The numbers of the tone channels are those that they say of themselves, which with the wave and with what is stored
+-- in their registers make them again.
 abbrev pub TonesAgain : Type 0
-TonesAgain = (b : Core) (n : ConsoleNumbers) → AreNumbersOf b n → AreInRange b → tone_numbers n ≡ numbers_of b.devices.tones
+TonesAgain =
+    (b : Core) (n : ConsoleNumbers) → AreNumbersOf b n → AreInRange b → tone_numbers n ≡ numbers_of b.devices.tones

@@ -27,7 +27,8 @@ tone_part part t =
     else if part == 6 then t.sweep
     else t.shadow
 
--- Each number of a board. Tone channels count from 1 here; a byte of the wave is one of the bank whose number stands in its name.
+-- Each number of a board. Tone channels count from 1 here; a byte of the wave is one of the bank whose number stands
+-- in its name.
 unfoldable pub board_number : BoardField → Core → ℕ
 board_number board.Halted b = flag_number b.devices.halted
 board_number (board.TimerCounter timer) b = (timer_at timer b.devices.timers).counter

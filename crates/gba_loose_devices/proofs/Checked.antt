@@ -43,18 +43,30 @@ sound-tone places t test = record {
 
 tone-by : (on : Bool) (place wait left volume fade sweep shadow : ℕ) → on ≡ false → place ≡ 0 → wait ≡ 0 → left ≡ 0
     → volume ≡ 0 → fade ≡ 0 → sweep ≡ 0 → shadow ≡ 0
-    → (let t : Tone = record { on = on; place = place; wait = wait; left = left; volume = volume; fade = fade; sweep = sweep; shadow = shadow } in t)
+    → (let t : Tone =
+    record {
+      on = on;
+      place = place;
+      wait = wait;
+      left = left;
+      volume = volume;
+      fade = fade;
+      sweep = sweep;
+      shadow = shadow;
+    } in t)
     ≡ tone_at_reset
 tone-by on place wait left volume fade sweep shadow a b c d e f g h = cc
 
 silent-tone : (t : Tone) → is_silent_tone t ≡ true → t ≡ tone_at_reset
 unfolding is_silent_tone
 silent-tone t test =
-    tone-by t.on t.place t.wait t.left t.volume t.fade t.sweep t.shadow (grind (arith, nat_tests)) (grind (arith, nat_tests))
+    tone-by t.on t.place t.wait t.left t.volume t.fade t.sweep t.shadow (grind (arith, nat_tests))
+    (grind (arith, nat_tests))
     (grind (arith, nat_tests)) (grind (arith, nat_tests)) (grind (arith, nat_tests)) (grind (arith, nat_tests))
     (grind (arith, nat_tests)) (grind (arith, nat_tests))
 
-tones-by : (is_on : Bool) (sequencer sweep shape1 control1 shape2 control2 select level control3 shape4 control4 mixer ratio : ℕ)
+tones-by : (is_on : Bool)
+    (sequencer sweep shape1 control1 shape2 control2 select level control3 shape4 control4 mixer ratio : ℕ)
     (tone1 tone2 tone3 tone4 : Tone) (bank0 bank1 : List ℕ) → is_on ≡ false → sequencer ≡ 0 → sweep ≡ 0 → shape1 ≡ 0
     → control1 ≡ 0 → shape2 ≡ 0 → control2 ≡ 0 → select ≡ 0 → level ≡ 0 → control3 ≡ 0 → shape4 ≡ 0 → control4 ≡ 0
     → mixer ≡ 0 → tone1 ≡ tone_at_reset → tone2 ≡ tone_at_reset → tone3 ≡ tone_at_reset → tone4 ≡ tone_at_reset
@@ -69,7 +81,8 @@ tones-by : (is_on : Bool) (sequencer sweep shape1 control1 shape2 control2 selec
       mixer = mixer;
       ratio = ratio;
     } in ts ≡ cleared ts)
-tones-by is_on sequencer sweep shape1 control1 shape2 control2 select level control3 shape4 control4 mixer ratio tone1 tone2 tone3 tone4 bank0 bank1 a b c d e f g h i j k l m n o p q = cc
+tones-by is_on sequencer sweep shape1 control1 shape2 control2 select level control3 shape4 control4 mixer ratio tone1
+    tone2 tone3 tone4 bank0 bank1 a b c d e f g h i j k l m n o p q = cc
 
 record AreZero (halves : List ℕ) : Type 0 where
   pub h0 : slice_index halves 0 ≡ 0
@@ -123,8 +136,8 @@ unfolding tones_of
 silent-again numbers bank0 bank1 halves off silent cleared =
     let still = silent-still numbers silent in
     let h = cleared-zero halves cleared in
-    tones-by _ _ _ _ _ _ _ _ _ _ _ _ _ (slice_index halves 11) _ _ _ _ bank0 bank1 off still.sequencer h.h0 h.h1 h.h2 h.h3 h.h4 h.h5
-    h.h6 h.h7 h.h8 h.h9 h.h10 still.square1 still.square2 still.wave still.noise
+    tones-by _ _ _ _ _ _ _ _ _ _ _ _ _ (slice_index halves 11) _ _ _ _ bank0 bank1 off still.sequencer h.h0 h.h1 h.h2
+    h.h3 h.h4 h.h5 h.h6 h.h7 h.h8 h.h9 h.h10 still.square1 still.square2 still.wave still.noise
 
 record AreRanged (numbers : List ℕ) : Type 0 where
   pub sequencer : slice_index numbers 0 < 0x40000
@@ -154,7 +167,9 @@ sound-tones numbers bank0 bank1 halves test =
       square2 = range.square2;
       wave = range.wave;
       noise = range.noise;
-      off = λ off. silent-again numbers bank0 bank1 halves off (grind (arith, nat_tests, off)) (grind (arith, nat_tests, off));
+      off =
+          λ off. silent-again numbers bank0 bank1 halves off (grind (arith, nat_tests, off))
+          (grind (arith, nat_tests, off));
     }
 
 pub sound-position : (p : Position) → is_position p ≡ true → IsPosition p

@@ -14,8 +14,8 @@ use Rattle.gba_loose_devices.specs.Values.{half_at, is_set, number_cut}
 
 -- The serial unit of a console's numbers and of the bytes of its I/O registers (GBATEK, GBA Communication Ports).
 
--- what stands in its registers: of SIOCNT 128h the stored bits, without the player and the error, which is bit 6; RCNT 134h; the
--- halfword at 12Ah; and the four from 120h up
+-- what stands in its registers: of SIOCNT 128h the stored bits, without the player and the error, which is bit 6; RCNT
+-- 134h; the halfword at 12Ah; and the four from 120h up
 abbrev pub registers_at : List ℕ → SerialRegisters
 registers_at io = record {
   control = bit_and (half_at 0x128 io) 0x708b;

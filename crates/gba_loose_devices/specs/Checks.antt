@@ -40,8 +40,8 @@ is_silent_tone t =
     not t.on && (t.place == 0) && (t.wait == 0) && (t.left == 0) && (t.volume == 0) && (t.fade == 0) && (t.sweep == 0)
     && (t.shadow == 0)
 
--- The tones of their numbers and halfwords are in range, and all that is to be 0 while the master enable is 0: the numbers, and
--- what is stored at the first eleven halfwords.
+-- The tones of their numbers and halfwords are in range, and all that is to be 0 while the master enable is 0: the
+-- numbers, and what is stored at the first eleven halfwords.
 unfoldable pub are_in_range : List ℕ → Bool
 are_in_range numbers =
     nat_lt (slice_index numbers 0) 0x40000 && is_sound_tone 8 (tone_of 1 numbers) && is_sound_tone 8 (tone_of 9 numbers)
@@ -54,7 +54,8 @@ are_silent numbers =
 
 unfoldable pub are_cleared : List ℕ → Bool
 are_cleared halves =
-    (slice_index halves 0 == 0) && (slice_index halves 1 == 0) && (slice_index halves 2 == 0) && (slice_index halves 3 == 0)
+    (slice_index halves 0 == 0) && (slice_index halves 1 == 0) && (slice_index halves 2 == 0)
+    && (slice_index halves 3 == 0)
     && (slice_index halves 4 == 0) && (slice_index halves 5 == 0) && (slice_index halves 6 == 0)
     && (slice_index halves 7 == 0) && (slice_index halves 8 == 0) && (slice_index halves 9 == 0)
     && (slice_index halves 10 == 0)
@@ -70,8 +71,8 @@ is_position p = nat_lt p.line 228 && nat_lt p.dot 1232
 -- the devices of a console
 abbrev pub are_sound_devices : ConsoleNumbers → List ℕ → Bool
 are_sound_devices n io =
-    are_enabled_runs (channels_poured n io) && are_sound_tones (tone_numbers n) (tone_halves io) && is_position (place_poured n)
-    && nat_lt (value_of Clock n) (2 ^ 63)
+    are_enabled_runs (channels_poured n io) && are_sound_tones (tone_numbers n) (tone_halves io)
+    && is_position (place_poured n) && nat_lt (value_of Clock n) (2 ^ 63)
 
 -- CPSR has no bits but the stored ones, and one of the seven modes
 abbrev pub is_status : ℕ → Bool

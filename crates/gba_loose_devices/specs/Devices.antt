@@ -29,8 +29,8 @@ timers_poured n = record {
   timer3 = timer_poured 3 n;
 }
 
--- a DMA channel: what was written to it stands in the I/O registers, DMAxSAD, DMAxDAD, DMAxCNT_L and DMAxCNT_H, twelve bytes a
--- channel (GBATEK, GBA DMA Transfers), and its run is numbers of its own
+-- a DMA channel: what was written to it stands in the I/O registers, DMAxSAD, DMAxDAD, DMAxCNT_L and DMAxCNT_H, twelve
+-- bytes a channel (GBATEK, GBA DMA Transfers), and its run is numbers of its own
 abbrev pub channel_poured : ℕ → ConsoleNumbers → List ℕ → Channel
 channel_poured k n io = record {
   source = word_at (0x0b0 + 12 * k) io;

@@ -24,8 +24,8 @@ reference_poured background n = record {
 abbrev pub halves_at : ℕ → List ℕ → List ℕ
 halves_at count io = map (λ place. half_at (2 * place) io) (range_with_len 0 count)
 
--- The halfwords from DISPCNT 000h to BLDY 054h (GBATEK, LCD I/O Registers): of DISPSTAT 004h the bits that are written, since
--- the others are of the place, and so is all of VCOUNT 006h.
+-- The halfwords from DISPCNT 000h to BLDY 054h (GBATEK, LCD I/O Registers): of DISPSTAT 004h the bits that are written,
+-- since the others are of the place, and so is all of VCOUNT 006h.
 unfoldable pub halves_poured : List ℕ → List ℕ
 halves_poured io = slice_set (slice_set (halves_at 43 io) 2 (bit_and (half_at 0x004 io) 0xff38)) 3 0
 

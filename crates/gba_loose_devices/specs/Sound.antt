@@ -43,8 +43,8 @@ tone_field place = if place == 0 then board.Sequencer else board.Tone ((place - 
 abbrev pub tone_numbers : ConsoleNumbers → List ℕ
 tone_numbers n = map (λ place. number_cut 32 (tone_field place) n) (range_with_len 0 33)
 
--- What is stored at the tones' halfwords, in their order: SOUND1CNT_L, H and X, SOUND2CNT_L and H, SOUND3CNT_L, H and X,
--- SOUND4CNT_L and H, SOUNDCNT_L, of SOUNDCNT_H the bits 0 and 1, and SOUNDCNT_X.
+-- What is stored at the tones' halfwords, in their order: SOUND1CNT_L, H and X, SOUND2CNT_L and H, SOUND3CNT_L, H and
+-- X, SOUND4CNT_L and H, SOUNDCNT_L, of SOUNDCNT_H the bits 0 and 1, and SOUNDCNT_X.
 unfoldable pub tone_halves : List ℕ → List ℕ
 tone_halves io =
     half_at 0x060 io ∷ half_at 0x062 io ∷ half_at 0x064 io ∷ half_at 0x068 io ∷ half_at 0x06c io

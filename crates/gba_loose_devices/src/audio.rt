@@ -120,8 +120,8 @@ pub(crate) fn tone_halves(io: &[u8; 1024]) -> [u16; 13]
     ]
 }
 
-/// The tone channels: their numbers and both banks of the wave are numbers of their own, and their registers stand among the I/O
-/// registers. They have to be sound.
+/// The tone channels: their numbers and both banks of the wave are numbers of their own, and their registers stand
+/// among the I/O registers. They have to be sound.
 pub fn tones(numbers: &Numbers, io: &[u8; 1024]) -> Tones
     requires { AreSound (tones_poured numbers.now io.now) }
     ensures { result ≡ tones_poured numbers.now io.now }

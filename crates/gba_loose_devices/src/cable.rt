@@ -73,8 +73,8 @@ fn known(numbers: &Numbers) -> [LinkMode; 4]
     ]
 }
 
-/// The serial unit of a console with a seat: its registers stand among the I/O registers, and the transfer that runs and the modes
-/// that players last told are numbers of their own. It has nothing to tell.
+/// The serial unit of a console with a seat: its registers stand among the I/O registers, and the transfer that runs
+/// and the modes that players last told are numbers of their own. It has nothing to tell.
 pub fn serial(seat: Seat, numbers: &Numbers, io: &[u8; 1024]) -> Serial
     requires { IsSeat seat }
     ensures { result ≡ serial_poured seat numbers.now io.now }

@@ -153,8 +153,8 @@ fn is_position(place: Position) -> bool
     place.line < 228 && place.dot < 1232
 }
 
-/// Whether the devices are such as [`crate::devices`] takes: active DMA channels are enabled, the tones are sound, the place is one of
-/// the picture, and the clock is below 2^63.
+/// Whether the devices are such as [`crate::devices`] takes: active DMA channels are enabled, the tones are sound, the
+/// place is one of the picture, and the clock is below 2^63.
 #[tactic(auto, unfolding(gba_numbers::specs::Fields::is_field, gba_numbers::specs::Fields::place_of, gba_numbers::specs::Numbers::is_there))]
 pub fn are_sound_devices(numbers: &Numbers, io: &[u8; 1024]) -> bool
     ensures value { result ≡ are_sound_devices_of numbers.now io.now }

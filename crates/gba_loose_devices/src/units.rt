@@ -58,8 +58,8 @@ pub(crate) fn channel(numbers: &Numbers, io: &[u8; 1024], channel: u32) -> Chann
     }
 }
 
-/// The four DMA channels: what was written to them stands in the I/O registers, and their runs are numbers of their own. An
-/// active one has to be enabled.
+/// The four DMA channels: what was written to them stands in the I/O registers, and their runs are numbers of their
+/// own. An active one has to be enabled.
 #[tactic(auto, unfolding(crate::specs::Devices::channels_poured))]
 pub fn channels(numbers: &Numbers, io: &[u8; 1024]) -> Channels
     requires { RunsAreEnabled (channels_poured numbers.now io.now) }

@@ -53,8 +53,8 @@ fn halves(io: &[u8; 1024]) -> [u16; 43]
     halves
 }
 
-/// The picture's registers, as they stand in the I/O registers, but for what the place shows there, and the inner reference
-/// points, which are numbers of their own.
+/// The picture's registers, as they stand in the I/O registers, but for what the place shows there, and the inner
+/// reference points, which are numbers of their own.
 pub fn picture(numbers: &Numbers, io: &[u8; 1024]) -> PictureRegisters
     ensures { result ≡ picture_poured numbers.now io.now }
 {

@@ -38,8 +38,8 @@ fn parts(numbers: &Numbers, io: &[u8; 1024]) -> DeviceParts
     }
 }
 
-/// The devices of a console's numbers and of the bytes of its I/O registers. They owe no cycle, and the accesses of the next step
-/// are priced by WAITCNT as it is.
+/// The devices of a console's numbers and of the bytes of its I/O registers. They owe no cycle, and the accesses of the
+/// next step are priced by WAITCNT as it is.
 pub fn devices(numbers: &Numbers, io: &[u8; 1024]) -> Devices
     requires { AreSoundDevices numbers.now io.now }
     ensures { result ≡ devices_of (devices_poured numbers.now io.now) }

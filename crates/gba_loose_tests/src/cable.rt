@@ -22,7 +22,8 @@ static NUMBERS: [(Field, u64); 10] = [
     (Field::Board(BoardField::Known(3)), 1),
 ];
 
-/// SIOMULTI0 to 3, SIOMLT_SEND and RCNT; SIOCNT has the error, and of player 1 the bits 2 and 4 (GBATEK, GBA Communication Ports).
+/// SIOMULTI0 to 3, SIOMLT_SEND and RCNT; SIOCNT has the error, and of player 1 the bits 2 and 4 (GBATEK, GBA
+/// Communication Ports).
 static HALVES: [(u32, u16); 6] = [
     (0x120, 0x1111),
     (0x122, 0x2222),

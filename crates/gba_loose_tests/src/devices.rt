@@ -64,9 +64,10 @@ static NUMBERS: [(Field, u64); 40] = [
     (Field::Words, 3),
 ];
 
-/// What stands in the I/O registers beside these numbers. DISPSTAT chooses line 100 and asks for its interrupt, so the place shows
-/// the match there; of SOUND3CNT_L bank 0 plays, so the bytes of bank 1 stand at 090h; channel 1 is on in SOUNDCNT_X; key A is
-/// pressed, so its bit of KEYINPUT is 0 (GBATEK, LCD I/O Interrupts and Status, GBA Sound Controller, GBA Keypad Input).
+/// What stands in the I/O registers beside these numbers. DISPSTAT chooses line 100 and asks for its interrupt, so the
+/// place shows the match there; of SOUND3CNT_L bank 0 plays, so the bytes of bank 1 stand at 090h; channel 1 is on in
+/// SOUNDCNT_X; key A is pressed, so its bit of KEYINPUT is 0 (GBATEK, LCD I/O Interrupts and Status, GBA Sound
+/// Controller, GBA Keypad Input).
 static HALVES: [(u32, u16); 34] = [
     (0x000, 0x0403),
     (0x004, 0x6424),

@@ -42,7 +42,8 @@ static NUMBERS: [(BoardField, u64); 27] = [
     (BoardField::Known(0), 1),
 ];
 
-/// Its registers: the sound is on, and the mode is Normal of 32 bits (GBATEK, GBA Sound Controller and GBA Communication Ports).
+/// Its registers: the sound is on, and the mode is Normal of 32 bits (GBATEK, GBA Sound Controller and GBA
+/// Communication Ports).
 static HALVES: [(u32, u16); 2] = [(0x084, 0x0084), (0x128, 0x1000)];
 
 /// A board of player 1 of two, at reset.

@@ -83,9 +83,9 @@ impl Memory {
     ghost use Rattle.gba_mem.specs.Places.{inner_place};
     ghost use Rattle.gba_mem.specs.Wide.{wide_load, wide_number, with_inner, wide_oam, wide_palette, wide_rom, wide_store, wide_vram};
 
-    /// The memories of a console at the start, from its images, whose save was checked for their backup. RAM is 0, and the
-    /// backup has the save's bytes, or FFh throughout. The images' bytes are moved in, not copied; on refusal they are
-    /// dropped.
+    /// The memories of a console at the start, from its images, whose save was checked for their backup. RAM is 0, and
+    /// the backup has the save's bytes, or FFh throughout. The images' bytes are moved in, not copied; on refusal they
+    /// are dropped.
     #[tactic(auto, unfolding(crate::specs::Memories::at_start))]
     pub fn new(alloc: Global, images: ConsoleImages) -> Result<Memory, NoMemory>
         requires { SaveFits images.save images.backup }
@@ -170,8 +170,8 @@ impl Memory {
         self.backup.bytes()
     }
 
-    /// What the flash remembers beside its bytes; nothing where there is none. With the flash of 65,536 bytes its bank is 0
-    /// and it awaits none.
+    /// What the flash remembers beside its bytes; nothing where there is none. With the flash of 65,536 bytes its bank
+    /// is 0 and it awaits none.
     pub fn flash_machine(&self) -> Option<FlashMachine>
         ensures value { result ≡ machine_of_flash self.now.backup }
         ensures sound { IfSome result (λ machine. IsSoundMachine (backup_of self.now.backup) machine) }

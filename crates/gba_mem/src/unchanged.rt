@@ -98,8 +98,8 @@ impl Memory {
     ghost use Rattle.gba_mem.specs.Stores.{store};
     ghost use Rattle.gba_mem.specs.Video.{is_video};
 
-    /// Whether [`Memory::store`] would change nothing at an address in video memory: the bytes are there already, or the
-    /// write is dropped.
+    /// Whether [`Memory::store`] would change nothing at an address in video memory: the bytes are there already, or
+    /// the write is dropped.
     pub fn keeps(&self, mode: u32, address: u32, width: Width, value: u32) -> bool
         requires { is_video (region_of address) ≡ true }
         ensures sound { result ≡ true → store mode self.now address width value ≡ self.now }

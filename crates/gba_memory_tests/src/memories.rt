@@ -324,9 +324,9 @@ const LENT: [Move; 14] = [
     Holds(MemoryPart::Backup, 0x7FFF, 0x6B),
 ];
 
-/// A flash has one byte at a time, as SRAM has, and a store of any width is one write to it, of its low byte at its aligned
-/// address. This one of 65,536 bytes says what it is, to loads and to code, at all repeats, until F0h is written; programs a
-/// byte, which keeps its zeros; and chooses no bank.
+/// A flash has one byte at a time, as SRAM has, and a store of any width is one write to it, of its low byte at its
+/// aligned address. This one of 65,536 bytes says what it is, to loads and to code, at all repeats, until F0h is
+/// written; programs a byte, which keeps its zeros; and chooses no bank.
 const FLASH: [Move; 41] = [
     Reads(0x0E00_0000, Word, 0xFFFF_FFFF),
     Store(0, 0x0E00_5555, Byte, 0xAA),
@@ -686,7 +686,8 @@ fn memories_do_as_worked_out(rt: HostRuntime) -> Result<(), Fail> {
     Ok(())
 }
 
-/// Two places of each memory that take four bytes, mostly the first and the last, and what a byte that was never written is.
+/// Two places of each memory that take four bytes, mostly the first and the last, and what a byte that was never
+/// written is.
 static REPLACED: [(MemoryPart, usize, usize, u8); 7] = [
     (MemoryPart::Work, 0, 0x3_FFFC, 0),
     (MemoryPart::Inner, 0, 0x7FFC, 0),

@@ -18,8 +18,8 @@ static WRITTEN: [(u32, u32, Width, u32); 8] = [
     (0, 0x0700_0006, Half, 0x9999),
 ];
 
-/// Whether a write changes nothing there: all bytes of its width must be the same, of a byte that goes to both bytes of its
-/// halfword both of them. What is dropped changes nothing.
+/// Whether a write changes nothing there: all bytes of its width must be the same, of a byte that goes to both bytes of
+/// its halfword both of them. What is dropped changes nothing.
 static CASES: [(u32, u32, Width, u32, bool); 32] = [
     (0, 0x0500_0000, Word, 0x4433_2211, true),
     (0, 0x05FF_FC03, Word, 0x4433_2211, true),

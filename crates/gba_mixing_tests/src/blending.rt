@@ -7,9 +7,9 @@ use std::test::Fail;
 /// DISPCNT; BLDCNT, BLDALPHA and BLDY; entries of the palette; the colour at 20 in line 10.
 type Pixel = (u16, [u16; 3], &'static [(usize, u16)], u16);
 
-/// Background 0 is entry 17, background 1 entry 33, background 2 entry 49. Alpha blending, with sums that are too much and
-/// coefficients above 16; targets that aren't; the second layer is the next one and no later one; brighter and darker, with
-/// coefficients above 16 and quotients that are rounded down; the backdrop as both targets.
+/// Background 0 is entry 17, background 1 entry 33, background 2 entry 49. Alpha blending, with sums that are too much
+/// and coefficients above 16; targets that aren't; the second layer is the next one and no later one; brighter and
+/// darker, with coefficients above 16 and quotients that are rounded down; the backdrop as both targets.
 static PIXELS: [Pixel; 22] = [
     (
         0x0300,
@@ -86,10 +86,10 @@ const SEMI: Object = (3, 0x040A, 0x0014, 0x0000);
 
 const SEMI_BEHIND: Object = (3, 0x040A, 0x0014, 0x0400);
 
-/// The sprite is 001Fh and background 0 7C00h, EVA and EVB are 8. A semi-transparent sprite is blended without being a first
-/// target, without an effect and in a window that forbids effects; over what is no second target the effect is the ordinary
-/// one; it comes before brighter; behind the background it is a second target like others. A plain sprite follows the targets
-/// and the window.
+/// The sprite is 001Fh and background 0 7C00h, EVA and EVB are 8. A semi-transparent sprite is blended without being a
+/// first target, without an effect and in a window that forbids effects; over what is no second target the effect is
+/// the ordinary one; it comes before brighter; behind the background it is a second target like others. A plain sprite
+/// follows the targets and the window.
 static OVERS: [Over; 15] = [
     (0x0011, SEMI, [0x0100, 0], 0x3C0F),
     (0x0031, SEMI, [0x0100, 0], 0x3C0F),

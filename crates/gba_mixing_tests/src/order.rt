@@ -3,7 +3,8 @@
 use crate::scene::{BACK, BLUE, Case, GREEN, RED, SPRITE, WHITE, YELLOW, try_case};
 use std::test::Fail;
 
-/// Registers, and colours at places of line 10. A sprite of 8 x 8 dots with priority 0 is at 20, and one with priority 1 at 40.
+/// Registers, and colours at places of line 10. A sprite of 8 x 8 dots with priority 0 is at 20, and one with
+/// priority 1 at 40.
 type Line = (&'static [(u32, u16)], &'static [(usize, u16)]);
 
 /// By priority, sprites before backgrounds, backgrounds by number; layers that are off, and modes that don't have them.

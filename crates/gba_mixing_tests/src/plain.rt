@@ -1,5 +1,5 @@
-//! A line of the picture, coloured place by place: the layers that are on and show there, the foremost two of them, and what
-//! an effect makes of their colours.
+//! A line of the picture, coloured place by place: the layers that are on and show there, the foremost two of them, and
+//! what an effect makes of their colours.
 
 ghost use Rattle.std.specs.Prelude.{◌≡◌, ◌<◌, ◌≤◌, length};
 
@@ -198,8 +198,8 @@ impl LayerLines {
     }
 }
 
-/// Whether a place is between the sides of a window. An end past the edge of the screen, or before the start, counts as the
-/// edge.
+/// Whether a place is between the sides of a window. An end past the edge of the screen, or before the start, counts
+/// as the edge.
 fn is_between(sides: u16, edge: u32, place: u32) -> bool {
     let start = u32::from(sides / 0x100);
     let end = u32::from(sides % 0x100);
@@ -344,8 +344,8 @@ fn is_second_target(r: &PictureRegisters, second: Option<Surface>) -> bool {
     }
 }
 
-/// The effect on a surface over another. A semi-transparent sprite over a second target is blended even where it is no first
-/// target and where no effects show.
+/// The effect on a surface over another. A semi-transparent sprite over a second target is blended even where it is no
+/// first target and where no effects show.
 fn effect_on(
     r: &PictureRegisters,
     region: Region,

@@ -240,8 +240,9 @@ fn boxes_lie_at_their_places_and_go_round(rt: HostRuntime) -> Result<(), Fail> {
 /// What is drawn of tiles: DISPCNT, the line, the sprite, video memory, and places with their dots.
 type Tiles = (u16, u32, Object, &'static [Fill], &'static [(usize, Want)]);
 
-/// Sprites at (0, 0): tiles one after another and in rows of 32, with 4 and with 8 bits; an odd number with 8 bits, which
-/// loses its bit 0 in rows alone; numbers past 1,023, which begin anew; in modes 3 to 5 numbers from 512 on alone.
+/// Sprites at (0, 0): tiles one after another and in rows of 32, with 4 and with 8 bits; an odd number with 8
+/// bits, which loses its bit 0 in rows alone; numbers past 1,023, which begin anew; in modes 3 to 5 numbers from
+/// 512 on alone.
 static TILES: [Tiles; 16] = [
     (
         0x0040,
@@ -375,11 +376,13 @@ fn tiles_are_found_in_both_orders(rt: HostRuntime) -> Result<(), Fail> {
     Ok(())
 }
 
-/// The line, the first halfword of a sprite of 8 x 8 dots at (20, 10) with tile 1, the parameters, and places with their dots.
+/// The line, the first halfword of a sprite of 8 x 8 dots at (20, 10) with tile 1, the parameters, and places with
+/// their dots.
 type Turn = (u32, u16, [u16; 4], &'static [(usize, Want)]);
 
-/// As it is; in a doubled box, whose middle is the picture's; mirrored about its middle, so that the first column is past the
-/// edge; at half the steps, which round down, in both boxes; at double steps; turned by a quarter; moved into the second row.
+/// As it is; in a doubled box, whose middle is the picture's; mirrored about its middle, so that the first column is
+/// past the edge; at half the steps, which round down, in both boxes; at double steps; turned by a quarter; moved into
+/// the second row.
 static TURNS: [Turn; 10] = [
     (
         10,
@@ -477,8 +480,8 @@ fn affine_sprites_end_at_the_edges_of_their_pictures(rt: HostRuntime) -> Result<
 /// Sprites, the seen one's priority, and the dot at (20, 10).
 type Pile = (&'static [Object], u8, Want);
 
-/// The least priority is in front, and of one priority the least number, with both kinds. The sprite window hides nothing and
-/// is hidden by nothing; of mode 3 and of shape 3 nothing is seen, nor of a hidden sprite.
+/// The least priority is in front, and of one priority the least number, with both kinds. The sprite window hides
+/// nothing and is hidden by nothing; of mode 3 and of shape 3 nothing is seen, nor of a hidden sprite.
 static PILES: [Pile; 10] = [
     (
         &[(3, 0x000A, 0x0014, 0x1401), (5, 0x000A, 0x0014, 0x2001)],

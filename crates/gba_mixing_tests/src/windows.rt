@@ -7,8 +7,8 @@ use std::test::Fail;
 /// The line, registers, and colours at places.
 type Line = (u32, &'static [(u32, u16)], &'static [(usize, u16)]);
 
-/// Background 0 shows in the window alone. Sides that are turned round, that reach past the edge, that are empty, and that
-/// begin past the edge, across in each window and down.
+/// Background 0 shows in the window alone. Sides that are turned round, that reach past the edge, that are empty, and
+/// that begin past the edge, across in each window and down.
 static SIDES: [Line; 16] = [
     (
         0,
@@ -120,8 +120,8 @@ fn windows_hold_what_is_between_their_sides(rt: HostRuntime) -> Result<(), Fail>
     Ok(())
 }
 
-/// A sprite of the window is at 20. Window 0 comes before window 1, that before the sprite window, and that before what is
-/// outside; each layer has its bit; the sprite window needs sprites to be on; without windows everything shows.
+/// A sprite of the window is at 20. Window 0 comes before window 1, that before the sprite window, and that before what
+/// is outside; each layer has its bit; the sprite window needs sprites to be on; without windows everything shows.
 static CHOICES: [Line; 12] = [
     (
         10,
@@ -280,8 +280,8 @@ static BRIGHTENED: [(u32, u16); 4] = [
     (0x054, 0x0008),
 ];
 
-/// Without a layer the backdrop is brightened where effects show: outside of window 0, inside of it, and with the sprite
-/// window, which has no place while sprites are off. As a second target, or blended, or as no target, it stays.
+/// Without a layer the backdrop is brightened where effects show: outside of window 0, inside of it, and with the
+/// sprite window, which has no place while sprites are off. As a second target, or blended, or as no target, it stays.
 static BACKDROPS: [Line; 6] = [
     (
         10,

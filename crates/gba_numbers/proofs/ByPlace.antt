@@ -8,7 +8,8 @@ use Rattle.gba_numbers.specs.declared.fields.Field.{Field}
 use Rattle.gba_numbers.specs.declared.fields.Field.TheVariants.{Clock, Was, Applied, Register, Board, QueueByte, Frames, Samples, Words, FlashState, FlashArmed, FlashIdentify, FlashBank}
 
 -- a byte of a queue or of the wave
-pub byte-small : (field : Field) (value : ℕ) → is_field field ≡ true → 138 ≤ place_of field → field_fits field value ≡ true → value < 256
+pub byte-small : (field : Field) (value : ℕ) → is_field field ≡ true → 138 ≤ place_of field
+    → field_fits field value ≡ true → value < 256
 unfolding is_field is_board_field place_of board_place field_fits board_fits
 byte-small Clock value is high fits = grind (arith, nat_tests)
 byte-small Was value is high fits = grind (arith, nat_tests)
@@ -51,7 +52,8 @@ byte-small (Board board.SerialWord) value is high fits = grind (arith, nat_tests
 byte-small (Board (board.Known n)) value is high fits = grind (arith, nat_tests)
 
 -- the length of a queue
-pub length-small : (field : Field) (value : ℕ) → is_field field ≡ true → (place_of field ≡ 76) → field_fits field value ≡ true → value ≤ 32
+pub length-small : (field : Field) (value : ℕ) → is_field field ≡ true → (place_of field ≡ 76)
+    → field_fits field value ≡ true → value ≤ 32
 unfolding is_field is_board_field place_of board_place field_fits board_fits
 length-small Clock value is at fits = grind (arith, nat_tests)
 length-small Was value is at fits = grind (arith, nat_tests)
@@ -93,7 +95,8 @@ length-small (Board board.SerialSent) value is at fits = grind (arith, nat_tests
 length-small (Board board.SerialWord) value is at fits = grind (arith, nat_tests)
 length-small (Board (board.Known n)) value is at fits = grind (arith, nat_tests)
 
-pub length_b-small : (field : Field) (value : ℕ) → is_field field ≡ true → (place_of field ≡ 78) → field_fits field value ≡ true → value ≤ 32
+pub length_b-small : (field : Field) (value : ℕ) → is_field field ≡ true → (place_of field ≡ 78)
+    → field_fits field value ≡ true → value ≤ 32
 unfolding is_field is_board_field place_of board_place field_fits board_fits
 length_b-small Clock value is at fits = grind (arith, nat_tests)
 length_b-small Was value is at fits = grind (arith, nat_tests)

@@ -12,9 +12,12 @@ use Rattle.gba_numbers.specs.declared.fields.Field.TheVariants.{Clock, Was, Appl
 kind_at : ℕ → ℕ
 kind_at p =
     if nat_lt p 39 then (if p == 0 then 0 else if p == 1 then 1 else 2)
-    else if nat_lt p 79 then (if nat_lt p 55 then 3 + (p - 39) % 4 else if nat_lt p 75 then 7 + (p - 55) % 5 else 12 + (p - 75) % 2)
+    else if nat_lt p 79
+    then (if nat_lt p 55 then 3 + (p - 39) % 4 else if nat_lt p 75 then 7 + (p - 55) % 5 else 12 + (p - 75) % 2)
     else if nat_lt p 118
-    then (if p == 79 then 14 else if nat_lt p 112 then 15 else if p == 112 then 16 else if p == 113 then 17 else 18 + (p - 114) % 2)
+    then
+    (if p == 79 then 14
+    else if nat_lt p 112 then 15 else if p == 112 then 16 else if p == 113 then 17 else 18 + (p - 114) % 2)
     else if nat_lt p 138 then (if nat_lt p 125 then p - 98 else if nat_lt p 129 then 27 else p - 101)
     else if nat_lt p 202 then 37 else 38
 
@@ -83,7 +86,8 @@ number_at : ℕ → Field
 number_at p = made (kind_at p) (first_at p) (second_at p)
 
 -- by the three
-by : (p k a b : ℕ) (field : Field) → kind_at p ≡ k → first_at p ≡ a → second_at p ≡ b → made k a b ≡ field → number_at p ≡ field
+by : (p k a b : ℕ) (field : Field) → kind_at p ≡ k → first_at p ≡ a → second_at p ≡ b → made k a b ≡ field
+    → number_at p ≡ field
 unfolding number_at
 by p k a b field e f g h =
     ap (λ (x : ℕ). made x (first_at p) (second_at p)) e ∙ ap (λ (x : ℕ). made k x (second_at p)) f ∙ ap (made k a) g ∙ h
@@ -112,23 +116,46 @@ found (Board board.SerialGot) is = refl
 found (Board board.SerialSent) is = refl
 found (Board board.SerialWord) is = refl
 found (Register n) is = by (2 + n) 2 n _ (Register n) (grind (arith, nat_tests)) (grind (arith, nat_tests)) refl refl
-found (Board (board.TimerCounter n)) is = by (39 + 4 * n) 3 n _ (Board (board.TimerCounter n)) (grind (arith, nat_tests)) (grind (arith, nat_tests)) refl refl
-found (Board (board.TimerReload n)) is = by (40 + 4 * n) 4 n _ (Board (board.TimerReload n)) (grind (arith, nat_tests)) (grind (arith, nat_tests)) refl refl
-found (Board (board.TimerControl n)) is = by (41 + 4 * n) 5 n _ (Board (board.TimerControl n)) (grind (arith, nat_tests)) (grind (arith, nat_tests)) refl refl
-found (Board (board.TimerPhase n)) is = by (42 + 4 * n) 6 n _ (Board (board.TimerPhase n)) (grind (arith, nat_tests)) (grind (arith, nat_tests)) refl refl
-found (Board (board.DmaActive n)) is = by (55 + 5 * n) 7 n _ (Board (board.DmaActive n)) (grind (arith, nat_tests)) (grind (arith, nat_tests)) refl refl
-found (Board (board.DmaFirst n)) is = by (56 + 5 * n) 8 n _ (Board (board.DmaFirst n)) (grind (arith, nat_tests)) (grind (arith, nat_tests)) refl refl
-found (Board (board.DmaSource n)) is = by (57 + 5 * n) 9 n _ (Board (board.DmaSource n)) (grind (arith, nat_tests)) (grind (arith, nat_tests)) refl refl
-found (Board (board.DmaTarget n)) is = by (58 + 5 * n) 10 n _ (Board (board.DmaTarget n)) (grind (arith, nat_tests)) (grind (arith, nat_tests)) refl refl
-found (Board (board.DmaLeft n)) is = by (59 + 5 * n) 11 n _ (Board (board.DmaLeft n)) (grind (arith, nat_tests)) (grind (arith, nat_tests)) refl refl
-found (Board (board.QueueCurrent n)) is = by (75 + 2 * n) 12 n _ (Board (board.QueueCurrent n)) (grind (arith, nat_tests)) (grind (arith, nat_tests)) refl refl
-found (Board (board.QueueLength n)) is = by (76 + 2 * n) 13 n _ (Board (board.QueueLength n)) (grind (arith, nat_tests)) (grind (arith, nat_tests)) refl refl
-found (Board (board.Tone n part)) is = by (80 + 8 * (n - 1) + part) 15 n part (Board (board.Tone n part)) (grind (arith, nat_tests)) (grind (arith, nat_tests)) (grind (arith, nat_tests)) refl
-found (Board (board.ReferenceX n)) is = by (114 + 2 * (n - 2)) 18 n _ (Board (board.ReferenceX n)) (grind (arith, nat_tests)) (grind (arith, nat_tests)) refl refl
-found (Board (board.ReferenceY n)) is = by (115 + 2 * (n - 2)) 19 n _ (Board (board.ReferenceY n)) (grind (arith, nat_tests)) (grind (arith, nat_tests)) refl refl
-found (Board (board.Known n)) is = by (125 + n) 27 n _ (Board (board.Known n)) (grind (arith, nat_tests)) (grind (arith, nat_tests)) refl refl
-found (Board (board.WaveByte bank place)) is = by (202 + 16 * bank + place) 38 bank place (Board (board.WaveByte bank place)) (grind (arith, nat_tests)) (grind (arith, nat_tests)) (grind (arith, nat_tests)) refl
-found (QueueByte queue place) is = by (138 + 32 * queue + place) 37 queue place (QueueByte queue place) (grind (arith, nat_tests)) (grind (arith, nat_tests)) (grind (arith, nat_tests)) refl
+found (Board (board.TimerCounter n)) is =
+    by (39 + 4 * n) 3 n _ (Board (board.TimerCounter n)) (grind (arith, nat_tests)) (grind (arith, nat_tests)) refl refl
+found (Board (board.TimerReload n)) is =
+    by (40 + 4 * n) 4 n _ (Board (board.TimerReload n)) (grind (arith, nat_tests)) (grind (arith, nat_tests)) refl refl
+found (Board (board.TimerControl n)) is =
+    by (41 + 4 * n) 5 n _ (Board (board.TimerControl n)) (grind (arith, nat_tests)) (grind (arith, nat_tests)) refl refl
+found (Board (board.TimerPhase n)) is =
+    by (42 + 4 * n) 6 n _ (Board (board.TimerPhase n)) (grind (arith, nat_tests)) (grind (arith, nat_tests)) refl refl
+found (Board (board.DmaActive n)) is =
+    by (55 + 5 * n) 7 n _ (Board (board.DmaActive n)) (grind (arith, nat_tests)) (grind (arith, nat_tests)) refl refl
+found (Board (board.DmaFirst n)) is =
+    by (56 + 5 * n) 8 n _ (Board (board.DmaFirst n)) (grind (arith, nat_tests)) (grind (arith, nat_tests)) refl refl
+found (Board (board.DmaSource n)) is =
+    by (57 + 5 * n) 9 n _ (Board (board.DmaSource n)) (grind (arith, nat_tests)) (grind (arith, nat_tests)) refl refl
+found (Board (board.DmaTarget n)) is =
+    by (58 + 5 * n) 10 n _ (Board (board.DmaTarget n)) (grind (arith, nat_tests)) (grind (arith, nat_tests)) refl refl
+found (Board (board.DmaLeft n)) is =
+    by (59 + 5 * n) 11 n _ (Board (board.DmaLeft n)) (grind (arith, nat_tests)) (grind (arith, nat_tests)) refl refl
+found (Board (board.QueueCurrent n)) is =
+    by (75 + 2 * n) 12 n _ (Board (board.QueueCurrent n)) (grind (arith, nat_tests)) (grind (arith, nat_tests))
+    refl refl
+found (Board (board.QueueLength n)) is =
+    by (76 + 2 * n) 13 n _ (Board (board.QueueLength n)) (grind (arith, nat_tests)) (grind (arith, nat_tests)) refl refl
+found (Board (board.Tone n part)) is =
+    by (80 + 8 * (n - 1) + part) 15 n part (Board (board.Tone n part)) (grind (arith, nat_tests))
+    (grind (arith, nat_tests)) (grind (arith, nat_tests)) refl
+found (Board (board.ReferenceX n)) is =
+    by (114 + 2 * (n - 2)) 18 n _ (Board (board.ReferenceX n)) (grind (arith, nat_tests)) (grind (arith, nat_tests))
+    refl refl
+found (Board (board.ReferenceY n)) is =
+    by (115 + 2 * (n - 2)) 19 n _ (Board (board.ReferenceY n)) (grind (arith, nat_tests)) (grind (arith, nat_tests))
+    refl refl
+found (Board (board.Known n)) is =
+    by (125 + n) 27 n _ (Board (board.Known n)) (grind (arith, nat_tests)) (grind (arith, nat_tests)) refl refl
+found (Board (board.WaveByte bank place)) is =
+    by (202 + 16 * bank + place) 38 bank place (Board (board.WaveByte bank place)) (grind (arith, nat_tests))
+    (grind (arith, nat_tests)) (grind (arith, nat_tests)) refl
+found (QueueByte queue place) is =
+    by (138 + 32 * queue + place) 37 queue place (QueueByte queue place) (grind (arith, nat_tests))
+    (grind (arith, nat_tests)) (grind (arith, nat_tests)) refl
 
 pub have_own_places : HaveOwnPlaces
 have_own_places one other is also same = sym (found one is) ∙ ap number_at same ∙ found other also

@@ -93,8 +93,24 @@ stays_whole-single : (place value : ℕ) (n : ConsoleNumbers) → place < 138 �
 unfolding with_single
 stays_whole-single place value n within whole a b = record {
   values = length-set n.values place value ∙ whole.values;
-  queue_a = grind (arith, nat_tests, length-resized, get_or-set_same {A = ℕ}, get_or-set_other {A = ℕ}, whole.values, whole.queue_a);
-  queue_b = grind (arith, nat_tests, length-resized, get_or-set_same {A = ℕ}, get_or-set_other {A = ℕ}, whole.values, whole.queue_b);
+  queue_a = grind (
+    arith,
+    nat_tests,
+    length-resized,
+    get_or-set_same {A = ℕ},
+    get_or-set_other {A = ℕ},
+    whole.values,
+    whole.queue_a,
+  );
+  queue_b = grind (
+    arith,
+    nat_tests,
+    length-resized,
+    get_or-set_same {A = ℕ},
+    get_or-set_other {A = ℕ},
+    whole.values,
+    whole.queue_b,
+  );
   short_a = grind (arith, nat_tests, length-resized, whole.short_a);
   short_b = grind (arith, nat_tests, length-resized, whole.short_b);
   wave0 = whole.wave0;
@@ -102,21 +118,57 @@ stays_whole-single place value n within whole a b = record {
 }
 
 -- and with a byte
-with_queue_a : (n : ConsoleNumbers) (place value : ℕ) → AreWhole n → AreWhole (record n { queue_a = slice_set n.queue_a place value })
+with_queue_a : (n : ConsoleNumbers) (place value : ℕ) → AreWhole n
+    → AreWhole (record n { queue_a = slice_set n.queue_a place value })
 with_queue_a n place value whole =
     let same : length (slice_set n.queue_a place value) ≡ length n.queue_a = length-set n.queue_a place value in
-    record { values = whole.values; queue_a = same ∙ whole.queue_a; queue_b = whole.queue_b; short_a = omega (arith, whole.short_a); short_b = whole.short_b; wave0 = whole.wave0; wave1 = whole.wave1 }
+    record {
+      values = whole.values;
+      queue_a = same ∙ whole.queue_a;
+      queue_b = whole.queue_b;
+      short_a = omega (arith, whole.short_a);
+      short_b = whole.short_b;
+      wave0 = whole.wave0;
+      wave1 = whole.wave1;
+    }
 
-with_queue_b : (n : ConsoleNumbers) (place value : ℕ) → AreWhole n → AreWhole (record n { queue_b = slice_set n.queue_b place value })
+with_queue_b : (n : ConsoleNumbers) (place value : ℕ) → AreWhole n
+    → AreWhole (record n { queue_b = slice_set n.queue_b place value })
 with_queue_b n place value whole =
     let same : length (slice_set n.queue_b place value) ≡ length n.queue_b = length-set n.queue_b place value in
-    record { values = whole.values; queue_a = whole.queue_a; queue_b = same ∙ whole.queue_b; short_a = whole.short_a; short_b = omega (arith, whole.short_b); wave0 = whole.wave0; wave1 = whole.wave1 }
+    record {
+      values = whole.values;
+      queue_a = whole.queue_a;
+      queue_b = same ∙ whole.queue_b;
+      short_a = whole.short_a;
+      short_b = omega (arith, whole.short_b);
+      wave0 = whole.wave0;
+      wave1 = whole.wave1;
+    }
 
-with_wave0 : (n : ConsoleNumbers) (place value : ℕ) → AreWhole n → AreWhole (record n { wave0 = slice_set n.wave0 place value })
-with_wave0 n place value whole = record { values = whole.values; queue_a = whole.queue_a; queue_b = whole.queue_b; short_a = whole.short_a; short_b = whole.short_b; wave0 = length-set n.wave0 place value ∙ whole.wave0; wave1 = whole.wave1 }
+with_wave0 : (n : ConsoleNumbers) (place value : ℕ) → AreWhole n
+    → AreWhole (record n { wave0 = slice_set n.wave0 place value })
+with_wave0 n place value whole = record {
+  values = whole.values;
+  queue_a = whole.queue_a;
+  queue_b = whole.queue_b;
+  short_a = whole.short_a;
+  short_b = whole.short_b;
+  wave0 = length-set n.wave0 place value ∙ whole.wave0;
+  wave1 = whole.wave1;
+}
 
-with_wave1 : (n : ConsoleNumbers) (place value : ℕ) → AreWhole n → AreWhole (record n { wave1 = slice_set n.wave1 place value })
-with_wave1 n place value whole = record { values = whole.values; queue_a = whole.queue_a; queue_b = whole.queue_b; short_a = whole.short_a; short_b = whole.short_b; wave0 = whole.wave0; wave1 = length-set n.wave1 place value ∙ whole.wave1 }
+with_wave1 : (n : ConsoleNumbers) (place value : ℕ) → AreWhole n
+    → AreWhole (record n { wave1 = slice_set n.wave1 place value })
+with_wave1 n place value whole = record {
+  values = whole.values;
+  queue_a = whole.queue_a;
+  queue_b = whole.queue_b;
+  short_a = whole.short_a;
+  short_b = whole.short_b;
+  wave0 = whole.wave0;
+  wave1 = length-set n.wave1 place value ∙ whole.wave1;
+}
 
 either : (P : ConsoleNumbers → Type 0) (b : Bool) (one other : ConsoleNumbers) → P one → P other → P (cond b one other)
 either P true one other p q = p
@@ -133,5 +185,6 @@ stays_whole place value n within whole a b = elim (cases_lt place 138) [
       let bytes : nat_lt place 138 ≡ false = grind (arith, nat_tests) in
       rw bytes (either AreWhole (nat_lt place 170) _ _ (with_queue_a n (place - 138) value whole)
       (either AreWhole (nat_lt place 202) _ _ (with_queue_b n (place - 170) value whole)
-      (either AreWhole (nat_lt place 218) _ _ (with_wave0 n (place - 202) value whole) (with_wave1 n (place - 218) value whole))))
+      (either AreWhole (nat_lt place 218) _ _ (with_wave0 n (place - 202) value whole)
+      (with_wave1 n (place - 218) value whole))))
 ]

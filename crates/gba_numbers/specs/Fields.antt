@@ -50,14 +50,14 @@ is_field FlashArmed = true
 is_field FlashIdentify = true
 is_field FlashBank = true
 
--- The numbers of a console that stand by themselves, 138 of them, in the order of a frozen file's lines: the clock, the halt, 37
--- registers, 16 numbers of timers, 20 of DMA channels, 4 of queues, the sequencer, 32 of tones, the picture's place, 4 of
--- reference points, 7 of the serial unit, 4 known modes, 4 of the flash, and 5 more.
+-- The numbers of a console that stand by themselves, 138 of them, in the order of a frozen file's lines: the clock, the
+-- halt, 37 registers, 16 numbers of timers, 20 of DMA channels, 4 of queues, the sequencer, 32 of tones, the picture's
+-- place, 4 of reference points, 7 of the serial unit, 4 known modes, 4 of the flash, and 5 more.
 abbrev pub number_count : ℕ
 number_count = 138
 
--- The place of a number in that order. Behind the 138 stand the bytes of the queues, 32 places for each, and then those of the
--- wave's banks, 16 for each.
+-- The place of a number in that order. Behind the 138 stand the bytes of the queues, 32 places for each, and then those
+-- of the wave's banks, 16 for each.
 unfoldable pub board_place : BoardField → ℕ
 board_place board.Halted = 1
 board_place (board.TimerCounter timer) = 39 + 4 * timer

@@ -11,8 +11,8 @@ is_byte_of length_place place =
     else if length_place == length_b then nat_le 170 place && nat_lt place 202
     else false
 
--- A number that is set is the number that is read there; every other one stays, but for the bytes of a queue whose length is
--- set: those below the length stay too, and those behind the former bytes are 0.
+-- A number that is set is the number that is read there; every other one stays, but for the bytes of a queue whose
+-- length is set: those below the length stay too, and those behind the former bytes are 0.
 pub record SetsOne : Type 0 where
   pub taken : (place value : ℕ) (n : ConsoleNumbers) → place < 234 → AreWhole n → is_there place n ≡ true
       → value_at place (with_at place value n) ≡ value
@@ -23,4 +23,5 @@ pub record SetsOne : Type 0 where
 
 -- no two numbers have the same place
 abbrev pub HaveOwnPlaces : Type 0
-HaveOwnPlaces = (one other : Field) → is_field one ≡ true → is_field other ≡ true → place_of one ≡ place_of other → one ≡ other
+HaveOwnPlaces =
+    (one other : Field) → is_field one ≡ true → is_field other ≡ true → place_of one ≡ place_of other → one ≡ other

@@ -3,8 +3,8 @@ use Rattle.std.specs.Prelude.{◌≡◌, ℕ, ◌-◌, ◌≤◌, ◌==◌, Bool
 use Rattle.gba_numbers.specs.Fields.{place_of}
 use Rattle.gba_numbers.specs.declared.fields.Field.{Field}
 
--- those that stand by themselves, by their places; the bytes that the two sound queues hold, oldest first; and the bytes of the
--- two banks of channel 3's wave
+-- those that stand by themselves, by their places; the bytes that the two sound queues hold, oldest first; and the
+-- bytes of the two banks of channel 3's wave
 pub record ConsoleNumbers : Type 0 where
   pub values : List ℕ
   pub queue_a : List ℕ

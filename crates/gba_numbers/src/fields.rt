@@ -1,8 +1,8 @@
 //! The names of a console's numbers.
 
-/// A number of a console's devices. What stands in a variant is the number of a timer (0 to 3), of a DMA channel (0 to 3), of a
-/// sound queue (0 for A and 1 for B), of a background (2 or 3), of a player (0 to 3), of a tone channel (1 to 4), or of a bank
-/// of channel 3's wave (0 or 1).
+/// A number of a console's devices. What stands in a variant is the number of a timer (0 to 3), of a DMA channel (0 to
+/// 3), of a sound queue (0 for A and 1 for B), of a background (2 or 3), of a player (0 to 3), of a tone channel (1 to
+/// 4), or of a bank of channel 3's wave (0 or 1).
 #[derive(Clone, Copy, Debug, PartialEq, Eq)]
 pub enum BoardField {
     Halted,
@@ -35,8 +35,8 @@ pub enum BoardField {
     Known(u32),
 }
 
-/// A number of a console. A register is 0 to 36 in the order of the register names; a queue's byte is one of those that the queue
-/// holds, the oldest at place 0.
+/// A number of a console. A register is 0 to 36 in the order of the register names; a queue's byte is one of those that
+/// the queue holds, the oldest at place 0.
 #[derive(Clone, Copy, Debug, PartialEq, Eq)]
 pub enum Field {
     Clock,

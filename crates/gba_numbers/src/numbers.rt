@@ -45,8 +45,8 @@ fn resize(queue: &mut ArrayVec<u8, 32>, count: usize)
     }
 }
 
-/// The numbers of a console, but for its memories. Contracts see the record of the numbers that stand by themselves, in the order
-/// of their places, and of the bytes of the two queues and of the wave's two banks.
+/// The numbers of a console, but for its memories. Contracts see the record of the numbers that stand by themselves, in
+/// the order of their places, and of the bytes of the two queues and of the wave's two banks.
 #[derive(Drop)]
 pub struct Numbers {
     values: [u64; NUMBERS],
@@ -72,7 +72,8 @@ impl Model for Numbers {
     } };
 
     ghost invariant = { λ n.
-        (array_vec_len n.queue_a ≡ slice_index n.values length_a) × (array_vec_len n.queue_b ≡ slice_index n.values length_b)
+        (array_vec_len n.queue_a ≡ slice_index n.values length_a)
+        × (array_vec_len n.queue_b ≡ slice_index n.values length_b)
         × (length n.values ≡ 138) × (length n.wave0 ≡ 16) × (length n.wave1 ≡ 16) };
 }
 
@@ -161,8 +162,8 @@ impl Numbers {
         }
     }
 
-    /// Sets a number to one of its range, and changes no other: but with the length of a queue its bytes below the new length stay,
-    /// and new ones are 0. A byte of a queue has to be one of those that the queue holds.
+    /// Sets a number to one of its range, and changes no other: but with the length of a queue its bytes below the new
+    /// length stay, and new ones are 0. A byte of a queue has to be one of those that the queue holds.
     #[tactic(auto, unfolding(crate::specs::Numbers::is_there, crate::specs::Numbers::with_at))]
     pub fn set(&mut self, field: Field, value: u64)
         requires known { is_field field ≡ true }

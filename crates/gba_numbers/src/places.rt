@@ -84,8 +84,8 @@ pub fn is_field(field: Field) -> bool
     }
 }
 
-/// The place of a number in the order of a frozen file's lines: below 138 for one that stands by itself. Behind these stand the
-/// bytes of the two queues, 32 places for each, and the bytes of the wave's two banks, 16 for each.
+/// The place of a number in the order of a frozen file's lines: below 138 for one that stands by itself. Behind these
+/// stand the bytes of the two queues, 32 places for each, and the bytes of the wave's two banks, 16 for each.
 #[tactic(auto, unfolding(crate::specs::Fields::is_field, crate::specs::Fields::place_of))]
 pub fn place(field: Field) -> usize
     requires { is_field_of field ≡ true }

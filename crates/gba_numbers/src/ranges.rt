@@ -145,7 +145,8 @@ fn board_fits(field: BoardField, value: u64) -> bool
     }
 }
 
-/// Whether a value is in the range of a number: whether a frozen file may give it there, as far as the number is seen alone.
+/// Whether a value is in the range of a number: whether a frozen file may give it there, as far as the number
+/// is seen alone.
 #[tactic(auto, unfolding(crate::specs::Fields::is_field, crate::specs::Ranges::field_fits))]
 pub fn fits(field: Field, value: u64) -> bool
     requires { is_field field ≡ true }

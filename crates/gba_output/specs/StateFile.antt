@@ -15,6 +15,7 @@ samples_file m = m.board.made.samples
 -- the line of a console in the summary: its number, its clock, and how much it made, whether it kept it or not
 unfoldable pub summary_line : Machine → List ℕ
 summary_line m =
-    codes "console " ++ decimal m.board.core.serial.player ++ codes " clock " ++ decimal (clock_of m) ++ codes " frames "
+    codes "console " ++ decimal m.board.core.serial.player ++ codes " clock " ++ decimal (clock_of m)
+    ++ codes " frames "
     ++ decimal m.board.made.frame_count ++ codes " samples " ++ decimal m.board.made.pairs ++ codes " words "
     ++ decimal m.board.ended.count ++ codes "\n"

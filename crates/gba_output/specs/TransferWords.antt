@@ -6,8 +6,8 @@ use Rattle.gba_output.specs.Truths.{truth}
 use Rattle.link_node.specs.declared.signal.LinkMode.{LinkMode}
 use Rattle.link_node.specs.declared.signal.LinkMode.TheVariants.{Normal8, Normal32, Multi, Other}
 
--- The words of transfers (this project's profile). In Multi the four words and whether one is missing; in a Normal mode the
--- word that was sent and the one that was got, of as many digits as the mode has. No transfer ends in another mode.
+-- The words of transfers (this project's profile). In Multi the four words and whether one is missing; in a Normal mode
+-- the word that was sent and the one that was got, of as many digits as the mode has. No transfer ends in another mode.
 unfoldable pub half_text : ℕ → List ℕ
 half_text value = hex 4 value ++ codes " "
 

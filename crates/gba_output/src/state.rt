@@ -35,8 +35,8 @@ pub fn write_state(into: &mut Vec<u8>, console: &Console)
     add_state(into, console);
 }
 
-/// Writes the save of a console, the bytes of its SRAM or of its flash, into an empty buffer with room for it: 131,072 bytes
-/// are enough for any.
+/// Writes the save of a console, the bytes of its SRAM or of its flash, into an empty buffer with room for it: 131,072
+/// bytes are enough for any.
 #[tactic(auto, using(gba_image::proofs::Lengths::longest_backup))]
 pub fn write_save(into: &mut Vec<u8>, console: &Console)
     requires empty { into.old.items ≡ [] }

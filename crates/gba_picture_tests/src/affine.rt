@@ -7,9 +7,9 @@ use std::test::Fail;
 /// Registers beside the control, the control, and places with their dots.
 type Line = (&'static [(u32, u16)], &'static [(usize, Want)]);
 
-/// The map begins at 0000h and the tiles at 4000h. The map's first entry is tile 1, whose first dot is 9; the last entry of
-/// the first row, by the size, is tile 2, whose last dot of its first row is 8; the first of the second row, with 128 dots,
-/// is tile 3, whose first dot is 6.
+/// The map begins at 0000h and the tiles at 4000h. The map's first entry is tile 1, whose first dot is 9; the last
+/// entry of the first row, by the size, is tile 2, whose last dot of its first row is 8; the first of the second row,
+/// with 128 dots, is tile 3, whose first dot is 6.
 static TILES: [(usize, u8); 9] = [
     (0x4040, 9),
     (0x4087, 8),
@@ -22,7 +22,8 @@ static TILES: [(usize, u8); 9] = [
     (0x007F, 2),
 ];
 
-/// Each size at its right edge, with the step 1, without and with wrapping; steps of -1; steps of -1/2, which round down.
+/// Each size at its right edge, with the step 1, without and with wrapping; steps of -1; steps of -1/2,
+/// which round down.
 static LINES: [Line; 14] = [
     (
         &[(0x00C, 0x0004), (0x020, 0x0100)],

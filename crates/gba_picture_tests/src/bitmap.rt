@@ -11,8 +11,8 @@ type Line = (
     &'static [(usize, Want)],
 );
 
-/// Colours lose bit 15 and are opaque whatever they are, entries are not opaque where they are 0. Bit 13 of the control wraps
-/// nothing here, and bit 4 of DISPCNT chooses the page in modes 4 and 5 alone.
+/// Colours lose bit 15 and are opaque whatever they are, entries are not opaque where they are 0. Bit 13 of the control
+/// wraps nothing here, and bit 4 of DISPCNT chooses the page in modes 4 and 5 alone.
 static LINES: [Line; 16] = [
     (
         &[(0x000, 0x0003), (0x020, 0x0100)],

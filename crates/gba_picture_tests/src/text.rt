@@ -20,7 +20,8 @@ static FOUR_BLOCKS: [(usize, u8); 8] = [
     (0x2000, 4),
 ];
 
-/// Each size at the edges of its blocks: 256 x 256, 512 x 256, 256 x 512, whose lower block is the next one, and 512 x 512.
+/// Each size at the edges of its blocks: 256 x 256, 512 x 256, 256 x 512, whose lower block is the next one,
+/// and 512 x 512.
 static CORNERS: [Corner; 16] = [
     (&[(0x008, 0x0180)], 0, &[(0, Entry(1)), (8, Clear)]),
     (

@@ -107,9 +107,9 @@ impl Surface for BackgroundControl {
     }
 }
 
-/// The dots of affine background 2 or 3 in a line from 0 to 159: 240 of them, from left to right. Video memory has 98,304
-/// bytes. The line is that of the inner reference point, so its number counts for nothing. Whether the background is shown,
-/// and whether the mode has it, isn't asked.
+/// The dots of affine background 2 or 3 in a line from 0 to 159: 240 of them, from left to right. Video memory has
+/// 98,304 bytes. The line is that of the inner reference point, so its number counts for nothing. Whether the
+/// background is shown, and whether the mode has it, isn't asked.
 #[tactic(auto, unfolding(crate::specs::Affine::affine_pixel))]
 pub fn affine_line(r: &PictureRegisters, vram: &[u8], bg: u32, _line: u32, dots: &mut [Dot])
     requires least { 2 ≤ bg }

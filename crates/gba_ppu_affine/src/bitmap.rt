@@ -62,9 +62,9 @@ impl Surface for Bitmap {
     }
 }
 
-/// The dots of the bitmap of modes 3 to 5, which is background 2, in a line from 0 to 159: 240 of them, from left to right.
-/// Video memory has 98,304 bytes. The line is that of the inner reference point, so its number counts for nothing. In a
-/// mode without a bitmap no dot is opaque. Whether the background is shown isn't asked.
+/// The dots of the bitmap of modes 3 to 5, which is background 2, in a line from 0 to 159: 240 of them, from left to
+/// right. Video memory has 98,304 bytes. The line is that of the inner reference point, so its number counts for
+/// nothing. In a mode without a bitmap no dot is opaque. Whether the background is shown isn't asked.
 #[tactic(auto, unfolding(crate::specs::Bitmap::bitmap_pixel))]
 pub fn bitmap_line(r: &PictureRegisters, vram: &[u8], bg: u32, _line: u32, dots: &mut [Dot])
     requires background { bg ≡ 2 }

@@ -57,7 +57,8 @@ pub one_of_both : (eva evb low p q : ℕ) → eva ≤ 16 → evb ≤ 16 → low 
 one_of_both eva evb low p q h k w x y =
     let sum = right (plus (times p eva) (times q evb)) 4 in
     ap (λ n. left n low)
-    (lower_is sum 31 ∙ ap (λ n. min n 31) (sum_is (p * eva) (q * evb) (product_fits p eva x h) (product_fits q evb y k)))
+    (lower_is sum 31
+    ∙ ap (λ n. min n 31) (sum_is (p * eva) (q * evb) (product_fits p eva x h) (product_fits q evb y k)))
     ∙ placed (part_of_both eva evb p q) low (omega arith) w
 
 more_is : (p n : ℕ) → p ≤ 31 → n ≤ 496 → plus p (n % 65536 / 2 ^ 4) ≡ p + n / 16
@@ -107,11 +108,12 @@ parts_count (suc n) low (x ∷ xs) l = ap suc (parts_count n low xs (omega arith
 abbrev pub both_vector : ℕ → ℕ → ℕ → ℕ → List ℕ → List ℕ → List ℕ
 both_vector n eva evb low ps qs =
     zip2 left
-    (lowers (zip2 right (zip2 plus (zip2 times ps (replicate n eva)) (zip2 times qs (replicate n evb))) (replicate n 4)) (replicate n 31))
+    (lowers (zip2 right (zip2 plus (zip2 times ps (replicate n eva)) (zip2 times qs (replicate n evb))) (replicate n 4))
+    (replicate n 31))
     (replicate n low)
 
-pub both_at : (n eva evb low : ℕ) (ps qs : List ℕ) (i : ℕ) → eva ≤ 16 → evb ≤ 16 → low ≤ 10 → length ps ≡ n → length qs ≡ n → i < n
-    → get_or ps i 0 ≤ 31 → get_or qs i 0 ≤ 31
+pub both_at : (n eva evb low : ℕ) (ps qs : List ℕ) (i : ℕ) → eva ≤ 16 → evb ≤ 16 → low ≤ 10 → length ps ≡ n
+    → length qs ≡ n → i < n → get_or ps i 0 ≤ 31 → get_or qs i 0 ≤ 31
     → get_or (both_vector n eva evb low ps qs) i 0 ≡ part_of_both eva evb (get_or ps i 0) (get_or qs i 0) * 2 ^ low
 both_at zero eva evb low ps qs i a b w l m h x y = absurd (omega arith)
 both_at (suc n) eva evb low [] qs i a b w l m h x y = absurd (omega arith)
@@ -120,19 +122,22 @@ both_at (suc n) eva evb low (p ∷ ps) (q ∷ qs) zero a b w l m h x y = one_of_
 both_at (suc n) eva evb low (p ∷ ps) (q ∷ qs) (suc i) a b w l m h x y =
     both_at n eva evb low ps qs i a b w (omega arith) (omega arith) (omega arith) x y
 
-pub both_count : (n eva evb low : ℕ) (ps qs : List ℕ) → length ps ≡ n → length qs ≡ n → length (both_vector n eva evb low ps qs) ≡ n
+pub both_count : (n eva evb low : ℕ) (ps qs : List ℕ) → length ps ≡ n → length qs ≡ n
+    → length (both_vector n eva evb low ps qs) ≡ n
 both_count zero eva evb low [] qs l m = refl
 both_count zero eva evb low (p ∷ ps) qs l m = absurd (omega arith)
 both_count (suc n) eva evb low [] qs l m = absurd (omega arith)
 both_count (suc n) eva evb low (p ∷ ps) [] l m = absurd (omega arith)
-both_count (suc n) eva evb low (p ∷ ps) (q ∷ qs) l m = ap suc (both_count n eva evb low ps qs (omega arith) (omega arith))
+both_count (suc n) eva evb low (p ∷ ps) (q ∷ qs) l m =
+    ap suc (both_count n eva evb low ps qs (omega arith) (omega arith))
 
 abbrev pub brighter_vector : ℕ → ℕ → ℕ → List ℕ → List ℕ
 brighter_vector n evy low ps =
-    zip2 left (zip2 plus ps (zip2 right (zip2 times (zip2 minus (replicate n 31) ps) (replicate n evy)) (replicate n 4))) (replicate n low)
+    zip2 left (zip2 plus ps
+    (zip2 right (zip2 times (zip2 minus (replicate n 31) ps) (replicate n evy)) (replicate n 4))) (replicate n low)
 
-pub brighter_at : (n evy low : ℕ) (ps : List ℕ) (i : ℕ) → evy ≤ 16 → low ≤ 10 → length ps ≡ n → i < n → get_or ps i 0 ≤ 31
-    → get_or (brighter_vector n evy low ps) i 0 ≡ brighter_part evy (get_or ps i 0) * 2 ^ low
+pub brighter_at : (n evy low : ℕ) (ps : List ℕ) (i : ℕ) → evy ≤ 16 → low ≤ 10 → length ps ≡ n → i < n
+    → get_or ps i 0 ≤ 31 → get_or (brighter_vector n evy low ps) i 0 ≡ brighter_part evy (get_or ps i 0) * 2 ^ low
 brighter_at zero evy low ps i a w l h x = absurd (omega arith)
 brighter_at (suc n) evy low [] i a w l h x = absurd (omega arith)
 brighter_at (suc n) evy low (p ∷ ps) zero a w l h x = one_brighter evy low p a w x
@@ -145,7 +150,8 @@ brighter_count (suc n) evy low [] l = absurd (omega arith)
 brighter_count (suc n) evy low (p ∷ ps) l = ap suc (brighter_count n evy low ps (omega arith))
 
 abbrev pub darker_vector : ℕ → ℕ → ℕ → List ℕ → List ℕ
-darker_vector n evy low ps = zip2 left (zip2 minus ps (zip2 right (zip2 times ps (replicate n evy)) (replicate n 4))) (replicate n low)
+darker_vector n evy low ps =
+    zip2 left (zip2 minus ps (zip2 right (zip2 times ps (replicate n evy)) (replicate n 4))) (replicate n low)
 
 pub darker_at : (n evy low : ℕ) (ps : List ℕ) (i : ℕ) → evy ≤ 16 → low ≤ 10 → length ps ≡ n → i < n → get_or ps i 0 ≤ 31
     → get_or (darker_vector n evy low ps) i 0 ≡ darker_part evy (get_or ps i 0) * 2 ^ low
@@ -176,13 +182,15 @@ together_at (suc n) (c ∷ cs) (d ∷ ds) (e ∷ es) zero r g b l m k h x y z u 
 together_at (suc n) (c ∷ cs) (d ∷ ds) (e ∷ es) (suc i) r g b l m k h x y z u v w =
     together_at n cs ds es i r g b (omega arith) (omega arith) (omega arith) (omega arith) x y z u v w
 
-pub together_count : (n : ℕ) (rs gs bs : List ℕ) → length rs ≡ n → length gs ≡ n → length bs ≡ n → length (together rs gs bs) ≡ n
+pub together_count : (n : ℕ) (rs gs bs : List ℕ) → length rs ≡ n → length gs ≡ n → length bs ≡ n
+    → length (together rs gs bs) ≡ n
 together_count zero [] gs bs l m k = refl
 together_count zero (c ∷ cs) gs bs l m k = absurd (omega arith)
 together_count (suc n) [] gs bs l m k = absurd (omega arith)
 together_count (suc n) (c ∷ cs) [] bs l m k = absurd (omega arith)
 together_count (suc n) (c ∷ cs) (d ∷ ds) [] l m k = absurd (omega arith)
-together_count (suc n) (c ∷ cs) (d ∷ ds) (e ∷ es) l m k = ap suc (together_count n cs ds es (omega arith) (omega arith) (omega arith))
+together_count (suc n) (c ∷ cs) (d ∷ ds) (e ∷ es) l m k =
+    ap suc (together_count n cs ds es (omega arith) (omega arith) (omega arith))
 
 pub field_fits : (colour low : ℕ) → field colour low 5 ≤ 31
 field_fits colour low = omega arith

@@ -14,8 +14,8 @@ blue colour = field colour 10 5
 abbrev pub colour_from : ℕ → ℕ → ℕ → ℕ
 colour_from r g b = r + 32 * g + 1024 * b
 
--- The effects on a part (GBATEK, LCD I/O Color Special Effects). Coefficients are sixteenths, from 0 to 16, and each quotient
--- is rounded down.
+-- The effects on a part (GBATEK, LCD I/O Color Special Effects). Coefficients are sixteenths, from 0 to 16, and each
+-- quotient is rounded down.
 abbrev pub part_of_both : ℕ → ℕ → ℕ → ℕ → ℕ
 part_of_both eva evb top below = min ((top * eva + below * evb) / 16) 31
 
@@ -37,4 +37,5 @@ brighter evy colour =
     colour_from (brighter_part evy (red colour)) (brighter_part evy (green colour)) (brighter_part evy (blue colour))
 
 unfoldable pub darker : ℕ → ℕ → ℕ
-darker evy colour = colour_from (darker_part evy (red colour)) (darker_part evy (green colour)) (darker_part evy (blue colour))
+darker evy colour =
+    colour_from (darker_part evy (red colour)) (darker_part evy (green colour)) (darker_part evy (blue colour))

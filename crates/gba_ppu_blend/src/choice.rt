@@ -9,7 +9,8 @@ use std::simd::prelude::*;
 /// The one or the other number, by whether one number is less than another.
 #[inline(always)]
 pub fn if_less(a: u16x8, b: u16x8, chosen: u16x8, other: u16x8) -> u16x8
-    ensures { HasLanes result (λ i. if nat_lt (slice_index a i) (slice_index b i) then slice_index chosen i else slice_index other i) }
+    ensures { HasLanes result (λ i. if nat_lt (slice_index a i) (slice_index b i) then slice_index chosen i
+        else slice_index other i) }
 {
     a.simd_lt(b).select(chosen, other)
 }

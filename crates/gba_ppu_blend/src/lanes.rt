@@ -22,7 +22,8 @@ fn parts_of_both(top: u16x8, below: u16x8, eva: u16, evb: u16, low: u16) -> u16x
     requires low { low ≤ 10 }
     requires eva { eva ≤ 16 }
     requires evb { evb ≤ 16 }
-    ensures { HasLanes result (λ i. part_of_both eva evb (field (slice_index top i) low 5) (field (slice_index below i) low 5) * 2 ^ low) }
+    ensures { HasLanes result
+        (λ i. part_of_both eva evb (field (slice_index top i) low 5) (field (slice_index below i) low 5) * 2 ^ low) }
 {
     let sums = parts(top, low) * u16x8::splat(eva) + parts(below, low) * u16x8::splat(evb);
     (sums >> u16x8::splat(4)).simd_min(u16x8::splat(31)) << u16x8::splat(low)

@@ -23,13 +23,16 @@ pub place_more : (paint : ℕ → ℕ) (paints : List ℕ) (at column new : ℕ)
     → (i : ℕ) → i < column + 1 → slice_index (slice_set paints (at + column) new) (at + i) ≡ paint i
 place_more paint paints at column new room was is i h =
     ⊎_elim
-    (λ (low : i < column). get_or-set_other paints (at + column) (at + i) new 0 (λ f. omega (arith, low, f)) ∙ was i low)
+    (λ (low : i < column). get_or-set_other paints (at + column) (at + i) new 0 (λ f. omega (arith, low, f))
+    ∙ was i low)
     (λ (high : column ≤ i).
     let e : column ≡ i = omega arith in
     let P : ℕ → Type 0 = λ j. slice_index (slice_set paints (at + column) new) (at + j) ≡ paint j in
     subst P e (get_or-set_same paints (at + column) new 0 room ∙ is))
     (cases_lt i column)
 
-pub place_kept : (paints old : List ℕ) (at column new : ℕ) → ((k : ℕ) → k < at → slice_index paints k ≡ slice_index old k)
+pub place_kept : (paints old : List ℕ) (at column new : ℕ)
+    → ((k : ℕ) → k < at → slice_index paints k ≡ slice_index old k)
     → (k : ℕ) → k < at → slice_index (slice_set paints (at + column) new) k ≡ slice_index old k
-place_kept paints old at column new was k h = get_or-set_other paints (at + column) k new 0 (λ f. omega (arith, h, f)) ∙ was k h
+place_kept paints old at column new was k h =
+    get_or-set_other paints (at + column) k new 0 (λ f. omega (arith, h, f)) ∙ was k h

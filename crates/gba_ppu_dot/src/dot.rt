@@ -1,7 +1,7 @@
 //! Dots.
 
-/// How a dot is blended: `Semi` is a dot of a semi-transparent sprite (GBATEK, LCD OBJ OAM Attributes), every other dot is
-/// `Plain`.
+/// How a dot is blended: `Semi` is a dot of a semi-transparent sprite (GBATEK, LCD OBJ OAM Attributes), every other dot
+/// is `Plain`.
 #[derive(Clone, Copy, Debug, PartialEq, Eq)]
 pub enum DotKind {
     Plain,

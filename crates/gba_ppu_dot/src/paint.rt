@@ -56,7 +56,8 @@ fn paint_eight(palette: &[u8], dots: &[Dot], at: usize, paints: &mut [u16])
     requires dots { at + 8 ≤ length dots.now }
     requires paints { at + 8 ≤ length paints.old }
     ensures before { (k : ℕ) → k < at → slice_index paints.new k ≡ slice_index paints.old k }
-    ensures here { (i : ℕ) → i < 8 → slice_index paints.new (at + i) ≡ paint_of_dot palette.now (slice_index_or dots.now (at + i) clear_dot) }
+    ensures here { (i : ℕ) → i < 8
+        → slice_index paints.new (at + i) ≡ paint_of_dot palette.now (slice_index_or dots.now (at + i) clear_dot) }
 {
     for i in 0..8 {
         paints[at + i] = paint_of(palette, dots[at + i]);
@@ -68,7 +69,8 @@ pub fn paint_line(palette: &[u8], dots: &[Dot], paints: &mut [u16])
     requires palette { length palette.now ≡ 1024 }
     requires dots { length dots.now ≡ 240 }
     requires paints { length paints.old ≡ 240 }
-    ensures { (x : ℕ) → x < 240 → slice_index paints.new x ≡ paint_of_dot palette.now (slice_index_or dots.now x clear_dot) }
+    ensures { (x : ℕ) → x < 240
+        → slice_index paints.new x ≡ paint_of_dot palette.now (slice_index_or dots.now x clear_dot) }
 {
     for part in 0..30 {
         paint_eight(palette, dots, 8 * part, paints);

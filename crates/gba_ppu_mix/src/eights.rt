@@ -16,7 +16,8 @@ use std::simd::prelude::*;
 /// The place in the order of a layer that isn't seen: behind everything.
 const UNSEEN_RANK: u16 = 0xFFFF;
 
-/// What all places of a line have in common: the ranks and marks of the backgrounds, and the backdrop's colour and marks.
+/// What all places of a line have in common: the ranks and marks of the backgrounds, and the backdrop's
+/// colour and marks.
 #[derive(Clone, Copy)]
 pub struct LineConstants {
     pub ranks: Ranks,

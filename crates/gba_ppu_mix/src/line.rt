@@ -94,8 +94,8 @@ fn whiten(colours: &mut [u16])
     }
 }
 
-/// The colours of a line from 0 to 159: 240 of them, from left to right, 15 bits each, red lowest. The palette has 1,024
-/// bytes, video memory 98,304, OAM 1,024. Layers that aren't on are not drawn, and no memory is taken.
+/// The colours of a line from 0 to 159: 240 of them, from left to right, 15 bits each, red lowest. The palette has
+/// 1,024 bytes, video memory 98,304, OAM 1,024. Layers that aren't on are not drawn, and no memory is taken.
 #[tactic(auto, unfolding(crate::specs::Mixing::mixed_pixel))]
 pub fn mix_line(
     r: &PictureRegisters,

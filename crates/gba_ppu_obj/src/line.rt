@@ -10,8 +10,8 @@ use gba_ppu_dot::{Dot, clear_line};
 use gba_ppu_reg::PictureRegisters;
 
 /// The dots of the sprites in a line from 0 to 159: 240 of them, from left to right. Video memory has 98,304 bytes, OAM
-/// 1,024. Whether sprites are shown isn't asked. A dot of the sprite window has `window` set, whether or not a sprite that is
-/// seen has an opaque dot there too.
+/// 1,024. Whether sprites are shown isn't asked. A dot of the sprite window has `window` set, whether or not a sprite
+/// that is seen has an opaque dot there too.
 #[tactic(auto, unfolding(crate::specs::Sprites::sprites_pixel))]
 pub fn sprite_line(r: &PictureRegisters, vram: &[u8], oam: &[u8], line: u32, dots: &mut [Dot])
     requires line { line < 160 }

@@ -22,7 +22,8 @@ dot_at-none : (dot : ℕ) → dot < 1232 → dot ≡ dot_at dot 0
 dot_at-none dot h = grind arith
 
 line_at-next : (line dot count : ℕ) → dot < 1232 → count + 1 < 1232
-    → (if dot_at dot count + 1 == 1232 then following_line (line_at line dot count) else line_at line dot count) ≡ line_at line dot (count + 1)
+    → (if dot_at dot count + 1 == 1232 then following_line (line_at line dot count) else line_at line dot count)
+    ≡ line_at line dot (count + 1)
 line_at-next line dot count h k = grind arith
 
 dot_at-next : (dot count : ℕ) → dot < 1232 → count + 1 < 1232
@@ -43,7 +44,10 @@ moved_is zero p h k =
 moved_is (suc count) p h k =
     after_cycles-more count p
     ∙ ap cycle (moved_is count p h (omega arith))
-    ∙ (λ i. record { line = line_at-next p.line p.dot count h (omega arith) i; dot = dot_at-next p.dot count h (omega arith) i })
+    ∙ (λ i. record {
+      line = line_at-next p.line p.dot count h (omega arith) i;
+      dot = dot_at-next p.dot count h (omega arith) i;
+    })
     ∙ ap (λ n. moved n p) (add-one count)
 
 -- within the line, and past its end
@@ -53,7 +57,8 @@ line_at-same line dot count k = grind arith
 dot_at-same : (dot count : ℕ) → dot + count < 1232 → dot + count ≡ dot_at dot count
 dot_at-same dot count k = grind arith
 
-line_at-past : (line next dot count : ℕ) → next ≡ following_line line → 1232 ≤ dot + count → next ≡ line_at line dot count
+line_at-past : (line next dot count : ℕ) → next ≡ following_line line → 1232 ≤ dot + count
+    → next ≡ line_at line dot count
 line_at-past line next dot count e k = grind arith
 
 dot_at-past : (dot count : ℕ) → 1232 ≤ dot + count → dot + count - 1232 ≡ dot_at dot count
@@ -65,7 +70,8 @@ within_line count p k =
     (λ i. record { line = line_at-same p.line p.dot count k i; dot = dot_at-same p.dot count k i })
     ∙ sym (moved_is count p (omega arith) (omega arith))
 
-pub past_line : (count next : ℕ) (p : Position) → p.dot < 1232 → count < 1232 → next ≡ following_line p.line → 1232 ≤ p.dot + count
+pub past_line : (count next : ℕ) (p : Position) → p.dot < 1232 → count < 1232 → next ≡ following_line p.line
+    → 1232 ≤ p.dot + count
     → ◌≡◌ {A = Position} (record { line = next; dot = p.dot + count - 1232 }) (after_cycles count p)
 past_line count next p h k e past =
     (λ i. record { line = line_at-past p.line next p.dot count e past i; dot = dot_at-past p.dot count past i })
@@ -104,7 +110,8 @@ comes dot count p t h low k = grind arith
 
 pub comes_at : (dot count : ℕ) (p : Position) → dot < 1232 → p.dot < 1232 → 1 ≤ count → count < 1232
     → nat_eq (after_cycles count p).dot dot ≡ nat_eq (distance dot p) count
-comes_at dot count p t h low k = ap (λ (q : Position). nat_eq q.dot dot) (moved_is count p h k) ∙ comes dot count p t h low k
+comes_at dot count p t h low k =
+    ap (λ (q : Position). nat_eq q.dot dot) (moved_is count p h k) ∙ comes dot count p t h low k
 
 away : (dot : ℕ) (p : Position) → p.dot < 1232 → 1 ≤ distance dot p
 away dot p h = grind arith
@@ -114,10 +121,14 @@ pub first_cycle_is : (dot count : ℕ) (p : Position) → dot < 1232 → p.dot <
 first_cycle_is dot zero p t h k = first_cycle-none dot p ∙ arrival-none (distance dot p) (away dot p h)
 first_cycle_is dot (suc count) p t h k =
     first_cycle-more dot count p
-    ∙ ap (λ o. option_or o (if (after_cycles (suc count) p).dot == dot then Some (suc count) else None)) (first_cycle_is dot count p t h (omega arith))
-    ∙ ap (λ q. option_or (arrival (distance dot p) count) (if q.dot == dot then Some (suc count) else None)) (moved_is (suc count) p h k)
-    ∙ ap (λ b. option_or (arrival (distance dot p) count) (if b then Some (suc count) else None)) (comes dot (suc count) p t h (omega arith) k)
-    ∙ ap (λ n. option_or (arrival (distance dot p) count) (if distance dot p == n then Some n else None)) (sym (add-one count))
+    ∙ ap (λ o. option_or o (if (after_cycles (suc count) p).dot == dot then Some (suc count) else None))
+    (first_cycle_is dot count p t h (omega arith))
+    ∙ ap (λ q. option_or (arrival (distance dot p) count) (if q.dot == dot then Some (suc count) else None))
+    (moved_is (suc count) p h k)
+    ∙ ap (λ b. option_or (arrival (distance dot p) count) (if b then Some (suc count) else None))
+    (comes dot (suc count) p t h (omega arith) k)
+    ∙ ap (λ n. option_or (arrival (distance dot p) count) (if distance dot p == n then Some n else None))
+    (sym (add-one count))
     ∙ arrival-next (distance dot p) count
     ∙ ap (λ n. arrival (distance dot p) n) (add-one count)
 
@@ -127,17 +138,18 @@ arrival-some away count h = grind arith
 arrival-late : (away count : ℕ) → count < away → None ≡ arrival away count
 arrival-late away count h = grind arith
 
-pub comes_within : (away dot count : ℕ) (p : Position) → dot < 1232 → p.dot < 1232 → count < 1232 → away ≡ distance dot p → away ≤ count
-    → Some away ≡ first_cycle dot count p
+pub comes_within : (away dot count : ℕ) (p : Position) → dot < 1232 → p.dot < 1232 → count < 1232
+    → away ≡ distance dot p → away ≤ count → Some away ≡ first_cycle dot count p
 comes_within away dot count p t h k e le =
     arrival-some away count le ∙ ap (λ n. arrival n count) e ∙ sym (first_cycle_is dot count p t h k)
 
-pub comes_later : (away dot count : ℕ) (p : Position) → dot < 1232 → p.dot < 1232 → count < 1232 → away ≡ distance dot p → count < away
-    → None ≡ first_cycle dot count p
+pub comes_later : (away dot count : ℕ) (p : Position) → dot < 1232 → p.dot < 1232 → count < 1232 → away ≡ distance dot p
+    → count < away → None ≡ first_cycle dot count p
 comes_later away dot count p t h k e lt =
     arrival-late away count lt ∙ ap (λ n. arrival n count) e ∙ sym (first_cycle_is dot count p t h k)
 
-dot_at-once : (dot first second : ℕ) → dot < 1232 → first < 1232 → second < 1232 → dot_at dot first ≡ dot_at dot second → first ≡ second
+dot_at-once : (dot first second : ℕ) → dot < 1232 → first < 1232 → second < 1232 → dot_at dot first ≡ dot_at dot second
+    → first ≡ second
 dot_at-once dot first second h a b e = grind arith
 
 pub once : (first second : ℕ) (p : Position) → p.dot < 1232 → first < 1232 → second < 1232

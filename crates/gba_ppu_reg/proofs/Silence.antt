@@ -28,19 +28,24 @@ one-more : (count : ℕ) (p : Position) → after_cycles (count + 1) p ≡ cycle
 unfolding after_cycles
 one-more count p = ap (λ n. after_cycles n p) (add-one count)
 
-no-hblank : (most count : ℕ) (p : Position) → count < quiet_within most p → begins_hblank (after_cycles (count + 1) p) ≡ false
+no-hblank : (most count : ℕ) (p : Position) → count < quiet_within most p
+    → begins_hblank (after_cycles (count + 1) p) ≡ false
 unfolding quiet_within
 no-hblank most count p h =
     ap begins_hblank (one-more count p)
-    ∙ none-of _ (begins_line (cycle (after_cycles count p))) (steps.before-silent cycle after_cycles is_after comes most count p h)
+    ∙ none-of _ (begins_line (cycle (after_cycles count p)))
+    (steps.before-silent cycle after_cycles is_after comes most count p h)
 
-no-line : (most count : ℕ) (p : Position) → count < quiet_within most p → begins_line (after_cycles (count + 1) p) ≡ false
+no-line : (most count : ℕ) (p : Position) → count < quiet_within most p
+    → begins_line (after_cycles (count + 1) p) ≡ false
 unfolding quiet_within
 no-line most count p h =
     ap begins_line (one-more count p)
-    ∙ nor-other (begins_hblank (cycle (after_cycles count p))) _ (steps.before-silent cycle after_cycles is_after comes most count p h)
+    ∙ nor-other (begins_hblank (cycle (after_cycles count p))) _
+    (steps.before-silent cycle after_cycles is_after comes most count p h)
 
-then-comes : (most : ℕ) (p : Position) → quiet_within most p < most → comes (after_cycles (quiet_within most p) p) ≡ true
+then-comes : (most : ℕ) (p : Position) → quiet_within most p < most
+    → comes (after_cycles (quiet_within most p) p) ≡ true
 unfolding quiet_within
 then-comes most p h = steps.before-next cycle after_cycles is_after comes most p h
 
@@ -63,7 +68,8 @@ comes-is : (count : ℕ) (p : Position) → p.dot < 1232 → count + 1 < 1232
 comes-is count p h k =
     let next = sym (one-more count p) in
     ap (λ (q : Position). (q.dot == 1006) || (q.dot == 0)) next
-    ∙ ap (λ b. b || ((after_cycles (count + 1) p).dot == 0)) (comes_at 1006 (count + 1) p (omega arith) h (omega arith) k)
+    ∙ ap (λ b. b || ((after_cycles (count + 1) p).dot == 0))
+    (comes_at 1006 (count + 1) p (omega arith) h (omega arith) k)
     ∙ ap (λ b. nat_eq (distance 1006 p) (count + 1) || b) (comes_at 0 (count + 1) p (omega arith) h (omega arith) k)
 
 not-yet : (a b k : ℕ) → k < min a b - 1 → (nat_eq a (k + 1) || nat_eq b (k + 1)) ≡ false
@@ -88,11 +94,13 @@ quiet-is most p sound =
     sym (steps.before-is cycle after_cycles is_after comes most (min (min a b - 1) most) p (omega arith)
     (λ k small. comes-is k p sound.dot (omega (arith, small, near)) ∙ not-yet a b k (omega (arith, small)))
     (λ small. comes-is (min (min a b - 1) most) p sound.dot (omega (arith, small, near))
-    ∙ just-now a b (min (min a b - 1) most) (some-way 1006 p sound.dot) (some-way 0 p sound.dot) (omega (arith, small))))
+    ∙ just-now a b (min (min a b - 1) most) (some-way 1006 p sound.dot) (some-way 0 p sound.dot)
+    (omega (arith, small))))
 
 pub skip-within : (count : ℕ) (p : Position) → IsPosition p → quiet_within count p ≡ count → p.dot + count < 1232
 skip-within count p sound h =
     let whole = quiet-is count p sound in
     ends p.dot count (omega (arith, h, whole)) sound.dot where
-      ends : (dot count : ℕ) → count ≤ (if nat_lt dot 0 then 0 - dot else 0 + 1232 - dot) - 1 → dot < 1232 → dot + count < 1232
+      ends : (dot count : ℕ) → count ≤ (if nat_lt dot 0 then 0 - dot else 0 + 1232 - dot) - 1 → dot < 1232
+          → dot + count < 1232
       ends dot count h k = grind arith

@@ -5,8 +5,8 @@ use Rattle.gba_word.specs.Weights.{weight}
 use Rattle.gba_ppu_reg.specs.declared.position.Position.{Position}
 use Rattle.gba_ppu_reg.specs.declared.position.PictureEvents.{PictureEvents}
 
--- The place of the picture (GBATEK, LCD Dimensions and Timings): the line, from 0 to 227, and the dot, which is the cycle
--- in the line, from 0 to 1,231.
+-- The place of the picture (GBATEK, LCD Dimensions and Timings): the line, from 0 to 227, and the dot, which is the
+-- cycle in the line, from 0 to 1,231.
 pub record IsPosition (p : Position) : Type 0 where
   pub line : p.line < 228
   pub dot : p.dot < 1232

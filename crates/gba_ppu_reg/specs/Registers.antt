@@ -6,8 +6,8 @@ use Rattle.gba_ppu_reg.specs.declared.position.Position.{Position}
 use Rattle.gba_ppu_reg.specs.declared.reference.Reference.{Reference}
 use Rattle.gba_ppu_reg.specs.Position.{flags}
 
--- The picture's registers (GBATEK, LCD I/O Registers): what is stored in the 43 halfwords from 000h to 054h, and the inner
--- reference points of backgrounds 2 and 3.
+-- The picture's registers (GBATEK, LCD I/O Registers): what is stored in the 43 halfwords from 000h to 054h, and the
+-- inner reference points of backgrounds 2 and 3.
 pub record Picture : Type 0 where
   pub halves : List ℕ
   pub reference2 : Reference
@@ -46,8 +46,8 @@ picture_read_at offset p r =
     else if offset == 0x006 then field p.line 0 8
     else picture_read offset r
 
--- A reference point as it is written, in two halfwords from an offset up: 28 bits, signed, 8 of them behind the point, as
--- a word.
+-- A reference point as it is written, in two halfwords from an offset up: 28 bits, signed, 8 of them behind the point,
+-- as a word.
 abbrev pub written_point : ℕ → List ℕ → ℕ
 written_point offset halves =
     sign_extension (slice_index halves (offset / 2) + 2 ^ 16 * slice_index halves (offset / 2 + 1)) 28
@@ -78,8 +78,8 @@ picture_written offset value r = record {
   };
 }
 
--- A drawn line lets the inner points grow, x by PB and y by PD, which are signed with 8 bits behind the point. They wrap
--- at 32 bits.
+-- A drawn line lets the inner points grow, x by PB and y by PD, which are signed with 8 bits behind the point. They
+-- wrap at 32 bits.
 abbrev pub grown : ℕ → ℕ → Picture → ℕ
 grown point parameter r = (point + sign_extension (slice_index r.halves (parameter / 2)) 16) % 2 ^ 32
 

@@ -4,8 +4,8 @@ ghost use Rattle.std.specs.Prelude.{◌≡◌, ◌≤◌};
 
 use gba_word::{bits, weight_half};
 
-/// The place of the picture (GBATEK, LCD Dimensions and Timings): the line, from 0 to 227, of which 0 to 159 are drawn, and
-/// the dot, which is the cycle in the line, from 0 to 1,231. Both are 0 at reset.
+/// The place of the picture (GBATEK, LCD Dimensions and Timings): the line, from 0 to 227, of which 0 to 159 are drawn,
+/// and the dot, which is the cycle in the line, from 0 to 1,231. Both are 0 at reset.
 #[derive(Clone, Copy, Debug, PartialEq, Eq)]
 pub struct Position {
     pub line: u32,

@@ -9,8 +9,8 @@ use crate::{Position, Reference};
 use gba_word::{bits, sign_extend};
 use std::marker::Model;
 
-/// The picture's registers (GBATEK, LCD I/O Registers), from DISPCNT 000h to BLDY 054h, and the inner reference points of
-/// backgrounds 2 and 3. All numbers are 0 at reset.
+/// The picture's registers (GBATEK, LCD I/O Registers), from DISPCNT 000h to BLDY 054h, and the inner reference points
+/// of backgrounds 2 and 3. All numbers are 0 at reset.
 #[derive(Clone, Copy, Debug, PartialEq, Eq)]
 pub struct PictureRegisters {
     halves: [u16; 43],
@@ -85,8 +85,9 @@ impl PictureRegisters {
         }
     }
 
-    /// The registers with these halfwords, from DISPCNT 000h to BLDY 054h in the order of their offsets, also where there is no
-    /// register, and these inner reference points of backgrounds 2 and 3, which needn't be the written ones.
+    /// The registers with these halfwords, from DISPCNT 000h to BLDY 054h in the order of their offsets, also
+    /// where there is no register, and these inner reference points of backgrounds 2 and 3, which needn't be the
+    /// written ones.
     pub fn of(halves: &[u16; 43], reference2: Reference, reference3: Reference) -> PictureRegisters
         ensures { result ≡ record { halves = halves.now; reference2 = reference2; reference3 = reference3 } }
     {
@@ -97,8 +98,8 @@ impl PictureRegisters {
         }
     }
 
-    /// What is stored in the halfword at an offset from 04000000h, which is also what a byte write keeps of the other byte.
-    /// 0 where there is no register.
+    /// What is stored in the halfword at an offset from 04000000h, which is also what a byte write keeps of the other
+    /// byte. 0 where there is no register.
     pub fn kept(&self, offset: u32) -> u16
         ensures { result ≡ picture_kept offset self.now }
     {
@@ -138,8 +139,8 @@ impl PictureRegisters {
         sign_extend(written, 28)
     }
 
-    /// Writes the halfword at an offset. A write of either half of a reference point makes the inner point the whole new
-    /// one. Where there is no register nothing is written.
+    /// Writes the halfword at an offset. A write of either half of a reference point makes the inner point the whole
+    /// new one. Where there is no register nothing is written.
     pub fn write(&mut self, offset: u32, value: u16)
         ensures { self.new ≡ picture_written offset value self.old }
     {

@@ -31,8 +31,8 @@ fn draw_tiles(vram: &[u8], row: &MapRow, dots: &mut [Dot])
     }
 }
 
-/// The dots of a text background, from 0 to 3, in a line from 0 to 159: 240 of them, from left to right. Video memory has
-/// 98,304 bytes. Whether the background is shown, and whether the mode has it, isn't asked.
+/// The dots of a text background, from 0 to 3, in a line from 0 to 159: 240 of them, from left to right. Video memory
+/// has 98,304 bytes. Whether the background is shown, and whether the mode has it, isn't asked.
 #[tactic(auto, unfolding(crate::specs::Text::text_pixel))]
 pub fn text_line(r: &PictureRegisters, vram: &[u8], bg: u32, line: u32, dots: &mut [Dot])
     requires background { bg < 4 }

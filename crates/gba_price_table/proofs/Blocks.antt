@@ -23,7 +23,8 @@ block-price : (block address : ℕ) (width : Width) (sequential : Bool) (waits :
     → slice_index (block_prices width sequential waits) block
     ≡ price (region_in_block block address) width sequential waits
 unfolding block_prices price
-block-price zero address width sequential waits h = front-price (nat_lt address 0x4000) Bios width sequential waits (λ w. refl)
+block-price zero address width sequential waits h =
+    front-price (nat_lt address 0x4000) Bios width sequential waits (λ w. refl)
 block-price (suc zero) address width sequential waits h = refl
 block-price (suc (suc zero)) address width sequential waits h = refl
 block-price (suc (suc (suc zero))) address width sequential waits h = refl
@@ -35,17 +36,19 @@ block-price (suc (suc (suc (suc (suc (suc (suc zero))))))) address width sequent
 block-price (suc (suc (suc (suc (suc (suc (suc (suc zero)))))))) address width sequential waits h = refl
 block-price (suc (suc (suc (suc (suc (suc (suc (suc (suc zero))))))))) address width sequential waits h = refl
 block-price (suc (suc (suc (suc (suc (suc (suc (suc (suc (suc zero)))))))))) address width sequential waits h = refl
-block-price (suc (suc (suc (suc (suc (suc (suc (suc (suc (suc (suc zero))))))))))) address width sequential waits h = refl
-block-price (suc (suc (suc (suc (suc (suc (suc (suc (suc (suc (suc (suc zero)))))))))))) address width sequential waits h =
+block-price (suc (suc (suc (suc (suc (suc (suc (suc (suc (suc (suc zero))))))))))) address width sequential waits h =
     refl
-block-price (suc (suc (suc (suc (suc (suc (suc (suc (suc (suc (suc (suc (suc zero))))))))))))) address width sequential waits
-    h = refl
-block-price (suc (suc (suc (suc (suc (suc (suc (suc (suc (suc (suc (suc (suc (suc zero)))))))))))))) address width sequential
-    waits h = refl
+block-price (suc (suc (suc (suc (suc (suc (suc (suc (suc (suc (suc (suc zero)))))))))))) address width sequential
+    waits h =
+    refl
+block-price (suc (suc (suc (suc (suc (suc (suc (suc (suc (suc (suc (suc (suc zero))))))))))))) address width
+    sequential waits h = refl
+block-price (suc (suc (suc (suc (suc (suc (suc (suc (suc (suc (suc (suc (suc (suc zero)))))))))))))) address width
+    sequential waits h = refl
 block-price (suc (suc (suc (suc (suc (suc (suc (suc (suc (suc (suc (suc (suc (suc (suc zero))))))))))))))) address width
     sequential waits h = refl
-block-price (suc (suc (suc (suc (suc (suc (suc (suc (suc (suc (suc (suc (suc (suc (suc (suc n)))))))))))))))) address width
-    sequential waits h = absurd (omega arith)
+block-price (suc (suc (suc (suc (suc (suc (suc (suc (suc (suc (suc (suc (suc (suc (suc (suc n))))))))))))))))
+    address width sequential waits h = absurd (omega arith)
 
 kept_price : (address : ℕ) (width : Width) (sequential : Bool) (waits : ℕ) → address / 2 ^ 24 < 16
     → slice_index (block_prices width sequential waits) (address / 2 ^ 24)
@@ -96,7 +99,8 @@ front-length width sequential waits = refl
 
 -- every block
 pub every_price : (address : ℕ) (width : Width) (sequential : Bool) (waits : ℕ) → address < 2 ^ 32
-    → slice_index (all_prices width sequential waits) (address / 2 ^ 24) ≡ price (region_of address) width sequential waits
+    → slice_index (all_prices width sequential waits) (address / 2 ^ 24)
+    ≡ price (region_of address) width sequential waits
 unfolding all_prices
 every_price address width sequential waits small =
     let block = address / 2 ^ 24 in
@@ -110,7 +114,8 @@ every_price address width sequential waits small =
     ∙ get_or-replicate 240 (block - 16) 1 0 (omega arith) ∙ sym (high_price address width sequential waits high))
     (cases_lt block 16)
 
-pub all_byte_prices : (sequential : Bool) (waits : ℕ) → all_prices Byte sequential waits ≡ all_prices Half sequential waits
+pub all_byte_prices : (sequential : Bool) (waits : ℕ)
+    → all_prices Byte sequential waits ≡ all_prices Half sequential waits
 unfolding all_prices
 all_byte_prices sequential waits = ap (λ front. front ++ replicate 240 1) (byte_prices sequential waits)
 

@@ -22,7 +22,8 @@ number_at ram address Word =
 
 abbrev pub with_byte : ℕ → ℕ → Ram → Ram
 with_byte address value ram =
-    if nat_lt (place address) 3072 then record ram { bytes = slice_set ram.bytes (place address) (value % 256) } else ram
+    if nat_lt (place address) 3072 then record ram { bytes = slice_set ram.bytes (place address) (value % 256) }
+    else ram
 
 -- the memory after a write, little-endian
 abbrev pub with_number : ℕ → Width → ℕ → Ram → Ram

@@ -34,7 +34,8 @@ either_below true value below = below
 either_below false value below = omega arith
 
 byte-below : (ram : Ram) (address : ℕ) → byte_at ram address < 256
-byte-below ram address = either_below (nat_lt (place address) 3072) (slice_index ram.bytes (place address) % 256) (omega arith)
+byte-below ram address =
+    either_below (nat_lt (place address) 3072) (slice_index ram.bytes (place address) % 256) (omega arith)
 
 below-word : (a b c d : ℕ) → a < 256 → b < 256 → c < 256 → d < 256 → a + 256 * b + 65536 * c + 16777216 * d < 2 ^ 32
 below-word a b c d p q r s = omega arith
@@ -48,7 +49,8 @@ number-fits ram address Half =
     below-half (byte_at ram address) (byte_at ram (address + 1)) (byte-below ram address) (byte-below ram (address + 1))
 number-fits ram address Word =
     below-word (byte_at ram address) (byte_at ram (address + 1)) (byte_at ram (address + 2)) (byte_at ram (address + 3))
-    (byte-below ram address) (byte-below ram (address + 1)) (byte-below ram (address + 2)) (byte-below ram (address + 3))
+    (byte-below ram address) (byte-below ram (address + 1)) (byte-below ram (address + 2))
+    (byte-below ram (address + 3))
 
 pub ram_code_fits : CodeFits ram_code
 ram_code_fits ram address width = number-fits ram address width

@@ -387,8 +387,8 @@ fn blocks_of_user_registers(rt: HostRuntime) {
     }
 }
 
-// Operations at a Thumb address, as Thumb instructions stand for them: the operation, r0, r14, r15, CPSR and cycles over
-// slow memory. Before it r0 is 9, r1 03000007h, r15 the address plus 2 and CPSR 30h.
+// Operations at a Thumb address, as Thumb instructions stand for them: the operation, r0, r14, r15, CPSR and cycles
+// over slow memory. Before it r0 is 9, r1 03000007h, r15 the address plus 2 and CPSR 30h.
 #[test]
 fn operations_at_a_thumb_address(rt: HostRuntime) {
     let cond = Condition::Always;

@@ -7,8 +7,8 @@ use gba_arm_exec::{decode_word, execute_decoded};
 // A word, r1, r2 and CPSR before it, r0 and CPSR after it, and its cycles over slow memory.
 type Case = (u32, u32, u32, u32, u32, u32, u32);
 
-// A word, r1 and r2, r0 and r3 after it, CPSR after it, and its cycles over slow memory. Before it r0 is 1, r3 FFFFFFF0h
-// and CPSR 30000010h.
+// A word, r1 and r2, r0 and r3 after it, CPSR after it, and its cycles over slow memory. Before it r0 is 1, r3
+// FFFFFFF0h and CPSR 30000010h.
 type ProductCase = (u32, u32, u32, u32, u32, u32, u32);
 
 static OPERATIONS: [Case; 114] = [

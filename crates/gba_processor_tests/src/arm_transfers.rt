@@ -6,8 +6,8 @@ use gba_arm_exec::{decode_word, execute_decoded};
 use gba_bus::{Bus, Width};
 use gba_word::{bit, bits};
 
-// A word, r1 and r2, r0 and r1 after it, how far from 02000000h a word stands and that word after it, and its cycles over
-// slow memory. Before it r0 is A1B2C3D4h, and CPSR has C.
+// A word, r1 and r2, r0 and r1 after it, how far from 02000000h a word stands and that word after it, and its cycles
+// over slow memory. Before it r0 is A1B2C3D4h, and CPSR has C.
 type TransferCase = (u32, u32, u32, u32, u32, u32, u32, u32);
 
 // A word, the low two bits of its base, r0 to r3 after it, three words of memory after it, and its cycles over slow

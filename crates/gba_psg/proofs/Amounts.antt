@@ -32,10 +32,12 @@ left-off ts h off = ap left_amount (h.off off) ∙ left-cleared ts
 pub right-off : (ts : FourTones) → AreSound ts → ts.is_on ≡ false → right_amount ts ≡ 0
 right-off ts h off = ap right_amount (h.off off) ∙ right-cleared ts
 
-pub left-off-after : (count : ℕ) (ts : FourTones) → AreSound ts → ts.is_on ≡ false → left_amount (after_cycles count ts) ≡ 0
+pub left-off-after : (count : ℕ) (ts : FourTones) → AreSound ts → ts.is_on ≡ false
+    → left_amount (after_cycles count ts) ≡ 0
 left-off-after count ts h off = ap left_amount (still-cycles count ts off) ∙ left-off ts h off
 
-pub right-off-after : (count : ℕ) (ts : FourTones) → AreSound ts → ts.is_on ≡ false → right_amount (after_cycles count ts) ≡ 0
+pub right-off-after : (count : ℕ) (ts : FourTones) → AreSound ts → ts.is_on ≡ false
+    → right_amount (after_cycles count ts) ≡ 0
 right-off-after count ts h off = ap right_amount (still-cycles count ts off) ∙ right-off ts h off
 
 pub is-still : IsStill

@@ -70,7 +70,9 @@ wave-next n c waits =
 
 noise-next : (n : ℕ) (c : Noise) → Waits c.tone → noise_moved (noise_run n c) ≡ noise_run (n + 1) c
 noise-next n c waits =
-    λ i. record c { tone = tone-next (next_noise (is_narrow c)) (noise_period c) n c.tone (noise-period-positive c) waits i }
+    λ i. record c {
+      tone = tone-next (next_noise (is_narrow c)) (noise_period c) n c.tone (noise-period-positive c) waits i;
+    }
 
 -- all four
 pub record AreWaiting (ts : FourTones) : Type 0 where
@@ -80,7 +82,8 @@ pub record AreWaiting (ts : FourTones) : Type 0 where
   pub noise : Waits ts.noise.tone
 
 pub sound-waits : (ts : FourTones) → AreSound ts → AreWaiting ts
-sound-waits ts h = record { square1 = h.square1.waits; square2 = h.square2.waits; wave = h.wave.waits; noise = h.noise.waits }
+sound-waits ts h =
+    record { square1 = h.square1.waits; square2 = h.square2.waits; wave = h.wave.waits; noise = h.noise.waits }
 
 pub run-next : (n : ℕ) (ts : FourTones) → AreWaiting ts → moved (run n ts) ≡ run (n + 1) ts
 unfolding run
@@ -96,8 +99,10 @@ pub run-none : (ts : FourTones) → AreWaiting ts → run 0 ts ≡ ts
 unfolding run
 run-none ts h =
     λ i. record ts {
-      square1 = record ts.square1 { tone = tone-none next_eighth (square_period ts.square1) ts.square1.tone h.square1 i };
-      square2 = record ts.square2 { tone = tone-none next_eighth (square_period ts.square2) ts.square2.tone h.square2 i };
+      square1 =
+          record ts.square1 { tone = tone-none next_eighth (square_period ts.square1) ts.square1.tone h.square1 i };
+      square2 =
+          record ts.square2 { tone = tone-none next_eighth (square_period ts.square2) ts.square2.tone h.square2 i };
       wave = record ts.wave { tone = tone-none (next_digit ts.wave) (wave_period ts.wave) ts.wave.tone h.wave i };
       noise = record ts.noise {
         tone = tone-none (next_noise (is_narrow ts.noise)) (noise_period ts.noise) ts.noise.tone h.noise i;

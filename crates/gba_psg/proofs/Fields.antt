@@ -44,7 +44,8 @@ period-below-by ratio shift true e r s = pow_below (shift + 5) 24 (omega (arith,
 period-below-by ratio shift false e r s = below-24 ratio shift r s
 
 pub noise-period-positive : (c : Noise) → 0 < noise_period c
-noise-period-positive c = period-positive-by (field c.control 0 3) (field c.control 4 4) (nat_eq (field c.control 0 3) 0) refl
+noise-period-positive c =
+    period-positive-by (field c.control 0 3) (field c.control 4 4) (nat_eq (field c.control 0 3) 0) refl
 
 pub noise-period-below : (c : Noise) → noise_period c < 2 ^ 24
 noise-period-below c =

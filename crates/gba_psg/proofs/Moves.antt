@@ -134,7 +134,8 @@ pub repeated-none : (next : ℕ → ℕ) (place : ℕ) → repeated next 0 place
 unfolding repeated
 repeated-none next place = refl
 
-pub repeated-more : (next : ℕ → ℕ) (count place : ℕ) → repeated next (count + 1) place ≡ next (repeated next count place)
+pub repeated-more : (next : ℕ → ℕ) (count place : ℕ)
+    → repeated next (count + 1) place ≡ next (repeated next count place)
 unfolding repeated
 repeated-more next count place = rw add-one refl
 
@@ -150,7 +151,8 @@ Rounds size count place = repeated (λ at. (at + 1) % size) count place ≡ (pla
 
 pub round-moves : (size count place : ℕ) → 0 < size → Rounds size (count + 1) place
 round-moves size zero place some =
-    repeated-more (λ at. (at + 1) % size) 0 place ∙ ap (λ n. (n + 1) % size) (repeated-none (λ at. (at + 1) % size) place)
+    repeated-more (λ at. (at + 1) % size) 0 place
+    ∙ ap (λ n. (n + 1) % size) (repeated-none (λ at. (at + 1) % size) place)
 round-moves size (suc count) place some =
     let one : count + 1 ≡ suc count = omega arith in
     let all : place + suc count + 1 ≡ place + (suc count + 1) = omega arith in
@@ -169,7 +171,8 @@ round-some size (suc count) place some h =
 -- a tone that is off stays, and one that is on goes where its moves lead
 pub tone-still : (next : ℕ → ℕ) (p n : ℕ) (t : Tone) → t.on ≡ false → t ≡ tone_run next p n t
 tone-still next p n t off =
-    let place = ap (λ on. repeated next (if on then moves_in p n t.wait else 0) t.place) off ∙ repeated-none next t.place in
+    let place =
+    ap (λ on. repeated next (if on then moves_in p n t.wait else 0) t.place) off ∙ repeated-none next t.place in
     let wait = ap (λ on. if on then wait_after p n t.wait else t.wait) off in
     λ i. record t { place = sym place i; wait = sym wait i }
 

@@ -74,8 +74,8 @@ wait-left : (on : Bool) (wait period : ℕ) → 0 < period → (on ≡ true → 
     → 0 < (if on && nat_eq (wait - 1) 0 then period else if on then wait - 1 else wait)
 wait-left on wait period some h e = (let waits = h e in grind (arith, e, some, waits))
 
-moved-sound : (p : ℕ) (next : ℕ → ℕ) (period : ℕ) (t : Tone) → ((x : ℕ) → x < p → next x < p) → 0 < period → period < 2 ^ 24
-    → IsSoundTone p t → IsSoundTone p (after_wait next period t)
+moved-sound : (p : ℕ) (next : ℕ → ℕ) (period : ℕ) (t : Tone) → ((x : ℕ) → x < p → next x < p) → 0 < period
+    → period < 2 ^ 24 → IsSoundTone p t → IsSoundTone p (after_wait next period t)
 moved-sound p next period t keeps some below h = record {
   place = either (λ n. n < p) (is_due t) (next t.place) t.place (keeps t.place h.place) h.place;
   wait =
@@ -107,13 +107,13 @@ xor-below narrow false x h = grind (arith, h)
 
 square-moved-sound : (c : Square) → IsSoundTone 8 c.tone → IsSoundTone 8 (square_moved c).tone
 square-moved-sound c h =
-    moved-sound 8 next_eighth (square_period c) c.tone (λ x low. mod_below (x + 1) 8 (omega arith)) (square-period-positive c)
-    (square-period-below c) h
+    moved-sound 8 next_eighth (square_period c) c.tone (λ x low. mod_below (x + 1) 8 (omega arith))
+    (square-period-positive c) (square-period-below c) h
 
 wave-moved-sound : (c : Wave) → IsSoundTone 64 c.tone → IsSoundTone 64 (wave_moved c).tone
 wave-moved-sound c h =
-    moved-sound 64 (next_digit c) (wave_period c) c.tone (λ x low. digit-below (bit c.select 5) x) (wave-period-positive c)
-    (wave-period-below c) h
+    moved-sound 64 (next_digit c) (wave_period c) c.tone (λ x low. digit-below (bit c.select 5) x)
+    (wave-period-positive c) (wave-period-below c) h
 
 noise-moved-sound : (c : Noise) → IsSoundTone 0x8000 c.tone → IsSoundTone 0x8000 (noise_moved c).tone
 noise-moved-sound c h =
@@ -135,12 +135,15 @@ swept-sound sweep c h = record {
   volume = h.volume;
   fade = h.fade;
   sweep = h.sweep;
-  shadow = swept-low (is_too_high sweep c.tone) (not (sweep_shift sweep == 0)) (swept sweep c.tone) c.tone.shadow refl h.shadow;
+  shadow =
+      swept-low (is_too_high sweep c.tone) (not (sweep_shift sweep == 0)) (swept sweep c.tone) c.tone.shadow refl
+      h.shadow;
   waits = λ e. h.waits (stays-on c.tone.on _ e);
   lasts = λ e. h.lasts (stays-on c.tone.on _ e);
 }
 
-with-left-sound : (left : ℕ) (c : Square) → left < 8 → IsSoundTone 8 c.tone → IsSoundTone 8 (with_sweep_left left c).tone
+with-left-sound : (left : ℕ) (c : Square) → left < 8 → IsSoundTone 8 c.tone
+    → IsSoundTone 8 (with_sweep_left left c).tone
 with-left-sound left c low h = record {
   place = h.place;
   wait = h.wait;
@@ -157,7 +160,8 @@ sweep-sound : (sweep : ℕ) (c : Square) → IsSoundTone 8 c.tone → IsSoundTon
 sweep-sound sweep c h =
     either (λ (d : Square). IsSoundTone 8 d.tone) (sweep_time sweep == 0) c _ h
     (either (λ (d : Square). IsSoundTone 8 d.tone) (lowered c.tone.sweep == 0) _ _
-    (swept-sound sweep (with_sweep_left (sweep_time sweep) c) (with-left-sound (sweep_time sweep) c (field-below sweep 4 3) h))
+    (swept-sound sweep (with_sweep_left (sweep_time sweep) c)
+    (with-left-sound (sweep_time sweep) c (field-below sweep 4 3) h))
     (with-left-sound (lowered c.tone.sweep) c (omega (arith, h.sweep)) h))
 
 -- a start
@@ -322,7 +326,9 @@ unfolding ticked
 ticked-four ts h =
     let lengths = either AreFour (nat_eq (ts.sequencer % 0x10000) 0) (after_lengths ts) ts (lengths-four ts h) h in
     let first = with_lengths ts in
-    let sweeps = either AreFour (nat_eq (first.sequencer % 0x20000) 0) (after_sweeps first) first (sweeps-four first lengths) lengths in
+    let sweeps =
+    either AreFour (nat_eq (first.sequencer % 0x20000) 0) (after_sweeps first) first (sweeps-four first lengths)
+    lengths in
     let second = with_sweeps first in
     either AreFour (nat_eq second.sequencer 0) (after_envelopes second) second (envelopes-four second sweeps) sweeps
 
@@ -360,9 +366,11 @@ same-tones ts after h on s a b c d = record {
   noise = subst (IsSoundTone 0x8000) (sym d) h.noise;
 }
 
-channel-four : (offset value : ℕ) (starts : Bool) (ts : FourTones) → AreFour ts → AreFour (channel_stored offset value starts ts)
+channel-four : (offset value : ℕ) (starts : Bool) (ts : FourTones) → AreFour ts
+    → AreFour (channel_stored offset value starts ts)
 channel-four offset value starts ts h =
-    either AreFour (nat_eq offset 0x060) (record ts { sweep = value }) _ (same-tones ts (record ts { sweep = value }) h refl refl refl refl refl refl)
+    either AreFour (nat_eq offset 0x060) (record ts { sweep = value }) _
+    (same-tones ts (record ts { sweep = value }) h refl refl refl refl refl refl)
     (either AreFour (nat_eq offset 0x062) (record ts { square1 = record ts.square1 { shape = value } }) _
     (same-tones ts (record ts { square1 = record ts.square1 { shape = value } }) h refl refl refl refl refl refl)
     (either AreFour (nat_eq offset 0x064) (record ts { square1 = square_controlled ts.sweep value starts ts.square1 }) _
@@ -429,7 +437,8 @@ wave-stays-clear place value w e =
       control = (e i).control;
     }
 
-wave-stored-sound : (place value : ℕ) (ts : FourTones) → AreSound ts → AreSound (record ts { wave = with_wave_half place value ts.wave })
+wave-stored-sound : (place value : ℕ) (ts : FourTones) → AreSound ts
+    → AreSound (record ts { wave = with_wave_half place value ts.wave })
 wave-stored-sound place value ts h = record {
   sequencer = h.sequencer;
   square1 = h.square1;
@@ -473,7 +482,8 @@ mastered-sound true ts h = record {
 }
 mastered-sound false ts h = cleared-sound ts
 
-pub stored-sound : (offset value : ℕ) (starts : Bool) (ts : FourTones) → AreSound ts → AreSound (tones_stored offset value starts ts)
+pub stored-sound : (offset value : ℕ) (starts : Bool) (ts : FourTones) → AreSound ts
+    → AreSound (tones_stored offset value starts ts)
 stored-sound offset value starts ts h =
     either AreSound (is_wave_offset offset) (record ts { wave = with_wave_half (wave_place offset) value ts.wave }) _
     (wave-stored-sound (wave_place offset) value ts h)

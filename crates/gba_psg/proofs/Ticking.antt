@@ -17,7 +17,8 @@ unfolding after_cycles
 cycles-more count ts = rw add-one refl
 
 -- cycles and more cycles
-pub cycles-add : (count more : ℕ) (ts : FourTones) → after_cycles (count + more) ts ≡ after_cycles more (after_cycles count ts)
+pub cycles-add : (count more : ℕ) (ts : FourTones)
+    → after_cycles (count + more) ts ≡ after_cycles more (after_cycles count ts)
 unfolding after_cycles
 cycles-add count zero ts = (let none : count + 0 ≡ count = omega arith in ap (λ n. after_cycles n ts) none)
 cycles-add count (suc more) ts =
@@ -33,7 +34,8 @@ ticked-keeps of ts lengths sweeps envelopes =
     let first = with_lengths ts in
     let second = with_sweeps first in
     either (λ t. of t ≡ of second) (nat_eq second.sequencer 0) (after_envelopes second) second (envelopes second) refl
-    ∙ either (λ t. of t ≡ of first) (nat_eq (first.sequencer % 0x20000) 0) (after_sweeps first) first (sweeps first) refl
+    ∙ either (λ t. of t ≡ of first) (nat_eq (first.sequencer % 0x20000) 0) (after_sweeps first) first
+    (sweeps first) refl
     ∙ either (λ t. of t ≡ of ts) (nat_eq (ts.sequencer % 0x10000) 0) (after_lengths ts) ts (lengths ts) refl
 
 pub ticked-sequencer : (ts : FourTones) → (ticked ts).sequencer ≡ ts.sequencer
@@ -71,8 +73,10 @@ run-on-from more ts on h before low =
 starts-again : (s : ℕ) → s % 0x10000 ≡ 0xffff → (s + 1) % 0x40000 % 0x10000 ≡ 0
 starts-again s e = grind (arith, e)
 
-pub passes-tick : (more : ℕ) (ts : FourTones) → ts.is_on ≡ true → AreSound ts → ts.sequencer % 0x10000 ≡ 0xffff → more < 1024
-    → record (run (more + 1) (ticked (counted ts))) { sequencer = (run (more + 1) (ticked (counted ts))).sequencer + more }
+pub passes-tick : (more : ℕ) (ts : FourTones) → ts.is_on ≡ true → AreSound ts → ts.sequencer % 0x10000 ≡ 0xffff
+    → more < 1024 → record (run (more + 1) (ticked (counted ts))) {
+      sequencer = (run (more + 1) (ticked (counted ts))).sequencer + more;
+    }
     ≡ after_cycles (more + 1) ts
 unfolding after_cycles
 passes-tick more ts on h before few =
@@ -90,7 +94,8 @@ passes-tick more ts on h before few =
 pub passed-sequencer : (n : ℕ) (ts : FourTones) → ts.is_on ≡ true → AreSound ts → ts.sequencer % 0x10000 + n < 0x10000
     → (after_cycles n ts).sequencer ≡ ts.sequencer + n
 unfolding run
-passed-sequencer n ts on h before = sym (ap (λ (t : FourTones). t.sequencer) (passes n ts on (sound-waits ts h) before h.sequencer))
+passed-sequencer n ts on h before =
+    sym (ap (λ (t : FourTones). t.sequencer) (passes n ts on (sound-waits ts h) before h.sequencer))
 
 pub last-before : (s : ℕ) → (s + (0xffff - s % 0x10000)) % 0x10000 ≡ 0xffff
 last-before s = grind arith

@@ -69,7 +69,8 @@ wait-by p n false e some =
 place-on : (p n : ℕ) → 0 < p → next_place (n / p % 8) (p - n % p) ≡ (n + 1) / p % 8
 place-on p n some = place-by p n (nat_eq (p - n % p - 1) 0) refl some
 
-wait-on : (control n : ℕ) → next_wait control (period control - n % period control) ≡ period control - (n + 1) % period control
+wait-on : (control n : ℕ)
+    → next_wait control (period control - n % period control) ≡ period control - (n + 1) % period control
 wait-on control n =
     wait-by (period control) n (nat_eq (period control - n % period control - 1) 0) refl (period-positive control)
 
@@ -90,7 +91,8 @@ length-at control place wait c untimed h = record {
 
 envelope-at : (control place wait : ℕ) (c : Square) → IsAt control place wait c
     → IsAt control place wait (record c { tone = after_envelope c.shape c.tone })
-envelope-at control place wait c h = record { on = h.on; same_control = h.same_control; same_place = h.same_place; same_wait = h.same_wait }
+envelope-at control place wait c h =
+    record { on = h.on; same_control = h.same_control; same_place = h.same_place; same_wait = h.same_wait }
 
 no-sweep-by : (sweep : ℕ) (c : Square) (none : Bool) → nat_eq (sweep_time sweep) 0 ≡ none → sweep_time sweep ≡ 0
     → after_sweep sweep c ≡ c
@@ -125,7 +127,11 @@ first-ticked : (control place wait : ℕ) (ts : FourTones) → bit control 14 �
     → First control place wait (ticked ts)
 first-ticked control place wait ts untimed h =
     ticked-by (First control place wait) ts h
-    (λ t k. record { is_on = k.is_on; sweep = k.sweep; square = length-at control place wait t.square1 untimed k.square })
+    (λ t k. record {
+      is_on = k.is_on;
+      sweep = k.sweep;
+      square = length-at control place wait t.square1 untimed k.square;
+    })
     (λ t k. record {
       is_on = k.is_on;
       sweep = k.sweep;
@@ -144,10 +150,15 @@ second-ticked control place wait ts untimed h =
 first-cycle : (control place wait : ℕ) (ts : FourTones) → bit control 14 ≡ false → First control place wait ts
     → First control (next_place place wait) (next_wait control wait) (cycle ts)
 first-cycle control place wait ts untimed h =
-    let begun : First control place wait (counted ts) = record { is_on = h.is_on; sweep = h.sweep; square = h.square } in
+    let begun : First control place wait (counted ts) =
+    record { is_on = h.is_on; sweep = h.sweep; square = h.square } in
     let after = first-ticked control place wait (counted ts) untimed begun in
     subst (First control (next_place place wait) (next_wait control wait)) (sym (cycle-on ts h.is_on))
-    (record { is_on = after.is_on; sweep = after.sweep; square = moved-at control place wait (ticked (counted ts)).square1 after.square })
+    (record {
+      is_on = after.is_on;
+      sweep = after.sweep;
+      square = moved-at control place wait (ticked (counted ts)).square1 after.square;
+    })
 
 second-cycle : (control place wait : ℕ) (ts : FourTones) → bit control 14 ≡ false → Second control place wait ts
     → Second control (next_place place wait) (next_wait control wait) (cycle ts)
@@ -177,7 +188,8 @@ first-after control (suc n) ts untimed h =
     let next = first-cycle control (place_at control n) (wait_at control n) (after_cycles n ts) untimed earlier in
     let there = subst (λ x. First control x (next_wait control (wait_at control n)) (cycle (after_cycles n ts)))
     (place-on (period control) n (period-positive control)) next in
-    let waits = subst (λ y. First control (place_at control (n + 1)) y (cycle (after_cycles n ts))) (wait-on control n) there in
+    let waits =
+    subst (λ y. First control (place_at control (n + 1)) y (cycle (after_cycles n ts))) (wait-on control n) there in
     subst (λ k. First control (place_at control k) (wait_at control k) (cycle (after_cycles n ts))) one waits
 
 second-after : (control n : ℕ) (ts : FourTones) → bit control 14 ≡ false → Second control 0 (period control) ts
@@ -194,7 +206,8 @@ second-after control (suc n) ts untimed h =
     let next = second-cycle control (place_at control n) (wait_at control n) (after_cycles n ts) untimed earlier in
     let there = subst (λ x. Second control x (next_wait control (wait_at control n)) (cycle (after_cycles n ts)))
     (place-on (period control) n (period-positive control)) next in
-    let waits = subst (λ y. Second control (place_at control (n + 1)) y (cycle (after_cycles n ts))) (wait-on control n) there in
+    let waits =
+    subst (λ y. Second control (place_at control (n + 1)) y (cycle (after_cycles n ts))) (wait-on control n) there in
     subst (λ k. Second control (place_at control k) (wait_at control k) (cycle (after_cycles n ts))) one waits
 
 -- what a write of the control leaves that starts
@@ -237,7 +250,8 @@ same-timing value untimed =
 
 first-keeps : (ts : FourTones) (value count : ℕ) → ts.is_on ≡ true → bit value 15 ≡ true → bit value 14 ≡ false
     → sweep_time ts.sweep ≡ 0
-    → (after_cycles count (tones_written 0x064 value ts)).square1.tone.place ≡ count / (16 * (2048 - field value 0 11)) % 8
+    → (after_cycles count (tones_written 0x064 value ts)).square1.tone.place
+    ≡ count / (16 * (2048 - field value 0 11)) % 8
 first-keeps ts value count on starts untimed sweep =
     let begun = record ts { square1 = started ts.sweep value ts.square1 } in
     let at : First (masked value) 0 (period (masked value)) begun =
@@ -248,7 +262,8 @@ first-keeps ts value count on starts untimed sweep =
     ∙ ap (λ f. count / (16 * (2048 - f)) % 8) (same-frequency value)
 
 second-keeps : (ts : FourTones) (value count : ℕ) → ts.is_on ≡ true → bit value 15 ≡ true → bit value 14 ≡ false
-    → (after_cycles count (tones_written 0x06c value ts)).square2.tone.place ≡ count / (16 * (2048 - field value 0 11)) % 8
+    → (after_cycles count (tones_written 0x06c value ts)).square2.tone.place
+    ≡ count / (16 * (2048 - field value 0 11)) % 8
 second-keeps ts value count on starts untimed =
     let begun = record ts { square2 = started 0 value ts.square2 } in
     let at : Second (masked value) 0 (period (masked value)) begun =

@@ -6,9 +6,9 @@ use Rattle.gba_psg.specs.Noise.{noise_amount}
 use Rattle.gba_psg.specs.declared.four.FourTones.{FourTones}
 use Rattle.gba_psg.specs.declared.four.Given.{Given}
 
--- What the channels give to a side: the sum of those that SOUNDCNT_L sends there, channel 1 by the first of four bits, times
--- the side's volume plus 1, times 1, 2, 4 or 0 by SOUNDCNT_H (GBATEK, GBA Sound Control Registers; the times 8 is this
--- project's profile).
+-- What the channels give to a side: the sum of those that SOUNDCNT_L sends there, channel 1 by the first of four bits,
+-- times the side's volume plus 1, times 1, 2, 4 or 0 by SOUNDCNT_H (GBATEK, GBA Sound Control Registers; the times 8 is
+-- this project's profile).
 abbrev pub sent : Bool → ℕ → ℕ
 sent is_sent amount = if is_sent then amount else 0
 

@@ -3,9 +3,10 @@ use Rattle.gba_terms.specs.Bits.{bit, field}
 use Rattle.gba_psg.specs.declared.noise.Noise.{Noise}
 use Rattle.gba_psg.specs.Tone.{envelope_time, first_volume, after_wait, tone_at_reset}
 
--- Channel 4, noise (GBATEK, GBA Sound Channel 4). It has a tone and two halfwords as they are stored: the shape's is that of
--- channel 1 without duty; the control has the ratio in bits 0 to 2, in bit 3 whether the register is 7 bits wide instead of
--- 15, the shift in bits 4 to 7, and in bit 14 whether the length is timed. Its place is the register of the noise.
+-- Channel 4, noise (GBATEK, GBA Sound Channel 4). It has a tone and two halfwords as they are stored: the shape's is
+-- that of channel 1 without duty; the control has the ratio in bits 0 to 2, in bit 3 whether the register is 7 bits
+-- wide instead of 15, the shift in bits 4 to 7, and in bit 14 whether the length is timed. Its place is the register of
+-- the noise.
 abbrev pub is_narrow : Noise → Bool
 is_narrow c = bit c.control 3
 

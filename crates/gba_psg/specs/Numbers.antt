@@ -5,8 +5,8 @@ use Rattle.gba_psg.specs.declared.tone.Tone.{Tone}
 use Rattle.gba_psg.specs.declared.four.FourTones.{FourTones}
 use Rattle.gba_psg.specs.Registers.{tones_kept}
 
--- What the tones say of themselves: 33 numbers, which are the sequencer and then eight of each channel; the bytes of the two
--- banks of the wave; and what is stored at thirteen halfwords.
+-- What the tones say of themselves: 33 numbers, which are the sequencer and then eight of each channel; the bytes of
+-- the two banks of the wave; and what is stored at thirteen halfwords.
 abbrev pub tone_numbers : Tone → List ℕ
 tone_numbers t =
     weight 1 t.on ∷ t.place ∷ t.wait ∷ t.left ∷ t.volume ∷ t.fade ∷ t.sweep ∷ t.shadow ∷ []
@@ -14,7 +14,8 @@ tone_numbers t =
 unfoldable pub numbers_of : FourTones → List ℕ
 numbers_of ts =
     ts.sequencer
-    ∷ tone_numbers ts.square1.tone ++ tone_numbers ts.square2.tone ++ tone_numbers ts.wave.tone ++ tone_numbers ts.noise.tone
+    ∷ tone_numbers ts.square1.tone ++ tone_numbers ts.square2.tone ++ tone_numbers ts.wave.tone
+    ++ tone_numbers ts.noise.tone
 
 unfoldable pub halves_of : FourTones → List ℕ
 halves_of ts =

@@ -8,9 +8,10 @@ use Rattle.gba_psg.specs.Noise.{noise_at_reset, noise_controlled}
 use Rattle.gba_psg.specs.declared.four.FourTones.{FourTones}
 use Rattle.gba_psg.specs.Tones.{channels_on}
 
--- The registers of the tone channels (GBATEK, GBA Sound Controller): channel 1 at 060h to 064h, channel 2 at 068h and 06Ch,
--- channel 3 at 070h to 074h and its bytes at 090h to 09Eh, channel 4 at 078h and 07Ch, SOUNDCNT_L 080h, of SOUNDCNT_H 082h
--- the bits 0 and 1, which direct sound reads, and SOUNDCNT_X 084h. Bit 15 of a control, which isn't stored, starts.
+-- The registers of the tone channels (GBATEK, GBA Sound Controller): channel 1 at 060h to 064h, channel 2 at 068h and
+-- 06Ch, channel 3 at 070h to 074h and its bytes at 090h to 09Eh, channel 4 at 078h and 07Ch, SOUNDCNT_L 080h, of
+-- SOUNDCNT_H 082h the bits 0 and 1, which direct sound reads, and SOUNDCNT_X 084h. Bit 15 of a control, which isn't
+-- stored, starts.
 unfoldable pub tone_rows : List Row
 tone_rows =
     row 0x060 0x007f 0x007f ∷ row 0x062 0xffc0 0xffff ∷ row 0x064 0x4000 0x47ff

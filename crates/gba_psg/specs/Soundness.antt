@@ -4,8 +4,8 @@ use Rattle.gba_psg.specs.declared.four.FourTones.{FourTones}
 use Rattle.gba_psg.specs.Tones.{after_cycles, cycle, tones_at_reset}
 use Rattle.gba_psg.specs.Registers.{cleared, tones_written}
 
--- The numbers of a tone are in range, and one that is on has cycles to wait and a length that is left. A pattern has so many
--- places.
+-- The numbers of a tone are in range, and one that is on has cycles to wait and a length that is left. A pattern has so
+-- many places.
 pub record IsSoundTone (places : ℕ) (t : Tone) : Type 0 where
   pub place : t.place < places
   pub wait : t.wait < 2 ^ 24

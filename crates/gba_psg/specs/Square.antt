@@ -4,10 +4,11 @@ use Rattle.gba_psg.specs.declared.square.Square.{Square}
 use Rattle.gba_psg.specs.declared.tone.Tone.{Tone}
 use Rattle.gba_psg.specs.Tone.{envelope_time, first_volume, after_wait, lowered, tone_at_reset}
 
--- Channels 1 and 2, square waves (GBATEK, GBA Sound Channel 1, 2). Each has a tone and two halfwords as they are stored: the
--- shape's has the length in bits 0 to 5, the duty in bits 6 and 7, and the envelope; the control has the frequency in bits
--- 0 to 10 and in bit 14 whether the length is timed. Channel 1 also has the halfword of the sweep, which is 0 below where
--- channel 2 is meant: its shift is in bits 0 to 2, bit 3 goes down, and its time in ticks is in bits 4 to 6, 0 for none.
+-- Channels 1 and 2, square waves (GBATEK, GBA Sound Channel 1, 2). Each has a tone and two halfwords as they are
+-- stored: the shape's has the length in bits 0 to 5, the duty in bits 6 and 7, and the envelope; the control has the
+-- frequency in bits 0 to 10 and in bit 14 whether the length is timed. Channel 1 also has the halfword of the sweep,
+-- which is 0 below where channel 2 is meant: its shift is in bits 0 to 2, bit 3 goes down, and its time in ticks is in
+-- bits 4 to 6, 0 for none.
 abbrev pub sweep_shift : ℕ → ℕ
 sweep_shift sweep = field sweep 0 3
 
@@ -53,8 +54,9 @@ abbrev pub square_controlled : ℕ → ℕ → Bool → Square → Square
 square_controlled sweep value starts c =
     if starts then square_started sweep (record c { control = value }) else record c { control = value }
 
--- A tick of the sweep, also of a channel that is off: at the last tick of its time the new frequency is the shadow plus or
--- minus its part by the shift. Above 2,047 the channel is off; else, where the shift isn't 0, frequency and shadow become it.
+-- A tick of the sweep, also of a channel that is off: at the last tick of its time the new frequency is the shadow plus
+-- or minus its part by the shift. Above 2,047 the channel is off; else, where the shift isn't 0, frequency and shadow
+-- become it.
 abbrev pub swept : ℕ → Tone → ℕ
 swept sweep t =
     if goes_down sweep then t.shadow - t.shadow / 2 ^ sweep_shift sweep else t.shadow + t.shadow / 2 ^ sweep_shift sweep

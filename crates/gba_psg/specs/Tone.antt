@@ -2,10 +2,10 @@ use Rattle.std.specs.Prelude.{ℕ, ◌+◌, ◌-◌, ◌==◌, Bool, false, ◌&
 use Rattle.gba_terms.specs.Bits.{bit, field}
 use Rattle.gba_psg.specs.declared.tone.Tone.{Tone}
 
--- What each of the four tone channels has (GBATEK, GBA Sound Controller; the model of cycles is this project's profile):
--- whether it is on; its place in its pattern; the cycles that it waits before it moves on; the length that is left; its
--- volume; the envelope's ticks before the volume moves; the sweep's ticks before the frequency moves, and the frequency
--- from which the sweep goes on. A number that is 0 stays 0 when it is lowered.
+-- What each of the four tone channels has (GBATEK, GBA Sound Controller; the model of cycles is this project's
+-- profile): whether it is on; its place in its pattern; the cycles that it waits before it moves on; the length that is
+-- left; its volume; the envelope's ticks before the volume moves; the sweep's ticks before the frequency moves, and the
+-- frequency from which the sweep goes on. A number that is 0 stays 0 when it is lowered.
 abbrev pub lowered : ℕ → ℕ
 lowered n = n - 1
 
@@ -19,8 +19,8 @@ after_length timed t = record t {
   left = if timed && t.on then lowered t.left else t.left;
 }
 
--- The envelope's halfword: bits 8 to 10 are its time in ticks, 0 for none, bit 11 goes up instead of down, bits 12 to 15
--- are the first volume.
+-- The envelope's halfword: bits 8 to 10 are its time in ticks, 0 for none, bit 11 goes up instead of down, bits 12 to
+-- 15 are the first volume.
 abbrev pub envelope_time : ℕ → ℕ
 envelope_time shape = field shape 8 3
 
@@ -30,7 +30,8 @@ goes_up shape = bit shape 11
 abbrev pub first_volume : ℕ → ℕ
 first_volume shape = field shape 12 4
 
--- A tick of the envelope, also of a channel that is off: at the last tick of its time the volume moves by 1 within 0 to 15.
+-- A tick of the envelope, also of a channel that is off: at the last tick of its time the volume moves by 1
+-- within 0 to 15.
 abbrev pub next_volume : ℕ → ℕ → ℕ
 next_volume shape volume = if goes_up shape then min (volume + 1) 15 else lowered volume
 

@@ -7,9 +7,9 @@ use Rattle.gba_psg.specs.Square.{after_sweep, square_at_reset, square_moved, squ
 use Rattle.gba_psg.specs.Wave.{wave_at_reset, wave_moved, wave_timed}
 use Rattle.gba_psg.specs.Noise.{noise_at_reset, noise_moved, noise_timed}
 
--- The four tone channels (GBATEK, GBA Sound Controller; the model of cycles is this project's profile): the master enable,
--- which is bit 7 of SOUNDCNT_X; the sequencer, which counts cycles modulo 262,144; the sweep of channel 1; channels 1 to 4; SOUNDCNT_L as it is
--- stored; and bits 0 and 1 of SOUNDCNT_H.
+-- The four tone channels (GBATEK, GBA Sound Controller; the model of cycles is this project's profile): the master
+-- enable, which is bit 7 of SOUNDCNT_X; the sequencer, which counts cycles modulo 262,144; the sweep of channel 1;
+-- channels 1 to 4; SOUNDCNT_L as it is stored; and bits 0 and 1 of SOUNDCNT_H.
 
 -- what comes in a cycle, by the sequencer that has moved: lengths at 256 Hz, the sweep at 128 Hz, envelopes at 64 Hz
 abbrev pub counted : FourTones → FourTones

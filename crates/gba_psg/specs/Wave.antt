@@ -3,10 +3,10 @@ use Rattle.gba_terms.specs.Bits.{bit, field}
 use Rattle.gba_psg.specs.declared.wave.Wave.{Wave}
 use Rattle.gba_psg.specs.Tone.{after_wait, tone_at_reset}
 
--- Channel 3, a wave of digits (GBATEK, GBA Sound Channel 3). It has a tone, two banks of 16 bytes, and three halfwords as
--- they are stored: the selection has in bit 5 whether both banks play, in bit 6 which bank is the first, and in bit 7
--- whether a start makes the channel on; the level has the length in bits 0 to 7, the volume in bits 13 and 14, and in bit 15
--- whether three quarters are given instead; the control is as that of channel 1.
+-- Channel 3, a wave of digits (GBATEK, GBA Sound Channel 3). It has a tone, two banks of 16 bytes, and three halfwords
+-- as they are stored: the selection has in bit 5 whether both banks play, in bit 6 which bank is the first, and in bit
+-- 7 whether a start makes the channel on; the level has the length in bits 0 to 7, the volume in bits 13 and 14, and in
+-- bit 15 whether three quarters are given instead; the control is as that of channel 1.
 abbrev pub has_two_banks : Wave → Bool
 has_two_banks c = bit c.select 5
 

@@ -10,8 +10,8 @@ use crate::tone::Tone;
 use crate::wave::{IDLE_WAVE, Wave};
 use gba_word::{bit, bits, weight_half};
 
-/// The tone channels (GBATEK, GBA Sound Controller): the master enable; the sequencer, which counts cycles modulo 262,144;
-/// the halfword of channel 1's sweep; channels 1 to 4; SOUNDCNT_L; bits 0 and 1 of SOUNDCNT_H.
+/// The tone channels (GBATEK, GBA Sound Controller): the master enable; the sequencer, which counts cycles modulo
+/// 262,144; the halfword of channel 1's sweep; channels 1 to 4; SOUNDCNT_L; bits 0 and 1 of SOUNDCNT_H.
 #[derive(Clone, Copy, Debug)]
 pub(crate) struct FourTones {
     pub(crate) is_on: bool,

@@ -19,8 +19,8 @@ pub fn is_still()
     ensures { IsStill }
 {}
 
-/// At reset and after every call the numbers are in range, and a channel that is on has cycles to wait and a length that is
-/// left.
+/// At reset and after every call the numbers are in range, and a channel that is on has cycles to wait and a length
+/// that is left.
 pub fn stays_sound()
     ensures { StaysSound }
 {}

@@ -8,8 +8,8 @@ ghost use Rattle.gba_psg.specs.Tone.{after_envelope, after_length};
 use crate::tone::{IDLE, Tone};
 use gba_word::{bit, bits};
 
-/// The channel with noise (GBATEK, GBA Sound Channel 4): its tone, whose place is the register of the noise, and the halfwords
-/// of its shape and its control as they are stored.
+/// The channel with noise (GBATEK, GBA Sound Channel 4): its tone, whose place is the register of the noise, and the
+/// halfwords of its shape and its control as they are stored.
 #[derive(Clone, Copy, Debug, PartialEq, Eq)]
 pub(crate) struct Noise {
     pub(crate) tone: Tone,

@@ -7,8 +7,8 @@ ghost use Rattle.gba_psg.specs.Tone.{after_envelope, after_length};
 use crate::tone::{IDLE, Tone};
 use gba_word::{bit, bits};
 
-/// A channel with a square wave (GBATEK, GBA Sound Channel 1, 2): its tone, and the halfwords of its shape, which are length,
-/// duty and envelope, and of its control, which are frequency and timing, as they are stored.
+/// A channel with a square wave (GBATEK, GBA Sound Channel 1, 2): its tone, and the halfwords of its shape, which are
+/// length, duty and envelope, and of its control, which are frequency and timing, as they are stored.
 #[derive(Clone, Copy, Debug, PartialEq, Eq)]
 pub(crate) struct Square {
     pub(crate) tone: Tone,

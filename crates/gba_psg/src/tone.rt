@@ -4,10 +4,10 @@ ghost use Rattle.std.specs.Prelude.{◌≡◌, ◌<◌, ◌≤◌, ◌+◌, true
 
 use gba_word::{bit, bits};
 
-/// A tone channel's numbers (GBATEK, GBA Sound Controller): whether it is on; its place in its pattern, which for noise is
-/// the noise's register; the cycles that it waits before it moves on; the length that is left in ticks of 65,536 cycles;
-/// its volume; the envelope's ticks of 262,144 cycles before the volume moves; the sweep's ticks of 131,072 cycles before
-/// the frequency moves; and the frequency from which the sweep goes on.
+/// A tone channel's numbers (GBATEK, GBA Sound Controller): whether it is on; its place in its pattern, which for noise
+/// is the noise's register; the cycles that it waits before it moves on; the length that is left in ticks of 65,536
+/// cycles; its volume; the envelope's ticks of 262,144 cycles before the volume moves; the sweep's ticks of 131,072
+/// cycles before the frequency moves; and the frequency from which the sweep goes on.
 #[derive(Clone, Copy, Debug, PartialEq, Eq)]
 pub struct Tone {
     pub on: bool,

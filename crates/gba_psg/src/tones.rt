@@ -13,9 +13,9 @@ use crate::wave::Wave;
 use gba_word::bit;
 use std::marker::Model;
 
-/// The four tone channels (GBATEK, GBA Sound Controller; how they move cycle by cycle is this project's profile). Whatever is
-/// called, a channel that is on has cycles to wait and a length that is left, and while the master enable is 0 nothing moves
-/// and nothing sounds.
+/// The four tone channels (GBATEK, GBA Sound Controller; how they move cycle by cycle is this project's profile).
+/// Whatever is called, a channel that is on has cycles to wait and a length that is left, and while the master enable
+/// is 0 nothing moves and nothing sounds.
 #[derive(Clone, Copy, Debug)]
 pub struct Tones {
     four: FourTones,
@@ -106,10 +106,10 @@ impl Tones {
         Tones { four: RESET }
     }
 
-    /// The tones of these numbers, which are in the order of the state file: the sequencer, and then for each channel on,
-    /// place, wait, left, volume, fade, sweep and shadow; the bytes of banks 0 and 1 of the wave; and what is stored at 060h,
-    /// 062h, 064h, 068h, 06Ch, 070h, 072h, 074h, 078h, 07Ch, 080h, 082h and 084h, of which only bit 7 counts of the last. They
-    /// have to be sound.
+    /// The tones of these numbers, which are in the order of the state file: the sequencer, and then for each channel
+    /// on, place, wait, left, volume, fade, sweep and shadow; the bytes of banks 0 and 1 of the wave; and what is
+    /// stored at 060h, 062h, 064h, 068h, 06Ch, 070h, 072h, 074h, 078h, 07Ch, 080h, 082h and 084h, of which only bit 7
+    /// counts of the last. They have to be sound.
     #[tactic(auto, unfolding(crate::specs::Numbers::tones_of))]
     pub fn of(numbers: &[u32; 33], bank0: &[u8; 16], bank1: &[u8; 16], halves: &[u16; 13]) -> Tones
         requires { AreSound (tones_of numbers.now bank0.now bank1.now halves.now) }
@@ -183,9 +183,9 @@ impl Tones {
         self.four.channels_on()
     }
 
-    /// What is stored at the halfword at an offset from 04000000h, also where it doesn't read: at 060h to 080h, 082h of the
-    /// bits 0 and 1, at 084h, and at 090h to 09Eh the bytes of the bank that isn't the first. 0 elsewhere. It is also what a
-    /// byte write keeps of the other byte.
+    /// What is stored at the halfword at an offset from 04000000h, also where it doesn't read: at 060h to 080h, 082h of
+    /// the bits 0 and 1, at 084h, and at 090h to 09Eh the bytes of the bank that isn't the first. 0 elsewhere. It is
+    /// also what a byte write keeps of the other byte.
     pub fn kept(&self, offset: u32) -> u16
         ensures { result ≡ tones_kept offset self.now }
     {
@@ -199,9 +199,9 @@ impl Tones {
         self.kept(offset) & read_mask(offset)
     }
 
-    /// Writes the halfword at an offset. Bit 15 of 064h, 06Ch, 074h and 07Ch starts a channel. While the master enable, bit 7
-    /// of SOUNDCNT_X 084h, is 0, writes to 060h to 081h are dropped; a write that makes it 0 makes everything 0 but the bytes
-    /// of the wave and the bits of SOUNDCNT_H. Elsewhere nothing is written.
+    /// Writes the halfword at an offset. Bit 15 of 064h, 06Ch, 074h and 07Ch starts a channel. While the master enable,
+    /// bit 7 of SOUNDCNT_X 084h, is 0, writes to 060h to 081h are dropped; a write that makes it 0 makes everything 0
+    /// but the bytes of the wave and the bits of SOUNDCNT_H. Elsewhere nothing is written.
     #[tactic(auto, unfolding(crate::specs::Registers::tones_written))]
     pub fn write(&mut self, offset: u32, value: u16)
         ensures { self.new ≡ tones_written offset value self.old }

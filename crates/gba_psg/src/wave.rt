@@ -7,8 +7,8 @@ ghost use Rattle.gba_psg.specs.Wave.{digit_of as digit_at, half_set as half_writ
 use crate::tone::{IDLE, Tone};
 use gba_word::{bit, bits};
 
-/// The channel with a wave (GBATEK, GBA Sound Channel 3): its tone, the halfwords of its selection, its level and its control
-/// as they are stored, and two banks of 32 digits, the high half of a byte first.
+/// The channel with a wave (GBATEK, GBA Sound Channel 3): its tone, the halfwords of its selection, its level and its
+/// control as they are stored, and two banks of 32 digits, the high half of a byte first.
 #[derive(Clone, Copy, Debug)]
 pub(crate) struct Wave {
     pub(crate) tone: Tone,

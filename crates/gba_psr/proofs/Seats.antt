@@ -40,12 +40,17 @@ pub banks_apart : (mode : ℕ) → (bank_distance mode ≡ 0) ⊎ (15 ≤ first_
 banks_apart mode = grind (arith, nat_tests)
 
 -- one more place exchanged
-pub crossed_more : (old now new : List ℕ) (first end distance : ℕ) → (distance ≡ 0) ⊎ (15 ≤ first + distance) → first ≤ end → end < 15 → end + distance < 37 → ((p : ℕ) → p < 37 → get_or now p 0 ≡ get_or old (crossing first end distance p) 0) → Swapped (λ i. get_or now i 0) (λ i. get_or new i 0) end (end + distance) → (p : ℕ) → p < 37 → get_or new p 0 ≡ get_or old (crossing first (end + 1) distance p) 0
+pub crossed_more : (old now new : List ℕ) (first end distance : ℕ) → (distance ≡ 0) ⊎ (15 ≤ first + distance)
+    → first ≤ end → end < 15 → end + distance < 37
+    → ((p : ℕ) → p < 37 → get_or now p 0 ≡ get_or old (crossing first end distance p) 0)
+    → Swapped (λ i. get_or now i 0) (λ i. get_or new i 0) end (end + distance) → (p : ℕ) → p < 37
+    → get_or new p 0 ≡ get_or old (crossing first (end + 1) distance p) 0
 crossed_more old now new first end distance apart from below fits before swapped p within =
     let read : ℕ → ℕ = λ q. get_or old q 0 in
     ⊎_elim
     (λ (here : p ≡ end).
-    let same : crossing first end distance (end + distance) ≡ crossing first (end + 1) distance p = grind (arith, nat_tests) in
+    let same : crossing first end distance (end + distance) ≡ crossing first (end + 1) distance p =
+    grind (arith, nat_tests) in
     ap (λ (q : ℕ). get_or new q 0) here ∙ swapped.0 ∙ before (end + distance) fits ∙ ap read same)
     (λ (not_here : p ≡ end → ⊥).
     ⊎_elim
@@ -75,7 +80,8 @@ pub place_apart : (mode a b : ℕ) → a < 16 → b < 16 → place mode a ≡ pl
 place_apart mode a b in_a in_b same = sym (seat-place mode a in_a) ∙ ap (seat mode) same ∙ seat-place mode b in_b
 
 -- the modes that have registers of their own are those that have an SPSR
-pub saved_banked : (mode : ℕ) → (bank_distance mode ≡ 0 → saved_place mode ≡ 31) × (saved_place mode ≡ 31 → bank_distance mode ≡ 0)
+pub saved_banked : (mode : ℕ)
+    → (bank_distance mode ≡ 0 → saved_place mode ≡ 31) × (saved_place mode ≡ 31 → bank_distance mode ≡ 0)
 unfolding saved_place
 saved_banked mode = (λ none. grind (arith, nat_tests), λ none. grind (arith, nat_tests))
 

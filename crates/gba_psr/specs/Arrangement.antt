@@ -19,4 +19,5 @@ seat mode place = crossing (first_banked mode) 15 (bank_distance mode) place
 
 -- the register file of the numbers as they are kept
 unfoldable pub arrangement : List ℕ → List ℕ
-arrangement numbers = map (λ place. slice_index numbers (seat (mode_of (slice_index numbers 31)) place)) (range_with_len 0 37)
+arrangement numbers =
+    map (λ place. slice_index numbers (seat (mode_of (slice_index numbers 31)) place)) (range_with_len 0 37)

@@ -2,7 +2,8 @@ use Rattle.std.specs.Prelude.{ℕ, Bool, ◌&&◌, ◌||◌, ◌==◌, ◌+◌, 
 
 -- the seven modes: USR, FIQ, IRQ, SVC, ABT, UND, SYS (ARM Architecture Reference Manual, A2.2)
 abbrev pub is_mode : ℕ → Bool
-is_mode mode = mode == 0x10 || mode == 0x11 || mode == 0x12 || mode == 0x13 || mode == 0x17 || mode == 0x1b || mode == 0x1f
+is_mode mode =
+    mode == 0x10 || mode == 0x11 || mode == 0x12 || mode == 0x13 || mode == 0x17 || mode == 0x1b || mode == 0x1f
 
 -- the lowest register of which a mode has its own: FIQ has r8 to r14, the others r13 and r14
 -- (ARM Architecture Reference Manual, A2.3)

@@ -17,11 +17,13 @@ kept_status value = field value 28 4 * 2 ^ 28 + field value 0 8
 -- (this project's profile)
 abbrev pub written_status : ℕ → ℕ → ℕ
 written_status old value =
-    field value 28 4 * 2 ^ 28 + field value 5 3 * 2 ^ 5 + (if is_mode (mode_of value) then mode_of value else mode_of old)
+    field value 28 4 * 2 ^ 28 + field value 5 3 * 2 ^ 5
+    + (if is_mode (mode_of value) then mode_of value else mode_of old)
 
 -- N, Z, C, V, bits 31 to 28 of a status register (ARM Architecture Reference Manual, A2.5.2)
 abbrev pub flags_of : ℕ → Flags
-flags_of status = record { negative = bit status 31; zero = bit status 30; carry = bit status 29; overflow = bit status 28 }
+flags_of status =
+    record { negative = bit status 31; zero = bit status 30; carry = bit status 29; overflow = bit status 28 }
 
 -- a status register with other flags
 abbrev pub status_with_flags : ℕ → Flags → ℕ
@@ -29,7 +31,8 @@ status_with_flags status flags =
     flag_number flags.negative * 2 ^ 31 + flag_number flags.zero * 2 ^ 30 + flag_number flags.carry * 2 ^ 29
     + flag_number flags.overflow * 2 ^ 28 + field status 0 28
 
--- the bytes of an instruction: of a halfword where T, bit 5, is set, and else of a word (ARM Architecture Reference Manual, A2.5)
+-- the bytes of an instruction: of a halfword where T, bit 5, is set, and else of a word (ARM Architecture Reference
+-- Manual, A2.5)
 abbrev pub unit_bytes : ℕ → ℕ
 unit_bytes status = if bit status 5 then 2 else 4
 

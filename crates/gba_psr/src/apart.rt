@@ -50,8 +50,8 @@ impl RegisterFile {
         part(Registers::reset())
     }
 
-    /// The registers of these numbers, in the order of [`RegisterFile::all`]. CPSR has to have no bits but the stored ones, and
-    /// one of the seven modes.
+    /// The registers of these numbers, in the order of [`RegisterFile::all`]. CPSR has to have no bits but the stored
+    /// ones, and one of the seven modes.
     pub fn of(numbers: &[u32; 37]) -> RegisterFile
         requires { IsStatus (slice_index numbers.now 31) }
         ensures { result ≡ numbers.now }

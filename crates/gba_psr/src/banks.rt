@@ -60,7 +60,8 @@ pub fn saved_place_of(mode: u32) -> usize
     }
 }
 
-/// Exchanges the registers of which this mode has its own with the user's: once to enter the mode, and once to leave it.
+/// Exchanges the registers of which this mode has its own with the user's: once to enter the mode, and once
+/// to leave it.
 pub fn exchange(numbers: &mut [u32; 37], mode: u32)
     ensures { (place : ℕ) → place < 37 → slice_index numbers.new place ≡ slice_index numbers.old (seat mode place) }
 {
@@ -73,7 +74,8 @@ pub fn exchange(numbers: &mut [u32; 37], mode: u32)
 
 /// Puts the registers of the mode `from` back and takes those of the mode `to`. Nothing moves where the mode stays.
 pub fn change_bank(numbers: &mut [u32; 37], from: u32, to: u32)
-    ensures { (place : ℕ) → place < 37 → slice_index numbers.new place ≡ slice_index numbers.old (seat from (seat to place)) }
+    ensures { (place : ℕ) → place < 37
+        → slice_index numbers.new place ≡ slice_index numbers.old (seat from (seat to place)) }
 {
     if from != to {
         exchange(numbers, from);

@@ -7,8 +7,8 @@ use crate::Flags;
 use gba_word::bit;
 use std::marker::Model;
 
-/// N, Z, C and V. N is bit 31 of a word, and Z says that a word is 0, so that the flags of a result are kept with no test
-/// of it. Contracts see the flags.
+/// N, Z, C and V. N is bit 31 of a word, and Z says that a word is 0, so that the flags of a result are kept with no
+/// test of it. Contracts see the flags.
 #[derive(Clone, Debug, Drop)]
 pub(crate) struct KeptFlags {
     signed: u32,

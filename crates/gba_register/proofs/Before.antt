@@ -30,12 +30,13 @@ pub before-now : {State : Type 0} (step : State → State) (event : State → Bo
 unfolding steps_before
 before-now step event most s e = rw e refl
 
-pub before-later : {State : Type 0} (step : State → State) (event : State → Bool) (most : ℕ) (s : State) → event s ≡ false
-    → steps_before step event (suc most) s ≡ suc (steps_before step event most (step s))
+pub before-later : {State : Type 0} (step : State → State) (event : State → Bool) (most : ℕ) (s : State)
+    → event s ≡ false → steps_before step event (suc most) s ≡ suc (steps_before step event most (step s))
 unfolding steps_before
 before-later step event most s e = rw e refl
 
-pub before-none : {State : Type 0} (step : State → State) (event : State → Bool) (s : State) → steps_before step event 0 s ≡ 0
+pub before-none : {State : Type 0} (step : State → State) (event : State → Bool) (s : State)
+    → steps_before step event 0 s ≡ 0
 unfolding steps_before
 before-none step event s = refl
 

@@ -5,8 +5,8 @@ use Rattle.gba_bus.specs.declared.width.Width.TheVariants.{Byte, Half, Word}
 
 -- Accesses of every width to registers that are read and written by halfwords, which stand at even offsets.
 
--- Of what a reader gives, a halfword has 16 bits, since every state of a bus has to read what fits. Of what a device reads in
--- code the cut takes nothing.
+-- Of what a reader gives, a halfword has 16 bits, since every state of a bus has to read what fits. Of what a device
+-- reads in code the cut takes nothing.
 unfoldable pub half_of : (ℕ → ℕ) → ℕ → ℕ
 half_of read offset = read offset % 2 ^ 16
 
@@ -21,8 +21,8 @@ loaded_by_halves read offset Word =
 abbrev pub merged : ℕ → ℕ → ℕ → ℕ
 merged kept value lanes = bit_or (bit_and kept (2 ^ 16 - 1 - lanes)) (bit_and value lanes)
 
--- What a write of a halfword's bytes leaves: `write` takes the offset, the whole halfword and the lanes, and `kept` is what
--- a halfword's other byte stays.
+-- What a write of a halfword's bytes leaves: `write` takes the offset, the whole halfword and the lanes, and `kept` is
+-- what a halfword's other byte stays.
 abbrev pub put_by : {State : Type 0} → (ℕ → State → ℕ) → (ℕ → ℕ → ℕ → State → State) → ℕ → ℕ → ℕ → State → State
 put_by kept write offset value lanes s = write offset (merged (kept offset s) value lanes) lanes s
 

@@ -7,8 +7,8 @@ ghost use Rattle.gba_register.specs.Accesses.{loaded_by_halves, merged as merged
 use gba_bus::Width;
 use gba_word::bits;
 
-/// Registers that are read and written by halfwords, each at its even offset. What they read and what a write leaves are
-/// functions of their state.
+/// Registers that are read and written by halfwords, each at its even offset. What they read and what a write leaves
+/// are functions of their state.
 pub trait Halfwords {
     ghost use Rattle.std.specs.Prelude.{◌≡◌, ℕ};
 
@@ -35,8 +35,8 @@ pub trait Halfwords {
     fn half_kept(&self, offset: u32) -> u16
         ensures { result ≡ kept_of offset (state self.now) };
 
-    /// Writes a whole halfword. `lanes` has the bits of the bytes that the access covers; the others of `value` are what
-    /// `half_kept` tells.
+    /// Writes a whole halfword. `lanes` has the bits of the bytes that the access covers; the others of `value` are
+    /// what `half_kept` tells.
     fn half_write(&mut self, moment: Self::Moment, offset: u32, value: u16, lanes: u16)
         requires { can_write moment }
         ensures { state self.new ≡ write_of moment offset value lanes (state self.old) };
@@ -102,7 +102,8 @@ fn store_word<D: Halfwords>(device: &mut D, moment: D::Moment, offset: u32, valu
     put(device, moment, low + 2, bits(value, 16, 16) as u16, 0xFFFF);
 }
 
-/// Writes the low bits of a value, as many as the width has, at the aligned offset. A word is two halfwords, the lower first.
+/// Writes the low bits of a value, as many as the width has, at the aligned offset. A word is two halfwords, the
+/// lower first.
 pub fn store<D: Halfwords>(device: &mut D, moment: D::Moment, offset: u32, width: Width, value: u32)
     requires { D.can_write moment }
     ensures { D.state device.new

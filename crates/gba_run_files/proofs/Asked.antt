@@ -110,9 +110,9 @@ module _ (out : List ℕ) where
       ap (λ (p : ℕ). record { name = output_file out p kind; bytes = at_kind one kind }) is
 
   -- each that is asked for is there
-  pub outputs-there : (player count : ℕ) (consoles : List ConsoleJob) (files : List (PerKind (List ℕ))) (k : ℕ) (kind : OutKind)
-      (console : ConsoleJob) (one : PerKind (List ℕ)) → length consoles ≡ count → slice_get consoles k ≡ Some console
-      → slice_get files k ≡ Some one → asks_for console kind ≡ true
+  pub outputs-there : (player count : ℕ) (consoles : List ConsoleJob) (files : List (PerKind (List ℕ))) (k : ℕ)
+      (kind : OutKind) (console : ConsoleJob) (one : PerKind (List ℕ)) → length consoles ≡ count
+      → slice_get consoles k ≡ Some console → slice_get files k ≡ Some one → asks_for console kind ≡ true
       → Contains (outputs_of (names_from out player count) consoles files) (file_of player k kind one)
   unfolding outputs_of names_from
   outputs-there player count [] files k kind console one long is gives asks = absurd cc
@@ -140,13 +140,14 @@ module _ (out : List ℕ) where
   if-all P true name bytes h = All-cons P (record { name = name; bytes = bytes }) [] (h refl) (All-nil P)
   if-all P false name bytes h = All-nil P
 
-  kinds-all : (P : Output → Type 0) (player : ℕ) (console : ConsoleJob) (files : PerKind (List ℕ)) (kinds : List OutKind)
-      → ((kind : OutKind) → asks_for console kind ≡ true → P (file_of player 0 kind files))
+  kinds-all : (P : Output → Type 0) (player : ℕ) (console : ConsoleJob) (files : PerKind (List ℕ))
+      (kinds : List OutKind) → ((kind : OutKind) → asks_for console kind ≡ true → P (file_of player 0 kind files))
       → All P (flat_map (kind_output (names_of out player) console files) kinds)
   kinds-all P player console files [] h = All-nil P
   kinds-all P player console files (kind ∷ kinds) h =
       let name = at-per_kind (output_file out player) kind in
-      let same : record { name = at_kind (names_of out player) kind; bytes = at_kind files kind } ≡ file_of player 0 kind files
+      let same : record { name = at_kind (names_of out player) kind; bytes = at_kind files kind }
+      ≡ file_of player 0 kind files
       = ap (λ (x : List ℕ). record { name = x; bytes = at_kind files kind }) name ∙ first-file player kind files in
       All-append P (kind_output (names_of out player) console files kind)
       (flat_map (kind_output (names_of out player) console files) kinds)
@@ -169,7 +170,8 @@ module _ (out : List ℕ) where
   outputs-all P player (suc count) [] files h = All-nil P
   outputs-all P player (suc count) (c ∷ consoles) [] h = All-nil P
   outputs-all P player (suc count) (c ∷ consoles) (f ∷ files) h =
-      All-append P (console_outputs (names_of out player) c f) (outputs_of (names_from out (player + 1) count) consoles files)
+      All-append P (console_outputs (names_of out player) c f)
+      (outputs_of (names_from out (player + 1) count) consoles files)
       (console-all P player c f (λ kind asks. h 0 kind c f refl refl asks))
       (outputs-all P (player + 1) count consoles files (λ k kind console one is gives asks.
       subst P (sym (later-file player k kind one)) (h (suc k) kind console one is gives asks)))
@@ -231,8 +233,9 @@ module _ (out : List ℕ) (job : WholeJob) (cut : Cut Machine) (pieces : List Ou
   abbrev IsOurs : Output → Type 0
   IsOurs output = IsAskedFile out job cut output ⊎ (output ≡ log)
 
-  is-ours : (k : ℕ) (kind : OutKind) (console : ConsoleJob) (one : PerKind (List ℕ)) → slice_get job.consoles k ≡ Some console
-      → slice_get (files_at job cut) k ≡ Some one → asks_for console kind ≡ true → IsOurs (file_of out 0 k kind one)
+  is-ours : (k : ℕ) (kind : OutKind) (console : ConsoleJob) (one : PerKind (List ℕ))
+      → slice_get job.consoles k ≡ Some console → slice_get (files_at job cut) k ≡ Some one
+      → asks_for console kind ≡ true → IsOurs (file_of out 0 k kind one)
   is-ours k kind console one is gives asks =
       let f = files-give job.consoles cut.consoles k console many is in
       let same : one ≡ files_of (asks_of console) f.0 = cc in
@@ -253,7 +256,9 @@ module _ (out : List ℕ) (job : WholeJob) (cut : Cut Machine) (pieces : List Ou
       record {
         log = log.bytes;
         asked = has-file;
-        only = All-append IsOurs outputs (log ∷ []) (outputs-all out IsOurs 0 count job.consoles (files_at job cut) is-ours)
+        only =
+            All-append IsOurs outputs (log ∷ [])
+            (outputs-all out IsOurs 0 count job.consoles (files_at job cut) is-ours)
             (All-cons IsOurs log [] (inr refl) (All-nil IsOurs));
         log_there = Contains-push outputs log;
         many = length-append outputs (log ∷ []) ∙ ap (λ (n : ℕ). n + 1) there;

@@ -53,17 +53,21 @@ module _ (out : List ℕ) where
   consoles-none player zero (c ∷ consoles) files long many h k kind digest says = absurd (omega (arith, long))
   consoles-none player (suc count) (c ∷ consoles) [] long many h k kind digest says = absurd (omega (arith, many))
   consoles-none player (suc count) (c ∷ consoles) (one ∷ files) long many h zero kind digest says =
-      let o = or-none (console_difference (names_of out player) c one) (difference_from (player + 1) count consoles files) h in
+      let o =
+      or-none (console_difference (names_of out player) c one) (difference_from (player + 1) count consoles files) h in
       let here : List Output = console_outputs (names_of out player) c one in
       let more : List Output = outputs_from (player + 1) count consoles files in
       first-place (here ++ more) player kind digest (has-left here more (output_file out player kind) digest
       (console-agrees out player c one kind digest (console-none out player c one o.0 kind) says))
   consoles-none player (suc count) (c ∷ consoles) (one ∷ files) long many h (suc k) kind digest says =
-      let o = or-none (console_difference (names_of out player) c one) (difference_from (player + 1) count consoles files) h in
+      let o =
+      or-none (console_difference (names_of out player) c one) (difference_from (player + 1) count consoles files) h in
       let here : List Output = console_outputs (names_of out player) c one in
       let more : List Output = outputs_from (player + 1) count consoles files in
-      later-place (here ++ more) player k kind digest (has-right here more (output_file out (player + 1 + k) kind) digest
-      (consoles-none (player + 1) count consoles files (omega (arith, long)) (omega (arith, many)) o.1 k kind digest says))
+      later-place (here ++ more) player k kind digest
+      (has-right here more (output_file out (player + 1 + k) kind) digest
+      (consoles-none (player + 1) count consoles files (omega (arith, long)) (omega (arith, many)) o.1 k kind
+      digest says))
 
   -- the first difference of consoles from a player on
   record IsFirstOf (player : ℕ) (consoles : List ConsoleJob) (outputs : List Output) (cause : Cause) : Type 0 where
@@ -89,7 +93,8 @@ module _ (out : List ℕ) where
   consoles-first player (suc count) (c ∷ consoles) [] cause long many h = absurd (omega (arith, many))
   consoles-first player (suc count) (c ∷ consoles) (one ∷ files) cause long many h =
       by (console_difference (names_of out player) c one) refl h
-      (λ rest. consoles-first (player + 1) count consoles files cause (omega (arith, long)) (omega (arith, many)) rest) where
+      (λ rest. consoles-first (player + 1) count consoles files cause (omega (arith, long)) (omega (arith, many))
+      rest) where
         here : List Output
         here = console_outputs (names_of out player) c one
 
@@ -98,7 +103,9 @@ module _ (out : List ℕ) where
 
         this-first : IsFirst (differs_at out player c one) cause → IsFirstOf player (c ∷ consoles) (here ++ more) cause
         this-first f =
-            let a = output-apart (at_kind (names_of out player) f.kind) (output_of c f.kind) (at_kind one f.kind) cause f.found in
+            let a =
+            output-apart (at_kind (names_of out player) f.kind) (output_of c f.kind) (at_kind one f.kind) cause
+            f.found in
             let got : List ℕ = sha256 (at_kind one f.kind) in
             let file : List ℕ = output_file out player f.kind in
             let is : cause ≡ Digest file a.0 got
@@ -121,7 +128,8 @@ module _ (out : List ℕ) where
                   → stated_here (c ∷ consoles) j another ≡ Some digest → HasAt (here ++ more) player j another digest
               before j another digest (inl less) says = absurd (omega (arith, less))
               before zero another digest (inr less) says =
-                  first-place (here ++ more) player another digest (has-left here more (output_file out player another) digest
+                  first-place (here ++ more) player another digest
+                  (has-left here more (output_file out player another) digest
                   (console-agrees out player c one another digest (f.before another less.1) says))
               before (suc j) another digest (inr less) says = absurd (omega (arith, less.0))
 
@@ -144,7 +152,8 @@ module _ (out : List ℕ) where
               this : (another : OutKind) (digest : List ℕ) → stated_in another c ≡ Some digest
                   → HasAt (here ++ more) player 0 another digest
               this another digest says =
-                  first-place (here ++ more) player another digest (has-left here more (output_file out player another) digest
+                  first-place (here ++ more) player another digest
+                  (has-left here more (output_file out player another) digest
                   (console-agrees out player c one another digest (console-none out player c one none another) says))
 
               after : (j : ℕ) (another : OutKind) (digest : List ℕ) → HasAt more (player + 1) j another digest
@@ -164,7 +173,8 @@ module _ (out : List ℕ) where
 
         by : (one_difference : Option Cause) → console_difference (names_of out player) c one ≡ one_difference
             → or_later one_difference (difference_from (player + 1) count consoles files) ≡ Some cause
-            → (difference_from (player + 1) count consoles files ≡ Some cause → IsFirstOf (player + 1) consoles more cause)
+            → (difference_from (player + 1) count consoles files ≡ Some cause
+            → IsFirstOf (player + 1) consoles more cause)
             → IsFirstOf player (c ∷ consoles) (here ++ more) cause
         by (Some other) is k later = this-first (console-first out player c one cause (is ∙ k))
         by None is k later = later-first is (later k)
@@ -232,8 +242,8 @@ module _ (out : List ℕ) where
 
 -- ---- why a run is refused
 
-consoles-cause : (names : List (PerKind (List ℕ))) (consoles : List ConsoleJob) (files : List (PerKind (List ℕ))) (cause : Cause)
-    → difference_of names consoles files ≡ Some cause → IsOfDigest cause
+consoles-cause : (names : List (PerKind (List ℕ))) (consoles : List ConsoleJob) (files : List (PerKind (List ℕ)))
+    (cause : Cause) → difference_of names consoles files ≡ Some cause → IsOfDigest cause
 unfolding difference_of
 consoles-cause [] consoles files cause h = absurd cc
 consoles-cause (n ∷ names) [] files cause h = absurd cc
@@ -247,8 +257,8 @@ consoles-cause (n ∷ names) (c ∷ consoles) (one ∷ files) cause h =
       by None is k later = later k
 
 -- a run is refused for nothing else
-pub written-cause : (names : RunNames) (job : WholeJob) (files : List (PerKind (List ℕ))) (lines : List ℕ) (pieces : List Output)
-    (cause : Cause) → (written names job files lines pieces).end ≡ Err cause → IsOfDigest cause
+pub written-cause : (names : RunNames) (job : WholeJob) (files : List (PerKind (List ℕ))) (lines : List ℕ)
+    (pieces : List Output) (cause : Cause) → (written names job files lines pieces).end ≡ Err cause → IsOfDigest cause
 written-cause names job files lines pieces cause h = by (difference_of names.consoles job.consoles files) refl h where
   by : (difference : Option Cause) → difference_of names.consoles job.consoles files ≡ difference
       → conclusion difference (lines ++ log_line (log_of job files)) ≡ Err cause → IsOfDigest cause

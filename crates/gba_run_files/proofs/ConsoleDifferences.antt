@@ -37,8 +37,8 @@ digest-agrees name (Some stated) got digest h is = by (bytes_eq stated got) refl
   by true same k = let equal : stated ≡ got = same-name stated got same in cc
   by false same k = absurd cc
 
-output-agrees : (name : List ℕ) (asked : Option OutLine) (bytes digest : List ℕ) → output_differs name asked bytes ≡ None
-    → option_and_then digest_in asked ≡ Some digest → sha256 bytes ≡ digest
+output-agrees : (name : List ℕ) (asked : Option OutLine) (bytes digest : List ℕ)
+    → output_differs name asked bytes ≡ None → option_and_then digest_in asked ≡ Some digest → sha256 bytes ≡ digest
 output-agrees name None bytes digest h is = absurd cc
 output-agrees name (Some line) bytes digest h is = digest-agrees name line.digest (sha256 bytes) digest h is
 
@@ -123,7 +123,8 @@ first-in differs (kind ∷ kinds) n cause numbered before h =
     by (differs kind) refl h (λ none rest. first-in differs kinds (n + 1) cause numbered.1
     (one-more differs kind n numbered.0 before none) rest) where
       by : (one : Option Cause) → differs kind ≡ one → or_later one (first_differs differs kinds) ≡ Some cause
-          → (differs kind ≡ None → first_differs differs kinds ≡ Some cause → IsFirst differs cause) → IsFirst differs cause
+          → (differs kind ≡ None → first_differs differs kinds ≡ Some cause → IsFirst differs cause)
+          → IsFirst differs cause
       by (Some other) is k later =
           record { kind = kind; found = is ∙ k; before = subst (NoneBefore differs) (sym numbered.0) before }
       by None is k later = later is k
@@ -134,7 +135,8 @@ unfolding AreNumbered
 none-in differs [] n numbered before h kind below = before kind (omega (arith, below))
 none-in differs (kind ∷ kinds) n numbered before h another below =
     let o = or-none (differs kind) (first_differs differs kinds) h in
-    none-in differs kinds (n + 1) numbered.1 (one-more differs kind n numbered.0 before o.0) o.1 another (omega (arith, below))
+    none-in differs kinds (n + 1) numbered.1 (one-more differs kind n numbered.0 before o.0) o.1 another
+    (omega (arith, below))
 
 none-yet : (differs : OutKind → Option Cause) → NoneBefore differs 0
 none-yet differs kind below = absurd (omega (arith, below))
@@ -148,7 +150,8 @@ asked-there false name bytes is = absurd cc
 kinds-there : (names : PerKind (List ℕ)) (console : ConsoleJob) (files : PerKind (List ℕ)) (kind : OutKind)
     (kinds : List OutKind) (n : ℕ) → AreNumbered n kinds → n ≤ kind_number kind → kind_number kind < n + length kinds
     → asks_for console kind ≡ true
-    → Contains (flat_map (kind_output names console files) kinds) (record { name = at_kind names kind; bytes = at_kind files kind })
+    → Contains (flat_map (kind_output names console files) kinds)
+    (record { name = at_kind names kind; bytes = at_kind files kind })
 unfolding AreNumbered
 kinds-there names console files kind [] n numbered least below asks = absurd (omega (arith, least, below))
 kinds-there names console files kind (one ∷ kinds) n numbered least below asks =
@@ -171,7 +174,8 @@ kinds-there names console files kind (one ∷ kinds) n numbered least below asks
           (subst (λ (k : OutKind). Contains (kind_output names console files k) output) same
           (asked-there (asks_for console kind) (at_kind names kind) (at_kind files kind) asks))
 
-stated-asked : (asked : Option OutLine) (digest : List ℕ) → option_and_then digest_in asked ≡ Some digest → is_some asked ≡ true
+stated-asked : (asked : Option OutLine) (digest : List ℕ) → option_and_then digest_in asked ≡ Some digest
+    → is_some asked ≡ true
 stated-asked None digest h = absurd cc
 stated-asked (Some line) digest h = refl
 
@@ -204,11 +208,12 @@ module _ (out : List ℕ) where
   console-there player console files kind asks =
       let names : PerKind (List ℕ) = names_of out player in
       let outputs : List Output = flat_map (kind_output names console files) all_kinds in
-      subst (λ (name : List ℕ). Contains outputs (record { name = name; bytes = at_kind files kind })) (named player kind)
+      subst (λ (name : List ℕ). Contains outputs (record { name = name; bytes = at_kind files kind }))
+      (named player kind)
       (kinds-there names console files kind all_kinds 0 all-numbered (omega arith) (kinds-few kind) asks)
 
-  pub console-has : (player : ℕ) (console : ConsoleJob) (files : PerKind (List ℕ)) (kind : OutKind) (stated digest : List ℕ)
-      → stated_in kind console ≡ Some stated → sha256 (at_kind files kind) ≡ digest
+  pub console-has : (player : ℕ) (console : ConsoleJob) (files : PerKind (List ℕ)) (kind : OutKind)
+      (stated digest : List ℕ) → stated_in kind console ≡ Some stated → sha256 (at_kind files kind) ≡ digest
       → HasDigest (console_outputs (names_of out player) console files) (output_file out player kind) digest
   console-has player console files kind stated digest says is =
       let there = console-there player console files kind (stated-asked (output_of console kind) stated says) in
@@ -219,28 +224,31 @@ module _ (out : List ℕ) where
       → HasDigest (console_outputs (names_of out player) console files) (output_file out player kind) digest
   console-agrees player console files kind digest none says =
       console-has player console files kind digest digest says
-      (output-agrees (at_kind (names_of out player) kind) (output_of console kind) (at_kind files kind) digest none says)
+      (output-agrees (at_kind (names_of out player) kind) (output_of console kind) (at_kind files kind) digest
+      none says)
 
   pub console-none : (player : ℕ) (console : ConsoleJob) (files : PerKind (List ℕ))
       → console_difference (names_of out player) console files ≡ None → (kind : OutKind)
       → differs_at player console files kind ≡ None
   unfolding console_difference
   console-none player console files h kind =
-      none-in (differs_at player console files) all_kinds 0 all-numbered (none-yet (differs_at player console files)) h kind
-      (kinds-few kind)
+      none-in (differs_at player console files) all_kinds 0 all-numbered
+      (none-yet (differs_at player console files)) h kind (kinds-few kind)
 
   pub console-first : (player : ℕ) (console : ConsoleJob) (files : PerKind (List ℕ)) (cause : Cause)
-      → console_difference (names_of out player) console files ≡ Some cause → IsFirst (differs_at player console files) cause
+      → console_difference (names_of out player) console files ≡ Some cause
+      → IsFirst (differs_at player console files) cause
   unfolding console_difference
   console-first player console files cause h =
-      first-in (differs_at player console files) all_kinds 0 cause all-numbered (none-yet (differs_at player console files)) h
+      first-in (differs_at player console files) all_kinds 0 cause all-numbered
+      (none-yet (differs_at player console files)) h
 
 -- a stated digest that isn't that of an output
 abbrev pub IsOfDigest : Cause → Type 0
 IsOfDigest cause = (name : List ℕ) × (stated : List ℕ) × (got : List ℕ) × (cause ≡ Digest name stated got)
 
-kinds-cause : (names : PerKind (List ℕ)) (console : ConsoleJob) (files : PerKind (List ℕ)) (kinds : List OutKind) (cause : Cause)
-    → first_differs (kind_differs names console files) kinds ≡ Some cause → IsOfDigest cause
+kinds-cause : (names : PerKind (List ℕ)) (console : ConsoleJob) (files : PerKind (List ℕ)) (kinds : List OutKind)
+    (cause : Cause) → first_differs (kind_differs names console files) kinds ≡ Some cause → IsOfDigest cause
 kinds-cause names console files [] cause h = absurd cc
 kinds-cause names console files (kind ∷ kinds) cause h =
     by (kind_differs names console files kind) refl h (λ rest. kinds-cause names console files kinds cause rest) where

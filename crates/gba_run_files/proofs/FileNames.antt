@@ -54,11 +54,13 @@ names-none out player count past =
     let is : count - player ≡ 0 = omega (arith, past) in
     rw is refl
 
-pub names-whole : (out : List ℕ) (player count : ℕ) (names : List Names) (all : List (PerKind (List ℕ))) → count ≤ player
-    → map names_value names ++ names_from out player (count - player) ≡ all → map names_value names ≡ all
+pub names-whole : (out : List ℕ) (player count : ℕ) (names : List Names) (all : List (PerKind (List ℕ)))
+    → count ≤ player → map names_value names ++ names_from out player (count - player) ≡ all
+    → map names_value names ≡ all
 names-whole out player count names all past before =
     sym (append-nil (map names_value names))
-    ∙ ap (λ (xs : List (PerKind (List ℕ))). map names_value names ++ xs) (sym (names-none out player count past)) ∙ before
+    ∙ ap (λ (xs : List (PerKind (List ℕ))). map names_value names ++ xs) (sym (names-none out player count past))
+    ∙ before
 
 pub names-long : (out : List ℕ) (player count : ℕ) → length (names_from out player count) ≡ count
 unfolding names_from

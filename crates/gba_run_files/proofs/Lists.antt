@@ -39,18 +39,20 @@ module _ (names : List (PerKind (List ℕ))) (consoles : List ConsoleJob) (files
   outputs-none past = rw (drop_all i names past) refl
 
 -- the same as the program has them
-pub outputs-here : (names : List Names) (consoles : List JobConsole) (files : List (PerKind (List ℕ))) (i : ℕ) (n : Names)
-    (c : JobConsole) (f : PerKind (List ℕ)) → i < length names → i < length consoles → i < length files
+pub outputs-here : (names : List Names) (consoles : List JobConsole) (files : List (PerKind (List ℕ))) (i : ℕ)
+    (n : Names) (c : JobConsole) (f : PerKind (List ℕ)) → i < length names → i < length consoles → i < length files
     → n ≡ get_or names i n → c ≡ get_or consoles i c
     → outputs_of (drop i (map names_value names)) (drop i (map console_value consoles)) (drop i files)
     ≡ console_outputs (names_value n) (console_value c) (get_or files i f)
-    ++ outputs_of (drop (i + 1) (map names_value names)) (drop (i + 1) (map console_value consoles)) (drop (i + 1) files)
+    ++ outputs_of (drop (i + 1) (map names_value names)) (drop (i + 1) (map console_value consoles))
+    (drop (i + 1) files)
 outputs-here names consoles files i n c f x y z n_is c_is =
     let left = outputs_of (drop (i + 1) (map names_value names)) (drop (i + 1) (map console_value consoles))
     (drop (i + 1) files) in
     outputs-more (map names_value names) (map console_value consoles) files i (names_value n) (console_value c) f
     (omega (arith, x, length-map names names_value)) (omega (arith, y, length-map consoles console_value)) z
-    ∙ ap (λ one. console_outputs one (get_or (map console_value consoles) i (console_value c)) (get_or files i f) ++ left)
+    ∙ ap (λ one. console_outputs one (get_or (map console_value consoles) i (console_value c)) (get_or files i f)
+    ++ left)
     (get_or-map names_value names i n (names_value n) x ∙ ap names_value (sym n_is))
     ∙ ap (λ one. console_outputs (names_value n) one (get_or files i f) ++ left)
     (get_or-map console_value consoles i c (console_value c) y ∙ ap console_value (sym c_is))
@@ -96,7 +98,8 @@ asked-at consoles asks k c is within here =
     ap (λ (all : List (PerKind Bool)). slice_get all k) is
     ∙ slice_get-map asks_of (map console_value consoles) k
     ∙ ap (option_map asks_of) (slice_get-map console_value consoles k)
-    ∙ ap (λ (o : Option JobConsole). option_map asks_of (option_map console_value o)) (slice_get-get_or consoles k c within)
+    ∙ ap (λ (o : Option JobConsole). option_map asks_of (option_map console_value o))
+    (slice_get-get_or consoles k c within)
     ∙ ap (λ (x : JobConsole). Some (asks_of (console_value x))) (sym here)
 
 -- the pieces of the consoles from a place on, as the program has them
@@ -111,10 +114,16 @@ pieces-here kinds names consoles asks ms i n c m x y z n_is c_is asked m_is =
     let left = cut_pieces kinds (drop (i + 1) (map names_value names)) (drop (i + 1) asks) (drop (i + 1) ms) in
     let a = asks_of (console_value c) in
     let there : i < length asks =
-    omega (arith, y, ap length asked, length-map (map console_value consoles) asks_of, length-map consoles console_value) in
+    omega (
+      arith,
+      y,
+      ap length asked,
+      length-map (map console_value consoles) asks_of,
+      length-map consoles console_value,
+    ) in
     let a_is : get_or asks i a ≡ a = get_or_from_slice_get asks i a a (asked-at consoles asks i c asked y c_is) in
-    pieces-more kinds (map names_value names) asks ms i (names_value n) a m (omega (arith, x, length-map names names_value))
-    there z
+    pieces-more kinds (map names_value names) asks ms i (names_value n) a m
+    (omega (arith, x, length-map names names_value)) there z
     ∙ ap (λ one. console_pieces kinds one (get_or asks i a) (get_or ms i m) ++ left)
     (get_or-map names_value names i n (names_value n) x ∙ ap names_value (sym n_is))
     ∙ ap (λ one. console_pieces kinds (names_value n) one (get_or ms i m) ++ left) a_is

@@ -39,7 +39,8 @@ digits-are bytes =
     let is = digest-is bytes in omega (arith, length-encode_with lower_digits (sha256 bytes), is.sized)
 
 stated-text : (name digits : List ℕ) → length digits ≡ 64
-    → length (codes "out" ++ (codes " " ++ (name ++ (codes " " ++ (codes "sha256" ++ (codes " " ++ (digits ++ codes "\n")))))))
+    → length (codes "out"
+    ++ (codes " " ++ (name ++ (codes " " ++ (codes "sha256" ++ (codes " " ++ (digits ++ codes "\n")))))))
     ≡ length name + 77
 stated-text name digits is =
     let tail = length-append digits (codes "\n") in
@@ -51,7 +52,8 @@ unstated-text name = let whole = length-append name (codes "\n") in omega (arith
 
 any-text : (name digits : List ℕ)
     → length name + 5
-    ≤ length (codes "out" ++ (codes " " ++ (name ++ (codes " " ++ (codes "sha256" ++ (codes " " ++ (digits ++ codes "\n")))))))
+    ≤ length (codes "out"
+    ++ (codes " " ++ (name ++ (codes " " ++ (codes "sha256" ++ (codes " " ++ (digits ++ codes "\n")))))))
 any-text name digits =
     let tail = length-append digits (codes "\n") in
     let whole = length-append name (codes " " ++ (codes "sha256" ++ (codes " " ++ (digits ++ codes "\n")))) in
@@ -138,7 +140,8 @@ consoles-more player (c ∷ consoles) (one ∷ files) =
 log-is : (job : WholeJob)
     → length (log_text job)
     ≡ 10 + (length (line_of (codes "cycles") (decimal job.cycles ∷ []))
-    + (length (links_text (players_for (length job.consoles)) job.delays) + (length (consoles_text 0 job.consoles) + 4)))
+    + (length (links_text (players_for (length job.consoles)) job.delays)
+    + (length (consoles_text 0 job.consoles) + 4)))
 unfolding log_text
 log-is job =
     let cycles = line_of (codes "cycles") (decimal job.cycles ∷ []) in

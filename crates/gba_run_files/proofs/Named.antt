@@ -41,7 +41,8 @@ number-told a b x y few less same =
 pub name-told : (out : List ℕ) (a b : ℕ) (x y : OutKind) → a < 10 → b < 10 → output_file out a x ≡ output_file out b y
     → (a ≡ b) × (out_name x ≡ out_name y)
 name-told out a b x y few less same =
-    let tail : codes "." ++ (decimal a ++ (codes "." ++ out_name x)) ≡ codes "." ++ (decimal b ++ (codes "." ++ out_name y)) =
+    let tail : codes "." ++ (decimal a ++ (codes "." ++ out_name x))
+    ≡ codes "." ++ (decimal b ++ (codes "." ++ out_name y)) =
     append_cancel_left out _ _ same in
     number-told a b (out_name x) (out_name y) few less (append_cancel_left (codes ".") _ _ tail)
 
@@ -55,14 +56,17 @@ kind-letters Save = omega arith
 -- the log is no output
 pub log-apart : (out : List ℕ) (player : ℕ) (kind : OutKind) → player < 10 → output_file out player kind ≢ log_file out
 log-apart out player kind few same =
-    let tail : codes "." ++ (decimal player ++ (codes "." ++ out_name kind)) ≡ codes ".log" = append_cancel_left out _ _ same in
+    let tail : codes "." ++ (decimal player ++ (codes "." ++ out_name kind)) ≡ codes ".log" =
+    append_cancel_left out _ _ same in
     let digit : length (decimal player) ≡ 1 = ap length (decimal_digit player (omega (arith, few))) in
     let whole = length-append (decimal player) (codes "." ++ out_name kind) in
-    let long : length (codes "." ++ (decimal player ++ (codes "." ++ out_name kind))) ≡ length (codes ".log") = ap length tail in
+    let long : length (codes "." ++ (decimal player ++ (codes "." ++ out_name kind))) ≡ length (codes ".log") =
+    ap length tail in
     absurd (omega (arith, digit, whole, long, kind-letters kind))
 
 -- nor is the frozen file: its name has a letter where that of an output has its player
-pub frozen-apart : (out : List ℕ) (player : ℕ) (kind : OutKind) → player < 10 → output_file out player kind ≢ frozen_name out
+pub frozen-apart : (out : List ℕ) (player : ℕ) (kind : OutKind) → player < 10
+    → output_file out player kind ≢ frozen_name out
 frozen-apart out player kind few same =
     let tail : codes "." ++ (decimal player ++ (codes "." ++ out_name kind)) ≡ codes "." ++ codes "frozen" =
     append_cancel_left out _ _ same in
@@ -127,7 +131,8 @@ module _ (out : List ℕ) where
       → added name (console_pieces kinds (names_of out player) asks m) ≡ []
   console-other name player asks m [] apart = none-added name
   console-other name player asks m (kind ∷ kinds) apart =
-      added-append name (kind_piece (names_of out player) asks m kind) (console_pieces kinds (names_of out player) asks m)
+      added-append name (kind_piece (names_of out player) asks m kind)
+      (console_pieces kinds (names_of out player) asks m)
       ∙ ap (λ (bytes : List ℕ). bytes ++ added name (console_pieces kinds (names_of out player) asks m))
       (kind-other name player asks m kind (apart kind))
       ∙ console-other name player asks m kinds apart
@@ -169,8 +174,8 @@ module _ (out : List ℕ) where
         ∙ append-nil (bytes_if asks m kind)
 
   -- consoles that make nothing of this name
-  pub cut-other : (name : List ℕ) (kinds : List OutKind) (player count : ℕ) (asks : List (PerKind Bool)) (ms : List Machine)
-      → ((k : ℕ) (kind : OutKind) → player ≤ k → k < player + count → output_file out k kind ≢ name)
+  pub cut-other : (name : List ℕ) (kinds : List OutKind) (player count : ℕ) (asks : List (PerKind Bool))
+      (ms : List Machine) → ((k : ℕ) (kind : OutKind) → player ≤ k → k < player + count → output_file out k kind ≢ name)
       → added name (cut_pieces kinds (names_from out player count) asks ms) ≡ []
   unfolding cut_pieces names_from
   cut-other name kinds player zero asks ms apart = none-added name
@@ -213,5 +218,5 @@ module _ (out : List ℕ) where
       (console-other name player b n kinds (λ one same.
       let told = (name-told out player k one kind (omega (arith, few)) (omega (arith, is, less, few)) same).0 in
       absurd (omega (arith, told, is))))
-      ∙ cut-own kind kinds (player + 1) count j k asks ms a m (omega (arith, is)) (omega (arith, less)) (omega (arith, few))
-      (omega (arith, x)) (omega (arith, y))
+      ∙ cut-own kind kinds (player + 1) count j k asks ms a m (omega (arith, is)) (omega (arith, less))
+      (omega (arith, few)) (omega (arith, x)) (omega (arith, y))

@@ -34,7 +34,8 @@ front-eq out a b = by (bytes_eq a b) refl where
   by false is =
       names-apart (out ++ a) (out ++ b) (λ same.
       let differ : bytes_eq a b ≡ true
-      = subst (λ (x : List ℕ). bytes_eq a x ≡ true) (append_cancel_left out a b same) (own-name a) in absurd cc) ∙ sym is
+      = subst (λ (x : List ℕ). bytes_eq a x ≡ true) (append_cancel_left out a b same) (own-name a) in absurd cc)
+      ∙ sym is
 
 among-under : (out name : List ℕ) (outputs : List Output)
     → is_among (out ++ name) (map (under out) outputs) ≡ is_among name outputs
@@ -85,7 +86,8 @@ player_names player (suc count) = map (digit_file player) all_kinds ++ player_na
 
 one-digit : (player : ℕ) (kind : OutKind) → player < 10 → output_file [] player kind ≡ digit_file player kind
 one-digit player kind few =
-    ap (λ (digits : List ℕ). codes "." ++ (digits ++ (codes "." ++ out_name kind))) (decimal_digit player (omega (arith, few)))
+    ap (λ (digits : List ℕ). codes "." ++ (digits ++ (codes "." ++ out_name kind)))
+    (decimal_digit player (omega (arith, few)))
 
 if-part : (asked : Bool) (name bytes : List ℕ) → ArePart (output_if asked name bytes) (name ∷ [])
 unfolding ArePart
@@ -100,7 +102,8 @@ kinds-part player console files (kind ∷ kinds) few =
     let name : at_kind (names_of [] player) kind ≡ digit_file player kind
     = at-per_kind (output_file [] player) kind ∙ one-digit player kind few in
     let here : ArePart (kind_output (names_of [] player) console files kind) (digit_file player kind ∷ [])
-    = subst (λ (n : List ℕ). ArePart (output_if (asks_for console kind) n (at_kind files kind)) (digit_file player kind ∷ []))
+    = subst (λ (n : List ℕ). ArePart (output_if (asks_for console kind) n (at_kind files kind))
+    (digit_file player kind ∷ []))
     (sym name) (if-part (asks_for console kind) (digit_file player kind) (at_kind files kind)) in
     part-append (kind_output (names_of [] player) console files kind)
     (flat_map (kind_output (names_of [] player) console files) kinds) (digit_file player kind ∷ [])
@@ -122,8 +125,10 @@ outputs-part player zero consoles files few = nothing []
 outputs-part player (suc count) [] files few = nothing (player_names player (suc count))
 outputs-part player (suc count) (c ∷ consoles) [] few = nothing (player_names player (suc count))
 outputs-part player (suc count) (c ∷ consoles) (one ∷ files) few =
-    part-append (console_outputs (names_of [] player) c one) (outputs_of (names_from [] (player + 1) count) consoles files)
-    (map (digit_file player) all_kinds) (player_names (player + 1) count) (console-part player c one (omega (arith, few)))
+    part-append (console_outputs (names_of [] player) c one)
+    (outputs_of (names_from [] (player + 1) count) consoles files)
+    (map (digit_file player) all_kinds) (player_names (player + 1) count)
+    (console-part player c one (omega (arith, few)))
     (outputs-part (player + 1) count consoles files (omega (arith, few)))
 
 abbrev pub run_file_names : ℕ → List (List ℕ)
@@ -133,14 +138,16 @@ one-part : (output : Output) → ArePart (output ∷ []) (output.name ∷ [])
 unfolding ArePart
 one-part output = inl (refl, tt)
 
-pub written-part : (count : ℕ) (job : WholeJob) (files : List (PerKind (List ℕ))) (lines : List ℕ) (pieces : List Output)
-    → count ≤ 4 → ArePart (written (run_names [] count) job files lines pieces).outputs (run_file_names count)
+pub written-part : (count : ℕ) (job : WholeJob) (files : List (PerKind (List ℕ))) (lines : List ℕ)
+    (pieces : List Output) → count ≤ 4
+    → ArePart (written (run_names [] count) job files lines pieces).outputs (run_file_names count)
 written-part count job files lines pieces few =
     let log : Output = record { name = log_file []; bytes = log_of job files } in
-    part-append (outputs_of (names_from [] 0 count) job.consoles files) (log ∷ []) (player_names 0 count) (log_file [] ∷ [])
-    (outputs-part 0 count job.consoles files (omega (arith, few))) (one-part log)
+    part-append (outputs_of (names_from [] 0 count) job.consoles files) (log ∷ []) (player_names 0 count)
+    (log_file [] ∷ []) (outputs-part 0 count job.consoles files (omega (arith, few))) (one-part log)
 
-pub names-differ : (count : ℕ) → count ≤ 4 → (all_differ (run_file_names count) ≡ true) × (all_long (run_file_names count) ≡ true)
+pub names-differ : (count : ℕ) → count ≤ 4
+    → (all_differ (run_file_names count) ≡ true) × (all_long (run_file_names count) ≡ true)
 unfolding player_names all_differ has_name all_long
 names-differ zero few = (refl, refl)
 names-differ (suc zero) few = (refl, refl)
@@ -165,7 +172,8 @@ written-differ out count job files lines pieces few =
 
 -- ---- the names of a run that writes no file more
 
-player-names : (count : ℕ) → count ≤ 4 → (all_differ (player_names 0 count) ≡ true) × (all_long (player_names 0 count) ≡ true)
+player-names : (count : ℕ) → count ≤ 4
+    → (all_differ (player_names 0 count) ≡ true) × (all_long (player_names 0 count) ≡ true)
 unfolding player_names all_differ has_name all_long
 player-names zero few = (refl, refl)
 player-names (suc zero) few = (refl, refl)
@@ -174,8 +182,8 @@ player-names (suc (suc (suc zero))) few = (refl, refl)
 player-names (suc (suc (suc (suc zero)))) few = (refl, refl)
 player-names (suc (suc (suc (suc (suc n))))) few = absurd (omega (arith, few))
 
-pub outputs-differ : (out : List ℕ) (count : ℕ) (consoles : List ConsoleJob) (files : List (PerKind (List ℕ))) → count ≤ 4
-    → NamesDiffer (outputs_of (names_from out 0 count) consoles files)
+pub outputs-differ : (out : List ℕ) (count : ℕ) (consoles : List ConsoleJob) (files : List (PerKind (List ℕ)))
+    → count ≤ 4 → NamesDiffer (outputs_of (names_from out 0 count) consoles files)
     × (is_among standard_output (outputs_of (names_from out 0 count) consoles files) ≡ false)
 outputs-differ out count consoles files few =
     let plain : List Output = outputs_of (names_from [] 0 count) consoles files in
@@ -207,22 +215,25 @@ abbrev frozen_output : List ℕ → List ℕ → Output
 frozen_output out bytes = record { name = frozen_name out; bytes = bytes }
 
 abbrev frozen_outputs : List ℕ → ℕ → List ConsoleJob → List (PerKind (List ℕ)) → List ℕ → List Output
-frozen_outputs out count consoles files bytes = outputs_of (names_from out 0 count) consoles files ++ frozen_output out bytes ∷ []
+frozen_outputs out count consoles files bytes =
+    outputs_of (names_from out 0 count) consoles files ++ frozen_output out bytes ∷ []
 
-pub frozen-under : (out : List ℕ) (count : ℕ) (consoles : List ConsoleJob) (files : List (PerKind (List ℕ))) (bytes : List ℕ)
+pub frozen-under : (out : List ℕ) (count : ℕ) (consoles : List ConsoleJob) (files : List (PerKind (List ℕ)))
+    (bytes : List ℕ)
     → frozen_outputs out count consoles files bytes ≡ map (under out) (frozen_outputs [] count consoles files bytes)
 frozen-under out count consoles files bytes =
     ap (λ (xs : List Output). xs ++ frozen_output out bytes ∷ []) (outputs-under out 0 count consoles files)
     ∙ sym (map-append (under out) (outputs_of (names_from [] 0 count) consoles files) (frozen_output [] bytes ∷ []))
 
-pub frozen-differ : (out : List ℕ) (count : ℕ) (consoles : List ConsoleJob) (files : List (PerKind (List ℕ))) (bytes : List ℕ)
-    → count ≤ 4 → NamesDiffer (frozen_outputs out count consoles files bytes)
+pub frozen-differ : (out : List ℕ) (count : ℕ) (consoles : List ConsoleJob) (files : List (PerKind (List ℕ)))
+    (bytes : List ℕ) → count ≤ 4 → NamesDiffer (frozen_outputs out count consoles files bytes)
     × (is_among standard_output (frozen_outputs out count consoles files bytes) ≡ false)
 frozen-differ out count consoles files bytes few =
     let plain : List Output = frozen_outputs [] count consoles files bytes in
     let part : ArePart plain (frozen_file_names count) =
     part-append (outputs_of (names_from [] 0 count) consoles files) (frozen_output [] bytes ∷ []) (player_names 0 count)
-    (frozen_name [] ∷ []) (outputs-part 0 count consoles files (omega (arith, few))) (one-part (frozen_output [] bytes)) in
+    (frozen_name [] ∷ []) (outputs-part 0 count consoles files (omega (arith, few)))
+    (one-part (frozen_output [] bytes)) in
     let n = frozen-names count few in
     let is = frozen-under out count consoles files bytes in (
       subst (λ (l : List Output). NamesDiffer l) (sym is)

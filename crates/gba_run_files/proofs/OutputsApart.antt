@@ -51,12 +51,14 @@ module _ (out name : List ℕ) where
       → is_among name (flat_map (kind_output (names_of out player) console files) kinds) ≡ false
   kinds-apart player console files [] apart = none-apart name
   kinds-apart player console files (kind ∷ kinds) apart =
-      let n = neither (writes_as out player console name kind) (list_any (writes_as out player console name) kinds) apart in
+      let n =
+      neither (writes_as out player console name kind) (list_any (writes_as out player console name) kinds) apart in
       let here : is_among name (kind_output (names_of out player) console files kind) ≡ false
       = rw (at-per_kind (output_file out player) kind)
       (if-apart (asks_for console kind) name (output_file out player kind) (at_kind files kind) n.0) in
       both-apart name (kind_output (names_of out player) console files kind)
-      (flat_map (kind_output (names_of out player) console files) kinds) here (kinds-apart player console files kinds n.1)
+      (flat_map (kind_output (names_of out player) console files) kinds) here
+      (kinds-apart player console files kinds n.1)
 
   console-apart : (player : ℕ) (console : ConsoleJob) (files : PerKind (List ℕ))
       → console_writes out player console name ≡ false
@@ -77,8 +79,8 @@ module _ (out name : List ℕ) where
       (outputs_of (names_from out (player + 1) count) consoles files)
       (console-apart player c one n.0) (outputs-apart (player + 1) count consoles files n.1)
 
-  pub written-apart : (count : ℕ) (job : WholeJob) (files : List (PerKind (List ℕ))) (lines : List ℕ) (pieces : List Output)
-      → is_output out job.consoles name ≡ false
+  pub written-apart : (count : ℕ) (job : WholeJob) (files : List (PerKind (List ℕ))) (lines : List ℕ)
+      (pieces : List Output) → is_output out job.consoles name ≡ false
       → is_among name (written (run_names out count) job files lines pieces).outputs ≡ false
   unfolding is_output
   written-apart count job files lines pieces apart =

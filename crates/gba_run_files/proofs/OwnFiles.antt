@@ -121,8 +121,8 @@ module _ (P : Output → Type 0) (out : List ℕ) where
       (console-pieces-hold player asks m kinds each)
 
   cut-pieces-hold : (kinds : List OutKind) (player count : ℕ) (asks : List (PerKind Bool)) (ms : List Machine)
-      → ((j : ℕ) (kind : OutKind) (a : PerKind Bool) → j < count → j < length asks → at_kind (get_or asks j a) kind ≡ true
-      → (some : List ℕ) → P (file_of out (player + j) kind some))
+      → ((j : ℕ) (kind : OutKind) (a : PerKind Bool) → j < count → j < length asks
+      → at_kind (get_or asks j a) kind ≡ true → (some : List ℕ) → P (file_of out (player + j) kind some))
       → All P (cut_pieces kinds (names_from out player count) asks ms)
   unfolding cut_pieces names_from
   cut-pieces-hold kinds player zero asks ms each = All-nil P
@@ -146,8 +146,8 @@ module _ (P : Output → Type 0) (out : List ℕ) where
       → (some : List ℕ) → P (file_of out j kind some)
 
   shifted : (count : ℕ) (asks : List (PerKind Bool)) → HoldsOfAsked count asks
-      → (j : ℕ) (kind : OutKind) (a : PerKind Bool) → j < count → j < length asks → at_kind (get_or asks j a) kind ≡ true
-      → (some : List ℕ) → P (file_of out (0 + j) kind some)
+      → (j : ℕ) (kind : OutKind) (a : PerKind Bool) → j < count → j < length asks
+      → at_kind (get_or asks j a) kind ≡ true → (some : List ℕ) → P (file_of out (0 + j) kind some)
   shifted count asks each j kind a less within asked some =
       let here : j ≡ 0 + j = omega arith in
       subst (λ (k : ℕ). P (file_of out k kind some)) here (each j kind a less within asked some)
@@ -162,7 +162,8 @@ module _ (P : Output → Type 0) (out : List ℕ) where
         kept s = (advances s).asks
 
         by : (over : Bool) → All P (segment_pieces most (names_from out 0 count) (advanced s))
-            → All P (if over then [] else cut_pieces growing_kinds (names_from out 0 count) s.asks (segment_cut (advanced s)).consoles
+            → All P (if over then []
+            else cut_pieces growing_kinds (names_from out 0 count) s.asks (segment_cut (advanced s)).consoles
             ++ segment_pieces most (names_from out 0 count) (advanced s))
         by true rest = All-nil P
         by false rest =
@@ -173,7 +174,8 @@ module _ (P : Output → Type 0) (out : List ℕ) where
             (cut-pieces-hold growing_kinds 0 count asks (segment_cut (advanced s)).consoles (shifted count asks each)))
             rest
 
-  pub pieces-hold : (count : ℕ) (s : Consoles) → HoldsOfAsked count s.asks → All P (run_pieces (names_from out 0 count) s)
+  pub pieces-hold : (count : ℕ) (s : Consoles) → HoldsOfAsked count s.asks
+      → All P (run_pieces (names_from out 0 count) s)
   pieces-hold count s each =
       All-append P (segment_pieces (suc (later_segments s)) (names_from out 0 count) s)
       (cut_pieces lasting_kinds (names_from out 0 count) s.asks (whole_cut s).consoles)
@@ -253,7 +255,8 @@ output-among out player zero k (d ∷ consoles) (one ∷ files) c kind is many w
 output-among out player (suc j) k (d ∷ consoles) (one ∷ files) c kind is many within asked =
     among-second (output_file out k kind) (console_outputs (names_of out player) d one)
     (outputs_of (names_from out (player + 1) (length consoles)) consoles files)
-    (output-among out (player + 1) j k consoles files c kind (omega (arith, is)) (omega (arith, many)) (omega (arith, within)) asked)
+    (output-among out (player + 1) j k consoles files c kind (omega (arith, is)) (omega (arith, many))
+    (omega (arith, within)) asked)
 
 -- ---- a job's run
 
@@ -273,9 +276,9 @@ unfolding added
 added-own last = rw (own-name last.name) (append-nil last.bytes)
 
 -- of consoles that run in segments, from a start at which their lists are empty
-module _ (law : LiveSegments) (out : List ℕ) (job : WholeJob) (sound : IsJob job) (s : Consoles) (asked : s.asks ≡ map asks_of job.consoles)
-    (started : length s.start.consoles ≡ length job.consoles) (can : CanRun s.start) (within : s.to ≤ s.until)
-    (reset : (k : ℕ) (m : Machine) → k < length job.consoles
+module _ (law : LiveSegments) (out : List ℕ) (job : WholeJob) (sound : IsJob job) (s : Consoles)
+    (asked : s.asks ≡ map asks_of job.consoles) (started : length s.start.consoles ≡ length job.consoles)
+    (can : CanRun s.start) (within : s.to ≤ s.until) (reset : (k : ℕ) (m : Machine) → k < length job.consoles
     → get_or (run_until s.to s.start).consoles k m ≡ forgotten (get_or s.start.consoles k m)) where
   abbrev count : ℕ
   count = length job.consoles
@@ -326,7 +329,8 @@ module _ (law : LiveSegments) (out : List ℕ) (job : WholeJob) (sound : IsJob j
       (sym (asks-are j kind c a less) ∙ asks)
 
   -- the files of a run that writes no more than these
-  pub lone-files : (end : Result (List ℕ) Cause) → HasOwnFiles (record { outputs = outputs; pieces = pieces; end = end })
+  pub lone-files : (end : Result (List ℕ) Cause)
+      → HasOwnFiles (record { outputs = outputs; pieces = pieces; end = end })
   lone-files end =
       let P : Output → Type 0 = λ piece. is_among piece.name outputs ≡ true in
       let Q : Output → Type 0 = λ output. added output.name pieces ≡ output.bytes in
@@ -340,7 +344,8 @@ module _ (law : LiveSegments) (out : List ℕ) (job : WholeJob) (sound : IsJob j
       }
 
   -- the files of a run that writes one more behind these, by a name of its own
-  module _ (last : Output) (apart : (player : ℕ) (kind : OutKind) → player < 10 → output_file out player kind ≢ last.name)
+  module _ (last : Output)
+      (apart : (player : ℕ) (kind : OutKind) → player < 10 → output_file out player kind ≢ last.name)
       (none : is_among standard_output (outputs ++ last ∷ []) ≡ false) (end : Result (List ℕ) Cause) where
     output-whole : (j : ℕ) (kind : OutKind) (c : ConsoleJob) (m : Machine) → j < count
         → asks_for (get_or job.consoles j c) kind ≡ true
@@ -360,7 +365,8 @@ module _ (law : LiveSegments) (out : List ℕ) (job : WholeJob) (sound : IsJob j
     last-whole =
         added-append last.name pieces (last ∷ [])
         ∙ ap (λ (bytes : List ℕ). bytes ++ added last.name (last ∷ []))
-        (other-added-none law out s count sound.few_consoles can within (sym asks-long) start-many reset last.name apart)
+        (other-added-none law out s count sound.few_consoles can within (sym asks-long) start-many reset
+        last.name apart)
         ∙ added-own last
 
     pub own-files : HasOwnFiles (record { outputs = outputs ++ last ∷ []; pieces = pieces ++ last ∷ []; end = end })
@@ -390,15 +396,17 @@ module _ (law : LiveSegments) (out : List ℕ) (job : WholeJob) (images : List C
 
   job-files : (last : Output) → ((player : ℕ) (kind : OutKind) → player < 10 → output_file out player kind ≢ last.name)
       → is_among standard_output
-      (outputs_of (names_from out 0 (length job.consoles)) job.consoles (files_at job (whole_cut first)) ++ last ∷ []) ≡ false
+      (outputs_of (names_from out 0 (length job.consoles)) job.consoles (files_at job (whole_cut first)) ++ last ∷ [])
+      ≡ false
       → (end : Result (List ℕ) Cause) → HasOwnFiles (record {
-        outputs = outputs_of (names_from out 0 (length job.consoles)) job.consoles (files_at job (whole_cut first)) ++ last ∷ [];
+        outputs = outputs_of (names_from out 0 (length job.consoles)) job.consoles (files_at job (whole_cut first))
+            ++ last ∷ [];
         pieces = run_pieces (names_from out 0 (length job.consoles)) first ++ last ∷ [];
         end = end;
       })
   job-files last apart none end =
-      own-files law out job sound first refl (start-long job images sound many) (start-can job images sound many) (omega arith) reset
-      last apart none end
+      own-files law out job sound first refl (start-long job images sound many) (start-can job images sound many)
+      (omega arith) reset last apart none end
 
   -- it writes its log there
   abbrev log : Output
@@ -408,19 +416,20 @@ module _ (law : LiveSegments) (out : List ℕ) (job : WholeJob) (images : List C
   run-own-files =
       let names = run_names out (length job.consoles) in
       job-files log (log-apart out)
-      (written-differ out (length job.consoles) job (files_at job (whole_cut first)) (summary_lines (whole_cut first).consoles)
-      (run_pieces names.consoles first) sound.few_consoles).1
+      (written-differ out (length job.consoles) job (files_at job (whole_cut first))
+      (summary_lines (whole_cut first).consoles) (run_pieces names.consoles first) sound.few_consoles).1
       (run_of names job first).end
 
   -- and one that is frozen at its end its frozen file
   abbrev frozen : List ℕ → Output
   frozen digest = log_output (freeze_names out (length job.consoles)) (frozen_file digest (whole_cut first))
 
-  pub frozen-own-files : (digest : List ℕ) → HasOwnFiles (frozen_run (freeze_names out (length job.consoles)) job digest first)
+  pub frozen-own-files : (digest : List ℕ)
+      → HasOwnFiles (frozen_run (freeze_names out (length job.consoles)) job digest first)
   frozen-own-files digest =
       job-files (frozen digest) (frozen-apart out)
-      (frozen-differ out (length job.consoles) job.consoles (files_at job (whole_cut first)) (frozen_file digest (whole_cut first))
-      sound.few_consoles).1
+      (frozen-differ out (length job.consoles) job.consoles (files_at job (whole_cut first))
+      (frozen_file digest (whole_cut first)) sound.few_consoles).1
       (Ok (summary_lines (whole_cut first).consoles))
 
 -- those of a run that goes on from a cut, which writes no more
@@ -429,8 +438,8 @@ resumed-own-files law out job start sound many can awaited empty =
     let s = resumed job start in
     let past = begins-below job.cycles (least_clock start) in
     let stays : run_until s.to start ≡ start = no-steps start s.to awaited past in
-    lone-files law out job sound s refl many can (omega (arith, begins-before job.cycles (least_clock start) sound.some_cycles))
-    (λ k m less.
+    lone-files law out job sound s refl many can
+    (omega (arith, begins-before job.cycles (least_clock start) sound.some_cycles)) (λ k m less.
     ap (λ (c : Cut Machine). get_or c.consoles k m) stays
     ∙ ap (λ (ms : List Machine). get_or ms k m) (sym empty)
     ∙ get_or-map forgotten start.consoles k m m (omega (arith, less, many)))
@@ -479,7 +488,8 @@ none-of name (piece ∷ pieces) outputs own none =
     let here : is_among piece.name outputs ≡ true = All-head P piece pieces own in
     let apart : bytes_eq piece.name name ≡ false =
     names-apart piece.name name (λ same.
-    let there : is_among name outputs ≡ true = subst (λ (n : List ℕ). is_among n outputs ≡ true) same here in absurd cc) in
+    let there : is_among name outputs ≡ true = subst (λ (n : List ℕ). is_among n outputs ≡ true) same here in
+    absurd cc) in
     rw apart (none-of name pieces outputs (All-tail P piece pieces own) none)
 
 pub own-after : (first : List Output) (run : Run) → NamesDiffer (first ++ run.outputs)
@@ -500,10 +510,12 @@ own-after first run differ apart own =
       whole = All-append Q first run.outputs
           (λ k d within. let name = (get_or first k d).name in
           added-append name first run.pieces
-          ∙ ap (λ (bytes : List ℕ). added name first ++ bytes) (none-of name run.pieces run.outputs own.own (before k d within))
+          ∙ ap (λ (bytes : List ℕ). added name first ++ bytes)
+          (none-of name run.pieces run.outputs own.own (before k d within))
           ∙ append-nil (added name first) ∙ alone.whole k d within)
           (λ k d within. let name = (get_or run.outputs k d).name in
           added-append name first run.pieces
-          ∙ ap (λ (bytes : List ℕ). bytes ++ added name run.pieces) (none-of name first first alone.own (behind k d within))
+          ∙ ap (λ (bytes : List ℕ). bytes ++ added name run.pieces)
+          (none-of name first first alone.own (behind k d within))
           ∙ own.whole k d within);
     }

@@ -32,7 +32,8 @@ kind-under out player asks m kind =
     (asked-under out (output_file [] player kind) (output_bytes kind m) (at_kind asks kind))
 
 console-under : (out : List ℕ) (player : ℕ) (asks : PerKind Bool) (m : Machine) (kinds : List OutKind)
-    → console_pieces kinds (names_of out player) asks m ≡ map (under out) (console_pieces kinds (names_of [] player) asks m)
+    → console_pieces kinds (names_of out player) asks m
+    ≡ map (under out) (console_pieces kinds (names_of [] player) asks m)
 console-under out player asks m [] = refl
 console-under out player asks m (kind ∷ kinds) =
     ap (λ pieces. pieces ++ console_pieces kinds (names_of out player) asks m) (kind-under out player asks m kind)
@@ -80,7 +81,8 @@ pub pieces-under : (out : List ℕ) (count : ℕ) (s : Consoles)
 pieces-under out count s =
     let most = suc (later_segments s) in
     let last = (whole_cut s).consoles in
-    ap (λ pieces. pieces ++ cut_pieces lasting_kinds (names_from out 0 count) s.asks last) (segments-under out most count s)
+    ap (λ pieces. pieces ++ cut_pieces lasting_kinds (names_from out 0 count) s.asks last)
+    (segments-under out most count s)
     ∙ ap (λ pieces. map (under out) (segment_pieces most (names_from [] 0 count) s) ++ pieces)
     (cut-under out lasting_kinds 0 count s.asks last)
     ∙ sym (map-append (under out) (segment_pieces most (names_from [] 0 count) s)

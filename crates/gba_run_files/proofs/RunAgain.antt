@@ -81,7 +81,8 @@ written-under out count job files lines pieces plain =
 -- ---- the digests are stated
 
 -- what is said of an output with its digest stated
-stated-twice : (asked : Option OutLine) (bytes : List ℕ) → stated_out (stated_out asked bytes) bytes ≡ stated_out asked bytes
+stated-twice : (asked : Option OutLine) (bytes : List ℕ)
+    → stated_out (stated_out asked bytes) bytes ≡ stated_out asked bytes
 stated-twice None bytes = refl
 stated-twice (Some asked) bytes = refl
 
@@ -171,10 +172,11 @@ outputs-again (n ∷ names) (c ∷ consoles) (l ∷ later) [] is = absurd cc
 outputs-again (n ∷ names) (c ∷ consoles) [] (one ∷ files) is = absurd cc
 outputs-again (n ∷ names) (c ∷ consoles) (l ∷ later) (one ∷ files) is =
     ap (λ outputs. outputs ++ outputs_of names later files) (outputs-one c l one (outs-head _ _ _ _ is) n)
-    ∙ ap (λ outputs. console_outputs n c one ++ outputs) (outputs-again names consoles later files (outs-tail _ _ _ _ is))
+    ∙ ap (λ outputs. console_outputs n c one ++ outputs)
+    (outputs-again names consoles later files (outs-tail _ _ _ _ is))
 
-difference-again : (names : List (PerKind (List ℕ))) (consoles later : List ConsoleJob) (files : List (PerKind (List ℕ)))
-    → AreStatedBy consoles files later → difference_of names later files ≡ None
+difference-again : (names : List (PerKind (List ℕ))) (consoles later : List ConsoleJob)
+    (files : List (PerKind (List ℕ))) → AreStatedBy consoles files later → difference_of names later files ≡ None
 unfolding all_outs difference_of
 difference-again [] consoles later files is = refl
 difference-again (n ∷ names) consoles [] files is = refl
@@ -186,9 +188,9 @@ difference-again (n ∷ names) (c ∷ consoles) (l ∷ later) (one ∷ files) is
     rw (here, rest) refl
 
 -- What is written for a job that states the digests of the outputs of another, where their logs are one.
-pub written-outputs : (out : List ℕ) (count : ℕ) (job other : WholeJob) (files : List (PerKind (List ℕ))) (lines : List ℕ)
-    (pieces : List Output) → AreStatedBy job.consoles files other.consoles → log_of other files ≡ log_of job files
-    → (written (run_names out count) other files lines pieces).outputs
+pub written-outputs : (out : List ℕ) (count : ℕ) (job other : WholeJob) (files : List (PerKind (List ℕ)))
+    (lines : List ℕ) (pieces : List Output) → AreStatedBy job.consoles files other.consoles
+    → log_of other files ≡ log_of job files → (written (run_names out count) other files lines pieces).outputs
     ≡ (written (run_names out count) job files lines pieces).outputs
 written-outputs out count job other files lines pieces is log =
     let names = run_names out count in

@@ -18,7 +18,8 @@ use Rattle.gba_joblog.specs.Job.{WholeJob}
 use Rattle.std.proofs.lemmas.List.{length-map}
 
 -- a run that is over has no segment left
-pub over-none : (most : ℕ) (names : List (PerKind (List ℕ))) (s : Consoles) → is_over s ≡ true → segment_pieces most names s ≡ []
+pub over-none : (most : ℕ) (names : List (PerKind (List ℕ))) (s : Consoles) → is_over s ≡ true
+    → segment_pieces most names s ≡ []
 unfolding segment_pieces
 over-none zero names s over = refl
 over-none (suc most) names s over = rw over refl
@@ -26,7 +27,8 @@ over-none (suc most) names s over = rw over refl
 -- one that isn't over has the next one and those behind it
 pub next-segment : (most : ℕ) (names : List (PerKind (List ℕ))) (s : Consoles) → is_over s ≡ false
     → segment_pieces (suc most) names s
-    ≡ cut_pieces growing_kinds names s.asks (segment_cut (advanced s)).consoles ++ segment_pieces most names (advanced s)
+    ≡ cut_pieces growing_kinds names s.asks (segment_cut (advanced s)).consoles
+    ++ segment_pieces most names (advanced s)
 unfolding segment_pieces
 next-segment most names s left = rw left refl
 
@@ -132,7 +134,8 @@ tails : {X : Type 0} (x y : X) (xs ys : List X) → x ∷ xs ≡ y ∷ ys → xs
 tails x y xs ys h = cc
 
 pub lasting-same : (names : List (PerKind (List ℕ))) (asks : List (PerKind Bool)) (ms ws : List Machine)
-    → map forgotten ms ≡ map forgotten ws → cut_pieces lasting_kinds names asks ms ≡ cut_pieces lasting_kinds names asks ws
+    → map forgotten ms ≡ map forgotten ws
+    → cut_pieces lasting_kinds names asks ms ≡ cut_pieces lasting_kinds names asks ws
 unfolding cut_pieces
 lasting-same [] asks ms ws same = refl
 lasting-same (n ∷ names) [] ms ws same = refl
@@ -146,6 +149,7 @@ lasting-same (n ∷ names) (a ∷ asks) (m ∷ ms) (w ∷ ws) same =
     (lasting-same names asks ms ws (tails (forgotten m) (forgotten w) (map forgotten ms) (map forgotten ws) same))
 
 -- a session that goes on from a cut has a segment left
-pub begin-before : (job : WholeJob) (start : Cut Machine) (s : Consoles) → s ≡ resumed job start → 1 ≤ job.cycles → s.to < s.until
+pub begin-before : (job : WholeJob) (start : Cut Machine) (s : Consoles) → s ≡ resumed job start → 1 ≤ job.cycles
+    → s.to < s.until
 begin-before job start s is some =
     omega (arith, ap (λ (x : Consoles). x.to) is, ap (λ (x : Consoles). x.until) is, some)

@@ -32,7 +32,9 @@ unstated-sound console sound = record {
     keys = sound.lines.keys;
     changes = sound.lines.changes;
     apart = sound.lines.apart;
-    outs = all-kinds IsOutput (console_unstated console).outs (line-sound console.outs.frames) (line-sound console.outs.samples)
+    outs =
+        all-kinds IsOutput (console_unstated console).outs (line-sound console.outs.frames)
+        (line-sound console.outs.samples)
         (line-sound console.outs.words) (line-sound console.outs.state) (line-sound console.outs.save);
   };
 }
@@ -62,10 +64,12 @@ job-unstated-sound job sound =
       some_consoles = omega (arith, many, sound.some_consoles);
       few_consoles = omega (arith, many, sound.few_consoles);
       each = All-map IsConsole console_unstated job.consoles
-          (All-weaker IsConsole (λ console. IsConsole (console_unstated console)) unstated-sound job.consoles sound.each);
+          (All-weaker IsConsole (λ console. IsConsole (console_unstated console)) unstated-sound job.consoles
+          sound.each);
     }
 
-pub job-until-sound : (clock : ℕ) (job : WholeJob) → 1 ≤ clock → clock ≤ 2 ^ 38 → IsJob job → IsJob (job_until clock job)
+pub job-until-sound : (clock : ℕ) (job : WholeJob) → 1 ≤ clock → clock ≤ 2 ^ 38 → IsJob job
+    → IsJob (job_until clock job)
 job-until-sound clock job some most sound =
     let many : length (job_until clock job).consoles ≡ length job.consoles = length-map job.consoles console_so_far in
     record {

@@ -49,7 +49,8 @@ unfolding all_files
 all-files-get [] ms k a m f x y = absurd (omega (arith, x))
 all-files-get (b ∷ asks) [] k a m f x y = absurd (omega (arith, y))
 all-files-get (b ∷ asks) (n ∷ ms) zero a m f x y = refl
-all-files-get (b ∷ asks) (n ∷ ms) (suc k) a m f x y = all-files-get asks ms k a m f (omega (arith, x)) (omega (arith, y))
+all-files-get (b ∷ asks) (n ∷ ms) (suc k) a m f x y =
+    all-files-get asks ms k a m f (omega (arith, x)) (omega (arith, y))
 
 -- ---- one console after another
 
@@ -65,13 +66,15 @@ pub record Stating (names files : List (PerKind (List ℕ))) (old : List Console
 pub stating-first : (names files : List (PerKind (List ℕ))) (old : List ConsoleJob) → Stating names files old None old 0
 stating-first names files old = record { stated = refl; told = refl; left = refl; many = refl }
 
-difference-cons : (n : PerKind (List ℕ)) (c : ConsoleJob) (f : PerKind (List ℕ)) (ns : List (PerKind (List ℕ))) (cs : List ConsoleJob) (fs : List (PerKind (List ℕ)))
+difference-cons : (n : PerKind (List ℕ)) (c : ConsoleJob) (f : PerKind (List ℕ)) (ns : List (PerKind (List ℕ)))
+    (cs : List ConsoleJob) (fs : List (PerKind (List ℕ)))
     → difference_of (n ∷ ns) (c ∷ cs) (f ∷ fs) ≡ or_later (console_difference n c f) (difference_of ns cs fs)
 unfolding difference_of
 difference-cons n c f ns cs fs = refl
 
 stated-cons : (c : ConsoleJob) (f : PerKind (List ℕ)) (cs : List ConsoleJob) (fs : List (PerKind (List ℕ)))
-    → with_outputs (c ∷ cs) (all_outs (c ∷ cs) (f ∷ fs)) ≡ record c { outs = outs_of c f } ∷ with_outputs cs (all_outs cs fs)
+    → with_outputs (c ∷ cs) (all_outs (c ∷ cs) (f ∷ fs))
+    ≡ record c { outs = outs_of c f } ∷ with_outputs cs (all_outs cs fs)
 unfolding with_outputs all_outs
 stated-cons c f cs fs = refl
 
@@ -125,11 +128,13 @@ module _ (names files : List (PerKind (List ℕ))) (old : List ConsoleJob) (caus
       let files_are : drop i files ≡ f ∷ fs = drop_more files i f y ∙ ap (λ y. y ∷ fs) (sym f_is) in
       let now_is : drop i now ≡ c ∷ cs = drop_more now i c within ∙ ap (λ y. y ∷ cs) (sym c_is) in
       let left_stated = with_outputs cs (all_outs cs fs) in
-      let was_stated : take i now ++ (record c { outs = outs_of c f } ∷ left_stated) ≡ with_outputs old (all_outs old files) =
+      let was_stated : take i now ++ (record c { outs = outs_of c f } ∷ left_stated)
+      ≡ with_outputs old (all_outs old files) =
       ap (λ xs. take i now ++ xs) (sym (stated-cons c f cs fs))
       ∙ ap (λ xs. take i now ++ with_outputs xs (all_outs xs (f ∷ fs))) (sym now_is)
       ∙ ap (λ xs. take i now ++ with_outputs (drop i now) (all_outs (drop i now) xs)) (sym files_are) ∙ h.stated in
-      let was_told : or_later cause (or_later (console_difference n c f) (difference_of ns cs fs)) ≡ difference_of names old files =
+      let was_told : or_later cause (or_later (console_difference n c f) (difference_of ns cs fs))
+      ≡ difference_of names old files =
       ap (or_later cause) (sym (difference-cons n c f ns cs fs))
       ∙ ap (λ xs. or_later cause (difference_of (n ∷ ns) xs (f ∷ fs))) (sym now_is)
       ∙ ap (λ xs. or_later cause (difference_of (n ∷ ns) (drop i now) xs)) (sym files_are)
@@ -172,8 +177,8 @@ one-stated console files kind kinds outs new out is put =
     ∙ ap (all_with kinds (per_kind (kind_stated console files))) (sym put)
 
 -- the digest of one kind more is compared
-pub one-compared : (differs : OutKind → Option Cause) (kind : OutKind) (kinds : List OutKind) (found told new : Option Cause)
-    → told ≡ differs kind → new ≡ or_later found told
+pub one-compared : (differs : OutKind → Option Cause) (kind : OutKind) (kinds : List OutKind)
+    (found told new : Option Cause) → told ≡ differs kind → new ≡ or_later found told
     → or_later found (first_differs differs (kind ∷ kinds)) ≡ or_later new (first_differs differs kinds)
 one-compared differs kind kinds found told new is later =
     ap (λ one. or_later found (or_later one (first_differs differs kinds))) (sym is)

@@ -29,11 +29,15 @@ use Rattle.link_order.specs.Cut.{Cut}
 
 growing-own : (out : List ℕ) (player : ℕ) (asks : PerKind Bool) (m : Machine) (kind : OutKind) → player < 10
     → grows kind ≡ true
-    → added (output_file out player kind) (console_pieces growing_kinds (names_of out player) asks m) ≡ bytes_if asks m kind
+    → added (output_file out player kind) (console_pieces growing_kinds (names_of out player) asks m)
+    ≡ bytes_if asks m kind
 unfolding is_one_of
-growing-own out player asks m Frames few grow = kinds-once out player asks m Frames few [] (Samples ∷ Words ∷ []) refl refl
-growing-own out player asks m Samples few grow = kinds-once out player asks m Samples few (Frames ∷ []) (Words ∷ []) refl refl
-growing-own out player asks m Words few grow = kinds-once out player asks m Words few (Frames ∷ Samples ∷ []) [] refl refl
+growing-own out player asks m Frames few grow =
+    kinds-once out player asks m Frames few [] (Samples ∷ Words ∷ []) refl refl
+growing-own out player asks m Samples few grow =
+    kinds-once out player asks m Samples few (Frames ∷ []) (Words ∷ []) refl refl
+growing-own out player asks m Words few grow =
+    kinds-once out player asks m Words few (Frames ∷ Samples ∷ []) [] refl refl
 growing-own out player asks m State few grow = absurd cc
 growing-own out player asks m Save few grow = absurd cc
 
@@ -49,7 +53,8 @@ growing-none out player asks m Save few last = kinds-none out player asks m Save
 
 lasting-own : (out : List ℕ) (player : ℕ) (asks : PerKind Bool) (m : Machine) (kind : OutKind) → player < 10
     → grows kind ≡ false
-    → added (output_file out player kind) (console_pieces lasting_kinds (names_of out player) asks m) ≡ bytes_if asks m kind
+    → added (output_file out player kind) (console_pieces lasting_kinds (names_of out player) asks m)
+    ≡ bytes_if asks m kind
 unfolding is_one_of
 lasting-own out player asks m Frames few last = absurd cc
 lasting-own out player asks m Samples few last = absurd cc
@@ -98,7 +103,8 @@ no-pieces : (name : List ℕ) → added name [] ≡ []
 unfolding added
 no-pieces name = refl
 
-no-segments : (name : List ℕ) (names : List (PerKind (List ℕ))) (s : Consoles) → added name (segment_pieces zero names s) ≡ []
+no-segments : (name : List ℕ) (names : List (PerKind (List ℕ))) (s : Consoles)
+    → added name (segment_pieces zero names s) ≡ []
 unfolding segment_pieces
 no-segments name names s = no-pieces name
 
@@ -122,7 +128,8 @@ module _ (law : LiveSegments) (out : List ℕ) (count k : ℕ) (kind : OutKind) 
       ∙ append-nil (bytes_in (run_until s.to s.start))
       ∙ ap (λ (n : ℕ). bytes_in (run_until n s.start)) end
   segments-add (suc most) i s can within come many all long asked =
-      by (is_over s) refl (segments-add most (i + 1) (record s { from = s.to; to = later_end s.until s.to }) can (omega arith)) where
+      by (is_over s) refl
+      (segments-add most (i + 1) (record s { from = s.to; to = later_end s.until s.to }) can (omega arith)) where
         next : Consoles
         next = record s { from = s.to; to = later_end s.until s.to }
 
@@ -130,7 +137,8 @@ module _ (law : LiveSegments) (out : List ℕ) (count k : ℕ) (kind : OutKind) 
             → (min s.until ((i + 1) * segment_cycles) ≤ later_end s.until s.to → later_segments s < i + 1 + most
             → count ≤ length s.asks → length s.start.consoles ≡ length s.asks → at_kind (get_or s.asks k a) kind ≡ true
             → bytes_in (run_until (later_end s.until s.to) s.start)
-            ++ added name (segment_pieces most (names_from out 0 count) (record s { from = s.to; to = later_end s.until s.to }))
+            ++ added name
+            (segment_pieces most (names_from out 0 count) (record s { from = s.to; to = later_end s.until s.to }))
             ≡ bytes_in (whole_cut s))
             → bytes_in (run_until s.to s.start) ++ added name (segment_pieces (suc most) (names_from out 0 count) s)
             ≡ bytes_in (whole_cut s)
@@ -155,15 +163,18 @@ module _ (law : LiveSegments) (out : List ℕ) (count k : ℕ) (kind : OutKind) 
             ++ segment_pieces most names x) adv in
             let consoles : length (segment_cut t).consoles ≡ length s.asks = segment-many t ∙ long in
             let piece : added name here ≡ bytes_in (segment_cut t) =
-            cut-own out kind growing_kinds 0 count k k s.asks (segment_cut t).consoles a m (omega arith) player (omega (arith, few))
-            (omega (arith, player, all)) (omega (arith, player, all, consoles))
-            ∙ growing-own out k (get_or s.asks k a) (get_or (segment_cut t).consoles k m) kind (omega (arith, player, few)) grow
+            cut-own out kind growing_kinds 0 count k k s.asks (segment_cut t).consoles a m (omega arith) player
+            (omega (arith, few)) (omega (arith, player, all)) (omega (arith, player, all, consoles))
+            ∙ growing-own out k (get_or s.asks k a) (get_or (segment_cut t).consoles k m) kind
+            (omega (arith, player, few)) grow
             ∙ ap (λ (b : Bool). if b then output_bytes kind (get_or (segment_cut t).consoles k m) else []) asked in
-            let joined : bytes_in (run_until t.to s.start) ≡ bytes_in (run_until s.to s.start) ++ bytes_in (segment_cut t) =
+            let joined : bytes_in (run_until t.to s.start)
+            ≡ bytes_in (run_until s.to s.start) ++ bytes_in (segment_cut t) =
             ap bytes_in (whole-joined law t can (omega (arith, before)))
-            ∙ ap (output_bytes kind) (joined-get (run_until s.to s.start) (segment_cut t) k m m (omega (arith, player, all, consoles))
-            (omega (arith, player, all, until-many s.to s.start, long)))
-            ∙ behind-bytes kind grow (get_or (run_until s.to s.start).consoles k m) (get_or (segment_cut t).consoles k m) in
+            ∙ ap (output_bytes kind) (joined-get (run_until s.to s.start) (segment_cut t) k m m
+            (omega (arith, player, all, consoles)) (omega (arith, player, all, until-many s.to s.start, long)))
+            ∙ behind-bytes kind grow (get_or (run_until s.to s.start).consoles k m)
+            (get_or (segment_cut t).consoles k m) in
             ap (λ (pieces : List Output). bytes_in (run_until s.to s.start) ++ added name pieces) split
             ∙ ap (λ (bytes : List ℕ). bytes_in (run_until s.to s.start) ++ bytes) (added-append name here later)
             ∙ ap (λ (bytes : List ℕ). bytes_in (run_until s.to s.start) ++ (bytes ++ added name later)) piece
@@ -195,18 +206,19 @@ segments-other : (name out : List ℕ) (count : ℕ)
     → (most : ℕ) (s : Consoles) → added name (segment_pieces most (names_from out 0 count) s) ≡ []
 unfolding segment_pieces
 segments-other name out count none zero s = no-pieces name
-segments-other name out count none (suc most) s = by (is_over s) refl (segments-other name out count none most (advanced s)) where
-  by : (t : Bool) → is_over s ≡ t → added name (segment_pieces most (names_from out 0 count) (advanced s)) ≡ []
-      → added name (segment_pieces (suc most) (names_from out 0 count) s) ≡ []
-  by true over rest =
-      ap (added name) (over-none (suc most) (names_from out 0 count) s over) ∙ no-pieces name
-  by false left rest =
-      let here = cut_pieces growing_kinds (names_from out 0 count) s.asks (segment_cut (advanced s)).consoles in
-      ap (added name) (next-segment most (names_from out 0 count) s left)
-      ∙ added-append name here (segment_pieces most (names_from out 0 count) (advanced s))
-      ∙ ap (λ (bytes : List ℕ). bytes ++ added name (segment_pieces most (names_from out 0 count) (advanced s)))
-      (cut-none name out growing_kinds count none 0 count s.asks (segment_cut (advanced s)).consoles (omega arith))
-      ∙ rest
+segments-other name out count none (suc most) s =
+    by (is_over s) refl (segments-other name out count none most (advanced s)) where
+      by : (t : Bool) → is_over s ≡ t → added name (segment_pieces most (names_from out 0 count) (advanced s)) ≡ []
+          → added name (segment_pieces (suc most) (names_from out 0 count) s) ≡ []
+      by true over rest =
+          ap (added name) (over-none (suc most) (names_from out 0 count) s over) ∙ no-pieces name
+      by false left rest =
+          let here = cut_pieces growing_kinds (names_from out 0 count) s.asks (segment_cut (advanced s)).consoles in
+          ap (added name) (next-segment most (names_from out 0 count) s left)
+          ∙ added-append name here (segment_pieces most (names_from out 0 count) (advanced s))
+          ∙ ap (λ (bytes : List ℕ). bytes ++ added name (segment_pieces most (names_from out 0 count) (advanced s)))
+          (cut-none name out growing_kinds count none 0 count s.asks (segment_cut (advanced s)).consoles (omega arith))
+          ∙ rest
 
 -- ---- the pieces of a whole run
 
@@ -238,9 +250,10 @@ module _ (law : LiveSegments) (out : List ℕ) (s : Consoles) (count : ℕ) (few
         ∙ segments-add law out count k kind grow few player a m most 0 s can within (omega arith) (omega arith)
         (omega (arith, all)) long asked in
         let rest : added name last ≡ [] =
-        cut-own out kind lasting_kinds 0 count k k s.asks (whole_cut s).consoles a m (omega arith) player (omega (arith, few))
-        (omega (arith, player, all)) (omega (arith, player, all, whole-long))
-        ∙ lasting-none out k (get_or s.asks k a) (get_or (whole_cut s).consoles k m) kind (omega (arith, player, few)) grow in
+        cut-own out kind lasting_kinds 0 count k k s.asks (whole_cut s).consoles a m (omega arith) player
+        (omega (arith, few)) (omega (arith, player, all)) (omega (arith, player, all, whole-long))
+        ∙ lasting-none out k (get_or s.asks k a) (get_or (whole_cut s).consoles k m) kind
+        (omega (arith, player, few)) grow in
         added-append name (segment_pieces most names s) last
         ∙ ap (λ (bytes : List ℕ). bytes ++ added name last) grown
         ∙ ap (λ (bytes : List ℕ). at_end ++ bytes) rest ∙ append-nil at_end
@@ -253,9 +266,10 @@ module _ (law : LiveSegments) (out : List ℕ) (s : Consoles) (count : ℕ) (few
         let none : added name (segment_pieces most names s) ≡ [] =
         segments-other name out count (λ j asks x within. console-none j asks x within) most s in
         let rest : added name last ≡ at_end =
-        cut-own out kind lasting_kinds 0 count k k s.asks (whole_cut s).consoles a m (omega arith) player (omega (arith, few))
-        (omega (arith, player, all)) (omega (arith, player, all, whole-long))
-        ∙ lasting-own out k (get_or s.asks k a) (get_or (whole_cut s).consoles k m) kind (omega (arith, player, few)) last_kind
+        cut-own out kind lasting_kinds 0 count k k s.asks (whole_cut s).consoles a m (omega arith) player
+        (omega (arith, few)) (omega (arith, player, all)) (omega (arith, player, all, whole-long))
+        ∙ lasting-own out k (get_or s.asks k a) (get_or (whole_cut s).consoles k m) kind (omega (arith, player, few))
+        last_kind
         ∙ ap (λ (b : Bool). if b then at_end else []) asked in
         added-append name (segment_pieces most names s) last
         ∙ ap (λ (bytes : List ℕ). bytes ++ added name last) none ∙ rest where
@@ -266,11 +280,13 @@ module _ (law : LiveSegments) (out : List ℕ) (s : Consoles) (count : ℕ) (few
                 → added (output_file out k kind) (console_pieces growing_kinds (names_of out j) asks x) ≡ []
             by true same =
                 let here : k ≡ j = grind (arith, nat_tests, same) in
-                subst (λ (n : ℕ). added (output_file out n kind) (console_pieces growing_kinds (names_of out j) asks x) ≡ []) (sym here)
+                subst (λ (n : ℕ). added (output_file out n kind) (console_pieces growing_kinds (names_of out j) asks x)
+                ≡ []) (sym here)
                 (growing-none out j asks x kind (omega (arith, within, few)) last_kind)
             by false apart =
                 console-other out (output_file out k kind) j asks x growing_kinds (λ one same.
-                let told = (name-told out j k one kind (omega (arith, within, few)) (omega (arith, player, few)) same).0 in
+                let told =
+                (name-told out j k one kind (omega (arith, within, few)) (omega (arith, player, few)) same).0 in
                 let differ : j ≡ k → ⊥ = λ is. grind (arith, nat_tests, apart, is) in absurd (differ told))
 
     pub output-added : added (output_file out k kind) (run_pieces names s) ≡ at_end
@@ -280,7 +296,8 @@ module _ (law : LiveSegments) (out : List ℕ) (s : Consoles) (count : ℕ) (few
       by false last = lasting-added last
 
   -- none is of a file that is no output
-  pub other-added-none : (name : List ℕ) → ((player : ℕ) (kind : OutKind) → player < 10 → output_file out player kind ≢ name)
+  pub other-added-none : (name : List ℕ)
+      → ((player : ℕ) (kind : OutKind) → player < 10 → output_file out player kind ≢ name)
       → added name (run_pieces names s) ≡ []
   other-added-none name other =
       let most = suc (later_segments s) in

@@ -1,5 +1,5 @@
--- The calls of a whole run: all files are made empty, the first ones added, those that grow, those that are made at the end,
--- and the last file.
+-- The calls of a whole run: all files are made empty, the first ones added, those that grow, those that are made at the
+-- end, and the last file.
 use Rattle.std.proofs.Common.{◌≡◌, List, [], ◌∷◌, ◌++◌, ◌∙◌, ap, sym, subst, append_assoc, map}
 use Rattle.std.proofs.lemmas.List.{map-append}
 use Rattle.gba_command.proofs.Calls.{files-stopped, files-then, performs-one, performs-stopped, performs-then}
@@ -37,11 +37,12 @@ module _ (Tells : Type 0) (made first grown last : List Output) (old : SinkState
       first-added new end h = all-created new end (files-then Tells addition first (grown ++ last) a b new end added h)
 
       pub stopped-growing : (new : SinkState) (end : WriteEnd) → Adds grown b new end → IsStopped end → Ends new end
-      stopped-growing new end h stopped = first-added new end (files-stopped Tells addition grown last b new end h stopped)
+      stopped-growing new end h stopped =
+          first-added new end (files-stopped Tells addition grown last b new end h stopped)
 
       -- whether or not those that are made at the end were added
-      pub grown-added : (c : SinkState) → Adds grown b c Wrote → (new : SinkState) (end : WriteEnd) → Adds last c new end
-          → Ends new end
+      pub grown-added : (c : SinkState) → Adds grown b c Wrote → (new : SinkState) (end : WriteEnd)
+          → Adds last c new end → Ends new end
       grown-added c grew new end h = first-added new end (files-then Tells addition grown last b c new end grew h)
 
 -- ---- and then the last file
@@ -69,4 +70,5 @@ module _ (Tells : Type 0) (made pieces : List Output) (entry : Output) (old : Si
       → Performs Tells (addition entry) mid new end → PerformsAll Tells whole old new end
   last-added mid done new end h =
       subst (λ (calls : List Call). PerformsAll Tells calls old new end) one-more
-      (performs-then Tells before (addition entry ∷ []) old mid new end done (performs-one Tells (addition entry) mid new end h))
+      (performs-then Tells before (addition entry ∷ []) old mid new end done
+      (performs-one Tells (addition entry) mid new end h))

@@ -57,13 +57,14 @@ pub record HasFile (out : List ℕ) (cut : Cut Machine) (outputs : List Output) 
   pub of_player : slice_get cut.consoles place.player ≡ Some console
   pub made : IsMade place.kind console bytes
 
--- A run of a job under OUT, with the consoles as this cut has them at its end. Every output that the job asks for is one of
--- its files. Each of its files is one of these or the log, and there are as many as outputs asked for, and the log. A
--- summary has a line for each console, in the order of the players, and then the log's.
+-- A run of a job under OUT, with the consoles as this cut has them at its end. Every output that the job asks for is
+-- one of its files. Each of its files is one of these or the log, and there are as many as outputs asked for, and the
+-- log. A summary has a line for each console, in the order of the players, and then the log's.
 pub record KeepsAsked (out : List ℕ) (job : WholeJob) (cut : Cut Machine) (run : Run) : Type 0 where
   pub log : List ℕ
   pub asked : (place : Place) → is_asked job place ≡ true → HasFile out cut run.outputs place
-  pub only : All (λ output. IsAskedFile out job cut output ⊎ (output ≡ record { name = log_file out; bytes = log })) run.outputs
+  pub only : All (λ output. IsAskedFile out job cut output ⊎ (output ≡ record { name = log_file out; bytes = log }))
+      run.outputs
   pub log_there : Contains run.outputs (record { name = log_file out; bytes = log })
   pub many : length run.outputs ≡ asked_count job + 1
   pub players : length cut.consoles ≡ length job.consoles

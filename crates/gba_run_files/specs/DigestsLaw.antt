@@ -51,7 +51,8 @@ pub record HasDigest (outputs : List Output) (name digest : List ℕ) : Type 0 w
 -- every digest that the job states is that of its output's bytes
 abbrev pub AllAgree : List ℕ → WholeJob → Run → Type 0
 AllAgree out job run =
-    (place : Place) (digest : List ℕ) → stated_at job place ≡ Some digest → HasDigest run.outputs (file_at out place) digest
+    (place : Place) (digest : List ℕ) → stated_at job place ≡ Some digest
+    → HasDigest run.outputs (file_at out place) digest
 
 -- The first output of which the job states another digest than that of its bytes: its name, the stated digest, and the
 -- digest of its bytes.
@@ -64,8 +65,8 @@ pub record IsFirstDifference (out : List ℕ) (job : WholeJob) (run : Run) (name
   pub earlier : (other : Place) (digest : List ℕ) → IsBefore other place → stated_at job other ≡ Some digest
       → HasDigest run.outputs (file_at out other) digest
 
--- A run of a job under OUT ends with its summary where each digest that the job states of an output is that of its bytes,
--- and else is refused for the first one that isn't.
+-- A run of a job under OUT ends with its summary where each digest that the job states of an output is that of its
+-- bytes, and else is refused for the first one that isn't.
 abbrev pub Compares : List ℕ → WholeJob → Run → Result (List ℕ) Cause → Type 0
 Compares out job run (Ok summary) = AllAgree out job run
 Compares out job run (Err (Digest name stated got)) = IsFirstDifference out job run name stated got

@@ -1,5 +1,5 @@
--- What a run writes that is frozen at a clock: what its consoles made of frames, samples and words up to there, and then their
--- frozen file.
+-- What a run writes that is frozen at a clock: what its consoles made of frames, samples and words up to there, and
+-- then their frozen file.
 use Rattle.std.specs.Prelude.{ℕ, List, [], ◌∷◌, ◌++◌, map, codes, Option, Some, None, Ok}
 use Rattle.sha2.specs.Sha256.{sha256}
 use Rattle.gba_command.specs.Writing.{Run}
@@ -56,8 +56,8 @@ frozen_name out = out ++ codes ".frozen"
 abbrev pub freeze_names : List ℕ → ℕ → RunNames
 freeze_names out count = record { consoles = names_from out 0 count; log = frozen_name out }
 
--- What the run of a job's consoles writes that is frozen at its end, for the job of a digest. The frozen file stands where the
--- log stands else; the summary has the lines of the consoles alone.
+-- What the run of a job's consoles writes that is frozen at its end, for the job of a digest. The frozen file stands
+-- where the log stands else; the summary has the lines of the consoles alone.
 abbrev pub frozen_run : RunNames → WholeJob → List ℕ → Consoles → Run
 frozen_run names job digest s = record {
   outputs = outputs_of names.consoles job.consoles (files_at job (whole_cut s))

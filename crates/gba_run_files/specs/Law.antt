@@ -24,7 +24,8 @@ digests_room = 1440
 -- With the digests of its outputs stated a log has at most so many bytes more.
 abbrev pub LogsHaveRoom : Type 0
 LogsHaveRoom =
-    (job : WholeJob) (files : List (PerKind (List ℕ))) → IsJob job → length (log_of job files) ≤ length (log_text job) + digests_room
+    (job : WholeJob) (files : List (PerKind (List ℕ))) → IsJob job
+    → length (log_of job files) ≤ length (log_text job) + digests_room
 
 -- an output as it is written under OUT: its name begins with it
 abbrev pub under : List ℕ → Output → Output
@@ -33,12 +34,12 @@ under out output = record output { name = out ++ output.name }
 -- The files of a run of at most four consoles have different names, and none is standard output.
 abbrev pub OutputsDiffer : Type 0
 OutputsDiffer =
-    (out : List ℕ) (count : ℕ) (job : WholeJob) (files : List (PerKind (List ℕ))) (lines : List ℕ) (pieces : List Output)
-    → count ≤ 4 → NamesDiffer (written (run_names out count) job files lines pieces).outputs
+    (out : List ℕ) (count : ℕ) (job : WholeJob) (files : List (PerKind (List ℕ))) (lines : List ℕ)
+    (pieces : List Output) → count ≤ 4 → NamesDiffer (written (run_names out count) job files lines pieces).outputs
     × (is_among standard_output (written (run_names out count) job files lines pieces).outputs ≡ false)
 
--- Of the run of a job with these images each piece is one of a file, the pieces of a file, one after another, are its bytes,
--- and standard output is none of its files.
+-- Of the run of a job with these images each piece is one of a file, the pieces of a file, one after another, are its
+-- bytes, and standard output is none of its files.
 abbrev pub RunsHaveOwnFiles : Type 0
 RunsHaveOwnFiles =
     (out : List ℕ) (job : WholeJob) (images : List ConsoleImages) → IsJob job → length images ≡ length job.consoles
@@ -47,13 +48,14 @@ RunsHaveOwnFiles =
 -- The same of the run of a job that is frozen at its end.
 abbrev pub FrozenRunsHaveOwnFiles : Type 0
 FrozenRunsHaveOwnFiles =
-    (out digest : List ℕ) (job : WholeJob) (images : List ConsoleImages) → IsJob job → length images ≡ length job.consoles
+    (out digest : List ℕ) (job : WholeJob) (images : List ConsoleImages) → IsJob job
+    → length images ≡ length job.consoles
     → HasOwnFiles (frozen_run (freeze_names out (length job.consoles)) job digest (prepared job images))
 
--- The same of one that goes on from a sound cut of a job's consoles, whose lists are empty, and of whose signals each can still be
--- taken.
+-- The same of one that goes on from a sound cut of a job's consoles, whose lists are empty, and of whose signals each
+-- can still be taken.
 abbrev pub ResumedRunsHaveOwnFiles : Type 0
 ResumedRunsHaveOwnFiles =
-    (out : List ℕ) (job : WholeJob) (start : Cut Machine) → IsJob job → length start.consoles ≡ length job.consoles → CanRun start
-    → AllLive console_kind start → map forgotten start.consoles ≡ start.consoles
+    (out : List ℕ) (job : WholeJob) (start : Cut Machine) → IsJob job → length start.consoles ≡ length job.consoles
+    → CanRun start → AllLive console_kind start → map forgotten start.consoles ≡ start.consoles
     → HasOwnFiles (resumed_run (names_from out 0 (length job.consoles)) job (resumed job start))

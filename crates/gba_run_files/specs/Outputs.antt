@@ -11,8 +11,8 @@ use Rattle.gba_joblog.specs.declared.job.OutLine.{OutLine}
 use Rattle.gba_joblog.specs.declared.outputs.OutKind.{OutKind}
 use Rattle.gba_joblog.specs.declared.outputs.PerKind.{PerKind}
 
--- The outputs of a run: for each console, in the order of their numbers, those that it is asked for, in the order of the
--- kinds. A console's names and files are given for each kind.
+-- The outputs of a run: for each console, in the order of their numbers, those that it is asked for, in the order of
+-- the kinds. A console's names and files are given for each kind.
 
 -- one output that may be asked for: the file of its name with its bytes
 abbrev pub output_if : Bool → List ℕ → List ℕ → List Output
@@ -63,7 +63,8 @@ output_differs name None bytes = None
 output_differs name (Some asked) bytes = digest_differs name asked.digest (sha256 bytes)
 
 abbrev pub kind_differs : PerKind (List ℕ) → ConsoleJob → PerKind (List ℕ) → OutKind → Option Cause
-kind_differs names console files kind = output_differs (at_kind names kind) (output_of console kind) (at_kind files kind)
+kind_differs names console files kind =
+    output_differs (at_kind names kind) (output_of console kind) (at_kind files kind)
 
 -- the first of two differences, and of those of a list
 abbrev pub or_later : Option Cause → Option Cause → Option Cause

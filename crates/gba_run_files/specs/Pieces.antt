@@ -10,8 +10,8 @@ use Rattle.gba_session.specs.Files.{output_bytes}
 use Rattle.gba_session.specs.Session.{Consoles, advanced, is_over, segment_cut, segment_cycles, whole_cut}
 
 -- The pieces that a run adds to its files, in their order: after each segment, for each console in the order of their
--- numbers, what it made of frames, samples and words; after the last one the state and the save of each; then the log. What
--- isn't asked for, or is empty, is no piece.
+-- numbers, what it made of frames, samples and words; after the last one the state and the save of each; then the log.
+-- What isn't asked for, or is empty, is no piece.
 
 -- the kinds of which every segment makes more, and those that are made at the end, each in the order of all kinds
 abbrev pub growing_kinds : List OutKind

@@ -1,6 +1,6 @@
--- What a run writes that goes on from a frozen file: what its consoles make from there on of frames, samples and words, and their state
--- and save. It has no log, and no stated digest of an output is compared, since these are of the whole run; the summary has the
--- lines of the consoles alone.
+-- What a run writes that goes on from a frozen file: what its consoles make from there on of frames, samples and words,
+-- and their state and save. It has no log, and no stated digest of an output is compared, since these are of the whole
+-- run; the summary has the lines of the consoles alone.
 use Rattle.std.specs.Prelude.{ℕ, List, Ok}
 use Rattle.gba_command.specs.Writing.{Run}
 use Rattle.gba_joblog.specs.Job.{WholeJob}

@@ -17,9 +17,9 @@ use Rattle.gba_session.specs.Files.{all_files, asks_of}
 use Rattle.gba_session.specs.Session.{Consoles, whole_cut}
 use Rattle.link_order.specs.Cut.{Cut}
 
--- What a run writes: its outputs, and its log, which is the job with the digests of the inputs and of the outputs stated
--- and its key changes written in. Then comes the summary, of which the last line has the log's digest; or the refusal, where
--- a digest that is stated of an output isn't its digest.
+-- What a run writes: its outputs, and its log, which is the job with the digests of the inputs and of the outputs
+-- stated and its key changes written in. Then comes the summary, of which the last line has the log's digest; or the
+-- refusal, where a digest that is stated of an output isn't its digest.
 
 -- the job with the digests of its outputs stated; those of its inputs are stated already
 abbrev pub logged : WholeJob → List (PerKind (List ℕ)) → WholeJob

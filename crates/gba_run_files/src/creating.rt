@@ -62,7 +62,8 @@ fn create_outputs<O: Sink>(
 /// Makes the last file of a run empty, where there is one.
 fn create_last<O: Sink>(out: &mut O, name: Option<&str>) -> Result<(), WriteStop>
     requires { IfSome name (λ name. length name.now ≤ 200) }
-    ensures { (bytes : List ℕ) → PerformsAll O.Tells (map creation (last_output (option_map (λ name. name.now) name.entry) bytes))
+    ensures { (bytes : List ℕ)
+        → PerformsAll O.Tells (map creation (last_output (option_map (λ name. name.now) name.entry) bytes))
         (O.state out.old) (O.state out.new) (write_end result) }
 {
     match name {
@@ -71,7 +72,8 @@ fn create_last<O: Sink>(out: &mut O, name: Option<&str>) -> Result<(), WriteStop
     }
 }
 
-/// Makes all files of a run empty: those that come before its own, those of its outputs, and the last one, where there is one.
+/// Makes all files of a run empty: those that come before its own, those of its outputs, and the last one, where
+/// there is one.
 pub(crate) fn create_all<O: Sink>(
     out: &mut O,
     first: &[OutputFile],

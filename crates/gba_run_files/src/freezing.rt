@@ -19,8 +19,8 @@ use std::alloc::Global;
 use std::marker::Model;
 use std::thread::Threads;
 
-/// A run that is ready and that is frozen at its end: all memory that it needs is taken, and nothing is written. Contracts see the run
-/// that it comes to.
+/// A run that is ready and that is frozen at its end: all memory that it needs is taken, and nothing is written.
+/// Contracts see the run that it comes to.
 #[derive(Drop)]
 pub struct PreparedFreeze {
     names: Vec<Names>,
@@ -62,8 +62,8 @@ impl PreparedFreeze {
     ghost use Rattle.gba_session.specs.Start.{FitJob};
     ghost use Rattle.gba_run_files.specs.Frozen.{freeze_names, frozen_run};
 
-    /// Takes the memory of the run of a job under OUT with these images, those of each console for its backup, which is frozen at the job's
-    /// end, for the job of this digest.
+    /// Takes the memory of the run of a job under OUT with these images, those of each console for its backup, which is
+    /// frozen at the job's end, for the job of this digest.
     pub fn new(
         alloc: Global,
         out: &str,
@@ -74,7 +74,8 @@ impl PreparedFreeze {
         requires out { length out.now ≤ 180 }
         requires sound { IsJob (job_value job) }
         requires images { FitJob (job_value job) images.items }
-        ensures { IfOk result (λ run. run ≡ frozen_run (freeze_names out.now (length (job_value job).consoles)) (job_value job)
+        ensures { IfOk result
+            (λ run. run ≡ frozen_run (freeze_names out.now (length (job_value job).consoles)) (job_value job)
             digest (prepared (job_value job) images.items)) }
     {
         let names = all_names(alloc, out, job.consoles.len())?;
@@ -91,8 +92,8 @@ impl PreparedFreeze {
         })
     }
 
-    /// Runs the consoles, writes the files, and answers the summary. The first segment is run before a file is made empty; the
-    /// pieces of a segment are added before the next one is run, and the frozen file at the end.
+    /// Runs the consoles, writes the files, and answers the summary. The first segment is run before a file is made
+    /// empty; the pieces of a segment are added before the next one is run, and the frozen file at the end.
     fn write_files<R: Threads + Sync, O: Sink, G: Gate + Sync>(
         self,
         rt: &R,
@@ -126,8 +127,8 @@ impl PreparedFreeze {
         Ok(Ok(session.summary()))
     }
 
-    /// Runs the consoles and writes the run, and answers the exit status. Several consoles step side by side on threads,
-    /// where their steps enter the gate.
+    /// Runs the consoles and writes the run, and answers the exit status. Several consoles step side by side on
+    /// threads, where their steps enter the gate.
     pub fn write<R: Threads + Sync, O: Sink, G: Gate + Sync>(
         self,
         rt: &R,

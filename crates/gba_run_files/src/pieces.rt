@@ -91,7 +91,8 @@ fn append_pieces<O: Sink>(
     requires asks { session.now.asks ≡ map asks_of (map console_value consoles.now) }
     requires over { All (λ kind. grows kind ≡ false → is_over session.now ≡ true) kinds.now }
     ensures { PerformsAll O.Tells
-        (map addition (cut_pieces kinds.now (map names_value names.now) session.now.asks (segment_cut session.now).consoles))
+        (map addition
+        (cut_pieces kinds.now (map names_value names.now) session.now.asks (segment_cut session.now).consoles))
         (O.state out.old) (O.state out.new) (write_end result) }
 {
     for player in 0..session.players() {

@@ -80,7 +80,8 @@ fn end_log(
     conclude(cause, summary)
 }
 
-/// A run that is ready: all memory that it needs is taken, and nothing is written. Contracts see the run that it comes to.
+/// A run that is ready: all memory that it needs is taken, and nothing is written. Contracts see the run that
+/// it comes to.
 #[derive(Drop)]
 pub struct PreparedRun {
     first: Vec<OutputFile>,
@@ -127,8 +128,8 @@ impl PreparedRun {
     ghost use Rattle.gba_run_files.specs.Names.{run_names};
     ghost use Rattle.gba_run_files.specs.Written.{after_files, run_of};
 
-    /// Takes the memory of the run of a job under OUT with these images, those of each console for its backup, which writes these files
-    /// before its own. The job is as its log says it, but for the digests of its outputs.
+    /// Takes the memory of the run of a job under OUT with these images, those of each console for its backup, which
+    /// writes these files before its own. The job is as its log says it, but for the digests of its outputs.
     pub fn new(
         alloc: Global,
         out: &str,
@@ -157,8 +158,8 @@ impl PreparedRun {
         })
     }
 
-    /// Runs the consoles and writes the files, and answers how the run ends. The first segment is run before a file is made
-    /// empty; the pieces of a segment are added before the next one is run.
+    /// Runs the consoles and writes the files, and answers how the run ends. The first segment is run before a file is
+    /// made empty; the pieces of a segment are added before the next one is run.
     fn write_files<R: Threads + Sync, O: Sink, G: Gate + Sync>(
         self,
         rt: &R,
@@ -191,8 +192,8 @@ impl PreparedRun {
         Ok(end)
     }
 
-    /// Runs the consoles and writes the run, and answers the exit status. Several consoles step side by side on threads,
-    /// where their steps enter the gate.
+    /// Runs the consoles and writes the run, and answers the exit status. Several consoles step side by side on
+    /// threads, where their steps enter the gate.
     pub fn write<R: Threads + Sync, O: Sink, G: Gate + Sync>(
         self,
         rt: &R,

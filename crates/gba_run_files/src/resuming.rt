@@ -19,8 +19,8 @@ use std::alloc::Global;
 use std::marker::Model;
 use std::thread::Threads;
 
-/// A run that goes on from a cut and that is ready: all memory that it needs is taken, and nothing is written. Contracts see the run
-/// that it comes to.
+/// A run that goes on from a cut and that is ready: all memory that it needs is taken, and nothing is written.
+/// Contracts see the run that it comes to.
 #[derive(Drop)]
 pub struct PreparedResume {
     names: Vec<Names>,
@@ -70,7 +70,8 @@ impl PreparedResume {
         requires sound { IsJob (job_value job) }
         requires count { length cut.consoles ≡ length (job_value job).consoles }
         requires empty { AreEmpty cut }
-        ensures { IfOk result (λ run. run ≡ resumed_run (names_from out.now 0 (length (job_value job).consoles)) (job_value job)
+        ensures { IfOk result
+            (λ run. run ≡ resumed_run (names_from out.now 0 (length (job_value job).consoles)) (job_value job)
             (resumed (job_value job) (plain_cut without_limit cut))) }
     {
         let names = all_names(alloc, out, job.consoles.len())?;
@@ -82,8 +83,8 @@ impl PreparedResume {
         })
     }
 
-    /// Runs the consoles, writes the files, and answers the summary. The first segment is run before a file is made empty; the
-    /// pieces of a segment are added before the next one is run, and state and save at the end.
+    /// Runs the consoles, writes the files, and answers the summary. The first segment is run before a file is made
+    /// empty; the pieces of a segment are added before the next one is run, and state and save at the end.
     fn write_files<R: Threads + Sync, O: Sink, G: Gate + Sync>(
         self,
         rt: &R,
@@ -111,8 +112,8 @@ impl PreparedResume {
         Ok(Ok(session.summary()))
     }
 
-    /// Runs the consoles and writes the run, and answers the exit status. Several consoles step side by side on threads,
-    /// where their steps enter the gate.
+    /// Runs the consoles and writes the run, and answers the exit status. Several consoles step side by side on
+    /// threads, where their steps enter the gate.
     pub fn write<R: Threads + Sync, O: Sink, G: Gate + Sync>(
         self,
         rt: &R,

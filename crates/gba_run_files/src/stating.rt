@@ -73,7 +73,8 @@ fn judge(
 
 /// The first of two refusals.
 fn or_later(first: Option<Cause>, later: Option<Cause>) -> Option<Cause>
-    ensures { option_map cause_value result ≡ or_later_of (option_map cause_value first) (option_map cause_value later) }
+    ensures { option_map cause_value result
+        ≡ or_later_of (option_map cause_value first) (option_map cause_value later) }
 {
     match first {
         Some(cause) => Some(cause),

@@ -21,8 +21,9 @@ use gba_store::{Gate, Sink};
 use std::alloc::Global;
 use std::thread::Threads;
 
-/// Runs the consoles and writes all files of a run but for the bytes of its last one, which is made empty with the others where there is one. The first
-/// segment is run before a file is made empty; the pieces of a segment are added before the next one is run.
+/// Runs the consoles and writes all files of a run but for the bytes of its last one, which is made empty with the
+/// others where there is one. The first segment is run before a file is made empty; the pieces of a segment are added
+/// before the next one is run.
 pub(crate) fn write_outputs<R: Threads + Sync, O: Sink, G: Gate + Sync>(
     rt: &R,
     alloc: Global,
@@ -38,7 +39,8 @@ pub(crate) fn write_outputs<R: Threads + Sync, O: Sink, G: Gate + Sync>(
     requires ready { IsReady (job_value job.now) session }
     requires names { length names.now ≡ length (job_value job.now).consoles }
     requires short { IfSome last (λ name. length name.now ≤ 200) }
-    ensures calls { (files : List (PerKind (List ℕ))) (bytes : List ℕ) → length files ≡ length (job_value job.now).consoles
+    ensures calls { (files : List (PerKind (List ℕ))) (bytes : List ℕ)
+        → length files ≡ length (job_value job.now).consoles
         → PerformsAll O.Tells (map creation (map output_value first.now
         ++ (outputs_of (map names_value names.now) (job_value job.now).consoles files
         ++ last_output (option_map (λ name. name.now) last.entry) bytes))

@@ -135,8 +135,8 @@ fn is_key(keys: &[PictureRegisters], line: u32, key: &PictureRegisters) -> bool
     keys[line as usize] == *key
 }
 
-/// Pays the lines that are drawn where the next one is fresh and its key isn't this one, and answers how far they are paid then:
-/// where the next line is still fresh, this is its key.
+/// Pays the lines that are drawn where the next one is fresh and its key isn't this one, and answers how far they are
+/// paid then: where the next line is still fresh, this is its key.
 pub(crate) fn pay_before(
     memory: &Memory,
     keys: &[PictureRegisters],

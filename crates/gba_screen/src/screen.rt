@@ -47,9 +47,9 @@ fn put_lines(all: &mut [[u8; 480]], lines: &[[u8; 480]])
     all[..lines.len()].copy_from_slice(lines);
 }
 
-/// The memories of a console, and the lines that are drawn of the present frame. Contracts see both: a line is drawn once and
-/// stays as it was. The bytes of a line are made later, where someone looks at them or where what it was drawn of is about to
-/// change, and not at all where neither comes.
+/// The memories of a console, and the lines that are drawn of the present frame. Contracts see both: a line is drawn
+/// once and stays as it was. The bytes of a line are made later, where someone looks at them or where what it was drawn
+/// of is about to change, and not at all where neither comes.
 #[derive(Drop)]
 pub struct Screen {
     memory: Memory,
@@ -182,7 +182,8 @@ impl Screen {
         self.change(mode, address, width, value);
     }
 
-    /// Writes at an address that is no register's, as [`Memory::store`] does. The lines that are drawn stay as they are.
+    /// Writes at an address that is no register's, as [`Memory::store`] does. The lines that are drawn stay
+    /// as they are.
     #[inline]
     pub fn store(&mut self, mode: u32, address: u32, width: Width, value: u32)
         ensures { self.new ≡ screen_stored mode address width value self.old }
@@ -243,7 +244,8 @@ impl Screen {
         self.drawn = 0;
     }
 
-    /// Replaces bytes of a memory from a place on, as [`Memory::set_bytes`] does. The lines that are drawn stay as they are.
+    /// Replaces bytes of a memory from a place on, as [`Memory::set_bytes`] does. The lines that are drawn stay
+    /// as they are.
     pub fn set_bytes(&mut self, part: MemoryPart, place: usize, bytes: &[u8])
         requires { place + length bytes.now ≤ part_length part self.old.memory }
         ensures { self.new ≡ screen_with_part part place bytes.now self.old }
@@ -258,7 +260,8 @@ impl Screen {
         self.memory.set_bytes(part, place, bytes);
     }
 
-    /// Makes every byte of the memories that are written 0, as [`Memory::clear`] does. The lines that are drawn stay as they are.
+    /// Makes every byte of the memories that are written 0, as [`Memory::clear`] does. The lines that are drawn stay
+    /// as they are.
     pub fn clear(&mut self)
         ensures { self.new ≡ screen_cleared self.old }
     {

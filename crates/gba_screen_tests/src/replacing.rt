@@ -36,8 +36,8 @@ fn draw_lines<R: Abort>(rt: &R, player: &mut Player, first: u32, end: u32) -> Re
     Ok(())
 }
 
-/// A line stays that was drawn before, and a later one is drawn of what stands there then, also in a frame whose lines have
-/// the registers that they had in the last one.
+/// A line stays that was drawn before, and a later one is drawn of what stands there then, also in a frame whose lines
+/// have the registers that they had in the last one.
 #[test]
 fn lines_stay_where_memories_are_replaced(rt: HostRuntime) -> Result<(), Fail> {
     for (first, second) in &REPLACED {

@@ -38,14 +38,16 @@ normal_begun-apart clock bound u soon =
 
 begun-apart : (clock bound : ℕ) (u : SerialUnit) → 1 ≤ u.count → bound ≤ clock + 512 → bound ≤ next_end (begun clock u)
 begun-apart clock bound u one soon =
-    either bound (is_multi (mode_of u)) _ _ (multi_begun-apart clock bound u one soon) (normal_begun-apart clock bound u soon)
+    either bound (is_multi (mode_of u)) _ _ (multi_begun-apart clock bound u one soon)
+    (normal_begun-apart clock bound u soon)
 
 control-apart : (clock bits bound : ℕ) (u : SerialUnit) → 1 ≤ u.count → bound ≤ clock + 512 → bound ≤ next_end u
     → bound ≤ next_end (with_control clock bits u)
 unfolding with_control
 control-apart clock bits bound u one soon before =
     either bound (is_running u) _ _ before
-    (either bound (begins bits u) _ _ (begun-apart clock bound (record u { control = idle_control bits u }) one soon) before)
+    (either bound (begins bits u) _ _ (begun-apart clock bound (record u { control = idle_control bits u }) one soon)
+    before)
 
 word-apart : (place bits bound : ℕ) (u : SerialUnit) → bound ≤ next_end u → bound ≤ next_end (with_word place bits u)
 word-apart place bits bound u before = before
@@ -153,9 +155,12 @@ same-mode _ _ same = cc
 
 silent-quiet : (u : SerialUnit) → has_news u ≡ false → silent u ≡ u
 silent-quiet u none =
-    let start = none-some u.start (or-first (is_some u.start) (is_some u.reply) (not (is_same (mode_of u) u.told)) none) in
-    let reply = none-some u.reply (or-second (is_some u.start) (is_some u.reply) (not (is_same (mode_of u) u.told)) none) in
-    let told = same-mode (mode_of u) u.told (or-third (is_some u.start) (is_some u.reply) (is_same (mode_of u) u.told) none) in
+    let start =
+    none-some u.start (or-first (is_some u.start) (is_some u.reply) (not (is_same (mode_of u) u.told)) none) in
+    let reply =
+    none-some u.reply (or-second (is_some u.start) (is_some u.reply) (not (is_same (mode_of u) u.told)) none) in
+    let told =
+    same-mode (mode_of u) u.told (or-third (is_some u.start) (is_some u.reply) (is_same (mode_of u) u.told) none) in
     ap (λ (mode : LinkMode). record u { start = None; reply = None; told = mode }) told
     ∙ ap (λ (one : Option Start). record u { start = one; reply = None }) start
     ∙ ap (λ (one : Option ℕ). record u { reply = one }) reply

@@ -108,11 +108,13 @@ unfolding with_control
 kept-control clock bits u running = rw running (kept-busy bits u)
 
 -- one of two, whichever a test chooses
-either : (P : SerialUnit → Type 0) (test : Bool) (one other : SerialUnit) → P one → P other → P (if test then one else other)
+either : (P : SerialUnit → Type 0) (test : Bool) (one other : SerialUnit) → P one → P other
+    → P (if test then one else other)
 either P true one other a b = a
 either P false one other a b = b
 
-put-keeps : (clock offset bits : ℕ) (u : SerialUnit) → is_running u ≡ true → KeepsTransfer u (put_at clock offset bits u)
+put-keeps : (clock offset bits : ℕ) (u : SerialUnit) → is_running u ≡ true
+    → KeepsTransfer u (put_at clock offset bits u)
 put-keeps clock offset bits u running =
     let P = KeepsTransfer u in
     either P (nat_eq offset 0x120) _ _ (kept-word 0 bits u running)

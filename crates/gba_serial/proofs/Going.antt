@@ -46,7 +46,8 @@ next run a b c one other = record {
 written-goes_on : (clock offset value : ℕ) (u : SerialUnit) (run : Running) → u.run ≡ Some run
     → GoesOn run u (written clock offset value u)
 written-goes_on clock offset value u run running =
-    let kept : KeepsTransfer u (written clock offset value u) = writes clock offset value u (ap is_some running) in record {
+    let kept : KeepsTransfer u (written clock offset value u) = writes clock offset value u (ap is_some running) in
+    record {
       now = run;
       runs = kept.run ∙ running;
       starter = refl;
@@ -71,7 +72,8 @@ known-goes_on due u run running = record {
   told = refl;
 }
 
-multi_reply-goes_on : (sender word : ℕ) (run : Running) (u : SerialUnit) → GoesOn run u (with_multi_reply sender word run u)
+multi_reply-goes_on : (sender word : ℕ) (run : Running) (u : SerialUnit)
+    → GoesOn run u (with_multi_reply sender word run u)
 multi_reply-goes_on sender word run u = record {
   now = _;
   runs = refl;
@@ -84,7 +86,8 @@ multi_reply-goes_on sender word run u = record {
   told = refl;
 }
 
-normal_reply-goes_on : (sender word : ℕ) (run : Running) (u : SerialUnit) → GoesOn run u (with_normal_reply sender word run u)
+normal_reply-goes_on : (sender word : ℕ) (run : Running) (u : SerialUnit)
+    → GoesOn run u (with_normal_reply sender word run u)
 normal_reply-goes_on sender word run u = record {
   now = _;
   runs = refl;
@@ -134,7 +137,8 @@ not_answered due start u running =
     let before = is_proper_start due start u && ends_later due start u in
     ap (λ can. before && can) (cannot_answer due u running) ∙ and-false before
 
-pub start-is : (due : Incoming) (start : Option Start) (u : SerialUnit) → is_running u ≡ true → with_start due start u ≡ u
+pub start-is : (due : Incoming) (start : Option Start) (u : SerialUnit) → is_running u ≡ true
+    → with_start due start u ≡ u
 unfolding with_start
 start-is due None u running = refl
 start-is due (Some start) u running = rw (not_answered due start u running) refl
@@ -149,9 +153,11 @@ heard-goes_on : (due : Incoming) (u : SerialUnit) (run : Running) → u.run ≡ 
     → GoesOn run u (with_start due due.signal.start (with_reply due.sender due.signal.reply (with_known due u)))
 heard-goes_on due u run running =
     let known = known-goes_on due u run running in
-    let replied = next run u _ _ known (reply-goes_on due.sender due.signal.reply (with_known due u) known.now known.runs) in
+    let replied =
+    next run u _ _ known (reply-goes_on due.sender due.signal.reply (with_known due u) known.now known.runs) in
     next run u _ _ replied
-    (start-goes_on due due.signal.start (with_reply due.sender due.signal.reply (with_known due u)) replied.now replied.runs)
+    (start-goes_on due due.signal.start (with_reply due.sender due.signal.reply (with_known due u)) replied.now
+    replied.runs)
 
 taken-goes_on : (due : Incoming) (u : SerialUnit) (run : Running) → u.run ≡ Some run → GoesOn run u (taken due u)
 unfolding taken
@@ -166,13 +172,16 @@ ended_of-before : (clock : ℕ) (run : Running) (u : SerialUnit) → clock < run
 ended_of-before clock run u before = rw (not_yet clock run.end before) refl
 
 pub ended-before : (clock : ℕ) (u : SerialUnit) (run : Running) → u.run ≡ Some run → clock < run.end → ended clock u ≡ u
-ended-before clock u run running before = ap (λ some. ended_of clock some u) running ∙ ended_of-before clock run u before
+ended-before clock u run running before =
+    ap (λ some. ended_of clock some u) running ∙ ended_of-before clock run u before
 
 ending_of-before : (clock : ℕ) (run : Running) (u : SerialUnit) → clock < run.end → ending_of clock (Some run) u ≡ None
 ending_of-before clock run u before = rw (not_yet clock run.end before) refl
 
-pub ending-before : (clock : ℕ) (u : SerialUnit) (run : Running) → u.run ≡ Some run → clock < run.end → ending clock u ≡ None
-ending-before clock u run running before = ap (λ some. ending_of clock some u) running ∙ ending_of-before clock run u before
+pub ending-before : (clock : ℕ) (u : SerialUnit) (run : Running) → u.run ≡ Some run → clock < run.end
+    → ending clock u ≡ None
+ending-before clock u run running before =
+    ap (λ some. ending_of clock some u) running ∙ ending_of-before clock run u before
 
 below : (a clock end : ℕ) → a ≤ clock → clock < end → a < end
 below a clock end one other = omega arith
@@ -184,9 +193,12 @@ fed-goes_on : (clock : ℕ) (dues : List Incoming) (u : SerialUnit) (run : Runni
     → HaveArrived clock dues → GoesOn run u (fed dues u)
 fed-goes_on clock [] u run running before arrived = same u run running
 fed-goes_on clock (due ∷ dues) u run running before arrived =
-    let here = ended-before due.arrival u run running (below due.arrival clock run.end (All-head (λ due. due.arrival ≤ clock) due dues arrived) before) in
+    let here =
+    ended-before due.arrival u run running
+    (below due.arrival clock run.end (All-head (λ due. due.arrival ≤ clock) due dues arrived) before) in
     let one = taken-goes_on due u run running in
-    let more = fed-goes_on clock dues (taken due u) one.now one.runs (still clock run one.now one.end before) (All-tail (λ due. due.arrival ≤ clock) due dues arrived) in
+    let more = fed-goes_on clock dues (taken due u) one.now one.runs (still clock run one.now one.end before)
+    (All-tail (λ due. due.arrival ≤ clock) due dues arrived) in
     let P : SerialUnit → Type 0 = λ v. GoesOn run u (fed dues (taken due v)) in
     subst P (sym here) (next run u (taken due u) (fed dues (taken due u)) one more)
 
@@ -195,7 +207,8 @@ hear-goes_on : (clock : ℕ) (dues : List Incoming) (u : SerialUnit) (run : Runn
 hear-goes_on clock dues u run running before arrived =
     let fed_on = fed-goes_on clock dues u run running before arrived in
     let P : SerialUnit → Type 0 = λ v. GoesOn run u v in
-    subst P (sym (ended-before clock (fed dues u) fed_on.now fed_on.runs (still clock run fed_on.now fed_on.end before))) fed_on
+    subst P (sym
+    (ended-before clock (fed dues u) fed_on.now fed_on.runs (still clock run fed_on.now fed_on.end before))) fed_on
 
 all_written-goes_on : (clock : ℕ) (writes : List HalfwordWrite) (u : SerialUnit) (run : Running) → u.run ≡ Some run
     → GoesOn run u (all_written clock writes u)
@@ -218,8 +231,10 @@ fed_ends-none clock [] u run running before arrived = refl
 fed_ends-none clock (due ∷ dues) u run running before arrived =
     let earlier = below due.arrival clock run.end (All-head (λ due. due.arrival ≤ clock) due dues arrived) before in
     let one = taken-goes_on due u run running in
-    let more = fed_ends-none clock dues (taken due u) one.now one.runs (still clock run one.now one.end before) (All-tail (λ due. due.arrival ≤ clock) due dues arrived) in
-    ap (λ none. option_to_list none ++ fed_ends dues (taken due (ended due.arrival u))) (ending-before due.arrival u run running earlier)
+    let more = fed_ends-none clock dues (taken due u) one.now one.runs (still clock run one.now one.end before)
+    (All-tail (λ due. due.arrival ≤ clock) due dues arrived) in
+    ap (λ none. option_to_list none ++ fed_ends dues (taken due (ended due.arrival u)))
+    (ending-before due.arrival u run running earlier)
     ∙ ap (λ v. fed_ends dues (taken due v)) (ended-before due.arrival u run running earlier)
     ∙ more
 
@@ -227,8 +242,10 @@ ends-none : (clock : ℕ) (dues : List Incoming) (u : SerialUnit) (run : Running
     → HaveArrived clock dues → ends clock dues u ≡ []
 ends-none clock dues u run running before arrived =
     let fed_on = fed-goes_on clock dues u run running before arrived in
-    ap (λ list. list ++ option_to_list (ending clock (fed dues u))) (fed_ends-none clock dues u run running before arrived)
-    ∙ ap option_to_list (ending-before clock (fed dues u) fed_on.now fed_on.runs (still clock run fed_on.now fed_on.end before))
+    ap (λ list. list ++ option_to_list (ending clock (fed dues u)))
+    (fed_ends-none clock dues u run running before arrived)
+    ∙ ap option_to_list
+    (ending-before clock (fed dues u) fed_on.now fed_on.runs (still clock run fed_on.now fed_on.end before))
 
 -- a unit with nothing posted and its mode told has nothing to tell
 no-news : (v : SerialUnit) (mode : LinkMode) → v.start ≡ None → v.reply ≡ None → mode_of v ≡ mode → v.told ≡ mode
@@ -268,7 +285,8 @@ answered-once : (was clock : ℕ) (due : Incoming) (start : Start) (u : SerialUn
     → is_answered due start u ≡ true → was < due.arrival → clock ≤ was + 512 → clock < end_of due start u
 answered-once was clock due start u answered arrived short =
     let later = and-both (is_proper_start due start u) (ends_later due start u) (can_answer due u) answered in
-    ends_after was clock due.arrival (end_of due start u) arrived short (at_most (due.arrival + 512) (end_of due start u) later)
+    ends_after was clock due.arrival (end_of due start u) arrived short
+    (at_most (due.arrival + 512) (end_of due start u) later)
 
 pub goes : TransfersGoOn
 goes = record {

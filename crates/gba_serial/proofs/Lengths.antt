@@ -13,7 +13,8 @@ either-least false one other a b = b
 pub multi_bit_cycles-least : (speed : ℕ) → 145 ≤ multi_bit_cycles speed
 multi_bit_cycles-least speed =
     either-least (nat_eq speed 0) 1747 _ (omega arith)
-    (either-least (nat_eq speed 1) 436 _ (omega arith) (either-least (nat_eq speed 2) 291 145 (omega arith) (omega arith)))
+    (either-least (nat_eq speed 1) 436 _ (omega arith)
+    (either-least (nat_eq speed 2) 291 145 (omega arith) (omega arith)))
 
 pub product-least : (count cycles : ℕ) → 145 ≤ cycles → 2610 * count ≤ 18 * count * cycles
 product-least count cycles h = grind arith
@@ -39,9 +40,11 @@ pub normal-later : (round : ℕ) (mode : LinkMode) (speed clock : ℕ) → clock
 normal-later round mode speed clock =
     above clock (word_width mode * normal_bit_cycles speed) (round + 514) 514 (omega arith)
 
-normal-apart : (round : ℕ) (mode : LinkMode) (speed clock : ℕ) → 2 ≤ round → clock + 516 ≤ normal_end round mode speed clock
+normal-apart : (round : ℕ) (mode : LinkMode) (speed clock : ℕ) → 2 ≤ round
+    → clock + 516 ≤ normal_end round mode speed clock
 normal-apart round mode speed clock two =
     above clock (word_width mode * normal_bit_cycles speed) (round + 514) 516 (omega arith)
 
 pub starts : StartsInTime
-starts = record { multi = multi-in_time; normal = normal-in_time; multi_apart = multi-apart; normal_apart = normal-apart }
+starts =
+    record { multi = multi-in_time; normal = normal-in_time; multi_apart = multi-apart; normal_apart = normal-apart }

@@ -49,7 +49,8 @@ unfolding with_control
 control-seated clock bits u =
     let idle = record u { control = idle_control bits u } in
     either u (is_running u) _ _ (record { player = refl; count = refl; round = refl })
-    (either u (begins bits u) _ _ (then-seated u idle (begun clock idle) (idle-seated bits u) (begun-seated clock idle)) (idle-seated bits u))
+    (either u (begins bits u) _ _ (then-seated u idle (begun clock idle) (idle-seated bits u) (begun-seated clock idle))
+    (idle-seated bits u))
 
 plain : (u : SerialUnit) (offset clock bits : ℕ) → KeepsSeat u (put_at clock offset bits u)
 plain u offset clock bits =
@@ -67,7 +68,8 @@ reply_in-seated sender word run u =
     either u (is_multi (mode_of u)) _ _ (record { player = refl; count = refl; round = refl })
     (either u _ _ _ (record { player = refl; count = refl; round = refl }) (seated u))
 
-reply_of-seated : (sender word : ℕ) (run : Option Running) (u : SerialUnit) → KeepsSeat u (with_reply_of sender word run u)
+reply_of-seated : (sender word : ℕ) (run : Option Running) (u : SerialUnit)
+    → KeepsSeat u (with_reply_of sender word run u)
 reply_of-seated sender word None u = seated u
 reply_of-seated sender word (Some run) u = reply_in-seated sender word run u
 
@@ -92,7 +94,8 @@ heard-seated due u =
     let known = with_known due u in
     let replied = with_reply due.sender due.signal.reply known in
     then-seated u known _ (record { player = refl; count = refl; round = refl })
-    (then-seated known replied _ (reply-seated due.sender due.signal.reply known) (start-seated due due.signal.start replied))
+    (then-seated known replied _ (reply-seated due.sender due.signal.reply known)
+    (start-seated due due.signal.start replied))
 
 taken-seated : (due : Incoming) (u : SerialUnit) → KeepsSeat u (taken due u)
 unfolding taken

@@ -11,7 +11,8 @@ use Rattle.link_node.specs.declared.signal.LinkMode.TheVariants.{Normal8, Normal
 use Rattle.link_node.specs.declared.signal.Signal.{Signal}
 use Rattle.link_node.specs.declared.signal.Start.{Start}
 
-pub start_told-fits : (start : Option Start) → IfSome (option_map start_told start) (λ told. (told.speed < 4) × (told.word < 2 ^ 32))
+pub start_told-fits : (start : Option Start)
+    → IfSome (option_map start_told start) (λ told. (told.speed < 4) × (told.word < 2 ^ 32))
 start_told-fits None = tt
 start_told-fits (Some start) = (omega arith, omega arith)
 
@@ -20,7 +21,8 @@ reply_told-fits None = tt
 reply_told-fits (Some word) = omega arith
 
 -- what holds of a signal holds of it where it is told
-told_where : (P : Signal → Type 0) (told : Bool) (signal : Signal) → P signal → IfSome (if told then Some signal else None) P
+told_where : (P : Signal → Type 0) (told : Bool) (signal : Signal) → P signal
+    → IfSome (if told then Some signal else None) P
 told_where P true signal holds = holds
 told_where P false signal holds = tt
 

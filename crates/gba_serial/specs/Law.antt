@@ -76,8 +76,8 @@ pub record GoesOn (run : Running) (old new : SerialUnit) : Type 0 where
 abbrev pub HaveArrived : ℕ → List Incoming → Type 0
 HaveArrived clock dues = All (λ due. due.arrival ≤ clock) dues
 
--- A transfer whose end a step doesn't reach goes on through it, no transfer ends in it, and it tells nothing. A start that
--- is answered ends later than any step that could take it.
+-- A transfer whose end a step doesn't reach goes on through it, no transfer ends in it, and it tells nothing. A start
+-- that is answered ends later than any step that could take it.
 pub record TransfersGoOn : Type 0 where
   pub goes_on : (clock : ℕ) (dues : List Incoming) (writes : List HalfwordWrite) (u : SerialUnit) (run : Running)
       → u.run ≡ Some run → clock < run.end → HaveArrived clock dues

@@ -9,8 +9,8 @@ use Rattle.gba_serial.specs.declared.serial.making.SerialRegisters.{SerialRegist
 use Rattle.gba_serial.specs.declared.transfer.Running.{Running}
 use Rattle.link_node.specs.declared.signal.LinkMode.{LinkMode}
 
--- A unit of its numbers: its seat, what stands in its registers, the modes that the players last told, and the transfer that
--- runs. It has nothing to tell: the mode that it told last is the one that its registers give.
+-- A unit of its numbers: its seat, what stands in its registers, the modes that the players last told, and the transfer
+-- that runs. It has nothing to tell: the mode that it told last is the one that its registers give.
 abbrev pub unit_of : Seat → SerialRegisters → List LinkMode → Option Running → SerialUnit
 unit_of seat registers known run = record {
   player = seat.player;

@@ -6,7 +6,8 @@ use Rattle.gba_serial.specs.End.{ended, ending}
 use Rattle.gba_serial.specs.declared.transfer.Transfer.{Transfer}
 use Rattle.link_node.specs.declared.signal.Incoming.{Incoming}
 
--- A unit in one step of its console (this project's profile): it takes the due signals, ends what is due, and is written.
+-- A unit in one step of its console (this project's profile): it takes the due signals, ends what is due,
+-- and is written.
 
 -- the due signals in their order; a transfer whose end is at or below an arrival ends before that signal is taken
 abbrev pub fed : List Incoming → SerialUnit → SerialUnit

@@ -109,7 +109,7 @@ taken due u =
     then with_start due due.signal.start (with_reply due.sender due.signal.reply (with_known due u))
     else u
 
--- What a signal does to the unit of a console that is off: the mode of its sender is known, and its start and its reply are
--- lost. One of no peer leaves everything.
+-- What a signal does to the unit of a console that is off: the mode of its sender is known, and its start and its reply
+-- are lost. One of no peer leaves everything.
 abbrev pub learned : Incoming → SerialUnit → SerialUnit
 learned due u = if is_peer due.sender u then with_known due u else u

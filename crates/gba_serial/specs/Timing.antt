@@ -7,7 +7,8 @@ use Rattle.link_node.specs.declared.signal.LinkMode.TheVariants.{Normal8, Normal
 
 -- RCNT's bit 15 leaves these modes; else SIOCNT's bits 13 and 12 choose one
 abbrev pub chosen_mode : ℕ → LinkMode
-chosen_mode choice = if choice == 0 then Normal8 else if choice == 1 then Normal32 else if choice == 2 then Multi else Other
+chosen_mode choice =
+    if choice == 0 then Normal8 else if choice == 1 then Normal32 else if choice == 2 then Multi else Other
 
 abbrev pub mode_by : ℕ → ℕ → LinkMode
 mode_by select control = if bit select 15 then Other else chosen_mode (field control 12 2)

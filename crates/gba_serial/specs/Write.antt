@@ -10,8 +10,8 @@ use Rattle.link_node.specs.declared.signal.LinkMode.{LinkMode}
 use Rattle.link_node.specs.declared.signal.LinkMode.TheVariants.{Multi}
 use Rattle.link_node.specs.declared.signal.Start.{Start}
 
--- A write, and the start of a transfer (GBATEK, SIO Multi-Player Mode and SIO Normal Mode; what is kept, what is dropped
--- in a transfer and the ends are this project's profile)
+-- A write, and the start of a transfer (GBATEK, SIO Multi-Player Mode and SIO Normal Mode; what is kept, what is
+-- dropped in a transfer and the ends are this project's profile)
 
 -- the four words as a Multi transfer starts with them, and whose words were received; one place is filled
 abbrev pub first_words : ℕ → ℕ → List ℕ

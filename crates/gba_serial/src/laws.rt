@@ -24,8 +24,8 @@ pub fn starts_in_time()
     ensures { StartsInTime }
 {}
 
-/// A transfer goes on through every step that doesn't reach its end, and such a step tells nothing. So a step answers at
-/// most one start.
+/// A transfer goes on through every step that doesn't reach its end, and such a step tells nothing. So a step answers
+/// at most one start.
 pub fn transfers_go_on()
     ensures { TransfersGoOn }
 {}

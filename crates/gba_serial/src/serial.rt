@@ -16,8 +16,8 @@ use link_node::{LinkMode, Start};
 pub use making::{Seat, SerialRegisters, players_of_mask};
 use std::marker::Model;
 
-/// One console's serial unit (GBATEK, GBA Communication Ports): the modes Normal (8 and 32 bits) and Multi, over a cable
-/// of one to four consoles.
+/// One console's serial unit (GBATEK, GBA Communication Ports): the modes Normal (8 and 32 bits) and Multi, over a
+/// cable of one to four consoles.
 #[derive(Clone, Copy, Debug)]
 pub struct Serial {
     player: u32,
@@ -80,8 +80,9 @@ impl Serial {
     ghost use Rattle.std.specs.Prelude.{◌≡◌, ◌<◌, ◌≤◌, IsTrue};
     ghost use Rattle.gba_serial.specs.SerialUnit.{data_word, is_peer, is_wired, mode_of, own_word, serial_at_reset, speed_of};
 
-    /// The unit at reset, of a player below `count`, on a cable of 1 to 4 consoles where a signal takes `round` cycles from
-    /// player 0 to player 1 and back, from 2 to 2,048. Its mode is Other, and so is every peer's until it tells another.
+    /// The unit at reset, of a player below `count`, on a cable of 1 to 4 consoles where a signal takes `round`
+    /// cycles from player 0 to player 1 and back, from 2 to 2,048. Its mode is Other, and so is every peer's until it
+    /// tells another.
     pub fn new(player: u32, count: u32, round: u64) -> Serial
         requires player { player < count }
         requires count { count ≤ 4 }

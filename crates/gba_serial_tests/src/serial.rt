@@ -213,8 +213,8 @@ struct Case {
     moves: &'static [Move],
 }
 
-/// Player 0 starts in Multi with nobody there. In the transfer the words, RCNT and SIOCNT's bits 0, 1, 7, 12 and 13 stay,
-/// and the word that goes is the one at the start. The error is set at the end, and cleared by the next start.
+/// Player 0 starts in Multi with nobody there. In the transfer the words, RCNT and SIOCNT's bits 0, 1, 7, 12 and 13
+/// stay, and the word that goes is the one at the start. The error is set at the end, and cleared by the next start.
 const STARTED: [Move; 42] = [
     Write(0, RCNT, 0),
     Write(0, SEND, 0x1234),
@@ -302,8 +302,8 @@ const ANSWERED: [Move; 22] = [
     Reads(SIOCNT, 0x201F),
 ];
 
-/// Starts that a console in Multi ignores: of player 2, of itself, of nobody, with a speed of 4, of other modes, and one
-/// whose transfer would end 511 cycles after the arrival. One of 512 cycles is answered.
+/// Starts that a console in Multi ignores: of player 2, of itself, of nobody, with a speed of 4, of other modes, and
+/// one whose transfer would end 511 cycles after the arrival. One of 512 cycles is answered.
 const REFUSED_IN_MULTI: [Move; 19] = [
     Write(0, RCNT, 0),
     Write(0, SIOCNT, 0x2000),
@@ -327,8 +327,8 @@ const REFUSED_IN_MULTI: [Move; 19] = [
 ];
 
 /// Starts that a console in Normal8 ignores: without bit 7, of a player that isn't wired, with a speed of 2, of other
-/// modes, one that would end 511 cycles after its arrival, and with the inside clock. The last is answered, with the low
-/// byte of its word, and no reply changes it.
+/// modes, one that would end 511 cycles after its arrival, and with the inside clock. The last is answered, with the
+/// low byte of its word, and no reply changes it.
 const REFUSED_IN_NORMAL: [Move; 31] = [
     Write(0, RCNT, 0),
     Write(0, SEND, 0x12A5),
@@ -371,8 +371,8 @@ const REFUSED_IN_NORMAL: [Move; 31] = [
     Reads(SIOCNT, 0x0000),
 ];
 
-/// Replies in Multi: the last of a player counts, with its low 16 bits; one of this console itself, of a player that isn't
-/// there, or at the end comes to nothing.
+/// Replies in Multi: the last of a player counts, with its low 16 bits; one of this console itself, of a player that
+/// isn't there, or at the end comes to nothing.
 const REPLIES: [Move; 18] = [
     Write(0, RCNT, 0),
     Write(0, SEND, 0x0100),
@@ -518,7 +518,8 @@ const ALONE: [Move; 15] = [
     Reads(SIODATA1, 0xFFFF),
 ];
 
-/// In mode Other bit 7 isn't stored. A bit 7 from before starts nothing where the mode becomes Multi, and reads 0 there.
+/// In mode Other bit 7 isn't stored. A bit 7 from before starts nothing where the mode becomes Multi, and
+/// reads 0 there.
 const OTHER: [Move; 26] = [
     Reads(RCNT, 0x8000),
     Reads(SIOCNT, 0),
@@ -751,7 +752,8 @@ fn transfers_last_by_mode_and_speed(rt: HostRuntime) -> Result<(), Fail> {
     Ok(())
 }
 
-/// How long a byte at 2 MHz takes with ways there and back of so many cycles: 1 and 1, 1 and 1,024, and 1,024 and 1,024.
+/// How long a byte at 2 MHz takes with ways there and back of so many cycles: 1 and 1, 1 and 1,024, and
+/// 1,024 and 1,024.
 static ROUNDS: [(u64, u64); 3] = [(2, 516), (1025, 1539), (2048, 2562)];
 
 #[test]

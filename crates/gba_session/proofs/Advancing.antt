@@ -84,7 +84,8 @@ module _ (law : LiveSegments) (start : Cut Machine) (from to until : ℕ) (playe
   cut-many : length cut.consoles ≡ length start.consoles
   unfolding now
   cut-many =
-      sym (length-map cut.consoles without_limit) ∙ ap (λ (c : Cut Machine). length c.consoles) held.is ∙ segment-many now
+      sym (length-map cut.consoles without_limit) ∙ ap (λ (c : Cut Machine). length c.consoles) held.is
+      ∙ segment-many now
 
   ran-many : length later.consoles ≡ length start.consoles
   unfolding now

@@ -52,7 +52,8 @@ run-over : (most until : ℕ) (m : Machine) → nat_lt (clock_of m) until ≡ fa
 unfolding run
 run-over most until m is = rw is refl
 
-turns-none : (until : ℕ) (m : Machine) (delays : Delays) (sent : List Sent) → turns 0 until m delays sent ≡ alone m delays sent
+turns-none : (until : ℕ) (m : Machine) (delays : Delays) (sent : List Sent)
+    → turns 0 until m delays sent ≡ alone m delays sent
 unfolding trace_of after_turns
 turns-none until m delays sent = refl
 
@@ -60,9 +61,9 @@ run-none : (until : ℕ) (m : Machine) → run 0 until m ≡ m
 unfolding run
 run-none until m = refl
 
-ends-by : (test : Bool) (most until : ℕ) (m : Machine) (delays : Delays) (sent : List Sent) → nat_lt (clock_of m) until ≡ test
-    → All IsOwn sent → Ends most until (next m) delays (with_signal 0 (told [] m) sent)
-    → Ends (suc most) until m delays sent
+ends-by : (test : Bool) (most until : ℕ) (m : Machine) (delays : Delays) (sent : List Sent)
+    → nat_lt (clock_of m) until ≡ test → All IsOwn sent
+    → Ends most until (next m) delays (with_signal 0 (told [] m) sent) → Ends (suc most) until m delays sent
 ends-by true most until m delays sent is own rest = record {
   said = rest.said;
   own = rest.own;
@@ -76,7 +77,8 @@ ends-by false most until m delays sent is own rest = record {
       ∙ ap (λ (x : Machine). alone x delays sent) (sym (run-over most until m is));
 }
 
-ends : (most until : ℕ) (m : Machine) (delays : Delays) (sent : List Sent) → All IsOwn sent → Ends most until m delays sent
+ends : (most until : ℕ) (m : Machine) (delays : Delays) (sent : List Sent) → All IsOwn sent
+    → Ends most until m delays sent
 ends zero until m delays sent own = record {
   said = sent;
   own = own;
@@ -106,7 +108,8 @@ alone-runs enough until delays sent m own =
     let left = cycles_left console_kind (alone plain delays sent) until in
     let e = ends left until plain delays sent own in
     ap (live console_kind) e.is
-    ∙ ap (λ (xs : List Sent). alone (run left until plain) delays xs) (all-dead (run left until plain) delays e.said e.said e.own)
+    ∙ ap (λ (xs : List Sent). alone (run left until plain) delays xs)
+    (all-dead (run left until plain) delays e.said e.said e.own)
     ∙ ap (λ (x : Machine). alone x delays []) (enough until left until plain (omega arith) (omega arith))
     ∙ ap (λ (x : Machine). alone x delays []) (run-unlimited until until m)
 
@@ -119,7 +122,8 @@ close-by : (test : Bool) (x m : Machine) → IsClose x → IsClose m → IsClose
 close-by true x m a b = a
 close-by false x m a b = b
 
-pub close-run : ((m : Machine) → StepPasses [] m) → (most until : ℕ) (m : Machine) → IsClose m → IsClose (run most until m)
+pub close-run : ((m : Machine) → StepPasses [] m) → (most until : ℕ) (m : Machine) → IsClose m
+    → IsClose (run most until m)
 unfolding run
 close-run steps zero until m close = close
 close-run steps (suc most) until m close =
@@ -150,9 +154,12 @@ alone-sound m delays close = record {
 }
 
 -- what is on its way in a sound cut of one console is its own
-pub sound-own : (m : Machine) (delays : Delays) (sent : List Sent) → IsSound console_kind (alone m delays sent) → All IsOwn sent
+pub sound-own : (m : Machine) (delays : Delays) (sent : List Sent) → IsSound console_kind (alone m delays sent)
+    → All IsOwn sent
 sound-own m delays sent sound =
-    all_map (IsSoundSignal console_kind (alone m delays sent)) IsOwn sent (λ one h. omega (arith, h.from_player)) sound.signals
+    all_map (IsSoundSignal console_kind (alone m delays sent)) IsOwn sent (λ one h. omega (arith, h.from_player))
+    sound.signals
 
-pub sound-close : (m : Machine) (delays : Delays) (sent : List Sent) → IsSound console_kind (alone m delays sent) → IsClose m
+pub sound-close : (m : Machine) (delays : Delays) (sent : List Sent) → IsSound console_kind (alone m delays sent)
+    → IsClose m
 sound-close m delays sent sound = record { begun = sound.begun 0 (omega arith); short = sound.short 0 (omega arith) }

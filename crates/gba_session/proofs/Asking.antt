@@ -71,7 +71,8 @@ module _ (v : Consoles) (cut : Cut Machine) (players : List Player) (held : IsSe
     asked-at kind asked =
         asked p.asks
         (ap (λ (all : List (PerKind Bool)). slice_get all k) (sym asks) ∙ slice_get-map asks_in players k
-        ∙ ap (option_map asks_in) (slice_get-get_or players k p there) ∙ ap (λ (one : Player). Some one.asks) (sym here))
+        ∙ ap (option_map asks_in) (slice_get-get_or players k p there)
+        ∙ ap (λ (one : Player). Some one.asks) (sym here))
 
     pieces-at : (m : Machine) → slice_get (segment_cut v).consoles k ≡ Some m → HasPieces (is_over v) p m
     pieces-at m is =
@@ -93,7 +94,8 @@ module _ (v : Consoles) (cut : Cut Machine) (players : List Player) (held : IsSe
     last law over m is =
         sym (get_or_from_slice_get (whole_cut v).consoles k m m is)
         ∙ ap (λ (c : Cut Machine). get_or c.consoles k m) (sym (ends over) ∙ whole-joined law v held.start held.begun)
-        ∙ joined-get (run_until v.from v.start) (segment_cut v) k m m (omega (arith, within, segment-many v, start-many))
+        ∙ joined-get (run_until v.from v.start) (segment_cut v) k m m
+        (omega (arith, within, segment-many v, start-many))
         (omega (arith, within, until-many v.from v.start, start-many))
 
     last-pieces : (m : Machine) → HasPieces (is_over v) p (get_or (segment_cut v).consoles k m)
@@ -136,7 +138,8 @@ module _ (v : Consoles) (cut : Cut Machine) (players : List Player) (held : IsSe
             same ∙ (pieces-at m there_is).save (over (ap grows is)) (asked-for Save is)
             ∙ ap (λ (x : OutKind). output_bytes x m) (sym is)
 
-      module _ (over : is_over v ≡ true) (there_is : slice_get (whole_cut v).consoles k ≡ Some m) (digest : List ℕ) where
+      module _ (over : is_over v ≡ true) (there_is : slice_get (whole_cut v).consoles k ≡ Some m)
+          (digest : List ℕ) where
         hashed : IsHashed p m
         hashed = hashed-at over m there_is
 

@@ -23,8 +23,8 @@ use Rattle.gba_session.specs.declared.player.Player.{Player}
 
 -- The consoles of a job, one after another.
 
-consoles-cons : (job : WholeJob) (player : ℕ) (console : ConsoleJob) (consoles left : List ConsoleJob) (one : ConsoleImages)
-    (rest : List ConsoleImages) → left ≡ console ∷ consoles
+consoles-cons : (job : WholeJob) (player : ℕ) (console : ConsoleJob) (consoles left : List ConsoleJob)
+    (one : ConsoleImages) (rest : List ConsoleImages) → left ≡ console ∷ consoles
     → consoles_from job player left (one ∷ rest)
     ≡ without_limit (console_at job player console one) ∷ consoles_from job (player + 1) consoles rest
 unfolding consoles_from
@@ -55,7 +55,8 @@ pub consoles-more : (job : WholeJob) (player : ℕ) (said : ConsoleJob) (made : 
     → said ≡ get_or job.consoles player said
     → made ++ consoles_from job player (drop player job.consoles) (one ∷ rest) ≡ all
     → without_limit console ≡ without_limit (console_at job player said one)
-    → (made ++ (without_limit console ∷ [])) ++ consoles_from job (player + 1) (drop (player + 1) job.consoles) rest ≡ all
+    → (made ++ (without_limit console ∷ [])) ++ consoles_from job (player + 1) (drop (player + 1) job.consoles) rest
+    ≡ all
 consoles-more job player said made console one rest all within here before is =
     let cs = job.consoles in
     let split : drop player cs ≡ said ∷ drop (player + 1) cs = at_item cs player said within here in
@@ -81,7 +82,8 @@ kept-consoles job player said old new console one left rest all within here kept
     ap (λ ms. map without_limit ms ++ consoles_from job (player + 1) (drop (player + 1) job.consoles) rest) kept
     ∙ ap (λ ms. ms ++ consoles_from job (player + 1) (drop (player + 1) job.consoles) rest) (map-one old console)
     ∙ consoles-more job player said (map without_limit old) console one rest all within here
-    (ap (λ (xs : List ConsoleImages). map without_limit old ++ consoles_from job player (drop player job.consoles) xs) (sym split)
+    (ap (λ (xs : List ConsoleImages). map without_limit old ++ consoles_from job player (drop player job.consoles) xs)
+    (sym split)
     ∙ before) is
 
 -- the limits of consoles of which one more is kept

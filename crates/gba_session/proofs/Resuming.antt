@@ -25,7 +25,8 @@ use Rattle.sha2.specs.Hashers.{Holds256}
 none-below : (a b : ℕ) → b ≤ a → nat_lt a b ≡ false
 none-below a b past = grind arith
 
-trace-none : (most : ℕ) (cut : Cut Machine) (until : ℕ) → until ≤ least_clock cut → trace_of console_kind most cut until ≡ []
+trace-none : (most : ℕ) (cut : Cut Machine) (until : ℕ) → until ≤ least_clock cut
+    → trace_of console_kind most cut until ≡ []
 unfolding trace_of
 trace-none zero cut until past = refl
 trace-none (suc most) cut until past =
@@ -35,9 +36,11 @@ trace-none (suc most) cut until past =
 
 pub no-run : (cut : Cut Machine) (until : ℕ) → until ≤ least_clock cut → run console_kind cut until ≡ cut
 unfolding after_turns
-no-run cut until past = ap (after_turns console_kind cut) (trace-none (cycles_left console_kind cut until) cut until past)
+no-run cut until past =
+    ap (after_turns console_kind cut) (trace-none (cycles_left console_kind cut until) cut until past)
 
-pub no-steps : (cut : Cut Machine) (until : ℕ) → AllLive console_kind cut → until ≤ least_clock cut → run_until until cut ≡ cut
+pub no-steps : (cut : Cut Machine) (until : ℕ) → AllLive console_kind cut → until ≤ least_clock cut
+    → run_until until cut ≡ cut
 no-steps cut until awaited past =
     ap (live console_kind) (no-run cut until past) ∙ live_whole console_kind cut awaited
 
@@ -80,7 +83,8 @@ module _ (job : WholeJob) (cut snap : Cut Machine) (players : List Player) (soun
 
   empty-start : forgotten_cut start ≡ start
   empty-start =
-      ap (λ (ms : List Machine). let whole : Cut Machine = record { consoles = ms; delays = cut.delays; sent = cut.sent } in whole)
+      ap (λ (ms : List Machine). let whole : Cut Machine =
+      record { consoles = ms; delays = cut.delays; sent = cut.sent } in whole)
       (all-empty cut.consoles empty)
 
   stays : run_until begin start ≡ start
@@ -94,7 +98,8 @@ module _ (job : WholeJob) (cut snap : Cut Machine) (players : List Player) (soun
   many : length players ≡ length cut.consoles
   many = sym (length-map players asks_in) ∙ ap length asks ∙ length-map job.consoles asks_of ∙ sym long
 
-  empty-at : (k : ℕ) (m : Machine) → k < length players → get_or start.consoles k m ≡ forgotten (get_or start.consoles k m)
+  empty-at : (k : ℕ) (m : Machine) → k < length players
+      → get_or start.consoles k m ≡ forgotten (get_or start.consoles k m)
   empty-at k m within =
       ap (λ (c : Cut Machine). get_or c.consoles k m) (sym empty-start)
       ∙ get_or-map forgotten start.consoles k m m (omega (arith, within, many, length-map cut.consoles without_limit))
@@ -153,8 +158,8 @@ module _ (job : WholeJob) (cut snap : Cut Machine) (players : List Player) (soun
 
   pub begins : IsSegmented (session_value (plain_cut without_limit snap) begin begin job.cycles players) cut players
   begins =
-      subst (λ (c : Cut Machine). IsSegmented (session_value c begin begin job.cycles players) cut players) (sym start-is)
-      begins-first
+      subst (λ (c : Cut Machine). IsSegmented (session_value c begin begin job.cycles players) cut players)
+      (sym start-is) begins-first
 
   pub begins-resumed : session_value (plain_cut without_limit snap) begin begin job.cycles players ≡ resumed job start
   begins-resumed =

@@ -1,5 +1,5 @@
--- What the run of a job depends on: its cycles, its delays, and for each console the changes of its keys, the clock below
--- which it is off, and what it is asked for.
+-- What the run of a job depends on: its cycles, its delays, and for each console the changes of its keys, the clock
+-- below which it is off, and what it is asked for.
 use Rattle.std.proofs.Common.{◌≡◌, ℕ, ◌+◌, ◌∙◌, Bool, List, [], ◌∷◌, length, map, Option, Some, None, refl, ap, sym}
 use Rattle.std.specs.List.{AllZip}
 use Rattle.std.specs.Prelude.{slice_get}
@@ -25,8 +25,8 @@ pub record RunsAs (one other : ConsoleJob) : Type 0 where
   pub asks : asks_of other ≡ asks_of one
 
 console-alike : (job other : WholeJob) (player : ℕ) (one later : ConsoleJob) (images : ConsoleImages)
-    → other.cycles ≡ job.cycles → other.delays ≡ job.delays → length other.consoles ≡ length job.consoles → RunsAs one later
-    → console_at other player later images ≡ console_at job player one images
+    → other.cycles ≡ job.cycles → other.delays ≡ job.delays → length other.consoles ≡ length job.consoles
+    → RunsAs one later → console_at other player later images ≡ console_at job player one images
 console-alike job other player one later images cycles delays many alike =
     let frames = ap (λ (asks : PerKind Bool). asks.frames) alike.asks in
     let samples = ap (λ (asks : PerKind Bool). asks.samples) alike.asks in
@@ -57,10 +57,12 @@ pub record RunsAlike (job other : WholeJob) : Type 0 where
 start-alike : (job other : WholeJob) (images : List ConsoleImages) → RunsAlike job other
     → start_of other images ≡ start_of job images
 start-alike job other images alike =
-    let consoles = consoles-alike job other 0 job.consoles other.consoles images alike.cycles alike.delays alike.many alike.each in
+    let consoles =
+    consoles-alike job other 0 job.consoles other.consoles images alike.cycles alike.delays alike.many alike.each in
     rw (consoles, alike.delays) refl
 
-pub asks-alike : (consoles later : List ConsoleJob) → AllZip RunsAs consoles later → map asks_of later ≡ map asks_of consoles
+pub asks-alike : (consoles later : List ConsoleJob) → AllZip RunsAs consoles later
+    → map asks_of later ≡ map asks_of consoles
 asks-alike [] [] alike = refl
 asks-alike [] (l ∷ later) alike = absurd alike
 asks-alike (c ∷ consoles) [] alike = absurd alike

@@ -14,7 +14,8 @@ use Rattle.sha2.specs.Hashers.{Holds256}
 
 -- What a session keeps beside its consoles: the outputs of the last segment, and hashers of all pieces so far.
 
--- the buffers of what a player is asked for have room for it: for the words of a segment's transfers, a state and a save
+-- the buffers of what a player is asked for have room for it: for the words of a segment's transfers, a
+-- state and a save
 pub record HasRoom (p : Player) : Type 0 where
   pub words : p.asks.words ≡ true → 49 * 32770 ≤ vec_capacity p.words
   pub state : p.asks.state ≡ true → 1051937 ≤ vec_capacity p.state

@@ -10,8 +10,8 @@ use Rattle.gba_session.specs.Start.{run_until, start_of}
 use Rattle.link_order.specs.Cut.{Cut, clock_at}
 use Rattle.link_order.specs.GlobalOrder.{least}
 
--- The consoles of a job, which run in segments. A segment ends at each multiple of 2^24 cycles before the job's end, and at
--- that end; between two of them the lists of the consoles are emptied.
+-- The consoles of a job, which run in segments. A segment ends at each multiple of 2^24 cycles before the job's end,
+-- and at that end; between two of them the lists of the consoles are emptied.
 pub record Consoles : Type 0 where
   -- the consoles at reset
   pub start : Cut Machine
@@ -39,7 +39,8 @@ later_end until clock = min until ((clock / segment_cycles + 1) * segment_cycles
 abbrev pub segment_begin : ℕ → ℕ → ℕ
 segment_begin until clock = min clock (until - 1) / segment_cycles * segment_cycles
 
--- A job's consoles that go on from where they stand on their cable: the first segment is the one in which the least of their clocks is.
+-- A job's consoles that go on from where they stand on their cable: the first segment is the one in which the least of
+-- their clocks is.
 abbrev pub least_clock : Cut Machine → ℕ
 least_clock cut = clock_at console_kind cut (least console_kind cut)
 

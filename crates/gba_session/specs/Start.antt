@@ -24,7 +24,8 @@ key_state change = record { clock = change.clock; keys = change.keys }
 abbrev pub key_states : List KeyChange → List KeyState
 key_states changes = map key_state changes
 
--- what of a console is kept beside its state: what is asked for, in the steps that begin before the job's cycles are over
+-- what of a console is kept beside its state: what is asked for, in the steps that begin before the job's
+-- cycles are over
 abbrev pub room_of : WholeJob → ConsoleJob → Room
 room_of job console = record {
   until = job.cycles;
@@ -37,7 +38,8 @@ room_of job console = record {
 abbrev pub round_of : WholeJob → ℕ
 round_of job = hop_of job.delays 0 1 + hop_of job.delays 1 0
 
--- The images of a console are for what its cartridge keeps its saves in, and the save, where there is one, was checked for it.
+-- The images of a console are for what its cartridge keeps its saves in, and the save, where there is one, was
+-- checked for it.
 pub record FitsConsole (console : ConsoleJob) (images : ConsoleImages) : Type 0 where
   pub backup : images.backup ≡ console.backup
   pub save : SaveFits images.save images.backup
@@ -64,8 +66,8 @@ consoles_from job player (console ∷ consoles) (one ∷ images) =
 abbrev pub start_of : WholeJob → List ConsoleImages → Cut Machine
 start_of job images = opening (consoles_from job 0 job.consoles images) job.delays
 
--- the same after the steps of the global order: always the console with the least clock, at a tie the one with the least
--- number, until each clock is at least the job's cycles
+-- the same after the steps of the global order: always the console with the least clock, at a tie the one with the
+-- least number, until each clock is at least the job's cycles
 abbrev pub run_until : ℕ → Cut Machine → Cut Machine
 run_until until cut = live console_kind (run console_kind cut until)
 

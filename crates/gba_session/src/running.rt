@@ -41,8 +41,8 @@ pub(crate) fn segment_begin(until: u64, clock: u64) -> u64
     clock.min(until - 1) / SEGMENT * SEGMENT
 }
 
-/// The end of the room of a console in a segment that ends at `until`. One that is far ahead makes no step in it: its room ends
-/// 511 cycles before its clock.
+/// The end of the room of a console in a segment that ends at `until`. One that is far ahead makes no step in it: its
+/// room ends 511 cycles before its clock.
 fn room_end(console: &Console, until: u64) -> u64
     requires most { until ≤ 2 ^ 39 }
     requires near { until ≤ clock_of console.now + 16777216 }
@@ -170,8 +170,8 @@ fn has_much(console: &Console) -> bool {
     console.frames().len() >= MUCH || console.samples().len() >= MUCH
 }
 
-/// Takes the pieces of a segment from the consoles, and state and save where the run is over. Where much is to be hashed, and
-/// the gate has room for the consoles side by side, each is taken on a thread of its own.
+/// Takes the pieces of a segment from the consoles, and state and save where the run is over. Where much is to be
+/// hashed, and the gate has room for the consoles side by side, each is taken on a thread of its own.
 pub(crate) fn take_pieces<R: Threads + Sync, G: Gate>(
     rt: &R,
     gate: &G,

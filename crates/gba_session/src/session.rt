@@ -37,8 +37,8 @@ fn lines_of(consoles: &[Console]) -> Line
     lines
 }
 
-/// The consoles of a job on their cable, which run in segments, and the bytes of the last one. Contracts see the consoles
-/// at reset, between which clocks the last segment went, the job's cycles, and what each console is asked for.
+/// The consoles of a job on their cable, which run in segments, and the bytes of the last one. Contracts see the
+/// consoles at reset, between which clocks the last segment went, the job's cycles, and what each console is asked for.
 #[derive(Drop)]
 pub struct Session {
     start: Snapshot<Cut<Console>>,
@@ -81,9 +81,9 @@ impl Session {
     ghost use Rattle.link_order.specs.Cut.{plain_cut};
     ghost use Rattle.sha2.specs.Sha256.{sha256};
 
-    /// The consoles of a job at reset, with these images, one of the other: each for its console's backup, with a save that
-    /// was checked for it. The changes of their keys stand in the job,
-    /// those of key files too. All the memory is taken that the steps and the outputs of a segment need.
+    /// The consoles of a job at reset, with these images, one of the other: each for its console's backup, with a save
+    /// that was checked for it. The changes of their keys stand in the job, those of key files too. All the memory is
+    /// taken that the steps and the outputs of a segment need.
     pub fn prepare(
         alloc: Global,
         job: &Job,
@@ -105,9 +105,9 @@ impl Session {
         })
     }
 
-    /// The consoles of a job that go on from where they stand on their cable, with empty lists: as many as the job has, in the order
-    /// of their players. The first segment is the one in which the least of their clocks is. The memory is taken that the outputs of
-    /// a segment need.
+    /// The consoles of a job that go on from where they stand on their cable, with empty lists: as many as the job has,
+    /// in the order of their players. The first segment is the one in which the least of their clocks is. The memory is
+    /// taken that the outputs of a segment need.
     pub fn resume(alloc: Global, job: &Job, cut: Cut<Console>) -> Result<Session, NoMemory>
         requires sound { IsJob (job_value job.now) }
         requires count { length cut.consoles ≡ length (job_value job.now).consoles }
@@ -223,8 +223,8 @@ impl Session {
         }
     }
 
-    /// Once the run is over the consoles are those of the whole run, but for the lists that were emptied between segments.
-    /// It does nothing.
+    /// Once the run is over the consoles are those of the whole run, but for the lists that were emptied between
+    /// segments. It does nothing.
     pub fn ends_whole(&self)
         requires over { is_over self.now ≡ true }
         ensures consoles { map forgotten (segment_cut self.now).consoles ≡ map forgotten (whole_cut self.now).consoles }

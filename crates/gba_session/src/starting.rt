@@ -125,8 +125,8 @@ fn consoles_of(
     Ok(consoles)
 }
 
-/// The consoles of a job at reset on their cable, with these images, one of the other: each for its console's backup, with a
-/// save that was checked for it. Each has room for what it makes up to the end of the first segment.
+/// The consoles of a job at reset on their cable, with these images, one of the other: each for its console's backup,
+/// with a save that was checked for it. Each has room for what it makes up to the end of the first segment.
 pub fn start_cut(
     alloc: Global,
     job: &Job,

@@ -50,7 +50,8 @@ all-same : (one other : Field → ℕ) → ((field : Field) → one field ≡ ot
     → map one fields ≡ map other fields
 all-same one other same [] = refl
 all-same one other same (field ∷ fields) =
-    ap (λ (n : ℕ). n ∷ map one fields) (same field) ∙ ap (λ (ns : List ℕ). other field ∷ ns) (all-same one other same fields)
+    ap (λ (n : ℕ). n ∷ map one fields) (same field)
+    ∙ ap (λ (ns : List ℕ). other field ∷ ns) (all-same one other same fields)
 
 with_values : List ℕ → Machine → ConsoleNumbers
 with_values values m = record {
@@ -93,7 +94,8 @@ state-unlimited m = rw (numbers-unlimited m) refl
 -- nor of lists that stand in front
 pub state-behind : (first m : Machine) → state_file (behind first m) ≡ state_file m
 state-behind first m =
-    let plain : state_file (forgotten (behind first m)) ≡ state_file (behind first m) = state-forgotten (behind first m) in
+    let plain : state_file (forgotten (behind first m)) ≡ state_file (behind first m) =
+    state-forgotten (behind first m) in
     let same : state_file (forgotten (behind first m)) ≡ state_file m = state-forgotten m in
     sym plain ∙ same
 
@@ -118,14 +120,17 @@ consoles-forgotten player [] [] same = refl
 consoles-forgotten player [] (w ∷ ws) same = absurd cc
 consoles-forgotten player (m ∷ ms) [] same = absurd cc
 consoles-forgotten player (m ∷ ms) (w ∷ ws) same =
-    let head : forgotten m ≡ forgotten w = heads (forgotten m) (forgotten w) (map forgotten ms) (map forgotten ws) same in
+    let head : forgotten m ≡ forgotten w =
+    heads (forgotten m) (forgotten w) (map forgotten ms) (map forgotten ws) same in
     let one : console_text player m ≡ console_text player w =
     sym (console-forgotten player m) ∙ ap (console_text player) head ∙ console-forgotten player w in
     ap (λ (text : List ℕ). text ++ consoles_text (player + 1) ms) one
     ∙ ap (λ (text : List ℕ). console_text player w ++ text)
-    (consoles-forgotten (player + 1) ms ws (tails (forgotten m) (forgotten w) (map forgotten ms) (map forgotten ws) same))
+    (consoles-forgotten (player + 1) ms ws
+    (tails (forgotten m) (forgotten w) (map forgotten ms) (map forgotten ws) same))
 
-consoles-unlimited : (player : ℕ) (ms : List Machine) → consoles_text player (map without_limit ms) ≡ consoles_text player ms
+consoles-unlimited : (player : ℕ) (ms : List Machine)
+    → consoles_text player (map without_limit ms) ≡ consoles_text player ms
 unfolding consoles_text
 consoles-unlimited player [] = refl
 consoles-unlimited player (m ∷ ms) =
@@ -136,11 +141,14 @@ with_consoles : Cut Machine → List Machine → Cut Machine
 with_consoles cut consoles = record cut { consoles = consoles }
 
 -- the frozen file of consoles that differ in their lists alone is the same
-pub file-forgotten : (digest : List ℕ) (one other : Cut Machine) → map forgotten one.consoles ≡ map forgotten other.consoles
-    → one.sent ≡ other.sent → frozen_file digest one ≡ frozen_file digest other
+pub file-forgotten : (digest : List ℕ) (one other : Cut Machine)
+    → map forgotten one.consoles ≡ map forgotten other.consoles → one.sent ≡ other.sent
+    → frozen_file digest one ≡ frozen_file digest other
 unfolding frozen_file
-file-forgotten digest one other consoles sent = rw (consoles-forgotten 0 one.consoles other.consoles consoles, sent) refl
+file-forgotten digest one other consoles sent =
+    rw (consoles-forgotten 0 one.consoles other.consoles consoles, sent) refl
 
-pub file-unlimited : (digest : List ℕ) (cut : Cut Machine) → frozen_file digest (plain_cut without_limit cut) ≡ frozen_file digest cut
+pub file-unlimited : (digest : List ℕ) (cut : Cut Machine)
+    → frozen_file digest (plain_cut without_limit cut) ≡ frozen_file digest cut
 unfolding frozen_file
 file-unlimited digest cut = rw (consoles-unlimited 0 cut.consoles) refl

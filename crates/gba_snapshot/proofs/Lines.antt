@@ -27,7 +27,8 @@ none-left (suc i) (x ∷ xs) past = none-left i xs (omega (arith, past))
 
 -- consoles
 pub consoles-more : (machines : List Machine) (i : ℕ) (d : Machine) → i < length machines
-    → consoles_text i (drop i machines) ≡ console_text i (get_or machines i d) ++ consoles_text (i + 1) (drop (i + 1) machines)
+    → consoles_text i (drop i machines)
+    ≡ console_text i (get_or machines i d) ++ consoles_text (i + 1) (drop (i + 1) machines)
 unfolding consoles_text
 consoles-more machines i d within =
     let next : suc i ≡ i + 1 = omega arith in
@@ -47,7 +48,8 @@ lines-cons line bytes lines = refl
 
 pub lines-more : (lines : List (List ℕ)) (i : ℕ) → i < length lines
     → says_text (map drawn_of (drawn_from i (drop i lines)))
-    ≡ ended (drawn_text i (colours_of (get_or lines i []))) ++ says_text (map drawn_of (drawn_from (i + 1) (drop (i + 1) lines)))
+    ≡ ended (drawn_text i (colours_of (get_or lines i [])))
+    ++ says_text (map drawn_of (drawn_from (i + 1) (drop (i + 1) lines)))
 lines-more lines i within =
     let next : suc i ≡ i + 1 = omega arith in
     ap (λ (left : List (List ℕ)). says_text (map drawn_of (drawn_from i left))) (drop-cons lines i [] within)
@@ -90,13 +92,15 @@ signal-early cut sent nodes i d m same consoles sound within is few =
     let one : Sent = get_or cut.sent i d in
     let s = sound.signals i d (omega (arith, within, ap length same)) in
     let many = length-map cut.consoles without_limit in
-    let at : slice_index (map clock_of (map without_limit cut.consoles)) one.sender ≡ clock_of (get_or cut.consoles one.sender m) =
+    let at : slice_index (map clock_of (map without_limit cut.consoles)) one.sender
+    ≡ clock_of (get_or cut.consoles one.sender m) =
     clock-at cut.consoles one.sender m (omega (arith, s.from_player, many)) in
     let there : m ≡ get_or cut.consoles one.sender m =
     is ∙ ap (λ (xs : List Sent). get_or nodes (get_or xs i d).sender m) same
     ∙ ap (λ (ns : List Machine). get_or ns one.sender m) consoles in
     let clock : clock_of m ≡ clock_of (get_or cut.consoles one.sender m) = ap clock_of there in
-    let before : one.signal.clock < slice_index (map clock_of (map without_limit cut.consoles)) one.sender = s.sent_before in
+    let before : one.signal.clock < slice_index (map clock_of (map without_limit cut.consoles)) one.sender =
+    s.sent_before in
     subst (λ (xs : List Sent). (get_or xs i d).signal.clock < 2 ^ 40) (sym same) (omega (arith, before, at, clock, few))
 
 -- ---- what a console's lines say
@@ -109,23 +113,27 @@ says-append (x ∷ xs) ys =
     ∙ sym (append_assoc (ended (said_line x)) (says_text xs) (says_text ys))
 
 -- the lines of a memory with its length are those of so many rows
-rows-are : (backup : Backup) (bytes : MemoryName → List ℕ) (name : MemoryName) → length (bytes name) ≡ memory_length backup name
+rows-are : (backup : Backup) (bytes : MemoryName → List ℕ) (name : MemoryName)
+    → length (bytes name) ≡ memory_length backup name
     → says_text (map memory_of (rows_of backup bytes name)) ≡ memory_lines_text name (bytes name)
 unfolding rows_of
 rows-are backup bytes name long =
     ap (λ n. says_text (map memory_of (rows_in name 0 (n / 32) (bytes name)))) (sym long)
 
-rows-then : (backup : Backup) (bytes : MemoryName → List ℕ) (name : MemoryName) (names : List MemoryName) (rest : List ℕ)
-    → length (bytes name) ≡ memory_length backup name → says_text (map memory_of (rows_of_all backup bytes names)) ≡ rest
+rows-then : (backup : Backup) (bytes : MemoryName → List ℕ) (name : MemoryName) (names : List MemoryName)
+    (rest : List ℕ) → length (bytes name) ≡ memory_length backup name
+    → says_text (map memory_of (rows_of_all backup bytes names)) ≡ rest
     → says_text (map memory_of (rows_of_all backup bytes (name ∷ names))) ≡ memory_lines_text name (bytes name) ++ rest
 unfolding rows_of_all
 rows-then backup bytes name names rest long after =
     ap says_text (map-append memory_of (rows_of backup bytes name) (rows_of_all backup bytes names))
     ∙ says-append (map memory_of (rows_of backup bytes name)) (map memory_of (rows_of_all backup bytes names))
-    ∙ ap (λ (text : List ℕ). text ++ says_text (map memory_of (rows_of_all backup bytes names))) (rows-are backup bytes name long)
+    ∙ ap (λ (text : List ℕ). text ++ says_text (map memory_of (rows_of_all backup bytes names)))
+    (rows-are backup bytes name long)
     ∙ ap (λ (text : List ℕ). memory_lines_text name (bytes name) ++ text) after
 
-rows-end : (backup : Backup) (bytes : MemoryName → List ℕ) → says_text (map memory_of (rows_of_all backup bytes [])) ≡ []
+rows-end : (backup : Backup) (bytes : MemoryName → List ℕ)
+    → says_text (map memory_of (rows_of_all backup bytes [])) ≡ []
 unfolding rows_of_all text_of
 rows-end backup bytes = refl
 
@@ -144,7 +152,8 @@ memories-are b long =
     (rows-then backup bytes memory.Vram _ _ long.vram
     (rows-then backup bytes memory.Oam _ _ long.oam
     (rows-then backup bytes memory.Backup _ _ long.backup (rows-end backup bytes)))))))
-    ∙ join-six (t memory.Io) (t memory.Wram) (t memory.Iwram) (t memory.Palette) (t memory.Vram) (t memory.Oam) (t memory.Backup)
+    ∙ join-six (t memory.Io) (t memory.Wram) (t memory.Iwram) (t memory.Palette) (t memory.Vram) (t memory.Oam)
+    (t memory.Backup)
   where
     join-six : (a b c d e f g : List ℕ)
         → a ++ (b ++ (c ++ (d ++ (e ++ (f ++ (g ++ [])))))) ≡ (((((a ++ b) ++ c) ++ d) ++ e) ++ f) ++ g
@@ -167,7 +176,8 @@ console-is player m long =
     let stored : List Said = map memory_of (memory_rows (backup_in m) (memory_bytes m.board.core)) in
     let rows : List Said = map (row_of (numbers_of m)) (rows_behind (backup_in m)) in
     let drawn : List Said = map drawn_of (drawn_from 0 m.board.core.lines) in
-    let memories : List ℕ = lines_of_memories m.board.core ++ memory_lines_text memory.Backup (memory_bytes m.board.core memory.Backup) in
+    let memories : List ℕ =
+    lines_of_memories m.board.core ++ memory_lines_text memory.Backup (memory_bytes m.board.core memory.Backup) in
     says-append ((numbers ++ stored) ++ rows) drawn
     ∙ ap (λ (text : List ℕ). text ++ says_text drawn)
     (says-append (numbers ++ stored) rows

@@ -38,7 +38,8 @@ place-at k inside =
     ∙ get_or-range_with_len 0 138 k 0 inside in
     omega (arith, chain)
 
-all-at : (xs : List Field) (k : ℕ) → list_all is_field xs ≡ true → k < length xs → is_field (get_or xs k console.Clock) ≡ true
+all-at : (xs : List Field) (k : ℕ) → list_all is_field xs ≡ true → k < length xs
+    → is_field (get_or xs k console.Clock) ≡ true
 all-at [] k h inside = absurd (omega arith)
 all-at (x ∷ xs) zero h inside = first_of_all (is_field x) (list_all is_field xs) h
 all-at (x ∷ xs) (suc k) h inside = all-at xs k (rest_of_all (is_field x) (list_all is_field xs) h) (omega arith)

@@ -53,7 +53,8 @@ last-line : text_of (end_text ∷ []) ≡ ended end_text
 unfolding text_of
 last-line = append-nil (ended end_text)
 
-first-lines : (one two : List ℕ) (lines : List (List ℕ)) → text_of (one ∷ two ∷ lines) ≡ ended one ++ (ended two ++ text_of lines)
+first-lines : (one two : List ℕ) (lines : List (List ℕ))
+    → text_of (one ∷ two ∷ lines) ≡ ended one ++ (ended two ++ text_of lines)
 unfolding text_of
 first-lines one two lines = refl
 

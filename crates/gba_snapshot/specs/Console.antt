@@ -42,8 +42,10 @@ pub record HaveLengths (b : Core) : Type 0 where
 abbrev pub lines_of_memories : Core → List ℕ
 lines_of_memories b =
     memory_lines_text memory.Io (memory_bytes b memory.Io) ++ memory_lines_text memory.Wram (memory_bytes b memory.Wram)
-    ++ memory_lines_text memory.Iwram (memory_bytes b memory.Iwram) ++ memory_lines_text memory.Palette (memory_bytes b memory.Palette)
-    ++ memory_lines_text memory.Vram (memory_bytes b memory.Vram) ++ memory_lines_text memory.Oam (memory_bytes b memory.Oam)
+    ++ memory_lines_text memory.Iwram (memory_bytes b memory.Iwram)
+    ++ memory_lines_text memory.Palette (memory_bytes b memory.Palette)
+    ++ memory_lines_text memory.Vram (memory_bytes b memory.Vram)
+    ++ memory_lines_text memory.Oam (memory_bytes b memory.Oam)
 
 -- The state file of a console: the lines of its numbers, and those of its memories but for the backup.
 abbrev pub state_file : Machine → List ℕ
@@ -58,7 +60,8 @@ unfoldable pub drawn_from : ℕ → List (List ℕ) → List (ℕ × List ℕ)
 drawn_from line [] = []
 drawn_from line (bytes ∷ lines) = (line, colours_of bytes) ∷ drawn_from (line + 1) lines
 
--- What a frozen file says of a console: its numbers, all its memories, and the lines that are drawn of the present frame.
+-- What a frozen file says of a console: its numbers, all its memories, and the lines that are drawn of the
+-- present frame.
 unfoldable pub draft_of : Machine → ConsoleDraft
 draft_of m = record {
   numbers = numbers_of m;

@@ -16,8 +16,8 @@ unfoldable pub signals_text : List Sent → List ℕ
 signals_text [] = []
 signals_text (one ∷ sent) = ended (signal_text one.sender one.signal) ++ signals_text sent
 
--- The frozen file of consoles on their cable, for the job of a digest: the version, the digest, the consoles by player number, the
--- signals that some other console can still take, and the last line.
+-- The frozen file of consoles on their cable, for the job of a digest: the version, the digest, the consoles by player
+-- number, the signals that some other console can still take, and the last line.
 unfoldable pub frozen_file : List ℕ → Cut Machine → List ℕ
 frozen_file digest cut =
     ended version_text ++ (ended (digest_text digest) ++ (consoles_text 0 cut.consoles

@@ -53,12 +53,13 @@ registers_from first (suc count) = console.Register first ∷ registers_from (fi
 
 abbrev pub timer_fields : ℕ → List Field
 timer_fields timer =
-    console.Board (board.TimerCounter timer) ∷ console.Board (board.TimerReload timer) ∷ console.Board (board.TimerControl timer)
-    ∷ console.Board (board.TimerPhase timer) ∷ []
+    console.Board (board.TimerCounter timer) ∷ console.Board (board.TimerReload timer)
+    ∷ console.Board (board.TimerControl timer) ∷ console.Board (board.TimerPhase timer) ∷ []
 
 abbrev pub channel_fields : ℕ → List Field
 channel_fields channel =
-    console.Board (board.DmaActive channel) ∷ console.Board (board.DmaFirst channel) ∷ console.Board (board.DmaSource channel)
+    console.Board (board.DmaActive channel) ∷ console.Board (board.DmaFirst channel)
+    ∷ console.Board (board.DmaSource channel)
     ∷ console.Board (board.DmaTarget channel) ∷ console.Board (board.DmaLeft channel) ∷ []
 
 abbrev pub queue_fields : ℕ → List Field
@@ -69,8 +70,8 @@ tone_fields tone = map (λ part. console.Board (board.Tone tone part)) (0 ∷ 1 
 
 abbrev pub picture_fields : List Field
 picture_fields =
-    console.Board board.Line ∷ console.Board board.Dot ∷ console.Board (board.ReferenceX 2) ∷ console.Board (board.ReferenceY 2)
-    ∷ console.Board (board.ReferenceX 3) ∷ console.Board (board.ReferenceY 3) ∷ []
+    console.Board board.Line ∷ console.Board board.Dot ∷ console.Board (board.ReferenceX 2)
+    ∷ console.Board (board.ReferenceY 2) ∷ console.Board (board.ReferenceX 3) ∷ console.Board (board.ReferenceY 3) ∷ []
 
 abbrev pub cable_fields : List Field
 cable_fields =
@@ -88,7 +89,8 @@ single_fields =
     console.Clock ∷ console.Board board.Halted
     ∷ (registers_from 0 37 ++ timer_fields 0 ++ timer_fields 1 ++ timer_fields 2 ++ timer_fields 3 ++ channel_fields 0
     ++ channel_fields 1 ++ channel_fields 2 ++ channel_fields 3 ++ queue_fields 0 ++ queue_fields 1
-    ++ console.Board board.Sequencer ∷ (tone_fields 1 ++ tone_fields 2 ++ tone_fields 3 ++ tone_fields 4 ++ picture_fields
+    ++ console.Board board.Sequencer
+    ∷ (tone_fields 1 ++ tone_fields 2 ++ tone_fields 3 ++ tone_fields 4 ++ picture_fields
     ++ cable_fields ++ last_fields))
 
 -- the numbers of a console

@@ -15,12 +15,12 @@ use gba_frozen::Row;
 use gba_frozen_text::{add_numbers, add_rows};
 use gba_image::Backup;
 
-/// The room of a state file in bytes: each of its rows has at most 193, each of the two queues 98, each bank of the wave 49, and
-/// each of the 12,384 lines of registers and memory 84.
+/// The room of a state file in bytes: each of its rows has at most 193, each of the two queues 98, each bank of the
+/// wave 49, and each of the 12,384 lines of registers and memory 84.
 pub const STATE_ROOM: usize = 1_051_937;
 
-/// The room of a console in a frozen file: beside that of a state file, at most 4,096 lines of a backup, four rows of at most 193, and
-/// 160 lines of at most 978.
+/// The room of a console in a frozen file: beside that of a state file, at most 4,096 lines of a backup, four rows of
+/// at most 193, and 160 lines of at most 978.
 pub const CONSOLE_ROOM: usize = 1_553_253;
 
 /// The rows behind the memories.

@@ -32,7 +32,8 @@ fn colours(bytes: &[u8; 480]) -> [u16; 240]
 fn add_line(into: &mut Vec<u8>, core: &Core, line: u32)
     requires drawn { line < length core.now.lines }
     requires room { vec_len into.old + 978 ≤ vec_capacity into.old }
-    ensures items { into.new.items ≡ into.old.items ++ ended (drawn_text line (colours_of (slice_index_or core.now.lines line []))) }
+    ensures items { into.new.items
+        ≡ into.old.items ++ ended (drawn_text line (colours_of (slice_index_or core.now.lines line []))) }
     ensures len { vec_len into.new ≤ vec_len into.old + 978 }
     ensures room { vec_capacity into.old ≤ vec_capacity into.new }
 {

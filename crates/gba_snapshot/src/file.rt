@@ -8,8 +8,8 @@ use gba_console::Console;
 use gba_frozen_print::{add_digest, add_end, add_signal, add_version};
 use link_core::Cut;
 
-/// The room of a frozen file in bytes: the first two lines and the last one have 90, each of at most four consoles 1,553,253, and each
-/// of at most 10,236 signals 52.
+/// The room of a frozen file in bytes: the first two lines and the last one have 90, each of at most four consoles
+/// 1,553,253, and each of at most 10,236 signals 52.
 pub const FROZEN_ROOM: usize = 6_745_374;
 
 /// Adds the lines of the consoles.
@@ -41,8 +41,8 @@ fn add_signals(into: &mut Vec<u8>, cut: &Cut<Console>)
     }
 }
 
-/// Adds the frozen file of consoles on their cable, for the job of a digest, which is the SHA-256 of the job's log without the digests of its
-/// outputs: 6,745,374 bytes are enough for any. It takes no memory.
+/// Adds the frozen file of consoles on their cable, for the job of a digest, which is the SHA-256 of the job's log
+/// without the digests of its outputs: 6,745,374 bytes are enough for any. It takes no memory.
 pub fn freeze(into: &mut Vec<u8>, digest: &[u8; 32], cut: &Cut<Console>)
     requires room { vec_len into.old + 6745374 ≤ vec_capacity into.old }
     ensures items { into.new.items ≡ into.old.items ++ frozen_file digest.now cut.now }

@@ -22,7 +22,8 @@ fn add_half(bytes: &mut ArrayVec<u8, 1024>, half: u16)
     }
 }
 
-/// The bytes of the I/O registers from 04000000h up: what is stored there, and of bits that are only read what they read.
+/// The bytes of the I/O registers from 04000000h up: what is stored there, and of bits that are only read
+/// what they read.
 pub fn io_bytes(core: &Core) -> ArrayVec<u8, 1024>
     ensures items { result.items ≡ io_bytes_of 512 core.now }
     ensures len { array_vec_len result ≡ 1024 }

@@ -40,7 +40,8 @@ pub(crate) fn add_memories(into: &mut Vec<u8>, core: &Core)
 #[tactic(auto, using(gba_image::proofs::Lengths::longest_backup))]
 pub(crate) fn add_backup(into: &mut Vec<u8>, core: &Core)
     requires { vec_len into.old + 344064 ≤ vec_capacity into.old }
-    ensures items { into.new.items ≡ into.old.items ++ memory_lines_text memory.Backup (memory_bytes core.now memory.Backup) }
+    ensures items { into.new.items
+        ≡ into.old.items ++ memory_lines_text memory.Backup (memory_bytes core.now memory.Backup) }
     ensures len { vec_len into.new ≤ vec_len into.old + 344064 }
     ensures room { vec_capacity into.old ≤ vec_capacity into.new }
 {

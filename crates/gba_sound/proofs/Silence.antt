@@ -29,7 +29,8 @@ rung-none s false true third fourth false true e h none = (let never = rw (e, h)
 
 heard-none : (ts : FourTimers) (s : DirectSound) → hears s ts ≡ false → heard ts s ≡ s
 heard-none ts s none =
-    rung-none s (overflow0 ts) (overflow1 ts) (overflow2 ts) (overflow3 ts) (bit s.control 10) (bit s.control 14) refl refl none
+    rung-none s (overflow0 ts) (overflow1 ts) (overflow2 ts) (overflow3 ts) (bit s.control 10) (bit s.control 14) refl
+    refl none
 
 pub still : (count : ℕ) (ts : FourTimers) (s : DirectSound) → count ≤ quiet ts s → sound_after count ts s ≡ s
 unfolding sound_after quiet
@@ -38,6 +39,7 @@ still (suc count) ts s h =
     ap (heard (after_cycles count ts)) (still count ts s (omega (arith, h)))
     ∙ heard-none (after_cycles count ts) s (before-silent (hears s) 512 count ts (omega (arith, h)))
 
-pub quiet-is : (ts : FourTimers) (s : DirectSound) → min (quiet_of (timer_of 0 s) ts) (quiet_of (timer_of 1 s) ts) ≡ quiet ts s
+pub quiet-is : (ts : FourTimers) (s : DirectSound)
+    → min (quiet_of (timer_of 0 s) ts) (quiet_of (timer_of 1 s) ts) ≡ quiet ts s
 unfolding quiet quiet_of
 quiet-is ts s = sym (before-either (overflow_at (timer_of 0 s)) (overflow_at (timer_of 1 s)) 512 ts)

@@ -17,8 +17,8 @@ pub record DirectSound : Type 0 where
 abbrev pub queue_at : ℕ → DirectSound → SoundQueue
 queue_at number s = if number == 0 then s.queue_a else s.queue_b
 
--- SOUNDCNT_H: bits 2 and 3 give A and B full volume instead of half; of A, bit 8 sends it right, 9 left, 10 chooses timer
--- 1 instead of 0, and a 1 written to 11 resets it; 12 to 15 are the same of B.
+-- SOUNDCNT_H: bits 2 and 3 give A and B full volume instead of half; of A, bit 8 sends it right, 9 left, 10 chooses
+-- timer 1 instead of 0, and a 1 written to 11 resets it; 12 to 15 are the same of B.
 abbrev pub has_full_volume : ℕ → DirectSound → Bool
 has_full_volume number s = bit s.control (2 + number)
 
@@ -41,8 +41,8 @@ after_word number word s = record s {
   queue_b = if number == 1 then after_push word s.queue_b else s.queue_b;
 }
 
--- A timer overflows: each queue that chose it takes a byte, and asks for DMA where 16 bytes or fewer are then left. This
--- is so while the sound is off, too (this project's profile).
+-- A timer overflows: each queue that chose it takes a byte, and asks for DMA where 16 bytes or fewer are then left.
+-- This is so while the sound is off, too (this project's profile).
 abbrev pub chose : ℕ → ℕ → DirectSound → Bool
 chose timer number s = timer == timer_of number s
 
@@ -58,8 +58,8 @@ asked timer s = record {
   b = chose timer 1 s && is_half_empty (after_take s.queue_b);
 }
 
--- What a queue gives to a side to which it is sent: its current byte as a signed number, times 64 at full and 32 at half
--- volume. A side is the sum of both queues, and 0 where the sound is off (this project's profile).
+-- What a queue gives to a side to which it is sent: its current byte as a signed number, times 64 at full and 32 at
+-- half volume. A side is the sum of both queues, and 0 where the sound is off (this project's profile).
 abbrev pub loudness : Bool → ℕ → ℤ
 loudness is_full byte = if is_full then cast_signed w8 byte *ℤ pos 64 else cast_signed w8 byte *ℤ pos 32
 

@@ -6,8 +6,8 @@ use arrayvec::ArrayVec;
 use gba_word::bits;
 use std::marker::Model;
 
-/// A queue of direct sound (GBATEK, GBA Sound Channel A and B): 32 bytes at most, which are signed samples, oldest first,
-/// and the current byte.
+/// A queue of direct sound (GBATEK, GBA Sound Channel A and B): 32 bytes at most, which are signed samples, oldest
+/// first, and the current byte.
 #[derive(Debug, Drop)]
 pub struct Queue {
     bytes: ArrayVec<u8, 32>,

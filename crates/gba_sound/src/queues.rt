@@ -10,8 +10,8 @@ use gba_timer::Timers;
 use gba_word::bit;
 use std::marker::Model;
 
-/// Queues A and B, which are 0 and 1 below, with SOUNDCNT_H, SOUNDCNT_X and SOUNDBIAS (GBATEK, GBA Sound Channel A and B,
-/// GBA Sound Control Registers).
+/// Queues A and B, which are 0 and 1 below, with SOUNDCNT_H, SOUNDCNT_X and SOUNDBIAS (GBATEK, GBA Sound Channel A and
+/// B, GBA Sound Control Registers).
 #[derive(Debug, Drop)]
 pub struct Queues {
     queue_a: Queue,
@@ -26,7 +26,13 @@ impl Model for Queues {
 
     ghost Value = { DirectSound };
 
-    ghost view = { λ s. record { queue_a = s.queue_a; queue_b = s.queue_b; control = s.control; is_on = s.is_on; bias = s.bias } };
+    ghost view = { λ s. record {
+      queue_a = s.queue_a;
+      queue_b = s.queue_b;
+      control = s.control;
+      is_on = s.is_on;
+      bias = s.bias;
+    } };
 }
 
 /// The bits of a halfword that read, which are those that a write stores.
@@ -74,7 +80,13 @@ impl Queues {
 
     /// Direct sound with these queues, whatever SOUNDCNT_H is as it is stored, the master enable, and SOUNDBIAS.
     pub fn of(queue_a: Queue, queue_b: Queue, control: u16, is_on: bool, bias: u16) -> Queues
-        ensures { result ≡ record { queue_a = queue_a; queue_b = queue_b; control = control; is_on = is_on; bias = bias } }
+        ensures { result ≡ record {
+          queue_a = queue_a;
+          queue_b = queue_b;
+          control = control;
+          is_on = is_on;
+          bias = bias;
+        } }
     {
         Queues {
             queue_a,
@@ -108,8 +120,8 @@ impl Queues {
         }
     }
 
-    /// Pushes the four bytes of a word to a queue, the low one first. False exactly where more than 28 bytes are held, and
-    /// then the word is dropped.
+    /// Pushes the four bytes of a word to a queue, the low one first. False exactly where more than 28 bytes are held,
+    /// and then the word is dropped.
     pub fn push_word(&mut self, queue: u32, word: u32) -> bool
         requires { queue < 2 }
         ensures queues { self.new ≡ after_word queue word self.old }
@@ -141,8 +153,8 @@ impl Queues {
         timer == self.timer_of(queue)
     }
 
-    /// A timer overflowed: each queue that chose it takes its next byte. Answers the queues that ask for DMA. Timers 2 and
-    /// up are chosen by none.
+    /// A timer overflowed: each queue that chose it takes its next byte. Answers the queues that ask for DMA. Timers 2
+    /// and up are chosen by none.
     pub fn overflow(&mut self, timer: u32) -> Asked
         ensures queues { self.new ≡ after_overflow timer self.old }
         ensures asked { result ≡ asked timer self.old }
@@ -152,8 +164,8 @@ impl Queues {
         Asked { a, b }
     }
 
-    /// The greatest number of cycles from now on, 512 at most, in none of which a timer overflows that a queue chose, where
-    /// these are the timers.
+    /// The greatest number of cycles from now on, 512 at most, in none of which a timer overflows that a queue chose,
+    /// where these are the timers.
     pub fn quiet(&self, timers: &Timers) -> u32
         ensures value { result ≡ quiet timers.now self.now }
         ensures most { result ≤ 512 }
@@ -163,8 +175,8 @@ impl Queues {
             .min(timers.quiet_of(self.timer_of(1)))
     }
 
-    /// Moves by so many cycles at once, where these are the timers as they are before. No queue takes a byte in them, so
-    /// nothing is to be done.
+    /// Moves by so many cycles at once, where these are the timers as they are before. No queue takes a byte in them,
+    /// so nothing is to be done.
     pub fn skip(&mut self, cycles: u32, timers: &Timers)
         requires { cycles ≤ quiet timers.now self.old }
         ensures { self.new ≡ sound_after cycles timers.now self.old }
@@ -243,8 +255,8 @@ impl Queues {
         }
     }
 
-    /// Writes the halfword at an offset. Bits 11 and 15 of SOUNDCNT_H empty queue A and B, and make their current byte 0.
-    /// Elsewhere nothing is written; words for the queues come by [`Queues::push_word`].
+    /// Writes the halfword at an offset. Bits 11 and 15 of SOUNDCNT_H empty queue A and B, and make their current
+    /// byte 0. Elsewhere nothing is written; words for the queues come by [`Queues::push_word`].
     pub fn write(&mut self, offset: u32, value: u16)
         ensures { self.new ≡ sound_written offset value self.old }
     {

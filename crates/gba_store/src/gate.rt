@@ -11,7 +11,8 @@ pub trait Gate {
         false
     }
 
-    /// Whether so many consoles can run side by side now, each on a processor that nobody else wants. No result depends on it.
+    /// Whether so many consoles can run side by side now, each on a processor that nobody else wants. No result
+    /// depends on it.
     fn has_room(&self, _consoles: usize) -> bool {
         true
     }

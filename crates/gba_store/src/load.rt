@@ -9,8 +9,8 @@ use std::thread::{Threads, available_parallelism};
 /// Where Linux tells how many threads of the whole system run or wait for a processor, in the fourth word.
 const LOAD: &str = "/proc/loadavg";
 
-/// How many threads run or wait for a processor, in the words of the system: the number before the slash of the fourth one, as
-/// in `0.20 0.18 0.12 1/80 11206`. None where they aren't such words.
+/// How many threads run or wait for a processor, in the words of the system: the number before the slash of the fourth
+/// one, as in `0.20 0.18 0.12 1/80 11206`. None where they aren't such words.
 pub fn running_threads(words: &[u8]) -> Option<usize> {
     let word = words.split(|byte| *byte == b' ').nth(3)?;
     let digits = word.split(|byte| *byte == b'/').next()?;
@@ -23,8 +23,8 @@ fn read_load<R: Files<File = File>>(runtime: &R, words: &mut [u8; 64]) -> io::Re
     file.read(words)
 }
 
-/// The gate of the program: it does nothing and is open. Consoles have room where the system has a processor for each of them
-/// beside what runs already; where it doesn't tell, they have none.
+/// The gate of the program: it does nothing and is open. Consoles have room where the system has a processor for each
+/// of them beside what runs already; where it doesn't tell, they have none.
 #[derive(Drop)]
 pub struct SystemGate<R: Files<File = File> + Threads + Drop> {
     runtime: R,

@@ -108,7 +108,8 @@ impl Store for MemoryStore {
     fn read(&mut self, alloc: Global, name: &str, most: u64) -> Result<Vec<u8>, ReadError>
         ensures read { IsRead name.now (result_err result) self.old self.new }
         ensures files { Unit {0} → content_in self.new.files ≡ content_in self.old.files }
-        ensures bytes { Unit {0} → IfOk result (λ bytes. IsFront (content_in self.old.files) name.now most bytes.items) }
+        ensures bytes { Unit {0}
+            → IfOk result (λ bytes. IsFront (content_in self.old.files) name.now most bytes.items) }
         ensures missing { Unit {0} → IsErrOf result ReadError.Absent → content_in self.old.files name.now ≡ None }
         ensures absent { IsErrOf result ReadError.Absent → Rose self.old.absences self.new.absences }
         ensures failed { IsErrOf result ReadError.Failed → Rose self.old.faults self.new.faults }

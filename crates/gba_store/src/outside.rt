@@ -46,7 +46,8 @@ pub trait Store {
     /// refused, which the counts alone don't tell.
     ghost Reads: { List ℕ → ℕ → Option ReadError → Self → Self → Type 0 };
 
-    /// That a read of this name and of at most so many bytes, with this answer, took it from the one state to the other.
+    /// That a read of this name and of at most so many bytes, with this answer, took it from the one state
+    /// to the other.
     ghost gives: { List ℕ → ℕ → Result (List ℕ) ReadError → Self → Self → Type 0 };
 
     /// The first `most` bytes of the file, or all of them where there are fewer.
@@ -82,7 +83,8 @@ pub trait Sink {
         ensures created { Tells → OnOk result (Created name.now (state self.old).files ((state self.new).files)) }
         ensures left { Tells → IsErrOf result WriteError.Failed
             → CreateFailed name.now (state self.old).files ((state self.new).files) }
-        ensures unchanged { Tells → IsErrOf result WriteError.NoMemory → (state self.new).files ≡ (state self.old).files }
+        ensures unchanged { Tells → IsErrOf result WriteError.NoMemory
+            → (state self.new).files ≡ (state self.old).files }
         ensures failed { IsErrOf result WriteError.Failed → Rose ((state self.old).faults) ((state self.new).faults) }
         ensures wanting { IsErrOf result WriteError.NoMemory → Rose ((state self.old).wants) ((state self.new).wants) }
         ensures later_faults { (state self.old).faults ≤ (state self.new).faults }
@@ -90,10 +92,12 @@ pub trait Sink {
 
     /// Adds the bytes at the file's end, and makes the file first where it isn't there.
     fn append(&mut self, name: &str, bytes: &[u8]) -> Result<(), WriteError>
-        ensures appended { Tells → OnOk result (Appended name.now bytes.now (state self.old).files ((state self.new).files)) }
+        ensures appended { Tells
+            → OnOk result (Appended name.now bytes.now (state self.old).files ((state self.new).files)) }
         ensures left { Tells → IsErrOf result WriteError.Failed
             → AppendFailed name.now bytes.now (state self.old).files ((state self.new).files) }
-        ensures unchanged { Tells → IsErrOf result WriteError.NoMemory → (state self.new).files ≡ (state self.old).files }
+        ensures unchanged { Tells → IsErrOf result WriteError.NoMemory
+            → (state self.new).files ≡ (state self.old).files }
         ensures failed { IsErrOf result WriteError.Failed → Rose ((state self.old).faults) ((state self.new).faults) }
         ensures wanting { IsErrOf result WriteError.NoMemory → Rose ((state self.old).wants) ((state self.new).wants) }
         ensures later_faults { (state self.old).faults ≤ (state self.new).faults }

@@ -1,7 +1,7 @@
 //! The real store and sink: the files of the current folder, and standard output. They tell nothing of content.
 //!
-//! What was read is held by a shared lock of the system as long as the store is there, and what is made empty by a lock of
-//! its own as long as the sink is: so no file that was read is emptied, whatever name leads to it.
+//! What was read is held by a shared lock of the system as long as the store is there, and what is made empty by a lock
+//! of its own as long as the sink is: so no file that was read is emptied, whatever name leads to it.
 
 ghost use Rattle.std.specs.Prelude.{◌≡◌, ◌≤◌, Some, None};
 ghost use Rattle.std.specs.Result.{result_err};
@@ -88,8 +88,8 @@ impl<R: Files<File = File> + Drop> Store for FileStore<R> {
 
     ghost says = { λ name most answer old new given. given };
 
-    /// A file that the system doesn't find is absent. Every other refusal but want of memory is a fault, and so is a file
-    /// that a sink has made empty and still holds.
+    /// A file that the system doesn't find is absent. Every other refusal but want of memory is a fault, and so is a
+    /// file that a sink has made empty and still holds.
     fn read(&mut self, alloc: Global, name: &str, most: u64) -> Result<Vec<u8>, ReadError>
         ensures counts { (self.new.absences ≡ absences_after (result_err result) self.old.absences)
             × (self.new.faults ≡ read_faults_after (result_err result) self.old.faults) }
@@ -116,8 +116,8 @@ impl<R: Files<File = File> + Drop> Store for FileStore<R> {
 }
 
 /// Writes the files of the current folder, and standard output under the name `-`. It counts each fault and each want
-/// of memory from 0, up to the last value of a u64. It keeps a lock on each file that it has made empty, so that no other
-/// run writes it meanwhile.
+/// of memory from 0, up to the last value of a u64. It keeps a lock on each file that it has made empty, so that no
+/// other run writes it meanwhile.
 #[derive(Drop)]
 pub struct StdSink<R: Files<File = File> + Print + Drop> {
     runtime: R,
@@ -199,8 +199,8 @@ impl<R: Files<File = File> + Print + Drop> Sink for StdSink<R> {
 
     ghost state = { λ sink. record { files = λ _. None; faults = sink.faults; wants = sink.wants } };
 
-    /// Standard output can't be made empty: `create` of `-` is a fault, and so is one of a file that is held, by this run
-    /// or another.
+    /// Standard output can't be made empty: `create` of `-` is a fault, and so is one of a file that is held, by this
+    /// run or another.
     fn create(&mut self, name: &str) -> Result<(), WriteError>
         ensures faults { self.new.faults ≡ write_faults_after (result_err result) self.old.faults }
         ensures wants { self.new.wants ≡ wants_after (result_err result) self.old.wants }

@@ -2,7 +2,8 @@
 
 use gba_word::*;
 
-// What the ARM manual's equations give, by hand: kind, word, amount, shifted word, carry out. The carry in doesn't count.
+// What the ARM manual's equations give, by hand: kind, word, amount, shifted word, carry out. The carry in
+// doesn't count.
 static SHIFTS: [(Shift, u32, u8, u32, bool); 56] = [
     (Shift::Lsl, 0x8000_0001, 1, 0x0000_0002, true),
     (Shift::Lsl, 0x8000_0001, 31, 0x8000_0000, false),

@@ -1,5 +1,6 @@
 #![tactic(auto)]
-//! Tests of the processor's ground: arithmetic of words, the registers, and the tables of ARM words and Thumb halfwords.
+//! Tests of the processor's ground: arithmetic of words, the registers, and the tables of ARM words and Thumb
+//! halfwords.
 
 #[cfg(test)]
 mod arithmetic;

@@ -51,7 +51,8 @@ lines-few (b ∷ bs) =
     omega (arith, few_by b (length bs) (lines bs) (lines-few bs) (eqb b 10) (eqb b 13 && begins_with_feed bs))
 
 -- so many lines of a file are read, and lead to what is said; these lines are left
-pub record IsReading {S A K : Type 0} (language : Language S A K) (bytes : List ℕ) (number : ℕ) (d : S) (rest : List (List ℕ)) : Type 0 where
+pub record IsReading {S A K : Type 0} (language : Language S A K) (bytes : List ℕ) (number : ℕ) (d : S)
+    (rest : List (List ℕ)) : Type 0 where
   pub said : lines_say language number d rest ≡ lines_say language 0 language.nothing (language.lines_of bytes)
   pub count : number + length rest ≡ length (language.lines_of bytes)
 

@@ -21,8 +21,8 @@ abbrev pub Agrees : {X T K : Type 0} → (X → T) → Result X K → Result T K
 Agrees view (Ok x) defined = defined ≡ Ok (view x)
 Agrees view (Err kind) defined = defined ≡ Err kind
 
--- In what follows `line_error` finds in a refusal of the program the line that is refused; it finds none where memory is
--- wanting, and of that nothing is said.
+-- In what follows `line_error` finds in a refusal of the program the line that is refused; it finds none where memory
+-- is wanting, and of that nothing is said.
 
 -- a line is read as it is defined, or refused with its number
 abbrev pub Reads : {X S K R : Type 0} → (R → Option (LineError K)) → Result X R → ℕ → S → Result S K → Type 0
@@ -31,11 +31,13 @@ Reads line_error (Err r) number said defined =
     IfSome (line_error r) (λ e. (defined ≡ Err e.kind) × (e.line ≡ number))
 
 -- what a file says, or its refusal, is what the function gives
-abbrev pub Parses : {X A K R : Type 0} → (R → Option (LineError K)) → (X → A) → Result X R → Result A (LineError K) → Type 0
+abbrev pub Parses : {X A K R : Type 0} → (R → Option (LineError K)) → (X → A) → Result X R → Result A (LineError K)
+    → Type 0
 Parses line_error view (Ok x) defined = defined ≡ Ok (view x)
 Parses line_error view (Err r) defined = IfSome (line_error r) (λ e. defined ≡ Err e)
 
 -- the file of this language says this, or its refusal is this
-abbrev pub IsSaid : {X S A K R : Type 0} → (R → Option (LineError K)) → Language S A K → (X → A) → List ℕ → Result X R → Type 0
+abbrev pub IsSaid : {X S A K R : Type 0} → (R → Option (LineError K)) → Language S A K → (X → A) → List ℕ → Result X R
+    → Type 0
 IsSaid line_error language view bytes (Ok x) = Says language bytes (Ok (view x))
 IsSaid line_error language view bytes (Err r) = IfSome (line_error r) (λ e. Says language bytes (Err e))

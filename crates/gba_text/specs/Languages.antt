@@ -2,9 +2,9 @@
 use Rattle.std.specs.Prelude.{◌≡◌, ◌≤◌, ◌<◌, ℕ, ◌+◌, ◌⊎◌, List, [], ◌∷◌, ◌++◌, length, nat_lt, Result, Ok, Err, if◌then◌else◌}
 use Rattle.gba_text.specs.declared.kinds.LineError.{LineError}
 
--- A language of lines: the lines of a file, the most bytes of a file and the refusal of a longer one, what is said before
--- the first line, what is said once the line of this number is read as well, or why that line is refused, and what a file
--- of so many lines comes to at its end.
+-- A language of lines: the lines of a file, the most bytes of a file and the refusal of a longer one, what is said
+-- before the first line, what is said once the line of this number is read as well, or why that line is refused, and
+-- what a file of so many lines comes to at its end.
 pub record Language (S A K : Type 0) : Type 0 where
   pub lines_of : List ℕ → List (List ℕ)
   pub longest : ℕ
@@ -24,7 +24,8 @@ Leads {S} language number from (line ∷ rest) to =
 
 -- The first refused one of these lines, which stand after so many others: those before it aren't refused, and after
 -- them it is.
-pub record StopsAt {S A K : Type 0} (language : Language S A K) (number : ℕ) (from : S) (lines : List (List ℕ)) (e : LineError K) : Type 0 where
+pub record StopsAt {S A K : Type 0} (language : Language S A K) (number : ℕ) (from : S) (lines : List (List ℕ))
+    (e : LineError K) : Type 0 where
   pub before : List (List ℕ)
   pub line : List ℕ
   pub after : List (List ℕ)
@@ -40,7 +41,8 @@ pub record IsRefusedAt {S A K : Type 0} (language : Language S A K) (bytes : Lis
   pub stops : StopsAt language 0 language.nothing (language.lines_of bytes) e
 
 -- a file that isn't too long, and no line of it is refused: what it comes to at its end
-pub record EndsIn {S A K : Type 0} (language : Language S A K) (bytes : List ℕ) (answer : Result A (LineError K)) : Type 0 where
+pub record EndsIn {S A K : Type 0} (language : Language S A K) (bytes : List ℕ)
+    (answer : Result A (LineError K)) : Type 0 where
   pub short : length bytes ≤ language.longest
   pub said : S
   pub leads : Leads language 0 language.nothing (language.lines_of bytes) said

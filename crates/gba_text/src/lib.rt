@@ -1,6 +1,6 @@
 #![tactic(auto)]
-//! Texts read by lines, and lines by words and numbers, with exact refusals; and lines of reports, put together in buffers
-//! of a fixed size.
+//! Texts read by lines, and lines by words and numbers, with exact refusals; and lines of reports, put together in
+//! buffers of a fixed size.
 //!
 //! Contracts see a [`Cursor`] as the number and the bytes of the line that was given last, the words of it that aren't
 //! taken yet, and the lines after it. Places in bytes don't show.

@@ -62,7 +62,8 @@ module _ {A : Type 0} (setup : Setup) (whole_of : Draft → Option A) where
       step-follows (number + 1) rest (λ mid. lines-follow (number + 1) mid rest) (with_line setup d line)
 
   long-by : (long : Bool) (bytes : List ℕ)
-      → (if long then Err (error_at 0 kind.Spelling) else lines_say (frozen_language setup whole_of) 0 nothing_read (fed_lines bytes))
+      → (if long then Err (error_at 0 kind.Spelling)
+      else lines_say (frozen_language setup whole_of) 0 nothing_read (fed_lines bytes))
       ≡ follow (if long then Err (error_at 0 kind.Spelling)
       else lines_say (frozen_language setup drafts) 0 nothing_read (fed_lines bytes))
   long-by true bytes = refl

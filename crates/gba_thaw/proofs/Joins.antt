@@ -17,15 +17,16 @@ use Rattle.link_order.specs.Cut.{Cut, IsCable, plain_cut}
 use Rattle.link_order.specs.declared.sent.Sent.{Sent}
 
 -- the test of a whole cut is the one of the definition
-whole-by : (told test : Bool) (cut : Cut Machine) → is_whole console_kind cut ≡ test → (IsTrue told ↔ IsWhole console_kind cut)
-    → told ≡ test
+whole-by : (told test : Bool) (cut : Cut Machine) → is_whole console_kind cut ≡ test
+    → (IsTrue told ↔ IsWhole console_kind cut) → told ≡ test
 unfolding is_whole
 whole-by true true cut e h = refl
 whole-by true false cut e h = sym (whole-tested console_kind cut (h.0 refl)) ∙ e
 whole-by false true cut e h = let both : false ≡ true = h.1 (tested-whole console_kind cut e) in absurd cc
 whole-by false false cut e h = refl
 
-pub whole-told : (told : Bool) (cut : Cut Machine) → (IsTrue told ↔ IsWhole console_kind cut) → told ≡ is_whole console_kind cut
+pub whole-told : (told : Bool) (cut : Cut Machine) → (IsTrue told ↔ IsWhole console_kind cut)
+    → told ≡ is_whole console_kind cut
 whole-told told cut h = whole-by told (is_whole console_kind cut) cut refl h
 
 -- a test of two that one fails
@@ -36,7 +37,8 @@ second-fails : (a b : Bool) → b ≡ false → (a && b) ≡ false
 second-fails true b e = e
 second-fails false b e = refl
 
-module _ (delays : Delays) (all : List (ℕ × Signal)) (s : LiveSignals) (are : AreSignals all s) (ms : List Machine) where
+module _ (delays : Delays) (all : List (ℕ × Signal)) (s : LiveSignals) (are : AreSignals all s)
+    (ms : List Machine) where
   abbrev sent : List Sent
   sent = map sent_of all
 
@@ -66,7 +68,8 @@ module _ (delays : Delays) (all : List (ℕ × Signal)) (s : LiveSignals) (are :
       → cut_if delays sent (Some ms) ≡ None
   not-whole none un =
       let here : is_whole console_kind (plain_cut without_limit (joined delays sent ms)) ≡ false =
-      subst (λ (one : List Sent). is_whole console_kind (plain_cut without_limit (joined delays one ms)) ≡ false) (sent-is none) un in
+      subst (λ (one : List Sent). is_whole console_kind (plain_cut without_limit (joined delays one ms)) ≡ false)
+      (sent-is none) un in
       no-console (can_run (joined delays sent ms)) (joined delays sent ms) (second-fails enough-room whole here)
 
   pub all-pass : s.more ≡ false → is_whole console_kind (plain_cut without_limit (joined delays s.sent ms)) ≡ true
@@ -74,7 +77,8 @@ module _ (delays : Delays) (all : List (ℕ × Signal)) (s : LiveSignals) (are :
   all-pass none is-whole =
       let e = sent-is none in
       let whole-here : is_whole console_kind (plain_cut without_limit (joined delays sent ms)) ≡ true =
-      subst (λ (one : List Sent). is_whole console_kind (plain_cut without_limit (joined delays one ms)) ≡ true) e is-whole in
+      subst (λ (one : List Sent). is_whole console_kind (plain_cut without_limit (joined delays one ms)) ≡ true) e
+      is-whole in
       let f = few none in
       ap (λ (one : List Sent). Some (joined delays one ms)) e ∙ sym (rw (f, whole-here) refl)
 
@@ -87,6 +91,10 @@ cable-kept ms ns flight same is =
     record {
       some_console = omega (arith, is.some_console, same, one, other);
       at_most_four = omega (arith, is.at_most_four, same, one, other);
-      some_delay = λ i j a b apart. is.some_delay i j (omega (arith, a, same, one, other)) (omega (arith, b, same, one, other)) apart;
-      short_delay = λ i j a b apart. is.short_delay i j (omega (arith, a, same, one, other)) (omega (arith, b, same, one, other)) apart;
+      some_delay =
+          λ i j a b apart. is.some_delay i j (omega (arith, a, same, one, other))
+          (omega (arith, b, same, one, other)) apart;
+      short_delay =
+          λ i j a b apart. is.short_delay i j (omega (arith, a, same, one, other))
+          (omega (arith, b, same, one, other)) apart;
     }

@@ -85,6 +85,7 @@ pub all-done : (until i : ℕ) (old cs : List Machine) (fs : List LooseConsole) 
 unfolding all_thawed
 all-done until i old cs fs h over same =
     h.so_far
-    ∙ ap (λ (ms : List Machine). behind (take i cs) (all_thawed until ms (drop i fs))) (drop_all i old (omega (arith, over, same)))
+    ∙ ap (λ (ms : List Machine). behind (take i cs) (all_thawed until ms (drop i fs)))
+    (drop_all i old (omega (arith, over, same)))
     ∙ ap (λ (all : List Machine). Some all)
     (append-nil (take i cs) ∙ take_all i cs (omega (arith, over, same, h.many)))

@@ -1,4 +1,5 @@
--- Where the lists of the consoles begin at their start, and where their room ends, isn't seen by what a frozen file comes to.
+-- Where the lists of the consoles begin at their start, and where their room ends, isn't seen by what a frozen
+-- file comes to.
 use Rattle.std.proofs.Common.{◌≡◌, ℕ, List, [], ◌∷◌, map, Option, refl, ap, ◌∙◌}
 use Rattle.std.proofs.lemmas.List.{length-map}
 use Rattle.gba_console.specs.Machine.{Machine, without_limit}
@@ -12,7 +13,8 @@ use Rattle.gba_thaw.specs.Console.{can_be_made, can_go_on, console_thawed}
 use Rattle.gba_thaw.specs.Cut.{consoles_thawed, cut_if, draft_thawed, setup_of, thaw_of, whole_of}
 use Rattle.link_order.specs.Cut.{Cut, plain_cut}
 
-draft-plain : (until : ℕ) (m : Machine) (d : ConsoleDraft) → draft_thawed until (without_limit m) d ≡ draft_thawed until m d
+draft-plain : (until : ℕ) (m : Machine) (d : ConsoleDraft)
+    → draft_thawed until (without_limit m) d ≡ draft_thawed until m d
 unfolding console_thawed can_be_made can_go_on
 draft-plain until m d = refl
 
@@ -48,5 +50,6 @@ pub thaw-plain : (digest : List ℕ) (until : ℕ) (start : Cut Machine) (bytes 
 thaw-plain digest until start bytes =
     ap (λ (setup : Setup). answer_of (frozen_language setup (whole_of until (plain_cut without_limit start))) bytes)
     (setup-plain digest until start.consoles)
-    ∙ ap (λ (w : Draft → Option (Cut Machine)). answer_of (frozen_language (setup_of digest until start.consoles) w) bytes)
+    ∙ ap (λ (w : Draft → Option (Cut Machine)). answer_of (frozen_language (setup_of digest until start.consoles) w)
+    bytes)
     (λ i d. whole-plain until start d i)

@@ -27,8 +27,8 @@ record Passed (until : ℕ) (m : Machine) (n : ConsoleNumbers) (io : List ℕ) (
   applied : are_applied m.keys (keys_poured io).pressed n ≡ true
   drawn : are_drawn (place_poured n) lines ≡ true
 
-passed : (until : ℕ) (m : Machine) (n : ConsoleNumbers) (io : List ℕ) (drawn : DrawnLines) → can_go_on until m n io drawn ≡ true
-    → Passed until m n io drawn
+passed : (until : ℕ) (m : Machine) (n : ConsoleNumbers) (io : List ℕ) (drawn : DrawnLines)
+    → can_go_on until m n io drawn ≡ true → Passed until m n io drawn
 unfolding can_go_on
 passed until m n io drawn goes =
     let runs = and_parts _ _ goes in
@@ -60,12 +60,14 @@ times until n timed =
       words = grind (arith, nat_tests, timed);
     }
 
-drawn-is : (place : Position) (drawn : DrawnLines) → are_drawn place drawn ≡ true → length drawn.lines ≡ lines_drawn place
+drawn-is : (place : Position) (drawn : DrawnLines) → are_drawn place drawn ≡ true
+    → length drawn.lines ≡ lines_drawn place
 unfolding are_drawn
 drawn-is place drawn h = grind (arith, nat_tests, h)
 
 -- what a flash remembers is what one can
-sound-by : (backup : Backup) (machine : FlashMachine) → is_sound_flash backup machine ≡ true → IsSoundMachine backup machine
+sound-by : (backup : Backup) (machine : FlashMachine) → is_sound_flash backup machine ≡ true
+    → IsSoundMachine backup machine
 unfolding is_sound_flash
 sound-by Sram machine h = record {
   bank = grind (arith, nat_tests, h);

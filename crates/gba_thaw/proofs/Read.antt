@@ -23,19 +23,22 @@ use Rattle.link_order.specs.Cut.{Cut}
 
 -- ---- the answer
 
-pub refused-as : {A : Type 0} (setup S : Setup) (w : Draft → Option A) (bytes : List ℕ) (e : LineError ThawKind) → setup ≡ S
-    → ((whole : Draft → Option Draft) → answer_of (frozen_language setup whole) bytes ≡ Err e)
+pub refused-as : {A : Type 0} (setup S : Setup) (w : Draft → Option A) (bytes : List ℕ) (e : LineError ThawKind)
+    → setup ≡ S → ((whole : Draft → Option Draft) → answer_of (frozen_language setup whole) bytes ≡ Err e)
     → answer_of (frozen_language S w) bytes ≡ Err e
 refused-as setup S w bytes e same each =
     answers-follow S w bytes
-    ∙ ap (follow S w) (ap (λ (s : Setup). answer_of (frozen_language s (drafts S w)) bytes) (sym same) ∙ each (drafts S w))
+    ∙ ap (follow S w) (ap (λ (s : Setup). answer_of (frozen_language s (drafts S w)) bytes) (sym same)
+    ∙ each (drafts S w))
 
-pub thawed-as : {A : Type 0} (setup S : Setup) (w : Draft → Option A) (bytes : List ℕ) (number : ℕ) (d : Draft) → setup ≡ S
+pub thawed-as : {A : Type 0} (setup S : Setup) (w : Draft → Option A) (bytes : List ℕ) (number : ℕ) (d : Draft)
+    → setup ≡ S
     → ((whole : Draft → Option Draft) → answer_of (frozen_language setup whole) bytes ≡ judged number (whole d))
     → answer_of (frozen_language S w) bytes ≡ judged number (w d)
 thawed-as setup S w bytes number d same each =
     answers-follow S w bytes
-    ∙ ap (follow S w) (ap (λ (s : Setup). answer_of (frozen_language s (drafts S w)) bytes) (sym same) ∙ each (drafts S w))
+    ∙ ap (follow S w) (ap (λ (s : Setup). answer_of (frozen_language s (drafts S w)) bytes) (sym same)
+    ∙ each (drafts S w))
     ∙ sym (judged-follows S w number d)
 
 -- ---- the consoles
@@ -74,9 +77,9 @@ setup-backup digest until ms j m few within = by j refl within where
   by (suc (suc (suc zero))) same inside = there 3 inside
   by (suc (suc (suc (suc k)))) same inside = absurd (omega (arith, inside, few))
 
-module _ (digest : List ℕ) (until : ℕ) (start : Cut Machine) (setup : Setup) (same : setup ≡ setup_of digest until start.consoles)
-    (few : length start.consoles ≤ 4) (j : FilledJob) (d : Draft) (held : IsFilledJob j setup d)
-    (many : length d.consoles ≡ setup.consoles) where
+module _ (digest : List ℕ) (until : ℕ) (start : Cut Machine) (setup : Setup)
+    (same : setup ≡ setup_of digest until start.consoles) (few : length start.consoles ≤ 4) (j : FilledJob) (d : Draft)
+    (held : IsFilledJob j setup d) (many : length d.consoles ≡ setup.consoles) where
   pub count-is : length j.consoles ≡ length start.consoles
   count-is = held.count ∙ ap (λ (s : Setup). s.consoles) same
 
@@ -85,10 +88,10 @@ module _ (digest : List ℕ) (until : ℕ) (start : Cut Machine) (setup : Setup)
       let count : setup.consoles ≡ length start.consoles = ap (λ (s : Setup). s.consoles) same in
       match-from (setup_of digest until start.consoles) 0 start.consoles d.consoles j.consoles (many ∙ count) count-is
       (λ k f within. let here : k ≡ 0 + k = omega arith in
-      subst (λ (p : ℕ). IsFilled (backup_of (setup_of digest until start.consoles) p) (get_or d.consoles k console_at_first)
-      (get_or j.consoles k f)) here
-      (subst (λ (s : Setup). IsFilled (backup_of s k) (get_or d.consoles k console_at_first) (get_or j.consoles k f)) same
-      (held.consoles k f (omega (arith, within, count-is)))))
+      subst (λ (p : ℕ). IsFilled (backup_of (setup_of digest until start.consoles) p)
+      (get_or d.consoles k console_at_first) (get_or j.consoles k f)) here
+      (subst (λ (s : Setup). IsFilled (backup_of s k) (get_or d.consoles k console_at_first) (get_or j.consoles k f))
+      same (held.consoles k f (omega (arith, within, count-is)))))
       (λ k m within. let here : k ≡ 0 + k = omega arith in
       subst (λ (p : ℕ). backup_of (setup_of digest until start.consoles) p ≡ backup_in (get_or start.consoles k m)) here
       (setup-backup digest until start.consoles k m few within))
@@ -101,4 +104,5 @@ module _ (digest : List ℕ) (until : ℕ) (start : Cut Machine) (setup : Setup)
       ≡ cut_if start.delays (map sent_of d.sent) (all_thawed until start.consoles j.consoles)
   unfolding whole_of
   whole-is =
-      ap (cut_if start.delays (map sent_of d.sent)) (sym (all-come until start.consoles d.consoles j.consoles all-match))
+      ap (cut_if start.delays (map sent_of d.sent))
+      (sym (all-come until start.consoles d.consoles j.consoles all-match))

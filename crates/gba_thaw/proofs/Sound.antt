@@ -34,10 +34,12 @@ abbrev AllEmpty : List Machine → Type 0
 AllEmpty ms = All (λ (m : Machine). without_limit m ≡ forgotten (without_limit m)) ms
 
 -- what is poured into a console leaves its lists empty
-poured-empty : (parts : ConsoleParts) (lines : List (List ℕ)) (until : ℕ) (m : Machine) → IsEmpty (machine_poured parts lines until m)
+poured-empty : (parts : ConsoleParts) (lines : List (List ℕ)) (until : ℕ) (m : Machine)
+    → IsEmpty (machine_poured parts lines until m)
 poured-empty parts lines until m = refl
 
-some-empty : (test : Bool) (one new : Machine) → IsEmpty one → (if test then Some one else None) ≡ Some new → IsEmpty new
+some-empty : (test : Bool) (one new : Machine) → IsEmpty one → (if test then Some one else None) ≡ Some new
+    → IsEmpty new
 some-empty true one new empty same = subst (λ (m : Machine). IsEmpty m) (some-is one new same) empty
 some-empty false one new empty same = absurd cc
 
@@ -57,7 +59,8 @@ record AreThawed (ms new : List Machine) : Type 0 where
 
 front-parts : (ms : List Machine) (one : Option Machine) (rest : Option (List Machine)) (new : List Machine)
     → in_front one rest ≡ Some new
-    → ((x : Machine) (xs : List Machine) → one ≡ Some x → rest ≡ Some xs → new ≡ x ∷ xs → AreThawed ms new) → AreThawed ms new
+    → ((x : Machine) (xs : List Machine) → one ≡ Some x → rest ≡ Some xs → new ≡ x ∷ xs → AreThawed ms new)
+    → AreThawed ms new
 front-parts ms (Some one) (Some rest) new is go = go one rest refl refl (sym (some-is (one ∷ rest) new is))
 front-parts ms (Some one) None new is go = absurd cc
 front-parts ms None rest new is go = absurd cc
@@ -66,8 +69,8 @@ cons-empty : (x : Machine) (xs : List Machine) → IsEmpty x → AllEmpty xs →
 cons-empty x xs one others zero d within = one
 cons-empty x xs one others (suc k) d within = others k d (omega (arith, within))
 
-all-thawed : (until : ℕ) (ms : List Machine) (ds : List ConsoleDraft) (new : List Machine) → consoles_thawed until ms ds ≡ Some new
-    → AreThawed ms new
+all-thawed : (until : ℕ) (ms : List Machine) (ds : List ConsoleDraft) (new : List Machine)
+    → consoles_thawed until ms ds ≡ Some new → AreThawed ms new
 unfolding consoles_thawed
 all-thawed until [] ds new is =
     subst (λ (ns : List Machine). AreThawed [] ns) (some-is [] new is)
@@ -94,14 +97,16 @@ cut-parts delays sent None cut is = absurd cc
 cut-parts delays sent (Some ms) cut is = by (can_run (joined delays sent ms)) refl is where
   by : (t : Bool) → can_run (joined delays sent ms) ≡ t
       → (if t then Some (joined delays sent ms) else None) ≡ Some cut → CutParts delays sent (Some ms) cut
-  by true e same = record { machines = ms; made_is = refl; can = e; is = sym (some-is (joined delays sent ms) cut same) }
+  by true e same =
+      record { machines = ms; made_is = refl; can = e; is = sym (some-is (joined delays sent ms) cut same) }
   by false e same = absurd cc
 
 whole-of-test : (cut : Cut Machine) → is_whole console_kind cut ≡ true → IsWhole console_kind cut
 unfolding is_whole
 whole-of-test cut e = tested-whole console_kind cut e
 
-goes-on : (until : ℕ) (start : Cut Machine) (d : Draft) (cut : Cut Machine) → whole_of until start d ≡ Some cut → GoesOnFrom start cut
+goes-on : (until : ℕ) (start : Cut Machine) (d : Draft) (cut : Cut Machine) → whole_of until start d ≡ Some cut
+    → GoesOnFrom start cut
 unfolding whole_of
 goes-on until start d cut same =
     let sent = map sent_of d.sent in

@@ -28,7 +28,8 @@ pub none-made : (test : Bool) (parts : ConsoleParts) → None ≡ (if test then 
 none-made true parts h = absurd cc
 none-made false parts h = refl
 
-pub some-made : (test : Bool) (parts made : ConsoleParts) → Some made ≡ (if test then Some parts else None) → test ≡ true
+pub some-made : (test : Bool) (parts made : ConsoleParts) → Some made ≡ (if test then Some parts else None)
+    → test ≡ true
 some-made true parts made h = refl
 some-made false parts made h = absurd cc
 
@@ -42,7 +43,8 @@ pub told-of : (m : Machine) (told n : ConsoleNumbers) (io : List ℕ) (made : Op
     → made ≡ (if can_be_made m told io then Some (parts_thawed m told io) else None)
     → made ≡ (if can_be_made m n io then Some (parts_thawed m n io) else None)
 told-of m told n io made same is =
-    subst (λ (one : ConsoleNumbers). made ≡ (if can_be_made m one io then Some (parts_thawed m one io) else None)) same is
+    subst (λ (one : ConsoleNumbers). made ≡ (if can_be_made m one io then Some (parts_thawed m one io) else None)) same
+    is
 
 module _ (until : ℕ) (m : Machine) (n : ConsoleNumbers) (bytes : MemoryBytes) (drawn : DrawnLines) (io : List ℕ)
     (is : io ≡ bytes memory.Io) where

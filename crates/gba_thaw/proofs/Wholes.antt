@@ -53,7 +53,8 @@ gap-stops : (until : ℕ) (m : Machine) (n : ConsoleNumbers) (io : List ℕ) (dr
 unfolding can_go_on
 gap-stops until m n io drawn e =
     let lines : are_drawn (place_poured n) drawn ≡ false = gap-drawn (place_poured n) drawn e in
-    rw lines (falses (is_aligned (registers_poured n)) (is_timed until n) (are_applied m.keys (keys_poured io).pressed n)
+    rw lines (falses (is_aligned (registers_poured n)) (is_timed until n)
+    (are_applied m.keys (keys_poured io).pressed n)
     (have_left (channels_poured n io)) (has_mode n (unit_thawed m n io)) (runs_rightly m.off n (unit_thawed m n io))
     (are_known (unit_thawed m n io)))
 
@@ -67,13 +68,14 @@ none-with until m n bytes d gap =
     (second-false (can_be_made m n (bytes memory.Io)) (can_go_on until m n (bytes memory.Io) d)
     (says_io bytes (machine_thawed m n bytes d.lines)) (gap-stops until m n (bytes memory.Io) d gap))
 
-lines-by : (numbered : Bool) (until : ℕ) (m : Machine) (n : ConsoleNumbers) (bytes : MemoryBytes) (drawn : List (ℕ × List ℕ))
-    (d : DrawnLines) → are_numbered 0 drawn ≡ numbered → AreLines drawn d
+lines-by : (numbered : Bool) (until : ℕ) (m : Machine) (n : ConsoleNumbers) (bytes : MemoryBytes)
+    (drawn : List (ℕ × List ℕ)) (d : DrawnLines) → are_numbered 0 drawn ≡ numbered → AreLines drawn d
     → console_thawed until m n bytes d ≡ console_thawed until m n bytes (lines_read drawn)
 lines-by true until m n bytes drawn d e are =
     let same : d ≡ lines_read drawn =
     ap (λ (gap : Bool). let whole : DrawnLines = record { lines = d.lines; has_gap = gap } in whole) are.gap
-    ∙ ap (λ (ls : List (List ℕ)). let whole : DrawnLines = record { lines = ls; has_gap = not (are_numbered 0 drawn) } in whole)
+    ∙ ap (λ (ls : List (List ℕ)). let whole : DrawnLines =
+    record { lines = ls; has_gap = not (are_numbered 0 drawn) } in whole)
     (are.lines e) in
     ap (console_thawed until m n bytes) same
 lines-by false until m n bytes drawn d e are =
@@ -86,8 +88,10 @@ pub loose-comes : (until : ℕ) (m : Machine) (d : ConsoleDraft) (f : LooseConso
     → loose_thawed until m f ≡ draft_thawed until m d
 loose-comes until m d f is =
     ap (λ (n : ConsoleNumbers). console_thawed until m n (λ name. bytes_of name f.memories) f.drawn) is.numbers
-    ∙ bytes-count until m d.numbers (λ name. bytes_of name f.memories) (memories_read (backup_in m) d.memory) f.drawn is.memories.bytes
-    ∙ lines-by (are_numbered 0 d.drawn) until m d.numbers (memories_read (backup_in m) d.memory) d.drawn f.drawn refl is.drawn
+    ∙ bytes-count until m d.numbers (λ name. bytes_of name f.memories) (memories_read (backup_in m) d.memory) f.drawn
+    is.memories.bytes
+    ∙ lines-by (are_numbered 0 d.drawn) until m d.numbers (memories_read (backup_in m) d.memory) d.drawn f.drawn refl
+    is.drawn
 
 -- so are all consoles, of which each has its draft
 unfoldable pub AllMatch : List Machine → List ConsoleDraft → List LooseConsole → Type 0

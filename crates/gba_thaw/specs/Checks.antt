@@ -1,5 +1,5 @@
--- What a frozen file has to say of a console beside each number's range, so that a run can go on from it. Each is a test of
--- numbers, of the bytes of the I/O registers, and of the devices and the serial unit that they make.
+-- What a frozen file has to say of a console beside each number's range, so that a run can go on from it. Each is a
+-- test of numbers, of the bytes of the I/O registers, and of the devices and the serial unit that they make.
 use Rattle.std.specs.Prelude.{ℕ, ◌+◌, ◌-◌, ◌%◌, ◌^◌, ◌==◌, Bool, not, ◌&&◌, ◌||◌, nat_le, nat_lt, List, length, slice_index, slice_index_or, if◌then◌else◌}
 use Rattle.gba_dma.specs.Channels.{FourChannels}
 use Rattle.gba_dma.specs.declared.channel.Channel.{Channel}
@@ -28,16 +28,16 @@ is_aligned registers = slice_index registers 15 % unit_bytes (slice_index regist
 unfoldable pub is_timed : ℕ → ConsoleNumbers → Bool
 is_timed until n =
     nat_le (value_of Was n) (value_of Clock n) && nat_le (value_of Clock n) (value_of Was n + 512)
-    && nat_le (value_of Clock n) (until + 511) && nat_lt (value_of Frames n) (2 ^ 40) && nat_lt (value_of Samples n) (2 ^ 40)
-    && nat_lt (value_of Words n) (2 ^ 40)
+    && nat_le (value_of Clock n) (until + 511) && nat_lt (value_of Frames n) (2 ^ 40)
+    && nat_lt (value_of Samples n) (2 ^ 40) && nat_lt (value_of Words n) (2 ^ 40)
 
 -- the keys that are pressed once so many changes are applied
 unfoldable pub pressed_after : ℕ → List KeyState → ℕ
 pressed_after applied keys =
     if applied == 0 then 0 else (slice_index_or keys (applied - 1) (record { clock = 0; keys = 0 })).keys % 2 ^ 10
 
--- The changes of the keys that are applied are some of the console's, and these keys are pressed. Where the last step took any
--- cycles they are those which a step that begins with it applies.
+-- The changes of the keys that are applied are some of the console's, and these keys are pressed. Where the last step
+-- took any cycles they are those which a step that begins with it applies.
 unfoldable pub are_applied : List KeyState → ℕ → ConsoleNumbers → Bool
 are_applied keys pressed n =
     nat_le (value_of Applied n) (length keys)
@@ -62,11 +62,13 @@ is_idle n =
     && (value_of (Board board.SerialGot) n == 0) && (value_of (Board board.SerialSent) n == 0)
     && (value_of (Board board.SerialWord) n == 0)
 
--- A transfer runs in a mode that has transfers, its words are of that mode's width, and one runs only while the console is on.
+-- A transfer runs in a mode that has transfers, its words are of that mode's width, and one runs only while the
+-- console is on.
 unfoldable pub runs_rightly : ℕ → ConsoleNumbers → SerialUnit → Bool
 runs_rightly off n u =
     if is_running u
-    then nat_le off (value_of Clock n) && is_word_of (mode_of u) (sent_number u) && is_word_of (mode_of u) (word_number u)
+    then nat_le off (value_of Clock n) && is_word_of (mode_of u) (sent_number u)
+    && is_word_of (mode_of u) (word_number u)
     else is_idle n
 
 -- the mode is the one that the registers give

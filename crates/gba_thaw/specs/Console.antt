@@ -53,7 +53,8 @@ unit_thawed m n io = serial_poured (seat_of m.board.core.serial) n io
 -- what its devices and its processor are made of needs this
 unfoldable pub can_be_made : Machine → ConsoleNumbers → List ℕ → Bool
 can_be_made m n io =
-    are_stored io && has_status n && are_sound_devices n io && is_sound_flash (backup_of m.board.core.memory.backup) (flash_thawed n)
+    are_stored io && has_status n && are_sound_devices n io
+    && is_sound_flash (backup_of m.board.core.memory.backup) (flash_thawed n)
 
 -- and a run can go on from it only where, beside that, these tests hold
 unfoldable pub can_go_on : ℕ → Machine → ConsoleNumbers → List ℕ → DrawnLines → Bool
@@ -85,15 +86,15 @@ with_memories bytes m =
     (machine_with_part part.Inner 0 (bytes memory.Iwram)
     (machine_with_part part.Work 0 (bytes memory.Wram) m)))))
 
--- The console: its images, its seat, all changes of its keys, the clock below which it is off, and what is kept of what it makes
--- are those of the console at its start.
+-- The console: its images, its seat, all changes of its keys, the clock below which it is off, and what is kept of what
+-- it makes are those of the console at its start.
 abbrev pub machine_thawed : Machine → ConsoleNumbers → MemoryBytes → List (List ℕ) → Machine
 machine_thawed m n bytes lines =
     machine_poured (parts_thawed m n (bytes memory.Io)) lines (limit_thawed n)
     (machine_with_flash (flash_thawed n) (with_memories bytes m))
 
--- The bytes of the I/O registers are those that the console has then: so the timers' reloads and controls and the wave stand there
--- too, and what is only read is what would be read; a halfword that isn't there is 0.
+-- The bytes of the I/O registers are those that the console has then: so the timers' reloads and controls and the wave
+-- stand there too, and what is only read is what would be read; a halfword that isn't there is 0.
 abbrev pub says_io : MemoryBytes → Machine → Bool
 says_io bytes m = bytes_eq (io_bytes 512 m.board.core) (bytes memory.Io)
 

@@ -43,8 +43,8 @@ consoles_thawed until [] ds = Some []
 consoles_thawed until (m ∷ ms) [] = None
 consoles_thawed until (m ∷ ms) (d ∷ ds) = in_front (draft_thawed until m d) (consoles_thawed until ms ds)
 
--- The consoles with these signals, if a run can go on from them: they are sound and in time, and the signals can still be taken and
--- stand in their order. No more signals than that can be on their way.
+-- The consoles with these signals, if a run can go on from them: they are sound and in time, and the signals can still
+-- be taken and stand in their order. No more signals than that can be on their way.
 abbrev pub joined : Delays → List Sent → List Machine → Cut Machine
 joined delays sent machines = record { consoles = machines; delays = delays; sent = sent }
 
@@ -73,8 +73,8 @@ setup_of digest until machines = record {
   until = until;
 }
 
--- A frozen file's consoles on their cable, or its refusal, in a job of this digest and of so many cycles whose consoles stand at
--- their start.
+-- A frozen file's consoles on their cable, or its refusal, in a job of this digest and of so many cycles whose consoles
+-- stand at their start.
 abbrev pub thaw_of : List ℕ → ℕ → Cut Machine → List ℕ → Result (Cut Machine) (LineError ThawKind)
 thaw_of digest until start bytes =
     answer_of (frozen_language (setup_of digest until start.consoles) (whole_of until start)) bytes

@@ -1,5 +1,5 @@
--- Which bits of the I/O registers may be 1 in a frozen file, where only some bits of a halfword are stored. Halfwords that aren't named
--- here have all bits, or show what is kept elsewhere, or aren't there.
+-- Which bits of the I/O registers may be 1 in a frozen file, where only some bits of a halfword are stored. Halfwords
+-- that aren't named here have all bits, or show what is kept elsewhere, or aren't there.
 use Rattle.std.specs.Prelude.{ℕ, ◌==◌, Bool, ◌&&◌, List, bit_and}
 use Rattle.gba_loose_devices.specs.Values.{half_at}
 
@@ -7,8 +7,8 @@ use Rattle.gba_loose_devices.specs.Values.{half_at}
 abbrev pub has_bits : ℕ → ℕ → List ℕ → Bool
 has_bits offset bits io = bit_and (half_at offset io) bits == half_at offset io
 
--- of the picture: DISPCNT, BG0CNT and BG1CNT, the scrolls, the upper halves of the reference points, WININ and WINOUT, BLDCNT, BLDALPHA
--- and BLDY; the halfwords 002h, 04Ch and 04Eh between them have none (GBATEK, LCD I/O Registers)
+-- of the picture: DISPCNT, BG0CNT and BG1CNT, the scrolls, the upper halves of the reference points, WININ and WINOUT,
+-- BLDCNT, BLDALPHA and BLDY; the halfwords 002h, 04Ch and 04Eh between them have none (GBATEK, LCD I/O Registers)
 unfoldable pub is_picture_stored : List ℕ → Bool
 is_picture_stored io =
     has_bits 0x000 0xfff7 io && has_bits 0x002 0 io && has_bits 0x008 0xdfff io && has_bits 0x00a 0xdfff io
@@ -18,15 +18,16 @@ is_picture_stored io =
     && has_bits 0x048 0x3f3f io && has_bits 0x04a 0x3f3f io && has_bits 0x04c 0 io && has_bits 0x04e 0 io
     && has_bits 0x050 0x3fff io && has_bits 0x052 0x1f1f io && has_bits 0x054 0x001f io
 
--- of the sound: the channels, SOUNDCNT_L, SOUNDCNT_H, SOUNDCNT_X with what it shows of the channels, and SOUNDBIAS (GBATEK, GBA Sound
--- Controller)
+-- of the sound: the channels, SOUNDCNT_L, SOUNDCNT_H, SOUNDCNT_X with what it shows of the channels, and SOUNDBIAS
+-- (GBATEK, GBA Sound Controller)
 unfoldable pub is_sound_stored : List ℕ → Bool
 is_sound_stored io =
     has_bits 0x060 0x007f io && has_bits 0x064 0x47ff io && has_bits 0x06c 0x47ff io && has_bits 0x070 0x00e0 io
     && has_bits 0x072 0xe0ff io && has_bits 0x074 0x47ff io && has_bits 0x078 0xff3f io && has_bits 0x07c 0x40ff io
     && has_bits 0x080 0xff77 io && has_bits 0x082 0x770f io && has_bits 0x084 0x008f io && has_bits 0x088 0xc3fe io
 
--- of the DMA channels: the upper halves of their addresses, the counts of 0 to 2, and the controls (GBATEK, GBA DMA Transfers)
+-- of the DMA channels: the upper halves of their addresses, the counts of 0 to 2, and the controls (GBATEK, GBA DMA
+-- Transfers)
 unfoldable pub are_channels_stored : List ℕ → Bool
 are_channels_stored io =
     has_bits 0x0b2 0x07ff io && has_bits 0x0b6 0x07ff io && has_bits 0x0b8 0x3fff io && has_bits 0x0ba 0xf7e0 io
@@ -34,8 +35,8 @@ are_channels_stored io =
     && has_bits 0x0ca 0x0fff io && has_bits 0x0ce 0x07ff io && has_bits 0x0d0 0x3fff io && has_bits 0x0d2 0xf7e0 io
     && has_bits 0x0d6 0x0fff io && has_bits 0x0da 0x0fff io && has_bits 0x0de 0xffe0 io
 
--- of KEYCNT, RCNT, IE, IF, WAITCNT, IME and POSTFLG (GBATEK, GBA Keypad Input, GBA Communication Ports, GBA Interrupt Control, GBA System
--- Control)
+-- of KEYCNT, RCNT, IE, IF, WAITCNT, IME and POSTFLG (GBATEK, GBA Keypad Input, GBA Communication Ports, GBA Interrupt
+-- Control, GBA System Control)
 unfoldable pub is_rest_stored : List ℕ → Bool
 is_rest_stored io =
     has_bits 0x132 0xc3ff io && has_bits 0x134 0xc000 io && has_bits 0x200 0x3fff io && has_bits 0x202 0x3fff io

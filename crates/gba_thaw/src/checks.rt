@@ -166,8 +166,8 @@ fn is_word_of(mode: LinkMode, word: u32) -> bool
     }
 }
 
-/// Whether a transfer runs only while the console is on, and in a mode that has transfers; and there are no numbers of one where none
-/// runs.
+/// Whether a transfer runs only while the console is on, and in a mode that has transfers; and there are no numbers of
+/// one where none runs.
 #[tactic(auto, unfolding(crate::specs::Checks::runs_rightly, gba_numbers::specs::Fields::is_field, gba_numbers::specs::Fields::place_of))]
 pub(crate) fn runs_rightly(off: u64, numbers: &Numbers, serial: &Serial) -> bool
     ensures { result ≡ runs_rightly_of off numbers.now serial.now }

@@ -149,10 +149,10 @@ fn pour_all(console: &mut Console, parts: ConsoleParts, loose: &Loose, io: &[u8;
     console.pour(parts, loose.drawn().lines(), clock.saturating_sub(511));
 }
 
-/// Makes a console at the start of its job the whole one that was filled, in a job of so many cycles; false where no run
-/// can go on from that, and then nothing is promised of the console. It keeps its images, the changes of its keys, the clock
-/// below which it is off, and which lists it keeps; these are empty, and it steps no further before they are emptied for a
-/// segment. It takes no memory.
+/// Makes a console at the start of its job the whole one that was filled, in a job of so many cycles; false where no
+/// run can go on from that, and then nothing is promised of the console. It keeps its images, the changes of its keys,
+/// the clock below which it is off, and which lists it keeps; these are empty, and it steps no further before they are
+/// emptied for a segment. It takes no memory.
 pub fn whole(loose: &Loose, console: &mut Console, until: u64) -> bool
     requires until { until ≤ 2 ^ 39 }
     requires lengths { HaveLengths (backup_in console.old) loose.now.memories }

@@ -49,14 +49,14 @@ fn setup_of(consoles: &[Console], digest: &[u8; 32], until: u64) -> Setup
     }
 }
 
-/// Thaws a frozen file of at most 134,217,728 bytes: the consoles of the job of this digest and of so many cycles, which stand at
-/// their start on their cable, with what the file says of them and with the signals that it says are on their way. Refused is the
-/// first line that isn't one that may stand there, and at the last line a whole from which no run can go on; a file that is too long
-/// has line 0, one that ends too early the number of its lines plus 1. The start is dropped then. The digest is the SHA-256 of the
-/// job's log without the digests of its outputs.
+/// Thaws a frozen file of at most 134,217,728 bytes: the consoles of the job of this digest and of so many cycles,
+/// which stand at their start on their cable, with what the file says of them and with the signals that it says are on
+/// their way. Refused is the first line that isn't one that may stand there, and at the last line a whole from which no
+/// run can go on; a file that is too long has line 0, one that ends too early the number of its lines plus 1. The start
+/// is dropped then. The digest is the SHA-256 of the job's log without the digests of its outputs.
 ///
-/// The consoles keep their images, the changes of their keys, the clocks below which they are off, and which lists they keep; the
-/// lists are empty. They step no further before their lists are emptied for a segment.
+/// The consoles keep their images, the changes of their keys, the clocks below which they are off, and which lists they
+/// keep; the lists are empty. They step no further before their lists are emptied for a segment.
 pub fn thaw(
     alloc: Global,
     bytes: &[u8],

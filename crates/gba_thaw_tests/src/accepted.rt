@@ -1,6 +1,6 @@
-//! Frozen files that are accepted, most of which no run comes to: each is frozen again to itself, and its consoles go on to the job's end.
-//! The clocks and the counts there are reckoned by hand: a console steps by 3 cycles, 16 where it is halted or off; a pair of samples comes
-//! at each multiple of 512.
+//! Frozen files that are accepted, most of which no run comes to: each is frozen again to itself, and its consoles go
+//! on to the job's end. The clocks and the counts there are reckoned by hand: a console steps by 3 cycles, 16 where it
+//! is halted or off; a pair of samples comes at each multiple of 512.
 
 use crate::cases::Outcome::GoesOn;
 use crate::cases::{
@@ -195,7 +195,8 @@ fn devices_go_on(rt: HostRuntime) -> Result<(), Fail> {
     play_all(&rt, rt.alloc(), &DEVICES)
 }
 
-/// Places of the picture that aren't those of the clock, and consoles that are off. DISPSTAT and VCOUNT are those of the place.
+/// Places of the picture that aren't those of the clock, and consoles that are off. DISPSTAT and VCOUNT are those of
+/// the place.
 static PLACES: [Case; 6] = [
     // Line 159 is drawn 154 lines and 1,006 cycles later, at 190,734.
     Case {

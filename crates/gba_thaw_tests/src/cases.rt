@@ -119,14 +119,16 @@ pub(crate) const UNEVEN: Case = Case {
     ..PAIR
 };
 
-/// Two consoles near the end of their jobs' first second at 16,777,216, and a signal of console 0 takes as long as it may.
+/// Two consoles near the end of their jobs' first second at 16,777,216, and a signal of console 0 takes as
+/// long as it may.
 pub(crate) const LATE: Case = Case {
     job: "gbalink 2\ncycles 16780000\nlink 0 1 1024\nconsole 0\nbios b\nconsole 1\nbios b\nend\n",
     ..PAIR
 };
 
-/// Halfwords that stand in the I/O registers: key A is pressed; SIOCNT and RCNT are those of Multi at its highest speed, without and with a
-/// transfer that runs; and those of Normal8 with one (GBATEK, GBA Keypad Input and GBA Communication Ports).
+/// Halfwords that stand in the I/O registers: key A is pressed; SIOCNT and RCNT are those of Multi at its highest
+/// speed, without and with a transfer that runs; and those of Normal8 with one (GBATEK, GBA Keypad Input and GBA
+/// Communication Ports).
 pub(crate) const KEY_A: Change = (
     "mem io 000120",
     "mem io 000120 00000000000000000000000000000000fe030000008000000000000000000000",

@@ -1,4 +1,5 @@
-//! The laws of consoles that are made again of what a frozen file says of them, and of the rules that consoles keep in each run.
+//! The laws of consoles that are made again of what a frozen file says of them, and of the rules that consoles keep
+//! in each run.
 
 use gba_io::Core;
 

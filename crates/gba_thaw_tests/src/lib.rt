@@ -1,5 +1,6 @@
 #![tactic(auto)]
-//! Tests of consoles that go on from frozen files, which are made by hand, line by line: what is accepted, and why another one isn't.
+//! Tests of consoles that go on from frozen files, which are made by hand, line by line: what is accepted, and why
+//! another one isn't.
 
 #[cfg(test)]
 mod accepted;

@@ -10,8 +10,9 @@ use std::process::Abort;
 use std::test::Fail;
 use std::thread::Threads;
 
-/// The halfwords that have bits: an offset, how many they are from there on, and the bits of each (GBATEK, GBA I/O Map). Where they say
-/// what stands elsewhere they are as in the file: it is at dot 0 of line 0, all keys are free, and the mode is Other.
+/// The halfwords that have bits: an offset, how many they are from there on, and the bits of each (GBATEK, GBA I/O
+/// Map). Where they say what stands elsewhere they are as in the file: it is at dot 0 of line 0, all keys are free, and
+/// the mode is Other.
 static BITS: [(usize, usize, u16); 66] = [
     (0x000, 1, 0xFFF7),
     (0x004, 1, 0xFF38),

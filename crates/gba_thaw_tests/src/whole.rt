@@ -18,8 +18,8 @@ use std::test::Fail;
 /// The cycles of the job.
 const CYCLES: u64 = 1000;
 
-/// What a console has behind a step of 3 cycles: it is at the third line, in no mode of the cable, and knows of no other's.
-/// The other numbers are those of a console of which nothing was said.
+/// What a console has behind a step of 3 cycles: it is at the third line, in no mode of the cable, and knows of no
+/// other's. The other numbers are those of a console of which nothing was said.
 static NUMBERS: [(Field, u64); 9] = [
     (Field::Clock, 5),
     (Field::Was, 2),
@@ -32,8 +32,8 @@ static NUMBERS: [(Field, u64); 9] = [
     (Field::Board(BoardField::Known(3)), 3),
 ];
 
-/// Bytes of its memories that aren't 0: VCOUNT, SOUNDBIAS, KEYINPUT and RCNT (GBATEK, GBA I/O Map), and some of the work
-/// RAM.
+/// Bytes of its memories that aren't 0: VCOUNT, SOUNDBIAS, KEYINPUT and RCNT (GBATEK, GBA I/O Map), and some of
+/// the work RAM.
 static BYTES: [(u32, MemoryName, &[u8]); 5] = [
     (0x006, MemoryName::Io, &[0x02]),
     (0x088, MemoryName::Io, &[0x00, 0x02]),

@@ -49,10 +49,12 @@ wrapped a b = omega arith
 
 module _ {State : Type 0} (price : Price State) (load : Load State) (store : Store State)
     (quick-is : (one : Option ArmOp) (site : Site) (file : List ℕ) (bus : State)
-    → effect_of_quick price load store (quick_of_word one) site file bus ≡ effect_of_word price load store one site file bus) where
+    → effect_of_quick price load store (quick_of_word one) site file bus
+    ≡ effect_of_word price load store one site file bus) where
   -- a form of its own has the effect of the quick form
   narrowed-is : (one : Quick) (site : Site) (file : List ℕ) (bus : State)
-      → effect_of_form price load store (narrowed one) site file bus ≡ effect_of_quick price load store one site file bus
+      → effect_of_form price load store (narrowed one) site file bus
+      ≡ effect_of_quick price load store one site file bus
   unfolding effect_of_form
   narrowed-is (quick.AddNumber rn rd value) site file bus = refl
   narrowed-is (quick.AddPlain rn rd rm) site file bus = refl
@@ -157,7 +159,8 @@ processing-fits : (kind : ComputeOp) (rn rd : ℕ) (second : Operand) → rn < 1
 processing-fits kind rn rd second n d r i = record { registers = (n, (d, r)); immediates = i; offsets = tt }
 
 quiet-fits : (kind : ComputeOp) (rn rd : ℕ) (second : Operand) → rn < 16 → rd < 16
-    → Within (operand_registers second) → Within (operand_immediates second) → arm.Fits (quiet_processing kind rn rd second)
+    → Within (operand_registers second) → Within (operand_immediates second)
+    → arm.Fits (quiet_processing kind rn rd second)
 quiet-fits kind rn rd second n d r i = record { registers = (n, (d, r)); immediates = i; offsets = tt }
 
 comparison-fits : (kind : CompareOp) (rn : ℕ) (second : Operand) → rn < 16
@@ -180,10 +183,13 @@ wide : (number : ℕ) → number < 8 → number < 16
 wide number n = omega arith
 
 -- processing of two registers, of a register and a number
-with-register : (kind : ComputeOp) (rn rd rs : ℕ) → rn < 16 → rd < 16 → rs < 16 → arm.Fits (processing kind rn rd (plain rs))
-with-register kind rn rd rs n d s = processing-fits kind rn rd (plain rs) n d (plain-registers rs s) (plain-immediates rs)
+with-register : (kind : ComputeOp) (rn rd rs : ℕ) → rn < 16 → rd < 16 → rs < 16
+    → arm.Fits (processing kind rn rd (plain rs))
+with-register kind rn rd rs n d s =
+    processing-fits kind rn rd (plain rs) n d (plain-registers rs s) (plain-immediates rs)
 
-with-number : (kind : ComputeOp) (rn rd value : ℕ) → rn < 16 → rd < 16 → value < 256 → arm.Fits (processing kind rn rd (small_number value))
+with-number : (kind : ComputeOp) (rn rd value : ℕ) → rn < 16 → rd < 16 → value < 256
+    → arm.Fits (processing kind rn rd (small_number value))
 with-number kind rn rd value n d v = processing-fits kind rn rd (small_number value) n d tt (small-immediates value v)
 
 compare-register : (kind : CompareOp) (rn rs : ℕ) → rn < 16 → rs < 16 → arm.Fits (comparison kind rn (plain rs))
@@ -256,10 +262,14 @@ scaled-fits true o5 o = omega arith
 scaled-fits false o5 o = omega arith
 
 push_or_pop-fits : (l r : Bool) (list8 : ℕ) → list8 < 256 → arm.Fits (push_or_pop l r list8)
-push_or_pop-fits true true list8 n = record { registers = (omega arith, tt); immediates = (omega arith, tt); offsets = tt }
-push_or_pop-fits true false list8 n = record { registers = (omega arith, tt); immediates = (omega arith, tt); offsets = tt }
-push_or_pop-fits false true list8 n = record { registers = (omega arith, tt); immediates = (omega arith, tt); offsets = tt }
-push_or_pop-fits false false list8 n = record { registers = (omega arith, tt); immediates = (omega arith, tt); offsets = tt }
+push_or_pop-fits true true list8 n =
+    record { registers = (omega arith, tt); immediates = (omega arith, tt); offsets = tt }
+push_or_pop-fits true false list8 n =
+    record { registers = (omega arith, tt); immediates = (omega arith, tt); offsets = tt }
+push_or_pop-fits false true list8 n =
+    record { registers = (omega arith, tt); immediates = (omega arith, tt); offsets = tt }
+push_or_pop-fits false false list8 n =
+    record { registers = (omega arith, tt); immediates = (omega arith, tt); offsets = tt }
 
 narrowed-fits : (one : Quick) → QuickFits one → FormFits (narrowed one)
 narrowed-fits (quick.AddNumber rn rd value) fits = fits
@@ -365,5 +375,6 @@ module _ (quick-fits : (one : Option ArmOp) → IfSome one arm.Fits → QuickFit
   option-fits None fits = tt
   option-fits (Some one) fits = form-fits (meaning_of one) (meaning-fits one fits)
 
-  pub half-form-fits : ((half : ℕ) → IfSome (operation half) thumb.Fits) → (half : ℕ) → FormFits (form_of_half (operation half))
+  pub half-form-fits : ((half : ℕ) → IfSome (operation half) thumb.Fits) → (half : ℕ)
+      → FormFits (form_of_half (operation half))
   half-form-fits fits half = option-fits (operation half) (fits half)

@@ -15,8 +15,8 @@ use Rattle.gba_thumb_exec.specs.declared.meaning.Meaning.TheVariants.{Arm, NearL
 use Rattle.gba_thumb_table.specs.declared.operation.ThumbOp.{ThumbOp}
 use Rattle.gba_word.specs.Extension.{sign_extension}
 
--- What a Thumb operation leaves. Most have the effect of the ARM operation that they mean; those that no ARM operation says
--- have equations here (GBATEK, THUMB.6, THUMB.12, THUMB.16, THUMB.18 and THUMB.19).
+-- What a Thumb operation leaves. Most have the effect of the ARM operation that they mean; those that no ARM operation
+-- says have equations here (GBATEK, THUMB.6, THUMB.12, THUMB.16, THUMB.18 and THUMB.19).
 
 -- so many words above the PC, the instruction's address plus 4 with the low two bits cleared
 unfoldable pub near_address : ℕ → Site → ℕ

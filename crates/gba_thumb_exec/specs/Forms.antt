@@ -23,7 +23,8 @@ use Rattle.gba_thumb_exec.specs.declared.meaning.Meaning.TheVariants.{Arm, NearL
 use Rattle.gba_thumb_table.specs.declared.operation.ThumbOp.{ThumbOp}
 use Rattle.gba_word.specs.declared.kinds.Shift.TheVariants.{Lsl, Lsr}
 
--- How halfwords are performed. The law `forms_have_their_effect` says that they then have the effect of their operation.
+-- How halfwords are performed. The law `forms_have_their_effect` says that they then have the effect of their
+-- operation.
 
 -- a jump by so many halfwords, as a number of bytes modulo 2 ^ 32
 abbrev pub branch_distance : ℕ → ℕ
@@ -85,7 +86,8 @@ abbrev pub form_of_half : Option ThumbOp → Form
 form_of_half None = form.Quick quick.Trap
 form_of_half (Some operation) = form_of (meaning_of operation)
 
--- A form with the commonest ones taken back: a quick form, B by so many bytes under a condition, or a meaning of its own.
+-- A form with the commonest ones taken back: a quick form, B by so many bytes under a condition, or a
+-- meaning of its own.
 pub data Wide : Type 0 where
   Quickly : Quick → Wide
   Under : Condition → ℕ → Wide

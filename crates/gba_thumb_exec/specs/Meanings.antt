@@ -8,8 +8,8 @@ use Rattle.gba_thumb_table.specs.declared.operation.ThumbOp.{ThumbOp}
 use Rattle.gba_thumb_table.specs.declared.operation.ThumbOp.TheVariants as op
 use Rattle.gba_word.specs.Extension.{sign_extension}
 
--- What each Thumb operation means: most formats an ARM operation (GBATEK, THUMB.1 to THUMB.19). Distances are signed numbers of
--- halfwords, of 32 bits.
+-- What each Thumb operation means: most formats an ARM operation (GBATEK, THUMB.1 to THUMB.19). Distances are signed
+-- numbers of halfwords, of 32 bits.
 abbrev pub meaning_of : ThumbOp → Meaning
 meaning_of (op.Format1 op o5 rs rd) = Arm (shift_by_constant op o5 rs rd)
 meaning_of (op.Format2 i op x3 rs rd) = Arm (add_or_subtract i op x3 rs rd)

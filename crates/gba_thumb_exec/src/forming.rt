@@ -19,8 +19,8 @@ use gba_exec_registers::{Site, code_price, condition_holds, jump, jump_price};
 use gba_exec_transfers::LoadUnit;
 use gba_psr::Registers;
 
-/// Performs a form and answers the cycles. r15 is the address of the next instruction. The common forms stand here, to be
-/// inlined where it is called; so it is called at one place.
+/// Performs a form and answers the cycles. r15 is the address of the next instruction. The common forms stand here, to
+/// be inlined where it is called; so it is called at one place.
 #[inline(always)]
 #[tactic(auto, unfolding(crate::specs::Forms::effect_of_form, gba_exec_quick::specs::Effects::effect_of_quick))]
 pub fn perform_form<B: Bus>(registers: &mut Registers, bus: &mut B, site: Site, one: &Form) -> u32

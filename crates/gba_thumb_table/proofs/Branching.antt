@@ -42,8 +42,10 @@ format_in-key half =
 -- a number for each format, and back
 unfoldable pub format_at : ℕ → Format
 format_at n =
-    get_or (format.Format1 ∷ format.Format2 ∷ format.Format3 ∷ format.Format4 ∷ format.Format5 ∷ format.Format6 ∷ format.Format7
-    ∷ format.Format8 ∷ format.Format9 ∷ format.Format10 ∷ format.Format11 ∷ format.Format12 ∷ format.Format13 ∷ format.Format14
+    get_or (format.Format1 ∷ format.Format2 ∷ format.Format3 ∷ format.Format4 ∷ format.Format5 ∷ format.Format6
+    ∷ format.Format7
+    ∷ format.Format8 ∷ format.Format9 ∷ format.Format10 ∷ format.Format11 ∷ format.Format12 ∷ format.Format13
+    ∷ format.Format14
     ∷ format.Format15 ∷ format.Format16 ∷ format.Format17 ∷ format.Format18 ∷ format.Format19 ∷ []) n format.Undefined
 
 abbrev pub number : Format → ℕ

@@ -46,7 +46,8 @@ format1-back half kind o5 rs rd e b1 b2 b3 b4 =
     let read_o5 : field half 6 5 ≡ o5 = omega arith in
     let read_rs : field half 3 3 ≡ rs = omega arith in
     let read_rd : field half 0 3 ≡ rd = omega arith in
-    reads format.Format1 (omega arith) half _ (grind (arith, nat_tests)) (rw (read_kind, read_o5, read_rs, read_rd) refl)
+    reads format.Format1 (omega arith) half _ (grind (arith, nat_tests))
+    (rw (read_kind, read_o5, read_rs, read_rd) refl)
 
 format2-back : (half : ℕ) (i kind : Bool) (x3 rs rd : ℕ) → half ≡ pack (diagram (op.Format2 i kind x3 rs rd))
     → x3 < 8 → rs < 8 → rd < 8 → operation half ≡ Some (op.Format2 i kind x3 rs rd)

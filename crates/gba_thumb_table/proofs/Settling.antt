@@ -50,7 +50,8 @@ settled-rows half =
 -- and no other format does
 abbrev found_at : ℕ → ℕ → Bool
 found_at place high =
-    if settled (format_at place) high then nat_eq (number (format_in rows (kept high))) (number (format_at place)) else true
+    if settled (format_at place) high then nat_eq (number (format_in rows (kept high))) (number (format_at place))
+    else true
 
 all_found : all_below (λ place. all_below (found_at place) 256) 19 ≡ true
 unfolding rows all_below format_at

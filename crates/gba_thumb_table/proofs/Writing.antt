@@ -68,54 +68,64 @@ format9-there half small s =
     let high : field half 8 8 / 32 ≡ 3 = grind (arith, nat_tests) in
     rw (flag-there (field half 12 1) (omega arith), flag-there (field half 11 1) (omega arith)) (omega arith)
 
-format10-there : (half : ℕ) → half < 2 ^ 16 → Settled format.Format10 half → pack (diagram (format10 (field half))) ≡ half
+format10-there : (half : ℕ) → half < 2 ^ 16 → Settled format.Format10 half
+    → pack (diagram (format10 (field half))) ≡ half
 format10-there half small s =
     let high : field half 8 8 / 16 ≡ 8 = grind (arith, nat_tests) in
     rw (flag-there (field half 11 1) (omega arith)) (omega arith)
 
-format11-there : (half : ℕ) → half < 2 ^ 16 → Settled format.Format11 half → pack (diagram (format11 (field half))) ≡ half
+format11-there : (half : ℕ) → half < 2 ^ 16 → Settled format.Format11 half
+    → pack (diagram (format11 (field half))) ≡ half
 format11-there half small s =
     let high : field half 8 8 / 16 ≡ 9 = grind (arith, nat_tests) in
     rw (flag-there (field half 11 1) (omega arith)) (omega arith)
 
-format12-there : (half : ℕ) → half < 2 ^ 16 → Settled format.Format12 half → pack (diagram (format12 (field half))) ≡ half
+format12-there : (half : ℕ) → half < 2 ^ 16 → Settled format.Format12 half
+    → pack (diagram (format12 (field half))) ≡ half
 format12-there half small s =
     let high : field half 8 8 / 16 ≡ 10 = grind (arith, nat_tests) in
     rw (flag-there (field half 11 1) (omega arith)) (omega arith)
 
-format13-there : (half : ℕ) → half < 2 ^ 16 → Settled format.Format13 half → pack (diagram (format13 (field half))) ≡ half
+format13-there : (half : ℕ) → half < 2 ^ 16 → Settled format.Format13 half
+    → pack (diagram (format13 (field half))) ≡ half
 format13-there half small s =
     let high : field half 8 8 ≡ 0xB0 = grind (arith, nat_tests) in
     rw (flag-there (field half 7 1) (omega arith)) (omega arith)
 
-format14-there : (half : ℕ) → half < 2 ^ 16 → Settled format.Format14 half → pack (diagram (format14 (field half))) ≡ half
+format14-there : (half : ℕ) → half < 2 ^ 16 → Settled format.Format14 half
+    → pack (diagram (format14 (field half))) ≡ half
 format14-there half small s =
     let high : field half 8 8 / 16 ≡ 11 = grind (arith, nat_tests) in
     let high_2 : field half 8 8 / 2 % 4 ≡ 2 = grind (arith, nat_tests) in
     rw (flag-there (field half 11 1) (omega arith), flag-there (field half 8 1) (omega arith)) (omega arith)
 
-format15-there : (half : ℕ) → half < 2 ^ 16 → Settled format.Format15 half → pack (diagram (format15 (field half))) ≡ half
+format15-there : (half : ℕ) → half < 2 ^ 16 → Settled format.Format15 half
+    → pack (diagram (format15 (field half))) ≡ half
 format15-there half small s =
     let high : field half 8 8 / 16 ≡ 12 = grind (arith, nat_tests) in
     rw (flag-there (field half 11 1) (omega arith)) (omega arith)
 
-format16-there : (half : ℕ) → half < 2 ^ 16 → Settled format.Format16 half → pack (diagram (format16 (field half))) ≡ half
+format16-there : (half : ℕ) → half < 2 ^ 16 → Settled format.Format16 half
+    → pack (diagram (format16 (field half))) ≡ half
 format16-there half small s =
     let high : field half 8 8 / 16 ≡ 13 = grind (arith, nat_tests) in
     let high_2 : field half 8 8 % 16 < 14 = grind (arith, nat_tests) in
     omega arith
 
-format17-there : (half : ℕ) → half < 2 ^ 16 → Settled format.Format17 half → pack (diagram (format17 (field half))) ≡ half
+format17-there : (half : ℕ) → half < 2 ^ 16 → Settled format.Format17 half
+    → pack (diagram (format17 (field half))) ≡ half
 format17-there half small s =
     let high : field half 8 8 ≡ 0xDF = grind (arith, nat_tests) in
     omega arith
 
-format18-there : (half : ℕ) → half < 2 ^ 16 → Settled format.Format18 half → pack (diagram (format18 (field half))) ≡ half
+format18-there : (half : ℕ) → half < 2 ^ 16 → Settled format.Format18 half
+    → pack (diagram (format18 (field half))) ≡ half
 format18-there half small s =
     let high : field half 8 8 / 8 ≡ 28 = grind (arith, nat_tests) in
     omega arith
 
-format19-there : (half : ℕ) → half < 2 ^ 16 → Settled format.Format19 half → pack (diagram (format19 (field half))) ≡ half
+format19-there : (half : ℕ) → half < 2 ^ 16 → Settled format.Format19 half
+    → pack (diagram (format19 (field half))) ≡ half
 format19-there half small s =
     let high : field half 8 8 / 16 ≡ 15 = grind (arith, nat_tests) in
     rw (flag-there (field half 11 1) (omega arith)) (omega arith)

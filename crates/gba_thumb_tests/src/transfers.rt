@@ -4,8 +4,8 @@ use crate::start::{at, patterned};
 use gba_bus::{Bus, Width};
 use gba_thumb_exec::execute;
 
-// r1, r2, r13 and a halfword at 08000000h; r0, r1, r13 and r15 after it, a word of memory then, and the cycles. Before it
-// r0 is A1B2C3D4h and r14 03000041h; the word is at the address that stands after the halfword.
+// r1, r2, r13 and a halfword at 08000000h; r0, r1, r13 and r15 after it, a word of memory then, and the cycles. Before
+// it r0 is A1B2C3D4h and r14 03000041h; the word is at the address that stands after the halfword.
 type Case = (u32, u32, u32, u16, u32, (u32, u32, u32, u32, u32, u32));
 
 static SINGLES: [Case; 18] = [

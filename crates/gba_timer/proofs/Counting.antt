@@ -14,8 +14,8 @@ data Prescaler : ℕ → Type 0 where
   P256 : Prescaler 256
   P1024 : Prescaler 1024
 
-by_choice : (choice : ℕ) (first second third : Bool) → nat_eq choice 0 ≡ first → nat_eq choice 1 ≡ second → nat_eq choice 2 ≡ third
-    → Prescaler (prescaler_of choice)
+by_choice : (choice : ℕ) (first second third : Bool) → nat_eq choice 0 ≡ first → nat_eq choice 1 ≡ second
+    → nat_eq choice 2 ≡ third → Prescaler (prescaler_of choice)
 by_choice choice true second third a b c = rw a P1
 by_choice choice false true third a b c = rw (a, b) P64
 by_choice choice false false true a b c = rw (a, b, c) P256
@@ -59,7 +59,8 @@ count-beyond _ P256 counter reload phase count h = grind arith
 count-beyond _ P1024 counter reload phase count h = grind arith
 
 phase-next : (p : ℕ) → Prescaler p → (phase count : ℕ)
-    → (if nat_le p (phase_at p phase count + 1) then 0 else phase_at p phase count + 1) ≡ (min phase (p - 1) + (count + 1)) % p
+    → (if nat_le p (phase_at p phase count + 1) then 0 else phase_at p phase count + 1)
+    ≡ (min phase (p - 1) + (count + 1)) % p
 phase-next _ P1 phase count = grind arith
 phase-next _ P64 phase count = grind arith
 phase-next _ P256 phase count = grind arith
@@ -101,24 +102,28 @@ below_is counter e = grind arith
 
 module _ (most : ℕ) where
   -- a timer that counts cycles, after so many that it is quiet
-  next-count : (count : ℕ) (t : Timer) (low : Bool) → is_running t ≡ true → is_cascade t ≡ false → nat_le t.counter 0xffff ≡ low
-      → count + 1 ≤ own_quiet most t → NextCount (prescaler t) t.counter t.reload t.phase count
+  next-count : (count : ℕ) (t : Timer) (low : Bool) → is_running t ≡ true → is_cascade t ≡ false
+      → nat_le t.counter 0xffff ≡ low → count + 1 ≤ own_quiet most t
+      → NextCount (prescaler t) t.counter t.reload t.phase count
   next-count count t true r k l h =
       let within = rw (r, k, l) at h in
-      count-next (prescaler t) (is_prescaler (field t.control 0 2)) t.counter t.reload t.phase count (omega (arith, within))
+      count-next (prescaler t) (is_prescaler (field t.control 0 2)) t.counter t.reload t.phase count
+      (omega (arith, within))
   next-count count t false r k l h =
-      count-beyond (prescaler t) (is_prescaler (field t.control 0 2)) t.counter t.reload t.phase count (above t.counter l)
+      count-beyond (prescaler t) (is_prescaler (field t.control 0 2)) t.counter t.reload t.phase count
+      (above t.counter l)
 
-  next-end : (count : ℕ) (t : Timer) (low : Bool) → is_running t ≡ true → is_cascade t ≡ false → nat_le t.counter 0xffff ≡ low
-      → count + 1 ≤ own_quiet most t → ends_at (prescaler t) t.counter t.phase count ≡ false
+  next-end : (count : ℕ) (t : Timer) (low : Bool) → is_running t ≡ true → is_cascade t ≡ false
+      → nat_le t.counter 0xffff ≡ low → count + 1 ≤ own_quiet most t
+      → ends_at (prescaler t) t.counter t.phase count ≡ false
   next-end count t true r k l h =
       let within = rw (r, k, l) at h in
       no-overflow (prescaler t) (is_prescaler (field t.control 0 2)) t.counter t.phase count (omega (arith, within))
   next-end count t false r k l h =
       no-overflow-beyond (prescaler t) (is_prescaler (field t.control 0 2)) t.counter t.phase count (above t.counter l)
 
-  cycle-skipped_by : (count : ℕ) (t : Timer) (running cascade : Bool) → is_running t ≡ running → is_cascade t ≡ cascade → count + 1 ≤ own_quiet most t
-      → timer_after false (skipped_timer count t) ≡ skipped_timer (count + 1) t
+  cycle-skipped_by : (count : ℕ) (t : Timer) (running cascade : Bool) → is_running t ≡ running → is_cascade t ≡ cascade
+      → count + 1 ≤ own_quiet most t → timer_after false (skipped_timer count t) ≡ skipped_timer (count + 1) t
   cycle-skipped_by count t false cascade r k h = rw r refl
   cycle-skipped_by count t true true r k h = rw (r, k) refl
   cycle-skipped_by count t true false r k h =
@@ -128,24 +133,27 @@ module _ (most : ℕ) where
       let phase = phase-next p pre t.phase count in
       rw (r, k, apart count) (λ i. record t { counter = counter i; phase = phase i })
 
-  pub cycle-skipped : (count : ℕ) (t : Timer) → count + 1 ≤ own_quiet most t → timer_after false (skipped_timer count t) ≡ skipped_timer (count + 1) t
+  pub cycle-skipped : (count : ℕ) (t : Timer) → count + 1 ≤ own_quiet most t
+      → timer_after false (skipped_timer count t) ≡ skipped_timer (count + 1) t
   cycle-skipped count t h = cycle-skipped_by count t (is_running t) (is_cascade t) refl refl h
 
-  overflows-skipped_by : (count : ℕ) (t : Timer) (running cascade : Bool) → is_running t ≡ running → is_cascade t ≡ cascade → count + 1 ≤ own_quiet most t
-      → overflows false (skipped_timer count t) ≡ false
+  overflows-skipped_by : (count : ℕ) (t : Timer) (running cascade : Bool) → is_running t ≡ running
+      → is_cascade t ≡ cascade → count + 1 ≤ own_quiet most t → overflows false (skipped_timer count t) ≡ false
   overflows-skipped_by count t false cascade r k h = rw r refl
   overflows-skipped_by count t true true r k h = rw (r, k) refl
   overflows-skipped_by count t true false r k h = rw (r, k) (next-end count t (nat_le t.counter 0xffff) r k refl h)
 
-  pub overflows-skipped : (count : ℕ) (t : Timer) → count + 1 ≤ own_quiet most t → overflows false (skipped_timer count t) ≡ false
+  pub overflows-skipped : (count : ℕ) (t : Timer) → count + 1 ≤ own_quiet most t
+      → overflows false (skipped_timer count t) ≡ false
   overflows-skipped count t h = overflows-skipped_by count t (is_running t) (is_cascade t) refl refl h
 
   -- where it is quiet for fewer cycles than are looked at, it overflows in the next, whatever the timer below does
   few : (n : ℕ) → n ≡ most → n < most → ⊥
   few n e h = omega (arith, e, h)
 
-  overflows-next_by : (below : Bool) (t : Timer) (running cascade low : Bool) → is_running t ≡ running → is_cascade t ≡ cascade
-      → nat_le t.counter 0xffff ≡ low → own_quiet most t < most → overflows below (skipped_timer (own_quiet most t) t) ≡ true
+  overflows-next_by : (below : Bool) (t : Timer) (running cascade low : Bool) → is_running t ≡ running
+      → is_cascade t ≡ cascade → nat_le t.counter 0xffff ≡ low → own_quiet most t < most
+      → overflows below (skipped_timer (own_quiet most t) t) ≡ true
   overflows-next_by below t false cascade low r k l h = absurd (few (own_quiet most t) (rw r refl) h)
   overflows-next_by below t true true low r k l h = absurd (few (own_quiet most t) (rw (r, k) refl) h)
   overflows-next_by below t true false false r k l h = absurd (few (own_quiet most t) (rw (r, k, l) refl) h)
@@ -153,12 +161,17 @@ module _ (most : ℕ) where
       let p = prescaler t in
       let whole : own_quiet most t ≡ min (left_of p t.counter t.phase) most = rw (r, k, l) refl in
       let count : own_quiet most t ≡ left_of p t.counter t.phase = omega (arith, whole, h) in
-      let ends = an-overflow p (is_prescaler (field t.control 0 2)) t.counter t.phase (own_quiet most t) (below_is t.counter l) count in
-      let counts : overflows below (skipped_timer (own_quiet most t) t) ≡ ends_at p t.counter t.phase (own_quiet most t) = rw (r, k) refl in
+      let ends =
+      an-overflow p (is_prescaler (field t.control 0 2)) t.counter t.phase (own_quiet most t) (below_is t.counter l)
+      count in
+      let counts : overflows below (skipped_timer (own_quiet most t) t)
+      ≡ ends_at p t.counter t.phase (own_quiet most t) = rw (r, k) refl in
       counts ∙ ends
 
-  pub overflows-next : (below : Bool) (t : Timer) → own_quiet most t < most → overflows below (skipped_timer (own_quiet most t) t) ≡ true
-  overflows-next below t h = overflows-next_by below t (is_running t) (is_cascade t) (nat_le t.counter 0xffff) refl refl refl h
+  pub overflows-next : (below : Bool) (t : Timer) → own_quiet most t < most
+      → overflows below (skipped_timer (own_quiet most t) t) ≡ true
+  overflows-next below t h =
+      overflows-next_by below t (is_running t) (is_cascade t) (nat_le t.counter 0xffff) refl refl refl h
 
   pub own-most : (t : Timer) → own_quiet most t ≤ most
   own-most t = grind arith
@@ -223,20 +236,27 @@ module _ (most : ℕ) where
   silent-cycle count ts h =
       let each = quiet-each (count + 1) ts h in
       let a = overflows-skipped most count ts.timer0 each.timer0 in
-      let b = ap (λ below. overflows below (skipped_timer count ts.timer1)) a ∙ overflows-skipped most count ts.timer1 each.timer1 in
-      let c = ap (λ below. overflows below (skipped_timer count ts.timer2)) b ∙ overflows-skipped most count ts.timer2 each.timer2 in
-      let d = ap (λ below. overflows below (skipped_timer count ts.timer3)) c ∙ overflows-skipped most count ts.timer3 each.timer3 in
+      let b = ap (λ below. overflows below (skipped_timer count ts.timer1)) a
+      ∙ overflows-skipped most count ts.timer1 each.timer1 in
+      let c = ap (λ below. overflows below (skipped_timer count ts.timer2)) b
+      ∙ overflows-skipped most count ts.timer2 each.timer2 in
+      let d = ap (λ below. overflows below (skipped_timer count ts.timer3)) c
+      ∙ overflows-skipped most count ts.timer3 each.timer3 in
       record { timer0 = a; timer1 = b; timer2 = c; timer3 = d }
 
-  next-skipped : (count : ℕ) (ts : FourTimers) → count + 1 ≤ own_quiets most ts → cycle (after_skip count ts) ≡ after_skip (count + 1) ts
+  next-skipped : (count : ℕ) (ts : FourTimers) → count + 1 ≤ own_quiets most ts
+      → cycle (after_skip count ts) ≡ after_skip (count + 1) ts
   unfolding after_skip cycle
   next-skipped count ts h =
       let each = quiet-each (count + 1) ts h in
       let silent = silent-cycle count ts h in
       let a = cycle-skipped most count ts.timer0 each.timer0 in
-      let b = ap (λ below. timer_after below (skipped_timer count ts.timer1)) silent.timer0 ∙ cycle-skipped most count ts.timer1 each.timer1 in
-      let c = ap (λ below. timer_after below (skipped_timer count ts.timer2)) silent.timer1 ∙ cycle-skipped most count ts.timer2 each.timer2 in
-      let d = ap (λ below. timer_after below (skipped_timer count ts.timer3)) silent.timer2 ∙ cycle-skipped most count ts.timer3 each.timer3 in
+      let b = ap (λ below. timer_after below (skipped_timer count ts.timer1)) silent.timer0
+      ∙ cycle-skipped most count ts.timer1 each.timer1 in
+      let c = ap (λ below. timer_after below (skipped_timer count ts.timer2)) silent.timer1
+      ∙ cycle-skipped most count ts.timer2 each.timer2 in
+      let d = ap (λ below. timer_after below (skipped_timer count ts.timer3)) silent.timer2
+      ∙ cycle-skipped most count ts.timer3 each.timer3 in
       λ i. record { timer0 = a i; timer1 = b i; timer2 = c i; timer3 = d i }
 
   -- so a skip is so many cycles
@@ -253,7 +273,8 @@ pub after_cycles-more : (n : ℕ) (ts : FourTimers) → after_cycles (n + 1) ts 
 unfolding after_cycles
 after_cycles-more n ts = rw add-one refl
 
-pub with_marks-more : (n : ℕ) (ts : FourTimers) (marks : List ℕ) → with_marks (n + 1) ts marks ≡ slice_set (with_marks n ts marks) n (overflow_mark (after_cycles n ts))
+pub with_marks-more : (n : ℕ) (ts : FourTimers) (marks : List ℕ)
+    → with_marks (n + 1) ts marks ≡ slice_set (with_marks n ts marks) n (overflow_mark (after_cycles n ts))
 unfolding with_marks
 with_marks-more n ts marks = rw add-one refl
 

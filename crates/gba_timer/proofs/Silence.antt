@@ -13,36 +13,48 @@ use Rattle.gba_timer.proofs.Counting.{IsQuietEach, cycle-skipped, overflows-next
 
 module _ (most : ℕ) where
   -- the nearest overflow comes after the quiet cycles
-  comes-first : (q : ℕ) (ts : FourTimers) → own_quiet most ts.timer0 ≡ q → q < most → any_overflow (after_skip q ts) ≡ true
+  comes-first : (q : ℕ) (ts : FourTimers) → own_quiet most ts.timer0 ≡ q → q < most
+      → any_overflow (after_skip q ts) ≡ true
   unfolding after_skip
   comes-first q ts e small =
       let due = overflows-next most false ts.timer0 (omega (arith, e, small)) in
-      let here : overflow0 (after_skip q ts) ≡ true = ap (λ n. overflows false (skipped_timer n ts.timer0)) (sym e) ∙ due in
-      this-one (overflow0 (after_skip q ts) || overflow1 (after_skip q ts)) _ (this-one (overflow0 (after_skip q ts)) _ here)
+      let here : overflow0 (after_skip q ts) ≡ true =
+      ap (λ n. overflows false (skipped_timer n ts.timer0)) (sym e) ∙ due in
+      this-one (overflow0 (after_skip q ts) || overflow1 (after_skip q ts)) _
+      (this-one (overflow0 (after_skip q ts)) _ here)
 
-  comes-second : (q : ℕ) (ts : FourTimers) → own_quiet most ts.timer1 ≡ q → q < most → any_overflow (after_skip q ts) ≡ true
+  comes-second : (q : ℕ) (ts : FourTimers) → own_quiet most ts.timer1 ≡ q → q < most
+      → any_overflow (after_skip q ts) ≡ true
   unfolding after_skip
   comes-second q ts e small =
       let below = overflow0 (after_skip q ts) in
       let due = overflows-next most below ts.timer1 (omega (arith, e, small)) in
-      let here : overflow1 (after_skip q ts) ≡ true = ap (λ n. overflows below (skipped_timer n ts.timer1)) (sym e) ∙ due in
-      this-one (overflow0 (after_skip q ts) || overflow1 (after_skip q ts)) _ (that-one (overflow0 (after_skip q ts)) _ here)
+      let here : overflow1 (after_skip q ts) ≡ true =
+      ap (λ n. overflows below (skipped_timer n ts.timer1)) (sym e) ∙ due in
+      this-one (overflow0 (after_skip q ts) || overflow1 (after_skip q ts)) _
+      (that-one (overflow0 (after_skip q ts)) _ here)
 
-  comes-third : (q : ℕ) (ts : FourTimers) → own_quiet most ts.timer2 ≡ q → q < most → any_overflow (after_skip q ts) ≡ true
+  comes-third : (q : ℕ) (ts : FourTimers) → own_quiet most ts.timer2 ≡ q → q < most
+      → any_overflow (after_skip q ts) ≡ true
   unfolding after_skip
   comes-third q ts e small =
       let below = overflow1 (after_skip q ts) in
       let due = overflows-next most below ts.timer2 (omega (arith, e, small)) in
-      let here : overflow2 (after_skip q ts) ≡ true = ap (λ n. overflows below (skipped_timer n ts.timer2)) (sym e) ∙ due in
-      that-one (overflow0 (after_skip q ts) || overflow1 (after_skip q ts)) _ (this-one (overflow2 (after_skip q ts)) _ here)
+      let here : overflow2 (after_skip q ts) ≡ true =
+      ap (λ n. overflows below (skipped_timer n ts.timer2)) (sym e) ∙ due in
+      that-one (overflow0 (after_skip q ts) || overflow1 (after_skip q ts)) _
+      (this-one (overflow2 (after_skip q ts)) _ here)
 
-  comes-fourth : (q : ℕ) (ts : FourTimers) → own_quiet most ts.timer3 ≡ q → q < most → any_overflow (after_skip q ts) ≡ true
+  comes-fourth : (q : ℕ) (ts : FourTimers) → own_quiet most ts.timer3 ≡ q → q < most
+      → any_overflow (after_skip q ts) ≡ true
   unfolding after_skip
   comes-fourth q ts e small =
       let below = overflow2 (after_skip q ts) in
       let due = overflows-next most below ts.timer3 (omega (arith, e, small)) in
-      let here : overflow3 (after_skip q ts) ≡ true = ap (λ n. overflows below (skipped_timer n ts.timer3)) (sym e) ∙ due in
-      that-one (overflow0 (after_skip q ts) || overflow1 (after_skip q ts)) _ (that-one (overflow2 (after_skip q ts)) _ here)
+      let here : overflow3 (after_skip q ts) ≡ true =
+      ap (λ n. overflows below (skipped_timer n ts.timer3)) (sym e) ∙ due in
+      that-one (overflow0 (after_skip q ts) || overflow1 (after_skip q ts)) _
+      (that-one (overflow2 (after_skip q ts)) _ here)
 
   at-most : (a b : ℕ) → nat_le a b ≡ true → a ≤ b
   at-most a b e = grind arith
@@ -51,7 +63,8 @@ module _ (most : ℕ) where
   more-than a b e = grind arith
 
   one-comes : (q : ℕ) (ts : FourTimers) (lower left right : Bool) → own_quiets most ts ≡ q
-      → nat_le (min (own_quiet most ts.timer0) (own_quiet most ts.timer1)) (min (own_quiet most ts.timer2) (own_quiet most ts.timer3)) ≡ lower
+      → nat_le (min (own_quiet most ts.timer0) (own_quiet most ts.timer1)) (min (own_quiet most ts.timer2)
+      (own_quiet most ts.timer3)) ≡ lower
       → nat_le (own_quiet most ts.timer0) (own_quiet most ts.timer1) ≡ left
       → nat_le (own_quiet most ts.timer2) (own_quiet most ts.timer3) ≡ right
       → q < most → any_overflow (after_skip q ts) ≡ true
@@ -170,7 +183,8 @@ alone-at (suc count) number ts alone h =
 
 overflow-after : (count number : ℕ) (ts : FourTimers) → follows (timer_at number ts) ≡ false
     → count ≤ own_quiet 512 (timer_at number ts)
-    → overflow_at number (after_cycles count ts) ≡ overflows (below_of number (after_cycles count ts)) (skipped_timer count (timer_at number ts))
+    → overflow_at number (after_cycles count ts)
+    ≡ overflows (below_of number (after_cycles count ts)) (skipped_timer count (timer_at number ts))
 overflow-after count number ts alone h =
     overflow-at number (after_cycles count ts)
     ∙ ap (overflows (below_of number (after_cycles count ts))) (alone-at count number ts alone h)
@@ -211,7 +225,8 @@ all-within count ts now same h =
     let there = ap (quiet_within count) same in
     omega (arith, h, here, there)
 
-pub each-within : (count : ℕ) (ts now : FourTimers) → ts ≡ now → quiet_within count now ≡ count → IsQuietEach count count ts
+pub each-within : (count : ℕ) (ts now : FourTimers) → ts ≡ now → quiet_within count now ≡ count
+    → IsQuietEach count count ts
 each-within count ts now same h = quiet-each count count ts (all-within count ts now same h)
 
 pub skip-within : (count : ℕ) (ts now after : FourTimers) → ts ≡ now → quiet_within count now ≡ count
@@ -225,27 +240,32 @@ before number most ts = cycles_before (overflow_at number) most ts
 
 pub all-quiet : (most number left : ℕ) (ts : FourTimers) → left ≤ quiet_within most ts → before number left ts ≡ left
 all-quiet most number left ts h =
-    before-is (overflow_at number) left left ts (omega arith) (λ k small. silent-at most number k ts (omega (arith, small, h)))
-    (λ small. absurd (omega (arith, small)))
+    before-is (overflow_at number) left left ts (omega arith)
+    (λ k small. silent-at most number k ts (omega (arith, small, h))) (λ small. absurd (omega (arith, small)))
 
 quiet-part : (most number left q : ℕ) (ts : FourTimers) → q ≡ quiet_within most ts → q < left
     → before number left ts ≡ q + before number (left - q) (after_cycles q ts)
 quiet-part most number left q ts e h =
-    before-after (overflow_at number) left q ts (omega (arith, h)) (λ k small. silent-at most number k ts (omega (arith, small, e)))
+    before-after (overflow_at number) left q ts (omega (arith, h))
+    (λ k small. silent-at most number k ts (omega (arith, small, e)))
 
-pub stops-here : (most number left q : ℕ) (ts mid : FourTimers) → q ≡ quiet_within most ts → q < left → mid ≡ after_cycles q ts
-    → overflow_at number mid ≡ true → before number left ts ≡ q
+pub stops-here : (most number left q : ℕ) (ts mid : FourTimers) → q ≡ quiet_within most ts → q < left
+    → mid ≡ after_cycles q ts → overflow_at number mid ≡ true → before number left ts ≡ q
 stops-here most number left q ts mid e h m due =
     let part = quiet-part most number left q ts e h in
-    let here = before-here (overflow_at number) (left - q) (after_cycles q ts) (omega (arith, h)) (ap (overflow_at number) (sym m) ∙ due) in
+    let here =
+    before-here (overflow_at number) (left - q) (after_cycles q ts) (omega (arith, h))
+    (ap (overflow_at number) (sym m) ∙ due) in
     omega (arith, part, here)
 
-pub goes-past : (most number left q : ℕ) (ts mid next : FourTimers) → q ≡ quiet_within most ts → q < left → mid ≡ after_cycles q ts
-    → overflow_at number mid ≡ false → next ≡ cycle mid
+pub goes-past : (most number left q : ℕ) (ts mid next : FourTimers) → q ≡ quiet_within most ts → q < left
+    → mid ≡ after_cycles q ts → overflow_at number mid ≡ false → next ≡ cycle mid
     → before number left ts ≡ q + 1 + before number (left - q - 1) next
 goes-past most number left q ts mid next e h m due n =
     let part = quiet-part most number left q ts e h in
-    let past = before-past (overflow_at number) (left - q) (after_cycles q ts) (omega (arith, h)) (ap (overflow_at number) (sym m) ∙ due) in
+    let past =
+    before-past (overflow_at number) (left - q) (after_cycles q ts) (omega (arith, h))
+    (ap (overflow_at number) (sym m) ∙ due) in
     let rest = ap (before number (left - q - 1)) (n ∙ ap cycle m) in
     omega (arith, part, past, rest)
 
@@ -285,13 +305,17 @@ mark-at_by : (number : ℕ) (ts : FourTimers) (a b c : Bool) → nat_eq number 0
     → number < 4 → bit (overflow_mark ts) number ≡ overflow_at number ts
 unfolding overflow_mark weighed
 mark-at_by number ts true b c e f g h =
-    rw e (ap (bit (overflow_mark ts)) (is-numeral number 0 e) ∙ bit-0 (overflow0 ts) (overflow1 ts) (overflow2 ts) (overflow3 ts))
+    rw e (ap (bit (overflow_mark ts)) (is-numeral number 0 e)
+    ∙ bit-0 (overflow0 ts) (overflow1 ts) (overflow2 ts) (overflow3 ts))
 mark-at_by number ts false true c e f g h =
-    rw (e, f) (ap (bit (overflow_mark ts)) (is-numeral number 1 f) ∙ bit-1 (overflow0 ts) (overflow1 ts) (overflow2 ts) (overflow3 ts))
+    rw (e, f) (ap (bit (overflow_mark ts)) (is-numeral number 1 f)
+    ∙ bit-1 (overflow0 ts) (overflow1 ts) (overflow2 ts) (overflow3 ts))
 mark-at_by number ts false false true e f g h =
-    rw (e, f, g) (ap (bit (overflow_mark ts)) (is-numeral number 2 g) ∙ bit-2 (overflow0 ts) (overflow1 ts) (overflow2 ts) (overflow3 ts))
+    rw (e, f, g) (ap (bit (overflow_mark ts)) (is-numeral number 2 g)
+    ∙ bit-2 (overflow0 ts) (overflow1 ts) (overflow2 ts) (overflow3 ts))
 mark-at_by number ts false false false e f g h =
-    rw (e, f, g) (ap (bit (overflow_mark ts)) (is-last number h e f g) ∙ bit-3 (overflow0 ts) (overflow1 ts) (overflow2 ts) (overflow3 ts))
+    rw (e, f, g) (ap (bit (overflow_mark ts)) (is-last number h e f g)
+    ∙ bit-3 (overflow0 ts) (overflow1 ts) (overflow2 ts) (overflow3 ts))
 
 pub mark-at : (number : ℕ) (ts : FourTimers) → number < 4 → bit (overflow_mark ts) number ≡ overflow_at number ts
 mark-at number ts h = mark-at_by number ts (nat_eq number 0) (nat_eq number 1) (nat_eq number 2) refl refl refl h

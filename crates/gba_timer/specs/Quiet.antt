@@ -19,8 +19,8 @@ overflow_at number ts =
 abbrev pub any_overflow : FourTimers → Bool
 any_overflow ts = (overflow0 ts || overflow1 ts) || (overflow2 ts || overflow3 ts)
 
--- the greatest number of cycles up to so many in none of which any timer overflows; up to 512; and those in none of which a
--- timer does
+-- the greatest number of cycles up to so many in none of which any timer overflows; up to 512; and those in none of
+-- which a timer does
 unfoldable pub quiet_within : ℕ → FourTimers → ℕ
 quiet_within most ts = cycles_before any_overflow most ts
 
@@ -30,8 +30,8 @@ quiet ts = quiet_within 512 ts
 unfoldable pub quiet_of : ℕ → FourTimers → ℕ
 quiet_of number ts = cycles_before (overflow_at number) 512 ts
 
--- What the cycles before an event are: in none of them it comes, and in the next it does where they are not the most that
--- are counted. Of two events the one that comes first decides.
+-- What the cycles before an event are: in none of them it comes, and in the next it does where they are not the most
+-- that are counted. Of two events the one that comes first decides.
 pub record CountsBefore : Type 0 where
   pub most : (event : FourTimers → Bool) (most : ℕ) (ts : FourTimers) → cycles_before event most ts ≤ most
   pub silent : (event : FourTimers → Bool) (most count : ℕ) (ts : FourTimers) → count < cycles_before event most ts
@@ -43,5 +43,6 @@ pub record CountsBefore : Type 0 where
 
 -- In the quiet cycles the marks are 0, however many are looked at; and of fewer cycles than are quiet all are.
 pub record QuietMarks : Type 0 where
-  pub none : (most count : ℕ) (ts : FourTimers) → count < quiet_within most ts → overflow_mark (after_cycles count ts) ≡ 0
+  pub none : (most count : ℕ) (ts : FourTimers) → count < quiet_within most ts
+      → overflow_mark (after_cycles count ts) ≡ 0
   pub fewer : (most count : ℕ) (ts : FourTimers) → count ≤ quiet_within most ts → quiet_within count ts ≡ count

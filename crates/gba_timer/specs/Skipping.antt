@@ -36,7 +36,8 @@ skipped_timer count t = record t {
 -- the same of the four timers
 abbrev pub own_quiets : ℕ → FourTimers → ℕ
 own_quiets most ts =
-    min (min (own_quiet most ts.timer0) (own_quiet most ts.timer1)) (min (own_quiet most ts.timer2) (own_quiet most ts.timer3))
+    min (min (own_quiet most ts.timer0) (own_quiet most ts.timer1))
+    (min (own_quiet most ts.timer2) (own_quiet most ts.timer3))
 
 unfoldable pub after_skip : ℕ → FourTimers → FourTimers
 after_skip count ts = record {

@@ -4,8 +4,8 @@ ghost use Rattle.std.specs.Prelude.{◌≡◌, ◌≤◌};
 
 use gba_word::{bit, bits};
 
-/// One timer (GBATEK, GBA Timers): its counter, its reload, its control as it is stored, and its phase, the cycles since
-/// it last counted.
+/// One timer (GBATEK, GBA Timers): its counter, its reload, its control as it is stored, and its phase, the cycles
+/// since it last counted.
 #[derive(Clone, Copy, Debug, PartialEq, Eq)]
 pub struct Timer {
     pub counter: u16,

@@ -99,8 +99,8 @@ impl Timers {
         }
     }
 
-    /// What the halfword at an offset from 04000000h reads: timer k's counter at 100h + 4k, its control at 102h + 4k, and
-    /// 0 elsewhere.
+    /// What the halfword at an offset from 04000000h reads: timer k's counter at 100h + 4k, its control at 102h + 4k,
+    /// and 0 elsewhere.
     pub fn read(&self, offset: u32) -> u16
         ensures { result ≡ timer_read offset self.now }
     {
@@ -227,7 +227,8 @@ impl Timers {
         512
     }
 
-    /// The same as [`Timers::quiet`] for the overflows of one timer alone, while the others go on. The timer is below 4.
+    /// The same as [`Timers::quiet`] for the overflows of one timer alone, while the others go on. The
+    /// timer is below 4.
     pub fn quiet_of(&self, timer: u32) -> u32
         requires { timer < 4 }
         ensures value { result ≡ quiet_of timer self.now }

@@ -36,7 +36,8 @@ pub forgotten-sheared : (cut : Cut Machine) → sheared (forgotten_cut cut) ≡ 
 forgotten-sheared cut =
     ap (λ (ms : List Machine). let x : Cut Machine = record cut { consoles = ms } in x) (each-forgotten cut.consoles)
 
-pub still-shown : (cut after : Cut Machine) → plain_cut without_limit after ≡ forgotten_cut (plain_cut without_limit cut)
+pub still-shown : (cut after : Cut Machine)
+    → plain_cut without_limit after ≡ forgotten_cut (plain_cut without_limit cut)
     → sheared (plain_cut without_limit after) ≡ sheared (plain_cut without_limit cut)
 still-shown cut after e = ap sheared e ∙ forgotten-sheared (plain_cut without_limit cut)
 

@@ -35,7 +35,8 @@ module _ (unseen : IsUnseen console_kind (λ i. shorn) (λ i. shorn)) (tells : T
   alike : StepAlike console_kind (λ i. shorn) (λ i. shorn) (plain_cut without_limit cut) plain
   alike = law (λ i. shorn) (λ i. shorn) (plain_cut without_limit cut) plain unseen shows
 
-  pub clock-shown : clock_at console_kind (plain_cut without_limit cut) (least console_kind (plain_cut without_limit cut))
+  pub clock-shown : clock_at console_kind (plain_cut without_limit cut)
+      (least console_kind (plain_cut without_limit cut))
       ≡ clock_at console_kind plain (least console_kind plain)
   clock-shown = alike.clock
 
@@ -51,10 +52,12 @@ module _ (unseen : IsUnseen console_kind (λ i. shorn) (λ i. shorn)) (tells : T
       let stands : slice_get (map without_limit after.consoles) player ≡ Some (without_limit m) =
       slice_get-get_or (map without_limit after.consoles) player (without_limit m)
       (omega (arith, within, length-map after.consoles without_limit))
-      ∙ ap Some (get_or-map without_limit after.consoles player m (without_limit m) within ∙ ap without_limit (sym here)) in
+      ∙ ap Some (get_or-map without_limit after.consoles player m (without_limit m) within
+      ∙ ap without_limit (sym here)) in
       let of : List Machine → Option (List ℕ) = λ ms. option_map step_line (slice_get ms player) in
       ap (λ (line : List ℕ). line) (sym (line-plain m))
       ∙ ap (λ (o : Option Machine). unwrap_or (option_map step_line o) []) (sym stands)
       ∙ ap (λ (c : Cut Machine). unwrap_or (of c.consoles) []) e
-      ∙ ap (λ (i : ℕ). unwrap_or (option_map step_line (slice_get (step console_kind (plain_cut without_limit cut)).consoles i)) []) is
+      ∙ ap (λ (i : ℕ). unwrap_or
+      (option_map step_line (slice_get (step console_kind (plain_cut without_limit cut)).consoles i)) []) is
       ∙ ap (λ (o : Option (List ℕ)). unwrap_or o []) (alike.told step_line lines)

@@ -16,14 +16,14 @@ if-false true one other e = cc
 if-false false one other e = refl
 
 -- whether it goes on, by its clock
-pub goes : (clock until : ℕ) (cut : Cut Machine) → clock ≡ clock_at console_kind cut (least console_kind cut) → clock < until
-    → goes_on until cut ≡ true
+pub goes : (clock until : ℕ) (cut : Cut Machine) → clock ≡ clock_at console_kind cut (least console_kind cut)
+    → clock < until → goes_on until cut ≡ true
 goes clock until cut is early =
     let less : clock_at console_kind cut (least console_kind cut) < until = omega (arith, is, early) in
     grind (arith, nat_tests)
 
-pub ends : (clock until : ℕ) (cut : Cut Machine) → clock ≡ clock_at console_kind cut (least console_kind cut) → until ≤ clock
-    → goes_on until cut ≡ false
+pub ends : (clock until : ℕ) (cut : Cut Machine) → clock ≡ clock_at console_kind cut (least console_kind cut)
+    → until ≤ clock → goes_on until cut ≡ false
 ends clock until cut is late =
     let most : until ≤ clock_at console_kind cut (least console_kind cut) = omega (arith, is, late) in
     grind (arith, nat_tests)
@@ -67,7 +67,8 @@ module _ (until : ℕ) (cut : Cut Machine) where
         is' = omega (arith, is)
 
   -- none is left
-  stays-by : (n k : ℕ) → goes_on until (after_steps n until cut) ≡ false → after_steps (k + n) until cut ≡ after_steps n until cut
+  stays-by : (n k : ℕ) → goes_on until (after_steps n until cut) ≡ false
+      → after_steps (k + n) until cut ≡ after_steps n until cut
   unfolding after_steps
   stays-by n zero over = let same : zero + n ≡ n = omega arith in ap (λ (m : ℕ). after_steps m until cut) same
   stays-by n (suc k) over =
@@ -85,7 +86,8 @@ module _ (until : ℕ) (cut : Cut Machine) where
       let same : count ≡ count - n + n = omega (arith, few) in
       ap (λ (m : ℕ). after_steps m until cut) same ∙ stays-by n (count - n) over
 
-  no-lines-by : (n k : ℕ) → goes_on until (after_steps n until cut) ≡ false → lines_from (k + n) until cut ≡ lines_from n until cut
+  no-lines-by : (n k : ℕ) → goes_on until (after_steps n until cut) ≡ false
+      → lines_from (k + n) until cut ≡ lines_from n until cut
   unfolding lines_from
   no-lines-by n zero over = let same : zero + n ≡ n = omega arith in ap (λ (m : ℕ). lines_from m until cut) same
   no-lines-by n (suc k) over =
@@ -104,7 +106,8 @@ module _ (until : ℕ) (cut : Cut Machine) where
       let same : count ≡ count - n + n = omega (arith, few) in
       ap (λ (m : ℕ). lines_from m until cut) same ∙ no-lines-by n (count - n) over
 
-  no-count-by : (n k : ℕ) → goes_on until (after_steps n until cut) ≡ false → count_from (k + n) until cut ≡ count_from n until cut
+  no-count-by : (n k : ℕ) → goes_on until (after_steps n until cut) ≡ false
+      → count_from (k + n) until cut ≡ count_from n until cut
   unfolding count_from
   no-count-by n zero over = let same : zero + n ≡ n = omega arith in ap (λ (m : ℕ). count_from m until cut) same
   no-count-by n (suc k) over =

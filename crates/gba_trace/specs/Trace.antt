@@ -25,7 +25,8 @@ after_steps (suc count) until cut = next_below until (after_steps count until cu
 
 -- the line of the next step: that of the console that made it
 abbrev pub next_line : Cut Machine → List ℕ
-next_line cut = unwrap_or (option_map step_line (slice_get (step console_kind cut).consoles (least console_kind cut))) []
+next_line cut =
+    unwrap_or (option_map step_line (slice_get (step console_kind cut).consoles (least console_kind cut))) []
 
 -- the lines of so many steps from a cut on, or of all that begin below `until`, and how many these are
 unfoldable pub lines_from : ℕ → ℕ → Cut Machine → List ℕ

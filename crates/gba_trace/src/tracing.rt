@@ -65,9 +65,9 @@ fn tell(alloc: Global, way: Way, count: u64, until: u64) -> Result<Traced, NoMem
     Ok(Traced { text, lines })
 }
 
-/// The lines of `count` steps of the global order from step `first` on, counted from 0, at most a million, or of all from there
-/// that begin below the clock `until`, of consoles that each have room up to the clock `end`. The text's memory, 400 bytes a
-/// line, is asked for before the first step.
+/// The lines of `count` steps of the global order from step `first` on, counted from 0, at most a million, or of all
+/// from there that begin below the clock `until`, of consoles that each have room up to the clock `end`. The text's
+/// memory, 400 bytes a line, is asked for before the first step.
 pub fn trace(
     alloc: Global,
     cut: Cut<Console>,

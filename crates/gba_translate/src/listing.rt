@@ -36,9 +36,9 @@ fn list_bytes(alloc: Global, to: &str, image: &[u8], set: Set) -> Result<Outputs
     Ok(outputs)
 }
 
-/// Reads an image and lists it as code from address 0: what is written is the file of its listing, and the summary `dis N`
-/// with the number of the listing's bytes. An image of more than 33,554,432 bytes is refused as `TooLong`; no other test
-/// is made.
+/// Reads an image and lists it as code from address 0: what is written is the file of its listing, and the summary
+/// `dis N` with the number of the listing's bytes. An image of more than 33,554,432 bytes is refused as `TooLong`; no
+/// other test is made.
 pub fn list_image<S: Store>(
     alloc: Global,
     store: &mut S,

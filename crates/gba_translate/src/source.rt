@@ -44,9 +44,9 @@ fn read_source<S: Store>(alloc: Global, store: &mut S, name: &str) -> Result<Vec
     judge_source(alloc, name, source.as_slice())
 }
 
-/// Reads a source and assembles it: what is written is the file of its bytes, and the summary `asm N` with their number.
-/// A source that isn't of the language is refused at its first such line, and one of more than 1,073,741,824 bytes at
-/// line 0.
+/// Reads a source and assembles it: what is written is the file of its bytes, and the summary `asm N` with their
+/// number. A source that isn't of the language is refused at its first such line, and one of more than 1,073,741,824
+/// bytes at line 0.
 pub fn assemble_source<S: Store>(
     alloc: Global,
     store: &mut S,

@@ -13,22 +13,28 @@ quotient_past n k word past =
 pub product_past : (n k : ℕ) → 32 < k → n * 2 ^ k ≡ n * 2 ^ (k - 33) * 2 ^ 33
 product_past n k past =
     let split : (k - 33) + 33 ≡ k = omega arith in
-    ap (λ (j : ℕ). n * 2 ^ j) (sym split) ∙ ap (λ (p : ℕ). n * p) (pow-add 2 (k - 33) 33) ∙ sym (mul_assoc n (2 ^ (k - 33)) (2 ^ 33))
+    ap (λ (j : ℕ). n * 2 ^ j) (sym split) ∙ ap (λ (p : ℕ). n * p) (pow-add 2 (k - 33) 33)
+    ∙ sym (mul_assoc n (2 ^ (k - 33)) (2 ^ 33))
 
 -- the two parts of a turned word don't meet
-pub turned_parts : (n k : ℕ) → n < 2 ^ 32 → 0 < k → k < 32 → bit_or (n / 2 ^ k) (n * 2 ^ (32 - k) % 2 ^ 32) ≡ n / 2 ^ k + n % 2 ^ k * 2 ^ (32 - k)
+pub turned_parts : (n k : ℕ) → n < 2 ^ 32 → 0 < k → k < 32
+    → bit_or (n / 2 ^ k) (n * 2 ^ (32 - k) % 2 ^ 32) ≡ n / 2 ^ k + n % 2 ^ k * 2 ^ (32 - k)
 turned_parts n k word some below =
     let whole : k + (32 - k) ≡ 32 = omega arith in
-    let cut : n * 2 ^ (32 - k) % 2 ^ (k + (32 - k)) ≡ (n * 2 ^ (32 - k) / 2 ^ (32 - k) % 2 ^ k) * 2 ^ (32 - k) + n * 2 ^ (32 - k) % 2 ^ (32 - k) =
+    let cut : n * 2 ^ (32 - k) % 2 ^ (k + (32 - k))
+    ≡ (n * 2 ^ (32 - k) / 2 ^ (32 - k) % 2 ^ k) * 2 ^ (32 - k) + n * 2 ^ (32 - k) % 2 ^ (32 - k) =
     mod-pow-add (n * 2 ^ (32 - k)) k (32 - k) in
     let high : n * 2 ^ (32 - k) % 2 ^ 32 ≡ n % 2 ^ k * 2 ^ (32 - k) =
-    ap (λ (j : ℕ). n * 2 ^ (32 - k) % 2 ^ j) (sym whole) ∙ cut ∙ rw (shl-shr n (32 - k), mul-mod_left n (2 ^ (32 - k))) (omega arith) in
+    ap (λ (j : ℕ). n * 2 ^ (32 - k) % 2 ^ j) (sym whole) ∙ cut
+    ∙ rw (shl-shr n (32 - k), mul-mod_left n (2 ^ (32 - k))) (omega arith) in
     let immediate_value : 32 ≡ (32 - k) + k = omega arith in
     let low : n / 2 ^ k < 2 ^ (32 - k) = shr_below n (32 - k) k (subst (λ (j : ℕ). n < 2 ^ j) immediate_value word) in
-    ap (bit_or (n / 2 ^ k)) high ∙ or_comm (n / 2 ^ k) (n % 2 ^ k * 2 ^ (32 - k)) ∙ or_shifted (n % 2 ^ k) (32 - k) (n / 2 ^ k) low ∙ omega arith
+    ap (bit_or (n / 2 ^ k)) high ∙ or_comm (n / 2 ^ k) (n % 2 ^ k * 2 ^ (32 - k))
+    ∙ or_shifted (n % 2 ^ k) (32 - k) (n / 2 ^ k) low ∙ omega arith
 
 -- a word turned as std turns it
-pub turned_word : (n k : ℕ) → n < 2 ^ 32 → k < 32 → bit_or (n / 2 ^ k) (n * 2 ^ ((32 - k) % 32) % 2 ^ 32) ≡ n / 2 ^ k + n % 2 ^ k * 2 ^ (32 - k)
+pub turned_word : (n k : ℕ) → n < 2 ^ 32 → k < 32
+    → bit_or (n / 2 ^ k) (n * 2 ^ ((32 - k) % 32) % 2 ^ 32) ≡ n / 2 ^ k + n % 2 ^ k * 2 ^ (32 - k)
 turned_word n zero word below =
     let kept : n * 2 ^ 0 % 2 ^ 32 ≡ n = omega arith in
     let same : n / 2 ^ 0 ≡ n = omega arith in

@@ -16,16 +16,17 @@ abbrev pub arithmetic_quotient : ℕ → ℕ → ℕ
 arithmetic_quotient value amount =
     if bit value 31 then 2 ^ 32 - 1 - (2 ^ 32 - 1 - value) / 2 ^ amount else value / 2 ^ amount
 
--- A shift by an amount that isn't 0: the word, and as carry the last bit that left it. Bits past bit 31 of a logical shift
--- are 0, those of an arithmetic one are bit 31, and a rotation's carry stands in its bit 31
--- (ARM Architecture Reference Manual, A5.1.6 to A5.1.12).
+-- A shift by an amount that isn't 0: the word, and as carry the last bit that left it. Bits past bit 31 of a logical
+-- shift are 0, those of an arithmetic one are bit 31, and a rotation's carry stands in its bit 31 (ARM Architecture
+-- Reference Manual, A5.1.6 to A5.1.12).
 abbrev pub nonzero_shift : Shift → ℕ → ℕ → ℕ × Bool
 nonzero_shift Lsl value amount = (value * 2 ^ amount % 2 ^ 32, bit (value * 2 ^ amount) 32)
 nonzero_shift Lsr value amount = (value / 2 ^ amount, bit value (amount - 1))
 nonzero_shift Asr value amount = (arithmetic_quotient value amount, bit value (min (amount - 1) 31))
 nonzero_shift Ror value amount = (rotation value amount, bit (rotation value amount) 31)
 
--- a shift by the low byte of a register: by 0 it keeps word and carry (ARM Architecture Reference Manual, A5.1.6 to A5.1.12)
+-- a shift by the low byte of a register: by 0 it keeps word and carry (ARM Architecture Reference Manual,
+-- A5.1.6 to A5.1.12)
 abbrev pub register_shift : Shift → ℕ → ℕ → Bool → ℕ × Bool
 register_shift kind value amount carry = if amount == 0 then (value, carry) else nonzero_shift kind value amount
 
@@ -43,7 +44,8 @@ zero_shift Ror value carry = rotation_with_carry value carry
 
 -- a shift by the five bits that an instruction holds
 abbrev pub fixed_shift : Shift → ℕ → ℕ → Bool → ℕ × Bool
-fixed_shift kind value amount carry = if amount == 0 then zero_shift kind value carry else nonzero_shift kind value amount
+fixed_shift kind value amount carry =
+    if amount == 0 then zero_shift kind value carry else nonzero_shift kind value amount
 
 -- A byte turned right by twice `turn`. The carry is bit 31 of the word, and kept where the turn is 0
 -- (ARM Architecture Reference Manual, A5.1.3).

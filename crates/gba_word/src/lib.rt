@@ -1,6 +1,6 @@
 #![tactic(auto)]
-//! Arithmetic on the ARM7TDMI's 32-bit words, and their hexadecimal digits. Each function is the arithmetic of whole numbers
-//! that its contract names.
+//! Arithmetic on the ARM7TDMI's 32-bit words, and their hexadecimal digits. Each function is the arithmetic of whole
+//! numbers that its contract names.
 
 ghost use Rattle.std.specs.Prelude.{◌≡◌, ◌+◌, ◌<◌, ◌≤◌};
 ghost use Rattle.gba_terms.specs.Bits.{field, bit};

@@ -12,7 +12,8 @@ ghost use Rattle.gba_word.specs.Shifts.{
 
 use crate::{Shift, bit};
 
-/// `value` turned to the right by `turn` places: what leaves at bit 0 enters at bit 31. A turn of 32 or more counts modulo 32.
+/// `value` turned to the right by `turn` places: what leaves at bit 0 enters at bit 31. A turn of 32 or more counts
+/// modulo 32.
 pub fn rotate(value: u32, turn: u32) -> u32
     ensures { result ≡ rotation value turn }
 {
@@ -45,7 +46,8 @@ pub fn shift_fixed(kind: Shift, value: u32, amount: u8, carry: bool) -> (u32, bo
     }
 }
 
-/// A byte turned to the right by twice `turn`, and the carry out: bit 31 of the word, or `carry` as it was where `turn` is 0.
+/// A byte turned to the right by twice `turn`, and the carry out: bit 31 of the word, or `carry` as it was where
+/// `turn` is 0.
 pub fn rotate_immediate(value: u8, turn: u8, carry: bool) -> (u32, bool)
     ensures { result ≡ immediate_value value turn carry }
 {

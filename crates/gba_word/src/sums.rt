@@ -16,8 +16,8 @@ pub struct Sum {
     pub overflow: bool,
 }
 
-/// `a` plus `b`, and 1 more where `carry` is set. A difference `a - b` is `add_carry(a, !b, true)`, and its carry is set
-/// where there is no borrow.
+/// `a` plus `b`, and 1 more where `carry` is set. A difference `a - b` is `add_carry(a, !b, true)`, and its carry is
+/// set where there is no borrow.
 pub fn add_carry(a: u32, b: u32, carry: bool) -> Sum
     ensures { result ≡ sum_of a b carry }
 {

@@ -22,10 +22,10 @@ fn refusal(error: &io::Error) -> ExitCode {
     }
 }
 
-/// Takes the numbers of standard input, output and error where the program was called without them, so that no file of a
-/// run gets one of them, and with it what is meant for standard output. What is written there fails then, since this file
-/// is for reading alone. A file takes the lowest number that is free, so three are enough; they are held as long as the
-/// program runs.
+/// Takes the numbers of standard input, output and error where the program was called without them, so that no file of
+/// a run gets one of them, and with it what is meant for standard output. What is written there fails then, since this
+/// file is for reading alone. A file takes the lowest number that is free, so three are enough; they are held as long
+/// as the program runs.
 fn hold_standard_numbers(rt: HostRuntime) -> [Option<File>; 3] {
     [
         File::open(&rt, "/dev/null").ok(),

@@ -64,7 +64,8 @@ fn idle_of<N: Node>(nodes: &mut Vec<N>, i: usize, end: u64) -> Option<Signal>
     requires player { i < vec_len nodes.old }
     requires limit { end ≤ slice_index (map N.bound nodes.old.items) i }
     ensures alone { (x : N.Record) → slice_get (map N.plain nodes.old.items) i ≡ Some x →
-        Idles (kind_of N.clock N.was N.next) end i x (map N.plain nodes.old.items) (map N.plain nodes.new.items) result }
+        Idles (kind_of N.clock N.was N.next) end i x (map N.plain nodes.old.items) (map N.plain nodes.new.items)
+        result }
     ensures limits { map N.bound nodes.new.items ≡ map N.bound nodes.old.items }
 {
     nodes[i].go_alone(end)

@@ -154,7 +154,8 @@ impl<N: Node> Cut<N> {
         self.sent.as_slice()
     }
 
-    /// Makes these the signals that some other node can still take, by clock, then by sender, in place of those that were there.
+    /// Makes these the signals that some other node can still take, by clock, then by sender, in place of those that
+    /// were there.
     pub fn set_sent(&mut self, sent: &[Sent])
         requires sound { IsSound (kind_of N.clock N.was N.next) (plain_cut N.plain (with_sent sent.now self.old)) }
         requires live { AllLive (kind_of N.clock N.was N.next) (plain_cut N.plain (with_sent sent.now self.old)) }

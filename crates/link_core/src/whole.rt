@@ -175,8 +175,8 @@ fn are_whole<N: Node>(nodes: &[N], delays: &Delays, sent: &[Sent]) -> bool
         && is_ordered(sent)
 }
 
-/// Whether nodes and signals are a cut from which a run can go on: it is sound and in time, and each of the signals can still
-/// be taken by some other node. There are at most four nodes on a cable. The test takes no memory.
+/// Whether nodes and signals are a cut from which a run can go on: it is sound and in time, and each of the signals can
+/// still be taken by some other node. There are at most four nodes on a cable. The test takes no memory.
 pub fn is_whole<N: Node>(nodes: &[N], delays: &Delays, sent: &[Sent]) -> bool
     requires { AreDelays delays.now }
     ensures { IsTrue result ↔ IsWhole (kind_of N.clock N.was N.next) (plain_cut N.plain

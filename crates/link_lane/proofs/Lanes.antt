@@ -460,8 +460,10 @@ few_taken {C = C} kind plain bound l h peer below apart =
     let less : peer < count cut = omega arith in
     let hears = h.hears peer less apart in
     let count_is : (peer_at l.seat.made.peers peer).count ≡ sent s peer hears.last = hears.count_is in
-    let fetched_ones : (peer_at l.seat.made.peers peer).taken ≤ (peer_at l.seat.made.peers peer).count = hears.fetched in
-    let small : sent s peer hears.last < 2 ^ 40 = sent_small s h.script peer hears.last (in_script kind plain h.key peer less) in
+    let fetched_ones : (peer_at l.seat.made.peers peer).taken ≤ (peer_at l.seat.made.peers peer).count =
+    hears.fetched in
+    let small : sent s peer hears.last < 2 ^ 40 =
+    sent_small s h.script peer hears.last (in_script kind plain h.key peer less) in
     let own : slice_index l.taken peer ≡ (peer_at l.seat.made.peers peer).taken = h.taken_is peer (omega arith) in
     omega arith
 

@@ -79,7 +79,8 @@ pub record GoesOn {N C : Type 0} (kind : NodeKind C) (plain : N → C) (l : Insi
     (made : C × Option Signal) (waits : List Incoming) : Type 0
   where
     pub move : Move
-    pub stands : slice_get ((script_of kind plain key).line l.seat.player).moves (l.seat.made.steps + silent) ≡ Some move
+    pub stands : slice_get ((script_of kind plain key).line l.seat.player).moves (l.seat.made.steps + silent)
+        ≡ Some move
     pub quiet : sent (script_of kind plain key) l.seat.player (l.seat.made.steps + silent)
         ≡ sent (script_of kind plain key) l.seat.player l.seat.made.steps
     pub clock_is : move.clock ≡ kind.clock made.0
@@ -285,7 +286,8 @@ goes_alone {N = N} {C = C} kind law plain bound l h end low ahead alone z o (Ste
           let one : l.seat.made.steps + suc silent ≡ suc k = omega arith in (
             suc silent,
             record {
-              console = ap (λ (n : ℕ). console_after kind (key_cut plain key) (trace kind (key_cut plain key) key.limit) i
+              console =
+                  ap (λ (n : ℕ). console_after kind (key_cut plain key) (trace kind (key_cut plain key) key.limit) i
                   n) one ∙ on.console;
               clock_is = ap (now s i) one ∙ now_next s i k on.move on.stands ∙ on.clock_is;
               quiet = ap (sent s i) one ∙ more ∙ ap (λ (n : ℕ). sent s i k + n) unsent
@@ -483,7 +485,8 @@ stepped_lane {N = N} {C = C} kind law plain bound l h end silent made inbox go n
       all_peers = length-map peers unlooked ∙ h.all_peers;
       hears = λ j lj apart.
           subst (λ (p : Peer). Hears s i j (kind.clock (plain node)) p) (sym (unlooked_at peers j))
-          (hears_on s i j (kind.clock x) (kind.clock (plain node)) (peer_at peers j) (omega arith) (h.hears j lj apart));
+          (hears_on s i j (kind.clock x) (kind.clock (plain node)) (peer_at peers j) (omega arith)
+          (h.hears j lj apart));
       wide = h.wide;
       taken_is = λ j lj. h.taken_is j lj ∙ ap (λ (p : Peer). p.taken) (sym (unlooked_at peers j));
       horizon_is = λ j lj apart.

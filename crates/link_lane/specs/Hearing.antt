@@ -13,8 +13,8 @@ use Rattle.link_lane.specs.Following.{LaneState, key_cut, Follows}
 -- this project's profile: what a lane keeps of its peers
 
 -- what player i at this clock has heard of player j: `base` is j's clock after some of its steps, whose signals are all
--- fetched; what was seen last is clock and count after some of its steps; and no signal counted comes later than a step of
--- j that had heard of this clock could send it
+-- fetched; what was seen last is clock and count after some of its steps; and no signal counted comes later than a step
+-- of j that had heard of this clock could send it
 pub record Hears (s : Script) (i j clock : ℕ) (p : Peer) : Type 0 where
   pub at : ℕ
   pub base_is : p.base ≡ now s j at

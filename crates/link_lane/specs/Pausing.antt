@@ -93,8 +93,8 @@ pub record IsHeldUp {N : Type 0} (between : ℕ → ℕ → ℕ) (polls clock : 
     pub late : horizon.end ≤ clock
     pub caught : IsCaught polls (peer_of old horizon.peer) (peer_of new horizon.peer)
 
--- a lane that waits for this peer: it was looked at at least `polls` times since the lane's last step, in this call, and
--- the last look saw this clock, from which a signal may still arrive at or before the lane's clock
+-- a lane that waits for this peer: it was looked at at least `polls` times since the lane's last step, in this call,
+-- and the last look saw this clock, from which a signal may still arrive at or before the lane's clock
 pub record IsBlocked {N : Type 0} (between : ℕ → ℕ → ℕ) (polls clock : ℕ) (old new : LaneState N) (peer seen : ℕ)
     : Type 0
   where

@@ -353,8 +353,8 @@ impl<N: Node> Lane<N> {
         shared.publish(&mut self.seat, self.node.clock());
     }
 
-    /// A clock up to which the lane may go alone, no later than `until`. Where the gate is to be entered before each step
-    /// there is none, and it is 0.
+    /// A clock up to which the lane may go alone, no later than `until`. Where the gate is to be entered before each
+    /// step there is none, and it is 0.
     fn reach<G: Gate>(&self, gate: &G, until: u64) -> u64
         ensures until { result ≤ until }
         ensures ahead { (key : Key N) → self.now.seat.key ≡ key ∷ [] →
@@ -393,9 +393,9 @@ impl<N: Node> Lane<N> {
         self.step(shared);
     }
 
-    /// Steps until the clock is at least `until`, or until the lane waits for a peer that it has looked at so many times
-    /// since its last step. A lane that may step makes a step. The gate is entered before each step, with the player
-    /// and the clock; where it is open it needn't be. It takes no memory, and waits for nobody.
+    /// Steps until the clock is at least `until`, or until the lane waits for a peer that it has looked at so many
+    /// times since its last step. A lane that may step makes a step. The gate is entered before each step, with the
+    /// player and the clock; where it is open it needn't be. It takes no memory, and waits for nobody.
     pub fn advance<G: Gate>(
         &mut self,
         shared: &Shared<N>,

@@ -39,7 +39,8 @@ nothing_waits between i was (suc j) =
     let ih = nothing_waits between i was j in
     elim (same_or_apart j i) [
       | inl e ↦
-          let own : waiting between (λ (j : ℕ). from j []) i was (suc j) ≡ waiting between (λ (j : ℕ). from j []) i was j
+          let own : waiting between (λ (j : ℕ). from j []) i was (suc j)
+          ≡ waiting between (λ (j : ℕ). from j []) i was j
           = rw e (due_own between (λ (j : ℕ). from j []) i (nat_lt was)) in
           own ∙ ih
       | inr e ↦ due_other between (λ (j : ℕ). from j []) i (nat_lt was) j e ∙ ih
@@ -58,7 +59,8 @@ pub are_paired : {N C : Type 0} (kind : NodeKind C) (plain : N → C) (bound : N
     → cut.sent ≡ [] → All (λ (n : N). until ≤ bound n) cut.consoles → player < length cut.consoles
     → node ≡ get_or (drop player cut.consoles) 0 node → seat ≡ get_or (drop player seats) 0 seat
     → ArePaired kind plain bound cut table seats until player node seat
-are_paired {N = N} {C = C} kind plain bound cut table seats until player node seat b cable sound empty limits below at there_too =
+are_paired {N = N} {C = C} kind plain bound cut table seats until player node seat b cable sound empty limits below
+    at there_too =
     let key : Key N = b.key in
     let n : ℕ = length cut.consoles in
     let cuts : key.cut.value ≡ cut = b.cut_is in
@@ -74,8 +76,10 @@ are_paired {N = N} {C = C} kind plain bound cut table seats until player node se
     = ap (λ (d : Cut N). slice_get d.consoles seat.player) cuts
     ∙ ap (λ (i : ℕ). slice_get cut.consoles i) player_is ∙ there in
     let low : key.limit ≤ slice_index (map bound cut.consoles) player
-    = b.limit_is.none_below player (let t : length (map bound cut.consoles) ≡ n = length-map cut.consoles bound in omega arith) in
-    let own : slice_index (map bound cut.consoles) player ≡ bound node = number_found bound cut.consoles player node there in
+    = b.limit_is.none_below player (let t : length (map bound cut.consoles) ≡ n = length-map cut.consoles bound in
+    omega arith) in
+    let own : slice_index (map bound cut.consoles) player ≡ bound node =
+    number_found bound cut.consoles player node there in
     let place : ℕ = b.limit_is.place in
     let within : place < length (map bound cut.consoles) = b.limit_is.within in
     let lengths : length (map bound cut.consoles) ≡ n = length-map cut.consoles bound in

@@ -125,8 +125,8 @@ on_end : {C : Type 0} (kind : NodeKind C) → IsLawful kind
     → d ≡ after_turns kind cut ps
 on_end {C = C} kind law until cut ps d made leads sound on late =
     let e = history_ends kind law until ps cut leads sound in
-    same_cuts kind d (after_turns kind cut ps) on.sound e.sound (on.count_is ∙ sym e.count_is) (on.delays_are ∙ sym e.delays_are)
-    (λ i below.
+    same_cuts kind d (after_turns kind cut ps) on.sound e.sound (on.count_is ∙ sym e.count_is)
+    (on.delays_are ∙ sym e.delays_are) (λ i below.
     let less : i < count cut = subst (λ (n : ℕ). i < n) on.count_is below in
     let s = on.same i less in
     let m : Cut C = moment kind cut ps i (made i) in

@@ -68,7 +68,8 @@ leads_by kind law (suc most) cut until some later few sound =
     elim (cases_Bool (nat_lt (clock_at kind cut (least kind cut)) until)) [
       | inl e ↦
           let f = falls kind law cut until some e in
-          let less : cycles_left kind (step_of kind cut (least kind cut)) until < cycles_left kind cut until = f.fewer in
+          let less : cycles_left kind (step_of kind cut (least kind cut)) until < cycles_left kind cut until =
+          f.fewer in
           let some' : 0 < count (step_of kind cut (least kind cut)) = subst (λ (n : ℕ). 0 < n) (sym f.count_is) some in
           let later' : HasDelays (step_of kind cut (least kind cut)) =
           delays_same (step_of kind cut (least kind cut)) cut f.count_is f.delays_are later in
@@ -141,7 +142,8 @@ pub later_moment : {C : Type 0} (kind : NodeKind C) → IsLawful kind → (until
 later_moment kind law until [] cut i k leads sound = later_sent kind law until [] cut i leads sound
 later_moment {C = C} kind law until (p ∷ ps) cut i zero leads sound =
     elim (same_or_apart p i) [
-      | inl e ↦ subst (λ (d : Cut C). Later (clock_at kind d i) (from i d.sent) (from i (after_turns kind cut (p ∷ ps)).sent))
+      | inl e ↦
+          subst (λ (d : Cut C). Later (clock_at kind d i) (from i d.sent) (from i (after_turns kind cut (p ∷ ps)).sent))
           (sym (moment_first kind cut p ps i e))
           (later_sent kind law until (p ∷ ps) cut i leads sound)
       | inr e ↦
@@ -263,7 +265,8 @@ due_of_history kind cut e i x clock_is was_is later ahead =
 
 goes_first : {C : Type 0} (kind : NodeKind C) → IsLawful kind → (until : ℕ) (ps : List ℕ) (cut : Cut C) (i : ℕ)
     → Leads kind until cut (i ∷ ps) → IsSound kind cut
-    → Goes kind until cut (moment kind (step_of kind cut i) ps i zero) (after_turns kind cut (i ∷ ps)) i (count cut) (hop cut)
+    → Goes kind until cut (moment kind (step_of kind cut i) ps i zero) (after_turns kind cut (i ∷ ps)) i (count cut)
+    (hop cut)
 goes_first {C = C} kind law until ps cut i leads sound =
     let a = advance kind law cut i leads.0 leads.2 sound in
     let e : Cut C = after_turns kind cut (i ∷ ps) in
@@ -281,7 +284,8 @@ goes_first {C = C} kind law until ps cut i leads sound =
 
 pub goes : {C : Type 0} (kind : NodeKind C) → IsLawful kind → (until : ℕ) (ps : List ℕ) (cut : Cut C) (i k : ℕ)
     → Leads kind until cut ps → IsSound kind cut
-    → k < count_of i ps → Goes kind until (moment kind cut ps i k) (moment kind cut ps i (suc k)) (after_turns kind cut ps) i
+    → k < count_of i ps
+    → Goes kind until (moment kind cut ps i k) (moment kind cut ps i (suc k)) (after_turns kind cut ps) i
     (count cut) (hop cut)
 goes kind law until [] cut i k leads sound below = absurd (omega arith)
 goes {C = C} kind law until (p ∷ ps) cut i zero leads sound below =
@@ -292,16 +296,16 @@ goes {C = C} kind law until (p ∷ ps) cut i zero leads sound below =
           (after_turns kind cut (p ∷ ps)) (after_turns kind cut (p ∷ ps)) i (count cut) (count cut) (hop cut) (hop cut)
           (sym (moment_first kind cut p ps i e)) (sym (moment_own kind cut p ps i zero e)) refl refl refl
           (subst (λ (q : ℕ). Leads kind until cut (q ∷ ps)
-          → Goes kind until cut (moment kind (step_of kind cut q) ps i zero) (after_turns kind cut (q ∷ ps)) i (count cut)
-          (hop cut))
+          → Goes kind until cut (moment kind (step_of kind cut q) ps i zero) (after_turns kind cut (q ∷ ps)) i
+          (count cut) (hop cut))
           (sym e) (λ l. goes_first kind law until ps cut i l sound) leads)
       | inr e ↦
           let a = advance kind law cut p leads.0 leads.2 sound in
           let c = count_other i p ps e in
           goes_move kind until (moment kind (step_of kind cut p) ps i zero) (moment kind cut (p ∷ ps) i zero)
           (moment kind (step_of kind cut p) ps i (suc zero)) (moment kind cut (p ∷ ps) i (suc zero))
-          (after_turns kind (step_of kind cut p) ps) (after_turns kind cut (p ∷ ps)) i (count (step_of kind cut p)) (count cut)
-          (hop (step_of kind cut p)) (hop cut)
+          (after_turns kind (step_of kind cut p) ps) (after_turns kind cut (p ∷ ps)) i (count (step_of kind cut p))
+          (count cut) (hop (step_of kind cut p)) (hop cut)
           (sym (moment_other kind cut p ps i zero e)) (sym (moment_other kind cut p ps i (suc zero) e))
           (sym (after_one kind cut p ps)) a.count_is
           (hop_same (step_of kind cut p) cut a.delays_are)
@@ -314,8 +318,8 @@ goes {C = C} kind law until (p ∷ ps) cut i (suc k) leads sound below =
           let c = count_own i p ps e in
           goes_move kind until (moment kind (step_of kind cut p) ps i k) (moment kind cut (p ∷ ps) i (suc k))
           (moment kind (step_of kind cut p) ps i (suc k)) (moment kind cut (p ∷ ps) i (suc (suc k)))
-          (after_turns kind (step_of kind cut p) ps) (after_turns kind cut (p ∷ ps)) i (count (step_of kind cut p)) (count cut)
-          (hop (step_of kind cut p)) (hop cut)
+          (after_turns kind (step_of kind cut p) ps) (after_turns kind cut (p ∷ ps)) i (count (step_of kind cut p))
+          (count cut) (hop (step_of kind cut p)) (hop cut)
           (sym (moment_own kind cut p ps i k e)) (sym (moment_own kind cut p ps i (suc k) e))
           (sym (after_one kind cut p ps)) a.count_is
           (hop_same (step_of kind cut p) cut a.delays_are)
@@ -324,8 +328,8 @@ goes {C = C} kind law until (p ∷ ps) cut i (suc k) leads sound below =
           let c = count_other i p ps e in
           goes_move kind until (moment kind (step_of kind cut p) ps i (suc k)) (moment kind cut (p ∷ ps) i (suc k))
           (moment kind (step_of kind cut p) ps i (suc (suc k))) (moment kind cut (p ∷ ps) i (suc (suc k)))
-          (after_turns kind (step_of kind cut p) ps) (after_turns kind cut (p ∷ ps)) i (count (step_of kind cut p)) (count cut)
-          (hop (step_of kind cut p)) (hop cut)
+          (after_turns kind (step_of kind cut p) ps) (after_turns kind cut (p ∷ ps)) i (count (step_of kind cut p))
+          (count cut) (hop (step_of kind cut p)) (hop cut)
           (sym (moment_other kind cut p ps i (suc k) e)) (sym (moment_other kind cut p ps i (suc (suc k)) e))
           (sym (after_one kind cut p ps)) a.count_is
           (hop_same (step_of kind cut p) cut a.delays_are)

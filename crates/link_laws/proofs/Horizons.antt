@@ -43,7 +43,8 @@ looks_ahead {C = C} kind law cut until actions i j cable sound time may li lj ap
     let start = watching_opened kind cut sound in
     let w : Watched C = after_actions kind actions (first_watch kind cut) in
     let watch = watching_played kind law cut until actions (first_watch kind cut) start may in
-    let hears = hears_played kind law cut until actions (first_watch kind cut) start (λ a b la lb e. time a b la lb e) may in
+    let hears =
+    hears_played kind law cut until actions (first_watch kind cut) start (λ a b la lb e. time a b la lb e) may in
     let up : (k : ℕ) → k < count cut → k < count w.cut = λ k h. subst (λ (n : ℕ). k < n) (sym watch.count_is) h in
     let l = watch.known i j (up j lj) in
     let heard = hears i j (up i li) (up j lj) apart in
@@ -222,7 +223,8 @@ pub furthest_behind : {C : Type 0} (kind : NodeKind C) → IsLawful kind
     → MayStepHere kind until (after_actions kind more (after_actions kind actions (first_watch kind cut))) i
 furthest_behind {C = C} kind law cut until actions more i cable sound may last may_more aside looks =
     let w : Watched C = after_actions kind actions (first_watch kind cut) in
-    let watch = watching_played kind law cut until actions (first_watch kind cut) (watching_opened kind cut sound) may in
+    let watch =
+    watching_played kind law cut until actions (first_watch kind cut) (watching_opened kind cut sound) may in
     let clock : ℕ = clock_at kind w.cut i in
     let waits : Waits kind cut until i clock w = record { watch = watch; stays = refl; least = last.least } in
     let v : Watched C = after_actions kind more w in
@@ -249,7 +251,8 @@ pub clocks_near : {C : Type 0} (kind : NodeKind C) → IsLawful kind
     < clock_at kind (after_actions kind actions (first_watch kind cut)).cut j + hop cut j i + 512
 clocks_near {C = C} kind law cut until actions i j cable sound may li lj =
     let w : Watched C = after_actions kind actions (first_watch kind cut) in
-    let watch = watching_played kind law cut until actions (first_watch kind cut) (watching_opened kind cut sound) may in
+    let watch =
+    watching_played kind law cut until actions (first_watch kind cut) (watching_opened kind cut sound) may in
     let up : (k : ℕ) → k < count cut → k < count w.cut = λ k h. subst (λ (n : ℕ). k < n) (sym watch.count_is) h in
     elim (same_or_apart i j) [
       | inl e ↦ let f = ap (clock_at kind w.cut) e in omega (arith, f)

@@ -197,8 +197,8 @@ clock_same kind d e i s = number_same kind.clock d.consoles e.consoles i s.conso
 -- a console with steps left is where the trace is
 follows : {C : Type 0} (kind : NodeKind C) → IsLawful kind
     → (until : ℕ) (start : Cut C) (all qs ps : List ℕ) (k : ℕ → ℕ) (w : Watched C) (j : ℕ)
-    → Leads kind until (after_turns kind start qs) ps → IsSound kind (after_turns kind start qs) → Stands kind start all qs ps k w
-    → j < count start → count_of j qs ≤ k j
+    → Leads kind until (after_turns kind start qs) ps → IsSound kind (after_turns kind start qs)
+    → Stands kind start all qs ps k w → j < count start → count_of j qs ≤ k j
     → Same w.cut (after_turns kind start qs) j
 follows {C = C} kind law until start all qs ps k w j leads sound stands below more =
     let made : min (k j) (count_of j qs) ≡ count_of j qs + 0 = omega arith in
@@ -310,7 +310,8 @@ plan_goes {C = C} kind law until start all qs (p ∷ ps) k w whole begin leads s
     subst (λ (e : Cut C). Leads kind until e ps) (sym push) leads.3 in
     let sound' : IsSound kind (after_turns kind start rs) = subst (IsSound kind) (sym push) a.sound in
     let counts' : count (after_turns kind start rs) ≡ count start = ap count push ∙ a.count_is ∙ counts in
-    let delays' : (after_turns kind start rs).delays ≡ start.delays = ap (λ (e : Cut C). e.delays) push ∙ a.delays_are ∙ delays in
+    let delays' : (after_turns kind start rs).delays ≡ start.delays =
+    ap (λ (e : Cut C). e.delays) push ∙ a.delays_are ∙ delays in
     let all' : all ≡ rs ++ ps = stands.all_is ∙ sym (append_assoc qs (p ∷ []) ps) in
     let below : p < count start = subst (λ (m : ℕ). p < m) counts leads.0 in
     let own = count_of-push_own p p qs refl in
@@ -409,7 +410,8 @@ reaches_counts {C = C} kind law cut until k cable sound wanted =
       each = λ i below.
           let most = wanted.within i below in
           let made : min (k i) (count_of i all) ≡ k i = omega arith in
-          let s = subst (λ (n : ℕ). Same (after_actions kind acts (first_watch kind cut)).cut (moment kind cut all i n) i) made
+          let s =
+          subst (λ (n : ℕ). Same (after_actions kind acts (first_watch kind cut)).cut (moment kind cut all i n) i) made
           (planned.on.same i below) in
           record { within = most; console = s.console; signals = s.signals };
     }

@@ -87,7 +87,8 @@ pub record IsReachable {C : Type 0} (kind : NodeKind C) (cut : Cut C) (until : �
 pub record Reaches {C : Type 0} (kind : NodeKind C) (cut : Cut C) (until : ℕ) (k : ℕ → ℕ) : Type 0 where
   pub actions : List Action
   pub allowed : IsInterleaving kind until actions (first_watch kind cut)
-  pub each : (i : ℕ) → i < count cut → IsAfter kind cut until (after_actions kind actions (first_watch kind cut)).cut i (k i)
+  pub each : (i : ℕ) → i < count cut
+      → IsAfter kind cut until (after_actions kind actions (first_watch kind cut)).cut i (k i)
 
 -- a cut whose consoles have each made k of their steps, with the same bounds
 pub record IsReachableCut {C : Type 0} (kind : NodeKind C) (cut : Cut C) (until : ℕ) (d : Cut C) (k : ℕ → ℕ) : Type 0
@@ -102,7 +103,8 @@ pub record ReachesCut {C : Type 0} (kind : NodeKind C) (cut : Cut C) (until : �
   pub actions : List Action
   pub allowed : IsInterleaving kind until actions (first_watch kind cut)
   pub consoles : (after_actions kind actions (first_watch kind cut)).cut.consoles ≡ d.consoles
-  pub signals : (i : ℕ) → i < count cut → from i (after_actions kind actions (first_watch kind cut)).cut.sent ≡ from i d.sent
+  pub signals : (i : ℕ) → i < count cut
+      → from i (after_actions kind actions (first_watch kind cut)).cut.sent ≡ from i d.sent
 
 -- a cut that is sound and in time
 pub record IsStart {C : Type 0} (kind : NodeKind C) (cut : Cut C) : Type 0 where

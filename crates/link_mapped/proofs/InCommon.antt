@@ -29,7 +29,8 @@ alike-of {C = C} f g cut other e = record {
 with_parts : {C : Type 0} → List C → Delays → List Sent → Cut C
 with_parts consoles delays sent = record { consoles = consoles; delays = delays; sent = sent }
 
-pub mapped-same : {C : Type 0} (f g : ℕ → C → C) (cut other : Cut C) → Alike f g cut other → mapped f cut ≡ mapped g other
+pub mapped-same : {C : Type 0} (f g : ℕ → C → C) (cut other : Cut C) → Alike f g cut other
+    → mapped f cut ≡ mapped g other
 unfolding with_parts
 mapped-same {C = C} f g cut other alike =
     ap (λ (xs : List C). with_parts xs cut.delays cut.sent) (each-same f g cut.consoles other.consoles alike.consoles)
@@ -62,7 +63,8 @@ module _ {C : Type 0} (kind : NodeKind C) (f g : ℕ → C → C) (clocks : Keep
   pub sight-same : sight kind cut ≡ sight kind other
   unfolding sight_of
   sight-same =
-      ap (λ (d : Delays). sight_of d (map kind.clock cut.consoles) (map kind.was cut.consoles) (count cut) cut.sent) alike.delays
+      ap (λ (d : Delays). sight_of d (map kind.clock cut.consoles) (map kind.was cut.consoles) (count cut) cut.sent)
+      alike.delays
       ∙ ap (λ (ns : List ℕ). sight_of other.delays ns (map kind.was cut.consoles) (count cut) cut.sent)
       (map-same kind.clock f g cut.consoles other.consoles clocks.clock alike.consoles)
       ∙ ap (λ (ns : List ℕ). sight_of other.delays (map kind.clock other.consoles) ns (count cut) cut.sent)
@@ -80,7 +82,8 @@ module _ {C : Type 0} (kind : NodeKind C) (f g : ℕ → C → C) (clocks : Keep
 
   pub due-same : (i : ℕ) → due_at kind cut i ≡ due_at kind other i
   due-same i =
-      ap (λ (v : Sight). due (hop_of v.delays) (λ j. from j v.sent) i (slice_index v.wases i) (slice_index v.clocks i) v.many)
+      ap (λ (v : Sight). due (hop_of v.delays) (λ j. from j v.sent) i (slice_index v.wases i)
+      (slice_index v.clocks i) v.many)
       sight-same
 
   pub awaited-same : (one : Sent) → is_live kind cut one ≡ is_live kind other one
@@ -92,7 +95,8 @@ module _ {C : Type 0} (kind : NodeKind C) (f g : ℕ → C → C) (clocks : Keep
     consoles = alike.consoles;
     delays = alike.delays;
     sent =
-        ap (λ (v : Sight). filter (λ one. is_awaited (hop_of v.delays) (slice_index v.wases) v.many one) v.sent) sight-same;
+        ap (λ (v : Sight). filter (λ one. is_awaited (hop_of v.delays) (slice_index v.wases) v.many one) v.sent)
+        sight-same;
   }
 
   signal-same : (one : Sent) → IsSoundSignal kind cut one → IsSoundSignal kind other one
@@ -111,7 +115,8 @@ module _ {C : Type 0} (kind : NodeKind C) (f g : ℕ → C → C) (clocks : Keep
         subst (λ (v : Sight). (i j : ℕ) → i < v.many → j < v.many → i ≢ j
         → slice_index v.clocks i < slice_index v.clocks j + hop_of v.delays j i + 512) sight-same sound.near;
     begun =
-        subst (λ (v : Sight). (i : ℕ) → i < v.many → slice_index v.wases i ≤ slice_index v.clocks i) sight-same sound.begun;
+        subst (λ (v : Sight). (i : ℕ) → i < v.many → slice_index v.wases i ≤ slice_index v.clocks i) sight-same
+        sound.begun;
     short =
         subst (λ (v : Sight). (i : ℕ) → i < v.many → slice_index v.clocks i ≤ slice_index v.wases i + 512) sight-same
         sound.short;

@@ -26,7 +26,8 @@ matched f g (x ∷ xs) [] e = cc
 matched f g (x ∷ xs) (y ∷ ys) e =
     (ap (first_or (f 0 x)) e, matched (λ i. f (suc i)) (λ i. g (suc i)) xs ys (ap others e))
 
-pub each-same : {C : Type 0} (f g : ℕ → C → C) (xs ys : List C) → Matched f g xs ys → each_mapped f xs ≡ each_mapped g ys
+pub each-same : {C : Type 0} (f g : ℕ → C → C) (xs ys : List C) → Matched f g xs ys
+    → each_mapped f xs ≡ each_mapped g ys
 each-same f g [] [] m = refl
 each-same f g [] (y ∷ ys) m = absurd m
 each-same f g (x ∷ xs) [] m = absurd m

@@ -22,7 +22,8 @@ set-told f g h (x ∷ xs) (y ∷ ys) (suc i) a b m same =
     set-told (λ j. f (suc j)) (λ j. g (suc j)) h xs ys i a b m.1 same
 
 module _ {C : Type 0} (kind : NodeKind C) (f g : ℕ → C → C) (unseen : IsUnseen kind f g) (h : C → List ℕ)
-    (tells : (i : ℕ) (x y : C) (due : List Incoming) → f i x ≡ g i y → h (kind.next x due).0 ≡ h (kind.next y due).0) where
+    (tells : (i : ℕ) (x y : C) (due : List Incoming) → f i x ≡ g i y
+    → h (kind.next x due).0 ≡ h (kind.next y due).0) where
   told-by : (cut other : Cut C) (i : ℕ) (signals : List Incoming) (o p : Option C) → slice_get cut.consoles i ≡ o
       → slice_get other.consoles i ≡ p → Both (λ x y. f i x ≡ g i y) o p → Alike f g cut other
       → option_map h (slice_get (step_from kind cut i signals o).consoles i)
@@ -35,7 +36,8 @@ module _ {C : Type 0} (kind : NodeKind C) (f g : ℕ → C → C) (unseen : IsUn
       (tells i x y signals both)
 
   told-of : (cut other : Cut C) (i : ℕ) → Alike f g cut other
-      → option_map h (slice_get (step_of kind cut i).consoles i) ≡ option_map h (slice_get (step_of kind other i).consoles i)
+      → option_map h (slice_get (step_of kind cut i).consoles i)
+      ≡ option_map h (slice_get (step_of kind other i).consoles i)
   told-of cut other i alike =
       subst (λ (signals : List Incoming). option_map h (slice_get (step_of kind cut i).consoles i)
       ≡ option_map h (slice_get (step_with kind other i signals).consoles i))

@@ -104,7 +104,8 @@ each-left [] = refl
 each-left {C = C} (x ∷ xs) = ap (λ (all : List C). x ∷ all) (each-left xs)
 
 pub left-mapped : {C : Type 0} (cut : Cut C) → mapped (λ i x. x) cut ≡ cut
-left-mapped {C = C} cut = ap (λ (xs : List C). let c : Cut C = record cut { consoles = xs } in c) (each-left cut.consoles)
+left-mapped {C = C} cut =
+    ap (λ (xs : List C). let c : Cut C = record cut { consoles = xs } in c) (each-left cut.consoles)
 
 pub maps-runs : {C : Type 0} (kind : NodeKind C) → MapsRuns kind
 maps-runs kind f cut until unseen =

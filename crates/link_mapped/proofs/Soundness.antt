@@ -20,7 +20,8 @@ pub record Kept {C : Type 0} (kind : NodeKind C) (cut : Cut C) : Type 0 where
 run-kept-by : {C : Type 0} (kind : NodeKind C) → IsLawful kind → (most : ℕ) (cut : Cut C) (until : ℕ)
     → cycles_left kind cut until ≤ most → Kept kind cut → Kept kind (run kind cut until)
 run-kept-by {C = C} kind law zero cut until few kept =
-    subst (λ (d : Cut C). Kept kind d) (sym (run_ends kind cut until (ends kind cut until kept.some (omega arith)))) kept
+    subst (λ (d : Cut C). Kept kind d) (sym (run_ends kind cut until (ends kind cut until kept.some (omega arith))))
+    kept
 run-kept-by {C = C} kind law (suc most) cut until few kept =
     elim (cases_Bool (nat_lt (clock_at kind cut (least kind cut)) until)) [
       | inr e ↦ subst (λ (d : Cut C). Kept kind d) (sym (run_ends kind cut until e)) kept

@@ -6,8 +6,8 @@ use Rattle.link_order.specs.NodeKind.{NodeKind}
 use Rattle.link_order.specs.declared.sent.Sent.{Sent}
 use Rattle.link_mapped.specs.Mapped.{IsUnseen, KeepsClocks, mapped}
 
--- the laws. `kind` is any kind of console; two cuts are alike where their consoles are, and their delays and signals are
--- the same
+-- the laws. `kind` is any kind of console; two cuts are alike where their consoles are, and their delays and signals
+-- are the same
 
 -- runs of alike cuts end alike
 abbrev pub RunsAlike : {C : Type 0} → NodeKind C → Type 0
@@ -48,8 +48,9 @@ RunsLiveInParts {C} kind =
     (cut : Cut C) (first until : ℕ) → 0 < count cut → HasDelays cut → IsSound kind cut → first ≤ until
     → live kind (run kind (live kind (run kind cut first)) until) ≡ live kind (run kind cut until)
 
--- One step of the global order of alike cuts: it begins at the same clock, leaves alike cuts, of which only the signals are kept
--- that can still be taken, and what can be told of an alike console's step is told the same of the console that stepped.
+-- One step of the global order of alike cuts: it begins at the same clock, leaves alike cuts, of which only the signals
+-- are kept that can still be taken, and what can be told of an alike console's step is told the same of the console
+-- that stepped.
 pub record StepAlike {C : Type 0} (kind : NodeKind C) (f g : ℕ → C → C) (cut other : Cut C) : Type 0 where
   pub clock : clock_at kind cut (least kind cut) ≡ clock_at kind other (least kind other)
   pub next : mapped f (live kind (step kind cut)) ≡ mapped g (live kind (step kind other))

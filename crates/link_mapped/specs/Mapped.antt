@@ -15,8 +15,8 @@ each_mapped f (x ∷ xs) = f 0 x ∷ each_mapped (λ i. f (suc i)) xs
 abbrev pub mapped : {C : Type 0} → (ℕ → C → C) → Cut C → Cut C
 mapped f cut = record { consoles = each_mapped f cut.consoles; delays = cut.delays; sent = cut.sent }
 
--- Two consoles of a player are alike where f makes of the one what g makes of the other. Both leave the clocks be: alike
--- consoles have the same.
+-- Two consoles of a player are alike where f makes of the one what g makes of the other. Both leave the clocks be:
+-- alike consoles have the same.
 pub record KeepsClocks {C : Type 0} (kind : NodeKind C) (f g : ℕ → C → C) : Type 0 where
   pub clock : (i : ℕ) (x y : C) → f i x ≡ g i y → kind.clock x ≡ kind.clock y
   pub was : (i : ℕ) (x y : C) → f i x ≡ g i y → kind.was x ≡ kind.was y

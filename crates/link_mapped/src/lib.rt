@@ -1,14 +1,15 @@
 #![tactic(auto)]
-//! Runs of consoles that differ in what no step looks at, over any node. Each function takes nothing and answers nothing:
-//! its contract is its law. The laws stand in `specs/Law.antt`, in the words of the definitions of `link_order`.
+//! Runs of consoles that differ in what no step looks at, over any node. Each function takes nothing and answers
+//! nothing: its contract is its law. The laws stand in `specs/Law.antt`, in the words of the definitions of
+//! `link_order`.
 
 ghost use Rattle.link_order.specs.NodeKind.{kind_of};
 ghost use Rattle.link_mapped.specs.Law.{AreAlike, MapsRuns, RunsAlike, RunsLiveAlike, RunsLiveInParts, StepsAlike};
 
 use link_node::Node;
 
-/// Cuts of consoles that differ in what no step looks at run alike: with all their signals, and also where only those that
-/// can still be taken are the same.
+/// Cuts of consoles that differ in what no step looks at run alike: with all their signals, and also where only those
+/// that can still be taken are the same.
 pub fn runs<N: Node>()
     ensures all { RunsAlike (kind_of N.clock N.was N.next) }
     ensures live { RunsLiveAlike (kind_of N.clock N.was N.next) }

@@ -13,7 +13,8 @@ both_below : (sender receiver : ℕ) → sender < 4 → receiver < 4 → (nat_lt
 both_below sender receiver s r = grind (arith, nat_tests)
 
 -- one delay for all is that of any two players
-pub hop-all : (cycles sender receiver : ℕ) → sender < 4 → receiver < 4 → hop_of (all_delays cycles) sender receiver ≡ cycles
+pub hop-all : (cycles sender receiver : ℕ) → sender < 4 → receiver < 4
+    → hop_of (all_delays cycles) sender receiver ≡ cycles
 unfolding hop_of all_delays
 hop-all cycles sender receiver s r =
     rw (both_below sender receiver s r)

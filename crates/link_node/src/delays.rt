@@ -3,8 +3,8 @@
 ghost use Rattle.std.specs.Prelude.{ℕ, ◌≡◌, ◌≢◌, ◌⊎◌, ◌<◌, ◌≤◌, slice_index};
 ghost use Rattle.link_node.specs.Delays.{hop_of, all_delays, AreDelays};
 
-/// How many cycles a signal takes from each player to each other one: a row for each sender, and in it a number for each
-/// receiver. On a cable each is 1 to 1,024, and those of a player to itself are never asked for.
+/// How many cycles a signal takes from each player to each other one: a row for each sender, and in it a number for
+/// each receiver. On a cable each is 1 to 1,024, and those of a player to itself are never asked for.
 #[derive(Clone, Copy, Debug, PartialEq, Eq)]
 pub struct Delays {
     pub rows: [[u64; 4]; 4],

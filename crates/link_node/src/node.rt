@@ -48,7 +48,8 @@ pub trait Node {
         ensures signal { result ≡ (next (plain self.old) due.now).1 }
         ensures limit { bound self.new ≡ bound self.old };
 
-    /// Steps with nothing due, until the clock is at least `end` or one of them tells something, and answers that signal.
+    /// Steps with nothing due, until the clock is at least `end` or one of them tells something, and answers
+    /// that signal.
     fn go_alone(&mut self, end: u64) -> Option<Signal>
         requires { end ≤ bound self.old }
         ensures alone { StepsAlone clock next end (plain self.old) (plain self.new) result }

@@ -112,11 +112,12 @@ trace_unrolls kind law cut until some e =
     let f = falls kind law cut until some e in
     let some' : 0 < count (step kind cut) = subst (λ (n : ℕ). 0 < n) (sym f.count_is) some in
     let low : cycles_left kind (step kind cut) until < cycles_left kind cut until = f.fewer in
-    enough kind law (cycles_left kind cut until) cut until (suc (cycles_left kind cut until)) some (omega arith) (omega arith)
+    enough kind law (cycles_left kind cut until) cut until (suc (cycles_left kind cut until)) some (omega arith)
+    (omega arith)
     ∙ trace_goes kind (cycles_left kind cut until) cut until e
     ∙ ap (λ (t : List ℕ). least kind cut ∷ t)
-    (enough kind law (cycles_left kind cut until) (step kind cut) until (cycles_left kind (step kind cut) until) some' (omega arith)
-    (omega arith))
+    (enough kind law (cycles_left kind cut until) (step kind cut) until (cycles_left kind (step kind cut) until) some'
+    (omega arith) (omega arith))
 
 pub run_unrolls : {C : Type 0} (kind : NodeKind C) → IsLawful kind → (cut : Cut C) (until : ℕ) → 0 < count cut
     → nat_lt (clock_at kind cut (least kind cut)) until ≡ true → run kind cut until ≡ run kind (step kind cut) until
@@ -133,8 +134,8 @@ run_ends kind cut until e =
 run_empty : {C : Type 0} (kind : NodeKind C) (cut : Cut C) (until : ℕ) → count cut ≡ 0 → run kind cut until ≡ cut
 run_empty kind cut until none =
     let e : cycles_left kind cut until ≡ 0 = ap (cycles_left_below (clock_at kind cut) until) none in
-    ap (λ (m : ℕ). after_turns kind cut (trace_of kind m cut until)) e ∙ ap (after_turns kind cut) (trace_zero kind cut until)
-    ∙ after_none kind cut
+    ap (λ (m : ℕ). after_turns kind cut (trace_of kind m cut until)) e
+    ∙ ap (after_turns kind cut) (trace_zero kind cut until) ∙ after_none kind cut
 
 parts : {C : Type 0} (kind : NodeKind C) → IsLawful kind → (most : ℕ) (cut : Cut C) (first until : ℕ) → 0 < count cut
     → first ≤ until

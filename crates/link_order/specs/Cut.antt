@@ -49,8 +49,8 @@ pub record IsSoundSignal {C : Type 0} (kind : NodeKind C) (cut : Cut C) (one : S
   pub sent_before : one.signal.clock < clock_at kind cut one.sender
   pub allowed : (i : ℕ) → i < count cut → i ≢ one.sender → one.signal.clock < clock_at kind cut i + hop cut i one.sender
 
--- a sound cut: no console is further ahead of another than the delay from there and a step, each last step took at most 512
--- cycles, and the signals are sound and in order
+-- a sound cut: no console is further ahead of another than the delay from there and a step, each last step took at most
+-- 512 cycles, and the signals are sound and in order
 pub record IsSound {C : Type 0} (kind : NodeKind C) (cut : Cut C) : Type 0 where
   pub near : (i j : ℕ) → i < count cut → j < count cut → i ≢ j
       → clock_at kind cut i < clock_at kind cut j + hop cut j i + 512

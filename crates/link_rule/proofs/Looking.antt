@@ -96,7 +96,8 @@ raised s i j own p q steps count sound lj h seen fetched more later cases =
     ]
 
 -- the players that a step of a seat concerns, in the words of its own progress
-pub record Concerned {K : Type 0} (text : K → Script) (key : K) (words : List ℕ) (i j : ℕ) (r o : Progress) : Type 0 where
+pub record Concerned {K : Type 0} (text : K → Script) (key : K) (words : List ℕ) (i j : ℕ)
+    (r o : Progress) : Type 0 where
   pub player : i < (text key).players
   pub own : Shows (text key) words i r
   pub peer : Shows (text key) words j o

@@ -112,7 +112,8 @@ shows_next s words i silent r m v flag own stands counted w inside v_is =
         counted = omega arith;
         all_peers = length-map r.peers unlooked ∙ own.placed.all_peers;
       };
-      clock_is = stored words (clock_place i) v inside ∙ v_is ∙ ap (λ (c : ℕ). clock_word c (r.sent + sends)) (sym clock);
+      clock_is =
+          stored words (clock_place i) v inside ∙ v_is ∙ ap (λ (c : ℕ). clock_word c (r.sent + sends)) (sym clock);
       ring = λ n x e below near.
           let ring = in_ring i n in
           let kept : HasSignal words i n x → HasSignal (set words (clock_place i) v) i n x
@@ -173,7 +174,8 @@ few_after s i j own r o m sound li lj stands counted k b allowed =
                 = signals_apart s sound i q.taken (sent s i own) first.0 loud.0 li first.1 there (omega arith) in
                 let unfetched : q.base ≤ first.0.clock
                 = elim (cases_lt first.0.clock q.base) [
-                  | inl early ↦ absurd (let n : q.taken < q.taken = b.below q.taken first.0 first.1 early in omega arith)
+                  | inl early ↦
+                      absurd (let n : q.taken < q.taken = b.below q.taken first.0 first.1 early in omega arith)
                   | inr late ↦ late
                 ] in
                 let seen : p.clock ≡ now s j k.seen.at = k.seen.clock_is in
@@ -200,7 +202,8 @@ publish_core text key words views id i r clock v flag h at may flags v_is =
     let w = written_of s words i k r m flag own may.stands counted may.written may.unwritten flags in
     let four : s.players ≤ 4 = sound.at_most_four in
     let inside : clock_place i < length words = omega (arith, me.player, h.wide) in
-    let counts : v ≡ clock_word clock (r.sent + sends) = v_is ∙ ap (λ (n : ℕ). clock_word clock (r.sent + n)) w.count_is in
+    let counts : v ≡ clock_word clock (r.sent + sends) =
+    v_is ∙ ap (λ (n : ℕ). clock_word clock (r.sent + n)) w.count_is in
     let value : v ≡ clock_word m.clock (r.sent + sends)
     = counts ∙ ap (λ (c : ℕ). clock_word c (r.sent + sends)) may.clock_is in
     let y : Progress = stepped_on r may.silent sends in

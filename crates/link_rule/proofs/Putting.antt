@@ -50,14 +50,15 @@ wrote text key words views id i word v written r h at entry own =
     (λ j lj apart. (concerned text key words views id i j r h at lj apart).known)
 
 pub own_shows : {K : Type 0} (text : K → Script) (key : K) (words : List ℕ) (views : List (View K)) (id i : ℕ)
-    (r : Progress) → Ruled text key words views → get_elem? views id ≡ some (seat_of key i r) → Shows (text key) words i r
+    (r : Progress) → Ruled text key words views → get_elem? views id ≡ some (seat_of key i r)
+    → Shows (text key) words i r
 own_shows text key words views id i r h at =
     let me = here text key words views id key i r h at in
     subst (λ (p : Progress). Shows (text key) words i p) me.made_is (h.shows i me.player)
 
 inside : {K : Type 0} (text : K → Script) (key : K) (words : List ℕ) (views : List (View K)) (id i : ℕ)
-    (r : Progress) (word : ℕ) → Ruled text key words views → get_elem? views id ≡ some (seat_of key i r) → Entry i r.sent word
-    → word < length words
+    (r : Progress) (word : ℕ) → Ruled text key words views → get_elem? views id ≡ some (seat_of key i r)
+    → Entry i r.sent word → word < length words
 inside text key words views id i r word h at entry =
     let me = here text key words views id key i r h at in
     let four : (text key).players ≤ 4 = h.sound.at_most_four in

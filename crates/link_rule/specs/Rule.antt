@@ -39,7 +39,8 @@ pub record Shows (s : Script) (words : List ℕ) (i : ℕ) (r : Progress) : Type
   pub ring : (n : ℕ) (signal : Signal) → slice_get (told s i) n ≡ Some signal → n < r.sent → r.sent < n + 4096
       → HasSignal words i n signal
   pub begun : 1 ≤ r.written
-      → (signal : Signal) × IsNextSignal s i r.steps signal × (slice_index words (ring_place i r.sent) ≡ packed_head signal)
+      → (signal : Signal) × IsNextSignal s i r.steps signal
+      × (slice_index words (ring_place i r.sent) ≡ packed_head signal)
   pub ended : 2 ≤ r.written
       → (signal : Signal) × IsNextSignal s i r.steps signal
       × (slice_index words (ring_place i r.sent + 1) ≡ packed_words signal)

@@ -2,8 +2,8 @@ use Rattle.std.specs.Prelude.{ℕ, ◌≡◌, ◌+◌, ◌*◌, ◌-◌, ◌/◌
 use Rattle.link_node.specs.declared.signal.Signal.{Signal}
 use Rattle.link_node.specs.Packing.{packed_head, packed_words}
 
--- this project's profile: the words of the shared table. Each of four players has a clock word, and then a ring of 4,096
--- signals of two words
+-- this project's profile: the words of the shared table. Each of four players has a clock word, and then a ring of
+-- 4,096 signals of two words
 
 -- where player i's clock word stands
 abbrev pub clock_place : ℕ → ℕ

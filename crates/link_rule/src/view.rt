@@ -25,8 +25,8 @@ pub struct Progress {
     pub peers: LinkedList<Peer>,
 }
 
-/// What a seat knows: the table's key, and the progress of the players that it plays, `first` and those after it. A seat
-/// that was joined to another has no key and plays nobody.
+/// What a seat knows: the table's key, and the progress of the players that it plays, `first` and those after it. A
+/// seat that was joined to another has no key and plays nobody.
 pub struct View<K> {
     pub key: LinkedList<K>,
     pub first: u64,

@@ -51,7 +51,8 @@ part_length (y ∷ ys) (x ∷ xs) oa of inside =
     let rest_y = pairs_tail R y ys oa in
     let rest = all_tail (Contains (y ∷ ys)) x xs inside in
     elim (holds_cases y x ys (all_head (Contains (y ∷ ys)) x xs inside)) [
-      | inl same ↦ omega (arith, part_length ys xs rest_y (pairs_tail R x xs of) (behind y x ys xs after_x rest (inl same)))
+      | inl same ↦
+          omega (arith, part_length ys xs rest_y (pairs_tail R x xs of) (behind y x ys xs after_x rest (inl same)))
       | inr there ↦
           let before : R y x = All-contains (R y) ys x after_y there in
           omega (

@@ -22,9 +22,12 @@ use Rattle.link_run.proofs.Closings.{get_map, slice_below}
 pub same_cut : {N : Type 0} (cut : Cut N) (nodes : List N) (flight : Flight) → nodes ≡ cut.consoles
     → flight.delays ≡ cut.delays → flight.sent ≡ cut.sent → cut_of nodes flight ≡ cut
 same_cut {N = N} cut nodes flight nodes_are delays_are sent_is =
-    ap (λ (l : List N). let z : Cut N = record { consoles = l; delays = flight.delays; sent = flight.sent } in z) nodes_are
-    ∙ ap (λ (d : Delays). let z : Cut N = record { consoles = cut.consoles; delays = d; sent = flight.sent } in z) delays_are
-    ∙ ap (λ (l : List Sent). let z : Cut N = record { consoles = cut.consoles; delays = cut.delays; sent = l } in z) sent_is
+    ap (λ (l : List N). let z : Cut N = record { consoles = l; delays = flight.delays; sent = flight.sent } in z)
+    nodes_are
+    ∙ ap (λ (d : Delays). let z : Cut N = record { consoles = cut.consoles; delays = d; sent = flight.sent } in z)
+    delays_are
+    ∙ ap (λ (l : List Sent). let z : Cut N = record { consoles = cut.consoles; delays = cut.delays; sent = l } in z)
+    sent_is
 
 -- the nodes and seats of a new table make lanes
 pub can_open : {N C : Type 0} (kind : NodeKind C) (plain : N → C) (bound : N → ℕ) (cut : Cut N) (id : TableId)

@@ -46,7 +46,8 @@ get_map f (y ∷ ys) (suc k) x e = get_map f ys k x e
 -- where a lane stands in the trace to an earlier end
 record At {N C : Type 0} (kind : NodeKind C) (plain : N → C) (key : Key N) (until i : ℕ) (lane : LaneState N) : Type 0
   where
-    clock_is : clock_at kind (moment kind (key_cut plain key) (trace kind (key_cut plain key) until) i lane.seat.made.steps)
+    clock_is : clock_at kind
+        (moment kind (key_cut plain key) (trace kind (key_cut plain key) until) i lane.seat.made.steps)
         i ≡ now (script_of kind plain key) i lane.seat.made.steps
     was_is : (m : ℕ) → lane.seat.made.steps ≡ suc m
         → was_at kind (moment kind (key_cut plain key) (trace kind (key_cut plain key) until) i lane.seat.made.steps) i
@@ -96,7 +97,8 @@ at_place {N = N} {C = C} kind law plain key table lanes until h le begun i lane 
           sym wases ∙ ap (λ (q : ℕ). was_at kind (moment kind cut all i q) i) is ∙ step.was_is ∙ now_is m;
       within = within;
       console =
-          sym consoles ∙ subst (λ (q : ℕ). console_after kind cut all q k ≡ Some (plain lane.node)) player followed.stands;
+          sym consoles
+          ∙ subst (λ (q : ℕ). console_after kind cut all q k ≡ Some (plain lane.node)) player followed.stands;
       signals = sym (p.signals i k within) ∙ w.signals_are k
           ∙ ap (λ (l : List Signal). from i cut.sent ++ l) (w.first_ones k);
     }
@@ -142,7 +144,8 @@ closes_to {N = N} {C = C} kind law plain key table lanes until h le begun =
     = λ i lane stands. number_found steps lanes i lane stands in
     let place : (i : ℕ) (below : i < n) (lane : LaneState N) → slice_get lanes i ≡ Some lane → lane.seat.player ≡ i
     → At kind plain key until i lane
-    = λ i below lane stands player. at_place kind law plain key table lanes until h le begun i lane stands below player in
+    = λ i below lane stands player. at_place kind law plain key table lanes until h le begun i lane stands below
+    player in
     let reachable : IsReachable kind cut until k = record {
       within = λ i below.
           let a = lane_at kind plain key table lanes h.lanes_are i below in
@@ -182,7 +185,12 @@ closes_to {N = N} {C = C} kind law plain key table lanes until h le begun =
             ∙ sym (get_map plain (map node_of lanes) i a.0.node (get_map node_of lanes i a.0 a.1)));
         signals = λ j lane stands.
             let below : j < n
-            = omega (arith, slice_below lanes j lane stands, h.lanes_are.count_is, length-map key.cut.value.consoles plain) in
+            = omega (
+              arith,
+              slice_below lanes j lane stands,
+              h.lanes_are.count_is,
+              length-map key.cut.value.consoles plain,
+            ) in
             (r.each j below).signals ∙ ap (signals_after kind cut some j) (steps_are j lane stands)
             ∙ (place j below lane stands (h.lanes_are.each j lane stands).player_is).signals;
         goes_on = equal.goes_on;
@@ -204,7 +212,8 @@ begun_by_limit {N = N} {C = C} kind law plain key table lanes h i lane stands m 
 
 -- it is one cut, whatever the end
 pub closes : {N C : Type 0} (kind : NodeKind C) → IsLawful kind → (plain : N → C) (key : Key N) (table : TableId)
-    (lanes : List (LaneState N)) → HaveMet kind plain key table lanes → (e : Cut C) × Closed kind plain key key.limit lanes e
+    (lanes : List (LaneState N)) → HaveMet kind plain key table lanes
+    → (e : Cut C) × Closed kind plain key key.limit lanes e
 closes kind law plain key table lanes h =
     closes_to kind law plain key table lanes key.limit h (omega arith) (begun_by_limit kind law plain key table lanes h)
 

@@ -152,6 +152,7 @@ pub put_together : {N C : Type 0} (kind : NodeKind C) (plain : N → C) (key : K
 put_together {N = N} {C = C} kind plain key lanes e nodes flight closed nodes_are delays_are sent_is =
     let consoles : map plain nodes ≡ e.consoles = ap (map plain) nodes_are ∙ sym closed.consoles in
     let delays : flight.delays ≡ e.delays = delays_are ∙ sym closed.goes_on.delays_are in
-    ap (λ (l : List C). let z : Cut C = record { consoles = l; delays = flight.delays; sent = flight.sent } in z) consoles
+    ap (λ (l : List C). let z : Cut C = record { consoles = l; delays = flight.delays; sent = flight.sent } in z)
+    consoles
     ∙ ap (λ (d : Delays). let z : Cut C = record { consoles = e.consoles; delays = d; sent = flight.sent } in z) delays
     ∙ ap (λ (l : List Sent). let z : Cut C = record { consoles = e.consoles; delays = e.delays; sent = l } in z) sent_is

@@ -130,7 +130,8 @@ from_here (other ∷ rest) one c =
           elim (same_or_apart other.sender one.sender) [
             | inl own ↦ subst (λ (l : List Signal). Contains l one.signal) (sym (from_own one.sender other rest own))
                 (here_later other.signal one.signal (from one.sender rest) h)
-            | inr apart ↦ subst (λ (l : List Signal). Contains l one.signal) (sym (from_other one.sender other rest apart)) h
+            | inr apart ↦
+                subst (λ (l : List Signal). Contains l one.signal) (sym (from_other one.sender other rest apart)) h
           ]
     ]
 
@@ -173,8 +174,8 @@ here_arriving passes delay j (x ∷ xs) signal c t =
     elim (here_cases x signal xs c) [
       | inl e ↦
           let own : passes (x.clock + delay) ≡ true = ap (λ (z : Signal). passes (z.clock + delay)) e ∙ t in
-          subst (λ (l : List Incoming). Contains l (incoming delay j signal)) (sym (arriving_due passes delay j x xs own))
-          (0, omega arith, ap (incoming delay j) e)
+          subst (λ (l : List Incoming). Contains l (incoming delay j signal))
+          (sym (arriving_due passes delay j x xs own)) (0, omega arith, ap (incoming delay j) e)
       | inr later ↦
           let h = here_arriving passes delay j xs signal later t in
           elim (cases_Bool (passes (x.clock + delay))) [

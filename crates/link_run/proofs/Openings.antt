@@ -29,7 +29,8 @@ nothing_waits between i was (suc j) =
     let ih = nothing_waits between i was j in
     elim (same_or_apart j i) [
       | inl e ↦
-          let own : waiting between (λ (k : ℕ). from k []) i was (suc j) ≡ waiting between (λ (k : ℕ). from k []) i was j
+          let own : waiting between (λ (k : ℕ). from k []) i was (suc j)
+          ≡ waiting between (λ (k : ℕ). from k []) i was j
           = rw e (due_own between (λ (k : ℕ). from k []) i (nat_lt was)) in
           own ∙ ih
       | inr e ↦ due_other between (λ (k : ℕ). from k []) i (nat_lt was) j e ∙ ih
@@ -59,8 +60,8 @@ one_more_waits between xs ys one i was n old new more below is takes leaves =
     ]
 
 -- the signals of a table's cut bear small clocks, and players of the cut sent them
-pub sent_early : {N C : Type 0} (kind : NodeKind C) (plain : N → C) (bound : N → ℕ) (node : N) (seat : SeatState (Key N))
-    (sent : List Sent) (delays : Delays) → CanOpen kind plain bound node seat sent delays
+pub sent_early : {N C : Type 0} (kind : NodeKind C) (plain : N → C) (bound : N → ℕ) (node : N)
+    (seat : SeatState (Key N)) (sent : List Sent) (delays : Delays) → CanOpen kind plain bound node seat sent delays
     → All (λ (one : Sent). one.signal.clock < 2 ^ 40) sent
 unfolding script_of
 sent_early {N = N} {C = C} kind plain bound node seat sent delays can =
@@ -78,8 +79,8 @@ senders_are kind cut sound =
     sound.signals
 
 -- a node and its seat make a lane with what the node can still take
-pub opens_with : {N C : Type 0} (kind : NodeKind C) (plain : N → C) (bound : N → ℕ) (node : N) (seat : SeatState (Key N))
-    (sent : List Sent) (delays : Delays) (player was : ℕ) (opening : List Incoming)
+pub opens_with : {N C : Type 0} (kind : NodeKind C) (plain : N → C) (bound : N → ℕ) (node : N)
+    (seat : SeatState (Key N)) (sent : List Sent) (delays : Delays) (player was : ℕ) (opening : List Incoming)
     → CanOpen kind plain bound node seat sent delays → player ≡ seat.player → was ≡ kind.was (plain node)
     → ((n : ℕ) → All (λ (one : Sent). one.sender < n) sent
     → opening ≡ waiting (hop_of delays) (λ j. from j sent) player was n)
@@ -108,7 +109,8 @@ opens_with {N = N} {C = C} kind plain bound node seat sent delays player was ope
     }
 
 -- an element between two parts of a list
-pub get_between : {X : Type 0} (xs : List X) (x : X) (ys : List X) → slice_get ((xs ++ x ∷ []) ++ ys) (length xs) ≡ Some x
+pub get_between : {X : Type 0} (xs : List X) (x : X) (ys : List X)
+    → slice_get ((xs ++ x ∷ []) ++ ys) (length xs) ≡ Some x
 get_between [] x ys = refl
 get_between (z ∷ zs) x ys = get_between zs x ys
 
@@ -118,8 +120,8 @@ get_there all old xs ys x whole is =
     ap (λ (l : List _). slice_get l (length xs)) (sym whole ∙ ap (λ (l : List _). l ++ ys) is) ∙ get_between xs x ys
 
 -- so many lanes were made of these nodes, and one more is to come
-pub one_to_come : {N : Type 0} (all nodes new : List N) (x : N) (lanes : List (LaneState N)) → nodes ++ map node_of lanes ≡ all
-    → nodes ≡ new ++ x ∷ [] → length lanes + 1 ≤ length all
+pub one_to_come : {N : Type 0} (all nodes new : List N) (x : N) (lanes : List (LaneState N))
+    → nodes ++ map node_of lanes ≡ all → nodes ≡ new ++ x ∷ [] → length lanes + 1 ≤ length all
 one_to_come {N = N} all nodes new x lanes whole is =
     omega (
       arith,

@@ -68,7 +68,8 @@ pub lists_one : (all : List (List Incoming)) (n : ℕ) (waits : List Incoming) (
     → WaitsInFirst all (n + 1) one → WaitsInFirst all n one ⊎ IsWaiting waits one
 lists_one all n waits one stands h =
     elim (cases_lt h.place n) [
-      | inl less ↦ inl (record { place = h.place; waits = h.waits; below = less; stands = h.stands; waiting = h.waiting })
+      | inl less ↦
+          inl (record { place = h.place; waits = h.waits; below = less; stands = h.stands; waiting = h.waiting })
       | inr past ↦
           let e : h.place ≡ n = omega (arith, h.below) in
           let same : Some h.waits ≡ Some waits = sym h.stands ∙ ap (slice_get all) e ∙ stands in
@@ -120,8 +121,8 @@ rest_step {K = K} s first old new i j signal same wide below small rested =
     }
 
 -- a player has fetched all that another sent
-pub rest_done : {K : Type 0} (s : Script) (first old new : JoinedState K) (i j : ℕ) → old ≡ with_fetched first old.fetched
-    → j < length first.made → Rested s old new i j None
+pub rest_done : {K : Type 0} (s : Script) (first old new : JoinedState K) (i j : ℕ)
+    → old ≡ with_fetched first old.fetched → j < length first.made → Rested s old new i j None
     → (slice_index old.fetched (pair_place i j) ≡ sent_at first.made j) × (new.fetched ≡ old.fetched)
 rest_done {K = K} s first old new i j same below rested =
     let made : old.made ≡ first.made = ap (λ (z : JoinedState K). z.made) same in

@@ -95,8 +95,8 @@ still_lanes {N = N} kind plain bound key table until olds news are all =
     }
 
 -- a round is of one cut
-pub begun_once : {N C : Type 0} (kind : NodeKind C) (plain : N → C) (bound : N → ℕ) (one other : Cut N) (round : Round N)
-    → Begins kind plain bound one round → Begins kind plain bound other round → one ≡ other
+pub begun_once : {N C : Type 0} (kind : NodeKind C) (plain : N → C) (bound : N → ℕ) (one other : Cut N)
+    (round : Round N) → Begins kind plain bound one round → Begins kind plain bound other round → one ≡ other
 begun_once {N = N} kind plain bound one other round a b =
     let are = a.round_is.lanes_are in
     let at = found round.lanes.items 0
@@ -109,7 +109,8 @@ begun_once {N = N} kind plain bound one other round a b =
 
 -- the end of a run is at most the key's limit
 pub within_limit : {N C : Type 0} (kind : NodeKind C) (plain : N → C) (bound : N → ℕ) (cut : Cut N) (round : Round N)
-    (until : ℕ) (b : Begins kind plain bound cut round) → All (λ (n : N). until ≤ bound n) cut.consoles → until ≤ b.key.limit
+    (until : ℕ) (b : Begins kind plain bound cut round) → All (λ (n : N). until ≤ bound n) cut.consoles
+    → until ≤ b.key.limit
 within_limit {N = N} kind plain bound cut round until b all =
     let l = b.opened.limit_is in
     let lengths : length (map bound cut.consoles) ≡ length cut.consoles = length-map cut.consoles bound in

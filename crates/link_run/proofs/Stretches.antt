@@ -60,7 +60,8 @@ pub stretch : {C : Type 0} (kind : NodeKind C) → IsLawful kind → (cut result
     → IsCable cut → IsSound kind cut → result ≡ live kind (run kind cut first) → IsStretch kind until cut result
 stretch {C = C} kind law cut result first until le cable sound is =
     let r : Cut C = run kind cut first in
-    let k = keeps_by kind law (cycles_left kind cut first) cut first until le cable.some_console cable.some_delay sound in
+    let k =
+    keeps_by kind law (cycles_left kind cut first) cut first until le cable.some_console cable.some_delay sound in
     let some : 0 < count r = subst (λ (n : ℕ). 0 < n) (sym k.count_is) cable.some_console in
     let later : HasDelays r = delays_same r cut k.count_is k.delays_are cable.some_delay in
     record {

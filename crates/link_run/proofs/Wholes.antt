@@ -119,7 +119,8 @@ module _ {N C : Type 0} (kind : NodeKind C) (law : IsLawful kind) (plain : N →
       = ap (λ (f : ℕ → ℕ → ℕ). f one.sender i) hop_is_so in
       let below : i < count e = omega (arith, below_of i lane stands, c.goes_on.count_is) in
       here_passes (is_live kind e) e.sent one there
-      (is_awaited_by (hop e) (was_at kind e) (count e) one i below apart (omega (arith, late, hops, was_is i lane stands)))
+      (is_awaited_by (hop e) (was_at kind e) (count e) one i below apart
+      (omega (arith, late, hops, was_is i lane stands)))
 
   -- what a lane has fetched was sent
   taken_sent : (i j : ℕ) (a b : LaneState N) → slice_get lanes i ≡ Some a → slice_get lanes j ≡ Some b → i ≢ j
@@ -154,7 +155,8 @@ module _ {N C : Type 0} (kind : NodeKind C) (law : IsLawful kind) (plain : N →
   record IsKnownOf (i : ℕ) (lane : LaneState N) (one : Incoming) : Type 0 where
     below : one.sender < count (key_cut plain key)
     apart : one.sender ≢ i
-    known : Contains (known_of (key_cut plain key) (script_of kind plain key) lane.seat.made.peers one.sender) one.signal
+    known : Contains (known_of (key_cut plain key) (script_of kind plain key) lane.seat.made.peers one.sender)
+        one.signal
     late : kind.was (plain lane.node) < one.signal.clock + hop (key_cut plain key) one.sender i
 
   waits_known : (i : ℕ) (lane : LaneState N) → slice_get lanes i ≡ Some lane → All (IsKnownOf i lane) lane.waits
@@ -195,7 +197,8 @@ module _ {N C : Type 0} (kind : NodeKind C) (law : IsLawful kind) (plain : N →
       let here = all w.waiting.place w.waiting.other w.waiting.below in
       let other : Incoming = get_or w.waits w.waiting.place w.waiting.other in
       let peer = lane_of other.sender here.below in
-      let there = known_sent w.place other.sender lane peer.0 at.1 peer.1 (λ s. here.apart (sym s)) other.signal here.known
+      let there =
+      known_sent w.place other.sender lane peer.0 at.1 peer.1 (λ s. here.apart (sym s)) other.signal here.known
       in
       subst (λ (z : Sent). Contains (live kind e).sent z) (sym w.waiting.is)
       (live_by w.place lane at.1 (as_sent other) there (λ s. here.apart (sym s)) here.late)
@@ -285,8 +288,8 @@ module _ {N C : Type 0} (kind : NodeKind C) (law : IsLawful kind) (plain : N →
         let there : Contains (from q.peer e.sent) r.signal
         = subst (λ (l : List Signal). Contains l r.signal) (sym (c.signals q.peer b.0 b.1))
         (Contains-append_right (from q.peer key.cut.value.sent)
-        (take (sent (script_of kind plain key) q.peer b.0.seat.made.steps) (told (script_of kind plain key) q.peer)) r.signal
-        (first_at (told (script_of kind plain key) q.peer)
+        (take (sent (script_of kind plain key) q.peer b.0.seat.made.steps) (told (script_of kind plain key) q.peer))
+        r.signal (first_at (told (script_of kind plain key) q.peer)
         (sent (script_of kind plain key) q.peer b.0.seat.made.steps) r.number r.signal r.stands
         (omega (arith, r.before, sent_is q.peer b.0 b.1)))) in
         let hops : hop_of delays q.peer q.own ≡ hop (key_cut plain key) q.peer q.own
@@ -354,7 +357,8 @@ module _ {N C : Type 0} (kind : NodeKind C) (law : IsLawful kind) (plain : N →
               ]
         ]
 
-    pub whole : Gathering (WaitsIn (map waits_of lanes)) (PairsRest kind plain key joined nodes delays 16) (live kind e).sent
+    pub whole : Gathering (WaitsIn (map waits_of lanes)) (PairsRest kind plain key joined nodes delays 16)
+        (live kind e).sent
     whole =
         let sound = sound_live kind e c.goes_on.sound in
         let cable = c.goes_on.cable in

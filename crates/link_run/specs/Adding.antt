@@ -22,8 +22,8 @@ pub record IsPart (all found : List Sent) : Type 0 where
   pub ordered : IsOrdered found
   pub inside : All (Contains all) found
 
--- of the signals P at least those of Q were added, and no others: where the old list and P were part of an ordered list,
--- the new one is
+-- of the signals P at least those of Q were added, and no others: where the old list and P were part of an ordered
+-- list, the new one is
 pub record Adding (P Q : Sent → Type 0) (old new : List Sent) : Type 0 where
   pub kept : (one : Sent) → Contains old one → Contains new one
   pub there : (one : Sent) → Q one → Contains new one
@@ -76,7 +76,8 @@ pub record IsRest (s : Script) (j delay first last was : ℕ) (one : Sent) : Typ
   pub is : one ≡ record { sender = j; signal = signal }
 
 -- what player i hasn't fetched of player j's signals, as far as it arrives after the clock `was`
-abbrev pub RestOf : {N C : Type 0} → NodeKind C → (N → C) → Key N → JoinedState (Key N) → ℕ → ℕ → Delays → ℕ → Sent → Type 0
+abbrev pub RestOf : {N C : Type 0} → NodeKind C → (N → C) → Key N → JoinedState (Key N) → ℕ → ℕ → Delays → ℕ → Sent
+    → Type 0
 RestOf kind plain key joined i j delay was one =
     IsRest (script_of kind plain key) j (hop_of delay j i) (slice_index joined.fetched (pair_place i j))
     (sent_at joined.made j) was one

@@ -37,11 +37,14 @@ pub record HasGone {N C : Type 0} (kind : NodeKind C) (plain : N → C) (bound :
     pub spare_is : now.spare ≡ first.spare
     pub went : AllWent kind plain bound until first.lanes.items now.lanes.items
 
--- what a round makes of a cut: the global order goes on to the same end, with fewer cycles left, and no limit has changed
-pub record ComesNearer {N C : Type 0} (kind : NodeKind C) (plain : N → C) (bound : N → ℕ) (until : ℕ) (cut result : Cut N)
+-- what a round makes of a cut: the global order goes on to the same end, with fewer cycles left, and no
+-- limit has changed
+pub record ComesNearer {N C : Type 0} (kind : NodeKind C) (plain : N → C) (bound : N → ℕ) (until : ℕ)
+    (cut result : Cut N)
     : Type 0
   where
-    pub same_end : live kind (run kind (plain_cut plain result) until) ≡ live kind (run kind (plain_cut plain cut) until)
+    pub same_end : live kind (run kind (plain_cut plain result) until)
+        ≡ live kind (run kind (plain_cut plain cut) until)
     pub fewer : clock_at kind (plain_cut plain cut) (least kind (plain_cut plain cut)) < until
         → cycles_left kind (plain_cut plain result) until < cycles_left kind (plain_cut plain cut) until
     pub limits : map bound result.consoles ≡ map bound cut.consoles

@@ -26,8 +26,8 @@ const PATIENCE: u64 = 1 << 12;
 /// So many cycles that the other lanes make beside it give a lane one more look.
 const CYCLES: u64 = 12;
 
-/// What all lanes of a round share: how many they are, the clock to which each one comes by itself, and how many looks in
-/// vain each one has at first.
+/// What all lanes of a round share: how many they are, the clock to which each one comes by itself, and how many looks
+/// in vain each one has at first.
 #[derive(Drop)]
 pub(crate) struct Work<'a, R, N: Node, G> {
     pub rt: &'a R,
@@ -57,7 +57,8 @@ fn meet<R, N: Node, G>(work: &Work<R, N, G>) {
     }
 }
 
-/// Waits until the peer for which a lane has stopped goes on, for at most so many looks. It answers how many it has taken.
+/// Waits until the peer for which a lane has stopped goes on, for at most so many looks. It answers how many
+/// it has taken.
 fn wait<N: Node>(shared: &Shared<N>, pause: Pause, looks: u64) -> u64
     requires some { 0 < looks }
     ensures some { 0 < result }
@@ -82,8 +83,8 @@ fn earn(looks: u64, cycles: u64, lanes: u32) -> u64
     looks.saturating_add(others / CYCLES).min(MOST)
 }
 
-/// Lets a lane advance in this thread to the end, till it has no look left, or till it has taken `patience` of them for one
-/// peer that hasn't gone on. It answers how many are left.
+/// Lets a lane advance in this thread to the end, till it has no look left, or till it has taken `patience` of them for
+/// one peer that hasn't gone on. It answers how many are left.
 fn go_here<R, N: Node, G: Gate>(
     work: &Work<R, N, G>,
     lane: &mut Lane<N>,
@@ -131,8 +132,8 @@ fn go_elsewhere<R: Threads + Sync, N: Node + Send + Sync, G: Gate + Sync>(
     );
 }
 
-/// Lets a lane advance to the end, or till it has no look left. A lane that waits too long for one peer goes on in another
-/// thread, once, since that peer may be one that waits for this very processor.
+/// Lets a lane advance to the end, or till it has no look left. A lane that waits too long for one peer goes on in
+/// another thread, once, since that peer may be one that waits for this very processor.
 fn go<R: Threads + Sync, N: Node + Send + Sync, G: Gate + Sync>(
     work: &Work<R, N, G>,
     lane: &mut Lane<N>,

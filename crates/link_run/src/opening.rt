@@ -138,7 +138,8 @@ pub(crate) fn open_lanes<N: Node>(
     requires count { vec_len nodes ≤ 4 }
     requires few { length sent.now ≤ 16384 }
     requires within { AreDelays delays.now }
-    requires can { CanOpenAll (kind_of N.clock N.was N.next) N.plain N.bound nodes.items seats.items sent.now delays.now }
+    requires can { CanOpenAll (kind_of N.clock N.was N.next) N.plain N.bound nodes.items seats.items sent.now
+        delays.now }
     ensures nodes { IfOk result (λ opened. map node_of opened.lanes.items ≡ nodes.items) }
     ensures seats { IfOk result (λ opened. map seat_of_lane opened.lanes.items ≡ seats.items) }
     ensures empty_nodes { IfOk result (λ opened. opened.nodes.items ≡ []) }

@@ -158,8 +158,8 @@ fn go_serial<N: Node>(cut: &mut Cut<N>, cycles: u64, until: u64)
     cut.run_serial(end);
 }
 
-/// Lets the lanes of a new round advance from the clock `first`, from where each one comes `nearest` cycles on by itself,
-/// finishes it, and goes on in the global order for a stretch that depends on how far they came.
+/// Lets the lanes of a new round advance from the clock `first`, from where each one comes `nearest` cycles on by
+/// itself, finishes it, and goes on in the global order for a stretch that depends on how far they came.
 fn go_on<R: Threads + Sync, N: Node + Send + Sync, G: Gate + Sync>(
     rt: &R,
     round: Round<N>,
@@ -183,12 +183,12 @@ fn go_on<R: Threads + Sync, N: Node + Send + Sync, G: Gate + Sync>(
     cut
 }
 
-/// Runs a cut until every clock is at least `until`: by rounds of lanes on threads, and after each round by a stretch of
-/// the global order, which is the longer the less the round was worth. It comes to the cut that the global order makes,
-/// however the threads are scheduled. A node alone has nobody to run beside and goes straight through; so do nodes of
-/// which two have a way there and back below 512 cycles, nodes for which the gate has no room at the start, and the rest of a
-/// run for which no memory is left. Only a lane's
-/// steps enter the gate: what the global order steps doesn't, between the rounds neither.
+/// Runs a cut until every clock is at least `until`: by rounds of lanes on threads, and after each round by a stretch
+/// of the global order, which is the longer the less the round was worth. It comes to the cut that the global order
+/// makes, however the threads are scheduled. A node alone has nobody to run beside and goes straight through; so do
+/// nodes of which two have a way there and back below 512 cycles, nodes for which the gate has no room at the start,
+/// and the rest of a run for which no memory is left. Only a lane's steps enter the gate: what the global order steps
+/// doesn't, between the rounds neither.
 pub fn run_to<R: Threads + Sync, N: Node + Send + Sync, G: Gate + Sync>(
     rt: &R,
     alloc: Global,

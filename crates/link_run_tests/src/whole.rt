@@ -32,7 +32,8 @@ fn signal(sender: u32, clock: u64) -> Sent {
     }
 }
 
-/// The clocks of two nodes, each with the one at which its last step began, and signals by sender and clock; the delay is 100.
+/// The clocks of two nodes, each with the one at which its last step began, and signals by sender and clock; the
+/// delay is 100.
 struct Cut {
     nodes: [(u64, u64); 2],
     sent: &'static [(u32, u64)],

@@ -16,7 +16,8 @@ found [] k below = absurd (omega arith)
 found (x ∷ xs) zero below = (x, refl)
 found (x ∷ xs) (suc k) below = found xs k (omega arith)
 
-pub take_next : {X : Type 0} (xs : List X) (k : ℕ) (x : X) → slice_get xs k ≡ Some x → take (suc k) xs ≡ take k xs ++ x ∷ []
+pub take_next : {X : Type 0} (xs : List X) (k : ℕ) (x : X) → slice_get xs k ≡ Some x
+    → take (suc k) xs ≡ take k xs ++ x ∷ []
 take_next [] k x e = cc
 take_next (y ∷ ys) zero x e = ap (λ (z : _). z ∷ []) (let t : y ≡ x = cc in t)
 take_next (y ∷ ys) (suc k) x e = ap (λ (l : List _). y ∷ l) (take_next ys k x e)

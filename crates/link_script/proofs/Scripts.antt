@@ -85,8 +85,8 @@ pub sent_next : (s : Script) (i k : ℕ) (m : Move) → slice_get (s.line i).mov
     → sent s i (suc k) ≡ sent s i k + length (option_to_list m.tells)
 sent_next s i k m e = count_next (s.line i).moves k m e
 
-pub sent_here : (s : Script) (i k : ℕ) (m : Move) (x : Signal) → slice_get (s.line i).moves k ≡ Some m → m.tells ≡ Some x
-    → slice_get (told s i) (sent s i k) ≡ Some x
+pub sent_here : (s : Script) (i k : ℕ) (m : Move) (x : Signal) → slice_get (s.line i).moves k ≡ Some m
+    → m.tells ≡ Some x → slice_get (told s i) (sent s i k) ≡ Some x
 sent_here s i k m x e tells = told_here (s.line i).moves k m x e tells
 
 pub sent_there : (s : Script) (i n k : ℕ) → n < sent s i k → (x : Signal) × (slice_get (told s i) n ≡ Some x)

@@ -74,7 +74,8 @@ is_in-all_placed one (x ∷ xs) ys (inr more) = is_in-all_placed one xs (place_d
 
 -- a known signal that passes is due
 arriving-has : (passes : ℕ → Bool) (delay j : ℕ) (signal : Signal) (xs ys : List Signal)
-    → passes (signal.clock + delay) ≡ true → IsIn (incoming delay j signal) (arriving passes delay j (xs ++ signal ∷ ys))
+    → passes (signal.clock + delay) ≡ true
+    → IsIn (incoming delay j signal) (arriving passes delay j (xs ++ signal ∷ ys))
 arriving-has passes delay j signal xs ys is =
     let one = incoming delay j signal in
     subst (IsIn one)
@@ -182,10 +183,12 @@ module _ {C : Type 0} (kind : NodeKind C) (law : IsLawful kind) (cut : Cut C) (u
 
   told-by : (j k : ℕ) → j < count cut → k ≤ count_of j ps → All (WasToldBy j) (from j (moment kind cut ps j k).sent)
   told-by j zero below within =
-      subst (All (WasToldBy j)) (sym (moment_none kind law until ps cut j (leads kind law cut until cable sound) sound).signals)
+      subst (All (WasToldBy j))
+      (sym (moment_none kind law until ps cut j (leads kind law cut until cable sound) sound).signals)
       (from_all (WasToldBy j) j cut.sent
       (all_map (IsSoundSignal kind cut) (λ (one : Sent). one.sender ≡ j → WasToldBy j one.signal) cut.sent
-      (λ one is own. inl (let before = is.sent_before in let same = ap (clock_at kind cut) own in omega (arith, before, same)))
+      (λ one is own. inl (let before = is.sent_before in let same = ap (clock_at kind cut) own in
+      omega (arith, before, same)))
       sound.signals))
   told-by j (suc k) below within =
       let one = made kind law cut until cable sound j k below (omega (arith, within)) in
@@ -196,7 +199,8 @@ module _ {C : Type 0} (kind : NodeKind C) (law : IsLawful kind) (cut : Cut C) (u
       (told-some j (kind.next one.x (due_at kind now j)).1
       (λ signal is. inr (record { k = k; x = one.x; dues = due_at kind now j; step = one.step; tells = is }))))
 
-  was-sent : (i m : ℕ) (y : C) (es : List Incoming) → MakesStep kind cut until i m y es → All (WasSent kind cut until) es
+  was-sent : (i m : ℕ) (y : C) (es : List Incoming) → MakesStep kind cut until i m y es
+      → All (WasSent kind cut until) es
   was-sent i m y es step =
       let passes = is_due (kind.was y) (kind.clock y) in
       subst (All (WasSent kind cut until)) (sym (whole i m y es step))

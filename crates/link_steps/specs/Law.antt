@@ -28,7 +28,8 @@ pub record IsFromPeer {C : Type 0} (cut : Cut C) (i : ℕ) (one : Incoming) : Ty
   pub arrives : one.arrival ≡ one.signal.clock + hop cut one.sender i
 
 -- What holds of every step: its clocks, and the signals that it takes.
-pub record IsSoundStep {C : Type 0} (kind : NodeKind C) (cut : Cut C) (until i : ℕ) (x : C) (dues : List Incoming) : Type 0
+pub record IsSoundStep {C : Type 0} (kind : NodeKind C) (cut : Cut C) (until i : ℕ) (x : C)
+    (dues : List Incoming) : Type 0
   where
     pub early : kind.clock x < until
     pub begun : clock_at kind cut i ≤ kind.clock x

@@ -14,8 +14,8 @@ pub fn steps<N: Node>()
     ensures { MakesSteps (kind_of N.clock N.was N.next) }
 {}
 
-/// What a step tells is taken by the step of its arrival at each other console, and a step takes nothing else but what was
-/// sent before.
+/// What a step tells is taken by the step of its arrival at each other console, and a step takes nothing else but what
+/// was sent before.
 pub fn signals<N: Node>()
     ensures { CarriesSignals (kind_of N.clock N.was N.next) }
 {}

@@ -26,8 +26,8 @@ pub record IsDealing {N C : Type 0} (kind : NodeKind C) (plain : N → C) (whole
     pub most : player ≤ players
 
 -- the first player's seat
-pub undealt_first : {N C : Type 0} (kind : NodeKind C) (plain : N → C) (key : Key N) (me after : Mine N) (first left : ℕ)
-    → IsUndealt kind plain key me first left → 0 < left → after ≡ (first_of me.0, me.1)
+pub undealt_first : {N C : Type 0} (kind : NodeKind C) (plain : N → C) (key : Key N) (me after : Mine N)
+    (first left : ℕ) → IsUndealt kind plain key me first left → 0 < left → after ≡ (first_of me.0, me.1)
     → after ≡ (seat_of key first (opening_progress (script_of kind plain key)), [])
 undealt_first kind plain key me after first zero h some e = absurd (omega arith)
 undealt_first {N = N} kind plain key me after first (suc left) h some e =
@@ -75,9 +75,9 @@ dealt_more {N = N} kind plain key table players count seats seat h is = record {
 }
 
 -- the last seat, by what the loop kept
-pub last_seat : {N C : Type 0} (kind : NodeKind C) (plain : N → C) (whole place : Place N) (players : ℕ) (delays : Delays) (player : ℕ)
-    (seats : List (SeatState (Key N))) (d : IsDealing kind plain whole place players delays player seats)
-    → players ≤ player
+pub last_seat : {N C : Type 0} (kind : NodeKind C) (plain : N → C) (whole place : Place N) (players : ℕ)
+    (delays : Delays) (player : ℕ) (seats : List (SeatState (Key N)))
+    (d : IsDealing kind plain whole place players delays player seats) → players ≤ player
     → place.me ≡ (seat_of d.key (players - 1) (opening_progress (script_of kind plain d.key)), [])
 last_seat {N = N} kind plain whole place players delays player seats d past =
     let some = d.some in

@@ -65,8 +65,8 @@ may_body {N = N} kind plain table_key slots word peer index s place h other word
     (subst (λ (n : ℕ). peer < n) h.players_is other.below) other.apart next.left))
 
 -- what was fetched
-pub record HasFetched {N C : Type 0} (kind : NodeKind C) (plain : N → C) (key : Key N) (player peer : ℕ) (after : Mine N)
-    (old : Progress) (index head body : ℕ) : Type 0
+pub record HasFetched {N C : Type 0} (kind : NodeKind C) (plain : N → C) (key : Key N) (player peer : ℕ)
+    (after : Mine N) (old : Progress) (index head body : ℕ) : Type 0
   where
     pub signal : Signal
     pub stands : slice_get (told (script_of kind plain key) peer) index ≡ Some signal
@@ -79,12 +79,15 @@ pub has_fetched : {N C : Type 0} (kind : NodeKind C) (plain : N → C) (slots wo
     → IsNext h.made peer index → reads_head (script_of kind plain) (step slots word 0 0 none) s.place.me head first
     → reads_body (script_of kind plain) (step slots (word + 1) 0 0 none) first body second
     → HasFetched kind plain h.key s.player peer second h.made index head body
-has_fetched {N = N} kind plain slots word peer index head body st first second h other word_is next head_told body_told =
+has_fetched {N = N} kind plain slots word peer index head body st first second h other word_is next head_told
+    body_told =
     let s : Script = script_of kind plain h.key in
     let inside : peer < s.players = subst (λ (n : ℕ). peer < n) h.players_is other.below in
-    let place_is : word ≡ ring_place peer (peer_at h.made.peers peer).taken = word_is ∙ ap (ring_place peer) next.taken_is in
+    let place_is : word ≡ ring_place peer (peer_at h.made.peers peer).taken =
+    word_is ∙ ap (ring_place peer) next.taken_is in
     let a : ReadsHead s peer h.made head
-    = head_told.1 h.key st.player peer h.made (ap (λ (m : Mine N). m.0) h.me_is) place_is inside other.apart next.left in
+    = head_told.1 h.key st.player peer h.made (ap (λ (m : Mine N). m.0) h.me_is) place_is inside other.apart
+    next.left in
     let first_is : first ≡ (seat_of h.key st.player h.made, []) = head_told.0 ∙ h.me_is in
     let t = body_told h.key st.player peer h.made (ap (λ (m : Mine N). m.0) first_is)
     (ap (λ (n : ℕ). n + 1) place_is) inside other.apart next.left in

@@ -26,8 +26,8 @@ use Rattle.link_table.specs.Seated.{IsSeat}
 use Rattle.link_table.proofs.Seats.{Mine, Place, IsAfter}
 
 -- the flag as a number
-pub is_written : {N C : Type 0} (kind : NodeKind C) (plain : N → C) (s : Inside N) (flag : ℕ) → (h : IsSeat kind plain s)
-    → flag ≡ bool_byte s.written → IsWritten h.made.written flag
+pub is_written : {N C : Type 0} (kind : NodeKind C) (plain : N → C) (s : Inside N) (flag : ℕ)
+    → (h : IsSeat kind plain s) → flag ≡ bool_byte s.written → IsWritten h.made.written flag
 is_written kind plain s flag h is =
     elim (cases_Bool s.written) [
       | inl set ↦ record {
@@ -149,8 +149,8 @@ published_fields s place flag = record {
   taken = s.taken;
 }
 
-pub published_seat : {N C : Type 0} (kind : NodeKind C) (plain : N → C) (s : Inside N) (place : Place N) (flag clock : ℕ)
-    → (h : IsSeat kind plain s) → HasPublished kind plain h.key s.player place.me h.made flag clock
+pub published_seat : {N C : Type 0} (kind : NodeKind C) (plain : N → C) (s : Inside N) (place : Place N)
+    (flag clock : ℕ) → (h : IsSeat kind plain s) → HasPublished kind plain h.key s.player place.me h.made flag clock
     → IsSeat kind plain (published_fields s place flag)
 published_seat {N = N} kind plain st place flag clock h l =
     let s : Script = script_of kind plain h.key in

@@ -69,7 +69,10 @@ half_put {N = N} kind plain slots word value x s after h p told =
     let one : suc h.made.written ≡ 1 = ap suc p.unwritten in
     record {
       after_is = t.1
-          ∙ (λ q. (seat_of h.key s.player ((t.2 ∙ ap (with_written h.made) one) q), ap (λ (m : Mine N). m.1) h.me_is q));
+          ∙ (λ q. (
+            seat_of h.key s.player ((t.2 ∙ ap (with_written h.made) one) q),
+            ap (λ (m : Mine N). m.1) h.me_is q,
+          ));
     }
 
 pub may_put_tail : {N C : Type 0} (kind : NodeKind C) (plain : N → C) (table_key : Key N) (slots word value : ℕ)
@@ -85,7 +88,8 @@ may_put_tail {N = N} kind plain table_key slots word value x s place h p half wo
     (λ n. puts (step slots z.0 z.1 0 none) place.me z.1)) (λ t. (sym at_is t, sym value_is t))
     (subst (λ (m : Mine N). Allows (holds (script_of kind plain) table_key) slots place.id m at (λ n. packed_words x)
     (λ n. puts (step slots at (packed_words x) 0 none) m (packed_words x))) (sym half.after_is)
-    (put_tail_allowed (script_of kind plain) table_key h.key slots place.id s.player (with_written h.made 1) x p.next refl))
+    (put_tail_allowed (script_of kind plain) table_key h.key slots place.id s.player (with_written h.made 1) x
+    p.next refl))
 
 -- after the second one
 pub whole_put : {N C : Type 0} (kind : NodeKind C) (plain : N → C) (slots word value : ℕ) (s : Inside N)

@@ -103,8 +103,8 @@ is_joined {N = N} kind plain shared table seats me st slots value u load wide ta
     }
 
 -- two players of a joined seat, by its fields
-pub record ArePair {N C : Type 0} (kind : NodeKind C) (plain : N → C) (s : Inside N) (key : Key N) (made : List Progress)
-    (player peer : ℕ) : Type 0
+pub record ArePair {N C : Type 0} (kind : NodeKind C) (plain : N → C) (s : Inside N) (key : Key N)
+    (made : List Progress) (player peer : ℕ) : Type 0
   where
     pub r : Progress
     pub o : Progress
@@ -207,11 +207,12 @@ is_left {N = N} kind plain st player peer slots word head body first second thir
 
 -- the fields after one signal more was fetched
 abbrev pub rested_fields : {N : Type 0} → Inside N → Place N → ℕ → Inside N
-rested_fields s place pair = record { place = place; fetched = slice_set s.fetched pair (slice_index s.fetched pair + 1) }
+rested_fields s place pair =
+    record { place = place; fetched = slice_set s.fetched pair (slice_index s.fetched pair + 1) }
 
-pub rested_joined : {N C : Type 0} (kind : NodeKind C) (plain : N → C) (s : Inside N) (place : Place N) (player peer : ℕ)
-    → (h : IsJoined kind plain s) → (p : ArePair kind plain s h.key h.made player peer) → place.me ≡ s.place.me
-    → slice_index s.fetched (pair_place player peer) < p.o.sent
+pub rested_joined : {N C : Type 0} (kind : NodeKind C) (plain : N → C) (s : Inside N) (place : Place N)
+    (player peer : ℕ) → (h : IsJoined kind plain s) → (p : ArePair kind plain s h.key h.made player peer)
+    → place.me ≡ s.place.me → slice_index s.fetched (pair_place player peer) < p.o.sent
     → IsJoined kind plain (rested_fields s place (pair_place player peer))
 rested_joined {N = N} kind plain st place player peer h p same more =
     let s : Script = script_of kind plain h.key in

@@ -80,7 +80,8 @@ said {N = N} kind plain s after now made P h seen new told key keys =
     let old : h.made ≡ now.made
     = sym (ap (λ (m : Mine N). first_made m.0.records) h.me_is) ∙ ap (λ (z : SeatState (Key N)). z.made) seen in
     let made_is : made ≡ first_made after.0.records = sym (ap (λ (m : Mine N). first_made m.0.records) new.after_is) in
-    subst (λ (z : Key N × ℕ × Progress × Progress). P z.0 z.1 z.2 z.3) (λ p. (same p, player_is p, old p, made_is p)) told
+    subst (λ (z : Key N × ℕ × Progress × Progress). P z.0 z.1 z.2 z.3)
+    (λ p. (same p, player_is p, old p, made_is p)) told
 
 -- what is asked of a seat as contracts see it, of its fields
 pub asked : {N C : Type 0} (kind : NodeKind C) (plain : N → C) (s : Inside N) (now : SeatState (Key N))

@@ -47,7 +47,8 @@ pub record AreDealt {N C : Type 0} (kind : NodeKind C) (plain : N → C) (key : 
         → seat ≡ opening_seat kind plain key table i players
 
 -- what the seats of a table have in common
-pub record IsCommon {N C : Type 0} (kind : NodeKind C) (plain : N → C) (key : Key N) (players : ℕ) (delays : Delays) : Type 0
+pub record IsCommon {N C : Type 0} (kind : NodeKind C) (plain : N → C) (key : Key N) (players : ℕ)
+    (delays : Delays) : Type 0
   where
     pub players_is : players ≡ (script_of kind plain key).players
     pub sound : IsSoundScript (script_of kind plain key)
@@ -55,8 +56,8 @@ pub record IsCommon {N C : Type 0} (kind : NodeKind C) (plain : N → C) (key : 
     pub within : AreDelays delays
 
 -- a place at the table that plays player `first` and all after it, none of whom has stepped
-pub record IsUndealt {N C : Type 0} (kind : NodeKind C) (plain : N → C) (key : Key N) (me : Me (Unit {0}) (View (Key N)))
-    (first left : ℕ) : Type 0
+pub record IsUndealt {N C : Type 0} (kind : NodeKind C) (plain : N → C) (key : Key N)
+    (me : Me (Unit {0}) (View (Key N))) (first left : ℕ) : Type 0
   where
     pub me_is : me ≡ (
       record {

@@ -19,8 +19,8 @@ use crate::words::{clock_place, count_of, ring_place, signal_of};
 use link_node::{Node, Signal};
 use std::marker::Model;
 
-/// The seat of all players, after their last steps. It keeps how many signals of each player each other one has fetched,
-/// those of player i of player j at 4 * i + j.
+/// The seat of all players, after their last steps. It keeps how many signals of each player each other one has
+/// fetched, those of player i of player j at 4 * i + j.
 #[derive(Drop)]
 pub struct Joined<N: Node> {
     pub(crate) place: Place<N>,

@@ -61,7 +61,10 @@ fn least_limit<N: Node>(nodes: &[N]) -> u64
 fn take_seat<N: Node>(place: Place<N>, player: u32, players: u32, delays: &Delays) -> Seat<N>
     requires below { player < players }
     requires common { (key : Key N) × IsCommon (kind_of N.clock N.was N.next) N.plain key players delays.now
-        × (place.me ≡ (seat_of key player (opening_progress (script_of (kind_of N.clock N.was N.next) N.plain key)), [])) }
+        × (place.me ≡ (
+          seat_of key player (opening_progress (script_of (kind_of N.clock N.was N.next) N.plain key)),
+          [],
+        )) }
     ensures { (key : Key N) →
         place.me ≡ (seat_of key player (opening_progress (script_of (kind_of N.clock N.was N.next) N.plain key)), []) →
         result ≡ opening_seat (kind_of N.clock N.was N.next) N.plain key place.table_id player players }
@@ -90,7 +93,8 @@ fn deal<N: Node>(
     requires common { (key : Key N) × IsCommon (kind_of N.clock N.was N.next) N.plain key players delays.now
         × IsUndealt (kind_of N.clock N.was N.next) N.plain key place.me 0 players }
     ensures { (key : Key N) → IsUndealt (kind_of N.clock N.was N.next) N.plain key place.me 0 players →
-        IfOk result (λ seats. AreDealt (kind_of N.clock N.was N.next) N.plain key place.table_id players players seats.items) }
+        IfOk result
+        (λ seats. AreDealt (kind_of N.clock N.was N.next) N.plain key place.table_id players players seats.items) }
 {
     let mut place = place;
     let mut seats = Vec::new(alloc);

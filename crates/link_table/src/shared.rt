@@ -39,8 +39,8 @@ impl<N: Node> Model for Shared<N> {
 }
 
 impl<N: Node> Shared<N> {
-    /// Loads a peer's clock word. The whole count comes from the number of fetched signals and the word's 24 bits, since
-    /// fewer than 4,096 aren't fetched.
+    /// Loads a peer's clock word. The whole count comes from the number of fetched signals and the word's 24 bits,
+    /// since fewer than 4,096 aren't fetched.
     pub fn look(&self, seat: &mut Seat<N>, peer: u32) -> Look
         requires table { seat.old.table ≡ self.now }
         requires below { peer < seat.old.players }
@@ -60,8 +60,8 @@ impl<N: Node> Shared<N> {
         }
     }
 
-    /// The clock in a player's word, in cycles, with no seat. It serves to wait, and promises nothing of the player's lane:
-    /// what a lane may rest on, `look` tells. None where there is no such player at any table.
+    /// The clock in a player's word, in cycles, with no seat. It serves to wait, and promises nothing of the player's
+    /// lane: what a lane may rest on, `look` tells. None where there is no such player at any table.
     pub fn clock_of(&self, player: u32) -> Option<u64>
         ensures player { is_some result ≡ nat_lt player 4 }
         ensures clock { IfSome result (λ clock. clock < 2 ^ 40) }
@@ -123,8 +123,8 @@ impl<N: Node> Shared<N> {
         seat.written = true;
     }
 
-    /// Stores the console's clock word after one or more steps, of which only the last may send a signal. Where it does,
-    /// `put_signal` comes first.
+    /// Stores the console's clock word after one or more steps, of which only the last may send a signal. Where it
+    /// does, `put_signal` comes first.
     pub fn publish(&self, seat: &mut Seat<N>, clock: u64)
         requires table { seat.old.table ≡ self.now }
         requires next { (key : Key N) → seat.old.key ≡ key ∷ [] →

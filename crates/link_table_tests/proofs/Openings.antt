@@ -69,8 +69,15 @@ opened node seat f =
           ≡ opening_peer (script_of ticked_kind ticked_plain key) j
           = opening_peers (script_of ticked_kind ticked_plain key) j (omega arith) in
           subst (IsHeard (heard_at none j)) (sym first)
-          (subst (λ (h : Heard). IsHeard h (opening_peer (script_of ticked_kind ticked_plain key) j)) (sym (nothing_heard j))
-          (record { seen_is = omega arith; small = omega arith; based = omega arith; taken_is = refl; count_is = refl }));
+          (subst (λ (h : Heard). IsHeard h (opening_peer (script_of ticked_kind ticked_plain key) j))
+          (sym (nothing_heard j))
+          (record {
+            seen_is = omega arith;
+            small = omega arith;
+            based = omega arith;
+            taken_is = refl;
+            count_is = refl;
+          }));
     })
 
 -- a seat of a new table, and what tests see of its console
@@ -78,8 +85,9 @@ pub record IsDealt (table : TableId) (players player : ℕ) (node : Ticker) (sea
   pub fresh : IsFresh node seat
   pub state : console_state seat ≡ record { table = table; player = player; players = players }
 
-pub dealt_seat : (cut : Cut Ticker) (table : TableId) (seats : List (SeatState (Key Ticker))) (player : ℕ) (node : Ticker)
-    (seat : SeatState (Key Ticker)) → Begins ticked_kind ticked_plain (λ (t : Ticker). t.limit) cut table seats
+pub dealt_seat : (cut : Cut Ticker) (table : TableId) (seats : List (SeatState (Key Ticker))) (player : ℕ)
+    (node : Ticker) (seat : SeatState (Key Ticker))
+    → Begins ticked_kind ticked_plain (λ (t : Ticker). t.limit) cut table seats
     → IsCable (plain_cut ticked_plain cut) → IsSound ticked_kind (plain_cut ticked_plain cut)
     → HaveOneLimit cut.consoles → player < length cut.consoles → node ≡ get_or cut.consoles player node
     → seat ≡ get_or (drop player seats) 0 seat → IsDealt table (length cut.consoles) player node seat
@@ -98,7 +106,8 @@ dealt_seat cut table seats player node seat b cable sound one below node_at seat
     let own : node.limit ≡ one.limit
     = ap (λ (t : Ticker). t.limit) node_at
     ∙ All-get_or (λ (t : Ticker). t.limit ≡ one.limit) cut.consoles player node below one.all in
-    let lengths : length (map (λ (t : Ticker). t.limit) cut.consoles) ≡ n = length-map cut.consoles (λ (t : Ticker). t.limit) in
+    let lengths : length (map (λ (t : Ticker). t.limit) cut.consoles) ≡ n =
+    length-map cut.consoles (λ (t : Ticker). t.limit) in
     let place : ℕ = b.limit_is.place in
     let within : place < length (map (λ (t : Ticker). t.limit) cut.consoles) = b.limit_is.within in
     let least : key.limit ≡ one.limit

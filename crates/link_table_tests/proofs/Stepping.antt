@@ -43,7 +43,8 @@ record NextStep (cut : Cut Ticked) (until i k : ℕ) (x : Ticked) : Type 0 where
   stands : slice_get (moves_of ticked_kind cut (trace ticked_kind cut until) i) k ≡ Some move
   clock_is : move.clock ≡ (ticked_next x []).0.clock
   tells_is : move.tells ≡ ticked_told x
-  own_clock : clock_after (clock_at ticked_kind cut i) (moves_of ticked_kind cut (trace ticked_kind cut until) i) k ≡ x.clock
+  own_clock : clock_after (clock_at ticked_kind cut i) (moves_of ticked_kind cut (trace ticked_kind cut until) i) k
+      ≡ x.clock
   goes_on : console_after ticked_kind cut (trace ticked_kind cut until) i (suc k) ≡ Some (ticked_next x []).0
 
 next_step : (cut : Cut Ticked) (until i k : ℕ) (x : Ticked) → IsCable cut → IsSound ticked_kind cut → i < count cut
@@ -107,7 +108,8 @@ may_go node seat heard f early before =
     let both : count cut ≡ length key.cut.value.consoles = length-map key.cut.value.consoles ticked_plain in
     let limit = f.limit in
     let none : seat.made.steps + 0 ≡ seat.made.steps = omega arith in
-    let n = next_step cut key.limit seat.player seat.made.steps x f.cable f.sound (omega arith) f.stands (omega arith) in
+    let n =
+    next_step cut key.limit seat.player seat.made.steps x f.cable f.sound (omega arith) f.stands (omega arith) in
     record {
       signal = λ s e. sent_here (script_of ticked_kind ticked_plain key) seat.player seat.made.steps n.move s n.stands
           (n.tells_is ∙ e);
@@ -115,7 +117,8 @@ may_go node seat heard f early before =
       publish = λ clock is. record {
         silent = 0;
         move = n.move;
-        stands = ap (slice_get (moves_of ticked_kind cut (trace ticked_kind cut key.limit) seat.player)) none ∙ n.stands;
+        stands =
+            ap (slice_get (moves_of ticked_kind cut (trace ticked_kind cut key.limit) seat.player)) none ∙ n.stands;
         quiet = ap (sent (script_of ticked_kind ticked_plain key) seat.player) none;
         unwritten = λ quiet.
             ap (λ (o : Option Signal). 2 * length (option_to_list o)) (sym n.tells_is ∙ quiet);
@@ -126,7 +129,8 @@ may_go node seat heard f early before =
             let less : j < count cut = below in
             let own = n.own_clock in
             let within : j < seat.players = omega arith in
-            let ahead : node.clock < (heard_at heard j).seen + hop cut j seat.player = before key f.key_is j within apart in
+            let ahead : node.clock < (heard_at heard j).seen + hop cut j seat.player =
+            before key f.key_is j within apart in
             let base : (heard_at heard j).seen ≤ (peer_at seat.made.peers j).base = (f.peers j within apart).seen_is in
             let here : clock_after (clock_at ticked_kind cut seat.player)
             (moves_of ticked_kind cut (trace ticked_kind cut key.limit) seat.player) (seat.made.steps + 0)
@@ -169,7 +173,8 @@ pub publish_next : (node : Ticker) (seat after : SeatState (Key Ticker)) (heard 
     → MayPublish (script_of ticked_kind ticked_plain key) after.player after.made clock
 publish_next node seat after heard f go o is after_is clock clock_is key keys =
     let own : seat.key ≡ key ∷ [] = ap (λ (z : SeatState (Key Ticker)). z.key) (sym after_is) ∙ keys in
-    let written : Option Signal → Progress = λ (t : Option Signal). with_written seat.made (2 * length (option_to_list t)) in
+    let written : Option Signal → Progress =
+    λ (t : Option Signal). with_written seat.made (2 * length (option_to_list t)) in
     let all : after ≡ with_made seat (written (ticked_told (ticked_plain node)))
     = after_is ∙ ap (λ (t : Option Signal). with_made seat (written t)) is in
     subst (λ (z : SeatState (Key Ticker)). MayPublish (script_of ticked_kind ticked_plain key) z.player z.made clock)
@@ -212,7 +217,8 @@ stepped node next seat told after heard f stands limit written clock told_is is 
       cable = f.cable;
       sound = f.sound;
       script = f.script;
-      stands = ap (λ (k : ℕ). console_after ticked_kind (text_cut f.key) (trace ticked_kind (text_cut f.key) f.key.limit)
+      stands =
+          ap (λ (k : ℕ). console_after ticked_kind (text_cut f.key) (trace ticked_kind (text_cut f.key) f.key.limit)
           seat.player k) none ∙ stands;
       limit = let a = f.limit in omega arith;
       unwritten = refl;
@@ -224,5 +230,11 @@ stepped node next seat told after heard f stands limit written clock told_is is 
       peers = λ j lj apart.
           let h : IsHeard (heard_at heard j) (peer_at seat.made.peers j) = f.peers j lj apart in
           subst (IsHeard (heard_at heard j)) (sym (unlooked_at seat.made.peers j))
-          (record { seen_is = h.seen_is; small = h.small; based = h.based; taken_is = h.taken_is; count_is = h.count_is });
+          (record {
+            seen_is = h.seen_is;
+            small = h.small;
+            based = h.based;
+            taken_is = h.taken_is;
+            count_is = h.count_is;
+          });
     })

@@ -13,8 +13,8 @@ use link_node::{Node, Signal};
 use link_table::{Look, Seat, Shared};
 use std::marker::Model;
 
-/// What a console knows of a peer: the clock of the last look whose signals are all fetched, how many of its signals are
-/// fetched, and how many are seen.
+/// What a console knows of a peer: the clock of the last look whose signals are all fetched, how many of its signals
+/// are fetched, and how many are seen.
 #[derive(Clone, Copy)]
 struct Heard {
     seen: u64,

@@ -134,8 +134,8 @@ fn a_clock_is_seen_without_a_seat(rt: HostRuntime) -> Result<(), Fail> {
     Ok(())
 }
 
-/// Rounds of two consoles, the first one with a signal in each cycle, until its clock is at the end. It answers how many
-/// signals were fetched.
+/// Rounds of two consoles, the first one with a signal in each cycle, until its clock is at the end. It answers how
+/// many signals were fetched.
 fn play(
     rt: &impl Abort,
     shared: &Shared<Ticker>,

@@ -4,8 +4,8 @@ ghost use Rattle.std.specs.Prelude.{ℕ, ◌≡◌, ◌+◌, ◌%◌, ◌<◌, �
 
 use link_node::{Incoming, LinkMode, Node, Signal, Start};
 
-/// A first step of `first` cycles and one more, then steps of `pace` cycles and one more. A step tells where its clock is a multiple of `gap` and one more; its signal
-/// bears the clock as a word.
+/// A first step of `first` cycles and one more, then steps of `pace` cycles and one more. A step tells where its clock
+/// is a multiple of `gap` and one more; its signal bears the clock as a word.
 #[derive(Clone, Copy, Debug, PartialEq, Eq)]
 pub struct Ticker {
     pub first: u64,

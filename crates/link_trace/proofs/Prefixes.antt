@@ -37,7 +37,8 @@ trace_parts {C = C} kind law (suc most) cut first until some le =
           ∙ ap (λ (l : List ℕ). l ++ trace kind (after_turns kind cut l) until) (sym (trace_goes kind most cut first e))
       | inr e ↦
           ap (λ (d : Cut C). trace kind d until) (sym (after_none kind cut))
-          ∙ ap (λ (l : List ℕ). l ++ trace kind (after_turns kind cut l) until) (sym (trace_ends kind (suc most) cut first e))
+          ∙ ap (λ (l : List ℕ). l ++ trace kind (after_turns kind cut l) until)
+          (sym (trace_ends kind (suc most) cut first e))
     ]
 
 -- moments before the last step of the first part

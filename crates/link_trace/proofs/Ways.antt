@@ -50,7 +50,8 @@ moves_count kind cut (p ∷ ps) i =
     ]
 
 -- a step of console i at this cut: after it come these others, and it is the move that stands in its place
-pub record StandsAt {C : Type 0} (kind : NodeKind C) (until i : ℕ) (start now next end : Cut C) (move : Option Move) : Type
+pub record StandsAt {C : Type 0} (kind : NodeKind C) (until i : ℕ) (start now next end : Cut C)
+    (move : Option Move) : Type
     0
   where
     pub rest : List ℕ

@@ -249,7 +249,8 @@ fn check_step(rt: &impl Abort, play: &Play, console: &Console, i: usize) {
     );
 }
 
-/// Console i looks at console j or steps, and is compared with the one of `Cut` after a step. It answers whether it made one.
+/// Console i looks at console j or steps, and is compared with the one of `Cut` after a step. It answers whether
+/// it made one.
 fn act(
     rt: &impl Abort,
     alloc: Global,
@@ -293,8 +294,8 @@ fn play_some(
     Ok(made)
 }
 
-/// What the plays of one cable have come to: steps, plays that begin with clocks apart, and signals that are on their way
-/// when a play begins.
+/// What the plays of one cable have come to: steps, plays that begin with clocks apart, and signals that are on their
+/// way when a play begins.
 #[derive(Drop)]
 struct Tally {
     made: u64,

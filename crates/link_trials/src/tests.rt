@@ -77,8 +77,8 @@ fn run_in_parts(
     Ok(trial)
 }
 
-/// A run of so many mixers, in two parts, beside that of the plain program. It answers how many signals are on their way
-/// at its end.
+/// A run of so many mixers, in two parts, beside that of the plain program. It answers how many signals are on their
+/// way at its end.
 fn compare(
     rt: &impl Abort,
     alloc: Global,
@@ -126,7 +126,8 @@ fn runs_are_those_of_the_plain_program(rt: HostRuntime) -> Result<(), Fail> {
     Ok(())
 }
 
-/// A sender, a receiver, and the delay between them where 0 to 1 is long, which is bit 1, 1 to 0, bit 4, and 2 to 3, bit 11.
+/// A sender, a receiver, and the delay between them where 0 to 1 is long, which is bit 1, 1 to 0, bit 4, and 2
+/// to 3, bit 11.
 static HOPS: [(usize, usize, u64); 6] = [
     (0, 1, 1024),
     (1, 0, 1024),

@@ -19,8 +19,8 @@ impl Memory {
     ghost use Rattle.std.specs.Prelude.{◌≡◌, ◌+◌, ◌≤◌, length};
     ghost use Rattle.gba_mem.specs.Replacing.{cleared, part_length, with_part};
 
-    /// Replaces bytes of a memory from a place on, which is no write of a program: what a write would drop is taken, and a flash
-    /// takes them for no command.
+    /// Replaces bytes of a memory from a place on, which is no write of a program: what a write would drop is taken,
+    /// and a flash takes them for no command.
     pub fn set_bytes(&mut self, part: MemoryPart, place: usize, bytes: &[u8])
         requires { place + length bytes.now ≤ part_length part self.old }
         ensures { self.new ≡ with_part part place bytes.now self.old }
@@ -35,7 +35,8 @@ impl Memory {
         }
     }
 
-    /// Makes every byte of the memories that are written 0, also those of the SRAM or the flash, which aren't 0 at the start.
+    /// Makes every byte of the memories that are written 0, also those of the SRAM or the flash, which aren't 0
+    /// at the start.
     pub fn clear(&mut self)
         ensures { self.new ≡ cleared self.old }
     {

@@ -164,9 +164,9 @@ impl Serial {
         }
     }
 
-    /// Takes a due signal: its sender's mode, its reply, and its start, which may be answered. A transfer whose end is at or
-    /// below the arrival ends before; it is what is answered. The arrival is below 2^40, and the signal's clock is below it.
-    /// A signal of this console or of a player that isn't there is ignored.
+    /// Takes a due signal: its sender's mode, its reply, and its start, which may be answered. A transfer whose end is
+    /// at or below the arrival ends before; it is what is answered. The arrival is below 2^40, and the signal's clock
+    /// is below it. A signal of this console or of a player that isn't there is ignored.
     pub fn take_signal(&mut self, due: &Incoming) -> Option<Transfer>
         requires arrival { due.now.arrival < 2 ^ 40 }
         requires in_flight { due.now.signal.clock < due.now.arrival }

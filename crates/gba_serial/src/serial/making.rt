@@ -47,8 +47,8 @@ impl Serial {
     ghost use Rattle.std.specs.Prelude.{◌≡◌};
     ghost use Rattle.gba_serial.specs.Making.{IsSeat, seat_of, unit_of};
 
-    /// The unit of a console with this seat, where these stand in its registers, these are the modes that players 0 to 3 last
-    /// told, and this transfer runs, if any. Nothing is left to tell: the mode that it told last is its own.
+    /// The unit of a console with this seat, where these stand in its registers, these are the modes that players 0 to
+    /// 3 last told, and this transfer runs, if any. Nothing is left to tell: the mode that it told last is its own.
     pub fn of(
         seat: Seat,
         registers: SerialRegisters,

@@ -60,7 +60,8 @@ impl Serial {
         }
     }
 
-    /// The players whose word was received, player j as bit j; 0 where no transfer runs. In Multi this console's bit is set.
+    /// The players whose word was received, player j as bit j; 0 where no transfer runs. In Multi this
+    /// console's bit is set.
     pub fn got(&self) -> u32
         ensures value { result ≡ received_number self.now }
         ensures small { result < 16 }

@@ -27,7 +27,8 @@ impl Serial {
     ghost use Rattle.gba_serial.specs.SerialUnit.{all_ready, is_ready, known_mode};
     ghost use Rattle.gba_serial.specs.Registers.{control_shown, control_listed, halfword_at, multi_control, serial_kept, serial_read, serial_listed, shown_player};
 
-    /// The mode that a player below 4 last told. That of this console itself, and of a player that isn't there, is Other.
+    /// The mode that a player below 4 last told. That of this console itself, and of a player that isn't
+    /// there, is Other.
     pub fn known(&self, player: u32) -> LinkMode
         requires { player < 4 }
         ensures { result ≡ known_mode self.now.known player }
@@ -103,8 +104,8 @@ impl Serial {
         }
     }
 
-    /// What the halfword at an offset from 04000000h reads: the four words 120h to 126h, SIOCNT 128h, the send word 12Ah,
-    /// RCNT 134h, and 0 elsewhere.
+    /// What the halfword at an offset from 04000000h reads: the four words 120h to 126h, SIOCNT 128h, the send word
+    /// 12Ah, RCNT 134h, and 0 elsewhere.
     pub fn read(&self, offset: u32) -> u16
         ensures { result ≡ serial_read offset self.now }
     {

@@ -181,9 +181,9 @@ impl Serial {
         }
     }
 
-    /// Writes the halfword at an offset in a step that begins at `clock`, which is below 2^40. In a transfer the four words,
-    /// RCNT and SIOCNT's bits 0, 1, 7, 12 and 13 stay. A write that makes SIOCNT's bit 7 go from 0 to 1 starts a transfer:
-    /// in Multi on player 0, in the Normal modes with the inside clock.
+    /// Writes the halfword at an offset in a step that begins at `clock`, which is below 2^40. In a transfer the four
+    /// words, RCNT and SIOCNT's bits 0, 1, 7, 12 and 13 stay. A write that makes SIOCNT's bit 7 go from 0 to 1 starts a
+    /// transfer: in Multi on player 0, in the Normal modes with the inside clock.
     pub fn write(&mut self, clock: u64, offset: u32, value: u16)
         requires { clock < 2 ^ 40 }
         ensures { self.new ≡ written clock offset value self.old }

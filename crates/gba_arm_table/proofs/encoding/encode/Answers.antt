@@ -11,7 +11,9 @@ returns-clause-round_trip c =
     let registers : within (registers_of c.args.op.now) ≡ true = grind arith in
     let immediates : within (immediates_of c.args.op.now) ≡ true = grind arith in
     let offsets : within (offsets_of c.args.op.now) ≡ true = grind arith in
-    ap operation c.word_of.ensures ∙ operation-diagram c.args.op.now (fitting c.args.op.now registers immediates offsets)
+    ap operation c.word_of.ensures
+    ∙ operation-diagram c.args.op.now (fitting c.args.op.now registers immediates offsets)
 
 pub returns-clause-manual_bits : goal.returns-clause-manual_bits
-returns-clause-manual_bits c = ap (λ word. has_manual_bits c.args.op.now (field word)) c.word_of.ensures ∙ manual-diagram c.args.op.now
+returns-clause-manual_bits c =
+    ap (λ word. has_manual_bits c.args.op.now (field word)) c.word_of.ensures ∙ manual-diagram c.args.op.now

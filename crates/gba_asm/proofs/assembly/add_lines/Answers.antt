@@ -17,7 +17,8 @@ loop-line-preserved c =
     let same = same_labels (labels_in c.args.labels.now.places) labels c.requires.labels in
     let added : onto image (line_bytes labels number c.loop-line.place line) ≡ Ok after =
     rw (← same, ← c.line_number.ensures) c.in-Ok.ensures.bytes in
-    reads_on (sources labels) source c.loop-line.cursor c.line.new.self (record { bytes = image; place = c.loop-line.place })
+    reads_on (sources labels) source c.loop-line.cursor c.line.new.self
+    (record { bytes = image; place = c.loop-line.place })
     (record { bytes = after; place = c.in-Ok.next }) line number c.line.new.self.lines c.loop-line.invariant
     c.in-Some.ensures.line c.line.ensures.state
     (line_given labels number image after c.loop-line.place c.in-Ok.next line added c.in-Ok.ensures.place) refl refl
@@ -31,7 +32,8 @@ returns-in-Err c =
     let line = c.in-Some.line.now in
     let number = c.line.new.self.number in
     let same = same_labels (labels_in c.args.labels.now.places) labels c.requires.labels in
-    refuses {X = Vec ℕ Global} line_error (sources labels) (λ image. image.items) source c.loop-line.cursor c.line.new.self
+    refuses {X = Vec ℕ Global} line_error (sources labels) (λ image. image.items) source c.loop-line.cursor
+    c.line.new.self
     (record { bytes = image; place = c.loop-line.place }) (record { bytes = after; place = c.loop-line.place }) line
     c.make_refusal.result c.requires.short c.loop-line.invariant c.in-Some.ensures.line c.line.ensures.state
     (line_refused labels number (record { bytes = image; place = c.loop-line.place }) image after line c.in-Err.refused

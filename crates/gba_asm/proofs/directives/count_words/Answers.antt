@@ -13,4 +13,5 @@ loop-token-preserved c =
 
 pub returns-clause-value : goal.returns-clause-value
 returns-clause-value c =
-    counts_end c.loop-token.count c.loop-token.tokens c.args.tokens.now c.loop-token.invariant c.in_default.ensures.token
+    counts_end c.loop-token.count c.loop-token.tokens c.args.tokens.now c.loop-token.invariant
+    c.in_default.ensures.token

@@ -20,9 +20,9 @@ loop-token-preserved c =
 
 pub returns-in-Err : goal.returns-in-Err
 returns-in-Err c =
-    rw (← c.new-left.ensures) (adds_refused c.in-Err.refusal (labels_in c.args.labels.now.places) c.args.width c.new-left.result c.loop-token.left
-    c.in-Word.word.now c.args.image.now.items c.loop-token.image.items c.add_item.new.image.items
-    c.loop-token.invariant (rw c.in-Word.is at c.in-Some.ensures.token) c.in-Err.ensures)
+    rw (← c.new-left.ensures) (adds_refused c.in-Err.refusal (labels_in c.args.labels.now.places) c.args.width
+    c.new-left.result c.loop-token.left c.in-Word.word.now c.args.image.now.items c.loop-token.image.items
+    c.add_item.new.image.items c.loop-token.invariant (rw c.in-Word.is at c.in-Some.ensures.token) c.in-Err.ensures)
 
 pub returns : goal.returns
 returns c =

@@ -3,7 +3,12 @@ use Rattle.gba_asm_words.proofs.lists.range_bits.Goals as goal
 
 pub overflow_sub-result : goal.overflow_sub-result
 overflow_sub-result c =
-    omega (arith, pow_mono {i = c.args.first} {j = c.args.last} c.requires.order, c.register_bit-top.ensures, c.register_bit.ensures)
+    omega (
+      arith,
+      pow_mono {i = c.args.first} {j = c.args.last} c.requires.order,
+      c.register_bit-top.ensures,
+      c.register_bit.ensures,
+    )
 
 pub overflow_add-result : goal.overflow_add-result
 overflow_add-result c =

@@ -23,6 +23,7 @@ returns-in-Err g c = λ run old written same. (
   write_stop_value c.in-Err.stop,
   performs-then g.O.Sink.Tells (file_calls run) (summary_calls run.end) _ _ _ _ written
       (subst (λ (end : Result (List ℕ) Cause). PerformsAll g.O.Sink.Tells (summary_calls end)
-      (g.O.Sink.state c.args.out.now) (g.O.Sink.state c.write_summary.new.out) (write_stop_value c.in-Err.stop)) same c.in-Err.ensures),
+      (g.O.Sink.state c.args.out.now) (g.O.Sink.state c.write_summary.new.out) (write_stop_value c.in-Err.stop)) same
+      c.in-Err.ensures),
   c.report_stop.ensures run.end,
 )

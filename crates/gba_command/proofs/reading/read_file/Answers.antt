@@ -8,7 +8,8 @@ returns-in-Ok-2-clause-goes g c =
     let read = c.in-Ok.ensures in
     let bytes = c.in-Ok.bytes.items in
     let short : nat_lt c.args.most (length bytes) ≡ false = search rules in
-    let given = g.met.S.Store.gave c.args.name.now (c.args.most + 1) (Ok bytes) c.args.store.now c.read.new.self (record {
+    let given =
+    g.met.S.Store.gave c.args.name.now (c.args.most + 1) (Ok bytes) c.args.store.now c.read.new.self (record {
       read = read.read;
       stays = read.files;
       front = read.bytes;

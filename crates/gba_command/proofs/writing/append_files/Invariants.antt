@@ -6,6 +6,6 @@ use Rattle.gba_command.proofs.writing.append_files.Given as goal
 
 abbrev pub invariant-loop-file : goal.invariant-loop-file
 invariant-loop-file g l =
-    Leads g.O.Sink.Tells (map addition (map output_value l.files)) (map addition (map output_value (drop l.file-index l.files)))
-    (g.O.Sink.state l.fn.out)
+    Leads g.O.Sink.Tells (map addition (map output_value l.files))
+    (map addition (map output_value (drop l.file-index l.files))) (g.O.Sink.state l.fn.out)
     (g.O.Sink.state l.out)

@@ -10,7 +10,8 @@ returns-in_err-create_files g c =
     let outputs = map output_value c.args.files.now in
     let p = err_from_is_err_and c.from_residual.result c.from_residual.ensures.1 in
     rw (p.1, p.2)
-    (performs-stopped g.O.Sink.Tells (map creation outputs) (map addition outputs) _ _ _ c.in_err-create_files.ensures (stopped _))
+    (performs-stopped g.O.Sink.Tells (map creation outputs) (map addition outputs) _ _ _ c.in_err-create_files.ensures
+    (stopped _))
 
 pub returns : goal.returns
 returns g c =

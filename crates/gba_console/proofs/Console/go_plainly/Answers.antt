@@ -13,7 +13,15 @@ pub returns-then-not-is_calm-clause-alone : goal.returns-then-not-is_calm-clause
 returns-then-not-is_calm-clause-alone c =
     let after = c.go_plainly_for.new.self in
     let within : clock_of c.loop-self.self + c.min-most.result ≤ c.args.end
-    = omega (arith, c.min.ensures, c.min-stop.ensures, c.clock.ensures.value, c.saturating_sub.ensures, c.min-most.ensures, c.if-most-eq0.false) in
+    = omega (
+      arith,
+      c.min.ensures,
+      c.min-stop.ensures,
+      c.clock.ensures.value,
+      c.saturating_sub.ensures,
+      c.min-most.ensures,
+      c.if-most-eq0.false,
+    ) in
     subst (λ (o : Option Signal). GoesAlone c.args.end c.args.self.now after o) (sym c.news.ensures)
     (and-then within c.loop-self.invariant.alone c.go_plainly_for.ensures.alone)
 
@@ -21,7 +29,15 @@ pub loop-self-preserved : goal.loop-self-preserved
 loop-self-preserved c =
     let after = c.go_plainly_for.new.self in
     let within : clock_of c.loop-self.self + c.min-most.result ≤ c.args.end
-    = omega (arith, c.min.ensures, c.min-stop.ensures, c.clock.ensures.value, c.saturating_sub.ensures, c.min-most.ensures, c.if-most-eq0.false) in
+    = omega (
+      arith,
+      c.min.ensures,
+      c.min-stop.ensures,
+      c.clock.ensures.value,
+      c.saturating_sub.ensures,
+      c.min-most.ensures,
+      c.if-most-eq0.false,
+    ) in
     record {
       alone =
           subst (λ (o : Option Signal). GoesAlone c.args.end c.args.self.now after o)

@@ -109,8 +109,8 @@ invariant_of-self-2 c =
           (c.steps_pass.ensures []) m c.args.stop (rw (← c.self.view_is) at c.requires.idles) steps some after owed
           (c.self.invariant.5.on on) (omega arith) (omega (arith, below, c.owe_steps-steps.ensures.most))),
       still-stand b.core.memory after.core.memory inside.halves.items
-          (moved-images b.core.memory.bios b.core.memory.rom (16 * steps) b after (record { bios = refl; rom = refl }) owed
-          passes)
+          (moved-images b.core.memory.bios b.core.memory.rom (16 * steps) b after
+          (record { bios = refl; rom = refl }) owed passes)
           c.self.invariant.6,
     )
 

@@ -18,7 +18,8 @@ returns-then-clock-end-clause-alone c =
     let end = c.args.end in
     let none : Option Signal = None in
     let first : GoesAlone end x c.go_plainly.new.self none
-    = subst (λ (o : Option Signal). GoesAlone end x c.go_plainly.new.self o) c.in_default.is c.go_plainly.ensures.alone in
+    = subst (λ (o : Option Signal). GoesAlone end x c.go_plainly.new.self o) c.in_default.is
+    c.go_plainly.ensures.alone in
     let idled : GoesAlone end x y none = and-then (omega arith) first c.go_idly.ensures.alone in
     let early : clock_of y < end = omega (arith, c.clock.ensures.value, c.if-clock-end.true) in
     let made : GoesAlone end x (stepped [] y) (told [] y) = Steps y idled early in
@@ -31,5 +32,6 @@ returns-clause-alone c =
     let end = c.args.end in
     let none : Option Signal = None in
     let first : GoesAlone end x c.go_plainly.new.self none
-    = subst (λ (o : Option Signal). GoesAlone end x c.go_plainly.new.self o) c.in_default.is c.go_plainly.ensures.alone in
+    = subst (λ (o : Option Signal). GoesAlone end x c.go_plainly.new.self o) c.in_default.is
+    c.go_plainly.ensures.alone in
     and-then (omega arith) first c.go_idly.ensures.alone

@@ -12,7 +12,8 @@ pub invariant_of-result : goal.invariant_of-result
 invariant_of-result c =
     let room = c.args.room in
     let images = c.args.images in
-    let start = board_at_start c.args.player c.args.count c.args.round images.bios images.cart images.save images.backup room in
+    let start =
+    board_at_start c.args.player c.args.count c.args.round images.bios images.cart images.save images.backup room in
     let is : c.begin_at.new.self ≡ board_begun_at (first_on c.args.off 0) room.until start
     = c.begin_at.ensures
     ∙ ap (λ (n : ℕ). board_begun_at n room.until c.in_ok-board.board) c.first_on.ensures.value
@@ -26,7 +27,7 @@ invariant_of-result c =
           ∙ ap (λ (n : ℕ). next_due c.args.off n c.args.keys.items) (sym clock),
       omega arith,
       reset-kept c.args.off (c.begin_at.new.self.core.devices.clock - 0) room.until c.begin_at.new.self c.args.player
-          c.args.count c.args.round images.bios images.cart images.save images.backup room c.requires.off (omega (arith, clock))
-          (omega (arith, c.requires.until)) c.requires.player is,
+          c.args.count c.args.round images.bios images.cart images.save images.backup room c.requires.off
+          (omega (arith, clock)) (omega (arith, c.requires.until)) c.requires.player is,
       c.in_ok-halves_of.ensures.stand c.begin_at.new.self.core.memory.bios c.begin_at.new.self.core.memory.rom,
     )

@@ -13,7 +13,8 @@ loop-preserved c = record {
 
 pub loop-smaller : goal.loop-smaller
 loop-smaller c =
-    let early = told-early (c.steps_pass.ensures []) c.go_alone.ensures.alone (sym c.is_some.ensures ∙ c.loop-test.true) in
+    let early =
+    told-early (c.steps_pass.ensures []) c.go_alone.ensures.alone (sym c.is_some.ensures ∙ c.loop-test.true) in
     omega (arith, early, c.go_alone.ensures.rises early)
 
 pub returns-clause-run : goal.returns-clause-run

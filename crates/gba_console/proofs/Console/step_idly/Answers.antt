@@ -47,8 +47,8 @@ invariant_of-self c =
           (omega (arith, passed)) c.self.invariant.3,
       omega (arith, passed),
       kept-on inside.off (later - 16) after c.self.invariant.5.most (omega (arith, on, passed))
-          (idle-sound c.board_passes.ensures.all (b.core.devices.clock - inside.cycles) b after (c.self.invariant.5.on on)
-          (omega arith) (omega (arith, room)) moved),
+          (idle-sound c.board_passes.ensures.all (b.core.devices.clock - inside.cycles) b after
+          (c.self.invariant.5.on on) (omega arith) (omega (arith, room)) moved),
       still-stand b.core.memory after.core.memory inside.halves.items
           (moved-images b.core.memory.bios b.core.memory.rom 16 b after (record { bios = refl; rom = refl }) moved
           (c.board_passes.ensures.all 16 b))

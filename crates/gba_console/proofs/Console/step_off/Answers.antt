@@ -43,7 +43,8 @@ invariant_of-self c =
     } in
     let early : clock_of m < m.board.made.until = rw (← c.self.view_is) at c.requires.below in
     let below : clock_of m < m.off = rw (← c.self.view_is) at c.requires.off in
-    let same = prepares-off m dues c.begin.new.self c.learn_all.new.core c.apply-self-inside.new.core c.clock-clock.result
+    let same =
+    prepares-off m dues c.begin.new.self c.learn_all.new.core c.apply-self-inside.new.core c.clock-clock.result
     (drop inside.applied c.as_slice.result.now) c.begin.ensures c.learn_all.ensures c.clock-clock.ensures.value
     (ap (drop inside.applied) c.as_slice.ensures.value) c.apply-self-inside.ensures.core in
     let core = c.rest.new.self in
@@ -56,12 +57,14 @@ invariant_of-self c =
       c.self.invariant.1,
       omega (arith, c.apply-self-inside.ensures.most, c.as_slice.ensures.len),
       c.due_at-self-inside.ensures
-          ∙ ap (λ (changes : List KeyState). next_due inside.off (c.clock-clock.result + c.from.result) (drop c.apply-self-inside.result changes))
+          ∙ ap (λ (changes : List KeyState). next_due inside.off (c.clock-clock.result + c.from.result)
+          (drop c.apply-self-inside.result changes))
           c.as_slice-2.ensures.value
           ∙ ap (λ (n : ℕ). next_due inside.off n left) clock,
       omega (arith, passed),
       off-kept dues m core c.self.invariant.5 below early rested,
-      still-stand inside.board.core.memory core.memory inside.halves.items (off-images dues m core rested) c.self.invariant.6,
+      still-stand inside.board.core.memory core.memory inside.halves.items (off-images dues m core rested)
+          c.self.invariant.6,
     )
 
 pub returns : goal.returns
@@ -79,7 +82,8 @@ returns c =
     } in
     let changes = drop inside.applied c.as_slice.result.now in
     let list = ap (drop inside.applied) c.as_slice.ensures.value in
-    let same = prepares-off m dues c.begin.new.self c.learn_all.new.core c.apply-self-inside.new.core c.clock-clock.result
+    let same =
+    prepares-off m dues c.begin.new.self c.learn_all.new.core c.apply-self-inside.new.core c.clock-clock.result
     changes c.begin.ensures c.learn_all.ensures c.clock-clock.ensures.value list c.apply-self-inside.ensures.core in
     let count =
     c.apply-self-inside.ensures.count

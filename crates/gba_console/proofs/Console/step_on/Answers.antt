@@ -31,7 +31,8 @@ take_all-requires c =
     let on = rw (← c.self.view_is) at c.requires.on in
     let can = can-hear c.ends_stay_fit.ensures c.args.due.now m (c.self.invariant.5.on on) (omega arith)
     (rw (← c.self.view_is) at c.requires.below) c.requires.ordered (rw (← c.self.view_is) at c.requires.taken) in
-    subst (λ (core : Core). CanTakeAll c.args.due.now (record inside.board { core = core })) (sym c.begin.ensures) can.can
+    subst (λ (core : Core). CanTakeAll c.args.due.now (record inside.board { core = core }))
+    (sym c.begin.ensures) can.can
 
 pub end_due-requires : goal.end_due-requires
 end_due-requires c =
@@ -92,7 +93,8 @@ advance-requires-clause-room c =
     let done = c.act-acted.ensures.left in
     let ready = subst (λ (b : Board). IsReady (clock_of m) b) (sym here)
     (ready-heard c.ends_stay_fit.ensures dues m sound (omega arith) early c.requires.ordered due) in
-    let same = acted-clock acts m b clock changes keyed core c.apply-self-inside.ensures.core done.bus_left ready.same in
+    let same =
+    acted-clock acts m b clock changes keyed core c.apply-self-inside.ensures.core done.bus_left ready.same in
     let short : cycles ≤ 512 = omega (arith, done.cycles_taken, (acts.all m.registers keyed).length.most) in
     let keeps = acted-ends acts m b clock changes keyed core c.apply-self-inside.ensures.core done.bus_left in
     ready-room (clock_of m) cycles b core ready same keeps short
@@ -127,11 +129,13 @@ returns-clause-step c =
     let done = c.act-acted.ensures.left in
     let ready = subst (λ (b : Board). IsReady (clock_of m) b) (sym here)
     (ready-heard c.ends_stay_fit.ensures dues m sound (omega arith) early c.requires.ordered due) in
-    let same = acted-clock acts m b clock changes keyed core c.apply-self-inside.ensures.core done.bus_left ready.same in
+    let same =
+    acted-clock acts m b clock changes keyed core c.apply-self-inside.ensures.core done.bus_left ready.same in
     let short : cycles ≤ 512 = omega (arith, done.cycles_taken, (acts.all m.registers keyed).length.most) in
     let list = ap (drop inside.applied) c.as_slice.ensures.value in
     let leaves = acts-is m dues keyed c.act-acted.new.registers core cycles
-    (keyed-is m dues b clock changes keyed here c.clock-clock.ensures.value list c.apply-self-inside.ensures.core) done in
+    (keyed-is m dues b clock changes keyed here c.clock-clock.ensures.value list c.apply-self-inside.ensures.core)
+    done in
     let count = applied-is m clock c.apply-self-inside.result changes c.clock-clock.ensures.value list
     c.apply-self-inside.ensures.count in
     let what = what-is m dues keyed c.act-acted.result.what
@@ -174,9 +178,11 @@ returns-clause-signal c =
     let done = c.act-acted.ensures.left in
     let list = ap (drop inside.applied) c.as_slice.ensures.value in
     let leaves = acts-is m dues keyed c.act-acted.new.registers core cycles
-    (keyed-is m dues b clock changes keyed here c.clock-clock.ensures.value list c.apply-self-inside.ensures.core) done in
+    (keyed-is m dues b clock changes keyed here c.clock-clock.ensures.value list c.apply-self-inside.ensures.core)
+    done in
     rw (← c.self.view_is)
-    (told-is acts m dues c.act-acted.new.registers core cycles c.outgoing-signal.result leaves c.outgoing-signal.ensures)
+    (told-is acts m dues c.act-acted.new.registers core cycles c.outgoing-signal.result leaves
+    c.outgoing-signal.ensures)
 
 pub invariant_of-self : goal.invariant_of-self
 invariant_of-self c =
@@ -208,7 +214,8 @@ invariant_of-self c =
     let done = c.act-acted.ensures.left in
     let ready = subst (λ (b : Board). IsReady (clock_of m) b) (sym here)
     (ready-heard c.ends_stay_fit.ensures dues m sound (omega arith) early c.requires.ordered due) in
-    let same = acted-clock acts m b clock changes keyed core c.apply-self-inside.ensures.core done.bus_left ready.same in
+    let same =
+    acted-clock acts m b clock changes keyed core c.apply-self-inside.ensures.core done.bus_left ready.same in
     let short : cycles ≤ 512 = omega (arith, done.cycles_taken, (acts.all m.registers keyed).length.most) in
     let keeps = acted-ends acts m b clock changes keyed core c.apply-self-inside.ensures.core done.bus_left in
     let passes = c.board_passes.ensures.all cycles (record b { core = core }) in
@@ -219,7 +226,8 @@ invariant_of-self c =
       c.self.invariant.1,
       omega (arith, c.apply-self-inside.ensures.most, c.as_slice.ensures.len),
       c.due_after-self-inside.ensures
-          ∙ ap (λ (changes : List KeyState). due_of (drop c.apply-self-inside.result changes)) c.as_slice-2.ensures.value
+          ∙ ap (λ (changes : List KeyState). due_of (drop c.apply-self-inside.result changes))
+          c.as_slice-2.ensures.value
           ∙ sym (due-on inside.off later (drop c.apply-self-inside.result inside.keys.items) still),
       omega (arith, ends, passes.clock),
       kept-on inside.off (later - cycles) c.advance.new.self c.self.invariant.5.most still

@@ -29,17 +29,21 @@ returns-clause-step c =
     let cycles = c.execute-cycles.result in
     let mid = record inside.board { core = c.execute-cycles.new.core } in
     let acts = c.acts_pass.ensures.instructions inside.registers inside.board.core in
-    let same = left-clock inside.board.core c.execute-cycles.new.core done c.execute-cycles.ensures.left.bus_left acts in
-    let words = take inside.words.len (c.execute-cycles.new.words ++ drop (length c.execute-cycles.new.words) inside.words.items) in
+    let same =
+    left-clock inside.board.core c.execute-cycles.new.core done c.execute-cycles.ensures.left.bus_left acts in
+    let words =
+    take inside.words.len (c.execute-cycles.new.words ++ drop (length c.execute-cycles.new.words) inside.words.items) in
     let halves =
-    take inside.halves.len (c.execute-cycles.new.halves ++ drop (length c.execute-cycles.new.halves) inside.halves.items) in
+    take inside.halves.len
+    (c.execute-cycles.new.halves ++ drop (length c.execute-cycles.new.halves) inside.halves.items) in
     let same_words = whole-again c.execute-cycles.new.words inside.words.items inside.words.len
     (c.execute-cycles.ensures.length_of_words ∙ sym c.self.invariant.0) in
     let same_halves = whole-again c.execute-cycles.new.halves inside.halves.items inside.halves.len
     (c.execute-cycles.ensures.length ∙ sym c.self.invariant.1) in
     let told =
     ap (λ (n : ℕ). told_by c.execute-cycles.new.told n inside.aside words halves) c.get-self-inside.ensures
-    ∙ ap (λ (some : List DecodedWord). told_by c.execute-cycles.new.told (register inside.registers 15) inside.aside some halves)
+    ∙ ap (λ (some : List DecodedWord). told_by c.execute-cycles.new.told (register inside.registers 15) inside.aside
+    some halves)
     same_words
     ∙ ap (λ (some : List KeptHalf). told_by c.execute-cycles.new.told (register inside.registers 15) inside.aside
     c.execute-cycles.new.words some) same_halves
@@ -94,7 +98,8 @@ invariant_of-self c =
       c.self.invariant.0,
       c.self.invariant.1,
       c.self.invariant.2,
-      due-kept inside.off clock later inside.due (drop inside.applied inside.keys.items) plain.on past c.self.invariant.3,
+      due-kept inside.off clock later inside.due (drop inside.applied inside.keys.items) plain.on past
+          c.self.invariant.3,
       omega (arith, ends, passes.clock),
       kept-on inside.off (later - cycles) c.advance.new.self c.self.invariant.5.most (omega (arith, plain.on, past))
           (step-sound clock cycles inside.board c.advance.new.self core
@@ -103,8 +108,8 @@ invariant_of-self c =
       still-stand inside.board.core.memory c.advance.new.self.core.memory
           (take inside.halves.len
           (c.execute-cycles.new.halves ++ drop (length c.execute-cycles.new.halves) inside.halves.items))
-          (moved-images inside.board.core.memory.bios inside.board.core.memory.rom cycles (record inside.board { core = core })
-          c.advance.new.self
+          (moved-images inside.board.core.memory.bios inside.board.core.memory.rom cycles
+          (record inside.board { core = core }) c.advance.new.self
           (done-images inside.registers inside.board.core core c.execute-cycles.ensures.left.bus_left)
           c.advance.ensures passes)
           (rw (← whole-again c.execute-cycles.new.halves inside.halves.items inside.halves.len

@@ -8,7 +8,8 @@ use Rattle.gba_console.proofs.hearing.take_all.Goals as goal
 
 pub take-requires : goal.take-requires
 take-requires c =
-    let can = (can-at c.args.due.now c.loop-one.one-index c.loop-one.board c.loop-one-test.true c.loop-one.invariant.1).0 in
+    let can =
+    (can-at c.args.due.now c.loop-one.one-index c.loop-one.board c.loop-one-test.true c.loop-one.invariant.1).0 in
     record { arrival = can.early; until = can.fits.few; in_flight = can.in_flight; room = can.room }
 
 pub loop-one-preserved : goal.loop-one-preserved

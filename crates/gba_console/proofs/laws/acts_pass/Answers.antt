@@ -3,5 +3,5 @@ use Rattle.gba_console.proofs.laws.acts_pass.Goals as goal
 
 pub returns : goal.returns
 returns c =
-    acts-pass c.writes_keep_time.ensures c.writes_keep_ends.ensures c.cycles_of_a_word.ensures c.cycles_of_a_halfword.ensures
-    c.words_keep.ensures c.halfwords_keep.ensures
+    acts-pass c.writes_keep_time.ensures c.writes_keep_ends.ensures c.cycles_of_a_word.ensures
+    c.cycles_of_a_halfword.ensures c.words_keep.ensures c.halfwords_keep.ensures

@@ -8,7 +8,9 @@ loop-unit-preserved c =
     let bytes = c.args.bytes.now in
     let at = c.loop-unit.at in
     record {
-      within = within_left bytes at c.size-at.result c.loop-unit.invariant.within (rw c.size-at.ensures c.in-Some.ensures.within);
+      within =
+          within_left bytes at c.size-at.result c.loop-unit.invariant.within
+          (rw c.size-at.ensures c.in-Some.ensures.within);
       text = line_added (is_thumb c.args.set) at _ c.in-Some.unit _ _ c.loop-unit.text.items c.add_line.new.text.items
           c.add.new.line.items _ c.loop-unit.invariant.text
           (split_left c.args.set bytes at c.size-at.result c.in-Some.unit c.in-Some.ensures.unit c.size-at.ensures)

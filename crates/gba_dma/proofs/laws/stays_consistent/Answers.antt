@@ -2,4 +2,5 @@ use Rattle.gba_dma.proofs.Consistent.{all_triggered, all_written, at_reset, lowe
 use Rattle.gba_dma.proofs.laws.stays_consistent.Goals as goal
 
 pub returns : goal.returns
-returns c = record { reset = at_reset; write = all_written; event = all_triggered; unit = unit_ended; lowest = lowest_ended }
+returns c =
+    record { reset = at_reset; write = all_written; event = all_triggered; unit = unit_ended; lowest = lowest_ended }

@@ -15,7 +15,8 @@ listed-preserved g c =
     let some : 0 < c.listed.left = omega arith in
     record {
       small = omega arith;
-      bounded = rw c.rest_of-left.ensures.value (omega (arith, one_more_listed c.listed.left some c.listed.invariant.small));
+      bounded =
+          rw c.rest_of-left.ensures.value (omega (arith, one_more_listed c.listed.left some c.listed.invariant.small));
       rest =
           loads_first g.B.Bus.code_price_of g.B.Bus.load_of g.B.Bus.store_of c.args.user c.args.site c.listed.left
           c.first_of.result c.rest_of-left.result c.listed.address c.listed.sequential c.listed.registers

@@ -8,10 +8,10 @@ invariant-listed g l = record {
   small : l.left < 2 ^ 16;
   bounded : l.total + 18 * length (registers_in l.left 0 16) ≤ l.fn.cycles + 288;
   rest :
-      loads g.B.Bus.code_price_of g.B.Bus.load_of g.B.Bus.store_of l.fn.user l.fn.site (registers_in l.left 0 16) l.address l.sequential
-      (record { registers = l.registers; bus = g.B.Bus.state l.bus; cycles = l.total })
-      ≡ loads g.B.Bus.code_price_of g.B.Bus.load_of g.B.Bus.store_of l.fn.user l.fn.site (registers_in l.fn.list 0 16) l.fn.first false
-      (record { registers = l.fn.registers; bus = g.B.Bus.state l.fn.bus; cycles = l.fn.cycles });
+      loads g.B.Bus.code_price_of g.B.Bus.load_of g.B.Bus.store_of l.fn.user l.fn.site (registers_in l.left 0 16)
+      l.address l.sequential (record { registers = l.registers; bus = g.B.Bus.state l.bus; cycles = l.total })
+      ≡ loads g.B.Bus.code_price_of g.B.Bus.load_of g.B.Bus.store_of l.fn.user l.fn.site (registers_in l.fn.list 0 16)
+      l.fn.first false (record { registers = l.fn.registers; bus = g.B.Bus.state l.fn.bus; cycles = l.fn.cycles });
 }
 
 abbrev pub decreases-listed : goal.decreases-listed

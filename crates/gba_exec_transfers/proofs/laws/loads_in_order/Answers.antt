@@ -12,4 +12,5 @@ returns-clause-accesses g c = loads-accesses g.B.Bus.code_price_of g.B.Bus.load_
 pub returns-clause-words : goal.returns-clause-words
 returns-clause-words g c = λ site list lowest done is.
     holds-words g.B.Bus.load_of g.B.Bus.store_of c.set_then_get.ensures.same c.set_then_get.ensures.others
-    c.set_then_get.ensures.file site (registers_in list 0 16) lowest done is (registers_in-most list) (registers_in-rises list)
+    c.set_then_get.ensures.file site (registers_in list 0 16) lowest done is (registers_in-most list)
+    (registers_in-rises list)

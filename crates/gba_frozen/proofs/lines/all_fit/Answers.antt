@@ -15,8 +15,10 @@ returns-then-not-fits_in_time c =
     let values : List ℕ = c.args.values.now in
     let inside : part < length values = omega arith in
     let more = all_fit-more c.args.until c.args.row part values inside in
-    let step : (field_fits (field_of c.args.row part) (get_or values part 0) && in_time c.args.until (field_of c.args.row part) (get_or values part 0)) ≡ false = cc in
-    sym (sym c.loop-part.invariant ∙ more ∙ ap (λ b. b && all_fit c.args.until c.args.row (part + 1) (drop (part + 1) values)) step)
+    let step : (field_fits (field_of c.args.row part) (get_or values part 0)
+    && in_time c.args.until (field_of c.args.row part) (get_or values part 0)) ≡ false = cc in
+    sym (sym c.loop-part.invariant ∙ more
+    ∙ ap (λ b. b && all_fit c.args.until c.args.row (part + 1) (drop (part + 1) values)) step)
 
 pub loop-part-preserved : goal.loop-part-preserved
 loop-part-preserved c =
@@ -24,8 +26,10 @@ loop-part-preserved c =
     let values : List ℕ = c.args.values.now in
     let inside : part < length values = omega arith in
     let more = all_fit-more c.args.until c.args.row part values inside in
-    let step : (field_fits (field_of c.args.row part) (get_or values part 0) && in_time c.args.until (field_of c.args.row part) (get_or values part 0)) ≡ true = cc in
-    sym (more ∙ ap (λ b. b && all_fit c.args.until c.args.row (part + 1) (drop (part + 1) values)) step) ∙ c.loop-part.invariant
+    let step : (field_fits (field_of c.args.row part) (get_or values part 0)
+    && in_time c.args.until (field_of c.args.row part) (get_or values part 0)) ≡ true = cc in
+    sym (more ∙ ap (λ b. b && all_fit c.args.until c.args.row (part + 1) (drop (part + 1) values)) step)
+    ∙ c.loop-part.invariant
 
 pub returns : goal.returns
 returns c =

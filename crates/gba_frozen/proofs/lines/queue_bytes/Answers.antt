@@ -7,14 +7,16 @@ use Rattle.gba_frozen.specs.Spelling.{is_digit}
 use Rattle.gba_frozen.proofs.Loops.{numbers_in-none}
 use Rattle.gba_frozen.proofs.lines.queue_bytes.Goals as goal
 
-are_bytes-inside : (count : ℕ) (word : List ℕ) → (count == 0) ≡ false → are_bytes count word ≡ true → 2 * count ≤ length word
+are_bytes-inside : (count : ℕ) (word : List ℕ) → (count == 0) ≡ false → are_bytes count word ≡ true
+    → 2 * count ≤ length word
 unfolding are_bytes
 are_bytes-inside count word some h =
     let parts = rw some at h in
     let front = first_of_all (length word % 2 == 0 && length word / 2 == count) (list_all is_digit word) parts in
     grind (arith, nat_tests)
 
-are_bytes-digits : (count : ℕ) (word : List ℕ) → (count == 0) ≡ false → are_bytes count word ≡ true → list_all is_digit word ≡ true
+are_bytes-digits : (count : ℕ) (word : List ℕ) → (count == 0) ≡ false → are_bytes count word ≡ true
+    → list_all is_digit word ≡ true
 unfolding are_bytes
 are_bytes-digits count word some h =
     let parts = rw some at h in

@@ -12,9 +12,10 @@ loop-place-preserved c =
     let rest : drop (2 * (place + 1)) digits ≡ drop 2 (drop (2 * place) digits) =
     sym (drop-drop 2 (2 * place) digits ∙ ap (λ n. drop n digits) behind) in
     record {
-      numbers = grown 2 (c.args.count - place) (c.args.count - (place + 1)) c.byte_in.result (drop (2 * place) digits) c.loop-place.bytes.items
-          c.push.new.self.items (drop (2 * (place + 1)) digits) _ more c.byte_in.ensures c.push.ensures.items rest
-          c.loop-place.invariant.numbers;
+      numbers =
+          grown 2 (c.args.count - place) (c.args.count - (place + 1)) c.byte_in.result (drop (2 * place) digits)
+          c.loop-place.bytes.items c.push.new.self.items (drop (2 * (place + 1)) digits) _ more c.byte_in.ensures
+          c.push.ensures.items rest c.loop-place.invariant.numbers;
       count = omega (arith, c.push.ensures.len, c.loop-place.invariant.count);
     }
 
@@ -23,5 +24,6 @@ returns-clause-items c =
     let place : ℕ = c.loop-place.place in
     let none : c.args.count - place ≡ 0 = omega arith in
     sym (append-nil c.loop-place.bytes.items)
-    ∙ ap (λ t. c.loop-place.bytes.items ++ t) (sym (numbers_in-none 2 (c.args.count - place) (drop (2 * place) c.args.digits.now) none))
+    ∙ ap (λ t. c.loop-place.bytes.items ++ t)
+    (sym (numbers_in-none 2 (c.args.count - place) (drop (2 * place) c.args.digits.now) none))
     ∙ c.loop-place.invariant.numbers

@@ -12,6 +12,8 @@ returns-clause-items g c =
     c.add_rows-2.new.into.items c.add_wave.new.into.items c.add_wave-2.new.into.items c.add_rows-3.new.into.items
     c.add_row.ensures.items c.add_row-2.ensures.items c.add_rows.ensures.items c.add_queue_of.ensures.items
     c.add_queue_of-2.ensures.items c.add_rows-2.ensures.items
-    (c.add_wave.ensures.items ∙ ap (λ (bytes : List ℕ). c.add_rows-2.new.into.items ++ ended (wave_text 0 bytes)) c.wave.ensures)
-    (c.add_wave-2.ensures.items ∙ ap (λ (bytes : List ℕ). c.add_wave.new.into.items ++ ended (wave_text 1 bytes)) c.wave-2.ensures)
+    (c.add_wave.ensures.items
+    ∙ ap (λ (bytes : List ℕ). c.add_rows-2.new.into.items ++ ended (wave_text 0 bytes)) c.wave.ensures)
+    (c.add_wave-2.ensures.items
+    ∙ ap (λ (bytes : List ℕ). c.add_wave.new.into.items ++ ended (wave_text 1 bytes)) c.wave-2.ensures)
     c.add_rows-3.ensures.items

@@ -22,4 +22,5 @@ returns-clause-items g c =
     let rows = c.args.rows.now in
     let none = nil_from_length (drop c.loop-row.row-index rows) (omega (arith, length-drop {A = Row})) in
     let gone = rows-none n (drop c.loop-row.row-index rows) none in
-    sym (append-nil c.loop-row.into.items) ∙ ap (λ (t : List ℕ). c.loop-row.into.items ++ t) (sym gone) ∙ c.loop-row.invariant.items
+    sym (append-nil c.loop-row.into.items) ∙ ap (λ (t : List ℕ). c.loop-row.into.items ++ t) (sym gone)
+    ∙ c.loop-row.invariant.items

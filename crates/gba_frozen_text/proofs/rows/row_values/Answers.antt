@@ -22,22 +22,26 @@ loop-part-preserved g c =
     c.value.ensures.value ∙ ap (λ (f : Field). value_of f n) c.field.ensures.value in
     let fits : is_printable (field_of which part) c.value.result ≡ true =
     ap (λ (f : Field). is_printable f c.value.result) (sym c.field.ensures.value) ∙ c.value.ensures.printable in
-    let split : row_values which part (count_of which - part) n ≡ (c.value.result ∷ []) ++ row_values which (part + 1) left n =
+    let split : row_values which part (count_of which - part) n
+    ≡ (c.value.result ∷ []) ++ row_values which (part + 1) left n =
     values-more which part (count_of which - part) left n more
     ∙ ap (λ (v : ℕ). v ∷ row_values which (part + 1) left n) (sym value) in
     record {
-      items = grown c.loop-part.values.items c.push.new.self.items (c.value.result ∷ []) _ _ _ c.push.ensures.items split c.loop-part.invariant.items;
+      items =
+          grown c.loop-part.values.items c.push.new.self.items (c.value.result ∷ []) _ _ _ c.push.ensures.items split
+          c.loop-part.invariant.items;
       len = omega arith;
       fit = ap (λ (xs : List ℕ). list_all (fits_spelling (spelling_of which)) xs) c.push.ensures.items
-          ∙ all-more (fits_spelling (spelling_of which)) c.loop-part.values.items c.value.result c.loop-part.invariant.fit
-          (value-fits which part c.value.result inside fits);
+          ∙ all-more (fits_spelling (spelling_of which)) c.loop-part.values.items c.value.result
+          c.loop-part.invariant.fit (value-fits which part c.value.result inside fits);
     }
 
 pub value-requires-clause-single : goal.value-requires-clause-single
 value-requires-clause-single g c =
     let inside : c.loop-part.part < count_of c.args.row = omega arith in
     let single = row-single c.args.row c.loop-part.part c.requires inside in
-    let same : place_of c.field.result ≡ place_of (field_of c.args.row c.loop-part.part) = ap place_of c.field.ensures.value in
+    let same : place_of c.field.result ≡ place_of (field_of c.args.row c.loop-part.part) =
+    ap place_of c.field.ensures.value in
     omega (arith, single, same)
 
 pub returns-clause-values : goal.returns-clause-values
@@ -45,4 +49,5 @@ returns-clause-values g c =
     let n = g.S.Freezing.numbers c.args.source.now in
     let none : count_of c.args.row - c.loop-part.part ≡ 0 = omega arith in
     let gone = values-none c.args.row c.loop-part.part (count_of c.args.row - c.loop-part.part) n none in
-    sym (append-nil c.loop-part.values.items) ∙ ap (λ (t : List ℕ). c.loop-part.values.items ++ t) (sym gone) ∙ c.loop-part.invariant.items
+    sym (append-nil c.loop-part.values.items) ∙ ap (λ (t : List ℕ). c.loop-part.values.items ++ t) (sym gone)
+    ∙ c.loop-part.invariant.items

@@ -6,7 +6,8 @@ use Rattle.gba_generator.proofs.bios.assembled.Goals as goal
 pub returns-in-Ok : goal.returns-in-Ok
 returns-in-Ok c =
     code-given c.args.number c.args.player c.in-Ok.bytes.items
-    (ap assembly_of (sym c.in_ok-source.ensures) ∙ ap assembly_of (sym c.as_bytes.ensures.value) ∙ c.in-Ok.ensures.bytes)
+    (ap assembly_of (sym c.in_ok-source.ensures) ∙ ap assembly_of (sym c.as_bytes.ensures.value)
+    ∙ c.in-Ok.ensures.bytes)
 
 pub unreachable-requires : goal.unreachable-requires
 unreachable-requires c =

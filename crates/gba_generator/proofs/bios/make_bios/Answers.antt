@@ -9,7 +9,8 @@ unreachable-requires c =
     let new = c.resize.new.self.items in
     let long : vec_len old ≡ length old.items = search rules in
     bios-passes c.args.number c.args.player new c.in-Err.field-0
-    (filled-is c.args.number c.args.player (vec_len old) old.items new c.in_ok-bytes.ensures long c.in_ok-resize.ensures.items)
+    (filled-is c.args.number c.args.player (vec_len old) old.items new c.in_ok-bytes.ensures long
+    c.in_ok-resize.ensures.items)
     c.in-Err.ensures
 
 pub returns : goal.returns
@@ -19,5 +20,6 @@ returns c =
     let long : vec_len old ≡ length old.items = search rules in
     record {
       image = c.in-Ok.ensures.1
-          ∙ filled-is c.args.number c.args.player (vec_len old) old.items new c.in_ok-bytes.ensures long c.in_ok-resize.ensures.items;
+          ∙ filled-is c.args.number c.args.player (vec_len old) old.items new c.in_ok-bytes.ensures long
+          c.in_ok-resize.ensures.items;
     }

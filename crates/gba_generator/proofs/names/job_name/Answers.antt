@@ -5,6 +5,8 @@ use Rattle.gba_generator.proofs.names.job_name.Goals as goal
 pub returns-clause-short : goal.returns-clause-short
 returns-clause-short c =
     let count : string_len c.in_ok-name.name ≡ length (string_bytes c.in_ok-name.name) = search rules in
-    let text : length (string_bytes c.in_ok-name.name) ≡ length (c.args.out.now ++ codes ".job") = ap length c.in_ok-name.ensures.ok in
-    let sum : length (c.args.out.now ++ codes ".job") ≡ length c.args.out.now + 4 = length-append c.args.out.now (codes ".job") in
+    let text : length (string_bytes c.in_ok-name.name) ≡ length (c.args.out.now ++ codes ".job") =
+    ap length c.in_ok-name.ensures.ok in
+    let sum : length (c.args.out.now ++ codes ".job") ≡ length c.args.out.now + 4 =
+    length-append c.args.out.now (codes ".job") in
     omega arith

@@ -20,8 +20,8 @@ returns-in_ok-save-in-Some g c =
     let gives = g.S.Store.gives in
     let image = digested_value c.in_ok-save-in-Some.save in
     rw c.in-Some.is
-    (goes-then gives (save_plan c.args.backup (file_value c.in-Some.file)) found _ _ _ image _ c.in_ok-save-in-Some.ensures
-    (goes-done gives (Some image) _ _ refl))
+    (goes-then gives (save_plan c.args.backup (file_value c.in-Some.file)) found _ _ _ image _
+    c.in_ok-save-in-Some.ensures (goes-done gives (Some image) _ _ refl))
 
 pub returns-in-None : goal.returns-in-None
 returns-in-None g c =

@@ -10,11 +10,12 @@ returns-in_err-bytes g c =
     let gives = g.S.Store.gives in
     let p = err_from_is_err_and c.from_residual.result c.from_residual.ensures.1 in
     rw (p.1, p.2)
-    (image-stops gives cart_form (file_value c.args.file.now) _ _ _ _ _ c.name_of-name.ensures.name c.name_in_report.ensures
-    c.in_err-bytes.ensures.goes)
+    (image-stops gives cart_form (file_value c.args.file.now) _ _ _ _ _ c.name_of-name.ensures.name
+    c.name_in_report.ensures c.in_err-bytes.ensures.goes)
 
 pub returns : goal.returns
 returns g c =
     let gives = g.S.Store.gives in
-    image-goes gives digested_value cart_form (file_value c.args.file.now) _ _ _ _ c.in_ok-bytes.bytes.items c.judge_cartridge.result
-    c.name_of-name.ensures.name c.name_in_report.ensures c.in_ok-bytes.ensures.goes c.judge_cartridge.ensures
+    image-goes gives digested_value cart_form (file_value c.args.file.now) _ _ _ _ c.in_ok-bytes.bytes.items
+    c.judge_cartridge.result c.name_of-name.ensures.name c.name_in_report.ensures c.in_ok-bytes.ensures.goes
+    c.judge_cartridge.ensures

@@ -10,11 +10,13 @@ returns-in_err-bytes g c =
     let gives = g.S.Store.gives in
     let p = err_from_is_err_and c.from_residual.result c.from_residual.ensures.1 in
     rw (p.1, p.2)
-    (image-stops gives (save_form c.args.backup) (file_value c.args.file.now) _ _ _ _ _ c.name_of-name.ensures.name c.name_in_report.ensures
-    (rw c.length.ensures at c.in_err-bytes.ensures.goes))
+    (image-stops gives (save_form c.args.backup) (file_value c.args.file.now) _ _ _ _ _ c.name_of-name.ensures.name
+    c.name_in_report.ensures (rw c.length.ensures at c.in_err-bytes.ensures.goes))
 
 pub returns : goal.returns
 returns g c =
     let gives = g.S.Store.gives in
-    image-goes gives digested_value (save_form c.args.backup) (file_value c.args.file.now) _ _ _ _ c.in_ok-bytes.bytes.items c.judge_save.result
-    c.name_of-name.ensures.name c.name_in_report.ensures (rw c.length.ensures at c.in_ok-bytes.ensures.goes) c.judge_save.ensures
+    image-goes gives digested_value (save_form c.args.backup) (file_value c.args.file.now) _ _ _ _
+    c.in_ok-bytes.bytes.items c.judge_save.result
+    c.name_of-name.ensures.name c.name_in_report.ensures (rw c.length.ensures at c.in_ok-bytes.ensures.goes)
+    c.judge_save.ensures

@@ -16,4 +16,5 @@ pub returns : goal.returns
 returns g c =
     let gives = g.S.Store.gives in
     keys-go gives changes_value (file_value c.args.file.now) _ _ _ _ c.in_ok-bytes.bytes.items c.judge_keys.result
-    c.name_of-name.ensures.name c.name_in_report.ensures c.in_ok-bytes.ensures.goes (rw c.as_slice.ensures.value at c.judge_keys.ensures)
+    c.name_of-name.ensures.name c.name_in_report.ensures c.in_ok-bytes.ensures.goes
+    (rw c.as_slice.ensures.value at c.judge_keys.ensures)

@@ -12,7 +12,8 @@ use Rattle.gba_inputs.proofs.reading.read_all.Goals as goal
 pub loop-console-init : goal.loop-console-init
 loop-console-init g c =
     let gives = g.S.Store.gives in
-    rw c.new-all.ensures.items (leads-begin gives (inputs_plan (map console_value c.args.consoles.now)) c.args.store.now)
+    rw c.new-all.ensures.items
+    (leads-begin gives (inputs_plan (map console_value c.args.consoles.now)) c.args.store.now)
 
 pub read_console-requires : goal.read_console-requires
 read_console-requires g c =
@@ -24,16 +25,17 @@ returns-in_err-inputs g c =
     let gives = g.S.Store.gives in
     let p = err_from_is_err_and c.from_residual.result c.from_residual.ensures.1 in
     rw (p.1, p.2)
-    (stops gives console_value inputs_value (inputs_plan (map console_value c.args.consoles.now)) c.loop-console.all.items
-    c.args.consoles.now c.loop-console.console-index c.console-item.result _ _ _ _ c.loop-console-test.true
-    c.console-item.is c.loop-console.invariant c.in_err-inputs.ensures)
+    (stops gives console_value inputs_value (inputs_plan (map console_value c.args.consoles.now))
+    c.loop-console.all.items c.args.consoles.now c.loop-console.console-index c.console-item.result _ _ _ _
+    c.loop-console-test.true c.console-item.is c.loop-console.invariant c.in_err-inputs.ensures)
 
 pub returns-in_err-keep : goal.returns-in_err-keep
 returns-in_err-keep g c =
     let gives = g.S.Store.gives in
     let consoles = c.args.consoles.now in
     let index = c.loop-console.console-index in
-    let on = goes_on gives console_value inputs_value (inputs_plan (map console_value consoles)) c.loop-console.all.items
+    let on =
+    goes_on gives console_value inputs_value (inputs_plan (map console_value consoles)) c.loop-console.all.items
     consoles index c.console-item.result c.in_ok-inputs.inputs _ _ _ c.loop-console-test.true c.console-item.is
     c.loop-console.invariant c.in_ok-inputs.ensures in
     let p = err_from_is_err_and c.from_residual-in_err-keep.result c.from_residual-in_err-keep.ensures.1 in
@@ -45,8 +47,9 @@ loop-console-preserved g c =
     let gives = g.S.Store.gives in
     rw c.in_ok-keep.ensures.kept
     (goes_on gives console_value inputs_value (inputs_plan (map console_value c.args.consoles.now))
-    c.loop-console.all.items c.args.consoles.now c.loop-console.console-index c.console-item.result c.in_ok-inputs.inputs
-    _ _ _ c.loop-console-test.true c.console-item.is c.loop-console.invariant c.in_ok-inputs.ensures)
+    c.loop-console.all.items c.args.consoles.now c.loop-console.console-index c.console-item.result
+    c.in_ok-inputs.inputs _ _ _ c.loop-console-test.true c.console-item.is c.loop-console.invariant
+    c.in_ok-inputs.ensures)
 
 pub returns : goal.returns
 returns g c =

@@ -36,7 +36,8 @@ returns-in_err-save g c =
     rw (p.1, p.2)
     (goes-then gives (bios_plan console.bios) (after_bios console) _ _ _ bios _ c.in_ok-bios.ensures
     (goes-then gives (any_cart_plan console.cart) (after_cart console bios) _ _ _ cart _ c.in_ok-cart.ensures
-    (goes-stop gives (any_save_plan console.backup console.save) (after_save console bios cart) _ _ _ c.in_err-save.ensures)))
+    (goes-stop gives (any_save_plan console.backup console.save) (after_save console bios cart) _ _ _
+    c.in_err-save.ensures)))
 
 pub returns-in_err-changes : goal.returns-in_err-changes
 returns-in_err-changes g c =
@@ -49,8 +50,10 @@ returns-in_err-changes g c =
     rw (p.1, p.2)
     (goes-then gives (bios_plan console.bios) (after_bios console) _ _ _ bios _ c.in_ok-bios.ensures
     (goes-then gives (any_cart_plan console.cart) (after_cart console bios) _ _ _ cart _ c.in_ok-cart.ensures
-    (goes-then gives (any_save_plan console.backup console.save) (after_save console bios cart) _ _ _ save _ c.in_ok-save.ensures
-    (goes-stop gives (any_keys_plan console.changes console.keys) (after_keys console.backup bios cart save) _ _ _ (rw c.as_slice.ensures.value at c.in_err-changes.ensures)))))
+    (goes-then gives (any_save_plan console.backup console.save) (after_save console bios cart) _ _ _ save _
+    c.in_ok-save.ensures
+    (goes-stop gives (any_keys_plan console.changes console.keys) (after_keys console.backup bios cart save) _ _ _
+    (rw c.as_slice.ensures.value at c.in_err-changes.ensures)))))
 
 pub returns : goal.returns
 returns g c =
@@ -63,6 +66,8 @@ returns g c =
     rw c.inputs_of.ensures
     (goes-then gives (bios_plan console.bios) (after_bios console) _ _ _ bios _ c.in_ok-bios.ensures
     (goes-then gives (any_cart_plan console.cart) (after_cart console bios) _ _ _ cart _ c.in_ok-cart.ensures
-    (goes-then gives (any_save_plan console.backup console.save) (after_save console bios cart) _ _ _ save _ c.in_ok-save.ensures
-    (goes-then gives (any_keys_plan console.changes console.keys) (after_keys console.backup bios cart save) _ _ _ changes _ (rw c.as_slice.ensures.value at c.in_ok-changes.ensures)
+    (goes-then gives (any_save_plan console.backup console.save) (after_save console bios cart) _ _ _ save _
+    c.in_ok-save.ensures
+    (goes-then gives (any_keys_plan console.changes console.keys) (after_keys console.backup bios cart save) _ _ _
+    changes _ (rw c.as_slice.ensures.value at c.in_ok-changes.ensures)
     (goes-done gives (inputs_of console.backup bios cart save changes) _ _ refl)))))

@@ -8,4 +8,5 @@ use Rattle.gba_inputs.proofs.reading.read_inputs.Goals as goal
 pub returns-clause-sound : goal.returns-clause-sound
 returns-clause-sound g c =
     is-sound g.S.Store.gives
-    (all_inputs_value {Z = Global}) (map console_value c.args.consoles.now) _ _ c.read_all.result c.requires c.read_all.ensures
+    (all_inputs_value {Z = Global}) (map console_value c.args.consoles.now) _ _ c.read_all.result c.requires
+    c.read_all.ensures

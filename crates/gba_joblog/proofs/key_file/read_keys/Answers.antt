@@ -17,8 +17,9 @@ pub returns-in-Err : goal.returns-in-Err
 unfolding keys_of
 returns-in-Err c =
     record {
-      keys = refuses {X = Vec KeyChange Global} line_error key_files (λ changes. changes.items) c.args.bytes.now c.loop-line.cursor c.line.new.self
-          c.loop-line.changes.items c.read_line.new.changes.items c.in-Some.line.now
+      keys =
+          refuses {X = Vec KeyChange Global} line_error key_files (λ changes. changes.items) c.args.bytes.now
+          c.loop-line.cursor c.line.new.self c.loop-line.changes.items c.read_line.new.changes.items c.in-Some.line.now
           c.in-Err.refusal (omega arith) c.loop-line.invariant c.in-Some.ensures.line c.line.ensures.state
           c.in-Err.ensures.says;
     }

@@ -17,8 +17,9 @@ pub returns-in-Err : goal.returns-in-Err
 unfolding job_of
 returns-in-Err c =
     record {
-      job = refuses line_error jobs job_value c.args.bytes.now c.loop-line.cursor c.line.new.self (draft_value c.loop-line.draft)
-          (draft_value c.read_line.new.draft) c.in-Some.line.now
+      job =
+          refuses line_error jobs job_value c.args.bytes.now c.loop-line.cursor c.line.new.self
+          (draft_value c.loop-line.draft) (draft_value c.read_line.new.draft) c.in-Some.line.now
           c.in-Err.refusal (omega arith) c.loop-line.invariant c.in-Some.ensures.line c.line.ensures.state
           c.in-Err.ensures.says;
     }

@@ -11,4 +11,5 @@ pub returns-in-None : goal.returns-in-None
 returns-in-None g c =
     let gives = g.S.Store.gives in
     let at = c.args.store.now in
-    subst (λ (o : Option Command). GoesTo gives (command_plan o) at at (Err (Refused NoCommand))) c.in-None.ensures.command (goes-refused Run gives NoCommand at)
+    subst (λ (o : Option Command). GoesTo gives (command_plan o) at at (Err (Refused NoCommand)))
+    c.in-None.ensures.command (goes-refused Run gives NoCommand at)

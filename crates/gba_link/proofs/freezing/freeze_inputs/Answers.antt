@@ -21,9 +21,12 @@ returns c =
     let Is : WholeJob → List ℕ → List ConsoleImages → Type 0 = λ job digest images.
     IfOk c.new.result (λ run. run ≡ frozen_under out job digest images) in
     let shortened : Is (job_until clock plain) c.in_ok-digest.digest made.images.items =
-    subst (λ (job : WholeJob). Is job c.in_ok-digest.digest made.images.items) c.until_clock-job.ensures.value c.new.ensures in
+    subst (λ (job : WholeJob). Is job c.in_ok-digest.digest made.images.items) c.until_clock-job.ensures.value
+    c.new.ensures in
     let digested : Is (job_until clock plain) (sha256 (log_text plain)) made.images.items =
     subst (λ (digest : List ℕ). Is (job_until clock plain) digest made.images.items) c.in_ok-digest.ensures shortened in
     let shown : Is (job_until clock plain) (sha256 (log_text plain)) (map images_in inputs) =
-    subst (λ (images : List ConsoleImages). Is (job_until clock plain) (sha256 (log_text plain)) images) made.ensures.images digested in
-    subst (λ (job : WholeJob). Is (job_until clock job) (sha256 (log_text job)) (map images_in inputs)) made.ensures.filled shown
+    subst (λ (images : List ConsoleImages). Is (job_until clock plain) (sha256 (log_text plain)) images)
+    made.ensures.images digested in
+    subst (λ (job : WholeJob). Is (job_until clock job) (sha256 (log_text job)) (map images_in inputs))
+    made.ensures.filled shown

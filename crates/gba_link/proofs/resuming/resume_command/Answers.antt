@@ -12,7 +12,8 @@ returns-in_err-job g c =
     let words = resume_words_value c.args.words.now in
     let p = err_from_is_err_and c.from_residual.result c.from_residual.ensures.1 in
     rw (p.1, p.2)
-    (goes-stop g.S.Store.gives (job_plan_for (Some words.frozen) None words.run) (resumed_plan words) _ _ _ c.in_err-job.ensures.goes)
+    (goes-stop g.S.Store.gives (job_plan_for (Some words.frozen) None words.run) (resumed_plan words) _ _ _
+    c.in_err-job.ensures.goes)
 
 pub returns : goal.returns
 returns g c =

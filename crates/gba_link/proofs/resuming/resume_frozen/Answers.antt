@@ -19,8 +19,8 @@ returns-in_err-bytes g c =
     let inputs = map inputs_value c.args.inputs.items in
     let p = err_from_is_err_and c.from_residual.result c.from_residual.ensures.1 in
     rw (p.1, p.2)
-    (goes-stop g.S.Store.gives (file words.frozen longest_file (frozen_refusal words (error_at 0 Spelling))) (after_frozen words job inputs) _ _ _
-    (rw c.frozen_cause-long.ensures at c.in_err-bytes.ensures.goes))
+    (goes-stop g.S.Store.gives (file words.frozen longest_file (frozen_refusal words (error_at 0 Spelling)))
+    (after_frozen words job inputs) _ _ _ (rw c.frozen_cause-long.ensures at c.in_err-bytes.ensures.goes))
 
 pub returns-in_err-run : goal.returns-in_err-run
 returns-in_err-run g c =
@@ -31,11 +31,11 @@ returns-in_err-run g c =
     let bytes = c.in_ok-bytes.bytes.items in
     let p = err_from_is_err_and c.from_residual-in_err-run.result c.from_residual-in_err-run.ensures.1 in
     rw (p.1, p.2)
-    (goes-then gives (file words.frozen longest_file (frozen_refusal words (error_at 0 Spelling))) (after_frozen words job inputs) _ _ _ bytes _
-    (rw c.frozen_cause-long.ensures at c.in_ok-bytes.ensures.goes)
+    (goes-then gives (file words.frozen longest_file (frozen_refusal words (error_at 0 Spelling)))
+    (after_frozen words job inputs) _ _ _ bytes _ (rw c.frozen_cause-long.ensures at c.in_ok-bytes.ensures.goes)
     (goes-judged gives run_itself (run_or_refusal words job inputs bytes) (Err c.in_err-run.field-0.0) _
-    (subst (λ (read : List ℕ). Agrees run_itself (run_or_refusal words job inputs read) (Err c.in_err-run.field-0.0)) c.as_slice.ensures.value
-    c.in_err-run.ensures)))
+    (subst (λ (read : List ℕ). Agrees run_itself (run_or_refusal words job inputs read) (Err c.in_err-run.field-0.0))
+    c.as_slice.ensures.value c.in_err-run.ensures)))
 
 pub returns : goal.returns
 returns g c =
@@ -44,8 +44,8 @@ returns g c =
     let job = job_value c.args.job in
     let inputs = map inputs_value c.args.inputs.items in
     let bytes = c.in_ok-bytes.bytes.items in
-    goes-then gives (file words.frozen longest_file (frozen_refusal words (error_at 0 Spelling))) (after_frozen words job inputs) _ _ _ bytes _
-    (rw c.frozen_cause-long.ensures at c.in_ok-bytes.ensures.goes)
+    goes-then gives (file words.frozen longest_file (frozen_refusal words (error_at 0 Spelling)))
+    (after_frozen words job inputs) _ _ _ bytes _ (rw c.frozen_cause-long.ensures at c.in_ok-bytes.ensures.goes)
     (goes-judged gives run_itself (run_or_refusal words job inputs bytes) (Ok c.in_ok-run.run') _
-    (subst (λ (read : List ℕ). Agrees run_itself (run_or_refusal words job inputs read) (Ok c.in_ok-run.run')) c.as_slice.ensures.value
-    c.in_ok-run.ensures))
+    (subst (λ (read : List ℕ). Agrees run_itself (run_or_refusal words job inputs read) (Ok c.in_ok-run.run'))
+    c.as_slice.ensures.value c.in_ok-run.ensures))

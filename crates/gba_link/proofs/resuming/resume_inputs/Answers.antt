@@ -20,12 +20,14 @@ returns-in-Err-Frozen c =
     let inputs = map inputs_value c.args.inputs.items in
     let said : WholeJob = job_unstated (filled (job_value c.args.job) inputs) in
     let thawed =
-    thawed-as c.thaws_plainly.ensures (job_value c.in-Ok.job) said c.in-Ok.images.items (map images_in inputs) c.in-Ok-log_digest.digest
-    c.args.bytes.now c.in-Ok-start_cut.start c.in-Ok.ensures.filled c.in-Ok.ensures.images c.in-Ok-log_digest.ensures
-    c.in-Ok-start_cut.ensures.start in
-    let refused : thaw_of c.in-Ok-log_digest.digest (job_value c.in-Ok.job).cycles c.in-Ok-start_cut.start c.args.bytes.now
+    thawed-as c.thaws_plainly.ensures (job_value c.in-Ok.job) said c.in-Ok.images.items (map images_in inputs)
+    c.in-Ok-log_digest.digest c.args.bytes.now c.in-Ok-start_cut.start c.in-Ok.ensures.filled c.in-Ok.ensures.images
+    c.in-Ok-log_digest.ensures c.in-Ok-start_cut.ensures.start in
+    let refused : thaw_of c.in-Ok-log_digest.digest (job_value c.in-Ok.job).cycles c.in-Ok-start_cut.start
+    c.args.bytes.now
     ≡ Err c.in-Err-Frozen.error =
-    subst (IsRefusal (thaw_of c.in-Ok-log_digest.digest (job_value c.in-Ok.job).cycles c.in-Ok-start_cut.start c.args.bytes.now))
+    subst (IsRefusal
+    (thaw_of c.in-Ok-log_digest.digest (job_value c.in-Ok.job).cycles c.in-Ok-start_cut.start c.args.bytes.now))
     c.in-Err-Frozen.field-0-is c.in-Err-Frozen.ensures.refused in
     ap (thawed_run words said) (thawed ∙ refused)
     ∙ ap (λ (error : LineError ThawKind). refused_run (frozen_refusal words error)) (sym c.in-Err-Frozen.error-is)

@@ -37,7 +37,8 @@ returns-clause-fit c =
     c.in_ok-images.ensures ∙ ap (map images_of) items ∙ c.fill_job.ensures.images
     ∙ ap (map images_of) c.as_mut_slice.ensures.value ∙ images-are old.items in
     let filled_is : job_value c.fill_job.new.job ≡ filled job inputs =
-    c.fill_job.ensures.filled ∙ ap (λ (xs : List Inputs). filled job (map inputs_value xs)) c.as_mut_slice.ensures.value in
+    c.fill_job.ensures.filled
+    ∙ ap (λ (xs : List Inputs). filled job (map inputs_value xs)) c.as_mut_slice.ensures.value in
     subst (λ (j : WholeJob). FitJob j images) (sym filled_is)
     (subst (λ (ones : List ConsoleImages). FitJob (filled job inputs) ones) (sym kept)
     (inputs-fit job.consoles inputs c.requires.inputs))

@@ -14,5 +14,5 @@ returns-in_err-job g c =
 pub returns : goal.returns
 returns g c =
     let words = run_words_value c.args.words.now in
-    goes-then g.S.Store.gives (job_plan words) (run_plan words) _ _ _ (job_value c.in_ok-job.job) _ c.in_ok-job.ensures.goes
-    c.prepare_job.ensures
+    goes-then g.S.Store.gives (job_plan words) (run_plan words) _ _ _ (job_value c.in_ok-job.job) _
+    c.in_ok-job.ensures.goes c.prepare_job.ensures

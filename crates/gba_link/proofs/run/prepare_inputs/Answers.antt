@@ -14,6 +14,7 @@ returns c =
     let first = map output_value c.args.first.items in
     let made = c.in_ok-job in
     c.in_ok-run.ensures
-    ∙ ap (λ (ones : List ConsoleImages). after_files first (run_under out (job_value made.job) ones)) made.ensures.images
+    ∙ ap (λ (ones : List ConsoleImages). after_files first (run_under out (job_value made.job) ones))
+    made.ensures.images
     ∙ ap (λ (j : WholeJob). after_files first (run_under out j (map images_in (map inputs_value c.args.inputs.items))))
     made.ensures.filled

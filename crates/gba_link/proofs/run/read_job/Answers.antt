@@ -18,8 +18,8 @@ returns-in_err-bytes-clause-goes g c =
     let gives = g.S.Store.gives in
     let p = err_from_is_err_and c.from_residual.result c.from_residual.ensures.1 in
     rw (p.1, p.2)
-    (goes-stop gives (file words.job longest_job (job_refusal words (error_at 0 Long))) (after_job_for frozen more words) _ _ _
-    (rw c.name_in_report.ensures at c.in_err-bytes.ensures.goes))
+    (goes-stop gives (file words.job longest_job (job_refusal words (error_at 0 Long)))
+    (after_job_for frozen more words) _ _ _ (rw c.name_in_report.ensures at c.in_err-bytes.ensures.goes))
 
 pub returns-clause-goes : goal.returns-clause-goes
 returns-clause-goes g c =
@@ -28,7 +28,7 @@ returns-clause-goes g c =
     let more = option_map (λ one. one.now) c.args.more in
     let gives = g.S.Store.gives in
     let bytes = c.in_ok-bytes.bytes.items in
-    goes-then gives (file words.job longest_job (job_refusal words (error_at 0 Long))) (after_job_for frozen more words) _ _ _ bytes _
-    (rw c.name_in_report.ensures at c.in_ok-bytes.ensures.goes)
+    goes-then gives (file words.job longest_job (job_refusal words (error_at 0 Long))) (after_job_for frozen more words)
+    _ _ _ bytes _ (rw c.name_in_report.ensures at c.in_ok-bytes.ensures.goes)
     (goes-judged gives job_value (job_or_refusal_for frozen more words bytes) c.accepted_job.result _
     (rw c.as_slice.ensures.value at c.accepted_job.ensures.agrees))

@@ -16,11 +16,13 @@ returns-clause-text c =
     let inputs = map inputs_value c.args.inputs.items in
     let from = c.args.first in
     let many = c.args.count in
-    let told = c.trace.ensures.text (start_of (job_value made.job) made.images.items) (ap sheared c.in_ok-cut.ensures.start) in
+    let told =
+    c.trace.ensures.text (start_of (job_value made.job) made.images.items) (ap sheared c.in_ok-cut.ensures.start) in
     subst (λ (j : WholeJob). IfOk c.trace.result (λ traced.
     traced.text.items ≡ trace_text from many j.cycles (start_of j (map images_in inputs)))) made.ensures.filled
     (subst (λ (ones : List ConsoleImages). IfOk c.trace.result (λ traced.
-    traced.text.items ≡ trace_text from many made.job.cycles (start_of (job_value made.job) ones))) made.ensures.images told)
+    traced.text.items ≡ trace_text from many made.job.cycles (start_of (job_value made.job) ones)))
+    made.ensures.images told)
 
 pub returns-clause-lines : goal.returns-clause-lines
 returns-clause-lines c =
@@ -28,8 +30,10 @@ returns-clause-lines c =
     let inputs = map inputs_value c.args.inputs.items in
     let from = c.args.first in
     let many = c.args.count in
-    let told = c.trace.ensures.lines (start_of (job_value made.job) made.images.items) (ap sheared c.in_ok-cut.ensures.start) in
+    let told =
+    c.trace.ensures.lines (start_of (job_value made.job) made.images.items) (ap sheared c.in_ok-cut.ensures.start) in
     subst (λ (j : WholeJob). IfOk c.trace.result (λ traced.
     traced.lines ≡ trace_count from many j.cycles (start_of j (map images_in inputs)))) made.ensures.filled
     (subst (λ (ones : List ConsoleImages). IfOk c.trace.result (λ traced.
-    traced.lines ≡ trace_count from many made.job.cycles (start_of (job_value made.job) ones))) made.ensures.images told)
+    traced.lines ≡ trace_count from many made.job.cycles (start_of (job_value made.job) ones)))
+    made.ensures.images told)

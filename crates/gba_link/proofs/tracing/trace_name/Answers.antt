@@ -5,6 +5,8 @@ use Rattle.gba_link.proofs.tracing.trace_name.Goals as goal
 pub returns-clause-short : goal.returns-clause-short
 returns-clause-short c =
     let count : string_len c.in_ok-name.name ≡ length (string_bytes c.in_ok-name.name) = search rules in
-    let text : length (string_bytes c.in_ok-name.name) ≡ length (c.args.out.now ++ codes ".trace") = ap length c.in_ok-name.ensures.ok in
-    let sum : length (c.args.out.now ++ codes ".trace") ≡ length c.args.out.now + 6 = length-append c.args.out.now (codes ".trace") in
+    let text : length (string_bytes c.in_ok-name.name) ≡ length (c.args.out.now ++ codes ".trace") =
+    ap length c.in_ok-name.ensures.ok in
+    let sum : length (c.args.out.now ++ codes ".trace") ≡ length c.args.out.now + 6 =
+    length-append c.args.out.now (codes ".trace") in
     omega arith

@@ -18,7 +18,8 @@ loop-player-preserved c =
     let consoles = c.args.consoles.now in
     let i = c.loop-player.player in
     let console = c.index-consoles-player.result in
-    let here = ap length (consoles_text-at console_value consoles i console c.loop-player-test.true c.index-consoles-player.is) in
+    let here =
+    ap length (consoles_text-at console_value consoles i console c.loop-player-test.true c.index-consoles-player.is) in
     let parts = length-append (console_text i (console_value console)) (consoles_text (i + 1)
     (map console_value (drop (i + 1) consoles))) in (
       omega (arith, here, parts, c.console_len-total.ensures.value, c.loop-player.invariant.0),

@@ -20,7 +20,8 @@ add_console-requires c =
       room = printed-room c.args.into.now c.loop-player.into (consoles_text 0 (map console_value consoles))
           (console_text i (console_value console)) (consoles_text (i + 1) (map console_value (drop (i + 1) consoles)))
           c.requires.room
-          (rw (consoles_text-at console_value consoles i console c.loop-player-test.true c.index-consoles-player.is) at c.loop-player.invariant);
+          (rw (consoles_text-at console_value consoles i console c.loop-player-test.true c.index-consoles-player.is)
+          at c.loop-player.invariant);
     }
 
 pub loop-player-preserved : goal.loop-player-preserved
@@ -28,9 +29,11 @@ loop-player-preserved c =
     let consoles = c.args.consoles.now in
     let i = c.loop-player.player in
     let console = c.index-consoles-player.result in
-    printed-more c.args.into.now c.loop-player.into c.add_console.new.into (consoles_text 0 (map console_value consoles))
+    printed-more c.args.into.now c.loop-player.into c.add_console.new.into
+    (consoles_text 0 (map console_value consoles))
     (console_text i (console_value console)) (consoles_text (i + 1) (map console_value (drop (i + 1) consoles)))
-    (rw (consoles_text-at console_value consoles i console c.loop-player-test.true c.index-consoles-player.is) at c.loop-player.invariant)
+    (rw (consoles_text-at console_value consoles i console c.loop-player-test.true c.index-consoles-player.is)
+    at c.loop-player.invariant)
     c.add_console.ensures
 
 pub returns : goal.returns

@@ -10,8 +10,12 @@ loop-place-init c = filled-none (λ place. number_cut 32 (tone_field place) c.ar
 
 pub loop-place-preserved : goal.loop-place-preserved
 loop-place-preserved c =
-    filled-more (λ place. number_cut 32 (tone_field place) c.args.numbers.now) 33 c.loop-place.place _ c.loop-place.values (omega arith)
-    (c.word_number.ensures ∙ ap (λ (f : BoardField). number_cut 32 f c.args.numbers.now) c.tone_field.ensures.field) c.loop-place.invariant
+    filled-more (λ place. number_cut 32 (tone_field place) c.args.numbers.now) 33 c.loop-place.place _
+    c.loop-place.values (omega arith)
+    (c.word_number.ensures ∙ ap (λ (f : BoardField). number_cut 32 f c.args.numbers.now) c.tone_field.ensures.field)
+    c.loop-place.invariant
 
 pub returns : goal.returns
-returns c = filled-all (λ place. number_cut 32 (tone_field place) c.args.numbers.now) 33 c.loop-place.place c.loop-place.values (omega arith) c.loop-place.invariant
+returns c =
+    filled-all (λ place. number_cut 32 (tone_field place) c.args.numbers.now) 33 c.loop-place.place c.loop-place.values
+    (omega arith) c.loop-place.invariant

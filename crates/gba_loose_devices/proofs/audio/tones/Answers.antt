@@ -10,4 +10,5 @@ sound-again numbers own bank0 own0 bank1 own1 halves ones a b c d sound =
 
 pub of-requires : goal.of-requires
 of-requires c =
-    sound-again _ _ _ _ _ _ _ _ c.tone_numbers-values.ensures c.wave-bank0.ensures c.wave-bank1.ensures c.tone_halves.ensures c.requires
+    sound-again _ _ _ _ _ _ _ _ c.tone_numbers-values.ensures c.wave-bank0.ensures c.wave-bank1.ensures
+    c.tone_halves.ensures c.requires

@@ -9,8 +9,8 @@ loop-place-init c = filled-none (λ k. get_or (wave_in c.args.bank c.args.number
 
 pub loop-place-preserved : goal.loop-place-preserved
 loop-place-preserved c =
-    filled-more (λ k. get_or (wave_in c.args.bank c.args.numbers.now) k 0 % 2 ^ 8) 16 c.loop-place.place _ c.loop-place.bytes
-    (omega arith)
+    filled-more (λ k. get_or (wave_in c.args.bank c.args.numbers.now) k 0 % 2 ^ 8) 16 c.loop-place.place _
+    c.loop-place.bytes (omega arith)
     (c.byte_number.ensures
     ∙ ap (λ (v : ℕ). v % 2 ^ 8) (wave-value c.args.bank c.loop-place.place c.args.numbers.now c.requires (omega arith)))
     c.loop-place.invariant

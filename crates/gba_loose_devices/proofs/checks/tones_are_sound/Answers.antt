@@ -9,5 +9,5 @@ pub returns-clause-sound : goal.returns-clause-sound
 returns-clause-sound c =
     λ test.
     let is : are_sound_tones (tone_numbers c.args.numbers.now) (tone_halves c.args.io.now) ≡ true = cc in
-    sound-tones (tone_numbers c.args.numbers.now) (bytes_cut c.args.numbers.now.wave0) (bytes_cut c.args.numbers.now.wave1)
-    (tone_halves c.args.io.now) is
+    sound-tones (tone_numbers c.args.numbers.now) (bytes_cut c.args.numbers.now.wave0)
+    (bytes_cut c.args.numbers.now.wave1) (tone_halves c.args.io.now) is

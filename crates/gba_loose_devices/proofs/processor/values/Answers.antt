@@ -9,7 +9,10 @@ loop-place-init c = filled-none (λ place. value_of (Register place) c.args.numb
 
 pub loop-place-preserved : goal.loop-place-preserved
 loop-place-preserved c =
-    filled-more (λ place. value_of (Register place) c.args.numbers.now % 2 ^ 32) 37 c.loop-place.place _ c.loop-place.values (omega arith) c.register.ensures c.loop-place.invariant
+    filled-more (λ place. value_of (Register place) c.args.numbers.now % 2 ^ 32) 37 c.loop-place.place _
+    c.loop-place.values (omega arith) c.register.ensures c.loop-place.invariant
 
 pub returns : goal.returns
-returns c = filled-all (λ place. value_of (Register place) c.args.numbers.now % 2 ^ 32) 37 c.loop-place.place c.loop-place.values (omega arith) c.loop-place.invariant
+returns c =
+    filled-all (λ place. value_of (Register place) c.args.numbers.now % 2 ^ 32) 37 c.loop-place.place
+    c.loop-place.values (omega arith) c.loop-place.invariant

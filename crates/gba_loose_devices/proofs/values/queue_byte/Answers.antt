@@ -18,4 +18,5 @@ returns c =
     let short = queue-short c.args.queue c.args.numbers.now c.requires.queue c.is_whole.ensures in
     ap (λ (v : ℕ). v % 2 ^ 8)
     (c.value.ensures
-    ∙ queue-value c.args.queue c.args.place c.args.numbers.now c.requires.queue (omega (arith, short, c.requires.place)))
+    ∙ queue-value c.args.queue c.args.place c.args.numbers.now c.requires.queue
+    (omega (arith, short, c.requires.place)))

@@ -8,7 +8,9 @@ loop-place-init c = filled-none (λ place. half_at (2 * place) c.args.io.now) 43
 
 pub loop-place-preserved : goal.loop-place-preserved
 loop-place-preserved c =
-    filled-more (λ place. half_at (2 * place) c.args.io.now) 43 c.loop-place.place _ c.loop-place.halves (omega arith) c.half.ensures c.loop-place.invariant
+    filled-more (λ place. half_at (2 * place) c.args.io.now) 43 c.loop-place.place _ c.loop-place.halves
+    (omega arith) c.half.ensures c.loop-place.invariant
 
 pub returns : goal.returns
-returns c = filled-all (λ place. half_at (2 * place) c.args.io.now) 43 c.loop-place.place c.loop-place.halves (omega arith) c.loop-place.invariant
+returns c = filled-all (λ place. half_at (2 * place) c.args.io.now) 43 c.loop-place.place c.loop-place.halves
+    (omega arith) c.loop-place.invariant

@@ -12,6 +12,6 @@ returns c =
     record {
       count = together_count 8 r.result g.result b.result r.ensures.count g.ensures.count b.ensures.count;
       lanes = λ i h.
-          together_at 8 r.result g.result b.result i _ _ _ r.ensures.count g.ensures.count b.ensures.count h (r.ensures.lanes i h)
-          (g.ensures.lanes i h) (b.ensures.lanes i h) (omega arith) (omega arith) (omega arith);
+          together_at 8 r.result g.result b.result i _ _ _ r.ensures.count g.ensures.count b.ensures.count h
+          (r.ensures.lanes i h) (g.ensures.lanes i h) (b.ensures.lanes i h) (omega arith) (omega arith) (omega arith);
     }

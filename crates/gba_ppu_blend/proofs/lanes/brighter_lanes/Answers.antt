@@ -13,7 +13,9 @@ returns c =
       count = together_count 8 r.result g.result b.result r.ensures.count g.ensures.count b.ensures.count;
       lanes = λ i h.
           let colour = slice_index c.args.colours i in
-          together_at 8 r.result g.result b.result i _ _ _ r.ensures.count g.ensures.count b.ensures.count h (r.ensures.lanes i h)
+          together_at 8 r.result g.result b.result i _ _ _ r.ensures.count g.ensures.count b.ensures.count h
+          (r.ensures.lanes i h)
           (g.ensures.lanes i h) (b.ensures.lanes i h) (brighter_most c.args.evy _ c.requires (field_fits colour 0))
-          (brighter_most c.args.evy _ c.requires (field_fits colour 5)) (brighter_most c.args.evy _ c.requires (field_fits colour 10));
+          (brighter_most c.args.evy _ c.requires (field_fits colour 5))
+          (brighter_most c.args.evy _ c.requires (field_fits colour 10));
     }

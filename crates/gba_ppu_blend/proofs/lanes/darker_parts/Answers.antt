@@ -8,5 +8,6 @@ returns c = record {
   lanes = λ i h.
       let p = c.parts-part.ensures.lanes i h in
       let x : get_or c.parts-part.result i 0 ≤ 31 = omega (arith, p) in
-      darker_at 8 c.args.evy c.args.low c.parts-part.result i c.requires.evy c.requires.low c.parts-part.ensures.count h x ∙ rw p;
+      darker_at 8 c.args.evy c.args.low c.parts-part.result i c.requires.evy c.requires.low c.parts-part.ensures.count h
+      x ∙ rw p;
 }

@@ -11,7 +11,8 @@ loop-number-preserved c =
     record {
       firsts = λ k h.
           ⊎_elim
-          (λ (low : k < number). get_or-set_other paints (16 * number) (16 * k) 0x8000 0 (λ e. omega (arith, e, low)) ∙ was.firsts k low)
+          (λ (low : k < number). get_or-set_other paints (16 * number) (16 * k) 0x8000 0 (λ e. omega (arith, e, low))
+          ∙ was.firsts k low)
           (λ (high : number ≤ k).
           let e : number ≡ k = omega arith in
           let P : ℕ → Type 0 = λ j. slice_index (slice_set paints (16 * number) 0x8000) (16 * j) ≡ 0x8000 in

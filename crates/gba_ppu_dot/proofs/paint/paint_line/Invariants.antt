@@ -4,4 +4,5 @@ use Rattle.gba_ppu_dot.specs.Paints.{paint_of}
 use Rattle.gba_ppu_dot.proofs.paint.paint_line.Given as goal
 
 abbrev pub invariant-loop-part : goal.invariant-loop-part
-invariant-loop-part l = (k : ℕ) → k < 8 * l.part → slice_index l.paints k ≡ paint_of l.palette (slice_index_or l.dots k clear_dot)
+invariant-loop-part l =
+    (k : ℕ) → k < 8 * l.part → slice_index l.paints k ≡ paint_of l.palette (slice_index_or l.dots k clear_dot)

@@ -4,4 +4,5 @@ use Rattle.gba_psr.proofs.FlagsApart.{own_flags}
 use Rattle.gba_psr.proofs.apart.part.Goals as goal
 
 pub returns : goal.returns
-returns c = ap (with_flags c.args.file) (c.new.ensures ∙ c.flags-flags.ensures) ∙ own_flags c.args.file c.cpsr.ensures.file
+returns c =
+    ap (with_flags c.args.file) (c.new.ensures ∙ c.flags-flags.ensures) ∙ own_flags c.args.file c.cpsr.ensures.file

@@ -5,7 +5,8 @@ use Rattle.gba_psr.proofs.banks.change_bank.Goals as goal
 
 pub returns-then-from-to : goal.returns-then-from-to
 returns-then-from-to c = λ place within.
-    c.exchange-then-from-to.ensures place within ∙ c.exchange.ensures (seat c.args.to place) (seat_within c.args.to place within)
+    c.exchange-then-from-to.ensures place within
+    ∙ c.exchange.ensures (seat c.args.to place) (seat_within c.args.to place within)
 
 pub returns-else-from-to : goal.returns-else-from-to
 returns-else-from-to c = λ place within.

@@ -16,7 +16,8 @@ loop-number-preserved c =
     let near : distance ≤ 16 = grind (arith, nat_tests) in
     let from : number < length c.loop-number.numbers = omega arith in
     let to : number + distance < length c.loop-number.numbers = omega arith in
-    let swapped = swapped_from_swap c.loop-number.numbers c.swap.new.self number (number + distance) 0 from to c.swap.ensures.after in
+    let swapped =
+    swapped_from_swap c.loop-number.numbers c.swap.new.self number (number + distance) 0 from to c.swap.ensures.after in
     crossed_more c.args.numbers.now c.loop-number.numbers c.swap.new.self first number distance apart
     c.loop-number.auto.number c.loop-number-test.true (omega arith) c.loop-number.invariant swapped
 

@@ -11,7 +11,8 @@ pub returns-clause-file : goal.returns-clause-file
 returns-clause-file c = file-with_status
 
 pub returns-clause-saved : goal.returns-clause-saved
-returns-clause-saved c = λ file value is own. saved_status-own_saved file value is.count (λ none. own ((saved_banked (mode file)).1 none))
+returns-clause-saved c =
+    λ file value is own. saved_status-own_saved file value is.count (λ none. own ((saved_banked (mode file)).1 none))
 
 pub returns-clause-none_saved : goal.returns-clause-none_saved
 returns-clause-none_saved c = λ file value none. unsaved_kept file value ((saved_banked (mode file)).0 none)

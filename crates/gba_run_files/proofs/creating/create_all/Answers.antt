@@ -22,7 +22,8 @@ pub returns-in_err-create_outputs : goal.returns-in_err-create_outputs
 returns-in_err-create_outputs g c = λ files bytes many.
     let outputs = outputs_of (map names_value c.args.names.now) (map console_value c.args.consoles.now) files in
     let last = last_output (option_map (λ name. name.now) c.args.last) bytes in
-    let p = err_from_is_err_and c.from_residual-in_err-create_outputs.result c.from_residual-in_err-create_outputs.ensures.1 in
+    let p =
+    err_from_is_err_and c.from_residual-in_err-create_outputs.result c.from_residual-in_err-create_outputs.ensures.1 in
     rw (p.1, p.2)
     (files-then g.O.Sink.Tells creation (map output_value c.args.first.now) (outputs ++ last) _ _ _ _
     c.in_ok-create_files.ensures

@@ -26,7 +26,8 @@ returns-in_err-create_if g c = λ files.
     ap string_bytes c.at.ensures ∙ sym (at-per_kind (λ k. string_bytes (at_kind c.args.names.now.each k)) kind) in
     let p = err_from_is_err_and c.from_residual.result c.from_residual.ensures.1 in
     rw (p.1, p.2)
-    (leads-broken g.O.Sink.Tells creation _ (flat_map f (drop i all_kinds)) (f kind) (flat_map f (drop (i + 1) all_kinds)) _ _
+    (leads-broken g.O.Sink.Tells creation _ (flat_map f (drop i all_kinds)) (f kind)
+    (flat_map f (drop (i + 1) all_kinds)) _ _
     (flat-more f all_kinds i Frames c.loop-kind-test.true) (c.loop-kind.invariant files) _ _
     (rw (c.asks_for.ensures, name) at (c.in_err-create_if.ensures (at_kind files kind))) (stopped _))
 
@@ -37,7 +38,8 @@ loop-kind-preserved g c = λ files.
     let f = kind_output (names_value c.args.names.now) (console_value c.args.console.now) files in
     let name : string_bytes c.at.result.now ≡ at_kind (names_value c.args.names.now) kind =
     ap string_bytes c.at.ensures ∙ sym (at-per_kind (λ k. string_bytes (at_kind c.args.names.now.each k)) kind) in
-    leads-files g.O.Sink.Tells creation _ (flat_map f (drop i all_kinds)) (f kind) (flat_map f (drop (i + 1) all_kinds)) _ _
+    leads-files g.O.Sink.Tells creation _ (flat_map f (drop i all_kinds)) (f kind)
+    (flat_map f (drop (i + 1) all_kinds)) _ _
     (flat-more f all_kinds i Frames c.loop-kind-test.true) (c.loop-kind.invariant files) _
     (rw (c.asks_for.ensures, name) at (c.in_ok-create_if.ensures (at_kind files kind)))
 

@@ -24,9 +24,12 @@ returns-in_err-create_console g c = λ files many.
     (leads-broken g.O.Sink.Tells creation _
     (outputs_of (drop i (map names_value names)) (drop i (map console_value consoles)) (drop i files))
     (console_outputs one (console_value c.index-consoles-player.result) f)
-    (outputs_of (drop (i + 1) (map names_value names)) (drop (i + 1) (map console_value consoles)) (drop (i + 1) files)) _ _
-    (outputs-here names consoles files i c.index-names-player.result c.index-consoles-player.result one (omega (arith, c.loop-player-test.true, c.requires))
-    (omega (arith, c.loop-player-test.true)) (omega (arith, c.loop-player-test.true, many)) c.index-names-player.is c.index-consoles-player.is)
+    (outputs_of (drop (i + 1) (map names_value names)) (drop (i + 1) (map console_value consoles)) (drop (i + 1) files))
+    _ _
+    (outputs-here names consoles files i c.index-names-player.result c.index-consoles-player.result one
+    (omega (arith, c.loop-player-test.true, c.requires))
+    (omega (arith, c.loop-player-test.true)) (omega (arith, c.loop-player-test.true, many)) c.index-names-player.is
+    c.index-consoles-player.is)
     (c.loop-player.invariant files many) _ _ (c.in_err-create_console.ensures f) (stopped _))
 
 pub loop-player-preserved : goal.loop-player-preserved
@@ -39,9 +42,12 @@ loop-player-preserved g c = λ files many.
     leads-files g.O.Sink.Tells creation _
     (outputs_of (drop i (map names_value names)) (drop i (map console_value consoles)) (drop i files))
     (console_outputs one (console_value c.index-consoles-player.result) f)
-    (outputs_of (drop (i + 1) (map names_value names)) (drop (i + 1) (map console_value consoles)) (drop (i + 1) files)) _ _
-    (outputs-here names consoles files i c.index-names-player.result c.index-consoles-player.result one (omega (arith, c.loop-player-test.true, c.requires))
-    (omega (arith, c.loop-player-test.true)) (omega (arith, c.loop-player-test.true, many)) c.index-names-player.is c.index-consoles-player.is)
+    (outputs_of (drop (i + 1) (map names_value names)) (drop (i + 1) (map console_value consoles)) (drop (i + 1) files))
+    _ _
+    (outputs-here names consoles files i c.index-names-player.result c.index-consoles-player.result one
+    (omega (arith, c.loop-player-test.true, c.requires))
+    (omega (arith, c.loop-player-test.true)) (omega (arith, c.loop-player-test.true, many)) c.index-names-player.is
+    c.index-consoles-player.is)
     (c.loop-player.invariant files many) _ (c.in_ok-create_console.ensures f)
 
 pub returns : goal.returns

@@ -12,6 +12,6 @@ abbrev pub invariant-loop-player : goal.invariant-loop-player
 invariant-loop-player g l =
     (files : List (PerKind (List ℕ))) → length files ≡ length l.fn.consoles → Leads g.O.Sink.Tells
     (map creation (outputs_of (map names_value l.fn.names) (map console_value l.fn.consoles) files))
-    (map creation (outputs_of (drop l.player (map names_value l.fn.names)) (drop l.player (map console_value l.fn.consoles))
-    (drop l.player files)))
+    (map creation (outputs_of (drop l.player (map names_value l.fn.names))
+    (drop l.player (map console_value l.fn.consoles)) (drop l.player files)))
     (g.O.Sink.state l.fn.out) (g.O.Sink.state l.out)

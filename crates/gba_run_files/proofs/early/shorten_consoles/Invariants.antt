@@ -5,4 +5,5 @@ use Rattle.gba_run_files.specs.Frozen.{console_so_far}
 use Rattle.gba_run_files.proofs.early.shorten_consoles.Given as goal
 
 abbrev pub invariant-loop-place : goal.invariant-loop-place
-invariant-loop-place l = changed_from console_so_far l.consoles l.place ≡ map console_so_far (map console_value l.initial.consoles)
+invariant-loop-place l =
+    changed_from console_so_far l.consoles l.place ≡ map console_so_far (map console_value l.initial.consoles)

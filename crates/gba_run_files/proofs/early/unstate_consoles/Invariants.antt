@@ -5,4 +5,5 @@ use Rattle.gba_run_files.specs.Frozen.{console_unstated}
 use Rattle.gba_run_files.proofs.early.unstate_consoles.Given as goal
 
 abbrev pub invariant-loop-place : goal.invariant-loop-place
-invariant-loop-place l = changed_from console_unstated l.consoles l.place ≡ map console_unstated (map console_value l.initial.consoles)
+invariant-loop-place l =
+    changed_from console_unstated l.consoles l.place ≡ map console_unstated (map console_value l.initial.consoles)

@@ -11,4 +11,5 @@ returns-clause-sound c = λ sound. subst IsJob (sym c.unstate.ensures) (job-unst
 
 pub returns-clause-fit : goal.returns-clause-fit
 returns-clause-fit c = λ images fit.
-    subst (λ (job : WholeJob). FitJob job images) (sym c.unstate.ensures) (unstated-fit (job_value c.args.job).consoles images fit)
+    subst (λ (job : WholeJob). FitJob job images) (sym c.unstate.ensures)
+    (unstated-fit (job_value c.args.job).consoles images fit)

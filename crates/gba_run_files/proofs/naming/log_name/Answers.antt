@@ -5,6 +5,8 @@ use Rattle.gba_run_files.proofs.naming.log_name.Goals as goal
 pub returns-clause-short : goal.returns-clause-short
 returns-clause-short c =
     let count : string_len c.in_ok-name.name ≡ length (string_bytes c.in_ok-name.name) = search rules in
-    let text : length (string_bytes c.in_ok-name.name) ≡ length (c.args.out.now ++ codes ".log") = ap length c.in_ok-name.ensures.ok in
-    let sum : length (c.args.out.now ++ codes ".log") ≡ length c.args.out.now + 4 = length-append c.args.out.now (codes ".log") in
+    let text : length (string_bytes c.in_ok-name.name) ≡ length (c.args.out.now ++ codes ".log") =
+    ap length c.in_ok-name.ensures.ok in
+    let sum : length (c.args.out.now ++ codes ".log") ≡ length c.args.out.now + 4 =
+    length-append c.args.out.now (codes ".log") in
     omega arith

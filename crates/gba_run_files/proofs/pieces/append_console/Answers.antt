@@ -21,7 +21,8 @@ returns-in_err-append_kind g c = λ m there.
     let f = kind_piece (names_value c.args.names.now) (asks_of (console_value c.args.console.now)) m in
     let p = err_from_is_err_and c.from_residual.result c.from_residual.ensures.1 in
     rw (p.1, p.2)
-    (leads-broken g.O.Sink.Tells addition _ (flat_map f (drop i kinds)) (f (get_or kinds i Frames)) (flat_map f (drop (i + 1) kinds)) _ _
+    (leads-broken g.O.Sink.Tells addition _ (flat_map f (drop i kinds)) (f (get_or kinds i Frames))
+    (flat_map f (drop (i + 1) kinds)) _ _
     (flat-more f kinds i Frames c.loop-place-test.true) (c.loop-place.invariant m there) _ _
     (c.in_err-append_kind.ensures m there) (stopped _))
 
@@ -30,7 +31,8 @@ loop-place-preserved g c = λ m there.
     let i = c.loop-place.place in
     let kinds = c.args.kinds.now in
     let f = kind_piece (names_value c.args.names.now) (asks_of (console_value c.args.console.now)) m in
-    leads-files g.O.Sink.Tells addition _ (flat_map f (drop i kinds)) (f (get_or kinds i Frames)) (flat_map f (drop (i + 1) kinds)) _ _
+    leads-files g.O.Sink.Tells addition _ (flat_map f (drop i kinds)) (f (get_or kinds i Frames))
+    (flat_map f (drop (i + 1) kinds)) _ _
     (flat-more f kinds i Frames c.loop-place-test.true) (c.loop-place.invariant m there) _
     (c.in_ok-append_kind.ensures m there)
 

@@ -31,5 +31,6 @@ returns-else-asks_for g c = λ m there.
     subst (λ (asked : Bool). PerformsAll g.O.Sink.Tells
     (map addition (if asked then piece_if (at_kind names kind) (output_bytes kind m) else []))
     (g.O.Sink.state c.args.out.now) (g.O.Sink.state c.args.out.now) Wrote)
-    (sym (at-per_kind (asks_for (console_value c.args.console.now)) kind ∙ sym c.asks_for.ensures ∙ c.if-asks_for.false))
+    (sym (at-per_kind (asks_for (console_value c.args.console.now)) kind ∙ sym c.asks_for.ensures
+    ∙ c.if-asks_for.false))
     (performs-none g.O.Sink.Tells _)

@@ -10,7 +10,8 @@ use Rattle.gba_run_files.proofs.pieces.append_pieces.Given as goal
 abbrev pub invariant-loop-player : goal.invariant-loop-player
 invariant-loop-player g l =
     Leads g.O.Sink.Tells
-    (map addition (cut_pieces l.fn.kinds (map names_value l.fn.names) l.fn.session.asks (segment_cut l.fn.session).consoles))
+    (map addition
+    (cut_pieces l.fn.kinds (map names_value l.fn.names) l.fn.session.asks (segment_cut l.fn.session).consoles))
     (map addition (cut_pieces l.fn.kinds (drop l.player (map names_value l.fn.names)) (drop l.player l.fn.session.asks)
     (drop l.player (segment_cut l.fn.session).consoles)))
     (g.O.Sink.state l.fn.out) (g.O.Sink.state l.out)

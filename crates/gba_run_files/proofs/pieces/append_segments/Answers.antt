@@ -23,10 +23,12 @@ loop-later-init g c =
     let s = c.args.first in
     let n = c.args.until / 16777216 in
     let most : later_segments s ≡ n - 0 = omega (arith, c.requires.until) in (
-      subst (λ (k : ℕ). Leads g.O.Sink.Tells (map addition (left_pieces names s)) (map addition (segment_pieces k names s))
+      subst (λ (k : ℕ). Leads g.O.Sink.Tells (map addition (left_pieces names s))
+          (map addition (segment_pieces k names s))
           (g.O.Sink.state c.args.out.now) (g.O.Sink.state c.append_segment.new.out)) most
           (leads-files g.O.Sink.Tells addition (map addition (left_pieces names s)) (left_pieces names s)
-          (cut_pieces growing_kinds names s.asks (segment_cut s).consoles) (segment_pieces (later_segments s) names s) _ _ refl
+          (cut_pieces growing_kinds names s.asks (segment_cut s).consoles) (segment_pieces (later_segments s) names s)
+          _ _ refl
           (leads-first g.O.Sink.Tells (map addition (left_pieces names s)) _) _ c.in_ok-append_segment.ensures),
       record { start = refl; until = refl; asks = refl },
       comes-first s (omega (arith, c.requires.begun, c.requires.until)),
@@ -45,12 +47,15 @@ returns-in_err-append_segment-2-clause-pieces g c =
     let n = c.args.until / 16777216 in
     let i = c.loop-later._later in
     let left : is_over s ≡ false = sym c.finished.ensures ∙ c.if-finished.false in
-    let p = err_from_is_err_and c.from_residual-in_err-append_segment-2.result c.from_residual-in_err-append_segment-2.ensures.1 in
+    let p =
+    err_from_is_err_and c.from_residual-in_err-append_segment-2.result
+    c.from_residual-in_err-append_segment-2.ensures.1 in
     rw (p.1, p.2)
-    (leads-broken g.O.Sink.Tells addition (map addition (left_pieces names c.args.first)) (segment_pieces (n - i) names s)
+    (leads-broken g.O.Sink.Tells addition (map addition (left_pieces names c.args.first))
+    (segment_pieces (n - i) names s)
     (cut_pieces growing_kinds names t.asks (segment_cut t).consoles) (segment_pieces (n - (i + 1)) names t) _ _
-    (next-at n i names s t (omega (arith, c.loop-later-test.true)) left c.advance-session.ensures) c.loop-later.invariant.0
-    _ _ c.in_err-append_segment-2.ensures (stopped _))
+    (next-at n i names s t (omega (arith, c.loop-later-test.true)) left c.advance-session.ensures)
+    c.loop-later.invariant.0 _ _ c.in_err-append_segment-2.ensures (stopped _))
 
 pub loop-later-preserved : goal.loop-later-preserved
 loop-later-preserved g c =
@@ -60,7 +65,8 @@ loop-later-preserved g c =
     let n = c.args.until / 16777216 in
     let i = c.loop-later._later in
     let left : is_over s ≡ false = sym c.finished.ensures ∙ c.if-finished.false in (
-      leads-files g.O.Sink.Tells addition (map addition (left_pieces names c.args.first)) (segment_pieces (n - i) names s)
+      leads-files g.O.Sink.Tells addition (map addition (left_pieces names c.args.first))
+          (segment_pieces (n - i) names s)
           (cut_pieces growing_kinds names t.asks (segment_cut t).consoles) (segment_pieces (n - (i + 1)) names t) _ _
           (next-at n i names s t (omega (arith, c.loop-later-test.true)) left c.advance-session.ensures)
           c.loop-later.invariant.0 _ c.in_ok-append_segment-2.ensures,
@@ -88,7 +94,8 @@ returns-clause-pieces g c =
     let i = c.loop-later._later in
     let left = segment_pieces (c.args.until / 16777216 - i) names s in
     let over : is_over s ≡ true =
-    comes-over i s (omega (arith, c.loop-later-test.false, c.loop-later.invariant.1.until, c.requires.until)) c.loop-later.invariant.2 in
+    comes-over i s (omega (arith, c.loop-later-test.false, c.loop-later.invariant.1.until, c.requires.until))
+    c.loop-later.invariant.2 in
     leads-none g.O.Sink.Tells addition (map addition (left_pieces names c.args.first)) left _ _
     (over-none (c.args.until / 16777216 - i) names s over) c.loop-later.invariant.0
 
@@ -96,5 +103,10 @@ pub returns-clause-last : goal.returns-clause-last
 returns-clause-last g c =
     let s = c.loop-later.session in
     is-last c.args.first s c.loop-later.invariant.1
-    (comes-over c.loop-later._later s (omega (arith, c.loop-later-test.false, c.loop-later.invariant.1.until, c.requires.until))
+    (comes-over c.loop-later._later s (omega (
+      arith,
+      c.loop-later-test.false,
+      c.loop-later.invariant.1.until,
+      c.requires.until,
+    ))
     c.loop-later.invariant.2)

@@ -27,14 +27,22 @@ print-requires-clause-sound c =
     let cut_is = c.as_mut_slice.ensures.value in
     let items : (with_items old new).items ≡ new = with_items_is old new (search (rules, places)) in
     let asked : all_files c.args.session.now.asks ms ≡ made = ap (λ asks. all_files asks ms) c.requires.asks in
-    let consoles : map console_value (with_items old new).items ≡ with_outputs job.consoles (all_outs job.consoles made) =
+    let consoles : map console_value (with_items old new).items
+    ≡ with_outputs job.consoles (all_outs job.consoles made) =
     ap (map console_value) items ∙ c.state_consoles-cause.ensures.consoles
-    ∙ ap (λ cs. with_outputs (map console_value cs) (all_outs (map console_value cs) (all_files c.args.session.now.asks ms))) cut_is
+    ∙ ap (λ cs. with_outputs (map console_value cs)
+    (all_outs (map console_value cs) (all_files c.args.session.now.asks ms))) cut_is
     ∙ ap (λ (files : List (PerKind (List ℕ))). with_outputs job.consoles (all_outs job.consoles files)) asked in
     let whole : with_consoles job (map console_value (with_items old new).items) ≡ logged job made =
     ap (with_consoles job) consoles in
     subst IsJob (sym whole) (logged-sound job made c.requires.sound
-    (omega (arith, c.state_consoles-cause.ensures.many, ap length asked, ap length cut_is, length-map old.items console_value)))
+    (omega (
+      arith,
+      c.state_consoles-cause.ensures.many,
+      ap length asked,
+      ap length cut_is,
+      length-map old.items console_value,
+    )))
 
 pub print-requires-clause-room : goal.print-requires-clause-room
 print-requires-clause-room c =
@@ -46,9 +54,11 @@ print-requires-clause-room c =
     let cut_is = c.as_mut_slice.ensures.value in
     let items : (with_items old new).items ≡ new = with_items_is old new (search (rules, places)) in
     let asked : all_files c.args.session.now.asks ms ≡ made = ap (λ asks. all_files asks ms) c.requires.asks in
-    let consoles : map console_value (with_items old new).items ≡ with_outputs job.consoles (all_outs job.consoles made) =
+    let consoles : map console_value (with_items old new).items
+    ≡ with_outputs job.consoles (all_outs job.consoles made) =
     ap (map console_value) items ∙ c.state_consoles-cause.ensures.consoles
-    ∙ ap (λ cs. with_outputs (map console_value cs) (all_outs (map console_value cs) (all_files c.args.session.now.asks ms))) cut_is
+    ∙ ap (λ cs. with_outputs (map console_value cs)
+    (all_outs (map console_value cs) (all_files c.args.session.now.asks ms))) cut_is
     ∙ ap (λ (files : List (PerKind (List ℕ))). with_outputs job.consoles (all_outs job.consoles files)) asked in
     let whole : with_consoles job (map console_value (with_items old new).items) ≡ logged job made =
     ap (with_consoles job) consoles in

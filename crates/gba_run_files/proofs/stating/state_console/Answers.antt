@@ -55,13 +55,14 @@ loop-kind-preserved c = λ m there.
     ∙ ap (output_differs (at_kind names kind) (output_of console kind)) file in
     let with_outs : PerKind (Option OutLine) → ConsoleJob =
     λ outs. record (console_value c.loop-kind.console) { outs = outs } in
-    let more = one-stated console files kind kinds c.loop-kind.console.outs c.put.new.self c.judge-judged.result.out stated
+    let more =
+    one-stated console files kind kinds c.loop-kind.console.outs c.put.new.self c.judge-judged.result.out stated
     c.put.ensures in
     let later = one-compared (kind_differs names console files) kind kinds (option_map cause_value c.loop-kind.cause)
     (option_map cause_value c.judge-judged.result.cause) (option_map cause_value c.or_later-cause.result) told
     c.or_later-cause.ensures in (
-      ap with_outs (sym more) ∙ ap (λ ks. with_outs (all_with ks (outs_of console files) c.loop-kind.console.outs)) (sym split)
-          ∙ before.0,
+      ap with_outs (sym more)
+          ∙ ap (λ ks. with_outs (all_with ks (outs_of console files) c.loop-kind.console.outs)) (sym split) ∙ before.0,
       sym later
           ∙ ap (λ ks. or_later (option_map cause_value c.loop-kind.cause)
           (first_differs (kind_differs names console files) ks)) (sym split) ∙ before.1,

@@ -74,14 +74,16 @@ loop-player-preserved c =
     let f_is : f ≡ get_or files i f =
     sym (all-files-get asks ms i (asks_of one) m.0 f there (omega (arith, there, many))
     ∙ ap (λ a. files_of a (get_or ms i m.0)) asked ∙ ap (files_of (asks_of one)) (sym m.2)) in
-    subst (λ (cs : List ConsoleJob). Stating names files old (option_map cause_value c.or_later-cause.result) cs (i + 1))
+    subst
+    (λ (cs : List ConsoleJob). Stating names files old (option_map cause_value c.or_later-cause.result) cs (i + 1))
     (sym (map-set console_value c.loop-player.consoles i c.state_console-later.new.console))
     (stating-more names files old cause now i held n f one (console_value c.state_console-later.new.console)
     (option_map cause_value c.state_console-later.result) (option_map cause_value c.or_later-cause.result) within
     (omega (arith, named, length-map c.args.names.now names_value)) (omega (arith, there, files-long asks ms many))
     (sym (get_or-map names_value c.args.names.now i c.index-names-player.result n named
     ∙ ap names_value (sym c.index-names-player.is))) f_is here
-    (c.state_console-later.ensures.console m.0 m.1) (c.state_console-later.ensures.cause m.0 m.1) c.or_later-cause.ensures)
+    (c.state_console-later.ensures.console m.0 m.1) (c.state_console-later.ensures.cause m.0 m.1)
+    c.or_later-cause.ensures)
 
 pub returns-clause-consoles : goal.returns-clause-consoles
 returns-clause-consoles c =

@@ -28,22 +28,26 @@ returns-in_err-create_all-clause-calls g c =
     let last = cut_pieces lasting_kinds names s.asks (whole_cut s).consoles in
     let Tells = g.O.Sink.Tells in
     let old = g.O.Sink.state c.args.out.now in
-    let consoles_are : map console_value c.as_slice-consoles.result.now ≡ job.consoles = ap (map console_value) c.as_slice-consoles.ensures.value in
+    let consoles_are : map console_value c.as_slice-consoles.result.now ≡ job.consoles =
+    ap (map console_value) c.as_slice-consoles.ensures.value in
     λ files bytes long.
-    let made : List Output = first ++ (outputs_of names job.consoles files ++ last_output (option_map (λ name. name.now) c.args.last) bytes) in
+    let made : List Output =
+    first ++ (outputs_of names job.consoles files ++ last_output (option_map (λ name. name.now) c.args.last) bytes) in
     let pieces : run_pieces names s ≡ grown ++ last =
     first-pieces names s c.requires.ready.left in
     let many : length files ≡ length c.as_slice-consoles.result.now =
     long ∙ sym (ap length consoles_are) ∙ length-map c.as_slice-consoles.result.now console_value in
     subst (λ (ps : List Output). PerformsAll Tells (map creation made ++ map addition (first ++ ps)) old
     (g.O.Sink.state c.create_all.new.out) (write_stop_value c.in_err-create_all.field-0.0)) (sym pieces)
-    (stopped-creating Tells made first grown last old (g.O.Sink.state c.create_all.new.out) (write_stop_value c.in_err-create_all.field-0.0)
+    (stopped-creating Tells made first grown last old (g.O.Sink.state c.create_all.new.out)
+    (write_stop_value c.in_err-create_all.field-0.0)
     (rw consoles_are at (c.in_err-create_all.ensures files bytes many)) (stopped c.in_err-create_all.field-0.0))
     )
 
 pub returns-in_err-append_files-clause-calls : goal.returns-in_err-append_files-clause-calls
 returns-in_err-append_files-clause-calls g c =
-    let p = err_from_is_err_and c.from_residual-in_err-append_files.result c.from_residual-in_err-append_files.ensures.1 in
+    let p =
+    err_from_is_err_and c.from_residual-in_err-append_files.result c.from_residual-in_err-append_files.ensures.1 in
     rw (p.1, p.2) (
     let first = map output_value c.args.first.now in
     let names = map names_value c.args.names.now in
@@ -53,9 +57,11 @@ returns-in_err-append_files-clause-calls g c =
     let last = cut_pieces lasting_kinds names s.asks (whole_cut s).consoles in
     let Tells = g.O.Sink.Tells in
     let old = g.O.Sink.state c.args.out.now in
-    let consoles_are : map console_value c.as_slice-consoles.result.now ≡ job.consoles = ap (map console_value) c.as_slice-consoles.ensures.value in
+    let consoles_are : map console_value c.as_slice-consoles.result.now ≡ job.consoles =
+    ap (map console_value) c.as_slice-consoles.ensures.value in
     λ files bytes long.
-    let made : List Output = first ++ (outputs_of names job.consoles files ++ last_output (option_map (λ name. name.now) c.args.last) bytes) in
+    let made : List Output =
+    first ++ (outputs_of names job.consoles files ++ last_output (option_map (λ name. name.now) c.args.last) bytes) in
     let pieces : run_pieces names s ≡ grown ++ last =
     first-pieces names s c.requires.ready.left in
     let many : length files ≡ length c.as_slice-consoles.result.now =
@@ -64,7 +70,8 @@ returns-in_err-append_files-clause-calls g c =
     rw consoles_are at (c.in_ok-create_all.ensures files bytes many) in
     subst (λ (ps : List Output). PerformsAll Tells (map creation made ++ map addition (first ++ ps)) old
     (g.O.Sink.state c.append_files.new.out) (write_stop_value c.in_err-append_files.field-0.0)) (sym pieces)
-    (stopped-first Tells made first grown last old (g.O.Sink.state c.create_all.new.out) created (g.O.Sink.state c.append_files.new.out) (write_stop_value c.in_err-append_files.field-0.0)
+    (stopped-first Tells made first grown last old (g.O.Sink.state c.create_all.new.out) created
+    (g.O.Sink.state c.append_files.new.out) (write_stop_value c.in_err-append_files.field-0.0)
     c.in_err-append_files.ensures (stopped c.in_err-append_files.field-0.0))
     )
 
@@ -80,26 +87,31 @@ returns-in_err-session-clause-calls g c =
     let last = cut_pieces lasting_kinds names s.asks (whole_cut s).consoles in
     let Tells = g.O.Sink.Tells in
     let old = g.O.Sink.state c.args.out.now in
-    let consoles_are : map console_value c.as_slice-consoles.result.now ≡ job.consoles = ap (map console_value) c.as_slice-consoles.ensures.value in
+    let consoles_are : map console_value c.as_slice-consoles.result.now ≡ job.consoles =
+    ap (map console_value) c.as_slice-consoles.ensures.value in
     λ files bytes long.
-    let made : List Output = first ++ (outputs_of names job.consoles files ++ last_output (option_map (λ name. name.now) c.args.last) bytes) in
+    let made : List Output =
+    first ++ (outputs_of names job.consoles files ++ last_output (option_map (λ name. name.now) c.args.last) bytes) in
     let pieces : run_pieces names s ≡ grown ++ last =
     first-pieces names s c.requires.ready.left in
     let many : length files ≡ length c.as_slice-consoles.result.now =
     long ∙ sym (ap length consoles_are) ∙ length-map c.as_slice-consoles.result.now console_value in
     let created : PerformsAll Tells (map creation made) old (g.O.Sink.state c.create_all.new.out) Wrote =
     rw consoles_are at (c.in_ok-create_all.ensures files bytes many) in
-    let added : PerformsAll Tells (map addition first) (g.O.Sink.state c.create_all.new.out) (g.O.Sink.state c.append_files.new.out) Wrote = c.in_ok-append_files.ensures in
+    let added : PerformsAll Tells (map addition first) (g.O.Sink.state c.create_all.new.out)
+    (g.O.Sink.state c.append_files.new.out) Wrote = c.in_ok-append_files.ensures in
     subst (λ (ps : List Output). PerformsAll Tells (map creation made ++ map addition (first ++ ps)) old
     (g.O.Sink.state c.append_segments.new.out) (write_stop_value c.in_err-session.field-0.0)) (sym pieces)
-    (stopped-growing Tells made first grown last old (g.O.Sink.state c.create_all.new.out) created (g.O.Sink.state c.append_files.new.out) added
+    (stopped-growing Tells made first grown last old (g.O.Sink.state c.create_all.new.out) created
+    (g.O.Sink.state c.append_files.new.out) added
     (g.O.Sink.state c.append_segments.new.out) (write_stop_value c.in_err-session.field-0.0)
     (rw c.advance-session.ensures at c.in_err-session.ensures.pieces) (stopped c.in_err-session.field-0.0))
     )
 
 pub returns-in_err-append_last-clause-calls : goal.returns-in_err-append_last-clause-calls
 returns-in_err-append_last-clause-calls g c =
-    let p = err_from_is_err_and c.from_residual-in_err-append_last.result c.from_residual-in_err-append_last.ensures.1 in
+    let p =
+    err_from_is_err_and c.from_residual-in_err-append_last.result c.from_residual-in_err-append_last.ensures.1 in
     rw (p.1, p.2) (
     let first = map output_value c.args.first.now in
     let names = map names_value c.args.names.now in
@@ -109,17 +121,21 @@ returns-in_err-append_last-clause-calls g c =
     let last = cut_pieces lasting_kinds names s.asks (whole_cut s).consoles in
     let Tells = g.O.Sink.Tells in
     let old = g.O.Sink.state c.args.out.now in
-    let consoles_are : map console_value c.as_slice-consoles.result.now ≡ job.consoles = ap (map console_value) c.as_slice-consoles.ensures.value in
+    let consoles_are : map console_value c.as_slice-consoles.result.now ≡ job.consoles =
+    ap (map console_value) c.as_slice-consoles.ensures.value in
     λ files bytes long.
-    let made : List Output = first ++ (outputs_of names job.consoles files ++ last_output (option_map (λ name. name.now) c.args.last) bytes) in
+    let made : List Output =
+    first ++ (outputs_of names job.consoles files ++ last_output (option_map (λ name. name.now) c.args.last) bytes) in
     let pieces : run_pieces names s ≡ grown ++ last =
     first-pieces names s c.requires.ready.left in
     let many : length files ≡ length c.as_slice-consoles.result.now =
     long ∙ sym (ap length consoles_are) ∙ length-map c.as_slice-consoles.result.now console_value in
     let created : PerformsAll Tells (map creation made) old (g.O.Sink.state c.create_all.new.out) Wrote =
     rw consoles_are at (c.in_ok-create_all.ensures files bytes many) in
-    let added : PerformsAll Tells (map addition first) (g.O.Sink.state c.create_all.new.out) (g.O.Sink.state c.append_files.new.out) Wrote = c.in_ok-append_files.ensures in
-    let grew : PerformsAll Tells (map addition grown) (g.O.Sink.state c.append_files.new.out) (g.O.Sink.state c.append_segments.new.out) Wrote =
+    let added : PerformsAll Tells (map addition first) (g.O.Sink.state c.create_all.new.out)
+    (g.O.Sink.state c.append_files.new.out) Wrote = c.in_ok-append_files.ensures in
+    let grew : PerformsAll Tells (map addition grown) (g.O.Sink.state c.append_files.new.out)
+    (g.O.Sink.state c.append_segments.new.out) Wrote =
     rw c.advance-session.ensures at c.in_ok-session.ensures.pieces in
     let t = c.in_ok-session.session in
     let last_is : cut_pieces lasting_kinds names t.asks (whole_cut t).consoles ≡ last =
@@ -129,10 +145,13 @@ returns-in_err-append_last-clause-calls g c =
     (last-whole s c.advance-session.result t c.advance-session.ensures c.in_ok-session.ensures.last) in
     subst (λ (ps : List Output). PerformsAll Tells (map creation made ++ map addition (first ++ ps)) old
     (g.O.Sink.state c.append_last.new.out) (write_stop_value c.in_err-append_last.field-0.0)) (sym pieces)
-    (grown-added Tells made first grown last old (g.O.Sink.state c.create_all.new.out) created (g.O.Sink.state c.append_files.new.out) added
-    (g.O.Sink.state c.append_segments.new.out) grew (g.O.Sink.state c.append_last.new.out) (write_stop_value c.in_err-append_last.field-0.0)
+    (grown-added Tells made first grown last old (g.O.Sink.state c.create_all.new.out) created
+    (g.O.Sink.state c.append_files.new.out) added
+    (g.O.Sink.state c.append_segments.new.out) grew (g.O.Sink.state c.append_last.new.out)
+    (write_stop_value c.in_err-append_last.field-0.0)
     (subst (λ (ps : List Output). PerformsAll Tells (map addition ps) (g.O.Sink.state c.append_segments.new.out)
-    (g.O.Sink.state c.append_last.new.out) (write_stop_value c.in_err-append_last.field-0.0)) last_is c.in_err-append_last.ensures))
+    (g.O.Sink.state c.append_last.new.out) (write_stop_value c.in_err-append_last.field-0.0)) last_is
+    c.in_err-append_last.ensures))
     )
 
 pub returns-clause-calls : goal.returns-clause-calls
@@ -145,17 +164,21 @@ returns-clause-calls g c =
     let last = cut_pieces lasting_kinds names s.asks (whole_cut s).consoles in
     let Tells = g.O.Sink.Tells in
     let old = g.O.Sink.state c.args.out.now in
-    let consoles_are : map console_value c.as_slice-consoles.result.now ≡ job.consoles = ap (map console_value) c.as_slice-consoles.ensures.value in
+    let consoles_are : map console_value c.as_slice-consoles.result.now ≡ job.consoles =
+    ap (map console_value) c.as_slice-consoles.ensures.value in
     λ files bytes long.
-    let made : List Output = first ++ (outputs_of names job.consoles files ++ last_output (option_map (λ name. name.now) c.args.last) bytes) in
+    let made : List Output =
+    first ++ (outputs_of names job.consoles files ++ last_output (option_map (λ name. name.now) c.args.last) bytes) in
     let pieces : run_pieces names s ≡ grown ++ last =
     first-pieces names s c.requires.ready.left in
     let many : length files ≡ length c.as_slice-consoles.result.now =
     long ∙ sym (ap length consoles_are) ∙ length-map c.as_slice-consoles.result.now console_value in
     let created : PerformsAll Tells (map creation made) old (g.O.Sink.state c.create_all.new.out) Wrote =
     rw consoles_are at (c.in_ok-create_all.ensures files bytes many) in
-    let added : PerformsAll Tells (map addition first) (g.O.Sink.state c.create_all.new.out) (g.O.Sink.state c.append_files.new.out) Wrote = c.in_ok-append_files.ensures in
-    let grew : PerformsAll Tells (map addition grown) (g.O.Sink.state c.append_files.new.out) (g.O.Sink.state c.append_segments.new.out) Wrote =
+    let added : PerformsAll Tells (map addition first) (g.O.Sink.state c.create_all.new.out)
+    (g.O.Sink.state c.append_files.new.out) Wrote = c.in_ok-append_files.ensures in
+    let grew : PerformsAll Tells (map addition grown) (g.O.Sink.state c.append_files.new.out)
+    (g.O.Sink.state c.append_segments.new.out) Wrote =
     rw c.advance-session.ensures at c.in_ok-session.ensures.pieces in
     let t = c.in_ok-session.session in
     let last_is : cut_pieces lasting_kinds names t.asks (whole_cut t).consoles ≡ last =
@@ -165,7 +188,8 @@ returns-clause-calls g c =
     (last-whole s c.advance-session.result t c.advance-session.ensures c.in_ok-session.ensures.last) in
     subst (λ (ps : List Output). PerformsAll Tells (map creation made ++ map addition (first ++ ps)) old
     (g.O.Sink.state c.append_last.new.out) (Wrote)) (sym pieces)
-    (grown-added Tells made first grown last old (g.O.Sink.state c.create_all.new.out) created (g.O.Sink.state c.append_files.new.out) added
+    (grown-added Tells made first grown last old (g.O.Sink.state c.create_all.new.out) created
+    (g.O.Sink.state c.append_files.new.out) added
     (g.O.Sink.state c.append_segments.new.out) grew (g.O.Sink.state c.append_last.new.out) Wrote
     (subst (λ (ps : List Output). PerformsAll Tells (map addition ps) (g.O.Sink.state c.append_segments.new.out)
     (g.O.Sink.state c.append_last.new.out) Wrote) last_is c.in_ok-append_last.ensures))

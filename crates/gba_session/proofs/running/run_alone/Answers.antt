@@ -19,7 +19,8 @@ run_to-requires c =
     let m = c.index_mut.result.now in
     let long : length xs ≡ 1 = omega (arith, ap length c.part-consoles.ensures.nodes, c.requires.one) in
     let all : c.args.cut.consoles ≡ m ∷ [] =
-    sym c.part-consoles.ensures.nodes ∙ one-is xs m long ∙ ap (λ (x : Machine). x ∷ []) (sym c.index_mut.ensures.value) in
+    sym c.part-consoles.ensures.nodes ∙ one-is xs m long
+    ∙ ap (λ (x : Machine). x ∷ []) (sym c.index_mut.ensures.value) in
     let limits : All (λ (limit : ℕ). c.args.until ≤ limit) (limit_of m ∷ []) =
     subst (λ (ys : List Machine). All (λ (limit : ℕ). c.args.until ≤ limit) (map limit_of ys)) all c.requires.limit in
     limits 0 0 (omega arith)
@@ -34,10 +35,12 @@ join-requires-clause-sound c =
     let long : length xs ≡ 1 = omega (arith, ap length c.part-consoles.ensures.nodes, c.requires.one) in
     let one : xs ≡ m ∷ [] = one-is xs m long ∙ ap (λ (x : Machine). x ∷ []) (sym c.index_mut.ensures.value) in
     let sound : IsSound console_kind (alone (without_limit m) shell.delays shell.sent) =
-    subst (λ (ys : List Machine). IsSound console_kind (cut_with ys shell.delays shell.sent)) one c.part-consoles.ensures.sound in
+    subst (λ (ys : List Machine). IsSound console_kind (cut_with ys shell.delays shell.sent)) one
+    c.part-consoles.ensures.sound in
     let close = sound-close (without_limit m) shell.delays shell.sent sound in
     let ran : IsClose (run_to c.args.until m) =
-    close-run (c.steps_pass.ensures []) c.args.until c.args.until m (record { begun = close.begun; short = close.short }) in
+    close-run (c.steps_pass.ensures []) c.args.until c.args.until m
+    (record { begun = close.begun; short = close.short }) in
     let here : IsClose after = subst IsClose (sym c.run_to.ensures.run) ran in
     let made : cut_with (slice_set xs 0 after) delays c.clear.new.self.sent ≡ alone (without_limit after) delays [] =
     ap (λ (ys : List Machine). cut_with ys delays c.clear.new.self.sent) (set-one xs after long)
@@ -57,7 +60,8 @@ returns-clause-run c =
     let long : length xs ≡ 1 = omega (arith, ap length c.part-consoles.ensures.nodes, c.requires.one) in
     let one : xs ≡ m ∷ [] = one-is xs m long ∙ ap (λ (x : Machine). x ∷ []) (sym c.index_mut.ensures.value) in
     let sound : IsSound console_kind (alone (without_limit m) shell.delays shell.sent) =
-    subst (λ (ys : List Machine). IsSound console_kind (cut_with ys shell.delays shell.sent)) one c.part-consoles.ensures.sound in
+    subst (λ (ys : List Machine). IsSound console_kind (cut_with ys shell.delays shell.sent)) one
+    c.part-consoles.ensures.sound in
     let own = sound-own (without_limit m) shell.delays shell.sent sound in
     let start : alone (without_limit m) shell.delays shell.sent ≡ cut_with cut.consoles cut.delays cut.sent =
     ap (λ (ys : List Machine). cut_with ys shell.delays shell.sent) (sym one ∙ c.part-consoles.ensures.nodes)

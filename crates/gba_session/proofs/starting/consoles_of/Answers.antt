@@ -16,13 +16,18 @@ loop-player-init c =
     let job = job_value c.args.job.now in
     let rest = c.into_iter-images.ensures.rest in
     let fit : AllZip FitsConsole job.consoles c.into_iter-images.result.rest.items =
-    subst (λ (left : List ConsoleImages). AllZip FitsConsole job.consoles left) (sym rest) c.requires.images in
-    (search rules, search rules, fit, omega (arith, ap length rest, fit-long job.consoles c.args.images.items c.requires.images))
+    subst (λ (left : List ConsoleImages). AllZip FitsConsole job.consoles left) (sym rest) c.requires.images in (
+      search rules,
+      search rules,
+      fit,
+      omega (arith, ap length rest, fit-long job.consoles c.args.images.items c.requires.images),
+    )
 
 pub console_of-requires-clause-console : goal.console_of-requires-clause-console
 console_of-requires-clause-console c =
     let consoles = c.args.job.now.consoles.items in
-    let within : c.loop-player.player < length consoles = omega (arith, c.loop-player-test.true, c.len-player-end.ensures) in
+    let within : c.loop-player.player < length consoles =
+    omega (arith, c.loop-player-test.true, c.len-player-end.ensures) in
     holds_at IsConsole console_value consoles c.loop-player.player c.index.result.now c.requires.sound.each within
     c.index.ensures
 
@@ -36,8 +41,8 @@ console_of-requires-clause-images c =
     let within : player < length job.consoles = omega (arith, few, length-map items console_value) in
     let here : said ≡ get_or job.consoles player said =
     sym (get_or-map console_value items player c.index.result.now said few ∙ ap console_value (sym c.index.ensures)) in
-    (fit-next player job.consoles said c.loop-player.images.rest.items c.next.new.self.rest.items c.in-Some.one within here
-    c.in-Some.ensures.items c.loop-player.invariant.2).0
+    (fit-next player job.consoles said c.loop-player.images.rest.items c.next.new.self.rest.items c.in-Some.one
+    within here c.in-Some.ensures.items c.loop-player.invariant.2).0
 
 pub loop-player-preserved : goal.loop-player-preserved
 loop-player-preserved c =
@@ -47,7 +52,12 @@ loop-player-preserved c =
     let console = c.in_ok-console.console in
     let held = c.loop-player.invariant in
     let within : player < length job.consoles =
-    omega (arith, c.loop-player-test.true, c.len-player-end.ensures, length-map c.args.job.now.consoles.items console_value) in
+    omega (
+      arith,
+      c.loop-player-test.true,
+      c.len-player-end.ensures,
+      length-map c.args.job.now.consoles.items console_value,
+    ) in
     let said = console_value c.index.result.now in
     let items = c.args.job.now.consoles.items in
     let few : player < length items = omega (arith, c.loop-player-test.true, c.len-player-end.ensures) in
@@ -58,8 +68,8 @@ loop-player-preserved c =
           c.next.new.self.rest.items _ within here c.in_ok-keep.ensures split c.in_ok-console.ensures.console held.0,
       kept-limits (later_end c.args.job.now.cycles 0) old c.keep.new.all.items console c.in_ok-keep.ensures
           c.in_ok-console.ensures.limit held.1,
-      (fit-next player job.consoles said c.loop-player.images.rest.items c.next.new.self.rest.items c.in-Some.one within here
-          split held.2).1,
+      (fit-next player job.consoles said c.loop-player.images.rest.items c.next.new.self.rest.items c.in-Some.one
+          within here split held.2).1,
       omega (arith, held.3, ap length split),
     )
 
@@ -71,7 +81,13 @@ returns-clause-consoles c =
     let made = map without_limit c.loop-player.consoles.items in
     let left = c.loop-player.images.rest.items in
     let over : left ≡ [] = nil_from_length left
-    (omega (arith, held.3, c.loop-player-test.false, c.len-player-end.ensures, length-map c.args.job.now.consoles.items console_value)) in
+    (omega (
+      arith,
+      held.3,
+      c.loop-player-test.false,
+      c.len-player-end.ensures,
+      length-map c.args.job.now.consoles.items console_value,
+    )) in
     let none = ap (λ (xs : List ConsoleImages). consoles_from job player (drop player job.consoles) xs) over
     ∙ consoles-none job player (drop player job.consoles) in
     sym (ap (λ ms. made ++ ms) none ∙ append-nil made) ∙ held.0

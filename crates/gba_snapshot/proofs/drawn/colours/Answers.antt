@@ -8,8 +8,8 @@ loop-place-init c = filled-none (λ place. half_at (2 * place) c.args.bytes.now)
 
 pub loop-place-preserved : goal.loop-place-preserved
 loop-place-preserved c =
-    filled-more (λ place. half_at (2 * place) c.args.bytes.now) 240 c.loop-place.place _ c.loop-place.colours (omega arith)
-    c.colour.ensures c.loop-place.invariant
+    filled-more (λ place. half_at (2 * place) c.args.bytes.now) 240 c.loop-place.place _ c.loop-place.colours
+    (omega arith) c.colour.ensures c.loop-place.invariant
 
 pub returns : goal.returns
 returns c =

@@ -12,12 +12,15 @@ loop-player-preserved c =
     let i : ℕ = c.loop-player.player in
     let m : Machine = c.index-consoles-player.result in
     let all : List Machine = c.args.consoles.now in
-    let grew : c.add_console.new.into.items ≡ c.loop-player.into.items ++ console_text i m = c.add_console.ensures.items in
+    let grew : c.add_console.new.into.items ≡ c.loop-player.into.items ++ console_text i m =
+    c.add_console.ensures.items in
     let split : consoles_text i (drop i all) ≡ console_text i m ++ consoles_text (i + 1) (drop (i + 1) all) =
     consoles-more all i m c.loop-player-test.true
-    ∙ ap (λ (x : Machine). console_text i x ++ consoles_text (i + 1) (drop (i + 1) all)) (sym c.index-consoles-player.is) in
+    ∙ ap (λ (x : Machine). console_text i x ++ consoles_text (i + 1) (drop (i + 1) all))
+    (sym c.index-consoles-player.is) in
     record {
-      items = grown c.loop-player.into.items c.add_console.new.into.items (console_text i m) (consoles_text i (drop i all))
+      items =
+          grown c.loop-player.into.items c.add_console.new.into.items (console_text i m) (consoles_text i (drop i all))
           (consoles_text (i + 1) (drop (i + 1) all)) _ grew split c.loop-player.invariant.items;
       len = omega arith;
       room = omega arith;

@@ -8,8 +8,9 @@ use Rattle.gba_snapshot.proofs.file.add_signals.Goals as goal
 
 pub add_signal-requires-clause-clock : goal.add_signal-requires-clause-clock
 add_signal-requires-clause-clock c =
-    signal-early c.args.cut.now c.sent-sent.result.now c.nodes-nodes.result.now c.loop-place.place _ c.index-nodes-one.result
-    c.sent-sent.ensures.value c.nodes-nodes.ensures.value c.nodes-nodes.ensures.sound c.loop-place-test.true c.index-nodes-one.is
+    signal-early c.args.cut.now c.sent-sent.result.now c.nodes-nodes.result.now c.loop-place.place _
+    c.index-nodes-one.result c.sent-sent.ensures.value c.nodes-nodes.ensures.value c.nodes-nodes.ensures.sound
+    c.loop-place-test.true c.index-nodes-one.is
     (omega (arith, c.clock-later.ensures.value, c.clock-later.ensures.small))
 
 pub loop-place-preserved : goal.loop-place-preserved

@@ -3,8 +3,10 @@ use Rattle.gba_snapshot.proofs.Halfwords.{io_bytes-more, io_bytes-none}
 use Rattle.gba_snapshot.proofs.io.io_bytes.Goals as goal
 
 pub loop-half-init : goal.loop-half-init
-loop-half-init c =
-    (c.new-bytes.ensures ∙ sym (io_bytes-none c.args.core.now), ap (λ (bytes : List ℕ). length bytes) c.new-bytes.ensures)
+loop-half-init c = (
+  c.new-bytes.ensures ∙ sym (io_bytes-none c.args.core.now),
+  ap (λ (bytes : List ℕ). length bytes) c.new-bytes.ensures,
+)
 
 pub loop-half-preserved : goal.loop-half-preserved
 loop-half-preserved c = (

@@ -11,7 +11,9 @@ returns-in_ok-extend_from_slice-in-Some-clause-ok c = record {
 
 pub returns-in_err-extend_from_slice-in-Some-clause-err : goal.returns-in_err-extend_from_slice-in-Some-clause-err
 returns-in_err-extend_from_slice-in-Some-clause-err c =
-    let at : (other : List ℕ) → files_of (c.get_mut.follows.lender c.extend_from_slice.new.self) other ≡ files_of c.args.files.now other =
+    let at : (other : List ℕ)
+    → files_of (c.get_mut.follows.lender c.extend_from_slice.new.self) other ≡ files_of c.args.files.now other =
     λ other. grind (arith, text_keys) in
-    let same : files_of (c.get_mut.follows.lender c.extend_from_slice.new.self) ≡ files_of c.args.files.now = λ t other. at other t in
+    let same : files_of (c.get_mut.follows.lender c.extend_from_slice.new.self) ≡ files_of c.args.files.now =
+    λ t other. at other t in
     search rules

@@ -10,7 +10,8 @@ pour-requires-clause-applied c =
     let m = c.args.console.now in
     let f = c.args.loose.now in
     let keys : c.restore_flash.new.self.keys ≡ m.keys =
-    ap (λ (one : Machine). one.keys) c.restore_flash.ensures ∙ ap (λ (one : Machine). one.keys) c.pour_memories.ensures in
+    ap (λ (one : Machine). one.keys) c.restore_flash.ensures
+    ∙ ap (λ (one : Machine). one.keys) c.pour_memories.ensures in
     omega (
       arith,
       ap (λ (parts : ConsoleParts). parts.applied) c.requires.parts,

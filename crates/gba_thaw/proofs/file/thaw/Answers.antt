@@ -16,7 +16,8 @@ returns-in-Err-clause-refused c =
     let start = c.args.start in
     let S : Setup = setup_of c.args.digest.now c.args.until start.consoles in
     let same : c.setup_of-setup.result ≡ S = rw c.nodes.ensures.value at c.setup_of-setup.ensures in
-    refused-as c.setup_of-setup.result S (whole_of c.args.until start) c.args.bytes.now c.in-Err.refused same c.in-Err.ensures
+    refused-as c.setup_of-setup.result S (whole_of c.args.until start) c.args.bytes.now c.in-Err.refused same
+    c.in-Err.ensures
 
 pub go_on-requires-clause-count : goal.go_on-requires-clause-count
 unfolding IsThawed
@@ -25,9 +26,11 @@ go_on-requires-clause-count c =
     let S : Setup = setup_of c.args.digest.now c.args.until start.consoles in
     let same : c.setup_of-setup.result ≡ S = rw c.nodes.ensures.value at c.setup_of-setup.ensures in
     let read = c.in-Ok-read_frozen.ensures in
-    let few : length start.consoles ≤ 4 = omega (arith, c.nodes.ensures.cable.at_most_four, length-map start.consoles without_limit) in
+    let few : length start.consoles ≤ 4 =
+    omega (arith, c.nodes.ensures.cable.at_most_four, length-map start.consoles without_limit) in
     ap (λ (fs : List LooseConsole). length fs) c.consoles.ensures
-    ∙ count-is c.args.digest.now c.args.until start c.setup_of-setup.result same few c.read_frozen.new.into read.0 read.1 read.3
+    ∙ count-is c.args.digest.now c.args.until start c.setup_of-setup.result same few c.read_frozen.new.into read.0
+    read.1 read.3
 
 pub go_on-requires-clause-lengths : goal.go_on-requires-clause-lengths
 unfolding IsThawed
@@ -36,10 +39,11 @@ go_on-requires-clause-lengths c =
     let S : Setup = setup_of c.args.digest.now c.args.until start.consoles in
     let same : c.setup_of-setup.result ≡ S = rw c.nodes.ensures.value at c.setup_of-setup.ensures in
     let read = c.in-Ok-read_frozen.ensures in
-    let few : length start.consoles ≤ 4 = omega (arith, c.nodes.ensures.cable.at_most_four, length-map start.consoles without_limit) in
+    let few : length start.consoles ≤ 4 =
+    omega (arith, c.nodes.ensures.cable.at_most_four, length-map start.consoles without_limit) in
     subst (λ (fs : List LooseConsole). AllHaveLengths start.consoles fs) (sym c.consoles.ensures)
-    (have-lengths c.args.digest.now c.args.until start c.setup_of-setup.result same few c.read_frozen.new.into read.0 read.1
-    read.3)
+    (have-lengths c.args.digest.now c.args.until start c.setup_of-setup.result same few c.read_frozen.new.into
+    read.0 read.1 read.3)
 
 pub returns-in-Some-clause-thawed : goal.returns-in-Some-clause-thawed
 unfolding IsThawed
@@ -48,12 +52,14 @@ returns-in-Some-clause-thawed c =
     let S : Setup = setup_of c.args.digest.now c.args.until start.consoles in
     let same : c.setup_of-setup.result ≡ S = rw c.nodes.ensures.value at c.setup_of-setup.ensures in
     let read = c.in-Ok-read_frozen.ensures in
-    let few : length start.consoles ≤ 4 = omega (arith, c.nodes.ensures.cable.at_most_four, length-map start.consoles without_limit) in
+    let few : length start.consoles ≤ 4 =
+    omega (arith, c.nodes.ensures.cable.at_most_four, length-map start.consoles without_limit) in
     let whole : whole_of c.args.until start read.0 ≡ Some c.in-Some.cut =
-    whole-is c.args.digest.now c.args.until start c.setup_of-setup.result same few c.read_frozen.new.into read.0 read.1 read.3
+    whole-is c.args.digest.now c.args.until start c.setup_of-setup.result same few c.read_frozen.new.into read.0
+    read.1 read.3
     ∙ sym ((rw (c.consoles.ensures, c.signals.ensures) at c.go_on.ensures) read.0.sent read.1.signals) ∙ c.in-Some.is in
-    thawed-as c.setup_of-setup.result S (whole_of c.args.until start) c.args.bytes.now c.in-Ok-read_frozen.lines read.0 same
-    read.4
+    thawed-as c.setup_of-setup.result S (whole_of c.args.until start) c.args.bytes.now c.in-Ok-read_frozen.lines
+    read.0 same read.4
     ∙ ap (judged c.in-Ok-read_frozen.lines) whole
 
 pub returns-clause-refused : goal.returns-clause-refused
@@ -63,9 +69,12 @@ returns-clause-refused c =
     let S : Setup = setup_of c.args.digest.now c.args.until start.consoles in
     let same : c.setup_of-setup.result ≡ S = rw c.nodes.ensures.value at c.setup_of-setup.ensures in
     let read = c.in-Ok-read_frozen.ensures in
-    let few : length start.consoles ≤ 4 = omega (arith, c.nodes.ensures.cable.at_most_four, length-map start.consoles without_limit) in
+    let few : length start.consoles ≤ 4 =
+    omega (arith, c.nodes.ensures.cable.at_most_four, length-map start.consoles without_limit) in
     let whole : whole_of c.args.until start read.0 ≡ None =
-    whole-is c.args.digest.now c.args.until start c.setup_of-setup.result same few c.read_frozen.new.into read.0 read.1 read.3
+    whole-is c.args.digest.now c.args.until start c.setup_of-setup.result same few c.read_frozen.new.into read.0
+    read.1 read.3
     ∙ sym ((rw (c.consoles.ensures, c.signals.ensures) at c.go_on.ensures) read.0.sent read.1.signals) ∙ c.in-None.is in
-    thawed-as c.setup_of-setup.result S (whole_of c.args.until start) c.args.bytes.now c.in-Ok-read_frozen.lines read.0 same read.4
+    thawed-as c.setup_of-setup.result S (whole_of c.args.until start) c.args.bytes.now c.in-Ok-read_frozen.lines read.0
+    same read.4
     ∙ ap (judged c.in-Ok-read_frozen.lines) whole

@@ -10,8 +10,8 @@ use Rattle.gba_session.specs.Start.{FitsConsole}
 use Rattle.gba_thaw_tests.proofs.start.all_images.Goals as goal
 
 -- the images of one console more
-fit-more : (i : ℕ) (consoles : List JobConsole) (console : JobConsole) (old new : List ConsoleImages) (one : ConsoleImages)
-    → i < length consoles → console ≡ get_or consoles i console → new ≡ old ++ one ∷ []
+fit-more : (i : ℕ) (consoles : List JobConsole) (console : JobConsole) (old new : List ConsoleImages)
+    (one : ConsoleImages) → i < length consoles → console ≡ get_or consoles i console → new ≡ old ++ one ∷ []
     → FitsConsole (console_value console) one
     → AllZip FitsConsole (map console_value (take i consoles)) old
     → AllZip FitsConsole (map console_value (take (i + 1) consoles)) new
@@ -22,7 +22,8 @@ fit-more i consoles console old new one within here kept fits before =
     ≡ map console_value (take i consoles) ++ console_value console ∷ [] =
     ap (map console_value) split ∙ map-append console_value (take i consoles) (console ∷ []) in
     subst (λ (cs : List ConsoleJob). AllZip FitsConsole cs new) (sym values)
-    (subst (λ (is : List ConsoleImages). AllZip FitsConsole (map console_value (take i consoles) ++ console_value console ∷ []) is)
+    (subst (λ (is : List ConsoleImages). AllZip FitsConsole
+    (map console_value (take i consoles) ++ console_value console ∷ []) is)
     (sym kept)
     (all_zipped_more FitsConsole (map console_value (take i consoles)) old (console_value console) one before fits))
 

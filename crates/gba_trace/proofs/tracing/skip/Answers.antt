@@ -24,8 +24,8 @@ row-preserved c = record {
       let held = c.row.invariant.shows plain shows in
       let same = clock-shown c.shorn_unseen.ensures.unseen c.shorn_unseen.ensures.tells c.steps.ensures at cut held in
       let on : goes_on until at ≡ true =
-      goes (clock_at console_kind (plain_cut without_limit cut) (least console_kind (plain_cut without_limit cut))) until at same
-      (c.goes_on.ensures.below c.if-not-goes_on.false) in
+      goes (clock_at console_kind (plain_cut without_limit cut) (least console_kind (plain_cut without_limit cut)))
+      until at same (c.goes_on.ensures.below c.if-not-goes_on.false) in
       subst (λ (one : Machines). Shows one c.step.new.self.cut) (sym (one-step until plain n (n + 1) refl on))
       (c.step.ensures.shows at (c.with_room-way.ensures.shows at held));
 }
@@ -39,6 +39,6 @@ returns-then-not-goes_on-clause-shows c = λ plain shows.
     let held = c.row.invariant.shows plain shows in
     let same = clock-shown c.shorn_unseen.ensures.unseen c.shorn_unseen.ensures.tells c.steps.ensures at cut held in
     let over : goes_on until at ≡ false =
-    ends (clock_at console_kind (plain_cut without_limit cut) (least console_kind (plain_cut without_limit cut))) until at same
-    (c.goes_on.ensures.over c.if-not-goes_on.true) in
+    ends (clock_at console_kind (plain_cut without_limit cut) (least console_kind (plain_cut without_limit cut)))
+    until at same (c.goes_on.ensures.over c.if-not-goes_on.true) in
     subst (λ (one : Machines). Shows one cut) (sym (stays until plain n c.args.count (omega arith) over)) held

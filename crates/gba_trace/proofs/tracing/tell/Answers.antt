@@ -40,13 +40,14 @@ row-preserved c = record {
   cut : Machines
   cut = c.row.way.cut
 
-  on : (plain : Machines) → Shows plain c.args.way.cut → goes_on c.args.until (after_steps c.row.counter c.args.until plain) ≡ true
+  on : (plain : Machines) → Shows plain c.args.way.cut
+      → goes_on c.args.until (after_steps c.row.counter c.args.until plain) ≡ true
   on plain shows =
       let at = after_steps c.row.counter c.args.until plain in
       let held = c.row.invariant.shows plain shows in
       let same = clock-shown c.shorn_unseen.ensures.unseen c.shorn_unseen.ensures.tells c.steps.ensures at cut held in
-      goes (clock_at console_kind (plain_cut without_limit cut) (least console_kind (plain_cut without_limit cut))) c.args.until at
-      same (c.goes_on.ensures.below c.if-not-goes_on.false)
+      goes (clock_at console_kind (plain_cut without_limit cut) (least console_kind (plain_cut without_limit cut)))
+      c.args.until at same (c.goes_on.ensures.below c.if-not-goes_on.false)
 
 pub returns-then-not-goes_on-clause-text : goal.returns-then-not-goes_on-clause-text
 returns-then-not-goes_on-clause-text c = λ plain shows.
@@ -57,8 +58,8 @@ returns-then-not-goes_on-clause-text c = λ plain shows.
     let same = clock-shown c.shorn_unseen.ensures.unseen c.shorn_unseen.ensures.tells c.steps.ensures at cut
     (c.row.invariant.shows plain shows) in
     let over : goes_on until at ≡ false =
-    ends (clock_at console_kind (plain_cut without_limit cut) (least console_kind (plain_cut without_limit cut))) until at same
-    (c.goes_on.ensures.over c.if-not-goes_on.true) in
+    ends (clock_at console_kind (plain_cut without_limit cut) (least console_kind (plain_cut without_limit cut)))
+    until at same (c.goes_on.ensures.over c.if-not-goes_on.true) in
     c.row.invariant.text plain shows ∙ sym (no-lines until plain n c.args.count (omega arith) over)
 
 pub returns-then-not-goes_on-clause-lines : goal.returns-then-not-goes_on-clause-lines
@@ -70,6 +71,6 @@ returns-then-not-goes_on-clause-lines c = λ plain shows.
     let same = clock-shown c.shorn_unseen.ensures.unseen c.shorn_unseen.ensures.tells c.steps.ensures at cut
     (c.row.invariant.shows plain shows) in
     let over : goes_on until at ≡ false =
-    ends (clock_at console_kind (plain_cut without_limit cut) (least console_kind (plain_cut without_limit cut))) until at same
-    (c.goes_on.ensures.over c.if-not-goes_on.true) in
+    ends (clock_at console_kind (plain_cut without_limit cut) (least console_kind (plain_cut without_limit cut)))
+    until at same (c.goes_on.ensures.over c.if-not-goes_on.true) in
     c.row.invariant.lines plain shows ∙ sym (no-count until plain n c.args.count (omega arith) over)

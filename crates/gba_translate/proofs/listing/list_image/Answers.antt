@@ -12,7 +12,9 @@ returns-in_err-image g c =
     let gives = g.S.Store.gives in
     let p = err_from_is_err_and c.from_residual.result c.from_residual.ensures.1 in
     rw (p.1, p.2)
-    (record { goes = goes-stop gives (image_plan words.from) (after_image c.args.set words) _ _ _ c.in_err-image.ensures.goes })
+    (record {
+      goes = goes-stop gives (image_plan words.from) (after_image c.args.set words) _ _ _ c.in_err-image.ensures.goes;
+    })
 
 pub returns-in-Ok : goal.returns-in-Ok
 returns-in-Ok g c =
@@ -20,8 +22,9 @@ returns-in-Ok g c =
     let image = c.in_ok-image.image.items in
     let gives = g.S.Store.gives in
     record {
-      goes = goes-then gives (image_plan words.from) (after_image c.args.set words) _ _ _ image _ c.in_ok-image.ensures.goes
-          (goes-done gives (listed words.to c.args.set image) _ _
+      goes =
+          goes-then gives (image_plan words.from) (after_image c.args.set words) _ _ _ image _
+          c.in_ok-image.ensures.goes (goes-done gives (listed words.to c.args.set image) _ _
           (c.in-Ok.ensures ∙ ap (listed words.to c.args.set) c.as_slice.ensures.value));
     }
 
@@ -31,6 +34,7 @@ returns g c =
     let image = c.in_ok-image.image.items in
     let gives = g.S.Store.gives in
     record {
-      goes = goes-then gives (image_plan words.from) (after_image c.args.set words) _ _ _ image _ c.in_ok-image.ensures.goes
-          (goes-lacks gives (after_image c.args.set words image) _);
+      goes =
+          goes-then gives (image_plan words.from) (after_image c.args.set words) _ _ _ image _
+          c.in_ok-image.ensures.goes (goes-lacks gives (after_image c.args.set words image) _);
     }

@@ -30,7 +30,8 @@ add_rest-requires-clause-may g c =
       own_below = omega (arith, c.if-player-nodes.false);
       peer_below = omega (arith, c.if-peer-nodes.false);
       apart = c.if-peer-player.false;
-      rest = subst (λ (was : ℕ). RestOf kind g.N.Node.plain key c.args.joined.now own peer c.args.shell.now.delays was one)
+      rest =
+          subst (λ (was : ℕ). RestOf kind g.N.Node.plain key c.args.joined.now own peer c.args.shell.now.delays was one)
           was_is h;
     } in
     let key : Key g.row.N.Denot = c.requires.may.0 in
@@ -57,12 +58,14 @@ returns-clause-adds g c key keys =
       own_below = omega (arith, c.if-player-nodes.false);
       peer_below = omega (arith, c.if-peer-nodes.false);
       apart = c.if-peer-player.false;
-      rest = subst (λ (was : ℕ). RestOf kind g.N.Node.plain key c.args.joined.now own peer c.args.shell.now.delays was one)
+      rest =
+          subst (λ (was : ℕ). RestOf kind g.N.Node.plain key c.args.joined.now own peer c.args.shell.now.delays was one)
           was_is h;
     } in
     adds_as (Rest key) (Pair key) c.args.shell.now.sent c.add_rest.new.shell.sent (c.add_rest.ensures.adds key keys)
     (to_pair key)
-    (λ one h. let p = pair_is kind g.N.Node.plain key c.args.joined.now c.args.nodes.now c.args.shell.now.delays c.args.pair
+    (λ one h. let p =
+    pair_is kind g.N.Node.plain key c.args.joined.now c.args.nodes.now c.args.shell.now.delays c.args.pair
     one c.requires.few h in
     subst (λ (was : ℕ). RestOf kind g.N.Node.plain key c.args.joined.now own peer c.args.shell.now.delays was one)
     (sym was_is) p.rest)

@@ -111,25 +111,27 @@ loop-signal-preserved g c =
           let before = c.loop-signal.invariant.adding key c.requires.may.1 in
           let here : Next key = elim (cases_lt c.args.was (c.in-Some.signal.clock + c.hop-between.result)) [
             | inl late ↦
-                adding_one (RestOf kind g.N.Node.plain key first c.args.player c.args.peer c.args.shell.now.delays c.args.was) (IsRest s c.args.peer (hop_of c.args.shell.now.delays c.args.peer c.args.player) (slice_index first.fetched place)
-                (slice_index old.fetched place) c.args.was)
+                adding_one (RestOf kind g.N.Node.plain key first c.args.player c.args.peer c.args.shell.now.delays
+                c.args.was) (IsRest s c.args.peer (hop_of c.args.shell.now.delays c.args.peer c.args.player)
+                (slice_index first.fetched place) (slice_index old.fetched place) c.args.was)
                 (IsRest s c.args.peer (hop_of c.args.shell.now.delays c.args.peer c.args.player)
                 (slice_index first.fetched place) (slice_index c.rest.new.joined.fetched place) c.args.was)
                 c.args.shell.now.sent c.loop-signal.shell.sent c.add_late.new.shell.sent one c.requires.may.2 before
                 (c.add_late.ensures.late late) (is late)
                 (λ z h. rest_one s c.args.peer (hop_of c.args.shell.now.delays c.args.peer c.args.player)
-                (slice_index first.fetched place) (slice_index old.fetched place) c.args.was c.in-Some.signal z step.stands
-                (slice_index c.rest.new.joined.fetched place) step.own h)
+                (slice_index first.fetched place) (slice_index old.fetched place) c.args.was c.in-Some.signal z
+                step.stands (slice_index c.rest.new.joined.fetched place) step.own h)
             | inr dead ↦
-                adding_same (RestOf kind g.N.Node.plain key first c.args.player c.args.peer c.args.shell.now.delays c.args.was) (IsRest s c.args.peer (hop_of c.args.shell.now.delays c.args.peer c.args.player) (slice_index first.fetched place)
-                (slice_index old.fetched place) c.args.was)
+                adding_same (RestOf kind g.N.Node.plain key first c.args.player c.args.peer c.args.shell.now.delays
+                c.args.was) (IsRest s c.args.peer (hop_of c.args.shell.now.delays c.args.peer c.args.player)
+                (slice_index first.fetched place) (slice_index old.fetched place) c.args.was)
                 (IsRest s c.args.peer (hop_of c.args.shell.now.delays c.args.peer c.args.player)
                 (slice_index first.fetched place) (slice_index c.rest.new.joined.fetched place) c.args.was)
                 c.args.shell.now.sent c.loop-signal.shell.sent c.add_late.new.shell.sent before
                 (c.add_late.ensures.dead dead)
                 (λ z h. rest_dead s c.args.peer (hop_of c.args.shell.now.delays c.args.peer c.args.player)
-                (slice_index first.fetched place) (slice_index old.fetched place) c.args.was c.in-Some.signal z step.stands
-                (slice_index c.rest.new.joined.fetched place) step.own (omega (arith, dead, between)) h)
+                (slice_index first.fetched place) (slice_index old.fetched place) c.args.was c.in-Some.signal z
+                step.stands (slice_index c.rest.new.joined.fetched place) step.own (omega (arith, dead, between)) h)
           ] in
           subst Next same here;
     }

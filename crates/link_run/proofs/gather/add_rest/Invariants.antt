@@ -19,8 +19,8 @@ invariant-loop-signal g l = record {
   more : slice_index l.fn.joined.fetched (pair_place l.player l.peer)
       ≤ slice_index l.joined.fetched (pair_place l.player l.peer);
   adding : (key : Key g.row.N.Denot) → l.fn.joined.key ≡ key ∷ []
-      → Adding (RestOf (kind_of g.N.Node.clock g.N.Node.was g.N.Node.next) g.N.Node.plain key l.fn.joined l.player l.peer
-      l.fn.shell.delays l.was)
+      → Adding (RestOf (kind_of g.N.Node.clock g.N.Node.was g.N.Node.next) g.N.Node.plain key l.fn.joined
+      l.player l.peer l.fn.shell.delays l.was)
       (IsRest (script_of (kind_of g.N.Node.clock g.N.Node.was g.N.Node.next) g.N.Node.plain key) l.peer
       (hop_of l.fn.shell.delays l.peer l.player) (slice_index l.fn.joined.fetched (pair_place l.player l.peer))
       (slice_index l.joined.fetched (pair_place l.player l.peer)) l.was)

@@ -29,7 +29,8 @@ add_pair-requires-clause-may g c =
       pair = n;
       below = c.loop-pair-test.true;
       rest = pair_moved kind g.N.Node.plain key now first c.args.nodes.now c.args.shell.now.delays n one made same
-          (subst (λ (d : Delays). PairRest kind g.N.Node.plain key now c.args.nodes.now d n one) c.loop-pair.invariant.delays h);
+          (subst (λ (d : Delays). PairRest kind g.N.Node.plain key now c.args.nodes.now d n one)
+          c.loop-pair.invariant.delays h);
     } in
     let key : Key g.row.N.Denot = c.requires.may.0 in
     let keys : now.key ≡ key ∷ []
@@ -59,7 +60,8 @@ loop-pair-preserved g c =
       pair = n;
       below = c.loop-pair-test.true;
       rest = pair_moved kind g.N.Node.plain key now first c.args.nodes.now c.args.shell.now.delays n one made same
-          (subst (λ (d : Delays). PairRest kind g.N.Node.plain key now c.args.nodes.now d n one) c.loop-pair.invariant.delays h);
+          (subst (λ (d : Delays). PairRest kind g.N.Node.plain key now c.args.nodes.now d n one)
+          c.loop-pair.invariant.delays h);
     } in
     record {
       same = c.add_pair.ensures.same

@@ -11,5 +11,5 @@ opening_of-requires-clause-early g c =
 pub new-requires : goal.new-requires
 new-requires g c =
     opens_with (kind_of g.N.Node.clock g.N.Node.was g.N.Node.next) g.N.Node.plain g.N.Node.bound c.args.node c.args.seat
-    c.args.sent.now c.args.delays.now c.player.result c.was.result c.deref.result.now c.requires.can c.player.ensures.value
-    c.was.ensures (λ n senders. c.deref.ensures.value ∙ c.in-Ok.ensures n senders)
+    c.args.sent.now c.args.delays.now c.player.result c.was.result c.deref.result.now c.requires.can
+    c.player.ensures.value c.was.ensures (λ n senders. c.deref.ensures.value ∙ c.in-Ok.ensures n senders)

@@ -61,7 +61,11 @@ pub returns-clause-follow : goal.returns-clause-follow
 returns-clause-follow g c i lane key stands keys =
     let inv = c.loop-lanes.invariant in
     let none : length c.loop-lanes.lanes.items ≡ 0
-    = omega (arith, c.loop-lanes.lanes.ok, zero_of (vec_len c.loop-lanes.lanes) (sym c.is_empty.ensures ∙ c.loop-lanes-test.false)) in
+    = omega (
+      arith,
+      c.loop-lanes.lanes.ok,
+      zero_of (vec_len c.loop-lanes.lanes) (sym c.is_empty.ensures ∙ c.loop-lanes-test.false),
+    ) in
     let whole : c.args.lanes.items ≡ inv.done
     = inv.split ∙ ap (λ (l : List (LaneState g.row.N.Denot)). inv.done ++ l)
     (none_left c.loop-lanes.lanes.items none) ∙ append-nil inv.done in

@@ -19,7 +19,8 @@ returns g c =
     = subst (λ (l : List (LaneState g.row.N.Denot)). AllWent kind g.N.Node.plain g.N.Node.bound c.args.until l
     c.advance_all.new.lanes) c.as_mut_slice.ensures.value c.advance_all.ensures in
     let lengths : length c.advance_all.new.lanes ≡ length c.args.round.lanes.items
-    = went_length kind g.N.Node.plain g.N.Node.bound c.args.until c.args.round.lanes.items c.advance_all.new.lanes went in
+    = went_length kind g.N.Node.plain g.N.Node.bound c.args.until c.args.round.lanes.items
+    c.advance_all.new.lanes went in
     record {
       shared_is = refl;
       spare_is = refl;

@@ -15,5 +15,6 @@ invariant-loop-alloc g l = record {
 }
 
 abbrev pub decreases-loop-alloc : goal.decreases-loop-alloc
-decreases-loop-alloc g l = cycles_left (kind_of g.N.Node.clock g.N.Node.was g.N.Node.next) (plain_cut g.N.Node.plain l.cut)
+decreases-loop-alloc g l =
+    cycles_left (kind_of g.N.Node.clock g.N.Node.was g.N.Node.next) (plain_cut g.N.Node.plain l.cut)
     l.until

@@ -31,8 +31,8 @@ loop-shared-preserved g c =
     let kind : NodeKind g.N.Node.Record = kind_of g.N.Node.clock g.N.Node.was g.N.Node.next in
     let some : 0 < length c.loop-shared.rest.items
     = omega (arith, c.remove-in-loop-shared.ensures.len, c.loop-shared.rest.ok) in
-    subst (λ (l : List (SeatState (Key g.row.N.Denot))). IsUniting kind g.N.Node.plain c.args.shared.now c.args.seats.items
-    c.join_seat.new.seat l) (sym c.remove-in-loop-shared.ensures.items)
+    subst (λ (l : List (SeatState (Key g.row.N.Denot))). IsUniting kind g.N.Node.plain c.args.shared.now
+    c.args.seats.items c.join_seat.new.seat l) (sym c.remove-in-loop-shared.ensures.items)
     (uniting_next kind g.N.Node.plain c.args.shared.now c.args.seats.items c.loop-shared.place c.into_place-next.result
     c.join_seat.new.seat c.loop-shared.rest.items c.remove-in-loop-shared.result c.loop-shared.invariant some
     c.remove-in-loop-shared.ensures.value c.into_place-next.ensures c.join_seat.ensures.0 c.join_seat.ensures.2)

@@ -52,11 +52,12 @@ loop-player-preserved g c =
     let next = dealing_on kind g.N.Node.plain c.args.place c.loop-player.place c.split_seat-others.new.seat
     c.split_seat-others.result c.args.players c.args.delays.now c.loop-player.player c.loop-player.seats.items
     c.take_seat.result d less c.split_seat-others.ensures.3 c.split_seat-others.ensures.4 seat_is in
-    subst (λ (l : List (SeatState (Key g.row.N.Denot))). IsDealing kind g.N.Node.plain c.args.place c.replace-first.new.dest
-    c.args.players c.args.delays.now (c.loop-player.player + 1) l) (sym c.in_ok-push.ensures.items)
+    subst (λ (l : List (SeatState (Key g.row.N.Denot))). IsDealing kind g.N.Node.plain c.args.place
+    c.replace-first.new.dest c.args.players c.args.delays.now (c.loop-player.player + 1) l)
+    (sym c.in_ok-push.ensures.items)
     (subst (λ (p : Place g.row.N.Denot). IsDealing kind g.N.Node.plain c.args.place p c.args.players c.args.delays.now
-    (c.loop-player.player + 1) (c.loop-player.seats.items ++ c.take_seat.result ∷ [])) (sym c.replace-first.ensures.after)
-    next)
+    (c.loop-player.player + 1) (c.loop-player.seats.items ++ c.take_seat.result ∷ []))
+    (sym c.replace-first.ensures.after) next)
 
 pub returns : goal.returns
 returns g c key whole =

@@ -9,8 +9,8 @@ pub loop-i-preserved : goal.loop-i-preserved
 loop-i-preserved g c =
     let same = length-map c.args.nodes.now g.N.Node.bound in
     let test = c.loop-i-test.true in
-    least_more (map g.N.Node.bound c.args.nodes.now) c.loop-i.least c.limit-limit.result c.if-limit-least.least c.loop-i.i
-    (omega arith)
+    least_more (map g.N.Node.bound c.args.nodes.now) c.loop-i.least c.limit-limit.result c.if-limit-least.least
+    c.loop-i.i (omega arith)
     (c.limit-limit.ensures.value ∙ ap g.N.Node.bound c.index-nodes-i.is
     ∙ sym (read_map g.N.Node.bound c.args.nodes.now c.loop-i.i c.index-nodes-i.result (omega arith)))
     c.limit-limit.ensures.small

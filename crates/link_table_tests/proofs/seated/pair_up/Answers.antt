@@ -12,8 +12,8 @@ new-requires c =
     let all : c.nodes-nodes.result.now ≡ c.args.cut.now.consoles = c.nodes-nodes.ensures.value in
     let below : c.loop-player.player < length c.args.cut.now.consoles = omega (arith, ap length all) in
     (dealt_seat c.args.cut.now c.args.shared.now c.args.seats.items c.loop-player.player c.index-nodes-player.result
-    c.remove-seat.result c.requires.begun c.nodes-nodes.ensures.cable c.nodes-nodes.ensures.sound c.requires.limits below
-    (c.index-nodes-player.is
+    c.remove-seat.result c.requires.begun c.nodes-nodes.ensures.cable c.nodes-nodes.ensures.sound
+    c.requires.limits below (c.index-nodes-player.is
     ∙ ap (λ (l : List Ticker). get_or l c.loop-player.player c.index-nodes-player.result) all)
     (c.remove-seat.ensures.value
     ∙ ap (λ (l : List (SeatState (Key Ticker))). get_or l 0 c.remove-seat.result) c.loop-player.invariant.seats)).fresh
@@ -25,8 +25,8 @@ loop-player-preserved c =
     let d : IsDealt c.args.shared.now (length c.args.cut.now.consoles) c.loop-player.player c.index-nodes-player.result
     c.remove-seat.result
     = dealt_seat c.args.cut.now c.args.shared.now c.args.seats.items c.loop-player.player c.index-nodes-player.result
-    c.remove-seat.result c.requires.begun c.nodes-nodes.ensures.cable c.nodes-nodes.ensures.sound c.requires.limits below
-    (c.index-nodes-player.is
+    c.remove-seat.result c.requires.begun c.nodes-nodes.ensures.cable c.nodes-nodes.ensures.sound
+    c.requires.limits below (c.index-nodes-player.is
     ∙ ap (λ (l : List Ticker). get_or l c.loop-player.player c.index-nodes-player.result) all)
     (c.remove-seat.ensures.value
     ∙ ap (λ (l : List (SeatState (Key Ticker))). get_or l 0 c.remove-seat.result) c.loop-player.invariant.seats) in

@@ -15,5 +15,6 @@ new-requires-clause-cable g c =
 
 pub new-requires-clause-sound : goal.new-requires-clause-sound
 new-requires-clause-sound g c =
-    sound_start (kind_of g.N.Node.clock g.N.Node.was g.N.Node.next) (map g.N.Node.plain c.args.nodes.items) c.args.delays
+    sound_start (kind_of g.N.Node.clock g.N.Node.was g.N.Node.next) (map g.N.Node.plain c.args.nodes.items)
+    c.args.delays
     (fresh_map (kind_of g.N.Node.clock g.N.Node.was g.N.Node.next) g.N.Node.plain c.args.nodes.items c.requires.fresh)

@@ -14,7 +14,8 @@ invariant_of-self-in-Second c =
     ap backup after.view_is ∙ ap backup c.erase.ensures ∙ sym (ap backup c.self.view_is) in
     let none : has_banks after.inside.backup ≡ false → is_bank said.result ≡ false =
     λ one. subst (λ k. is_bank k ≡ false) (sym said.ensures)
-    (none-chooses c.args.offset c.args.value c.self.inside.backup c.self.inside.machine.armed (sym (ap has_banks same) ∙ one)) in
+    (none-chooses c.args.offset c.args.value c.self.inside.backup c.self.inside.machine.armed
+    (sym (ap has_banks same) ∙ one)) in
     record {
       flash = after.invariant.flash;
       bytes = after.invariant.bytes;

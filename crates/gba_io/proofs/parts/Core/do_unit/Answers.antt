@@ -11,14 +11,16 @@ pub overflow_add-result : goal.overflow_add-result
 overflow_add-result c =
     let unit = c.args.unit in
     let read = core_load_prices c.args.self.now outside_bios unit.source unit.width (not unit.first) in
-    let written = core_store_prices c.load-value.new.self unit.target unit.width c.load-value.result.0 (not unit.first) in
+    let written =
+    core_store_prices c.load-value.new.self unit.target unit.width c.load-value.result.0 (not unit.first) in
     Fits-of_lt (omega (arith, c.load-value.ensures.price, read.most, c.store-written.ensures.price, written.most))
 
 pub overflow_add-result-2 : goal.overflow_add-result-2
 overflow_add-result-2 c =
     let unit = c.args.unit in
     let read = core_load_prices c.args.self.now outside_bios unit.source unit.width (not unit.first) in
-    let written = core_store_prices c.load-value.new.self unit.target unit.width c.load-value.result.0 (not unit.first) in
+    let written =
+    core_store_prices c.load-value.new.self unit.target unit.width c.load-value.result.0 (not unit.first) in
     Fits-of_lt (omega (
       arith,
       c.load-value.ensures.price,
@@ -31,7 +33,8 @@ overflow_add-result-2 c =
 pub invariant_of-self : goal.invariant_of-self
 invariant_of-self c = (
   c.self.invariant.0
-      ∙ sym (ap (λ (d : Devices). d.priced) c.end_unit.ensures ∙ unit-keeps-priced c.args.unit.channel c.self.inside.devices),
+      ∙ sym (ap (λ (d : Devices). d.priced) c.end_unit.ensures
+      ∙ unit-keeps-priced c.args.unit.channel c.self.inside.devices),
   search rules,
   omega (
     arith,

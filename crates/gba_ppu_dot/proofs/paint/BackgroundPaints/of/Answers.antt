@@ -5,8 +5,9 @@ use Rattle.gba_ppu_dot.specs.Paints.{byte_paint, nibble_paint, palette_colour}
 use Rattle.gba_ppu_dot.proofs.paint.BackgroundPaints.of.Goals as goal
 
 nibble_at : (palette paints colours : List ℕ) (entry : ℕ) → ((q : ℕ) → q < 16 → slice_index paints (16 * q) ≡ 0x8000)
-    → ((k : ℕ) → k % 16 ≢ 0 → slice_index paints k ≡ slice_index colours k) → slice_index colours entry ≡ palette_colour palette entry
-    → entry < 256 → slice_index paints entry ≡ nibble_paint palette entry
+    → ((k : ℕ) → k % 16 ≢ 0 → slice_index paints k ≡ slice_index colours k)
+    → slice_index colours entry ≡ palette_colour palette entry → entry < 256
+    → slice_index paints entry ≡ nibble_paint palette entry
 nibble_at palette paints colours entry firsts others is h =
     ⊎_elim
     (λ (e : entry % 16 ≡ 0).
@@ -16,7 +17,8 @@ nibble_at palette paints colours entry firsts others is h =
     (λ (n : entry % 16 ≢ 0). others entry n ∙ is ∙ sym (rw (ne_eqb (entry % 16) 0 n) refl))
     (cases_eq (entry % 16) 0)
 
-byte_at : (palette colours : List ℕ) (entry : ℕ) → length colours ≡ 256 → slice_index colours entry ≡ palette_colour palette entry
+byte_at : (palette colours : List ℕ) (entry : ℕ) → length colours ≡ 256
+    → slice_index colours entry ≡ palette_colour palette entry
     → slice_index (slice_set colours 0 0x8000) entry ≡ byte_paint palette entry
 byte_at palette colours entry long is =
     ⊎_elim
@@ -33,7 +35,7 @@ returns c =
     let long : length colours ≡ 256 = omega (arith, c.put_colours.auto.paints) in
     record {
       by_nibble = λ entry h.
-          nibble_at palette c.clear_firsts.new.paints colours entry c.clear_firsts.ensures.firsts c.clear_firsts.ensures.others
-          (c.put_colours.ensures entry h) h;
+          nibble_at palette c.clear_firsts.new.paints colours entry c.clear_firsts.ensures.firsts
+          c.clear_firsts.ensures.others (c.put_colours.ensures entry h) h;
       by_byte = λ entry h. byte_at palette colours entry long (c.put_colours.ensures entry h);
     }

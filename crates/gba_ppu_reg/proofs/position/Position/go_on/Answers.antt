@@ -7,5 +7,5 @@ returns-then-moved-lt1232-clause-position c = within_line c.args.cycles c.args.s
 
 pub returns-else-moved-lt1232-clause-position : goal.returns-else-moved-lt1232-clause-position
 returns-else-moved-lt1232-clause-position c =
-    past_line c.args.cycles c.following_line-self.result c.args.self.now c.requires.sound.dot (omega (arith, c.requires.most))
-    c.following_line-self.ensures c.if-moved-lt1232.false
+    past_line c.args.cycles c.following_line-self.result c.args.self.now c.requires.sound.dot
+    (omega (arith, c.requires.most)) c.following_line-self.ensures c.if-moved-lt1232.false

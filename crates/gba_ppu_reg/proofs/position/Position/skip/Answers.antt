@@ -11,7 +11,8 @@ overflow_add-self c =
 
 pub returns-clause-position : goal.returns-clause-position
 returns-clause-position c =
-    within_line c.args.cycles c.args.self.now (skip-within c.args.cycles c.args.self.now c.requires.sound c.requires.quiet)
+    within_line c.args.cycles c.args.self.now
+    (skip-within c.args.cycles c.args.self.now c.requires.sound c.requires.quiet)
 
 pub returns-clause-sound : goal.returns-clause-sound
 returns-clause-sound c = record {

@@ -13,8 +13,10 @@ returns-then-not-self-clause-right c =
 
 pub returns-then-not-self-clause-most_left : goal.returns-then-not-self-clause-most_left
 returns-then-not-self-clause-most_left c =
-    subst (λ n. n ≤ 15360) (sym (left-off-after c.args.cycles c.args.self.now c.requires.sound c.if-not-self.true)) (omega arith)
+    subst (λ n. n ≤ 15360) (sym (left-off-after c.args.cycles c.args.self.now c.requires.sound c.if-not-self.true))
+    (omega arith)
 
 pub returns-then-not-self-clause-most_right : goal.returns-then-not-self-clause-most_right
 returns-then-not-self-clause-most_right c =
-    subst (λ n. n ≤ 15360) (sym (right-off-after c.args.cycles c.args.self.now c.requires.sound c.if-not-self.true)) (omega arith)
+    subst (λ n. n ≤ 15360) (sym (right-off-after c.args.cycles c.args.self.now c.requires.sound c.if-not-self.true))
+    (omega arith)

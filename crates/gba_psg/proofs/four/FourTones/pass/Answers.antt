@@ -13,5 +13,5 @@ overflow_add-self c =
 pub returns : goal.returns
 returns c =
     (λ i. record (c.run.ensures i) { sequencer = (c.run.ensures i).sequencer + c.args.cycles })
-    ∙ passes c.args.cycles c.args.self.now c.requires.on (sound-waits c.args.self.now c.requires.sound) c.requires.before
-    c.requires.sound.sequencer
+    ∙ passes c.args.cycles c.args.self.now c.requires.on (sound-waits c.args.self.now c.requires.sound)
+    c.requires.before c.requires.sound.sequencer

@@ -18,7 +18,8 @@ unfolding run
 overflow_add-self-2 c =
     let ts = c.args.self.now in
     let on = c.requires.on in
-    let sound = subst AreSound (sym c.tick.ensures) (ticked-sound (counted ts) on (counted-sound ts on c.requires.sound)) in
+    let sound =
+    subst AreSound (sym c.tick.ensures) (ticked-sound (counted ts) on (counted-sound ts on c.requires.sound)) in
     let same = ap (λ (t : FourTones). t.sequencer) c.run.ensures in
     omega (arith, same, sound.sequencer, c.requires.most)
 

@@ -6,8 +6,10 @@ use Rattle.gba_psg.proofs.noise.Noise.period.Goals as goal
 pub returns-else-ratio-eq0-clause-value : goal.returns-else-ratio-eq0-clause-value
 returns-else-ratio-eq0-clause-value c =
     let control = c.args.self.now.control in
-    let ratio : c.bits-ratio.result ≡ field control 0 3 = c.bits-ratio.ensures ∙ ap (λ n. field n 0 3) c.from-control.ensures in
-    let shift : c.bits-shift.result ≡ field control 4 4 = c.bits-shift.ensures ∙ ap (λ n. field n 4 4) c.from-control.ensures in
+    let ratio : c.bits-ratio.result ≡ field control 0 3 =
+    c.bits-ratio.ensures ∙ ap (λ n. field n 0 3) c.from-control.ensures in
+    let shift : c.bits-shift.result ≡ field control 4 4 =
+    c.bits-shift.ensures ∙ ap (λ n. field n 4 4) c.from-control.ensures in
     let some : field control 0 3 ≡ 0 → ⊥ = λ none. c.if-ratio-eq0.false (ratio ∙ none) in
     let fits = fits-32 (field control 0 3) (field control 4 4) (field-below control 0 3) (field-below control 4 4) in
     ap (λ n. n * 2 ^ (c.bits-shift.result + 6) % 2 ^ 32) ratio

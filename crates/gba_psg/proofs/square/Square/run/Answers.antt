@@ -19,8 +19,9 @@ returns-then-moves-gt0 c =
     let from = ap (λ (t : Tone). (t.place + c.pass-moves.result) % 8) c.pass-moves.ensures.tone in
     let rounds = round-some 8 c.pass-moves.result s.tone.place (omega arith) c.if-moves-gt0.true in
     λ i. record s {
-      tone = tone-moved next_eighth (square_period s) c.args.cycles c.pass-moves.result _ s.tone c.pass-moves.new.self waits moves
-          (from ∙ sym rounds) i;
+      tone =
+          tone-moved next_eighth (square_period s) c.args.cycles c.pass-moves.result _ s.tone c.pass-moves.new.self
+          waits moves (from ∙ sym rounds) i;
     }
 
 pub returns-else-moves-gt0 : goal.returns-else-moves-gt0
@@ -30,6 +31,7 @@ returns-else-moves-gt0 c =
     let waits = c.pass-moves.ensures.tone ∙ ap (λ n. record s.tone { wait = wait_of n c.args.cycles s.tone }) p in
     let moves = c.pass-moves.ensures.moves ∙ ap (λ n. moves_of n c.args.cycles s.tone) p in
     λ i. record s {
-      tone = tone-waits next_eighth (square_period s) c.args.cycles c.pass-moves.result s.tone c.pass-moves.new.self waits moves
-          c.if-moves-gt0.false i;
+      tone =
+          tone-waits next_eighth (square_period s) c.args.cycles c.pass-moves.result s.tone c.pass-moves.new.self
+          waits moves c.if-moves-gt0.false i;
     }

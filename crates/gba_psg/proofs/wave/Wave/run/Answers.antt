@@ -21,8 +21,9 @@ returns-then-moves-gt0 c =
     let some : 0 < digit_count s = omega (arith, c.digit_count.ensures.some, size) in
     let rounds = round-some (digit_count s) c.pass-moves.result s.tone.place some c.if-moves-gt0.true in
     λ i. record s {
-      tone = tone-moved (next_digit s) (wave_period s) c.args.cycles c.pass-moves.result _ s.tone c.pass-moves.new.self waits moves
-          (from ∙ ap (λ n. (s.tone.place + c.pass-moves.result) % n) size ∙ sym rounds) i;
+      tone =
+          tone-moved (next_digit s) (wave_period s) c.args.cycles c.pass-moves.result _ s.tone c.pass-moves.new.self
+          waits moves (from ∙ ap (λ n. (s.tone.place + c.pass-moves.result) % n) size ∙ sym rounds) i;
     }
 
 pub returns-else-moves-gt0 : goal.returns-else-moves-gt0
@@ -32,6 +33,7 @@ returns-else-moves-gt0 c =
     let waits = c.pass-moves.ensures.tone ∙ ap (λ n. record s.tone { wait = wait_of n c.args.cycles s.tone }) p in
     let moves = c.pass-moves.ensures.moves ∙ ap (λ n. moves_of n c.args.cycles s.tone) p in
     λ i. record s {
-      tone = tone-waits (next_digit s) (wave_period s) c.args.cycles c.pass-moves.result s.tone c.pass-moves.new.self waits moves
-          c.if-moves-gt0.false i;
+      tone =
+          tone-waits (next_digit s) (wave_period s) c.args.cycles c.pass-moves.result s.tone c.pass-moves.new.self
+          waits moves c.if-moves-gt0.false i;
     }

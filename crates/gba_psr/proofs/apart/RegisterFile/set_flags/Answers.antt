@@ -7,4 +7,5 @@ pub returns : goal.returns
 returns c =
     let inside = c.self.inside in
     let now : Flags = inside.kept in
-    rw (c.new-self-inside.ensures, ← c.self.view_is) (sym (with_flags-with_flags inside.file now c.args.flags c.cpsr.ensures.file.count))
+    rw (c.new-self-inside.ensures, ← c.self.view_is)
+    (sym (with_flags-with_flags inside.file now c.args.flags c.cpsr.ensures.file.count))

@@ -14,4 +14,5 @@ returns c =
       carry = c.args.carry;
       overflow = c.args.overflow;
     } in
-    rw (c.set_result.ensures, ← c.self.view_is) (sym (with_flags-with_flags inside.file now after c.cpsr.ensures.file.count))
+    rw (c.set_result.ensures, ← c.self.view_is)
+    (sym (with_flags-with_flags inside.file now after c.cpsr.ensures.file.count))

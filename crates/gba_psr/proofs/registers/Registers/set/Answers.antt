@@ -3,4 +3,5 @@ use Rattle.gba_psr.proofs.Views.{with_register_kept}
 use Rattle.gba_psr.proofs.registers.Registers.set.Goals as goal
 
 pub returns : goal.returns
-returns c = rw (← c.self.view_is) (with_register_kept c.self.inside.numbers c.args.number c.args.value (omega arith) c.requires)
+returns c =
+    rw (← c.self.view_is) (with_register_kept c.self.inside.numbers c.args.number c.args.value (omega arith) c.requires)

@@ -22,7 +22,8 @@ use Rattle.gba_run_files.proofs.freezing.PreparedFreeze.write_files.Goals as goa
 
 pub returns-in_err-session-clause-files : goal.returns-in_err-session-clause-files
 returns-in_err-session-clause-files g c =
-    let names : RunNames = record { consoles = map names_value c.self.inside.names.items; log = string_bytes c.self.inside.name } in
+    let names : RunNames =
+    record { consoles = map names_value c.self.inside.names.items; log = string_bytes c.self.inside.name } in
     let job = job_value c.self.inside.job in
     let digest = c.self.inside.digest in
     let s = c.self.inside.session in
@@ -33,21 +34,24 @@ returns-in_err-session-clause-files g c =
     let pieces = run_pieces names.consoles s in
     let Tells = g.O.Sink.Tells in
     let old = g.O.Sink.state c.args.out.now in
-    let calls : file_calls c.args.self ≡ file_calls (frozen_run names job digest s) = ap file_calls (sym c.self.view_is) in
+    let calls : file_calls c.args.self ≡ file_calls (frozen_run names job digest s) =
+    ap file_calls (sym c.self.view_is) in
     let done : PerformsAll Tells (map creation made ++ map addition pieces) old (g.O.Sink.state c.write_outputs.new.out)
     (write_stop_value c.in_err-session.field-0.0) =
     rw (c.as_slice.ensures.value, c.new-first.ensures.items, c.as_slice-2.ensures.value, c.as_str.ensures.value) at
     (c.in_err-session.ensures.calls files text (files-many job s c.self.invariant.1)) in
     let p = err_from_is_err_and c.from_residual.result c.from_residual.ensures.1 in
     rw (p.1, p.2) (
-    subst (λ (all : List Call). PerformsAll Tells all old (g.O.Sink.state c.write_outputs.new.out) (write_stop_value c.in_err-session.field-0.0)) (sym calls)
-    (stopped-before Tells made pieces entry old (g.O.Sink.state c.write_outputs.new.out) (write_stop_value c.in_err-session.field-0.0)
-    done (stopped c.in_err-session.field-0.0))
+    subst (λ (all : List Call). PerformsAll Tells all old (g.O.Sink.state c.write_outputs.new.out)
+    (write_stop_value c.in_err-session.field-0.0)) (sym calls)
+    (stopped-before Tells made pieces entry old (g.O.Sink.state c.write_outputs.new.out)
+    (write_stop_value c.in_err-session.field-0.0) done (stopped c.in_err-session.field-0.0))
     )
 
 pub returns-in_err-append-clause-files : goal.returns-in_err-append-clause-files
 returns-in_err-append-clause-files g c =
-    let names : RunNames = record { consoles = map names_value c.self.inside.names.items; log = string_bytes c.self.inside.name } in
+    let names : RunNames =
+    record { consoles = map names_value c.self.inside.names.items; log = string_bytes c.self.inside.name } in
     let job = job_value c.self.inside.job in
     let digest = c.self.inside.digest in
     let s = c.self.inside.session in
@@ -58,8 +62,10 @@ returns-in_err-append-clause-files g c =
     let pieces = run_pieces names.consoles s in
     let Tells = g.O.Sink.Tells in
     let old = g.O.Sink.state c.args.out.now in
-    let calls : file_calls c.args.self ≡ file_calls (frozen_run names job digest s) = ap file_calls (sym c.self.view_is) in
-    let done : PerformsAll Tells (map creation made ++ map addition pieces) old (g.O.Sink.state c.write_outputs.new.out) Wrote =
+    let calls : file_calls c.args.self ≡ file_calls (frozen_run names job digest s) =
+    ap file_calls (sym c.self.view_is) in
+    let done : PerformsAll Tells (map creation made ++ map addition pieces) old
+    (g.O.Sink.state c.write_outputs.new.out) Wrote =
     rw (c.as_slice.ensures.value, c.new-first.ensures.items, c.as_slice-2.ensures.value, c.as_str.ensures.value) at
     (c.in_ok-session.ensures.calls files text (files-many job s c.self.invariant.1)) in
     let t = c.in_ok-session.session in
@@ -72,14 +78,17 @@ returns-in_err-append-clause-files g c =
     ∙ ap (λ (cut : Cut Machine). frozen_file digest cut) (same-whole s t c.in_ok-session.ensures.last) in
     let p = err_from_is_err_and c.from_residual-in_err-append.result c.from_residual-in_err-append.ensures.1 in
     rw (p.1, p.2) (
-    subst (λ (all : List Call). PerformsAll Tells all old (g.O.Sink.state c.append.new.out) (write_stop_value c.in_err-append.field-0.0)) (sym calls)
-    (last-added Tells made pieces entry old (g.O.Sink.state c.write_outputs.new.out) done (g.O.Sink.state c.append.new.out)
+    subst (λ (all : List Call). PerformsAll Tells all old (g.O.Sink.state c.append.new.out)
+    (write_stop_value c.in_err-append.field-0.0)) (sym calls)
+    (last-added Tells made pieces entry old (g.O.Sink.state c.write_outputs.new.out) done
+    (g.O.Sink.state c.append.new.out)
     (write_stop_value c.in_err-append.field-0.0) (rw (c.as_str-2.ensures.value, text_is) at c.in_err-append.ensures))
     )
 
 pub returns-clause-files : goal.returns-clause-files
 returns-clause-files g c =
-    let names : RunNames = record { consoles = map names_value c.self.inside.names.items; log = string_bytes c.self.inside.name } in
+    let names : RunNames =
+    record { consoles = map names_value c.self.inside.names.items; log = string_bytes c.self.inside.name } in
     let job = job_value c.self.inside.job in
     let digest = c.self.inside.digest in
     let s = c.self.inside.session in
@@ -90,8 +99,10 @@ returns-clause-files g c =
     let pieces = run_pieces names.consoles s in
     let Tells = g.O.Sink.Tells in
     let old = g.O.Sink.state c.args.out.now in
-    let calls : file_calls c.args.self ≡ file_calls (frozen_run names job digest s) = ap file_calls (sym c.self.view_is) in
-    let done : PerformsAll Tells (map creation made ++ map addition pieces) old (g.O.Sink.state c.write_outputs.new.out) Wrote =
+    let calls : file_calls c.args.self ≡ file_calls (frozen_run names job digest s) =
+    ap file_calls (sym c.self.view_is) in
+    let done : PerformsAll Tells (map creation made ++ map addition pieces) old
+    (g.O.Sink.state c.write_outputs.new.out) Wrote =
     rw (c.as_slice.ensures.value, c.new-first.ensures.items, c.as_slice-2.ensures.value, c.as_str.ensures.value) at
     (c.in_ok-session.ensures.calls files text (files-many job s c.self.invariant.1)) in
     let t = c.in_ok-session.session in
@@ -103,8 +114,8 @@ returns-clause-files g c =
     ∙ file-forgotten digest (segment_cut t) (whole_cut t) c.ends_whole.ensures.consoles c.ends_whole.ensures.sent
     ∙ ap (λ (cut : Cut Machine). frozen_file digest cut) (same-whole s t c.in_ok-session.ensures.last) in
     subst (λ (all : List Call). PerformsAll Tells all old (g.O.Sink.state c.append.new.out) (Wrote)) (sym calls)
-    (last-added Tells made pieces entry old (g.O.Sink.state c.write_outputs.new.out) done (g.O.Sink.state c.append.new.out) Wrote
-    (rw (c.as_str-2.ensures.value, text_is) at c.in_ok-append.ensures))
+    (last-added Tells made pieces entry old (g.O.Sink.state c.write_outputs.new.out) done
+    (g.O.Sink.state c.append.new.out) Wrote (rw (c.as_str-2.ensures.value, text_is) at c.in_ok-append.ensures))
 
 pub returns-clause-end : goal.returns-clause-end
 returns-clause-end g c =

@@ -20,7 +20,8 @@ use Rattle.gba_run_files.proofs.prepared.PreparedRun.write_files.Goals as goal
 pub returns-in_err-session-clause-files : goal.returns-in_err-session-clause-files
 returns-in_err-session-clause-files g c =
     let first = map output_value c.self.inside.first.items in
-    let names : RunNames = record { consoles = map names_value c.self.inside.names.items; log = string_bytes c.self.inside.log_name } in
+    let names : RunNames =
+    record { consoles = map names_value c.self.inside.names.items; log = string_bytes c.self.inside.log_name } in
     let job = job_value c.self.inside.job in
     let s = c.self.inside.session in
     let files = files_at job (whole_cut s) in
@@ -30,24 +31,29 @@ returns-in_err-session-clause-files g c =
     let pieces = first ++ run_pieces names.consoles s in
     let Tells = g.O.Sink.Tells in
     let old = g.O.Sink.state c.args.out.now in
-    let calls : file_calls c.args.self ≡ file_calls (after_files first (run_of names job s)) = ap file_calls (sym c.self.view_is) in
-    let assoc : map creation made ++ map addition (pieces ++ entry ∷ []) ≡ file_calls (after_files first (run_of names job s)) =
-    ap (λ (ps : List Output). map creation made ++ map addition ps) (append_assoc first (run_pieces names.consoles s) (entry ∷ [])) in
+    let calls : file_calls c.args.self ≡ file_calls (after_files first (run_of names job s)) =
+    ap file_calls (sym c.self.view_is) in
+    let assoc : map creation made ++ map addition (pieces ++ entry ∷ [])
+    ≡ file_calls (after_files first (run_of names job s)) =
+    ap (λ (ps : List Output). map creation made ++ map addition ps)
+    (append_assoc first (run_pieces names.consoles s) (entry ∷ [])) in
     let done : PerformsAll Tells (map creation made ++ map addition pieces) old (g.O.Sink.state c.write_outputs.new.out)
     (write_stop_value c.in_err-session.field-0.0) =
     rw (c.as_slice.ensures.value, c.as_slice-names.ensures.value, c.as_str.ensures.value) at
     (c.in_err-session.ensures.calls files log (files-many job s c.self.invariant.1)) in
     let p = err_from_is_err_and c.from_residual.result c.from_residual.ensures.1 in
     rw (p.1, p.2) (
-    subst (λ (all : List Call). PerformsAll Tells all old (g.O.Sink.state c.write_outputs.new.out) (write_stop_value c.in_err-session.field-0.0)) (assoc ∙ sym calls)
-    (stopped-before Tells made pieces entry old (g.O.Sink.state c.write_outputs.new.out) (write_stop_value c.in_err-session.field-0.0)
-    done (stopped c.in_err-session.field-0.0))
+    subst (λ (all : List Call). PerformsAll Tells all old (g.O.Sink.state c.write_outputs.new.out)
+    (write_stop_value c.in_err-session.field-0.0)) (assoc ∙ sym calls)
+    (stopped-before Tells made pieces entry old (g.O.Sink.state c.write_outputs.new.out)
+    (write_stop_value c.in_err-session.field-0.0) done (stopped c.in_err-session.field-0.0))
     )
 
 pub returns-in_err-append-clause-files : goal.returns-in_err-append-clause-files
 returns-in_err-append-clause-files g c =
     let first = map output_value c.self.inside.first.items in
-    let names : RunNames = record { consoles = map names_value c.self.inside.names.items; log = string_bytes c.self.inside.log_name } in
+    let names : RunNames =
+    record { consoles = map names_value c.self.inside.names.items; log = string_bytes c.self.inside.log_name } in
     let job = job_value c.self.inside.job in
     let s = c.self.inside.session in
     let files = files_at job (whole_cut s) in
@@ -57,10 +63,14 @@ returns-in_err-append-clause-files g c =
     let pieces = first ++ run_pieces names.consoles s in
     let Tells = g.O.Sink.Tells in
     let old = g.O.Sink.state c.args.out.now in
-    let calls : file_calls c.args.self ≡ file_calls (after_files first (run_of names job s)) = ap file_calls (sym c.self.view_is) in
-    let assoc : map creation made ++ map addition (pieces ++ entry ∷ []) ≡ file_calls (after_files first (run_of names job s)) =
-    ap (λ (ps : List Output). map creation made ++ map addition ps) (append_assoc first (run_pieces names.consoles s) (entry ∷ [])) in
-    let done : PerformsAll Tells (map creation made ++ map addition pieces) old (g.O.Sink.state c.write_outputs.new.out) Wrote =
+    let calls : file_calls c.args.self ≡ file_calls (after_files first (run_of names job s)) =
+    ap file_calls (sym c.self.view_is) in
+    let assoc : map creation made ++ map addition (pieces ++ entry ∷ [])
+    ≡ file_calls (after_files first (run_of names job s)) =
+    ap (λ (ps : List Output). map creation made ++ map addition ps)
+    (append_assoc first (run_pieces names.consoles s) (entry ∷ [])) in
+    let done : PerformsAll Tells (map creation made ++ map addition pieces) old
+    (g.O.Sink.state c.write_outputs.new.out) Wrote =
     rw (c.as_slice.ensures.value, c.as_slice-names.ensures.value, c.as_str.ensures.value) at
     (c.in_ok-session.ensures.calls files log (files-many job s c.self.invariant.1)) in
     let t = c.in_ok-session.session in
@@ -69,15 +79,18 @@ returns-in_err-append-clause-files g c =
     ∙ ap (λ (cut : Cut Machine). log_of job (files_at job cut)) (same-whole s t c.in_ok-session.ensures.last) in
     let p = err_from_is_err_and c.from_residual-in_err-append.result c.from_residual-in_err-append.ensures.1 in
     rw (p.1, p.2) (
-    subst (λ (all : List Call). PerformsAll Tells all old (g.O.Sink.state c.append.new.out) (write_stop_value c.in_err-append.field-0.0)) (assoc ∙ sym calls)
-    (last-added Tells made pieces entry old (g.O.Sink.state c.write_outputs.new.out) done (g.O.Sink.state c.append.new.out)
+    subst (λ (all : List Call). PerformsAll Tells all old (g.O.Sink.state c.append.new.out)
+    (write_stop_value c.in_err-append.field-0.0)) (assoc ∙ sym calls)
+    (last-added Tells made pieces entry old (g.O.Sink.state c.write_outputs.new.out) done
+    (g.O.Sink.state c.append.new.out)
     (write_stop_value c.in_err-append.field-0.0) (rw (c.as_str-2.ensures.value, log_is) at c.in_err-append.ensures))
     )
 
 pub returns-clause-files : goal.returns-clause-files
 returns-clause-files g c =
     let first = map output_value c.self.inside.first.items in
-    let names : RunNames = record { consoles = map names_value c.self.inside.names.items; log = string_bytes c.self.inside.log_name } in
+    let names : RunNames =
+    record { consoles = map names_value c.self.inside.names.items; log = string_bytes c.self.inside.log_name } in
     let job = job_value c.self.inside.job in
     let s = c.self.inside.session in
     let files = files_at job (whole_cut s) in
@@ -87,10 +100,14 @@ returns-clause-files g c =
     let pieces = first ++ run_pieces names.consoles s in
     let Tells = g.O.Sink.Tells in
     let old = g.O.Sink.state c.args.out.now in
-    let calls : file_calls c.args.self ≡ file_calls (after_files first (run_of names job s)) = ap file_calls (sym c.self.view_is) in
-    let assoc : map creation made ++ map addition (pieces ++ entry ∷ []) ≡ file_calls (after_files first (run_of names job s)) =
-    ap (λ (ps : List Output). map creation made ++ map addition ps) (append_assoc first (run_pieces names.consoles s) (entry ∷ [])) in
-    let done : PerformsAll Tells (map creation made ++ map addition pieces) old (g.O.Sink.state c.write_outputs.new.out) Wrote =
+    let calls : file_calls c.args.self ≡ file_calls (after_files first (run_of names job s)) =
+    ap file_calls (sym c.self.view_is) in
+    let assoc : map creation made ++ map addition (pieces ++ entry ∷ [])
+    ≡ file_calls (after_files first (run_of names job s)) =
+    ap (λ (ps : List Output). map creation made ++ map addition ps)
+    (append_assoc first (run_pieces names.consoles s) (entry ∷ [])) in
+    let done : PerformsAll Tells (map creation made ++ map addition pieces) old
+    (g.O.Sink.state c.write_outputs.new.out) Wrote =
     rw (c.as_slice.ensures.value, c.as_slice-names.ensures.value, c.as_str.ensures.value) at
     (c.in_ok-session.ensures.calls files log (files-many job s c.self.invariant.1)) in
     let t = c.in_ok-session.session in
@@ -98,8 +115,8 @@ returns-clause-files g c =
     c.as_slice-2.ensures.value ∙ c.end_log-end.ensures.log
     ∙ ap (λ (cut : Cut Machine). log_of job (files_at job cut)) (same-whole s t c.in_ok-session.ensures.last) in
     subst (λ (all : List Call). PerformsAll Tells all old (g.O.Sink.state c.append.new.out) (Wrote)) (assoc ∙ sym calls)
-    (last-added Tells made pieces entry old (g.O.Sink.state c.write_outputs.new.out) done (g.O.Sink.state c.append.new.out) Wrote
-    (rw (c.as_str-2.ensures.value, log_is) at c.in_ok-append.ensures))
+    (last-added Tells made pieces entry old (g.O.Sink.state c.write_outputs.new.out) done
+    (g.O.Sink.state c.append.new.out) Wrote (rw (c.as_str-2.ensures.value, log_is) at c.in_ok-append.ensures))
 
 pub returns-clause-end : goal.returns-clause-end
 returns-clause-end g c =

@@ -15,7 +15,9 @@ invariant_of-result c =
       record {
         asks = ap (λ (s : Consoles). s.asks) c.in_ok-session.ensures;
         until = ap (λ (s : Consoles). s.until) c.in_ok-session.ensures;
-        left = begin-before (job_value c.args.job) _ c.in_ok-session.session c.in_ok-session.ensures c.requires.sound.some_cycles;
+        left =
+            begin-before (job_value c.args.job) _ c.in_ok-session.session c.in_ok-session.ensures
+            c.requires.sound.some_cycles;
         many = ap (λ (s : Consoles). length s.start.consoles) c.in_ok-session.ensures
             ∙ length-map c.args.cut.consoles without_limit ∙ c.requires.count;
       },

@@ -13,7 +13,8 @@ returns-in-Frames c m is =
     let held = subst (λ (x : Consoles). IsSegmented x cut players) c.self.view_is c.self.invariant in
     let asks = ap (λ (x : Consoles). x.asks) c.self.view_is in
     digests-frames v cut players held asks c.args.player c.index.result.now c.requires.player
-    c.index.ensures c.args.kind c.requires.asked m c.requires.over is c.digest_in.result c.in-Frames.is c.digest_in.ensures
+    c.index.ensures c.args.kind c.requires.asked m c.requires.over is c.digest_in.result c.in-Frames.is
+    c.digest_in.ensures
 
 pub returns-in-Samples : goal.returns-in-Samples
 returns-in-Samples c m is =
@@ -23,7 +24,8 @@ returns-in-Samples c m is =
     let held = subst (λ (x : Consoles). IsSegmented x cut players) c.self.view_is c.self.invariant in
     let asks = ap (λ (x : Consoles). x.asks) c.self.view_is in
     digests-samples v cut players held asks c.args.player c.index-in-Samples.result.now c.requires.player
-    c.index-in-Samples.ensures c.args.kind c.requires.asked m c.requires.over is c.digest_in-in-Samples.result c.in-Samples.is c.digest_in-in-Samples.ensures
+    c.index-in-Samples.ensures c.args.kind c.requires.asked m c.requires.over is c.digest_in-in-Samples.result
+    c.in-Samples.is c.digest_in-in-Samples.ensures
 
 pub returns-in-Words : goal.returns-in-Words
 returns-in-Words c m is =
@@ -33,7 +35,8 @@ returns-in-Words c m is =
     let held = subst (λ (x : Consoles). IsSegmented x cut players) c.self.view_is c.self.invariant in
     let asks = ap (λ (x : Consoles). x.asks) c.self.view_is in
     digests-words v cut players held asks c.args.player c.index-in-Words.result.now c.requires.player
-    c.index-in-Words.ensures c.args.kind c.requires.asked m c.requires.over is c.digest_in-in-Words.result c.in-Words.is c.digest_in-in-Words.ensures
+    c.index-in-Words.ensures c.args.kind c.requires.asked m c.requires.over is c.digest_in-in-Words.result c.in-Words.is
+    c.digest_in-in-Words.ensures
 
 pub returns-in-State : goal.returns-in-State
 returns-in-State c m is =
@@ -43,8 +46,8 @@ returns-in-State c m is =
     let held = subst (λ (x : Consoles). IsSegmented x cut players) c.self.view_is c.self.invariant in
     let asks = ap (λ (x : Consoles). x.asks) c.self.view_is in
     digests-state v cut players held asks c.args.player c.index-in-State.result.now c.requires.player
-    c.index-in-State.ensures c.args.kind c.requires.asked m c.requires.over is c.digest.result c.segments.ensures.live c.in-State.is
-    (c.digest.ensures ∙ ap sha256 c.as_slice.ensures.value)
+    c.index-in-State.ensures c.args.kind c.requires.asked m c.requires.over is c.digest.result c.segments.ensures.live
+    c.in-State.is (c.digest.ensures ∙ ap sha256 c.as_slice.ensures.value)
 
 pub returns-in-Save : goal.returns-in-Save
 returns-in-Save c m is =
@@ -54,5 +57,5 @@ returns-in-Save c m is =
     let held = subst (λ (x : Consoles). IsSegmented x cut players) c.self.view_is c.self.invariant in
     let asks = ap (λ (x : Consoles). x.asks) c.self.view_is in
     digests-save v cut players held asks c.args.player c.index-in-Save.result.now c.requires.player
-    c.index-in-Save.ensures c.args.kind c.requires.asked m c.requires.over is c.digest-in-Save.result c.segments.ensures.live c.in-Save.is
-    (c.digest-in-Save.ensures ∙ ap sha256 c.as_slice-in-Save.ensures.value)
+    c.index-in-Save.ensures c.args.kind c.requires.asked m c.requires.over is c.digest-in-Save.result
+    c.segments.ensures.live c.in-Save.is (c.digest-in-Save.ensures ∙ ap sha256 c.as_slice-in-Save.ensures.value)

@@ -9,8 +9,8 @@ returns-clause-consoles c =
     let players = c.self.inside.players.items in
     let cut = c.self.inside.cut in
     let held = subst (λ (v : Consoles). IsSegmented v cut players) c.self.view_is c.self.invariant in
-    ends-forgotten c.args.self.now cut players held (ap (λ (v : Consoles). v.asks) c.self.view_is) c.segments.ensures.live
-    c.requires.over
+    ends-forgotten c.args.self.now cut players held (ap (λ (v : Consoles). v.asks) c.self.view_is)
+    c.segments.ensures.live c.requires.over
 
 pub returns-clause-sent : goal.returns-clause-sent
 returns-clause-sent c =

@@ -22,7 +22,8 @@ returns-in-State c m is =
     let held = subst (λ (x : Consoles). IsSegmented x cut players) c.self.view_is c.self.invariant in
     let asks = ap (λ (x : Consoles). x.asks) c.self.view_is in
     gives-state v cut players held asks c.args.player c.index-in-State.result.now c.requires.player
-    c.index-in-State.ensures c.args.kind c.requires.asked m c.as_slice-in-State.result.now is c.requires.over c.in-State.is c.as_slice-in-State.ensures.value
+    c.index-in-State.ensures c.args.kind c.requires.asked m c.as_slice-in-State.result.now is c.requires.over
+    c.in-State.is c.as_slice-in-State.ensures.value
 
 pub returns-in-Save : goal.returns-in-Save
 returns-in-Save c m is =
@@ -32,4 +33,5 @@ returns-in-Save c m is =
     let held = subst (λ (x : Consoles). IsSegmented x cut players) c.self.view_is c.self.invariant in
     let asks = ap (λ (x : Consoles). x.asks) c.self.view_is in
     gives-save v cut players held asks c.args.player c.index-in-Save.result.now c.requires.player
-    c.index-in-Save.ensures c.args.kind c.requires.asked m c.as_slice-in-Save.result.now is c.requires.over c.in-Save.is c.as_slice-in-Save.ensures.value
+    c.index-in-Save.ensures c.args.kind c.requires.asked m c.as_slice-in-Save.result.now is c.requires.over c.in-Save.is
+    c.as_slice-in-Save.ensures.value

@@ -18,7 +18,7 @@ returns c =
     let job = job_value c.args.job.now in
     let cut = c.in_ok-cut.cut in
     let start = c.in_ok-cut.ensures.start in
-    begins-prepared job c.args.images.items cut.consoles c.in_ok-players.players.items cut c.of.result.value c.requires.sound
-    (fit-long _ _ c.requires.images) (plain-consoles job c.args.images.items cut start)
+    begins-prepared job c.args.images.items cut.consoles c.in_ok-players.players.items cut c.of.result.value
+    c.requires.sound (fit-long _ _ c.requires.images) (plain-consoles job c.args.images.items cut start)
     (opened job c.args.images.items cut start) c.of.ensures c.in_ok-players.ensures.unused
     c.in_ok-players.ensures.asks

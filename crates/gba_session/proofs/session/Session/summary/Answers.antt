@@ -14,5 +14,5 @@ returns-clause-lines c =
     let held = subst (λ (v : Consoles). IsSegmented v cut players) c.self.view_is c.self.invariant in
     c.lines_of.ensures.lines
     ∙ ap (λ (ms : List Machine). flat_map summary_line (map without_limit ms)) c.nodes.ensures.value
-    ∙ whole-lines c.args.self.now cut players held (ap (λ (v : Consoles). v.asks) c.self.view_is) c.segments.ensures.live
-    c.requires.over
+    ∙ whole-lines c.args.self.now cut players held (ap (λ (v : Consoles). v.asks) c.self.view_is)
+    c.segments.ensures.live c.requires.over

@@ -13,6 +13,7 @@ loop-count-preserved c =
     let start = c.args.self.now in (
       c.cycle.ensures.timers ∙ ap cycle c.loop-count.invariant.0 ∙ sym (after_cycles-more n start),
       ap (λ marks. slice_set marks n c.cycle.result) c.loop-count.invariant.1
-          ∙ ap (λ one. slice_set (with_marks n start c.args.mark.now) n one) (c.cycle.ensures.mark ∙ ap overflow_mark c.loop-count.invariant.0)
+          ∙ ap (λ one. slice_set (with_marks n start c.args.mark.now) n one)
+          (c.cycle.ensures.mark ∙ ap overflow_mark c.loop-count.invariant.0)
           ∙ sym (with_marks-more n start c.args.mark.now),
     )

@@ -11,7 +11,8 @@ pub returns-then-left-quiet-clause-value : goal.returns-then-left-quiet-clause-v
 unfolding quiet_of
 returns-then-left-quiet-clause-value c =
     let quiet = c.quiet-quiet.ensures.value in
-    let all = all-quiet 512 c.args.timer c.loop-left.left c.loop-left.timers (omega (arith, quiet, c.if-left-quiet.true)) in
+    let all =
+    all-quiet 512 c.args.timer c.loop-left.left c.loop-left.timers (omega (arith, quiet, c.if-left-quiet.true)) in
     omega (arith, c.loop-left.invariant.0, c.loop-left.invariant.1, all)
 
 pub returns-then-bit-clause-value : goal.returns-then-bit-clause-value

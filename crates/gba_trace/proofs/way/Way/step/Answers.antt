@@ -17,5 +17,5 @@ serial_step-requires c =
 
 pub returns-clause-shows : goal.returns-clause-shows
 returns-clause-shows c = λ plain shows.
-    step-shown c.shorn_unseen.ensures.unseen c.shorn_unseen.ensures.tells c.steps.ensures plain c.args.self.now.cut shows
-    c.serial_step.new.self c.serial_step.ensures.step
+    step-shown c.shorn_unseen.ensures.unseen c.shorn_unseen.ensures.tells c.steps.ensures plain
+    c.args.self.now.cut shows c.serial_step.new.self c.serial_step.ensures.step

@@ -9,8 +9,8 @@ use Rattle.gba_trace.proofs.way.Way.step_told.Goals as goal
 
 pub returns-clause-shows : goal.returns-clause-shows
 returns-clause-shows c = λ plain shows.
-    step-shown c.shorn_unseen.ensures.unseen c.shorn_unseen.ensures.tells c.steps.ensures plain c.args.self.now.cut shows
-    c.serial_step.new.self c.serial_step.ensures.step
+    step-shown c.shorn_unseen.ensures.unseen c.shorn_unseen.ensures.tells c.steps.ensures plain
+    c.args.self.now.cut shows c.serial_step.new.self c.serial_step.ensures.step
 
 pub returns-clause-line : goal.returns-clause-line
 returns-clause-line c = λ plain shows.

@@ -7,8 +7,8 @@ use Rattle.gba_trace.proofs.way.Way.with_room.Goals as goal
 
 pub forget_all-requires-clause-near : goal.forget_all-requires-clause-near
 forget_all-requires-clause-near c =
-    near c.args.self.cut c.least_clock-clock.result c.later_end-end.result c.args.until c.least_clock-clock.ensures.value
-    c.later_end-end.ensures
+    near c.args.self.cut c.least_clock-clock.result c.later_end-end.result c.args.until
+    c.least_clock-clock.ensures.value c.later_end-end.ensures
 
 pub returns-clause-shows : goal.returns-clause-shows
 returns-clause-shows c = λ plain shows.

@@ -65,8 +65,8 @@ loop-self-preserved g c =
           = ap (λ (z : SeatState (Key g.row.N.Denot)). z.player) seat in
           begins_more s c.args.until c.args.self.now.seat.player c.args.self.now.seat.made.steps
           c.loop-self.self.seat.made.steps c.go.new.self.seat.made.steps (c.loop-self.invariant.began key keys)
-          (subst (λ (n : ℕ). BeginsBelow s c.args.until c.args.self.now.seat.player n c.go.new.self.seat.made.steps) steps
-          (subst (λ (i : ℕ). BeginsBelow s c.args.until i c.held_up.new.self.seat.made.steps
+          (subst (λ (n : ℕ). BeginsBelow s c.args.until c.args.self.now.seat.player n c.go.new.self.seat.made.steps)
+          steps (subst (λ (i : ℕ). BeginsBelow s c.args.until i c.held_up.new.self.seat.made.steps
           c.go.new.self.seat.made.steps) player (c.go.ensures.began key own)));
       still = λ e. absurd (omega arith);
     }

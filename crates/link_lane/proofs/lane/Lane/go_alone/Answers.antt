@@ -20,7 +20,8 @@ tell-requires-clause-next g c =
       bears = g.met.N.Node.bears;
       fits = g.met.N.Node.fits;
     } in
-    let go = goes_on_alone kind law g.N.Node.plain g.N.Node.bound c.self.inside c.self.invariant c.args.self.now c.args.end
+    let go =
+    goes_on_alone kind law g.N.Node.plain g.N.Node.bound c.self.inside c.self.invariant c.args.self.now c.args.end
     c.self.view_is c.requires.limit c.requires.ahead c.requires.alone (g.N.Node.plain c.go_alone-signal.new.self)
     c.go_alone-signal.result c.go_alone-signal.ensures.alone
     (c.go_alone-signal.ensures.rises (subst (λ (z : LaneState g.row.N.Denot). g.N.Node.clock (g.N.Node.plain z.node)
@@ -40,7 +41,8 @@ publish-requires-clause-next g c =
       bears = g.met.N.Node.bears;
       fits = g.met.N.Node.fits;
     } in
-    let go = goes_on_alone kind law g.N.Node.plain g.N.Node.bound c.self.inside c.self.invariant c.args.self.now c.args.end
+    let go =
+    goes_on_alone kind law g.N.Node.plain g.N.Node.bound c.self.inside c.self.invariant c.args.self.now c.args.end
     c.self.view_is c.requires.limit c.requires.ahead c.requires.alone (g.N.Node.plain c.go_alone-signal.new.self)
     c.go_alone-signal.result c.go_alone-signal.ensures.alone
     (c.go_alone-signal.ensures.rises (subst (λ (z : LaneState g.row.N.Denot). g.N.Node.clock (g.N.Node.plain z.node)
@@ -61,7 +63,8 @@ invariant_of-self g c =
       bears = g.met.N.Node.bears;
       fits = g.met.N.Node.fits;
     } in
-    let go = goes_on_alone kind law g.N.Node.plain g.N.Node.bound c.self.inside c.self.invariant c.args.self.now c.args.end
+    let go =
+    goes_on_alone kind law g.N.Node.plain g.N.Node.bound c.self.inside c.self.invariant c.args.self.now c.args.end
     c.self.view_is c.requires.limit c.requires.ahead c.requires.alone (g.N.Node.plain c.go_alone-signal.new.self)
     c.go_alone-signal.result c.go_alone-signal.ensures.alone
     (c.go_alone-signal.ensures.rises (subst (λ (z : LaneState g.row.N.Denot). g.N.Node.clock (g.N.Node.plain z.node)
@@ -86,7 +89,8 @@ returns-clause-began g c key keys k first less =
       bears = g.met.N.Node.bears;
       fits = g.met.N.Node.fits;
     } in
-    let go = goes_on_alone kind law g.N.Node.plain g.N.Node.bound c.self.inside c.self.invariant c.args.self.now c.args.end
+    let go =
+    goes_on_alone kind law g.N.Node.plain g.N.Node.bound c.self.inside c.self.invariant c.args.self.now c.args.end
     c.self.view_is c.requires.limit c.requires.ahead c.requires.alone (g.N.Node.plain c.go_alone-signal.new.self)
     c.go_alone-signal.result c.go_alone-signal.ensures.alone
     (c.go_alone-signal.ensures.rises (subst (λ (z : LaneState g.row.N.Denot). g.N.Node.clock (g.N.Node.plain z.node)
@@ -107,7 +111,8 @@ returns-clause-began g c key keys k first less =
     c.self.inside.seat.made.steps c.publish.new.seat.made.steps
     = subst (λ (n : ℕ). BeginsBelow (script_of kind g.N.Node.plain key) c.args.end c.self.inside.seat.player
     c.self.inside.seat.made.steps n) (sym steps)
-    (subst (λ (z : Key g.row.N.Denot). BeginsBelow (script_of kind g.N.Node.plain z) c.args.end c.self.inside.seat.player
-    c.self.inside.seat.made.steps (suc (c.self.inside.seat.made.steps + go.0))) own go.1.below) in
+    (subst (λ (z : Key g.row.N.Denot). BeginsBelow (script_of kind g.N.Node.plain z) c.args.end
+    c.self.inside.seat.player c.self.inside.seat.made.steps (suc (c.self.inside.seat.made.steps + go.0))) own
+    go.1.below) in
     subst (λ (z : LaneState g.row.N.Denot). BeginsBelow (script_of kind g.N.Node.plain key) c.args.end z.seat.player
     z.seat.made.steps c.publish.new.seat.made.steps) c.self.view_is below k first less

@@ -62,7 +62,8 @@ tell-requires-clause-next g c =
     let due_is : c.due.result.now ≡ due_of kind g.N.Node.plain c.self.inside c.self.invariant.key
     = c.due.ensures ∙ c.deliver.ensures.due
     ∙ ap (λ (n : ℕ). arrived n c.self.inside.inbox.waits) c.clock.ensures.value ∙ d.now in
-    let go = goes_on kind law g.N.Node.plain g.N.Node.bound c.self.inside c.self.invariant c.args.self.now c.self.view_is
+    let go =
+    goes_on kind law g.N.Node.plain g.N.Node.bound c.self.inside c.self.invariant c.args.self.now c.self.view_is
     c.requires.early c.requires.ahead in
     let next : kind.next (g.N.Node.plain c.self.inside.node) c.due.result.now
     ≡ next_of kind g.N.Node.plain c.self.inside c.self.invariant.key
@@ -71,7 +72,8 @@ tell-requires-clause-next g c =
     = c.turn-signal.ensures.signal ∙ ap (λ (z : g.N.Node.Record × Option Signal). z.1) next in
     told_next kind g.N.Node.plain g.N.Node.bound c.self.inside c.self.invariant c.self.invariant.key.limit 0
     (next_of kind g.N.Node.plain c.self.inside c.self.invariant.key)
-    (later (g.N.Node.clock (g.N.Node.plain c.self.inside.node)) c.self.inside.inbox.waits) go c.turn-signal.result signal
+    (later (g.N.Node.clock (g.N.Node.plain c.self.inside.node)) c.self.inside.inbox.waits) go
+    c.turn-signal.result signal
 
 pub publish-requires-clause-next : goal.publish-requires-clause-next
 publish-requires-clause-next g c =
@@ -87,7 +89,8 @@ publish-requires-clause-next g c =
     let due_is : c.due.result.now ≡ due_of kind g.N.Node.plain c.self.inside c.self.invariant.key
     = c.due.ensures ∙ c.deliver.ensures.due
     ∙ ap (λ (n : ℕ). arrived n c.self.inside.inbox.waits) c.clock.ensures.value ∙ d.now in
-    let go = goes_on kind law g.N.Node.plain g.N.Node.bound c.self.inside c.self.invariant c.args.self.now c.self.view_is
+    let go =
+    goes_on kind law g.N.Node.plain g.N.Node.bound c.self.inside c.self.invariant c.args.self.now c.self.view_is
     c.requires.early c.requires.ahead in
     let next : kind.next (g.N.Node.plain c.self.inside.node) c.due.result.now
     ≡ next_of kind g.N.Node.plain c.self.inside c.self.invariant.key
@@ -99,8 +102,8 @@ publish-requires-clause-next g c =
     = c.turn-signal.ensures.node ∙ ap (λ (z : g.N.Node.Record × Option Signal). z.0) next in
     publish_next kind g.N.Node.plain g.N.Node.bound c.self.inside c.self.invariant c.self.invariant.key.limit 0
     (next_of kind g.N.Node.plain c.self.inside c.self.invariant.key)
-    (later (g.N.Node.clock (g.N.Node.plain c.self.inside.node)) c.self.inside.inbox.waits) go c.turn-signal.result signal
-    c.tell.new.seat c.tell.ensures c.clock-2.result
+    (later (g.N.Node.clock (g.N.Node.plain c.self.inside.node)) c.self.inside.inbox.waits) go
+    c.turn-signal.result signal c.tell.new.seat c.tell.ensures c.clock-2.result
     (c.clock-2.ensures.value ∙ ap g.N.Node.clock node)
 
 pub invariant_of-self : goal.invariant_of-self
@@ -117,7 +120,8 @@ invariant_of-self g c =
     let due_is : c.due.result.now ≡ due_of kind g.N.Node.plain c.self.inside c.self.invariant.key
     = c.due.ensures ∙ c.deliver.ensures.due
     ∙ ap (λ (n : ℕ). arrived n c.self.inside.inbox.waits) c.clock.ensures.value ∙ d.now in
-    let go = goes_on kind law g.N.Node.plain g.N.Node.bound c.self.inside c.self.invariant c.args.self.now c.self.view_is
+    let go =
+    goes_on kind law g.N.Node.plain g.N.Node.bound c.self.inside c.self.invariant c.args.self.now c.self.view_is
     c.requires.early c.requires.ahead in
     let next : kind.next (g.N.Node.plain c.self.inside.node) c.due.result.now
     ≡ next_of kind g.N.Node.plain c.self.inside c.self.invariant.key
@@ -132,12 +136,14 @@ invariant_of-self g c =
     = c.deliver.ensures.waits ∙ ap (λ (n : ℕ). later n c.self.inside.inbox.waits) c.clock.ensures.value in
     let limit : ℕ = c.self.invariant.key.limit in
     let made : g.N.Node.Record × Option Signal = next_of kind g.N.Node.plain c.self.inside c.self.invariant.key in
-    let own = subst (λ (w : List Incoming). GoesOn kind g.N.Node.plain c.self.inside c.self.invariant.key limit 0 made w)
+    let own =
+    subst (λ (w : List Incoming). GoesOn kind g.N.Node.plain c.self.inside c.self.invariant.key limit 0 made w)
     (sym waits_are) go in
-    stepped_lane kind law g.N.Node.plain g.N.Node.bound c.self.inside c.self.invariant limit 0 made c.deliver.new.self own
-    c.turn-signal.new.self node c.turn-signal.ensures.limit c.publish.new.seat
-    (published kind g.N.Node.plain g.N.Node.bound c.self.inside c.self.invariant limit 0 made c.deliver.new.self.waits own
-    c.turn-signal.result signal c.clock-2.result (c.clock-2.ensures.value ∙ ap g.N.Node.clock node) c.tell.new.seat
+    stepped_lane kind law g.N.Node.plain g.N.Node.bound c.self.inside c.self.invariant limit 0 made
+    c.deliver.new.self own c.turn-signal.new.self node c.turn-signal.ensures.limit c.publish.new.seat
+    (published kind g.N.Node.plain g.N.Node.bound c.self.inside c.self.invariant limit 0 made
+    c.deliver.new.self.waits own c.turn-signal.result signal c.clock-2.result
+    (c.clock-2.ensures.value ∙ ap g.N.Node.clock node) c.tell.new.seat
     c.publish.new.seat c.tell.ensures c.publish.ensures.seat
     (c.publish.ensures.step c.self.invariant.key
     (ap (λ (z : SeatState (Key g.row.N.Denot)). z.key) c.tell.ensures ∙ c.self.invariant.follows.key_is)))
@@ -156,7 +162,8 @@ returns-clause-stepped g c =
     let due_is : c.due.result.now ≡ due_of kind g.N.Node.plain c.self.inside c.self.invariant.key
     = c.due.ensures ∙ c.deliver.ensures.due
     ∙ ap (λ (n : ℕ). arrived n c.self.inside.inbox.waits) c.clock.ensures.value ∙ d.now in
-    let go = goes_on kind law g.N.Node.plain g.N.Node.bound c.self.inside c.self.invariant c.args.self.now c.self.view_is
+    let go =
+    goes_on kind law g.N.Node.plain g.N.Node.bound c.self.inside c.self.invariant c.args.self.now c.self.view_is
     c.requires.early c.requires.ahead in
     let next : kind.next (g.N.Node.plain c.self.inside.node) c.due.result.now
     ≡ next_of kind g.N.Node.plain c.self.inside c.self.invariant.key
@@ -171,10 +178,13 @@ returns-clause-stepped g c =
     = c.deliver.ensures.waits ∙ ap (λ (n : ℕ). later n c.self.inside.inbox.waits) c.clock.ensures.value in
     let limit : ℕ = c.self.invariant.key.limit in
     let made : g.N.Node.Record × Option Signal = next_of kind g.N.Node.plain c.self.inside c.self.invariant.key in
-    let own = subst (λ (w : List Incoming). GoesOn kind g.N.Node.plain c.self.inside c.self.invariant.key limit 0 made w)
+    let own =
+    subst (λ (w : List Incoming). GoesOn kind g.N.Node.plain c.self.inside c.self.invariant.key limit 0 made w)
     (sym waits_are) go in
-    let seat_is = published kind g.N.Node.plain g.N.Node.bound c.self.inside c.self.invariant limit 0 made c.deliver.new.self.waits own
-    c.turn-signal.result signal c.clock-2.result (c.clock-2.ensures.value ∙ ap g.N.Node.clock node) c.tell.new.seat
+    let seat_is =
+    published kind g.N.Node.plain g.N.Node.bound c.self.inside c.self.invariant limit 0 made
+    c.deliver.new.self.waits own c.turn-signal.result signal
+    c.clock-2.result (c.clock-2.ensures.value ∙ ap g.N.Node.clock node) c.tell.new.seat
     c.publish.new.seat c.tell.ensures c.publish.ensures.seat
     (c.publish.ensures.step c.self.invariant.key
     (ap (λ (z : SeatState (Key g.row.N.Denot)). z.key) c.tell.ensures ∙ c.self.invariant.follows.key_is)) in

@@ -36,8 +36,8 @@ loop-self-preserved g c =
     = ap node.clock c.turn.ensures.node in
     record {
       alone =
-          subst (λ (o : Option Signal). StepsAlone node.clock node.next c.args.end x (node.plain c.turn.new.self) o) told
-          (subst (λ (z : node.Record). StepsAlone node.clock node.next c.args.end x z (node.next y []).1)
+          subst (λ (o : Option Signal). StepsAlone node.clock node.next c.args.end x (node.plain c.turn.new.self) o)
+          told (subst (λ (z : node.Record). StepsAlone node.clock node.next c.args.end x z (node.next y []).1)
           (sym c.turn.ensures.node) on);
       later = omega (arith, clock_is, g.met.Self.Node.rises y [], c.loop-self.invariant.later);
       limit = c.turn.ensures.limit ∙ c.loop-self.invariant.limit;

@@ -5,7 +5,8 @@ use Rattle.link_node.proofs.node.Node.go_alone.Given as goal
 
 abbrev pub invariant-loop-self : goal.invariant-loop-self
 invariant-loop-self g l = record {
-  alone : StepsAlone g.Self.Node.clock g.Self.Node.next l.end (g.Self.Node.plain l.fn.self) (g.Self.Node.plain l.self) None;
+  alone : StepsAlone g.Self.Node.clock g.Self.Node.next l.end (g.Self.Node.plain l.fn.self)
+      (g.Self.Node.plain l.self) None;
   later : g.Self.Node.clock (g.Self.Node.plain l.fn.self) ≤ g.Self.Node.clock (g.Self.Node.plain l.self);
   limit : g.Self.Node.bound l.self ≡ g.Self.Node.bound l.fn.self;
 }

@@ -54,7 +54,8 @@ add_all_waiting-requires g c =
     let lists_are : lists ≡ map waits_of lanes
     = ap (map (λ list. list.items)) c.deref.ensures.value ∙ c.part_all.ensures.waits
     ∙ ap (λ (l : _). map (λ list. list.items) l ++ map waits_of lanes) round.no_waits in
-    let m : Makes kind g.N.Node.plain key lanes c.meet-joined.result lists c.part_all.new.nodes.items key.cut.value.delays
+    let m : Makes kind g.N.Node.plain key lanes c.meet-joined.result lists c.part_all.new.nodes.items
+    key.cut.value.delays
     = makes kind law g.N.Node.plain key c.args.self.shared lanes c.meet-joined.result lists c.part_all.new.nodes.items
     key.cut.value.delays went lists_are nodes_are refl in
     subst (MayAdd (WaitsIn lists)) (sym c.clear.ensures.sent)
@@ -284,5 +285,6 @@ returns g c key round until within begun =
       nodes_are = ap (λ (d : Cut g.row.N.Denot). d.consoles) c.join.ensures ∙ nodes_are;
       goes_on = closes_same kind law g.N.Node.plain key c.args.self.shared lanes until went.have_met within begun m.e
           m.closed;
-      each = λ i lane stands. stands_at kind law g.N.Node.plain key c.args.self.shared lanes went.have_met i lane stands;
+      each =
+          λ i lane stands. stands_at kind law g.N.Node.plain key c.args.self.shared lanes went.have_met i lane stands;
     }

@@ -26,7 +26,8 @@ of_words-requires g c =
     = is_open kind g.N.Node.plain key c.args.cut.now c.nodes-nodes.result.now c.in_ok-words.words.items c.of.ensures
     c.nodes-nodes.ensures.value c.nodes-nodes.ensures.cable c.nodes-nodes.ensures.sound c.least_limit.ensures.small
     c.in_ok-words.ensures in
-    subst (λ (l : List ℕ). Ruled (script_of kind g.N.Node.plain) key l (first_view (script_of kind g.N.Node.plain) key ∷ []))
+    subst (λ (l : List ℕ). Ruled (script_of kind g.N.Node.plain) key l
+    (first_view (script_of kind g.N.Node.plain) key ∷ []))
     (sym c.deref.ensures.value)
     (opens (script_of kind g.N.Node.plain) key c.in_ok-words.words.items
     (sound_text kind law g.N.Node.plain key c.in_ok-words.words.items h)

@@ -26,7 +26,8 @@ load-head-requires g c =
       own_table c.seat.inside c.args.seat.now _ c.args.self.now c.seat.view_is c.self.view_is c.requires.table,
       omega (arith, other.below, four, players, words, ring.before, c.ring_place-place.ensures),
       may_head kind g.N.Node.plain c.self.inside.table.shared.key c.self.inside.table.shared.table_id.slots
-          c.ring_place-place.result c.args.peer c.args.index c.seat.inside c.seat.invariant c.ring_place-place.ensures next,
+          c.ring_place-place.result c.args.peer c.args.index c.seat.inside c.seat.invariant
+          c.ring_place-place.ensures next,
     )
 
 pub load-body-requires : goal.load-body-requires
@@ -53,7 +54,8 @@ overflow_add-seat g c =
     let other = is_other c.seat.inside c.args.seat.now c.args.peer c.seat.view_is c.requires.below c.requires.other in
     let next = is_next kind g.N.Node.plain c.seat.inside c.args.seat.now c.args.peer c.args.index c.seat.invariant
     c.seat.view_is c.requires.next c.requires.counted in
-    let l = has_fetched kind g.N.Node.plain c.self.inside.table.shared.table_id.slots c.ring_place-place.result c.args.peer
+    let l =
+    has_fetched kind g.N.Node.plain c.self.inside.table.shared.table_id.slots c.ring_place-place.result c.args.peer
     c.args.index c.load-head.result c.load-body.result c.seat.inside c.load-head.new.seat.me c.load-body.new.seat.me
     c.seat.invariant other c.ring_place-place.ensures next c.load-head.ensures.2 c.load-body.ensures.2 in
     omega (arith, l.small_index)
@@ -64,7 +66,8 @@ signal_of-requires g c =
     let other = is_other c.seat.inside c.args.seat.now c.args.peer c.seat.view_is c.requires.below c.requires.other in
     let next = is_next kind g.N.Node.plain c.seat.inside c.args.seat.now c.args.peer c.args.index c.seat.invariant
     c.seat.view_is c.requires.next c.requires.counted in
-    let l = has_fetched kind g.N.Node.plain c.self.inside.table.shared.table_id.slots c.ring_place-place.result c.args.peer
+    let l =
+    has_fetched kind g.N.Node.plain c.self.inside.table.shared.table_id.slots c.ring_place-place.result c.args.peer
     c.args.index c.load-head.result c.load-body.result c.seat.inside c.load-head.new.seat.me c.load-body.new.seat.me
     c.seat.invariant other c.ring_place-place.ensures next c.load-head.ensures.2 c.load-body.ensures.2 in
     subst (λ (o : Option Signal). IsSome o) (sym l.signal_is) refl
@@ -75,7 +78,8 @@ invariant_of-seat g c =
     let other = is_other c.seat.inside c.args.seat.now c.args.peer c.seat.view_is c.requires.below c.requires.other in
     let next = is_next kind g.N.Node.plain c.seat.inside c.args.seat.now c.args.peer c.args.index c.seat.invariant
     c.seat.view_is c.requires.next c.requires.counted in
-    let l = has_fetched kind g.N.Node.plain c.self.inside.table.shared.table_id.slots c.ring_place-place.result c.args.peer
+    let l =
+    has_fetched kind g.N.Node.plain c.self.inside.table.shared.table_id.slots c.ring_place-place.result c.args.peer
     c.args.index c.load-head.result c.load-body.result c.seat.inside c.load-head.new.seat.me c.load-body.new.seat.me
     c.seat.invariant other c.ring_place-place.ensures next c.load-head.ensures.2 c.load-body.ensures.2 in
     fetched_seat kind g.N.Node.plain c.args.peer c.args.index c.load-head.result c.load-body.result c.seat.inside
@@ -87,7 +91,8 @@ returns-clause-seat g c =
     let other = is_other c.seat.inside c.args.seat.now c.args.peer c.seat.view_is c.requires.below c.requires.other in
     let next = is_next kind g.N.Node.plain c.seat.inside c.args.seat.now c.args.peer c.args.index c.seat.invariant
     c.seat.view_is c.requires.next c.requires.counted in
-    let l = has_fetched kind g.N.Node.plain c.self.inside.table.shared.table_id.slots c.ring_place-place.result c.args.peer
+    let l =
+    has_fetched kind g.N.Node.plain c.self.inside.table.shared.table_id.slots c.ring_place-place.result c.args.peer
     c.args.index c.load-head.result c.load-body.result c.seat.inside c.load-head.new.seat.me c.load-body.new.seat.me
     c.seat.invariant other c.ring_place-place.ensures next c.load-head.ensures.2 c.load-body.ensures.2 in
     seen_made kind g.N.Node.plain c.seat.inside c.load-body.new.seat c.args.seat.now _ c.seat.invariant
@@ -101,10 +106,12 @@ returns-clause-signal g c key keys =
     let other = is_other c.seat.inside c.args.seat.now c.args.peer c.seat.view_is c.requires.below c.requires.other in
     let next = is_next kind g.N.Node.plain c.seat.inside c.args.seat.now c.args.peer c.args.index c.seat.invariant
     c.seat.view_is c.requires.next c.requires.counted in
-    let l = has_fetched kind g.N.Node.plain c.self.inside.table.shared.table_id.slots c.ring_place-place.result c.args.peer
+    let l =
+    has_fetched kind g.N.Node.plain c.self.inside.table.shared.table_id.slots c.ring_place-place.result c.args.peer
     c.args.index c.load-head.result c.load-body.result c.seat.inside c.load-head.new.seat.me c.load-body.new.seat.me
     c.seat.invariant other c.ring_place-place.ensures next c.load-head.ensures.2 c.load-body.ensures.2 in
     let both : Some c.signal_of.result ≡ Some l.signal = c.signal_of.ensures ∙ l.signal_is in
     said kind g.N.Node.plain c.seat.inside c.load-body.new.seat.me c.args.seat.now _
-    (λ k i old new. slice_get (told (script_of kind g.N.Node.plain k) c.args.peer) c.args.index ≡ Some c.signal_of.result)
+    (λ k i old new. slice_get (told (script_of kind g.N.Node.plain k) c.args.peer) c.args.index
+    ≡ Some c.signal_of.result)
     c.seat.invariant c.seat.view_is l.seat (l.stands ∙ sym both) key keys

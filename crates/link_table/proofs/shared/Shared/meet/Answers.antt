@@ -15,7 +15,8 @@ load-requires g c =
       c.unite-place.ensures.table_is ∙ sym c.self.view_is,
       omega (arith, words),
       may_rest kind g.N.Node.plain c.self.inside.table.shared.key c.self.inside.table.shared.table_id.slots
-          c.unite-place.result.id 0 c.unite-place.result.me (ap (λ (m : Mine g.row.N.Denot). m.1) c.unite-place.ensures.me_is),
+          c.unite-place.result.id 0 c.unite-place.result.me
+          (ap (λ (m : Mine g.row.N.Denot). m.1) c.unite-place.ensures.me_is),
     )
 
 pub invariant_of-result : goal.invariant_of-result

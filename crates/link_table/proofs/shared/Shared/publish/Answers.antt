@@ -41,7 +41,8 @@ store-requires g c =
       own_table c.seat.inside c.args.seat.now _ c.args.self.now c.seat.view_is c.self.view_is c.requires.table,
       omega (arith, below, four, players, words, c.clock_place.ensures),
       may_publish kind g.N.Node.plain c.self.inside.table.shared.key c.self.inside.table.shared.table_id.slots
-          c.clock_place.result _ c.from.result c.args.clock c.seat.inside c.seat.invariant may w c.clock_place.ensures refl,
+          c.clock_place.result _ c.from.result c.args.clock c.seat.inside c.seat.invariant may w
+          c.clock_place.ensures refl,
     )
 
 pub invariant_of-seat : goal.invariant_of-seat
@@ -64,8 +65,8 @@ returns-clause-seat g c =
     c.requires.next in
     let w = is_written kind g.N.Node.plain c.seat.inside c.from.result c.seat.invariant c.from.ensures in
     let l = has_published kind g.N.Node.plain c.self.inside.table.shared.table_id.slots c.clock_place.result
-    (clock_word c.args.clock (c.seat.inside.sent + c.from.result)) c.from.result c.args.clock c.seat.inside c.store.new.seat.me c.seat.invariant may w refl
-    c.store.ensures.2 in
+    (clock_word c.args.clock (c.seat.inside.sent + c.from.result)) c.from.result c.args.clock c.seat.inside
+    c.store.new.seat.me c.seat.invariant may w refl c.store.ensures.2 in
     seen_after kind g.N.Node.plain c.seat.inside c.store.new.seat c.args.seat.now l.made c.seat.invariant c.seat.view_is
     c.store.ensures.0 l.seat
 
@@ -77,8 +78,8 @@ returns-clause-step g c key keys =
     c.requires.next in
     let w = is_written kind g.N.Node.plain c.seat.inside c.from.result c.seat.invariant c.from.ensures in
     let l = has_published kind g.N.Node.plain c.self.inside.table.shared.table_id.slots c.clock_place.result
-    (clock_word c.args.clock (c.seat.inside.sent + c.from.result)) c.from.result c.args.clock c.seat.inside c.store.new.seat.me c.seat.invariant may w refl
-    c.store.ensures.2 in
+    (clock_word c.args.clock (c.seat.inside.sent + c.from.result)) c.from.result c.args.clock c.seat.inside
+    c.store.new.seat.me c.seat.invariant may w refl c.store.ensures.2 in
     said kind g.N.Node.plain c.seat.inside c.store.new.seat.me c.args.seat.now l.made
-    (λ k i old new. Publishes (script_of kind g.N.Node.plain k) i old c.args.clock new) c.seat.invariant c.seat.view_is l.seat l.step
-    key keys
+    (λ k i old new. Publishes (script_of kind g.N.Node.plain k) i old c.args.clock new) c.seat.invariant c.seat.view_is
+    l.seat l.step key keys

@@ -64,7 +64,8 @@ invariant_of-seat g c =
     c.pack-head.result.0 c.args.signal.now c.seat.inside c.store.new.seat.me c.seat.invariant p c.store.ensures.2 in
     put_seat kind g.N.Node.plain c.seat.inside c.store-2.new.seat c.seat.invariant
     (whole_put kind g.N.Node.plain c.self.inside.table.shared.table_id.slots (c.ring_place-place.result + 1)
-    c.pack-head.result.1 c.seat.inside c.store.new.seat.me c.store-2.new.seat.me c.seat.invariant half c.store-2.ensures.2)
+    c.pack-head.result.1 c.seat.inside c.store.new.seat.me c.store-2.new.seat.me c.seat.invariant half
+    c.store-2.ensures.2)
 
 pub returns : goal.returns
 returns g c =

@@ -46,7 +46,8 @@ returns-then-count_of-taken-clause-rest g c key keys o there =
     let count = rest_count kind g.N.Node.plain c.joined.inside c.args.player c.args.peer
     c.self.inside.table.shared.table_id.slots c.clock_place.result c.load-word.result c.load-word.new.seat.me
     c.joined.invariant p c.clock_place.ensures c.load-word.ensures.2 in
-    let its = own_pair kind g.N.Node.plain c.joined.inside c.args.joined.now c.args.player c.args.peer c.joined.invariant
+    let its =
+    own_pair kind g.N.Node.plain c.joined.inside c.args.joined.now c.args.player c.args.peer c.joined.invariant
     c.joined.view_is p o there in
     let fetched = own_fetched c.joined.inside c.args.joined.now c.joined.view_is in
     let same : slice_index c.args.joined.now.fetched (pair_place c.args.player c.args.peer)
@@ -84,12 +85,14 @@ load-body-requires g c =
     let four = c.joined.invariant.sound.at_most_four in
     let words = c.self.invariant in
     let ring = in_ring c.args.peer (slice_index c.joined.inside.fetched (pair_place c.args.player c.args.peer)) in (
-      c.load-head.ensures.0 ∙ c.load-word.ensures.0 ∙ ap (λ (z : JoinedState (Key g.row.N.Denot)). z.table) c.joined.view_is
+      c.load-head.ensures.0 ∙ c.load-word.ensures.0
+          ∙ ap (λ (z : JoinedState (Key g.row.N.Denot)). z.table) c.joined.view_is
           ∙ c.requires.table ∙ sym c.self.view_is,
       omega (arith, below, four, words, ring.before, c.ring_place-place.ensures),
       may_rest kind g.N.Node.plain c.self.inside.table.shared.key c.self.inside.table.shared.table_id.slots
           c.load-head.new.seat.id (c.ring_place-place.result + 1) c.load-head.new.seat.me
-          (ap (λ (m : Mine g.row.N.Denot). m.1) (c.load-head.ensures.2.0 ∙ c.load-word.ensures.2.0 ∙ c.joined.invariant.me_is)),
+          (ap (λ (m : Mine g.row.N.Denot). m.1)
+          (c.load-head.ensures.2.0 ∙ c.load-word.ensures.2.0 ∙ c.joined.invariant.me_is)),
     )
 
 pub signal_of-requires : goal.signal_of-requires
@@ -119,8 +122,8 @@ invariant_of-joined-2 g c =
     c.joined.invariant p c.clock_place.ensures c.load-word.ensures.2 in
     let other = c.if-count_of-taken.false in
     let got = p.got in
-    rested_joined kind g.N.Node.plain c.joined.inside c.load-body.new.seat c.args.player c.args.peer c.joined.invariant p
-    (c.load-body.ensures.2.0 ∙ c.load-head.ensures.2.0 ∙ c.load-word.ensures.2.0)
+    rested_joined kind g.N.Node.plain c.joined.inside c.load-body.new.seat c.args.player c.args.peer
+    c.joined.invariant p (c.load-body.ensures.2.0 ∙ c.load-head.ensures.2.0 ∙ c.load-word.ensures.2.0)
     (omega (arith, got, count, other, c.count_of.ensures))
 
 pub returns-clause-rest : goal.returns-clause-rest
@@ -138,7 +141,8 @@ returns-clause-rest g c key keys o there =
     c.load-word.new.seat.me c.load-head.new.seat.me c.load-body.new.seat.me c.joined.invariant p
     (omega (arith, got, count, other, c.count_of.ensures)) c.ring_place-place.ensures c.load-word.ensures.2.0
     c.load-head.ensures.2 c.load-body.ensures.2 in
-    let its = own_pair kind g.N.Node.plain c.joined.inside c.args.joined.now c.args.player c.args.peer c.joined.invariant
+    let its =
+    own_pair kind g.N.Node.plain c.joined.inside c.args.joined.now c.args.player c.args.peer c.joined.invariant
     c.joined.view_is p o there in
     let fetched = own_fetched c.joined.inside c.args.joined.now c.joined.view_is in
     let pair : ℕ = pair_place c.args.player c.args.peer in
@@ -150,7 +154,8 @@ returns-clause-rest g c key keys o there =
       omega (arith, same, got, count, other, its, c.count_of.ensures),
       subst (λ (k : Key g.row.N.Denot). slice_get (told (script_of kind g.N.Node.plain k) c.args.peer)
           (slice_index c.args.joined.now.fetched pair) ≡ Some c.signal_of.result) keys_are
-          (ap (slice_get (told (script_of kind g.N.Node.plain c.joined.invariant.key) c.args.peer)) same ∙ x.stands ∙ sym both),
+          (ap (slice_get (told (script_of kind g.N.Node.plain c.joined.invariant.key) c.args.peer)) same ∙ x.stands
+          ∙ sym both),
       same_joined c.joined.inside c.load-body.new.seat (slice_set c.joined.inside.fetched pair
           (slice_index c.joined.inside.fetched pair + 1)) c.args.joined.now c.joined.view_is
           (c.load-body.ensures.0 ∙ c.load-head.ensures.0 ∙ c.load-word.ensures.0)

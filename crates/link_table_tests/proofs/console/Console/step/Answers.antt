@@ -39,7 +39,8 @@ invariant_of-self c =
     = may_go c.self.inside.node c.self.inside.seat c.self.inside.heard c.self.invariant early
     (c.may_begin.ensures.allowed may) in
     stepped c.self.inside.node c.turn-signal.new.self c.self.inside.seat c.tell.new.seat c.publish.new.seat
-    c.self.inside.heard c.self.invariant (go.goes_on ∙ ap Some (sym c.turn-signal.ensures.node)) c.turn-signal.ensures.limit
+    c.self.inside.heard c.self.invariant (go.goes_on ∙ ap Some (sym c.turn-signal.ensures.node))
+    c.turn-signal.ensures.limit
     (2 * length (option_to_list (ticked_told (ticked_plain c.self.inside.node)))) c.turn-signal.new.self.clock
     (c.tell.ensures ∙ ap (λ (o : Option Signal). with_made c.self.inside.seat
     (with_written c.self.inside.seat.made (2 * length (option_to_list o)))) c.turn-signal.ensures.signal)
