@@ -11,7 +11,7 @@ ghost use Rattle.gba_io.specs.Bus.{core_read};
 ghost use Rattle.gba_bus.specs.declared.width.Width.TheVariants.{Half, Word};
 
 use crate::doing::{Told, What};
-use crate::fixed::{KeptHalf, half_at, is_half_at, kept_at};
+use crate::fixed::{KeptHalf, execute_first, half_at, is_half_at};
 use gba_arm_exec as arm;
 use gba_arm_exec::Decoded as DecodedWord;
 use gba_bus::{Bus, Width};
@@ -132,8 +132,7 @@ fn first_half(registers: &mut Registers, core: &mut Core, halves: &mut [KeptHalf
 {
     let address = registers.get(15);
     let half = half_at(core, address);
-    halves[place_of_half(address)] = kept_at(core, address, half);
-    thumb::execute(registers, core, half)
+    execute_first(registers, core, &mut halves[place_of_half(address)], half)
 }
 
 /// Executes the instruction at r15, a halfword in Thumb state, and else a word, and tells which it was: what it was

@@ -1,13 +1,17 @@
 //! Halfwords that were decoded, those of the BIOS and the ROM with their addresses.
 
-ghost use Rattle.std.specs.Prelude.{◌≡◌, ◌<◌, ◌^◌, All, IsTrue, length, ℕ, List};
+ghost use Rattle.std.specs.Prelude.{◌≡◌, ◌<◌, ◌^◌, All, IsTrue, length, true, ℕ, List};
 ghost use Rattle.gba_bus.specs.Regions.{region_of};
 ghost use Rattle.gba_bus.specs.declared.width.Width.TheVariants.{Half};
 ghost use Rattle.gba_io.specs.Bus.{core_read};
 ghost use Rattle.gba_console.specs.Fixed.{Stands, is_fixed};
+ghost use Rattle.gba_console.specs.Step.{half_done, instruction};
+ghost use Rattle.gba_exec_transfers.specs.Done.{Leaves};
 
 use gba_bus::{Bus, Region, Width, region_of};
 use gba_io::Core;
+use gba_psr::Registers;
+use gba_thumb_exec as thumb;
 use gba_thumb_exec::{DecodedHalf, decode_half};
 
 /// No address: all are below it.
@@ -52,21 +56,31 @@ pub(crate) fn half_at(core: &mut Core, address: u32) -> u16
     core.code(address, Width::Half) as u16
 }
 
-/// A halfword that is read at an address, decoded.
-pub(crate) fn kept_at(core: &Core, address: u32, half: u16) -> KeptHalf
-    requires { half ≡ core_read core.now address address Half }
-    ensures stands { Stands core.now.memory.bios core.now.memory.rom result }
-    ensures half { result.decoded.half ≡ half }
+/// An address at which nothing changes, or no address.
+fn place_of(address: u32) -> u64
+    ensures { result < 2 ^ 32 → (result ≡ address) × (is_fixed (region_of address) ≡ true) }
 {
-    KeptHalf {
-        fixed: if is_fixed(address) {
-            u64::from(address)
-        } else {
-            NOWHERE
-        },
-        decoded: decode_half(half),
-        spare: [0; 3],
+    if is_fixed(address) {
+        u64::from(address)
+    } else {
+        NOWHERE
     }
+}
+
+/// Executes a halfword that was read at r15 and is kept nowhere, and keeps it.
+pub(crate) fn execute_first(
+    registers: &mut Registers,
+    core: &mut Core,
+    kept: &mut KeptHalf,
+    half: u16,
+) -> u32
+    requires { half ≡ instruction Half registers.old core.old }
+    ensures left { Leaves (half_done registers.old core.old) registers.new core.new result }
+    ensures stands { Stands core.old.memory.bios core.old.memory.rom kept.new }
+    ensures half { kept.new.decoded.half ≡ half }
+{
+    kept.fixed = place_of(registers.get(15));
+    thumb::execute_first(registers, core, &mut kept.decoded, half)
 }
 
 /// Whether an entry is the halfword at an address. What stands in the BIOS or the ROM isn't read again.

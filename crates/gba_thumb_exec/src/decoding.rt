@@ -3,6 +3,7 @@
 ghost use Rattle.std.specs.Prelude.{◌≡◌, IfSome};
 ghost use Rattle.gba_thumb_exec.specs.Forms.{branch_distance, branch_form, form_of, form_of_half, narrowed};
 ghost use Rattle.gba_thumb_table.specs.Limits.{Fits};
+ghost use Rattle.gba_thumb_table.specs.Table.{operation};
 
 use crate::meaning::{Meaning, meaning_of};
 use crate::{DecodedHalf, Form};
@@ -17,9 +18,18 @@ pub fn decode_half(half: u16) -> DecodedHalf
     ensures { result.half ≡ half }
 {
     operations_fit();
+    make_decoded(half, decode(half))
+}
+
+/// A halfword with its operation.
+pub fn make_decoded(half: u16, op: Option<ThumbOp>) -> DecodedHalf
+    requires operation { op ≡ operation half }
+    requires fits { IfSome op Fits }
+    ensures { result.half ≡ half }
+{
     DecodedHalf {
         half,
-        form: form_of_half(decode(half)),
+        form: form_of_half(op),
     }
 }
 

@@ -1,7 +1,7 @@
 //! r15 in each place: the worked halves of BL, high registers, addresses near the PC and the stack, branches, traps.
 
 use crate::start::{at, patterned};
-use gba_thumb_exec::execute;
+use gba_thumb_exec::{decode_half, execute, execute_decoded, execute_first};
 
 // Address, r0, r1 and a halfword there; r0, r13, r14, r15, CPSR and cycles after it. Before it CPSR is 30000030h, r13
 // 02000004h and r14 03000041h.
@@ -427,9 +427,14 @@ fn conditions(rt: HostRuntime) {
     ];
     for condition in 0..14u16 {
         for flags in 0..16u32 {
-            let mut registers = at(0x0800_0100, (flags << 28) + 0x30, [9, 9, 9]);
+            let status = (flags << 28) + 0x30;
             let half = 0xd080 + (condition << 8);
-            let cycles = execute(&mut registers, &mut patterned(), half);
+            let mut kept = decode_half(0);
+            let mut first = at(0x0800_0100, status, [9, 9, 9]);
+            let cycles = execute_first(&mut first, &mut patterned(), &mut kept, half);
+            assert_eq!(rt; kept.half, half);
+            let mut again = at(0x0800_0100, status, [9, 9, 9]);
+            let as_kept = execute_decoded(&mut again, &mut patterned(), &kept);
             let holds = (masks[condition as usize] >> flags) % 2 == 1;
             let want = if holds {
                 (0x0800_0004, 11)
@@ -437,8 +442,8 @@ fn conditions(rt: HostRuntime) {
                 (0x0800_0102, 3)
             };
             assert_eq!(rt;
-                (registers.get(15), cycles),
-                want,
+                [(first.get(15), cycles), (again.get(15), as_kept)],
+                [want, want],
                 "condition {condition} at {flags:x}"
             );
         }
