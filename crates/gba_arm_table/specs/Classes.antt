@@ -2,7 +2,7 @@ use Rattle.std.specs.Prelude.{Bool, true, false}
 use Rattle.gba_arm_table.specs.declared.operation.ArmOp.{ArmOp}
 use Rattle.gba_arm_table.specs.declared.operation.ArmOp.TheVariants as op
 
--- The classes of the operations, for functions that take one class alone.
+-- The classes of the operations, for functions that take one class alone. Only private functions cite these.
 
 abbrev pub is_multiply : ArmOp → Bool
 is_multiply (op.Multiply cond accumulate set rd rn rs rm) = true

@@ -24,7 +24,7 @@ use Rattle.gba_io.specs.Units.{core_after_unit, unit_value}
 use Rattle.gba_io.specs.declared.board.Board.{Board}
 use Rattle.gba_mem.specs.Memories.{Memories}
 use Rattle.gba_mem.specs.Places.{sprite_part, vram_place}
-use Rattle.gba_mem.specs.Stores.{store, stored_in, with_both, with_byte, with_byte_in, with_number}
+use Rattle.gba_mem.specs.Stores.{store, store_in, with_both, with_byte, with_byte_in, with_number}
 use Rattle.gba_mem.specs.Wide.{wide_load}
 use Rattle.gba_mem.proofs.Loading.{load-wide}
 use Rattle.gba_ppu_reg.specs.Registers.{picture_mode}
@@ -84,7 +84,7 @@ module _ (bios rom : List ℕ) where
       byte-keeps (with_byte m address byte) (address + 1) byte (byte-keeps m address byte has)
 
   stored-keeps : (region : Region) (mode : ℕ) (m : Memories) (address : ℕ) (width : Width) (value : ℕ)
-      → HasImages bios rom m → HasImages bios rom (stored_in region mode m address width value)
+      → HasImages bios rom m → HasImages bios rom (store_in region mode m address width value)
   stored-keeps Palette mode m address Byte value has = both-keep m (aligned Half address) (field value 0 8) has
   stored-keeps Vram mode m address Byte value has =
       either-has (nat_lt (vram_place address) (sprite_part mode)) _ _

@@ -6,8 +6,8 @@ use Rattle.gba_console.specs.declared.doing.What.{What}
 use Rattle.gba_console.specs.declared.doing.What.TheVariants.{Nothing, Arm, Thumb}
 use Rattle.gba_console.specs.declared.fixed.KeptHalf.{KeptHalf}
 
--- Where the body keeps what the last step did; only private functions cite this. An instruction's word or halfword
--- stands in the table of decoded ones, at the place of its address.
+-- Where the body keeps what the last step did; only private functions and the console's view cite this. An instruction's
+-- word or halfword stands in the table of decoded ones, at the place of its address.
 
 abbrev pub word_place : ℕ → ℕ
 word_place address = address / 4 % 4096

@@ -6,7 +6,8 @@ use Rattle.gba_io.specs.Core.{Core}
 use Rattle.gba_bus.specs.Regions.{is_bios, is_rom}
 use Rattle.gba_console.specs.declared.fixed.KeptHalf.{KeptHalf}
 
--- What stands in the BIOS and in the ROM never changes. Only private functions cite these two.
+-- What stands in the BIOS and in the ROM never changes. Only private functions and the
+-- console's invariant cite these two.
 abbrev pub is_fixed : Region → Bool
 is_fixed region = is_bios region || is_rom region
 

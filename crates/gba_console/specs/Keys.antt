@@ -23,6 +23,6 @@ due_of [] = 2 ^ 64 - 1
 due_of (change ∷ changes) = change.clock
 
 -- The same for a console that is off below a clock: there the next change is due at once. Only private
--- functions cite this.
+-- functions and the console's invariant cite this.
 abbrev pub next_due : ℕ → ℕ → List KeyState → ℕ
 next_due off clock changes = if nat_lt clock off then 0 else due_of changes

@@ -2,7 +2,8 @@
 use Rattle.std.proofs.Common.{◌≡◌, ◌≢◌, ℕ, ◌^◌, ◌<◌, ◌≤◌, List, length, get_or, set, replicate, ap, ◌∙◌, ⊎_elim, arith}
 use Rattle.std.proofs.lemmas.Bool.{cases_eq, cases_lt}
 use Rattle.std.proofs.lemmas.List.{length-replicate, length-set, get_or-replicate, get_or-set_same, get_or-set_other, get_or_past}
-use Rattle.gba_device_laws.specs.Holding.{AreBytes, HasBytes}
+use Rattle.gba_terms.specs.Bytes.{AreBytes}
+use Rattle.gba_device_laws.specs.Holding.{HasBytes}
 
 pub byte-at : (bytes : List ℕ) (place : ℕ) → AreBytes bytes → get_or bytes place 0 < 2 ^ 8
 byte-at bytes place all =

@@ -8,7 +8,7 @@ use Rattle.gba_register.specs.Rows.{row_at}
 use Rattle.gba_bus.specs.declared.width.Width.{Width}
 use Rattle.gba_bus.specs.Widths.{size}
 use Rattle.gba_dma.specs.Channel.{after_event, after_run, after_step, after_unit, after_unit_end, channel_at_reset, count_loaded, is_last, is_triggered, moved, serves_sound, source_step, starts, target_step, unit_width, waits_again, with_control, with_high, with_low}
-use Rattle.gba_dma.specs.Channels.{FourChannels, after_trigger, after_unit_at, base, channels_at_reset, dma_kept, dma_rows, dma_written, half_stored_at}
+use Rattle.gba_dma.specs.Channels.{FourChannels, after_trigger, after_unit_at, base, channels_at_reset, dma_kept, dma_rows, dma_written, channel_set_at}
 use Rattle.gba_dma.specs.Consistency.{AreConsistent, StaysConsistent}
 use Rattle.gba_dma.specs.declared.channel.Channel.{Channel}
 use Rattle.gba_dma.specs.declared.event.DmaEvent.{DmaEvent}
@@ -341,7 +341,7 @@ module _ (sources targets counts controls : ℕ) (few : counts < 0x10000) where
 -- a write elsewhere
 untouched : (number offset value : ℕ) (c : Channel) → offset ≢ base number → offset ≢ base number + 2
     → offset ≢ base number + 4 → offset ≢ base number + 6 → offset ≢ base number + 8 → offset ≢ base number + 10
-    → half_stored_at number offset value c ≡ c
+    → channel_set_at number offset value c ≡ c
 untouched number offset value c n0 n2 n4 n6 n8 n10 = grind (arith, nat_tests, n0, n2, n4, n6, n8, n10)
 
 few14 : 0x3fff < 0x10000
@@ -361,10 +361,10 @@ Keeps3 = Keeps 0x0fff 0x0fff 0xffff 0xffe0 few16
 
 module _ (value : ℕ) (c : Channel) where
   stored0 : (offset : ℕ) → Keeps0 c
-      → Keeps0 (half_stored_at 0 offset (bit_and value (row_at dma_rows offset).write_mask) c)
+      → Keeps0 (channel_set_at 0 offset (bit_and value (row_at dma_rows offset).write_mask) c)
   unfolding dma_rows row_at
   stored0 offset is =
-      let after : ℕ → Type 0 = λ k. Keeps0 (half_stored_at 0 k (bit_and value (row_at dma_rows k).write_mask) c) in
+      let after : ℕ → Type 0 = λ k. Keeps0 (channel_set_at 0 k (bit_and value (row_at dma_rows k).write_mask) c) in
       at-place after 0x0b0 offset (source-low 0x07ff 0x07ff 0x3fff 0xf7e0 few14 value c is)
       (λ n0. at-place after 0x0b2 offset (source-high 0x07ff 0x07ff 0x3fff 0xf7e0 few14 value c (omega arith) is)
       (λ n2. at-place after 0x0b4 offset (target-low 0x07ff 0x07ff 0x3fff 0xf7e0 few14 value c is)
@@ -374,10 +374,10 @@ module _ (value : ℕ) (c : Channel) where
       (λ n10. rw (untouched 0 offset (bit_and value (row_at dma_rows offset).write_mask) c n0 n2 n4 n6 n8 n10) is))))))
 
   stored1 : (offset : ℕ) → Keeps1 c
-      → Keeps1 (half_stored_at 1 offset (bit_and value (row_at dma_rows offset).write_mask) c)
+      → Keeps1 (channel_set_at 1 offset (bit_and value (row_at dma_rows offset).write_mask) c)
   unfolding dma_rows row_at
   stored1 offset is =
-      let after : ℕ → Type 0 = λ k. Keeps1 (half_stored_at 1 k (bit_and value (row_at dma_rows k).write_mask) c) in
+      let after : ℕ → Type 0 = λ k. Keeps1 (channel_set_at 1 k (bit_and value (row_at dma_rows k).write_mask) c) in
       at-place after 0x0bc offset (source-low 0x0fff 0x07ff 0x3fff 0xf7e0 few14 value c is)
       (λ n0. at-place after 0x0be offset (source-high 0x0fff 0x07ff 0x3fff 0xf7e0 few14 value c (omega arith) is)
       (λ n2. at-place after 0x0c0 offset (target-low 0x0fff 0x07ff 0x3fff 0xf7e0 few14 value c is)
@@ -387,10 +387,10 @@ module _ (value : ℕ) (c : Channel) where
       (λ n10. rw (untouched 1 offset (bit_and value (row_at dma_rows offset).write_mask) c n0 n2 n4 n6 n8 n10) is))))))
 
   stored2 : (offset : ℕ) → Keeps1 c
-      → Keeps1 (half_stored_at 2 offset (bit_and value (row_at dma_rows offset).write_mask) c)
+      → Keeps1 (channel_set_at 2 offset (bit_and value (row_at dma_rows offset).write_mask) c)
   unfolding dma_rows row_at
   stored2 offset is =
-      let after : ℕ → Type 0 = λ k. Keeps1 (half_stored_at 2 k (bit_and value (row_at dma_rows k).write_mask) c) in
+      let after : ℕ → Type 0 = λ k. Keeps1 (channel_set_at 2 k (bit_and value (row_at dma_rows k).write_mask) c) in
       at-place after 0x0c8 offset (source-low 0x0fff 0x07ff 0x3fff 0xf7e0 few14 value c is)
       (λ n0. at-place after 0x0ca offset (source-high 0x0fff 0x07ff 0x3fff 0xf7e0 few14 value c (omega arith) is)
       (λ n2. at-place after 0x0cc offset (target-low 0x0fff 0x07ff 0x3fff 0xf7e0 few14 value c is)
@@ -400,10 +400,10 @@ module _ (value : ℕ) (c : Channel) where
       (λ n10. rw (untouched 2 offset (bit_and value (row_at dma_rows offset).write_mask) c n0 n2 n4 n6 n8 n10) is))))))
 
   stored3 : (offset : ℕ) → Keeps3 c
-      → Keeps3 (half_stored_at 3 offset (bit_and value (row_at dma_rows offset).write_mask) c)
+      → Keeps3 (channel_set_at 3 offset (bit_and value (row_at dma_rows offset).write_mask) c)
   unfolding dma_rows row_at
   stored3 offset is =
-      let after : ℕ → Type 0 = λ k. Keeps3 (half_stored_at 3 k (bit_and value (row_at dma_rows k).write_mask) c) in
+      let after : ℕ → Type 0 = λ k. Keeps3 (channel_set_at 3 k (bit_and value (row_at dma_rows k).write_mask) c) in
       at-place after 0x0d4 offset (source-low 0x0fff 0x0fff 0xffff 0xffe0 few16 value c is)
       (λ n0. at-place after 0x0d6 offset (source-high 0x0fff 0x0fff 0xffff 0xffe0 few16 value c (omega arith) is)
       (λ n2. at-place after 0x0d8 offset (target-low 0x0fff 0x0fff 0xffff 0xffe0 few16 value c is)

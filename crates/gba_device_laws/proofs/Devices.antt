@@ -20,7 +20,7 @@ use Rattle.gba_irq.specs.Keypad.{becomes_true, with_control, with_pressed}
 use Rattle.gba_ppu_reg.specs.Position.{IsPosition, begins_hblank, begins_line, is_matched, cycle as place_cycle}
 use Rattle.gba_ppu_reg.specs.Registers.{Picture, after_line, after_reload, picture_written}
 use Rattle.gba_ppu_reg.specs.declared.position.Position.{Position}
-use Rattle.gba_psg.specs.Registers.{channel_stored, is_wave_offset, mastered, tone_rows, tones_written, wave_place}
+use Rattle.gba_psg.specs.Registers.{tone_set, is_wave_offset, mastered, tone_rows, tones_written, wave_place}
 use Rattle.gba_psg.specs.Soundness.{StaysSound}
 use Rattle.gba_psg.specs.Tones.{after_envelopes, after_lengths, after_sweeps, counted, cycle as tones_cycle, moved as moved_tones, ticked, with_lengths, with_sweeps}
 use Rattle.gba_psg.specs.Wave.{with_wave_half}
@@ -49,7 +49,7 @@ either-ratio true one other ratio first second = first
 either-ratio false one other ratio first second = second
 
 channel-ratio : (offset value : ℕ) (starts : Bool) (ts : FourTones)
-    → (channel_stored offset value starts ts).ratio ≡ ts.ratio
+    → (tone_set offset value starts ts).ratio ≡ ts.ratio
 channel-ratio offset value starts ts =
     either-ratio (offset == 0x060) _ _ ts.ratio refl
     (either-ratio (offset == 0x062) _ _ ts.ratio refl
@@ -75,7 +75,7 @@ same-ratio offset value ts other =
     either-ratio (is_wave_offset offset) (record ts { wave = with_wave_half (wave_place offset) number ts.wave }) _
     ts.ratio refl (rw none
     (either-ratio (offset == 0x084) (mastered (bit number 7) ts) _ ts.ratio (mastered-ratio (bit number 7) ts)
-    (either-ratio ts.is_on (channel_stored offset number (bit value 15) ts) ts ts.ratio
+    (either-ratio ts.is_on (tone_set offset number (bit value 15) ts) ts ts.ratio
     (channel-ratio offset number (bit value 15) ts) refl)))
   where
     none : offset == 0x082 ≡ false

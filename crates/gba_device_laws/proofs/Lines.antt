@@ -4,13 +4,14 @@ use Rattle.std.specs.Prelude.{bit_and, bit_or, slice_index_or}
 use Rattle.std.proofs.lemmas.Bool.Decides.{nat_tests}
 use Rattle.std.proofs.lemmas.List.{length-append, length-drop}
 use Rattle.std.proofs.lemmas.Nat.{and_assoc, and_comm, and_mask, or_lt}
+use Rattle.gba_terms.specs.Bytes.{AreBytes}
 use Rattle.gba_register.specs.Rows.{row_at}
-use Rattle.gba_irq.specs.Interrupts.{interrupt_rows, interrupt_shown, interrupt_stored, interrupt_written, with_request_if, with_requests}
+use Rattle.gba_irq.specs.Interrupts.{interrupt_rows, interrupt_shown, interrupt_set, interrupt_written, with_request_if, with_requests}
 use Rattle.gba_irq.specs.Keypad.{Keys, keypad_rows, with_control, with_pressed}
 use Rattle.gba_irq.specs.declared.interrupts.Interrupts.{Interrupts}
 use Rattle.gba_sound.specs.Queue.{SoundQueue, after_push, after_take, bytes_of, empty_queue, has_room}
 use Rattle.gba_sound.specs.Queues.{DirectSound, after_overflow, after_word, chose, is_reset_by, sound_at_reset, sound_rows, sound_shown, sound_written}
-use Rattle.gba_device_laws.specs.Holding.{AreBytes, HasStoredBits, KeysHold, QueueHolds, SoundHolds}
+use Rattle.gba_device_laws.specs.Holding.{HasStoredBits, KeysHold, QueueHolds, SoundHolds}
 use Rattle.gba_device_laws.proofs.Masks.{and-twice, at-place, nothing-stored}
 
 -- the keys
@@ -95,11 +96,11 @@ requests-write offset value i is =
         and_assoc m a b ∙ ap (bit_and a) (and_comm b m) ∙ sym (and_assoc b a m) ∙ ap (λ n. bit_and n b) small
 
     same-enabled : (k v : ℕ) → k ≢ 0x200 → k ≢ 0x202 → k ≢ 0x208
-        → bit_and (interrupt_stored k v i).enabled 0x3fff ≡ (interrupt_stored k v i).enabled
+        → bit_and (interrupt_set k v i).enabled 0x3fff ≡ (interrupt_set k v i).enabled
     same-enabled k v one two three = grind (arith, nat_tests, one, two, three, is.enabled)
 
     same-raised : (k v : ℕ) → k ≢ 0x200 → k ≢ 0x202 → k ≢ 0x208
-        → bit_and (interrupt_stored k v i).raised 0x3fff ≡ (interrupt_stored k v i).raised
+        → bit_and (interrupt_set k v i).raised 0x3fff ≡ (interrupt_set k v i).raised
     same-raised k v one two three = grind (arith, nat_tests, one, two, three, is.raised)
 
 pub interrupts-write : (offset value : ℕ) (i : Interrupts) → HasStoredBits interrupt_rows (λ at. interrupt_shown at i)

@@ -7,7 +7,7 @@ use Rattle.std.proofs.lemmas.Bool.Decides.{nat_tests}
 use Rattle.std.proofs.lemmas.List.{length-set, get_or-replicate, get_or-set_same, get_or-set_other, get_or_past}
 use Rattle.gba_terms.specs.Bits.{bit}
 use Rattle.gba_register.specs.Rows.{row_at}
-use Rattle.gba_ppu_reg.specs.Registers.{Picture, after_line, after_reload, grown, halves_at_reset, is_half_of, is_listed, picture_at_reset, picture_kept, picture_rows, picture_written, point_after, stored_halves, written_point}
+use Rattle.gba_ppu_reg.specs.Registers.{Picture, after_line, after_reload, grown, halves_at_reset, is_half_of, is_listed, picture_at_reset, picture_kept, picture_rows, picture_written, point_after, written_halves, written_point}
 use Rattle.gba_word.specs.Extension.{sign_extension}
 use Rattle.gba_device_laws.specs.Holding.{HasStoredBits, PictureHolds}
 use Rattle.gba_device_laws.proofs.Masks.{and-twice, nothing-stored}
@@ -91,12 +91,12 @@ picture-write offset value r is =
     record {
       long = halves.long;
       reference2 = record {
-        x = after-word 0x028 offset (stored_halves offset value r) r.reference2.x is.reference2.x;
-        y = after-word 0x02c offset (stored_halves offset value r) r.reference2.y is.reference2.y;
+        x = after-word 0x028 offset (written_halves offset value r) r.reference2.x is.reference2.x;
+        y = after-word 0x02c offset (written_halves offset value r) r.reference2.y is.reference2.y;
       };
       reference3 = record {
-        x = after-word 0x038 offset (stored_halves offset value r) r.reference3.x is.reference3.x;
-        y = after-word 0x03c offset (stored_halves offset value r) r.reference3.y is.reference3.y;
+        x = after-word 0x038 offset (written_halves offset value r) r.reference3.x is.reference3.x;
+        y = after-word 0x03c offset (written_halves offset value r) r.reference3.y is.reference3.y;
       };
       stored = halves.stored;
     }

@@ -6,7 +6,7 @@ use lib.Bits.{and_zero_r}
 use Rattle.std.proofs.lemmas.Nat.{and_mask}
 use Rattle.gba_register.specs.Rows.{row_at}
 use Rattle.gba_timer.specs.Timer.{timer_after, with_control}
-use Rattle.gba_timer.specs.Timers.{FourTimers, cycle, overflow0, overflow1, overflow2, timer_kept, timer_rows, timer_stored, timer_written, timers_at_reset}
+use Rattle.gba_timer.specs.Timers.{FourTimers, cycle, overflow0, overflow1, overflow2, timer_kept, timer_rows, timer_set, timer_written, timers_at_reset}
 use Rattle.gba_timer.specs.declared.timer.Timer.{Timer}
 use Rattle.gba_device_laws.specs.Holding.{TimerHolds, TimersHold}
 use Rattle.gba_device_laws.proofs.Masks.{after_write, stored-write}
@@ -49,11 +49,11 @@ unfolding timer_rows row_at
 unlisted-mask offset none = grind (arith, nat_tests, none)
 
 kept-stored : (at offset value : ℕ) (ts : FourTimers) → listed offset ≡ true
-    → timer_kept at (timer_stored offset value ts) ≡ (if at == offset then value else timer_kept at ts)
+    → timer_kept at (timer_set offset value ts) ≡ (if at == offset then value else timer_kept at ts)
 kept-stored at offset value ts here = grind (arith, nat_tests, here)
 
 kept-dropped : (at offset : ℕ) (ts : FourTimers) → listed offset ≡ false
-    → timer_kept at (timer_stored offset 0 ts) ≡ (if at == offset then 0 else timer_kept at ts)
+    → timer_kept at (timer_set offset 0 ts) ≡ (if at == offset then 0 else timer_kept at ts)
 kept-dropped at offset ts none = grind (arith, nat_tests, none)
 
 kept-write : (at offset value : ℕ) (ts : FourTimers)
@@ -105,25 +105,25 @@ module _ (ts : FourTimers) (hold : TimersHold ts) where
     stored = λ at. rw (kept-cycle at ts) (hold.stored at);
   }
 
-  stored-timer0 : (offset value : ℕ) → TimerHolds (timer_stored offset value ts).timer0
+  stored-timer0 : (offset value : ℕ) → TimerHolds (timer_set offset value ts).timer0
   stored-timer0 offset value = record {
     counter = grind (arith, nat_tests, hold.timer0.counter, reload0);
     phase = grind (arith, nat_tests, hold.timer0.phase);
   }
 
-  stored-timer1 : (offset value : ℕ) → TimerHolds (timer_stored offset value ts).timer1
+  stored-timer1 : (offset value : ℕ) → TimerHolds (timer_set offset value ts).timer1
   stored-timer1 offset value = record {
     counter = grind (arith, nat_tests, hold.timer1.counter, reload1);
     phase = grind (arith, nat_tests, hold.timer1.phase);
   }
 
-  stored-timer2 : (offset value : ℕ) → TimerHolds (timer_stored offset value ts).timer2
+  stored-timer2 : (offset value : ℕ) → TimerHolds (timer_set offset value ts).timer2
   stored-timer2 offset value = record {
     counter = grind (arith, nat_tests, hold.timer2.counter, reload2);
     phase = grind (arith, nat_tests, hold.timer2.phase);
   }
 
-  stored-timer3 : (offset value : ℕ) → TimerHolds (timer_stored offset value ts).timer3
+  stored-timer3 : (offset value : ℕ) → TimerHolds (timer_set offset value ts).timer3
   stored-timer3 offset value = record {
     counter = grind (arith, nat_tests, hold.timer3.counter, reload3);
     phase = grind (arith, nat_tests, hold.timer3.phase);

@@ -5,9 +5,10 @@ use lib.Bits.{and_zero_l}
 use Rattle.std.proofs.lemmas.Bool.Decides.{nat_tests}
 use Rattle.std.proofs.lemmas.Nat.{and_mask, and_mod, and_shr}
 use Rattle.gba_terms.specs.Bits.{bit, field}
+use Rattle.gba_terms.specs.Bytes.{AreBytes}
 use Rattle.gba_register.specs.Rows.{row_at}
 use Rattle.gba_psg.specs.Noise.{noise_controlled}
-use Rattle.gba_psg.specs.Registers.{channel_stored, is_wave_offset, mastered, tone_rows, tones_kept, tones_stored, tones_written, wave_place}
+use Rattle.gba_psg.specs.Registers.{tone_set, is_wave_offset, mastered, tone_rows, tones_kept, tones_set, tones_written, wave_place}
 use Rattle.gba_psg.specs.Tone.{lowered}
 use Rattle.gba_psg.specs.Soundness.{AreSound, StaysSound}
 use Rattle.gba_psg.specs.Square.{after_sweep, square_controlled, square_swept, sweep_time, swept, takes_swept, with_frequency, with_sweep_left}
@@ -16,7 +17,7 @@ use Rattle.gba_psg.specs.Wave.{half_set, other_bank, wave_controlled, wave_half,
 use Rattle.gba_psg.specs.declared.four.FourTones.{FourTones}
 use Rattle.gba_psg.specs.declared.square.Square.{Square}
 use Rattle.gba_psg.specs.declared.wave.Wave.{Wave}
-use Rattle.gba_device_laws.specs.Holding.{AreBytes, HasBytes, HasStoredBits, TonesHold}
+use Rattle.gba_device_laws.specs.Holding.{HasBytes, HasStoredBits, TonesHold}
 use Rattle.gba_device_laws.proofs.Bytes.{byte-at, has-replicate, has-set}
 use Rattle.gba_device_laws.proofs.Masks.{and-twice, at-place, nothing-stored}
 
@@ -524,16 +525,16 @@ module _ (ts : FourTones) (is : AreRegisters ts) where
       elsewhere : (wave : Bool) (number : ℕ) → is_wave_offset offset ≡ wave → offset ≢ 0x060 → offset ≢ 0x062
           → offset ≢ 0x064 → offset ≢ 0x068 → offset ≢ 0x06c → offset ≢ 0x070 → offset ≢ 0x072 → offset ≢ 0x074
           → offset ≢ 0x078 → offset ≢ 0x07c → offset ≢ 0x080 → offset ≢ 0x082 → offset ≢ 0x084
-          → AreRegisters (tones_stored offset number (bit value 15) ts)
+          → AreRegisters (tones_set offset number (bit value 15) ts)
       elsewhere true number here n0 n1 n2 n3 n4 n5 n6 n7 n8 n9 n10 n11 n12 =
           subst (λ t. AreRegisters (if t then record ts { wave = with_wave_half (wave_place offset) number ts.wave }
           else if offset == 0x082 then record ts { ratio = number }
           else if offset == 0x084 then mastered (bit number 7) ts
-          else if ts.is_on then channel_stored offset number (bit value 15) ts else ts)) (sym here)
+          else if ts.is_on then tone_set offset number (bit value 15) ts else ts)) (sym here)
           (wave-registers (wave_place offset) number)
       elsewhere false number none n0 n1 n2 n3 n4 n5 n6 n7 n8 n9 n10 n11 n12 = rw same is
         where
-          same : tones_stored offset number (bit value 15) ts ≡ ts
+          same : tones_set offset number (bit value 15) ts ≡ ts
           same = grind (arith, nat_tests, none, n0, n1, n2, n3, n4, n5, n6, n7, n8, n9, n10, n11, n12)
 
 -- a tick of the sweep

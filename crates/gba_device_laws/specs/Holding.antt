@@ -1,6 +1,7 @@
 -- The rules to which the numbers of a board's devices keep in each run.
 use Rattle.std.specs.Prelude.{◌≡◌, ℕ, ◌^◌, ◌<◌, ◌≤◌, ◌==◌, List, length, bit_and, slice_index, if◌then◌else◌}
 use Rattle.gba_terms.specs.Bits.{field}
+use Rattle.gba_terms.specs.Bytes.{AreBytes}
 use Rattle.gba_register.specs.Rows.{Row, row_at}
 use Rattle.gba_devices.specs.Registers.{system_rows}
 use Rattle.gba_devices.specs.State.{Devices}
@@ -19,10 +20,6 @@ use Rattle.gba_sound.specs.Queue.{SoundQueue}
 use Rattle.gba_sound.specs.Queues.{DirectSound, sound_rows, sound_shown}
 use Rattle.gba_timer.specs.Timers.{FourTimers, timer_kept, timer_rows}
 use Rattle.gba_timer.specs.declared.timer.Timer.{Timer}
-
--- numbers of eight bits
-abbrev pub AreBytes : List ℕ → Type 0
-AreBytes bytes = (place : ℕ) → place < length bytes → slice_index bytes place < 2 ^ 8
 
 -- so many bytes
 pub record HasBytes (count : ℕ) (content : List ℕ) : Type 0 where

@@ -5,8 +5,8 @@ use Rattle.std.specs.Option.{option_map_or}
 use Rattle.gba_terms.specs.Bits.{bit, field}
 use Rattle.gba_dma.specs.declared.channel.Channel.{Channel}
 use Rattle.gba_dma.specs.declared.event.DmaEvent.{DmaEvent}
-use Rattle.gba_dma.specs.Channel.{after_event, after_run, after_step, after_unit_end, channel_at_reset, count_loaded, half_stored, is_last, waits_again, with_control, with_high, with_low}
-use Rattle.gba_dma.specs.Channels.{FourChannels, after_lowest_unit, after_trigger, after_unit_at, channels_at_reset, dma_written, half_stored_at, has_offset, lowest_active, place_in}
+use Rattle.gba_dma.specs.Channel.{after_event, after_run, after_step, after_unit_end, channel_at_reset, count_loaded, channel_set, is_last, waits_again, with_control, with_high, with_low}
+use Rattle.gba_dma.specs.Channels.{FourChannels, after_lowest_unit, after_trigger, after_unit_at, channels_at_reset, dma_written, channel_set_at, has_offset, lowest_active, place_in}
 use Rattle.gba_dma.specs.Consistency.{AreConsistent, IsConsistent}
 
 disabled : (control : ℕ) → bit (field control 0 15) 15 ≡ false
@@ -34,7 +34,7 @@ either true c d h k = h
 either false c d h k = k
 
 pub write_keeps : (number place value : ℕ) (c : Channel) → IsConsistent c
-    → IsConsistent (half_stored number place value c)
+    → IsConsistent (channel_set number place value c)
 write_keeps number place value c h =
     either (nat_eq place 0) _ _ (same_run c (with_low value c.source) c.target c.count h)
     (either (nat_eq place 2) _ _ (same_run c (with_high value c.source) c.target c.count h)
@@ -73,19 +73,19 @@ four cs a b c d = record { channel0 = a; channel1 = b; channel2 = c; channel3 = 
 pub at_reset : AreConsistent channels_at_reset
 at_reset = four channels_at_reset one_at_reset one_at_reset one_at_reset one_at_reset
 
-stored_keeps : (number offset value : ℕ) (c : Channel) → IsConsistent c
-    → IsConsistent (half_stored_at number offset value c)
-stored_keeps number offset value c h =
+set_keeps : (number offset value : ℕ) (c : Channel) → IsConsistent c
+    → IsConsistent (channel_set_at number offset value c)
+set_keeps number offset value c h =
     either (has_offset number offset) _ c (write_keeps number (place_in number offset) value c h) h
 
 pub all_written : (offset value : ℕ) (cs : FourChannels) → AreConsistent cs
     → AreConsistent (dma_written offset value cs)
 all_written offset value cs h =
     four (dma_written offset value cs)
-    (stored_keeps 0 offset _ cs.channel0 h.channel0)
-    (stored_keeps 1 offset _ cs.channel1 h.channel1)
-    (stored_keeps 2 offset _ cs.channel2 h.channel2)
-    (stored_keeps 3 offset _ cs.channel3 h.channel3)
+    (set_keeps 0 offset _ cs.channel0 h.channel0)
+    (set_keeps 1 offset _ cs.channel1 h.channel1)
+    (set_keeps 2 offset _ cs.channel2 h.channel2)
+    (set_keeps 3 offset _ cs.channel3 h.channel3)
 
 pub all_triggered : (event : DmaEvent) (cs : FourChannels) → AreConsistent cs → AreConsistent (after_trigger event cs)
 all_triggered event cs h =

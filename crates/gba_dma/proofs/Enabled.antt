@@ -3,7 +3,7 @@ use Rattle.std.proofs.Common.{ℕ, Bool, true, false, arith}
 use Rattle.std.specs.Prelude.{if◌then◌else◌, nat_eq}
 use Rattle.gba_dma.specs.declared.channel.Channel.{Channel}
 use Rattle.gba_dma.specs.declared.event.DmaEvent.{DmaEvent}
-use Rattle.gba_dma.specs.Channel.{after_event, after_run, after_step, after_unit_end, half_stored, is_last, with_control, with_high, with_low}
+use Rattle.gba_dma.specs.Channel.{after_event, after_run, after_step, after_unit_end, channel_set, is_last, with_control, with_high, with_low}
 use Rattle.gba_dma.specs.Consistency.{IsEnabledRun}
 
 control_enables : (number value : ℕ) (c : Channel) → IsEnabledRun c → IsEnabledRun (with_control number value c)
@@ -14,7 +14,7 @@ either true c d h k = h
 either false c d h k = k
 
 pub write_enables : (number place value : ℕ) (c : Channel) → IsEnabledRun c
-    → IsEnabledRun (half_stored number place value c)
+    → IsEnabledRun (channel_set number place value c)
 write_enables number place value c h =
     either (nat_eq place 0) (record c { source = with_low value c.source }) _ h
     (either (nat_eq place 2) (record c { source = with_high value c.source }) _ h

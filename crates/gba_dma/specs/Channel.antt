@@ -171,8 +171,8 @@ half_shown place c =
     else if place == 10 then c.control
     else 0
 
-abbrev pub half_stored : ℕ → ℕ → ℕ → Channel → Channel
-half_stored number place value c =
+abbrev pub channel_set : ℕ → ℕ → ℕ → Channel → Channel
+channel_set number place value c =
     if place == 0 then record c { source = with_low value c.source }
     else if place == 2 then record c { source = with_high value c.source }
     else if place == 4 then record c { target = with_low value c.target }

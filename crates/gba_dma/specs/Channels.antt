@@ -4,7 +4,7 @@ use Rattle.gba_register.specs.Rows.{Row, row, row_at}
 use Rattle.gba_dma.specs.declared.channel.Channel.{Channel}
 use Rattle.gba_dma.specs.declared.event.DmaEvent.{DmaEvent}
 use Rattle.gba_dma.specs.declared.unit.Unit.{Unit as DmaUnit}
-use Rattle.gba_dma.specs.Channel.{after_event, after_unit_end, channel_at_reset, half_shown, half_stored, requests_interrupt, unit_of}
+use Rattle.gba_dma.specs.Channel.{after_event, after_unit_end, channel_at_reset, half_shown, channel_set, requests_interrupt, unit_of}
 
 -- the four channels
 pub record FourChannels : Type 0 where
@@ -101,21 +101,21 @@ abbrev pub dma_read : ℕ → FourChannels → ℕ
 dma_read offset cs = bit_and (dma_kept offset cs) (row_at dma_rows offset).read_mask
 
 -- what a write of these bits leaves
-abbrev pub half_stored_at : ℕ → ℕ → ℕ → Channel → Channel
-half_stored_at number offset value c =
-    if has_offset number offset then half_stored number (place_in number offset) value c else c
+abbrev pub channel_set_at : ℕ → ℕ → ℕ → Channel → Channel
+channel_set_at number offset value c =
+    if has_offset number offset then channel_set number (place_in number offset) value c else c
 
-abbrev pub dma_stored : ℕ → ℕ → FourChannels → FourChannels
-dma_stored offset value cs = record {
-  channel0 = half_stored_at 0 offset value cs.channel0;
-  channel1 = half_stored_at 1 offset value cs.channel1;
-  channel2 = half_stored_at 2 offset value cs.channel2;
-  channel3 = half_stored_at 3 offset value cs.channel3;
+abbrev pub dma_set : ℕ → ℕ → FourChannels → FourChannels
+dma_set offset value cs = record {
+  channel0 = channel_set_at 0 offset value cs.channel0;
+  channel1 = channel_set_at 1 offset value cs.channel1;
+  channel2 = channel_set_at 2 offset value cs.channel2;
+  channel3 = channel_set_at 3 offset value cs.channel3;
 }
 
 -- what a halfword write leaves
 abbrev pub dma_written : ℕ → ℕ → FourChannels → FourChannels
-dma_written offset value cs = dma_stored offset (bit_and value (row_at dma_rows offset).write_mask) cs
+dma_written offset value cs = dma_set offset (bit_and value (row_at dma_rows offset).write_mask) cs
 
 abbrev pub channels_at_reset : FourChannels
 channels_at_reset = record {

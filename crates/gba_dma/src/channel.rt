@@ -69,7 +69,7 @@ fn moved(step: u32, bytes: u32, address: u32) -> u32
 
 impl Channel {
     ghost use Rattle.std.specs.Prelude.{◌≡◌, ◌<◌, bit_and};
-    ghost use Rattle.gba_dma.specs.Channel.{after_event, after_run, after_step, after_unit_end, count_loaded, half_shown, half_stored, is_enabled, is_event_of, is_last, is_triggered, next_source, next_target, repeats, requests_interrupt, serves_sound, source_step, target_step, timing_of, unit_of, unit_width, waits_again, with_control};
+    ghost use Rattle.gba_dma.specs.Channel.{after_event, after_run, after_step, after_unit_end, count_loaded, half_shown, channel_set, is_enabled, is_event_of, is_last, is_triggered, next_source, next_target, repeats, requests_interrupt, serves_sound, source_step, target_step, timing_of, unit_of, unit_width, waits_again, with_control};
 
     fn timing(&self) -> u32
         ensures { result ≡ timing_of self.now.control }
@@ -271,7 +271,7 @@ impl Channel {
 
     /// Writes the halfword at a place of the channel's twelve bytes.
     pub(crate) fn write(&mut self, number: u32, place: u32, value: u16)
-        ensures { self.new ≡ half_stored number place value self.old }
+        ensures { self.new ≡ channel_set number place value self.old }
     {
         match place {
             0 => self.source = with_low(value, self.source),

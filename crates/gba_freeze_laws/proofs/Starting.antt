@@ -4,8 +4,9 @@ use Rattle.std.specs.List.{AllZip}
 use Rattle.std.specs.Prelude.{All, IfSome, Option, slice_get}
 use Rattle.std.proofs.lemmas.List.{length-map}
 use Rattle.std.proofs.lemmas.List.Elements.{All-head, All-tail}
+use Rattle.gba_terms.specs.Bytes.{AreBytes}
 use Rattle.gba_console.specs.Machine.{Machine, without_limit}
-use Rattle.gba_device_laws.specs.Holding.{AreBytes, HasBytes}
+use Rattle.gba_device_laws.specs.Holding.{HasBytes}
 use Rattle.gba_freeze_laws.specs.Reached.{HasSavedBytes}
 use Rattle.gba_image.specs.Backups.{backup_length}
 use Rattle.gba_image.specs.declared.backup.Backup.{Backup}

@@ -1,8 +1,8 @@
 -- What the run of a job reaches.
 use Rattle.std.specs.Prelude.{ℕ, ◌≤◌, IfSome, List}
 use Rattle.std.specs.List.{All}
+use Rattle.gba_terms.specs.Bytes.{AreBytes}
 use Rattle.gba_console.specs.Machine.{Machine}
-use Rattle.gba_device_laws.specs.Holding.{AreBytes}
 use Rattle.gba_image.specs.declared.images.ConsoleImages.{ConsoleImages}
 use Rattle.gba_joblog.specs.Job.{WholeJob}
 use Rattle.gba_joblog.specs.Soundness.{IsJob}

@@ -1,6 +1,6 @@
 #![tactic(auto)]
 //! The lines of a frozen file: how each is read, in which order they stand, and which line of a file is refused and
-//! why. A state file's are spelled as these; no command reads them yet.
+//! why. A state file's are spelled as these.
 //!
 //! Words are parted by one space, and a line is right where it is spelled as it would be printed.
 

@@ -1,5 +1,5 @@
 #![tactic(auto)]
-//! A frozen file as a whole: each of its lines is handed to who keeps what it says. No command uses it yet.
+//! A frozen file as a whole: each of its lines is handed to who keeps what it says.
 
 mod lines;
 mod reader;

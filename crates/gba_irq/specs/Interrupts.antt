@@ -44,8 +44,8 @@ abbrev pub interrupt_read : ℕ → Interrupts → ℕ
 interrupt_read offset i = bit_and (interrupt_shown offset i) (row_at interrupt_rows offset).read_mask
 
 -- what a write of these bits leaves: one of IF clears the bits that are 1 in it
-abbrev pub interrupt_stored : ℕ → ℕ → Interrupts → Interrupts
-interrupt_stored offset value i =
+abbrev pub interrupt_set : ℕ → ℕ → Interrupts → Interrupts
+interrupt_set offset value i =
     if offset == 0x200 then record i { enabled = value }
     else if offset == 0x202 then without_requests value i
     else if offset == 0x208 then record i { master = bit value 0 }
@@ -53,4 +53,4 @@ interrupt_stored offset value i =
 
 -- what a halfword write leaves
 abbrev pub interrupt_written : ℕ → ℕ → Interrupts → Interrupts
-interrupt_written offset value i = interrupt_stored offset (bit_and value (row_at interrupt_rows offset).write_mask) i
+interrupt_written offset value i = interrupt_set offset (bit_and value (row_at interrupt_rows offset).write_mask) i

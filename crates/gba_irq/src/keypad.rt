@@ -24,7 +24,7 @@ fn read_mask(offset: u32) -> u16
 
 /// The bits of KEYCNT that a write stores.
 #[tactic(auto, unfolding(crate::specs::Keypad::keypad_rows, gba_register::specs::Rows::row_at))]
-fn stored_bits(value: u16) -> u16
+fn written_bits(value: u16) -> u16
     ensures { result ≡ bit_and value (row_at keypad_rows 0x132).write_mask }
 {
     value & 0xC3FF
@@ -115,7 +115,7 @@ impl Keypad {
         ensures raised { result ≡ becomes_true self.old self.new }
     {
         let before = self.condition();
-        self.control = stored_bits(value);
+        self.control = written_bits(value);
         self.became_true(before)
     }
 

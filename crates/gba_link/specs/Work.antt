@@ -3,6 +3,8 @@ use Rattle.gba_command.specs.Writing.{Run}
 use Rattle.gba_link.specs.declared.work.Work.{Work}
 use Rattle.gba_link.specs.declared.work.Work.TheVariants.{Frozen, Made, Ready, Resumed}
 
+-- What the program's work stands for. Only private functions cite these.
+
 -- a prepared run stands for itself
 abbrev pub run_itself : Run → Run
 run_itself run = run

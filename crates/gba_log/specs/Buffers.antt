@@ -1,4 +1,4 @@
--- Room in a buffer, and what is added to it.
+-- Room in a buffer, and what is added to it. Only private functions cite these.
 use Rattle.std.specs.Prelude.{◌≡◌, ◌≤◌, ℕ, ◌+◌, List, ◌++◌, length, Vec, vec_len, vec_capacity}
 use Rattle.std.specs.Global.{Global}
 

@@ -3,6 +3,7 @@ use Rattle.std.proofs.Common.{◌≡◌, ℕ, ◌%◌, ◌^◌, ◌<◌, ◌∙�
 use Rattle.std.proofs.Math.Nat.{mod-eq_of_lt}
 use Rattle.std.proofs.lemmas.Bool.Decides.{nat_tests}
 use Rattle.std.proofs.lemmas.List.{ext_get_or, get_or-map, length-map}
+use Rattle.gba_terms.specs.Bytes.{AreBytes}
 use Rattle.gba_io.specs.Core.{Core}
 use Rattle.gba_loose_devices.specs.Cable.{mode_poured}
 use Rattle.gba_loose_devices.specs.Values.{bytes_cut}
@@ -16,7 +17,7 @@ use Rattle.gba_sound.specs.Queues.{queue_at}
 use Rattle.link_node.specs.Packing.{mode_number, numbered_mode}
 use Rattle.link_node.specs.declared.signal.LinkMode.{LinkMode}
 use Rattle.link_node.specs.declared.signal.LinkMode.TheVariants.{Normal8, Normal32, Multi, Other}
-use Rattle.gba_loose.specs.Again.{AreBytes, AreInRange, AreNumbersOf, BytesAgain}
+use Rattle.gba_loose.specs.Again.{AreInRange, AreNumbersOf, BytesAgain}
 use Rattle.gba_loose.specs.Numbers.{board_number}
 use Rattle.gba_loose.proofs.Made.{cut-again}
 

@@ -1,4 +1,5 @@
 use Rattle.std.specs.Prelude.{IfSome, ◌≡◌, ℕ, ◌<◌, ◌^◌, true, List, length, slice_index}
+use Rattle.gba_terms.specs.Bytes.{AreBytes}
 use Rattle.gba_dma.specs.Channels.{channel_at}
 use Rattle.gba_dma.specs.declared.channel.Channel.{Channel}
 use Rattle.gba_io.specs.Core.{Core}
@@ -49,9 +50,6 @@ abbrev pub MadeAgain : Type 0
 MadeAgain = (b : Core) (n : ConsoleNumbers) → AreNumbersOf b n → AreInRange b → NumbersMakeAgain b n
 
 -- the bytes of the sound queues and of the wave are those of a board, and each is one
-abbrev pub AreBytes : List ℕ → Type 0
-AreBytes bytes = (place : ℕ) → place < length bytes → slice_index bytes place < 2 ^ 8
-
 pub record AreBytesOf (b : Core) (n : ConsoleNumbers) : Type 0 where
   pub queue_a : n.queue_a ≡ b.devices.sound.queue_a.bytes
   pub queue_b : n.queue_b ≡ b.devices.sound.queue_b.bytes

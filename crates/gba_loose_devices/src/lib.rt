@@ -1,6 +1,5 @@
 #![tactic(auto)]
-//! Devices of the numbers that a frozen file has of a console, and of the bytes of its I/O registers. No command
-//! uses them yet.
+//! Devices of the numbers that a frozen file has of a console, and of the bytes of its I/O registers.
 
 mod audio;
 mod cable;

@@ -8,7 +8,7 @@ use Rattle.gba_bus.specs.declared.width.Width.{Width}
 use Rattle.gba_bus.specs.declared.width.Width.TheVariants.{Byte, Half, Word}
 use Rattle.gba_mem.specs.Memories.{Memories}
 use Rattle.gba_mem.specs.Places.{inner_place, oam_place, palette_place, sprite_part, vram_place, work_place}
-use Rattle.gba_mem.specs.Stores.{store, stored_in, with_both, with_byte, with_byte_in, with_number}
+use Rattle.gba_mem.specs.Stores.{store, store_in, with_both, with_byte, with_byte_in, with_number}
 use Rattle.gba_mem.specs.Wide.{wide_oam, wide_palette, wide_store, wide_vram}
 use Rattle.gba_mem.proofs.Aligned.{inner-next, palette-next, region-same, vram-next, work-next}
 
@@ -131,7 +131,7 @@ drop-as region width m address value e drops =
     ∙ dropped-number width m 0 value
 
 work-store : (mode : ℕ) (m : Memories) (address : ℕ) (width : Width) (value : ℕ) → region_of address ≡ Work
-    → stored_in Work mode m address width value ≡ wide_store Work mode m address width value
+    → store_in Work mode m address width value ≡ wide_store Work mode m address width value
 unfolding wide_store
 work-store mode m address width value e =
     number-as with_byte set_work width m (aligned width address) (work_place (aligned width address)) value
@@ -139,7 +139,7 @@ work-store mode m address width value e =
     ∙ work-number width m (work_place (aligned width address)) value
 
 inner-store : (mode : ℕ) (m : Memories) (address : ℕ) (width : Width) (value : ℕ) → region_of address ≡ Inner
-    → stored_in Inner mode m address width value ≡ wide_store Inner mode m address width value
+    → store_in Inner mode m address width value ≡ wide_store Inner mode m address width value
 unfolding wide_store
 inner-store mode m address width value e =
     number-as with_byte set_inner width m (aligned width address) (inner_place (aligned width address)) value
@@ -147,7 +147,7 @@ inner-store mode m address width value e =
     ∙ inner-number width m (inner_place (aligned width address)) value
 
 palette-store : (mode : ℕ) (m : Memories) (address : ℕ) (width : Width) (value : ℕ) → region_of address ≡ Palette
-    → stored_in Palette mode m address width value ≡ wide_store Palette mode m address width value
+    → store_in Palette mode m address width value ≡ wide_store Palette mode m address width value
 unfolding wide_store wide_palette
 palette-store mode m address Byte value e =
     half-as with_byte set_palette m (aligned Half address) (palette_place (aligned Half address)) (field value 0 8)
@@ -170,7 +170,7 @@ vram-byte true m address value e =
 vram-byte false m address value e = refl
 
 vram-store : (mode : ℕ) (m : Memories) (address : ℕ) (width : Width) (value : ℕ) → region_of address ≡ Vram
-    → stored_in Vram mode m address width value ≡ wide_store Vram mode m address width value
+    → store_in Vram mode m address width value ≡ wide_store Vram mode m address width value
 unfolding wide_store wide_vram
 vram-store mode m address Byte value e =
     vram-byte (nat_lt (vram_place address) (sprite_part mode)) m address value e
@@ -182,7 +182,7 @@ vram-store mode m address Word value e =
     (vram-agrees Word address e)
 
 oam-store : (mode : ℕ) (m : Memories) (address : ℕ) (width : Width) (value : ℕ) → region_of address ≡ Oam
-    → stored_in Oam mode m address width value ≡ wide_store Oam mode m address width value
+    → store_in Oam mode m address width value ≡ wide_store Oam mode m address width value
 unfolding wide_store wide_oam
 oam-store mode m address Byte value e = refl
 oam-store mode m address Half value e =
@@ -198,7 +198,7 @@ positive Half = omega arith
 positive Word = omega arith
 
 sram-store : (mode : ℕ) (m : Memories) (address : ℕ) (width : Width) (value : ℕ) → region_of address ≡ Sram
-    → stored_in Sram mode m address width value ≡ wide_store Sram mode m address width value
+    → store_in Sram mode m address width value ≡ wide_store Sram mode m address width value
 unfolding wide_store
 sram-store mode m address width value e =
     first-write with_byte (with_byte_in Sram) (aligned width address) (aligned width address) m (field value 0 8)
@@ -206,7 +206,7 @@ sram-store mode m address width value e =
 
 region-store : (region : Region) (mode : ℕ) (m : Memories) (address : ℕ) (width : Width) (value : ℕ)
     → region_of address ≡ region
-    → stored_in region mode m address width value ≡ wide_store region mode m address width value
+    → store_in region mode m address width value ≡ wide_store region mode m address width value
 unfolding wide_store
 region-store Bios mode m address width value e = drop-as Bios width m address value e (λ k place byte. refl)
 region-store Work mode m address width value e = work-store mode m address width value e

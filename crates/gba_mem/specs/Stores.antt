@@ -51,15 +51,15 @@ with_both write kept address byte = write (write kept address byte) (address + 1
 -- the VRAM below the part of sprites; that part and the OAM drop it (GBATEK, Writing 8bit Data to Video Memory in GBA
 -- Unpredictable Things). The SRAM and the flash take the low byte of any write, once, at its aligned address (this
 -- project's profile).
-abbrev pub stored_in : Region → ℕ → Memories → ℕ → Width → ℕ → Memories
-stored_in Palette mode m address Byte value = with_both with_byte m (aligned Half address) (field value 0 8)
-stored_in Vram mode m address Byte value =
+abbrev pub store_in : Region → ℕ → Memories → ℕ → Width → ℕ → Memories
+store_in Palette mode m address Byte value = with_both with_byte m (aligned Half address) (field value 0 8)
+store_in Vram mode m address Byte value =
     if nat_lt (vram_place address) (sprite_part mode)
     then with_both with_byte m (aligned Half address) (field value 0 8)
     else m
-stored_in Oam mode m address Byte value = m
-stored_in Sram mode m address width value = with_byte m (aligned width address) (field value 0 8)
-stored_in _ mode m address width value = with_number with_byte width m (aligned width address) value
+store_in Oam mode m address Byte value = m
+store_in Sram mode m address width value = with_byte m (aligned width address) (field value 0 8)
+store_in _ mode m address width value = with_number with_byte width m (aligned width address) value
 
 unfoldable pub store : ℕ → Memories → ℕ → Width → ℕ → Memories
-store mode m address width value = stored_in (region_of address) mode m address width value
+store mode m address width value = store_in (region_of address) mode m address width value

@@ -2,7 +2,7 @@
 //! The numbers of a console as a frozen file has them: their names, their places in the order of the file, their
 //! ranges, and a console's numbers together.
 //!
-//! Beside the memories these are all numbers that a console keeps between two steps. No command reads them yet.
+//! Beside the memories these are all numbers that a console keeps between two steps.
 
 mod fields;
 pub mod laws;

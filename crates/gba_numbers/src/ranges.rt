@@ -24,7 +24,7 @@ const HALF_END: u64 = 0x1_0000;
 const BYTE_END: u64 = 0x100;
 
 /// What a status register keeps of a number.
-fn stored_status(value: u32) -> u32
+fn status_bits(value: u32) -> u32
     ensures { result ≡ kept_status value }
 {
     (bits(value, 28, 4) << 28) + bits(value, 0, 8)
@@ -43,7 +43,7 @@ fn is_saved_status(value: u64) -> bool
         return false;
     }
     let word = value as u32;
-    stored_status(word) == word
+    status_bits(word) == word
 }
 
 fn is_status(value: u64) -> bool

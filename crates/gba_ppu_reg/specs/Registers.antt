@@ -56,8 +56,8 @@ written_point offset halves =
 abbrev pub is_half_of : ℕ → ℕ → Bool
 is_half_of point offset = (offset == point) || (offset == point + 2)
 
-abbrev pub stored_halves : ℕ → ℕ → Picture → List ℕ
-stored_halves offset value r =
+abbrev pub written_halves : ℕ → ℕ → Picture → List ℕ
+written_halves offset value r =
     if is_listed offset
     then slice_set r.halves (offset / 2) (bit_and value (row_at picture_rows offset).write_mask)
     else r.halves
@@ -67,14 +67,14 @@ point_after point offset halves old = if is_half_of point offset then written_po
 
 abbrev pub picture_written : ℕ → ℕ → Picture → Picture
 picture_written offset value r = record {
-  halves = stored_halves offset value r;
+  halves = written_halves offset value r;
   reference2 = record {
-    x = point_after 0x028 offset (stored_halves offset value r) r.reference2.x;
-    y = point_after 0x02c offset (stored_halves offset value r) r.reference2.y;
+    x = point_after 0x028 offset (written_halves offset value r) r.reference2.x;
+    y = point_after 0x02c offset (written_halves offset value r) r.reference2.y;
   };
   reference3 = record {
-    x = point_after 0x038 offset (stored_halves offset value r) r.reference3.x;
-    y = point_after 0x03c offset (stored_halves offset value r) r.reference3.y;
+    x = point_after 0x038 offset (written_halves offset value r) r.reference3.x;
+    y = point_after 0x03c offset (written_halves offset value r) r.reference3.y;
   };
 }
 

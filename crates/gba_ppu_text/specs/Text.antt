@@ -39,8 +39,8 @@ unfoldable pub nibble_number : List ℕ → ℕ → ℕ → ℕ
 nibble_number vram start column = field (tile_byte vram (start + column / 2)) (4 * (column % 2)) 4
 
 -- the number of a dot of a tile, as the tile is stored: 64 bytes with 8 bits for each dot, or 32 with 4
-abbrev pub stored_number : List ℕ → ℕ → ℕ → ℕ → ℕ → ℕ
-stored_number vram control tile column row =
+abbrev pub unflipped_number : List ℕ → ℕ → ℕ → ℕ → ℕ → ℕ
+unflipped_number vram control tile column row =
     if has_eight_bits control
     then byte_number vram (tiles_start control + 64 * tile + 8 * row) column
     else nibble_number vram (tiles_start control + 32 * tile + 4 * row) column
@@ -52,7 +52,7 @@ mirrored mirror place = if mirror then 7 - place else place
 
 unfoldable pub number_at : List ℕ → ℕ → ℕ → ℕ → ℕ → ℕ
 number_at vram control entry column row =
-    stored_number vram control (field entry 0 10) (mirrored (bit entry 10) column) (mirrored (bit entry 11) row)
+    unflipped_number vram control (field entry 0 10) (mirrored (bit entry 10) column) (mirrored (bit entry 11) row)
 
 abbrev pub palette_of : ℕ → ℕ → ℕ
 palette_of control entry = if has_eight_bits control then 0 else 16 * field entry 12 4

@@ -2,7 +2,7 @@
 
 ghost use Rattle.std.specs.Prelude.{◌≡◌, ℕ, ◌+◌, ◌-◌, ◌*◌, ◌%◌, ◌<◌, ◌≤◌, length, slice_index, slice_index_or};
 ghost use Rattle.gba_ppu_dot.specs.declared.dot.Dot.{Dot};
-ghost use Rattle.gba_ppu_text.specs.Text.{byte_number, mirrored as mirrored_place, nibble_number, number_at, palette_of as palette_start, stored_number, tile_dot};
+ghost use Rattle.gba_ppu_text.specs.Text.{byte_number, mirrored as mirrored_place, nibble_number, number_at, palette_of as palette_start, unflipped_number, tile_dot};
 ghost use Rattle.gba_terms.specs.Bits.{bit as bit_of, field};
 
 use gba_ppu_dot::{BackgroundControl, Dot};
@@ -73,11 +73,11 @@ pub(crate) fn palette_of(control: BackgroundControl, entry: u16) -> u16
 }
 
 /// A row of the tile of an entry, as it is stored from left to right.
-fn stored_row(vram: &[u8], control: BackgroundControl, entry: u16, row: u32) -> [u8; 8]
+fn unflipped_row(vram: &[u8], control: BackgroundControl, entry: u16, row: u32) -> [u8; 8]
     requires vram { length vram.now ≡ 98304 }
     requires row { row < 8 }
     ensures { (column : ℕ) → column < 8 → slice_index result column
-        ≡ stored_number vram.now control.value (field entry 0 10) column (mirrored_place (bit_of entry 11) row) }
+        ≡ unflipped_number vram.now control.value (field entry 0 10) column (mirrored_place (bit_of entry 11) row) }
 {
     let tile = bits(u32::from(entry), 0, 10);
     let row = mirrored(bit(u32::from(entry), 11), row);
@@ -96,7 +96,7 @@ pub(crate) fn seen_row(vram: &[u8], control: BackgroundControl, entry: u16, row:
     ensures { (column : ℕ) → column < 8 → slice_index result column
         ≡ number_at vram.now control.value entry column row }
 {
-    let [a, b, c, d, e, f, g, h] = stored_row(vram, control, entry, row);
+    let [a, b, c, d, e, f, g, h] = unflipped_row(vram, control, entry, row);
     if bit(u32::from(entry), 10) {
         [h, g, f, e, d, c, b, a]
     } else {

@@ -14,7 +14,7 @@ use Rattle.gba_psg.specs.Square.{after_sweep, is_too_high, next_eighth, square_c
 use Rattle.gba_psg.specs.Wave.{next_digit, wave_controlled, wave_moved, wave_period, wave_cleared, wave_started, wave_timed, with_wave_half}
 use Rattle.gba_psg.specs.Noise.{is_narrow, next_noise, noise_controlled, noise_moved, noise_period, noise_started, noise_timed, tap}
 use Rattle.gba_psg.specs.Tones.{after_cycles, after_envelopes, after_lengths, after_sweeps, counted, cycle, moved, ticked, tones_at_reset, with_lengths, with_sweeps}
-use Rattle.gba_psg.specs.Registers.{channel_stored, cleared, is_wave_offset, mastered, tone_rows, tones_stored, tones_written, wave_place}
+use Rattle.gba_psg.specs.Registers.{tone_set, cleared, is_wave_offset, mastered, tone_rows, tones_set, tones_written, wave_place}
 use Rattle.gba_psg.specs.Soundness.{AreSound, IsSoundTone, StaysSound}
 use Rattle.gba_psg.proofs.Cycling.{cycle-off, cycle-on, square-period-positive, wave-period-positive}
 use Rattle.gba_psg.proofs.Fields.{field-below, noise-period-below, noise-period-positive}
@@ -367,7 +367,7 @@ same-tones ts after h on s a b c d = record {
 }
 
 channel-four : (offset value : ℕ) (starts : Bool) (ts : FourTones) → AreFour ts
-    → AreFour (channel_stored offset value starts ts)
+    → AreFour (tone_set offset value starts ts)
 channel-four offset value starts ts h =
     either AreFour (nat_eq offset 0x060) (record ts { sweep = value }) _
     (same-tones ts (record ts { sweep = value }) h refl refl refl refl refl refl)
@@ -421,9 +421,9 @@ channel-four offset value starts ts h =
     (same-tones ts (record ts { mixer = value }) h refl refl refl refl refl refl) h))))))))))
 
 channel-sound-by : (offset value : ℕ) (starts on : Bool) (ts : FourTones) → ts.is_on ≡ on → AreSound ts
-    → AreSound (if on then channel_stored offset value starts ts else ts)
+    → AreSound (if on then tone_set offset value starts ts else ts)
 channel-sound-by offset value starts true ts on h =
-    four-sound (channel_stored offset value starts ts) (channel-four offset value starts ts (sound-four ts on h))
+    four-sound (tone_set offset value starts ts) (channel-four offset value starts ts (sound-four ts on h))
 channel-sound-by offset value starts false ts off h = h
 
 -- bytes of the wave, and the ratio
@@ -483,7 +483,7 @@ mastered-sound true ts h = record {
 mastered-sound false ts h = cleared-sound ts
 
 pub stored-sound : (offset value : ℕ) (starts : Bool) (ts : FourTones) → AreSound ts
-    → AreSound (tones_stored offset value starts ts)
+    → AreSound (tones_set offset value starts ts)
 stored-sound offset value starts ts h =
     either AreSound (is_wave_offset offset) (record ts { wave = with_wave_half (wave_place offset) value ts.wave }) _
     (wave-stored-sound (wave_place offset) value ts h)

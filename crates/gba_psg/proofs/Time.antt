@@ -7,7 +7,7 @@ use Rattle.gba_register.specs.Rows.{row_at}
 use Rattle.gba_psg.specs.declared.square.Square.{Square}
 use Rattle.gba_psg.specs.declared.four.FourTones.{FourTones}
 use Rattle.gba_psg.specs.Laws.{KeepsTime}
-use Rattle.gba_psg.specs.Registers.{channel_stored, tone_rows, tones_written}
+use Rattle.gba_psg.specs.Registers.{tone_set, tone_rows, tones_written}
 use Rattle.gba_psg.specs.Tone.{after_envelope, after_length}
 use Rattle.gba_psg.specs.Square.{after_sweep, square_controlled, square_moved, square_started, square_timed, sweep_time}
 use Rattle.gba_psg.specs.Tones.{after_cycles, after_envelopes, after_lengths, after_sweeps, counted, cycle, ticked, with_lengths, with_sweeps}
@@ -221,14 +221,14 @@ written-first : (ts : FourTones) (value : ℕ) → ts.is_on ≡ true → bit val
     → tones_written 0x064 value ts ≡ record ts { square1 = started ts.sweep value ts.square1 }
 unfolding tones_written tone_rows row_at
 written-first ts value on starts =
-    ap (λ b. if b then channel_stored 0x064 (masked value) (bit value 15) ts else ts) on
+    ap (λ b. if b then tone_set 0x064 (masked value) (bit value 15) ts else ts) on
     ∙ (λ i. record ts { square1 = square_controlled ts.sweep (masked value) (starts i) ts.square1 })
 
 written-second : (ts : FourTones) (value : ℕ) → ts.is_on ≡ true → bit value 15 ≡ true
     → tones_written 0x06c value ts ≡ record ts { square2 = started 0 value ts.square2 }
 unfolding tones_written tone_rows row_at
 written-second ts value on starts =
-    ap (λ b. if b then channel_stored 0x06c (masked value) (bit value 15) ts else ts) on
+    ap (λ b. if b then tone_set 0x06c (masked value) (bit value 15) ts else ts) on
     ∙ (λ i. record ts { square2 = square_controlled 0 (masked value) (starts i) ts.square2 })
 
 started-at : (sweep value : ℕ) (c : Square) → IsAt (masked value) 0 (period (masked value)) (started sweep value c)

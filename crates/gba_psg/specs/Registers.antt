@@ -69,8 +69,8 @@ abbrev pub mastered : Bool → FourTones → FourTones
 mastered is_on ts = if is_on then record ts { is_on = true } else cleared ts
 
 -- what a write of these bits leaves in the registers of the channels, and whether it starts one
-abbrev pub channel_stored : ℕ → ℕ → Bool → FourTones → FourTones
-channel_stored offset value starts ts =
+abbrev pub tone_set : ℕ → ℕ → Bool → FourTones → FourTones
+tone_set offset value starts ts =
     if offset == 0x060 then record ts { sweep = value }
     else if offset == 0x062 then record ts { square1 = record ts.square1 { shape = value } }
     else if offset == 0x064 then record ts { square1 = square_controlled ts.sweep value starts ts.square1 }
@@ -85,15 +85,15 @@ channel_stored offset value starts ts =
     else ts
 
 -- the same of any halfword: those below 082h are dropped while the master enable is 0
-abbrev pub tones_stored : ℕ → ℕ → Bool → FourTones → FourTones
-tones_stored offset value starts ts =
+abbrev pub tones_set : ℕ → ℕ → Bool → FourTones → FourTones
+tones_set offset value starts ts =
     if is_wave_offset offset then record ts { wave = with_wave_half (wave_place offset) value ts.wave }
     else if offset == 0x082 then record ts { ratio = value }
     else if offset == 0x084 then mastered (bit value 7) ts
-    else if ts.is_on then channel_stored offset value starts ts
+    else if ts.is_on then tone_set offset value starts ts
     else ts
 
 -- what a halfword write leaves
 unfoldable pub tones_written : ℕ → ℕ → FourTones → FourTones
 tones_written offset value ts =
-    tones_stored offset (bit_and value (row_at tone_rows offset).write_mask) (bit value 15) ts
+    tones_set offset (bit_and value (row_at tone_rows offset).write_mask) (bit value 15) ts

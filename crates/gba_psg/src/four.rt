@@ -78,7 +78,7 @@ fn is_wave(offset: u32) -> bool
 
 impl FourTones {
     ghost use Rattle.gba_psg.specs.Amount.{IsFew, given_of, left_amount, right_amount, side_amount, sum_of};
-    ghost use Rattle.gba_psg.specs.Registers.{channel_stored, cleared, mastered, tones_kept, tones_stored};
+    ghost use Rattle.gba_psg.specs.Registers.{tone_set, cleared, mastered, tones_kept, tones_set};
     ghost use Rattle.gba_psg.specs.Running.{run};
     ghost use Rattle.gba_psg.specs.Soundness.{AreSound};
     ghost use Rattle.gba_psg.specs.Tones.{after_cycles, after_envelopes, after_lengths, channels_on, ticked, tone_at};
@@ -344,7 +344,7 @@ impl FourTones {
 
     /// Writes the stored bits of a register of the channels, and starts one where that is asked for.
     fn set_channel(&mut self, offset: u32, value: u16, starts: bool)
-        ensures { self.new ≡ channel_stored offset value starts self.old }
+        ensures { self.new ≡ tone_set offset value starts self.old }
     {
         match offset {
             0x060 => self.sweep = value,
@@ -375,7 +375,7 @@ impl FourTones {
 
     /// Writes the stored bits of any halfword.
     pub(crate) fn set(&mut self, offset: u32, value: u16, starts: bool)
-        ensures { self.new ≡ tones_stored offset value starts self.old }
+        ensures { self.new ≡ tones_set offset value starts self.old }
     {
         if is_wave(offset) {
             self.wave.set_half((offset - 0x090) as usize, value);

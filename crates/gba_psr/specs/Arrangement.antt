@@ -4,7 +4,7 @@ use Rattle.gba_psr.specs.Modes.{first_banked, bank_distance}
 use Rattle.gba_psr.specs.Status.{mode_of}
 
 -- How `Registers` keeps the 37 numbers: the present mode's sixteen registers stand first, and where the mode has
--- registers of its own, the user's stand in their places.
+-- registers of its own, the user's stand in their places. Only private functions cite it.
 
 -- places from `first` up to `end` exchanged with those `distance` behind them
 abbrev pub crossing : ℕ → ℕ → ℕ → ℕ → ℕ

@@ -5,8 +5,9 @@ use Rattle.std.specs.List.{flat_map}
 use Rattle.std.specs.Prelude.{All}
 use Rattle.std.proofs.lemmas.List.Concat.{flat_map-cons}
 use Rattle.std.proofs.lemmas.List.Elements.{All-append}
+use Rattle.gba_terms.specs.Bytes.{AreBytes}
 use Rattle.gba_device_laws.proofs.Lines.{bytes-append}
-use Rattle.gba_device_laws.specs.Holding.{AreBytes, HasBytes}
+use Rattle.gba_device_laws.specs.Holding.{HasBytes}
 use Rattle.gba_devices.specs.Cycles.{draws_line}
 use Rattle.gba_io.specs.Board.{board_after, board_cycle, lines_with}
 use Rattle.gba_io.specs.Core.{Core}

@@ -3,13 +3,13 @@ use Rattle.std.proofs.Common.{◌≡◌, ℕ, zero, suc, ◌+◌, ◌^◌, ◌<�
 use Rattle.std.specs.Prelude.{bit_and, nat_lt, slice_index}
 use Rattle.std.proofs.lemmas.Nat.{and_le_r}
 use Rattle.gba_terms.specs.Bits.{field}
+use Rattle.gba_terms.specs.Bytes.{AreBytes}
 use Rattle.gba_bus.specs.Regions.{region_of}
 use Rattle.gba_bus.specs.Widths.{aligned}
 use Rattle.gba_bus.specs.declared.region.Region.{Region}
 use Rattle.gba_bus.specs.declared.region.Region.TheVariants.{Bios, Work, Inner, Io, Palette, Vram, Oam, Rom0, Rom1, Rom2, Sram, Other}
 use Rattle.gba_bus.specs.declared.width.Width.{Width}
 use Rattle.gba_bus.specs.declared.width.Width.TheVariants.{Byte, Half, Word}
-use Rattle.gba_device_laws.specs.Holding.{AreBytes}
 use Rattle.gba_device_laws.proofs.Bytes.{bytes-set, has-set}
 use Rattle.gba_flash.specs.Flash.{FlashMemory, bytes_after, command_of, erased, flash_written, has_banks, place_in, sector_of, sector_size, written_in}
 use Rattle.gba_flash.specs.declared.machine.FlashState.{FlashState}
@@ -18,7 +18,7 @@ use Rattle.gba_image.specs.declared.backup.Backup.{Backup}
 use Rattle.gba_mem.specs.Backups.{BackupMemory, InFlash, InSram, backup_bytes, backup_written}
 use Rattle.gba_mem.specs.Memories.{Memories}
 use Rattle.gba_mem.specs.Places.{flash_place, inner_place, oam_place, palette_place, sprite_part, sram_place, vram_place, work_place}
-use Rattle.gba_mem.specs.Stores.{store, stored_in, with_both, with_byte, with_byte_in, with_number}
+use Rattle.gba_mem.specs.Stores.{store, store_in, with_both, with_byte, with_byte_in, with_number}
 use Rattle.gba_run_laws.specs.Holding.{MemoriesHold}
 
 -- ---- whatever each write of a byte keeps
@@ -50,7 +50,7 @@ module _ (Keeps : Memories → Type 0)
       byte-keeps (with_byte m address byte) (address + 1) byte small (byte-keeps m address byte small keeps)
 
   stored-keeps : (region : Region) (mode : ℕ) (m : Memories) (address : ℕ) (width : Width) (value : ℕ) → Keeps m
-      → Keeps (stored_in region mode m address width value)
+      → Keeps (store_in region mode m address width value)
   stored-keeps Palette mode m address Byte value keeps =
       both-keep m (aligned Half address) (field value 0 8) (omega arith) keeps
   stored-keeps Vram mode m address Byte value keeps =

@@ -5,6 +5,7 @@ use Rattle.std.proofs.lemmas.Bool.{cases_lt, false≢true}
 use Rattle.std.proofs.lemmas.Bool.Decides.{nat_tests}
 use Rattle.std.proofs.lemmas.List.{get_or-replicate, get_or-set_other, get_or_past}
 use Rattle.gba_terms.specs.Bits.{bit}
+use Rattle.gba_terms.specs.Bytes.{AreBytes}
 use Rattle.gba_psr.specs.RegisterFile.{mode, register, reset_file, status}
 use Rattle.gba_psr.specs.Modes.{place}
 use Rattle.gba_psr.specs.Status.{kept_status}
@@ -15,7 +16,7 @@ use Rattle.gba_exec_laws.proofs.Words.{set-words}
 use Rattle.gba_exec_transfers.specs.Done.{Done}
 use Rattle.gba_device_laws.specs.Cable.{SerialHolds, SerialStays, last_clock}
 use Rattle.gba_device_laws.proofs.Bytes.{has-replicate}
-use Rattle.gba_device_laws.specs.Holding.{AreBytes, DevicesHold, HasBytes}
+use Rattle.gba_device_laws.specs.Holding.{DevicesHold, HasBytes}
 use Rattle.gba_device_laws.specs.Staying.{DevicesStay}
 use Rattle.gba_devices.specs.Keeping.{WritesKeep}
 use Rattle.gba_dma.specs.Channels.{next_unit}

@@ -1,12 +1,13 @@
 -- The rules to which a console keeps in each run.
 use Rattle.std.specs.Prelude.{◌≡◌, ℕ, zero, suc, ◌+◌, ◌*◌, ◌%◌, ◌^◌, ◌<◌, ◌≤◌, true, All, List, Option, Some, slice_index_or}
+use Rattle.gba_terms.specs.Bytes.{AreBytes}
 use Rattle.gba_console.specs.Counted.{Counts, KeepsKinds}
 use Rattle.gba_console.specs.Keys.{due_count}
 use Rattle.gba_console.specs.Machine.{Machine, clock_of, reset}
 use Rattle.gba_console.specs.Step.{stepped}
 use Rattle.gba_console.specs.declared.keys.KeyState.{KeyState}
 use Rattle.gba_device_laws.specs.Cable.{SerialHolds, last_clock}
-use Rattle.gba_device_laws.specs.Holding.{AreBytes, DevicesHold, HasBytes}
+use Rattle.gba_device_laws.specs.Holding.{DevicesHold, HasBytes}
 use Rattle.gba_exec_laws.specs.Sound.{IsSoundFile}
 use Rattle.gba_image.specs.Backups.{backup_length}
 use Rattle.gba_image.specs.declared.backup.Backup.{Backup}

@@ -5,8 +5,8 @@ use Rattle.gba_ppu_reg.specs.Registers.{Picture, picture_at_reset}
 use Rattle.gba_screen.specs.Lines.{line_bytes}
 
 -- How the code keeps the lines of a frame. Of the lines that are drawn, the first `paid` stand as bytes, and the others
--- are owed: they are what their keys, the registers at their HBlanks, and the memories give. Only private functions
--- cite these.
+-- are owed: they are what their keys, the registers at their HBlanks, and the memories give. Only private functions and
+-- the screen's view cite these.
 
 -- what a line is by its key
 abbrev pub owed_line : List Picture → Memories → ℕ → List ℕ

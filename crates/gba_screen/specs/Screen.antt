@@ -23,8 +23,8 @@ abbrev pub with_line : Picture → ℕ → Screen → Screen
 with_line r y s = record s { lines = s.lines ++ (line_bytes r s.memory y ∷ []) }
 
 -- a write
-abbrev pub screen_stored : ℕ → ℕ → Width → ℕ → Screen → Screen
-screen_stored mode address width value s = record s { memory = store mode s.memory address width value }
+abbrev pub screen_written : ℕ → ℕ → Width → ℕ → Screen → Screen
+screen_written mode address width value s = record s { memory = store mode s.memory address width value }
 
 -- the next frame has no line yet
 abbrev pub frame_ended : Screen → Screen

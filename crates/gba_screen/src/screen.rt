@@ -87,7 +87,7 @@ impl Screen {
     ghost use Rattle.gba_mem.specs.Replacing.{part_length};
     ghost use Rattle.gba_mem.specs.Backups.{backup_of};
     ghost use Rattle.gba_flash.specs.Soundness.{IsSoundMachine};
-    ghost use Rattle.gba_screen.specs.Screen.{blank_screen, frame_ended, screen_cleared, screen_stored, screen_with_machine, screen_with_part, with_line, with_lines};
+    ghost use Rattle.gba_screen.specs.Screen.{blank_screen, frame_ended, screen_cleared, screen_written, screen_with_machine, screen_with_part, with_line, with_lines};
 
     /// A screen with these memories, of which no line is drawn. They are dropped on refusal.
     pub fn new(alloc: Global, memory: Memory) -> Result<Screen, NoMemory>
@@ -136,7 +136,7 @@ impl Screen {
     #[inline]
     pub fn store_inner(&mut self, address: u32, width: Width, value: u32)
         requires { is_inner (region_of address) ≡ true }
-        ensures { (mode : ℕ) → self.new ≡ screen_stored mode address width value self.old }
+        ensures { (mode : ℕ) → self.new ≡ screen_written mode address width value self.old }
     {
         stores_keep_video();
         self.memory.store_inner(address, width, value);
@@ -146,7 +146,7 @@ impl Screen {
     #[inline]
     fn store_beside(&mut self, mode: u32, address: u32, width: Width, value: u32)
         requires { is_video (region_of address) ≡ false }
-        ensures { self.new ≡ screen_stored mode address width value self.old }
+        ensures { self.new ≡ screen_written mode address width value self.old }
     {
         stores_keep_video();
         self.memory.store(mode, address, width, value);
@@ -154,7 +154,7 @@ impl Screen {
 
     /// Pays the lines that are drawn, and writes.
     fn change(&mut self, mode: u32, address: u32, width: Width, value: u32)
-        ensures { self.new ≡ screen_stored mode address width value self.old }
+        ensures { self.new ≡ screen_written mode address width value self.old }
     {
         self.paid = settle(
             &self.memory,
@@ -170,7 +170,7 @@ impl Screen {
     #[inline(never)]
     fn store_video(&mut self, mode: u32, address: u32, width: Width, value: u32)
         requires { is_video (region_of address) ≡ true }
-        ensures { self.new ≡ screen_stored mode address width value self.old }
+        ensures { self.new ≡ screen_written mode address width value self.old }
     {
         if self.paid.lines == self.drawn && self.paid.fresh == 0 {
             self.memory.store(mode, address, width, value);
@@ -186,7 +186,7 @@ impl Screen {
     /// as they are.
     #[inline]
     pub fn store(&mut self, mode: u32, address: u32, width: Width, value: u32)
-        ensures { self.new ≡ screen_stored mode address width value self.old }
+        ensures { self.new ≡ screen_written mode address width value self.old }
     {
         if is_in_video(address) {
             self.store_video(mode, address, width, value);

@@ -2,4 +2,3 @@ pub mod Files
 pub mod Held
 pub mod Session
 pub mod Start
-pub mod Views

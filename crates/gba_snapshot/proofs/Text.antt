@@ -12,7 +12,7 @@ use Rattle.gba_image.specs.declared.backup.Backup.TheVariants.{Sram}
 use Rattle.gba_snapshot.proofs.Lines.{says-append}
 use Rattle.gba_snapshot.specs.Console.{backup_in, console_text, draft_of}
 use Rattle.gba_snapshot.specs.File.{consoles_text, frozen_file, signals_text}
-use Rattle.gba_snapshot.specs.Laws.{FrozenIsText, setup_of, signal_of}
+use Rattle.gba_snapshot.specs.Laws.{FrozenIsText, setup_written, signal_of}
 use Rattle.link_order.specs.declared.sent.Sent.{Sent}
 
 -- a list from one of its places on
@@ -61,7 +61,7 @@ first-lines one two lines = refl
 pub frozen-text : FrozenIsText
 unfolding frozen_file frozen_text frozen_lines
 frozen-text digest until cut =
-    let setup : Setup = setup_of digest until cut.consoles in
+    let setup : Setup = setup_written digest until cut.consoles in
     let consoles : List Said = consoles_say setup 0 (map draft_of cut.consoles) in
     let signals : List Said = map live_of (map signal_of cut.sent) in
     sym (first-lines version_text (digest_text digest) (map said_line (consoles ++ signals) ++ end_text ∷ [])

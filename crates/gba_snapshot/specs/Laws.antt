@@ -13,8 +13,8 @@ use Rattle.link_order.specs.Cut.{Cut}
 use Rattle.link_order.specs.declared.sent.Sent.{Sent}
 
 -- what a frozen file is read for, of a job of such consoles that has this digest and so many cycles
-abbrev pub setup_of : List ℕ → ℕ → List Machine → Setup
-setup_of digest until machines = record {
+abbrev pub setup_written : List ℕ → ℕ → List Machine → Setup
+setup_written digest until machines = record {
   consoles = length machines;
   backups = map backup_in machines;
   digest = digest;
@@ -36,4 +36,4 @@ cut_draft cut = record {
 abbrev pub FrozenIsText : Type 0
 FrozenIsText =
     (digest : List ℕ) (until : ℕ) (cut : Cut Machine)
-    → frozen_file digest cut ≡ frozen_text (setup_of digest until cut.consoles) (cut_draft cut)
+    → frozen_file digest cut ≡ frozen_text (setup_written digest until cut.consoles) (cut_draft cut)

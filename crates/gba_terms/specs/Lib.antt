@@ -1,3 +1,4 @@
 pub mod Bits
+pub mod Bytes
 pub mod Hexadecimal
 pub mod RegisterNames

@@ -22,7 +22,7 @@ use Rattle.gba_numbers.specs.declared.names.MemoryName.TheVariants as memory
 use Rattle.gba_serial.specs.Making.{seat_of}
 use Rattle.gba_serial.specs.SerialUnit.{SerialUnit}
 use Rattle.gba_snapshot.specs.Io.{io_bytes}
-use Rattle.gba_thaw.specs.Stored.{are_stored}
+use Rattle.gba_thaw.specs.Stored.{has_stored_bits}
 use Rattle.gba_thaw.specs.Checks.{are_applied, are_drawn, are_known, has_mode, have_left, is_aligned, is_sound_flash, is_timed, runs_rightly}
 
 -- the bytes of each memory, the I/O registers among them
@@ -53,7 +53,7 @@ unit_thawed m n io = serial_poured (seat_of m.board.core.serial) n io
 -- what its devices and its processor are made of needs this
 unfoldable pub can_be_made : Machine → ConsoleNumbers → List ℕ → Bool
 can_be_made m n io =
-    are_stored io && has_status n && are_sound_devices n io
+    has_stored_bits io && has_status n && are_sound_devices n io
     && is_sound_flash (backup_of m.board.core.memory.backup) (flash_thawed n)
 
 -- and a run can go on from it only where, beside that, these tests hold

@@ -14,7 +14,7 @@ use crate::checks::{
     are_applied, are_drawn, are_known, has_left, has_mode, is_aligned, is_sound_flash, is_timed,
     runs_rightly, single,
 };
-use crate::stored::are_stored;
+use crate::stored::has_stored_bits;
 use gba_console::{Console, ConsoleParts};
 use gba_filling::{Loose, Memories};
 use gba_flash::{FlashMachine, FlashState};
@@ -67,7 +67,7 @@ fn parts_thawed(console: &Console, numbers: &Numbers, io: &[u8; 1024]) -> Option
         then Some (parts_thawed_of console.now numbers.now io.now) else None) }
 {
     let core = &console.board().core;
-    if !are_stored(io)
+    if !has_stored_bits(io)
         || !has_status(numbers)
         || !are_sound_devices(numbers, io)
         || !is_sound_flash(core.backup(), flash_thawed(numbers))

@@ -1,8 +1,8 @@
 //! The bits of the I/O registers in a frozen file.
 
 ghost use Rattle.std.specs.Prelude.{◌≡◌, ◌+◌, ◌<◌};
-ghost use Rattle.gba_thaw.specs.Stored.{are_channels_stored as are_channels_stored_of, are_stored as are_stored_of, has_bits as has_bits_of};
-ghost use Rattle.gba_thaw.specs.Stored.{is_picture_stored as is_picture_stored_of, is_rest_stored as is_rest_stored_of, is_sound_stored as is_sound_stored_of};
+ghost use Rattle.gba_thaw.specs.Stored.{has_channel_bits as has_channel_bits_of, has_stored_bits as has_stored_bits_of, has_bits as has_bits_of};
+ghost use Rattle.gba_thaw.specs.Stored.{has_picture_bits as has_picture_bits_of, has_other_bits as has_other_bits_of, has_sound_bits as has_sound_bits_of};
 
 /// Whether the halfword at an offset has these bits alone.
 fn has_bits(io: &[u8; 1024], offset: usize, bits: u16) -> bool
@@ -14,9 +14,9 @@ fn has_bits(io: &[u8; 1024], offset: usize, bits: u16) -> bool
 }
 
 /// Whether the registers of the picture have stored bits alone.
-#[tactic(auto, unfolding(crate::specs::Stored::is_picture_stored))]
-fn is_picture_stored(io: &[u8; 1024]) -> bool
-    ensures { result ≡ is_picture_stored_of io.now }
+#[tactic(auto, unfolding(crate::specs::Stored::has_picture_bits))]
+fn has_picture_bits(io: &[u8; 1024]) -> bool
+    ensures { result ≡ has_picture_bits_of io.now }
 {
     has_bits(io, 0x000, 0xFFF7)
         && has_bits(io, 0x002, 0)
@@ -44,9 +44,9 @@ fn is_picture_stored(io: &[u8; 1024]) -> bool
 }
 
 /// Whether those of the sound have stored bits alone.
-#[tactic(auto, unfolding(crate::specs::Stored::is_sound_stored))]
-fn is_sound_stored(io: &[u8; 1024]) -> bool
-    ensures { result ≡ is_sound_stored_of io.now }
+#[tactic(auto, unfolding(crate::specs::Stored::has_sound_bits))]
+fn has_sound_bits(io: &[u8; 1024]) -> bool
+    ensures { result ≡ has_sound_bits_of io.now }
 {
     has_bits(io, 0x060, 0x007F)
         && has_bits(io, 0x064, 0x47FF)
@@ -63,9 +63,9 @@ fn is_sound_stored(io: &[u8; 1024]) -> bool
 }
 
 /// Whether those of the DMA channels have stored bits alone.
-#[tactic(auto, unfolding(crate::specs::Stored::are_channels_stored))]
-fn are_channels_stored(io: &[u8; 1024]) -> bool
-    ensures { result ≡ are_channels_stored_of io.now }
+#[tactic(auto, unfolding(crate::specs::Stored::has_channel_bits))]
+fn has_channel_bits(io: &[u8; 1024]) -> bool
+    ensures { result ≡ has_channel_bits_of io.now }
 {
     has_bits(io, 0x0B2, 0x07FF)
         && has_bits(io, 0x0B6, 0x07FF)
@@ -85,9 +85,9 @@ fn are_channels_stored(io: &[u8; 1024]) -> bool
 }
 
 /// Whether the keypad, the cable, the interrupts and the system have stored bits alone.
-#[tactic(auto, unfolding(crate::specs::Stored::is_rest_stored))]
-fn is_rest_stored(io: &[u8; 1024]) -> bool
-    ensures { result ≡ is_rest_stored_of io.now }
+#[tactic(auto, unfolding(crate::specs::Stored::has_other_bits))]
+fn has_other_bits(io: &[u8; 1024]) -> bool
+    ensures { result ≡ has_other_bits_of io.now }
 {
     has_bits(io, 0x132, 0xC3FF)
         && has_bits(io, 0x134, 0xC000)
@@ -99,9 +99,9 @@ fn is_rest_stored(io: &[u8; 1024]) -> bool
 }
 
 /// Whether all have stored bits alone.
-#[tactic(auto, unfolding(crate::specs::Stored::are_stored))]
-pub(crate) fn are_stored(io: &[u8; 1024]) -> bool
-    ensures { result ≡ are_stored_of io.now }
+#[tactic(auto, unfolding(crate::specs::Stored::has_stored_bits))]
+pub(crate) fn has_stored_bits(io: &[u8; 1024]) -> bool
+    ensures { result ≡ has_stored_bits_of io.now }
 {
-    is_picture_stored(io) && is_sound_stored(io) && are_channels_stored(io) && is_rest_stored(io)
+    has_picture_bits(io) && has_sound_bits(io) && has_channel_bits(io) && has_other_bits(io)
 }

@@ -7,11 +7,11 @@ use Rattle.std.proofs.lemmas.List.FromFn.{length-map-range_with_len}
 use Rattle.std.proofs.lemmas.Nat.{and_le_r, le_bytes_2}
 use Rattle.gba_word.specs.Weights.{weight}
 use Rattle.gba_terms.specs.Bits.{field}
+use Rattle.gba_terms.specs.Bytes.{AreBytes}
 use Rattle.gba_devices.specs.Registers.{half_listed}
 use Rattle.gba_frozen_print.specs.Laws.{AreBelow}
 use Rattle.gba_io.specs.Core.{Core, core_half_listed}
 use Rattle.gba_io.specs.SerialRegisters.{is_serial}
-use Rattle.gba_loose.specs.Again.{AreBytes}
 use Rattle.gba_loose_devices.specs.Values.{half_at}
 use Rattle.gba_screen.specs.Lines.{colour_bytes, colours_bytes}
 use Rattle.gba_serial.specs.Registers.{control_listed, serial_kept, serial_rows, serial_listed}

@@ -3,13 +3,14 @@ use Rattle.std.proofs.Common.{◌≡◌, ℕ, zero, suc, ◌-◌, ◌^◌, ◌<�
 use Rattle.std.specs.List.{list_all}
 use Rattle.std.proofs.lemmas.Bool.{and_parts, cases_lt, cond_both}
 use Rattle.std.proofs.lemmas.List.{get_or_past}
+use Rattle.gba_terms.specs.Bytes.{AreBytes}
 use Rattle.gba_serial.specs.Timing.{is_word_of}
 use Rattle.gba_word.specs.Sums.{flag_number}
 use Rattle.gba_word.specs.Weights.{weight}
 use Rattle.gba_dma.specs.Channels.{FourChannels, channel_at}
 use Rattle.gba_dma.specs.declared.channel.Channel.{Channel}
 use Rattle.gba_io.specs.Core.{Core}
-use Rattle.gba_loose.specs.Again.{AreBytes, AreInRange}
+use Rattle.gba_loose.specs.Again.{AreInRange}
 use Rattle.gba_loose.specs.Numbers.{board_number, tone_part}
 use Rattle.gba_numbers.specs.Fields.{is_board_field}
 use Rattle.gba_numbers.specs.Ranges.{board_fits, control_fits, tone_end, tone_place_end}

@@ -15,7 +15,7 @@ use Rattle.gba_image.specs.declared.backup.Backup.TheVariants.{Sram}
 use Rattle.gba_numbers.specs.Ranges.{latest_clock}
 use Rattle.gba_snapshot.specs.Console.{backup_in, draft_of}
 use Rattle.gba_snapshot.specs.File.{frozen_file}
-use Rattle.gba_snapshot.specs.Laws.{cut_draft, signal_of, setup_of as setup_written}
+use Rattle.gba_snapshot.specs.Laws.{cut_draft, signal_of, setup_written}
 use Rattle.gba_snapshot.proofs.Text.{frozen-text}
 use Rattle.gba_thaw.specs.Cut.{setup_of}
 use Rattle.gba_thaw_laws.specs.Cut.{AreReady, CanBeFrozen}

@@ -16,7 +16,7 @@ use Rattle.gba_psg.specs.Tones.{channels_on}
 use Rattle.gba_serial.specs.Registers.{serial_rows}
 use Rattle.gba_sound.specs.Queues.{sound_rows}
 use Rattle.gba_loose_devices.specs.Sound.{tone_halves}
-use Rattle.gba_thaw.specs.Stored.{has_bits, are_channels_stored, are_stored, is_picture_stored, is_rest_stored, is_sound_stored}
+use Rattle.gba_thaw.specs.Stored.{has_bits, has_channel_bits, has_stored_bits, has_picture_bits, has_other_bits, has_sound_bits}
 use Rattle.gba_device_laws.specs.Cable.{SerialHolds}
 use Rattle.gba_device_laws.specs.Holding.{DevicesHold}
 use Rattle.gba_thaw_laws.specs.Laws.{BitsAreStored}
@@ -45,8 +45,8 @@ module _ (b : Core) (io : List ℕ) (halves : AreHalvesOf b io) (holds : Devices
       has-stored (2 * half) mask (slice_index b.devices.picture.halves half) io
       (plain-half b io halves holds.picture half inside (inr above))
 
-  picture-stored : is_picture_stored io ≡ true
-  unfolding is_picture_stored picture_rows row_at
+  picture-stored : has_picture_bits io ≡ true
+  unfolding has_picture_bits picture_rows row_at
   picture-stored =
       let stored = holds.picture.stored in
       λ i. first 0x00 0xfff7 (lit< tt) (lit< tt) (stored 0x000) i
@@ -82,8 +82,8 @@ module _ (b : Core) (io : List ℕ) (halves : AreHalvesOf b io) (holds : Devices
       has-stored offset mask (slice_index (halves_of b.devices.tones) place) io
       (is ∙ ap (λ (hs : List ℕ). slice_index hs place) (sounds.tone-halves b io halves holds))
 
-  sound-stored : is_sound_stored io ≡ true
-  unfolding is_sound_stored tone_halves halves_of tone_rows sound_rows row_at
+  sound-stored : has_sound_bits io ≡ true
+  unfolding has_sound_bits tone_halves halves_of tone_rows sound_rows row_at
   sound-stored =
       let ts = b.devices.tones in
       let stored = holds.tones.stored in
@@ -113,8 +113,8 @@ module _ (b : Core) (io : List ℕ) (halves : AreHalvesOf b io) (holds : Devices
       (dma-small cs holds.channels (2 * half)))
       (ap (λ (m : ℕ). bit_and (dma_kept (2 * half) cs) m) (sym row) ∙ holds.channels.stored (2 * half))
 
-  channels-stored : are_channels_stored io ≡ true
-  unfolding are_channels_stored core_half_listed half_listed owner_of dma_rows row_at
+  channels-stored : has_channel_bits io ≡ true
+  unfolding has_channel_bits core_half_listed half_listed owner_of dma_rows row_at
   channels-stored =
       λ i. channel 0x59 0x07ff (lit< tt) refl refl i && channel 0x5b 0x07ff (lit< tt) refl refl i
       && channel 0x5c 0x3fff (lit< tt) refl refl i && channel 0x5d 0xf7e0 (lit< tt) refl refl i
@@ -127,8 +127,8 @@ module _ (b : Core) (io : List ℕ) (halves : AreHalvesOf b io) (holds : Devices
 
   -- ---- the keypad, the cable, the interrupts and the system
 
-  rest-stored : SerialHolds b.serial → is_rest_stored io ≡ true
-  unfolding is_rest_stored keypad_rows serial_rows interrupt_rows system_rows row_at
+  rest-stored : SerialHolds b.serial → has_other_bits io ≡ true
+  unfolding has_other_bits keypad_rows serial_rows interrupt_rows system_rows row_at
   rest-stored serial =
       let d = b.devices in
       let keys = has-stored 0x132 0xc3ff d.keys.control io (keys-control-half b io halves holds) holds.keys.control in
@@ -148,7 +148,7 @@ module _ (b : Core) (io : List ℕ) (halves : AreHalvesOf b io) (holds : Devices
       λ i. keys i && select i && enabled i && raised i && waits i && master i && posted i
 
 pub bits-stored : BitsAreStored
-unfolding are_stored
+unfolding has_stored_bits
 bits-stored b io halves devices serial =
     let picture = picture-stored b io halves devices in
     let sound = sound-stored b io halves devices in

@@ -20,7 +20,7 @@ use Rattle.gba_snapshot.specs.Console.{HaveLengths, backup_in, memory_bytes}
 use Rattle.gba_snapshot.specs.Io.{io_bytes}
 use Rattle.gba_snapshot.specs.Snapshot.{numbers_of}
 use Rattle.gba_thaw.specs.Console.{console_thawed}
-use Rattle.gba_thaw.specs.Stored.{are_stored}
+use Rattle.gba_thaw.specs.Stored.{has_stored_bits}
 use Rattle.gba_device_laws.specs.Cable.{SerialHolds}
 use Rattle.gba_device_laws.specs.Holding.{ChannelsHold, DevicesHold, PictureHolds}
 use Rattle.gba_thaw_laws.specs.Holds.{Holds}
@@ -84,7 +84,7 @@ DevicesThawAgain =
 -- Each halfword has only bits that may be 1 in a frozen file.
 abbrev pub BitsAreStored : Type 0
 BitsAreStored =
-    (b : Core) (io : List ℕ) → AreHalvesOf b io → DevicesHold b.devices → SerialHolds b.serial → are_stored io ≡ true
+    (b : Core) (io : List ℕ) → AreHalvesOf b io → DevicesHold b.devices → SerialHolds b.serial → has_stored_bits io ≡ true
 
 -- ---- the console
 

@@ -1,11 +1,11 @@
 -- What else the consoles of a run keep, so that what a frozen file says of them has a text, which is read as it was
 -- written.
 use Rattle.std.specs.Prelude.{◌≡◌, ℕ, ◌+◌, ◌^◌, ◌<◌, ◌≤◌, Some, option_map, [], length, slice_index, slice_index_or}
+use Rattle.gba_terms.specs.Bytes.{AreBytes}
 use Rattle.gba_console.specs.Machine.{Machine, clock_of}
 use Rattle.gba_console.specs.Shorn.{shorn}
 use Rattle.gba_device_laws.specs.Holding.{HasBytes}
 use Rattle.gba_frozen_text.specs.Laws.{IsConsole}
-use Rattle.gba_loose.specs.Again.{AreBytes}
 use Rattle.gba_mem.specs.Backups.{backup_bytes}
 use Rattle.gba_mem.specs.Memories.{Memories}
 use Rattle.gba_psr.specs.Status.{kept_status}

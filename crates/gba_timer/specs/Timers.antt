@@ -91,8 +91,8 @@ abbrev pub timer_read : ℕ → FourTimers → ℕ
 timer_read offset ts = bit_and (timer_shown offset ts) (row_at timer_rows offset).read_mask
 
 -- what a write of these bits leaves
-abbrev pub timer_stored : ℕ → ℕ → FourTimers → FourTimers
-timer_stored offset value ts =
+abbrev pub timer_set : ℕ → ℕ → FourTimers → FourTimers
+timer_set offset value ts =
     if offset == 0x100 then record ts { timer0 = with_reload value ts.timer0 }
     else if offset == 0x102 then record ts { timer0 = with_control value ts.timer0 }
     else if offset == 0x104 then record ts { timer1 = with_reload value ts.timer1 }
@@ -105,7 +105,7 @@ timer_stored offset value ts =
 
 -- what a halfword write leaves
 abbrev pub timer_written : ℕ → ℕ → FourTimers → FourTimers
-timer_written offset value ts = timer_stored offset (bit_and value (row_at timer_rows offset).write_mask) ts
+timer_written offset value ts = timer_set offset (bit_and value (row_at timer_rows offset).write_mask) ts
 
 -- a timer by its number, 3 for any above
 abbrev pub timer_at : ℕ → FourTimers → Timer

@@ -5,7 +5,7 @@ use Rattle.gba_console.specs.Shorn.{shorn}
 use Rattle.link_mapped.specs.Mapped.{mapped}
 use Rattle.link_order.specs.Cut.{Cut, plain_cut}
 
--- How far a trace has come; only private functions cite this.
+-- How far a trace has come.
 
 abbrev pub Machines : Type 0
 Machines = Cut Machine

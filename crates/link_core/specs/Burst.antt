@@ -6,7 +6,7 @@ use Rattle.link_order.specs.NodeKind.{NodeKind}
 use Rattle.link_order.specs.Cut.{Cut, clock_at}
 use Rattle.link_order.specs.GlobalOrder.{step_of}
 
--- this project's profile: steps of one console in a row
+-- this project's profile: steps of one console in a row; only private functions cite these
 
 -- a signal of a peer that arrives after the clock `was` arrives at `end` or later
 abbrev pub ArrivesFrom : (ℕ → ℕ → ℕ) → ℕ → ℕ → ℕ → Sent → Type 0

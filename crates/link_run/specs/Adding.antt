@@ -15,7 +15,7 @@ use Rattle.link_table.specs.Text.{script_of}
 use Rattle.link_table.specs.Uniting.{pair_place}
 use Rattle.link_table.specs.Joining.{JoinedState}
 
--- this project's profile: signals added to a list of sent signals
+-- this project's profile: signals added to a list of sent signals; only private functions cite these
 
 -- some members of an ordered list, each once and in its order
 pub record IsPart (all found : List Sent) : Type 0 where

@@ -8,7 +8,7 @@ use Rattle.link_table.specs.Seated.{with_made}
 use Rattle.link_lane.specs.Following.{LaneState}
 use Rattle.link_lane.specs.Pausing.{IsAhead, BeginsBelow}
 
--- this project's profile: lanes that advance
+-- this project's profile: lanes that advance; only private functions cite these
 
 -- a lane of this table, which may advance to this clock
 pub record MayGo {N : Type 0} (table : TableId) (until : ℕ) (lane : LaneState N) : Type 0 where

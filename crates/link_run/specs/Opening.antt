@@ -10,7 +10,7 @@ use Rattle.link_table.specs.Seated.{SeatState}
 use Rattle.link_table.specs.Opening.{opening_seat}
 use Rattle.link_lane.specs.Following.{key_cut}
 
--- this project's profile: nodes and seats from which lanes are made
+-- this project's profile: nodes and seats from which lanes are made; only private functions cite these
 
 -- a node with its seat as a new table gave it, and the signals and the delays of the table's cut
 pub record CanOpen {N C : Type 0} (kind : NodeKind C) (plain : N → C) (bound : N → ℕ) (node : N)
