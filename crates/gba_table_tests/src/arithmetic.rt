@@ -1,6 +1,7 @@
 //! Arithmetic of words by hand, from the equations of the ARM Architecture Reference Manual.
 
 use gba_word::*;
+use std::process::Abort;
 
 // What the ARM manual's equations give, by hand: kind, word, amount, shifted word, carry out. The carry in
 // doesn't count.
@@ -77,83 +78,123 @@ static WRITTEN_ZEROS: [(Shift, u32, bool, u32, bool); 10] = [
     (Shift::Ror, 0x4000_0002, true, 0xa000_0001, false),
 ];
 
+// The shift by a number, where a number says this amount: with its carry, and without.
+fn shifted_by_number(kind: Shift, word: u32, amount: u8, carry: bool) -> Option<(u32, bool, u32)> {
+    if 0 < amount && amount < 32 {
+        let (shifted, out) = shift_fixed(kind, word, amount, carry);
+        Some((shifted, out, shift_within(kind, word, amount)))
+    } else {
+        None
+    }
+}
+
+// The shift by a register.
+fn shifted_by_register(kind: Shift, word: u32, amount: u8, carry: bool) -> (u32, bool) {
+    shift(kind, word, amount, carry)
+}
+
+fn agrees(rt: &impl Abort, case: &(Shift, u32, u8, u32, bool), carry: bool) {
+    let &(kind, word, amount, shifted, out) = case;
+    assert_eq!(rt;
+        shifted_by_register(kind, word, amount, carry),
+        (shifted, out),
+        "{kind:?} {word:x} {amount}"
+    );
+    let by_number = if 0 < amount && amount < 32 {
+        Some((shifted, out, shifted))
+    } else {
+        None
+    };
+    assert_eq!(rt;
+        shifted_by_number(kind, word, amount, carry),
+        by_number,
+        "{kind:?} {word:x} {amount}"
+    );
+}
+
 #[test]
 fn shifts_by_registers_and_numbers(rt: HostRuntime) {
-    for &(kind, word, amount, shifted, out) in &SHIFTS {
-        for carry in [false, true] {
-            assert_eq!(rt;
-                shift(kind, word, amount, carry),
-                (shifted, out),
-                "{kind:?} {word:x} {amount}"
-            );
-            if 0 < amount && amount < 32 {
-                assert_eq!(rt;
-                    shift_fixed(kind, word, amount, carry),
-                    (shifted, out),
-                    "{kind:?} {word:x} {amount}"
-                );
-                assert_eq!(rt;
-                    shift_within(kind, word, amount),
-                    shifted,
-                    "{kind:?} {word:x} {amount}"
-                );
-            }
-        }
+    for case in &SHIFTS {
+        agrees(&rt, case, false);
+        agrees(&rt, case, true);
     }
+}
+
+// A shift by 0 from a register, and by a written 0.
+fn shifted_by_zero(kind: Shift, word: u32, carry: bool) -> ((u32, bool), (u32, bool)) {
+    (
+        shift(kind, word, 0, carry),
+        shift_fixed(kind, word, 0, carry),
+    )
 }
 
 #[test]
 fn shifts_by_zero(rt: HostRuntime) {
     for &(kind, word, carry, shifted, out) in &WRITTEN_ZEROS {
         assert_eq!(rt;
-            shift(kind, word, 0, carry),
-            (word, carry),
-            "{kind:?} {word:x} by a register"
-        );
-        assert_eq!(rt;
-            shift_fixed(kind, word, 0, carry),
-            (shifted, out),
-            "{kind:?} {word:x}"
+            shifted_by_zero(kind, word, carry),
+            ((word, carry), (shifted, out)),
+            "{kind:?} {word:x} by a register and by a number"
         );
     }
 }
 
+// Two words and a carry; their sum, its carry and its overflow.
+static SUMS: [(u32, u32, bool, u32, bool, bool); 15] = [
+    (0, 0, false, 0, false, false),
+    (0, 0, true, 1, false, false),
+    (0xffff_ffff, 0, true, 0, true, false),
+    (0xffff_ffff, 1, false, 0, true, false),
+    (0xffff_ffff, 0xffff_ffff, true, 0xffff_ffff, true, false),
+    (0x7fff_ffff, 1, false, 0x8000_0000, false, true),
+    (0x7fff_ffff, 0, true, 0x8000_0000, false, true),
+    (0x7fff_fffe, 0, true, 0x7fff_ffff, false, false),
+    (0x8000_0000, 0x8000_0000, false, 0, true, true),
+    (0x8000_0000, 0xffff_ffff, false, 0x7fff_ffff, true, true),
+    (0x8000_0000, 0xffff_ffff, true, 0x8000_0000, true, false),
+    (0x8000_0000, 0x7fff_ffff, false, 0xffff_ffff, false, false),
+    (0x8000_0000, 0x7fff_ffff, true, 0, true, false),
+    (5, 0xffff_fffa, true, 0, true, false),
+    (3, 0xffff_fffa, true, 0xffff_fffe, false, false),
+];
+
+// The sum, and the same by the function that knows the carry.
+fn added_twice(a: u32, b: u32, carry: bool) -> (Sum, Sum) {
+    let known = if carry {
+        subtract(a, !b)
+    } else {
+        add_plain(a, b)
+    };
+    (add_carry(a, b, carry), known)
+}
+
 #[test]
 fn sums_at_the_edges(rt: HostRuntime) {
-    let cases = [
-        (0, 0, false, 0, false, false),
-        (0, 0, true, 1, false, false),
-        (0xffff_ffff, 0, true, 0, true, false),
-        (0xffff_ffff, 1, false, 0, true, false),
-        (0xffff_ffff, 0xffff_ffff, true, 0xffff_ffff, true, false),
-        (0x7fff_ffff, 1, false, 0x8000_0000, false, true),
-        (0x7fff_ffff, 0, true, 0x8000_0000, false, true),
-        (0x7fff_fffe, 0, true, 0x7fff_ffff, false, false),
-        (0x8000_0000, 0x8000_0000, false, 0, true, true),
-        (0x8000_0000, 0xffff_ffff, false, 0x7fff_ffff, true, true),
-        (0x8000_0000, 0xffff_ffff, true, 0x8000_0000, true, false),
-        (0x8000_0000, 0x7fff_ffff, false, 0xffff_ffff, false, false),
-        (0x8000_0000, 0x7fff_ffff, true, 0, true, false),
-        (5, !5, true, 0, true, false),
-        (3, !5, true, 0xffff_fffe, false, false),
-    ];
-    for (a, b, carry, value, out, overflow) in cases {
+    for &(a, b, carry, value, out, overflow) in &SUMS {
         let want = Sum {
             value,
             carry: out,
             overflow,
         };
-        assert_eq!(rt; add_carry(a, b, carry), want, "{a:x} + {b:x} + {carry}");
-        if carry {
-            assert_eq!(rt; subtract(a, !b), want, "{a:x} - {:x}", !b);
-        } else {
-            assert_eq!(rt; add_plain(a, b), want, "{a:x} + {b:x}");
-        }
+        assert_eq!(rt;
+            added_twice(a, b, carry),
+            (want, want),
+            "{a:x} + {b:x} + {carry}"
+        );
+    }
+}
+
+// The sign extension from a width that there is.
+fn extended(value: u32, width: u32) -> Option<u32> {
+    if 0 < width && width <= 32 {
+        Some(sign_extend(value, width))
+    } else {
+        None
     }
 }
 
 #[test]
-fn fields_signs_and_turned_bytes(rt: HostRuntime) {
+fn signs_are_extended(rt: HostRuntime) {
     for &(value, width, want) in &[
         (0x80, 8, 0xffff_ff80),
         (0x7f, 8, 0x7f),
@@ -164,11 +205,20 @@ fn fields_signs_and_turned_bytes(rt: HostRuntime) {
         (0x7fff_ffff, 32, 0x7fff_ffff),
     ] {
         assert_eq!(rt;
-            sign_extend(value, width),
-            want,
+            extended(value, width),
+            Some(want),
             "{value:x} from {width} bits"
         );
     }
+}
+
+// The byte, turned by twice the number.
+fn turned(value: u8, turn: u8, carry: bool) -> (u32, bool) {
+    rotate_immediate(value, turn, carry)
+}
+
+#[test]
+fn bytes_are_turned(rt: HostRuntime) {
     for &(value, turn, carry, want, out) in &[
         (0xff, 0, false, 0xff, false),
         (0xff, 0, true, 0xff, true),
@@ -179,14 +229,26 @@ fn fields_signs_and_turned_bytes(rt: HostRuntime) {
         (0x04, 1, true, 0x0000_0001, false),
     ] {
         assert_eq!(rt;
-            rotate_immediate(value, turn, carry),
+            turned(value, turn, carry),
             (want, out),
             "{value:x} turned by {turn}"
         );
     }
-    assert_eq!(rt; rotate(0x4433_2211, 24), 0x3322_1144);
-    assert_eq!(rt; bits(0xe59f_1234, 28, 4), 0xe);
-    assert_eq!(rt; bits(0xe59f_1234, 0, 32), 0xe59f_1234);
-    assert_eq!(rt; bits(0xe59f_1234, 32, 0), 0);
-    assert_eq!(rt; (bit(0x8000_0000, 31), bit(0x8000_0000, 30)), (true, false));
+}
+
+// The highest four bits of a word, all of them, and none.
+fn fields_of(word: u32) -> [u32; 3] {
+    [bits(word, 28, 4), bits(word, 0, 32), bits(word, 32, 0)]
+}
+
+// The two highest bits of a word, and the word turned by 24 places.
+fn ends_of(word: u32) -> (bool, bool, u32) {
+    (bit(word, 31), bit(word, 30), rotate(word, 24))
+}
+
+#[test]
+fn words_and_their_fields(rt: HostRuntime) {
+    assert_eq!(rt; fields_of(0xe59f_1234), [0xe, 0xe59f_1234, 0]);
+    assert_eq!(rt; ends_of(0x8000_0000), (true, false, 0x0000_0080));
+    assert_eq!(rt; ends_of(0x4433_2211), (false, true, 0x3322_1144));
 }

@@ -7,14 +7,19 @@ use std::process::Abort;
 
 static MODES: [u32; 7] = [0x10, 0x11, 0x12, 0x13, 0x17, 0x1b, 0x1f];
 
+// Writes the number of a mode and the register's into each of that mode's registers.
+fn write_in_mode(registers: &mut Registers, mode: u32) {
+    registers.set_cpsr(mode);
+    for number in 0..16 {
+        registers.set(number, mode << 8 | number);
+    }
+}
+
 // Registers into which each mode in the order above wrote its number and the register's.
 fn written_from_each_mode() -> Registers {
     let mut registers = Registers::reset();
     for &mode in &MODES {
-        registers.set_cpsr(mode);
-        for number in 0..16 {
-            registers.set(number, mode * 0x100 + number);
-        }
+        write_in_mode(&mut registers, mode);
     }
     registers
 }
@@ -98,35 +103,79 @@ fn the_37_numbers_stand_in_order(rt: HostRuntime) {
 }
 
 // The number written in SVC, and what CPSR and SPSR are then.
+static STATUS_WORDS: [(u32, u32, u32); 6] = [
+    (0x0000_0033, 0x0000_0033, 0x0000_0033),
+    (0x0000_0014, 0x0000_0013, 0x0000_0014),
+    (0x0000_0000, 0x0000_0013, 0x0000_0000),
+    (0xffff_fff3, 0xf000_00f3, 0xf000_00f3),
+    (0xffff_ff15, 0xf000_0013, 0xf000_0015),
+    (0xa0ff_ff53, 0xa000_0053, 0xa000_0053),
+];
+
+// SPSR once it's written.
+fn saved(registers: &mut Registers, value: u32) -> u32 {
+    registers.set_spsr(value);
+    registers.spsr()
+}
+
+// CPSR once it's taken from SPSR.
+fn left(registers: &mut Registers) -> u32 {
+    registers.leave();
+    registers.cpsr()
+}
+
+// CPSR once it's written in SVC.
+fn written(registers: &mut Registers, value: u32) -> u32 {
+    registers.set_cpsr(0xd3);
+    registers.set_cpsr(value);
+    registers.cpsr()
+}
+
 #[test]
 fn status_registers_keep_their_bits(rt: HostRuntime) {
-    for &(value, cpsr, spsr) in &[
-        (0x0000_0033, 0x0000_0033, 0x0000_0033),
-        (0x0000_0014, 0x0000_0013, 0x0000_0014),
-        (0x0000_0000, 0x0000_0013, 0x0000_0000),
-        (0xffff_fff3, 0xf000_00f3, 0xf000_00f3),
-        (0xffff_ff15, 0xf000_0013, 0xf000_0015),
-        (0xa0ff_ff53, 0xa000_0053, 0xa000_0053),
-    ] {
+    for &(value, cpsr, spsr) in &STATUS_WORDS {
         let mut registers = Registers::reset();
-        registers.set_spsr(value);
-        assert_eq!(rt; registers.spsr(), spsr, "SPSR of {value:x}");
-        registers.leave();
-        assert_eq!(rt; registers.cpsr(), cpsr, "CPSR from SPSR of {value:x}");
-        registers.set_cpsr(0xd3);
-        registers.set_cpsr(value);
-        assert_eq!(rt; registers.cpsr(), cpsr, "CPSR of {value:x}");
-    }
-    for mode in [0x10, 0x1f] {
-        let mut registers = Registers::reset();
-        registers.set_cpsr(0x9000_0000 + mode);
-        registers.set_spsr(0x13);
-        registers.leave();
+        let kept = (
+            saved(&mut registers, value),
+            left(&mut registers),
+            written(&mut registers, value),
+        );
         assert_eq!(rt;
-            (registers.cpsr(), registers.spsr()),
-            (0x9000_0000 + mode, 0x9000_0000 + mode)
+            kept,
+            (spsr, cpsr, cpsr),
+            "SPSR, CPSR from it and CPSR of {value:x}"
         );
     }
+}
+
+// CPSR and SPSR in a mode that has no SPSR, once that was written and taken.
+fn left_without_spsr(status: u32) -> (u32, u32) {
+    let mut registers = Registers::reset();
+    registers.set_cpsr(status);
+    registers.set_spsr(0x13);
+    registers.leave();
+    (registers.cpsr(), registers.spsr())
+}
+
+#[test]
+fn user_and_system_have_no_saved_status(rt: HostRuntime) {
+    for status in [0x9000_0010, 0x9000_001f] {
+        assert_eq!(rt;
+            left_without_spsr(status),
+            (status, status),
+            "in {status:x}"
+        );
+    }
+}
+
+// The flags of this CPSR, and CPSR once they are written over none.
+fn flags_read_and_written(status: u32, flags: Flags) -> (Flags, u32) {
+    let mut registers = Registers::reset();
+    registers.set_cpsr(status);
+    let read = registers.flags();
+    registers.set_cpsr(status % 0x100);
+    registers.set_flags(flags);
+    (read, registers.cpsr())
 }
 
 #[test]
@@ -144,54 +193,68 @@ fn flags_are_the_top_four_bits(rt: HostRuntime) {
             carry,
             overflow,
         };
-        let mut registers = Registers::reset();
-        registers.set_cpsr(status);
-        assert_eq!(rt; registers.flags(), flags, "{status:x}");
-        registers.set_cpsr(status % 0x100);
-        registers.set_flags(flags);
-        assert_eq!(rt; registers.cpsr(), status, "{status:x}");
+        assert_eq!(rt;
+            flags_read_and_written(status, flags),
+            (flags, status),
+            "{status:x}"
+        );
     }
 }
 
 // The exception, its link, CPSR before it, CPSR in it and r15.
+static ENTRIES: [(Exception, u32, u32, u32, u32); 4] = [
+    (Exception::Undefined, 0x4, 0xd3, 0xdb, 0x4),
+    (
+        Exception::Software,
+        0x0800_0102,
+        0x6000_0030,
+        0x6000_0093,
+        0x8,
+    ),
+    (
+        Exception::Interrupt,
+        0x0300_0008,
+        0x9000_005f,
+        0x9000_00d2,
+        0x18,
+    ),
+    (
+        Exception::Interrupt,
+        0x0300_0008,
+        0x0000_0011,
+        0x0000_0092,
+        0x18,
+    ),
+];
+
+// The registers once an exception is entered from this CPSR.
+fn entered(kind: Exception, link: u32, before: u32) -> Registers {
+    let mut registers = Registers::reset();
+    registers.set_cpsr(before);
+    registers.enter(kind, link);
+    registers
+}
+
+// CPSR, SPSR, r14 and r15.
+fn after_entry(registers: &Registers) -> (u32, u32, u32, u32) {
+    (
+        registers.cpsr(),
+        registers.spsr(),
+        registers.get(14),
+        registers.get(15),
+    )
+}
+
 #[test]
 fn exceptions_enter_and_leave(rt: HostRuntime) {
-    for &(kind, link, before, inside, counter) in &[
-        (Exception::Undefined, 0x4, 0xd3, 0xdb, 0x4),
-        (
-            Exception::Software,
-            0x0800_0102,
-            0x6000_0030,
-            0x6000_0093,
-            0x8,
-        ),
-        (
-            Exception::Interrupt,
-            0x0300_0008,
-            0x9000_005f,
-            0x9000_00d2,
-            0x18,
-        ),
-        (
-            Exception::Interrupt,
-            0x0300_0008,
-            0x0000_0011,
-            0x0000_0092,
-            0x18,
-        ),
-    ] {
-        let mut registers = Registers::reset();
-        registers.set_cpsr(before);
-        registers.enter(kind, link);
-        let entered = (
-            registers.cpsr(),
-            registers.spsr(),
-            registers.get(14),
-            registers.get(15),
+    for &(kind, link, before, inside, counter) in &ENTRIES {
+        let mut registers = entered(kind, link, before);
+        assert_eq!(rt;
+            after_entry(&registers),
+            (inside, before, link, counter),
+            "{kind:?}"
         );
-        assert_eq!(rt; entered, (inside, before, link, counter), "{kind:?}");
-        registers.leave();
-        assert_eq!(rt; registers.cpsr(), before, "{kind:?}");
+        assert_eq!(rt; left(&mut registers), before, "{kind:?}");
     }
 }
 
@@ -205,20 +268,49 @@ fn numbers(status: u32) -> [u32; 37]
     ]
 }
 
+// CPSR, and what stands in r8, r13, r14 and SPSR.
+fn seen_in_mode(registers: &Registers) -> (u32, [u32; 4]) {
+    (
+        registers.cpsr(),
+        [
+            registers.get(8),
+            registers.get(13),
+            registers.get(14),
+            registers.spsr(),
+        ],
+    )
+}
+
+// r15, the user's r13, and N.
+fn seen_in_each_mode(registers: &Registers) -> (u32, u32, bool) {
+    (
+        registers.get(15),
+        registers.user_get(13),
+        registers.flags().negative,
+    )
+}
+
+// r8 and the user's, in FIQ.
+fn eighth_registers(registers: &mut Registers) -> (u32, u32) {
+    registers.set_cpsr(0x11);
+    (registers.get(8), registers.user_get(8))
+}
+
 // What stands in r8, r13, r14 and SPSR, and in r8 once FIQ is entered.
 fn sees<R: Abort>(rt: &R, mut registers: Registers, status: u32, seen: [u32; 4]) {
-    assert_eq!(rt; registers.cpsr(), status);
-    assert_eq!(rt; registers.all(), numbers(status));
-    for (number, want) in [(8, seen[0]), (13, seen[1]), (14, seen[2])] {
-        assert_eq!(rt; registers.get(number), want, "r{number} in {status:x}");
-    }
-    assert_eq!(rt; registers.spsr(), seen[3], "in {status:x}");
-    assert_eq!(rt; registers.get(15), 15);
-    assert_eq!(rt; registers.user_get(13), 13);
-    assert_eq!(rt; registers.flags().negative, status >= 0x8000_0000);
-    registers.set_cpsr(0x11);
-    assert_eq!(rt; registers.get(8), 16);
-    assert_eq!(rt; registers.user_get(8), 8);
+    assert_eq!(rt; registers.all(), numbers(status), "in {status:x}");
+    assert_eq!(rt; seen_in_mode(&registers), (status, seen), "in {status:x}");
+    let negative = status >= 0x8000_0000;
+    assert_eq!(rt;
+        seen_in_each_mode(&registers),
+        (15, 13, negative),
+        "in {status:x}"
+    );
+    assert_eq!(rt;
+        eighth_registers(&mut registers),
+        (16, 8),
+        "from {status:x}"
+    );
 }
 
 #[test]

@@ -4,11 +4,21 @@ use gba_arm_table::{ArmOp as Op, *};
 use gba_word::Shift;
 use std::process::Abort;
 
+/// What decodes, without what the table's contracts say of it, which the tests don't read.
+fn decoded(word: u32) -> Option<Op> {
+    decode(word)
+}
+
+/// What encodes, likewise.
+fn encoded(op: &Op) -> Result<u32, EncodeError> {
+    encode(op)
+}
+
 /// Each word decodes to the operation beside it, and the operation encodes to the word.
 fn agree(rt: &impl Abort, cases: &[(u32, Op)]) {
     for (word, op) in cases {
-        assert_eq!(rt; decode(*word), Some(*op), "the word {word:#010x}");
-        assert_eq!(rt; encode(op), Ok(*word), "the operation {op:?}");
+        assert_eq!(rt; decoded(*word), Some(*op), "the word {word:#010x}");
+        assert_eq!(rt; encoded(op), Ok(*word), "the operation {op:?}");
     }
 }
 
@@ -518,7 +528,15 @@ fn words_between_the_rows_decode_to_none(rt: HostRuntime) {
         0xEE100010,
     ];
     for word in words {
-        assert_eq!(rt; decode(word), None, "the word {word:#010x}");
+        assert_eq!(rt; decoded(word), None, "the word {word:#010x}");
+    }
+}
+
+/// What a word's operation encodes to.
+fn encoded_again(word: u32) -> Option<Result<u32, EncodeError>> {
+    match decoded(word) {
+        Some(op) => Some(encoded(&op)),
+        None => None,
     }
 }
 
@@ -538,10 +556,17 @@ fn bits_that_should_be_one_or_zero_are_encoded_as_the_manual_has_them(rt: HostRu
     ];
     for (word, want) in cases {
         assert_eq!(rt;
-            decode(word).map(|op| encode(&op)),
+            encoded_again(word),
             Some(Ok(want)),
             "the word {word:#010x}"
         );
+    }
+}
+
+/// Each operation is refused for the fault beside it.
+fn refused(rt: &impl Abort, cases: &[(Op, EncodeError)]) {
+    for (op, error) in cases {
+        assert_eq!(rt; encoded(op), Err(*error), "the operation {op:?}");
     }
 }
 
@@ -555,145 +580,145 @@ fn fields_out_of_their_bits_are_refused(rt: HostRuntime) {
         amount: 32,
     };
     let far = TransferOffset::Number { value: 4096 };
-    let cases = [
-        (Op::Exchange { cond, rm: 16 }, EncodeError::Register),
-        (
-            Op::MultiplyLong {
-                cond,
-                signed: true,
-                accumulate: false,
-                set: false,
-                hi: 0,
-                lo: 16,
-                rs: 0,
-                rm: 0,
-            },
-            EncodeError::Register,
-        ),
-        (
-            Op::Compare {
-                cond,
-                op: CompareOp::Cmp,
-                rn: 0,
-                operand: Operand::ByRegister {
+    refused(
+        &rt,
+        &[
+            (Op::Exchange { cond, rm: 16 }, EncodeError::Register),
+            (
+                Op::MultiplyLong {
+                    cond,
+                    signed: true,
+                    accumulate: false,
+                    set: false,
+                    hi: 0,
+                    lo: 16,
+                    rs: 0,
                     rm: 0,
-                    kind: Shift::Lsl,
-                    rs: 16,
                 },
-            },
-            EncodeError::Register,
-        ),
-        (
-            Op::Compute {
-                cond,
-                op: ComputeOp::Mov,
-                set: false,
-                rn: 0,
-                rd: 0,
-                operand: turned,
-            },
-            EncodeError::Immediate,
-        ),
-        (
-            Op::Compute {
-                cond,
-                op: ComputeOp::Mov,
-                set: false,
-                rn: 0,
-                rd: 0,
-                operand: shifted,
-            },
-            EncodeError::Immediate,
-        ),
-        (
-            Op::WriteStatus {
-                cond,
-                saved: false,
-                fields: 16,
-                source: Source::Plain { rm: 0 },
-            },
-            EncodeError::Immediate,
-        ),
-        (
-            Op::Interrupt {
-                cond,
-                comment: 0x0100_0000,
-            },
-            EncodeError::Immediate,
-        ),
-        (
-            Op::Transfer {
-                cond,
-                load: true,
-                byte: false,
-                pre: true,
-                up: true,
-                write: false,
-                rn: 0,
-                rd: 0,
-                offset: far,
-            },
-            EncodeError::Offset,
-        ),
-        (
-            Op::Half {
-                cond,
-                kind: HalfKind::LoadHalf,
-                pre: true,
-                up: true,
-                write: false,
-                rn: 0,
-                rd: 0,
-                offset: HalfOffset::Number { value: 256 },
-            },
-            EncodeError::Offset,
-        ),
-        (
-            Op::Branch {
-                cond,
-                link: false,
-                offset: 0x0080_0000,
-            },
-            EncodeError::Offset,
-        ),
-        (
-            Op::Branch {
-                cond,
-                link: false,
-                offset: -0x0080_0001,
-            },
-            EncodeError::Offset,
-        ),
-        // of two faults the register's is told
-        (
-            Op::Compute {
-                cond,
-                op: ComputeOp::Mov,
-                set: false,
-                rn: 16,
-                rd: 0,
-                operand: turned,
-            },
-            EncodeError::Register,
-        ),
-        (
-            Op::Transfer {
-                cond,
-                load: true,
-                byte: false,
-                pre: true,
-                up: true,
-                write: false,
-                rn: 0,
-                rd: 16,
-                offset: far,
-            },
-            EncodeError::Register,
-        ),
-    ];
-    for (op, error) in cases {
-        assert_eq!(rt; encode(&op), Err(error), "the operation {op:?}");
-    }
+                EncodeError::Register,
+            ),
+            (
+                Op::Compare {
+                    cond,
+                    op: CompareOp::Cmp,
+                    rn: 0,
+                    operand: Operand::ByRegister {
+                        rm: 0,
+                        kind: Shift::Lsl,
+                        rs: 16,
+                    },
+                },
+                EncodeError::Register,
+            ),
+            (
+                Op::Compute {
+                    cond,
+                    op: ComputeOp::Mov,
+                    set: false,
+                    rn: 0,
+                    rd: 0,
+                    operand: turned,
+                },
+                EncodeError::Immediate,
+            ),
+            (
+                Op::Compute {
+                    cond,
+                    op: ComputeOp::Mov,
+                    set: false,
+                    rn: 0,
+                    rd: 0,
+                    operand: shifted,
+                },
+                EncodeError::Immediate,
+            ),
+            (
+                Op::WriteStatus {
+                    cond,
+                    saved: false,
+                    fields: 16,
+                    source: Source::Plain { rm: 0 },
+                },
+                EncodeError::Immediate,
+            ),
+            (
+                Op::Interrupt {
+                    cond,
+                    comment: 0x0100_0000,
+                },
+                EncodeError::Immediate,
+            ),
+            (
+                Op::Transfer {
+                    cond,
+                    load: true,
+                    byte: false,
+                    pre: true,
+                    up: true,
+                    write: false,
+                    rn: 0,
+                    rd: 0,
+                    offset: far,
+                },
+                EncodeError::Offset,
+            ),
+            (
+                Op::Half {
+                    cond,
+                    kind: HalfKind::LoadHalf,
+                    pre: true,
+                    up: true,
+                    write: false,
+                    rn: 0,
+                    rd: 0,
+                    offset: HalfOffset::Number { value: 256 },
+                },
+                EncodeError::Offset,
+            ),
+            (
+                Op::Branch {
+                    cond,
+                    link: false,
+                    offset: 0x0080_0000,
+                },
+                EncodeError::Offset,
+            ),
+            (
+                Op::Branch {
+                    cond,
+                    link: false,
+                    offset: -0x0080_0001,
+                },
+                EncodeError::Offset,
+            ),
+            // of two faults the register's is told
+            (
+                Op::Compute {
+                    cond,
+                    op: ComputeOp::Mov,
+                    set: false,
+                    rn: 16,
+                    rd: 0,
+                    operand: turned,
+                },
+                EncodeError::Register,
+            ),
+            (
+                Op::Transfer {
+                    cond,
+                    load: true,
+                    byte: false,
+                    pre: true,
+                    up: true,
+                    write: false,
+                    rn: 0,
+                    rd: 16,
+                    offset: far,
+                },
+                EncodeError::Register,
+            ),
+        ],
+    );
 }
 
 /// The bits of an operation's word that should be one or zero, and what they should be, by the manual's diagrams.
@@ -719,55 +744,84 @@ fn should_be(op: &Op) -> (u32, u32) {
     }
 }
 
+// The fixed bits of each diagram, and what they are.
+static DIAGRAMS: [(u32, u32); 20] = [
+    (0x0FFFFFF0, 0x012FFF10),
+    (0x0FC000F0, 0x00000090),
+    (0x0F8000F0, 0x00800090),
+    (0x0FB00FF0, 0x01000090),
+    (0x0E400FF0, 0x000000B0),
+    (0x0E4000F0, 0x004000B0),
+    (0x0E5000F0, 0x005000D0),
+    (0x0E500FF0, 0x001000F0),
+    (0x0FBF0FFF, 0x010F0000),
+    (0x0FB0FFF0, 0x0120F000),
+    (0x0FB0F000, 0x0320F000),
+    (0x0F90F010, 0x01100000),
+    (0x0E000090, 0x00000010),
+    (0x0E000010, 0x00000000),
+    (0x0E000000, 0x02000000),
+    (0x0E000000, 0x04000000),
+    (0x0E000010, 0x06000000),
+    (0x0E000000, 0x08000000),
+    (0x0E000000, 0x0A000000),
+    (0x0F000000, 0x0F000000),
+];
+
+fn next_random(random: &mut u32) -> u32 {
+    let mut word = *random;
+    word ^= word << 13;
+    word ^= word >> 17;
+    word ^= word << 5;
+    *random = word;
+    word
+}
+
+/// 1 where a word has the manual's bits, so that its operation has to encode to it, and 0 where it hasn't.
+fn comes_back(rt: &impl Abort, word: u32) -> u32 {
+    let Some(op) = decoded(word) else {
+        return 0;
+    };
+    let (mask, wanted) = should_be(&op);
+    if word & mask != wanted {
+        return 0;
+    }
+    assert_eq!(rt; encoded(&op), Ok(word), "the word {word:#010x}");
+    1
+}
+
+/// For each diagram a word of any bits and one with the diagram's: how many of the former come back. The latter are
+/// counted by their diagrams.
+fn come_back(rt: &impl Abort, random: &mut u32, met: &mut [u32; 20]) -> u32 {
+    let mut any = 0u32;
+    for (&(fixed, value), count) in DIAGRAMS.iter().zip(met.iter_mut()) {
+        any = any.saturating_add(comes_back(rt, next_random(random)));
+        let word = next_random(random) & !fixed | value;
+        *count = count.saturating_add(comes_back(rt, word));
+    }
+    any
+}
+
+/// How many words with a diagram's bits came back; some of each diagram have to.
+fn came_back(rt: &impl Abort, met: &[u32; 20]) -> u32 {
+    let mut sum = 0u32;
+    for (place, &count) in met.iter().enumerate() {
+        assert!(rt; count >= 300, "{count} words of diagram {place} came back");
+        sum = sum.saturating_add(count);
+    }
+    sum
+}
+
 // Every other word of the sample is any word; those between have the fixed bits of one diagram after the other, so
 // that each class is met often.
 #[test]
 fn words_with_the_manuals_bits_come_back(rt: HostRuntime) {
-    let diagrams = [
-        (0x0FFFFFF0u32, 0x012FFF10u32),
-        (0x0FC000F0, 0x00000090),
-        (0x0F8000F0, 0x00800090),
-        (0x0FB00FF0, 0x01000090),
-        (0x0E400FF0, 0x000000B0),
-        (0x0E4000F0, 0x004000B0),
-        (0x0E5000F0, 0x005000D0),
-        (0x0E500FF0, 0x001000F0),
-        (0x0FBF0FFF, 0x010F0000),
-        (0x0FB0FFF0, 0x0120F000),
-        (0x0FB0F000, 0x0320F000),
-        (0x0F90F010, 0x01100000),
-        (0x0E000090, 0x00000010),
-        (0x0E000010, 0x00000000),
-        (0x0E000000, 0x02000000),
-        (0x0E000000, 0x04000000),
-        (0x0E000010, 0x06000000),
-        (0x0E000000, 0x08000000),
-        (0x0E000000, 0x0A000000),
-        (0x0F000000, 0x0F000000),
-    ];
     let mut random = 0x2545_F491u32;
     let mut met = [0u32; 20];
-    let mut back = 0u32;
-    for n in 0..30_000usize {
-        random ^= random << 13;
-        random ^= random >> 17;
-        random ^= random << 5;
-        let place = n / 2 % 20;
-        let (fixed, value) = if n % 2 == 0 { (0, 0) } else { diagrams[place] };
-        let word = random & !fixed | value;
-        if let Some(op) = decode(word) {
-            let (mask, wanted) = should_be(&op);
-            if word & mask == wanted {
-                assert_eq!(rt; encode(&op), Ok(word), "the word {word:#010x}");
-                back = back.saturating_add(1);
-                if n % 2 == 1 {
-                    met[place] = met[place].saturating_add(1);
-                }
-            }
-        }
+    let mut any = 0u32;
+    for _ in 0..750u32 {
+        any = any.saturating_add(come_back(&rt, &mut random, &mut met));
     }
+    let back = any.saturating_add(came_back(&rt, &met));
     assert!(rt; back >= 20_000, "{back} words came back");
-    for (place, count) in met.iter().enumerate() {
-        assert!(rt; *count >= 300, "{count} words of diagram {place} came back");
-    }
 }
