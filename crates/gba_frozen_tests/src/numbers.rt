@@ -2,10 +2,9 @@
 
 use gba_numbers::{BoardField, Field, NUMBERS, Numbers, fits, is_field, place};
 use std::process::Abort;
-use std::test::Fail;
 
 /// The first and the last number of each part of a frozen file, in its order, with their places.
-const PLACES: [(Field, usize); 28] = [
+static PLACES: [(Field, usize); 28] = [
     (Field::Clock, 0),
     (Field::Board(BoardField::Halted), 1),
     (Field::Register(0), 2),
@@ -39,35 +38,44 @@ const PLACES: [(Field, usize); 28] = [
     ),
 ];
 
-#[test]
-fn numbers_stand_in_the_order_of_the_file(rt: HostRuntime) -> Result<(), Fail> {
-    assert_eq!(rt; NUMBERS, 138);
-    for &(field, wanted) in &PLACES {
-        assert!(rt; is_field(field));
-        assert_eq!(rt; place(field), wanted);
+/// What are no numbers.
+static NONE: [Field; 9] = [
+    Field::Register(37),
+    Field::Board(BoardField::TimerReload(4)),
+    Field::Board(BoardField::DmaSource(4)),
+    Field::Board(BoardField::QueueCurrent(2)),
+    Field::Board(BoardField::Tone { tone: 0, part: 0 }),
+    Field::Board(BoardField::Tone { tone: 4, part: 8 }),
+    Field::Board(BoardField::ReferenceX(1)),
+    Field::Board(BoardField::Known(4)),
+    Field::QueueByte {
+        queue: 0,
+        place: 32,
+    },
+];
+
+/// Where a number stands, if it is one.
+fn place_of(field: Field) -> Option<usize> {
+    if is_field(field) {
+        Some(place(field))
+    } else {
+        None
     }
-    Ok(())
 }
 
 #[test]
-fn other_numbers_are_none(rt: HostRuntime) -> Result<(), Fail> {
-    for &field in &[
-        Field::Register(37),
-        Field::Board(BoardField::TimerReload(4)),
-        Field::Board(BoardField::DmaSource(4)),
-        Field::Board(BoardField::QueueCurrent(2)),
-        Field::Board(BoardField::Tone { tone: 0, part: 0 }),
-        Field::Board(BoardField::Tone { tone: 4, part: 8 }),
-        Field::Board(BoardField::ReferenceX(1)),
-        Field::Board(BoardField::Known(4)),
-        Field::QueueByte {
-            queue: 0,
-            place: 32,
-        },
-    ] {
-        assert!(rt; !is_field(field));
+fn numbers_stand_in_the_order_of_the_file(rt: HostRuntime) {
+    for &(field, wanted) in &PLACES {
+        assert_eq!(rt; place_of(field), Some(wanted), "{field:?}");
     }
-    Ok(())
+    assert_eq!(rt; NUMBERS, 138);
+}
+
+#[test]
+fn other_numbers_are_none(rt: HostRuntime) {
+    for &field in &NONE {
+        assert_eq!(rt; place_of(field), None, "{field:?}");
+    }
 }
 
 fn set<R: Abort>(rt: &R, numbers: &mut Numbers, field: Field, value: u64) {
@@ -77,10 +85,14 @@ fn set<R: Abort>(rt: &R, numbers: &mut Numbers, field: Field, value: u64) {
     numbers.set(field, value);
 }
 
-fn value<R: Abort>(rt: &R, numbers: &Numbers, field: Field) -> u64 {
+/// A number, if it is there.
+fn value<R: Abort>(rt: &R, numbers: &Numbers, field: Field) -> Option<u64> {
     assert!(rt; is_field(field));
-    assert!(rt; numbers.has(field));
-    numbers.value(field)
+    if numbers.has(field) {
+        Some(numbers.value(field))
+    } else {
+        None
+    }
 }
 
 const LENGTH: Field = Field::Board(BoardField::QueueLength(1));
@@ -91,34 +103,73 @@ const SECOND: Field = Field::QueueByte { queue: 1, place: 1 };
 
 const THIRD: Field = Field::QueueByte { queue: 1, place: 2 };
 
-#[test]
-fn a_number_is_set(rt: HostRuntime) -> Result<(), Fail> {
+const WAVE: Field = Field::Board(BoardField::WaveByte { bank: 1, place: 15 });
+
+/// Numbers that are set one after another, and numbers that are then there with their values, or aren't there.
+type Case = (&'static [(Field, u64)], &'static [(Field, Option<u64>)]);
+
+static CASES: [Case; 4] = [
+    (
+        &[],
+        &[
+            (Field::Register(31), Some(0xD3)),
+            (Field::Clock, Some(0)),
+            (FIRST, None),
+            (SECOND, None),
+            (THIRD, None),
+        ],
+    ),
+    (
+        &[(Field::Clock, 600), (WAVE, 0xA5)],
+        &[
+            (Field::Clock, Some(600)),
+            (WAVE, Some(0xA5)),
+            (Field::Was, Some(0)),
+        ],
+    ),
+    // a queue keeps its bytes below its length
+    (
+        &[
+            (LENGTH, 3),
+            (FIRST, 7),
+            (SECOND, 8),
+            (THIRD, 9),
+            (LENGTH, 1),
+        ],
+        &[(SECOND, None)],
+    ),
+    (
+        &[
+            (LENGTH, 3),
+            (FIRST, 7),
+            (SECOND, 8),
+            (THIRD, 9),
+            (LENGTH, 1),
+            (LENGTH, 2),
+        ],
+        &[(FIRST, Some(7)), (SECOND, Some(0)), (THIRD, None)],
+    ),
+];
+
+/// Numbers in which these are set.
+fn numbers_of<R: Abort>(rt: &R, sets: &[(Field, u64)]) -> Numbers {
     let mut numbers = Numbers::new();
-    assert_eq!(rt; value(&rt, &numbers, Field::Register(31)), 0xD3);
-    assert_eq!(rt; value(&rt, &numbers, Field::Clock), 0);
-    set(&rt, &mut numbers, Field::Clock, 600);
-    let wave = Field::Board(BoardField::WaveByte { bank: 1, place: 15 });
-    set(&rt, &mut numbers, wave, 0xA5);
-    assert_eq!(rt; value(&rt, &numbers, Field::Clock), 600);
-    assert_eq!(rt; value(&rt, &numbers, wave), 0xA5);
-    assert_eq!(rt; value(&rt, &numbers, Field::Was), 0);
-    Ok(())
+    for &(field, value) in sets {
+        set(rt, &mut numbers, field, value);
+    }
+    numbers
+}
+
+/// Each number has its value.
+fn have<R: Abort>(rt: &R, case: usize, numbers: &Numbers, wanted: &[(Field, Option<u64>)]) {
+    for &(field, wanted) in wanted {
+        assert_eq!(rt; value(rt, numbers, field), wanted, "case {case}, {field:?}");
+    }
 }
 
 #[test]
-fn a_queue_keeps_its_bytes_below_its_length(rt: HostRuntime) -> Result<(), Fail> {
-    let mut numbers = Numbers::new();
-    assert!(rt; is_field(FIRST) && is_field(SECOND) && is_field(THIRD));
-    assert!(rt; !numbers.has(FIRST));
-    set(&rt, &mut numbers, LENGTH, 3);
-    set(&rt, &mut numbers, FIRST, 7);
-    set(&rt, &mut numbers, SECOND, 8);
-    set(&rt, &mut numbers, THIRD, 9);
-    set(&rt, &mut numbers, LENGTH, 1);
-    assert!(rt; !numbers.has(SECOND));
-    set(&rt, &mut numbers, LENGTH, 2);
-    assert_eq!(rt; value(&rt, &numbers, FIRST), 7);
-    assert_eq!(rt; value(&rt, &numbers, SECOND), 0);
-    assert!(rt; !numbers.has(THIRD));
-    Ok(())
+fn numbers_are_set(rt: HostRuntime) {
+    for (case, &(sets, wanted)) in CASES.iter().enumerate() {
+        have(&rt, case, &numbers_of(&rt, sets), wanted);
+    }
 }

@@ -37,19 +37,26 @@ impl Freezing for Still {
     }
 }
 
+/// The lines of player 2's console that aren't those of the file of one console, by their places there.
+static STILL: [(usize, &[u8]); 8] = [
+    (3, b"console 2\n"),
+    (4, b"clock 0\n"),
+    (52, b"queue B 00 0 -\n"),
+    (59, b"wave 1 00000000000000000000000000000000\n"),
+    (60, b"position 0 0\n"),
+    (62, b"affine 3 00000000 00000000\n"),
+    (63, b"serial 0 0 0 0 0 0 0\n"),
+    (64, b"known 0 0 0 0\n"),
+];
+
 /// A line of player 2's console, by its place in the file of one console.
 fn still_line(place: usize) -> &'static [u8] {
-    match place {
-        3 => b"console 2\n",
-        4 => b"clock 0\n",
-        52 => b"queue B 00 0 -\n",
-        59 => b"wave 1 00000000000000000000000000000000\n",
-        60 => b"position 0 0\n",
-        62 => b"affine 3 00000000 00000000\n",
-        63 => b"serial 0 0 0 0 0 0 0\n",
-        64 => b"known 0 0 0 0\n",
-        _ => line(place),
+    for &(at, still) in &STILL {
+        if at == place {
+            return still;
+        }
     }
+    line(place)
 }
 
 #[test]

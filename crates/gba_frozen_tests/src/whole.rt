@@ -8,6 +8,7 @@ use gba_frozen::{MemoryPlace, ThawError, ThawKind};
 use gba_frozen_read::{LONGEST_FILE, read_frozen};
 use gba_numbers::MemoryName;
 use std::alloc::Global;
+use std::process::Abort;
 use std::test::Fail;
 
 /// What a file of a job comes to: how many lines it has, or its refusal.
@@ -58,6 +59,13 @@ fn file_with(
     Ok(file)
 }
 
+/// The file of a job.
+fn whole_file(alloc: Global, job: Job) -> Result<Vec<u8>, Fail> {
+    let mut file = Vec::new(alloc);
+    add_lines(&mut file, job, 0, count(job))?;
+    Ok(file)
+}
+
 /// A line without its line feed.
 fn unended(job: Job, place: usize) -> &'static [u8] {
     match line_of(job, place).split_last() {
@@ -82,73 +90,125 @@ fn accepted(lines: usize) -> Result<u64, ThawError> {
 #[test]
 fn files_are_read(rt: HostRuntime) -> Result<(), Fail> {
     for &job in &JOBS {
-        let file = file_with(rt.alloc(), job, count(job), &[], count(job))?;
+        let file = whole_file(rt.alloc(), job)?;
         assert_eq!(rt; outcome(job, file.as_slice()), accepted(count(job)));
     }
     Ok(())
 }
 
-fn bytes(player: u32, name: MemoryName, offset: u32, first: u8, last: u8) -> Option<Bytes> {
+/// What is kept of the lines of memories of the file of two consoles.
+static MEMORY: [Option<Bytes>; 6] = [
     Some(Bytes {
-        player,
-        place: MemoryPlace { name, offset },
-        first,
-        last,
-    })
+        player: 0,
+        place: MemoryPlace {
+            name: MemoryName::Wram,
+            offset: 0,
+        },
+        first: 1,
+        last: 0,
+    }),
+    Some(Bytes {
+        player: 0,
+        place: MemoryPlace {
+            name: MemoryName::Wram,
+            offset: 0x20,
+        },
+        first: 0,
+        last: 1,
+    }),
+    Some(Bytes {
+        player: 0,
+        place: MemoryPlace {
+            name: MemoryName::Backup,
+            offset: 0x7FE0,
+        },
+        first: 0xFF,
+        last: 0xFF,
+    }),
+    Some(Bytes {
+        player: 1,
+        place: MemoryPlace {
+            name: MemoryName::Wram,
+            offset: 0,
+        },
+        first: 1,
+        last: 0,
+    }),
+    Some(Bytes {
+        player: 1,
+        place: MemoryPlace {
+            name: MemoryName::Wram,
+            offset: 0x20,
+        },
+        first: 0,
+        last: 1,
+    }),
+    Some(Bytes {
+        player: 1,
+        place: MemoryPlace {
+            name: MemoryName::Backup,
+            offset: 0x1_FFE0,
+        },
+        first: 0,
+        last: 0xFE,
+    }),
+];
+
+/// What is kept of its drawn lines.
+static DRAWN: [Drawn; 4] = [
+    Drawn {
+        player: 0,
+        line: 0,
+        first: 0,
+    },
+    Drawn {
+        player: 0,
+        line: 1,
+        first: 0x7FFF,
+    },
+    Drawn {
+        player: 1,
+        line: 0,
+        first: 0,
+    },
+    Drawn {
+        player: 1,
+        line: 1,
+        first: 0x7FFF,
+    },
+];
+
+/// What is kept of its signals.
+static SENT: [Sent; 2] = [
+    Sent {
+        sender: 0,
+        clock: 0x58,
+    },
+    Sent {
+        sender: 1,
+        clock: 5,
+    },
+];
+
+fn numbers_are_kept<R: Abort>(rt: &R, kept: &Kept) {
+    assert_eq!(rt; kept.lines, 148);
+    assert_eq!(rt; kept.clocks.as_slice(), [600, 512].as_slice());
+    assert_eq!(rt; kept.queued.as_slice(), [1, 255, 1, 255].as_slice());
 }
 
-fn drawn(player: u32, line: u32, first: u16) -> Drawn {
-    Drawn {
-        player,
-        line,
-        first,
-    }
+fn lines_are_kept<R: Abort>(rt: &R, kept: &Kept) {
+    assert_eq!(rt; kept.memory.as_slice(), MEMORY.as_slice());
+    assert_eq!(rt; kept.drawn.as_slice(), DRAWN.as_slice());
+    assert_eq!(rt; kept.sent.as_slice(), SENT.as_slice());
 }
 
 #[test]
 fn what_lines_say_is_kept(rt: HostRuntime) -> Result<(), Fail> {
-    let file = file_with(rt.alloc(), Job::Two, count(Job::Two), &[], count(Job::Two))?;
+    let file = whole_file(rt.alloc(), Job::Two)?;
     let mut kept = Kept::new();
     assert!(rt; read(Job::Two, file.as_slice(), &mut kept).is_ok());
-    assert_eq!(rt; kept.lines, 148);
-    assert_eq!(rt; kept.clocks.as_slice(), [600, 512].as_slice());
-    assert_eq!(rt; kept.queued.as_slice(), [1, 255, 1, 255].as_slice());
-    assert_eq!(rt;
-        kept.memory.as_slice(),
-        [
-            bytes(0, MemoryName::Wram, 0, 1, 0),
-            bytes(0, MemoryName::Wram, 0x20, 0, 1),
-            bytes(0, MemoryName::Backup, 0x7FE0, 0xFF, 0xFF),
-            bytes(1, MemoryName::Wram, 0, 1, 0),
-            bytes(1, MemoryName::Wram, 0x20, 0, 1),
-            bytes(1, MemoryName::Backup, 0x1_FFE0, 0, 0xFE),
-        ]
-        .as_slice()
-    );
-    assert_eq!(rt;
-        kept.drawn.as_slice(),
-        [
-            drawn(0, 0, 0),
-            drawn(0, 1, 0x7FFF),
-            drawn(1, 0, 0),
-            drawn(1, 1, 0x7FFF),
-        ]
-        .as_slice()
-    );
-    assert_eq!(rt;
-        kept.sent.as_slice(),
-        [
-            Sent {
-                sender: 0,
-                clock: 0x58,
-            },
-            Sent {
-                sender: 1,
-                clock: 5,
-            },
-        ]
-        .as_slice()
-    );
+    numbers_are_kept(&rt, &kept);
+    lines_are_kept(&rt, &kept);
     Ok(())
 }
 
@@ -244,7 +304,7 @@ fn feeds(bytes: &[u8]) -> usize {
 #[test]
 fn files_are_cut(rt: HostRuntime) -> Result<(), Fail> {
     for &job in &JOBS {
-        let file = file_with(rt.alloc(), job, count(job), &[], count(job))?;
+        let file = whole_file(rt.alloc(), job)?;
         for length in (0..file.len()).step_by(11) {
             let cut = &file[..length];
             assert_eq!(rt;
@@ -371,16 +431,27 @@ fn the_last_drawn_lines(rt: HostRuntime) -> Result<(), Fail> {
     Ok(())
 }
 
-/// What is no file at all; and the file of the other job.
+/// What is no file at all is refused at its first line.
 #[test]
-fn other_files_are_refused(rt: HostRuntime) -> Result<(), Fail> {
-    assert_eq!(rt; outcome(Job::One, b""), spelling(1));
-    assert_eq!(rt; outcome(Job::One, b"\n"), spelling(1));
-    assert_eq!(rt; outcome(Job::One, b"\xff"), spelling(1));
-    let one = file_with(rt.alloc(), Job::One, count(Job::One), &[], count(Job::One))?;
-    assert_eq!(rt; outcome(Job::Two, one.as_slice()), spelling(74));
-    let two = file_with(rt.alloc(), Job::Two, count(Job::Two), &[], count(Job::Two))?;
-    assert_eq!(rt; outcome(Job::One, two.as_slice()), spelling(74));
+fn other_files_are_refused(rt: HostRuntime) {
+    for &file in &[b"".as_slice(), b"\n".as_slice(), b"\xff".as_slice()] {
+        assert_eq!(rt; outcome(Job::One, file), spelling(1), "{file:?}");
+    }
+}
+
+/// The file of the other job is refused where the first console's lines end.
+#[test]
+fn files_of_other_jobs_are_refused(rt: HostRuntime) -> Result<(), Fail> {
+    for &(job, other) in &[(Job::One, Job::Two), (Job::Two, Job::One)] {
+        let file = whole_file(rt.alloc(), job)?;
+        let wanted = spelling(74);
+        assert_eq!(rt;
+            outcome(other, file.as_slice()),
+            wanted,
+            "{} lines",
+            count(job)
+        );
+    }
     Ok(())
 }
 
@@ -388,7 +459,7 @@ fn other_files_are_refused(rt: HostRuntime) -> Result<(), Fail> {
 #[test]
 fn a_file_has_134217728_bytes(rt: HostRuntime) -> Result<(), Fail> {
     assert_eq!(rt; LONGEST_FILE, 134_217_728);
-    let mut file = file_with(rt.alloc(), Job::One, count(Job::One), &[], count(Job::One))?;
+    let mut file = whole_file(rt.alloc(), Job::One)?;
     file.resize(134_217_728, b'\n')?;
     assert_eq!(rt; outcome(Job::One, file.as_slice()), spelling(76));
     file.push(b'\n')?;
