@@ -39,38 +39,28 @@ static PATTERNS: [(u32, &[u8; 16]); 20] = [
     (19, b"1111Lnnnnnnnnnnn"),
 ];
 
-/// Whether a mark of a pattern allows a bit.
-fn allows(mark: u8, set: bool) -> bool {
-    match mark {
-        b'0' => !set,
-        b'1' => set,
-        _ => true,
-    }
-}
-
-/// Bit 15 and those below it.
-static BITS: [u16; 16] = [
-    0x8000, 0x4000, 0x2000, 0x1000, 0x0800, 0x0400, 0x0200, 0x0100, 0x0080, 0x0040, 0x0020, 0x0010,
-    0x0008, 0x0004, 0x0002, 0x0001,
-];
-
 /// Whether the zeros and ones of a pattern are the halfword's.
 fn has_pattern(half: u16, pattern: &[u8; 16]) -> bool {
-    for (&mark, &bit) in pattern.iter().zip(&BITS) {
-        if !allows(mark, half & bit != 0) {
+    let mut rest = half;
+    for mark in pattern {
+        let set = rest >= 0x8000;
+        if *mark == b'0' && set || *mark == b'1' && !set {
             return false;
         }
+        rest <<= 1;
     }
     true
 }
 
 /// The number in the bits of a letter, none of which makes 0.
 fn letter(half: u16, pattern: &[u8; 16], letter: u8) -> u16 {
+    let mut rest = half;
     let mut value = 0u16;
-    for (&mark, &bit) in pattern.iter().zip(&BITS) {
-        if mark == letter {
-            value = value << 1 | u16::from(half & bit != 0);
+    for mark in pattern {
+        if *mark == letter {
+            value = (value << 1) | (rest >> 15);
         }
+        rest <<= 1;
     }
     value
 }

@@ -1,17 +1,38 @@
 //! Registers, their banks and status registers by hand.
 
-ghost use Rattle.std.specs.Prelude.{◌≡◌, slice_index};
+ghost use Rattle.std.specs.Prelude.{◌≡◌, ◌<◌, slice_index};
 
 use gba_psr::*;
 use std::process::Abort;
 
 static MODES: [u32; 7] = [0x10, 0x11, 0x12, 0x13, 0x17, 0x1b, 0x1f];
 
+// Registers are read and written without what their contracts say, which the tests don't read.
+fn read(registers: &Registers, number: u32) -> u32
+    requires { number < 16 }
+{
+    registers.get(number)
+}
+
+fn write(registers: &mut Registers, number: u32, value: u32)
+    requires { number < 16 }
+{
+    registers.set(number, value);
+}
+
+fn status(registers: &Registers) -> u32 {
+    registers.cpsr()
+}
+
+fn saved_status(registers: &Registers) -> u32 {
+    registers.spsr()
+}
+
 // Writes the number of a mode and the register's into each of that mode's registers.
 fn write_in_mode(registers: &mut Registers, mode: u32) {
     registers.set_cpsr(mode);
     for number in 0..16 {
-        registers.set(number, mode << 8 | number);
+        write(registers, number, mode << 8 | number);
     }
 }
 
@@ -49,16 +70,26 @@ fn each_mode_sees_its_bank(rt: HostRuntime) {
     }
 }
 
+// Writes the number of a mode and 1 in bit 30 into the mode's SPSR.
+fn save_in_mode(registers: &mut Registers, mode: u32) {
+    registers.set_cpsr(mode);
+    registers.set_spsr(0x4000_0000 | mode);
+}
+
+// Writes the user's r14 in a mode.
+fn write_user_link(registers: &mut Registers, mode: u32) {
+    registers.set_cpsr(mode);
+    registers.user_set(14, 0xe00e);
+}
+
 #[test]
 fn the_37_numbers_stand_in_order(rt: HostRuntime) {
     let mut registers = written_from_each_mode();
     for &mode in &MODES {
-        registers.set_cpsr(mode);
-        registers.set_spsr(0x4000_0000 + mode);
+        save_in_mode(&mut registers, mode);
     }
-    for mode in [0x11, 0x1b, 0x13] {
-        registers.set_cpsr(mode);
-        registers.user_set(14, 0xe00e);
+    for &mode in &[0x11, 0x1b, 0x13] {
+        write_user_link(&mut registers, mode);
         let want = [
             0x1f00,
             0x1f01,
@@ -121,14 +152,14 @@ fn saved(registers: &mut Registers, value: u32) -> u32 {
 // CPSR once it's taken from SPSR.
 fn left(registers: &mut Registers) -> u32 {
     registers.leave();
-    registers.cpsr()
+    status(registers)
 }
 
 // CPSR once it's written in SVC.
 fn written(registers: &mut Registers, value: u32) -> u32 {
     registers.set_cpsr(0xd3);
     registers.set_cpsr(value);
-    registers.cpsr()
+    status(registers)
 }
 
 #[test]
@@ -159,7 +190,7 @@ fn left_without_spsr(status: u32) -> (u32, u32) {
 
 #[test]
 fn user_and_system_have_no_saved_status(rt: HostRuntime) {
-    for status in [0x9000_0010, 0x9000_001f] {
+    for &status in &[0x9000_0010, 0x9000_001f] {
         assert_eq!(rt;
             left_without_spsr(status),
             (status, status),
@@ -270,15 +301,13 @@ fn numbers(status: u32) -> [u32; 37]
 
 // CPSR, and what stands in r8, r13, r14 and SPSR.
 fn seen_in_mode(registers: &Registers) -> (u32, [u32; 4]) {
-    (
-        registers.cpsr(),
-        [
-            registers.get(8),
-            registers.get(13),
-            registers.get(14),
-            registers.spsr(),
-        ],
-    )
+    let seen = [
+        read(registers, 8),
+        read(registers, 13),
+        read(registers, 14),
+        saved_status(registers),
+    ];
+    (status(registers), seen)
 }
 
 // r15, the user's r13, and N.

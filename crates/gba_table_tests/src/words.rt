@@ -527,7 +527,7 @@ fn words_between_the_rows_decode_to_none(rt: HostRuntime) {
         0xEE000000,
         0xEE100010,
     ];
-    for word in words {
+    for &word in &words {
         assert_eq!(rt; decoded(word), None, "the word {word:#010x}");
     }
 }
